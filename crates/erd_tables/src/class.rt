@@ -1,0 +1,135 @@
+ghost use Rattle.std.specs.Prelude.{◌≡◌};
+ghost use Rattle.erd_tables.specs.Classes.{text_of_class, class_of_text, family_of_class, NamesItsClass};
+
+/// The classes of a pre-election report (NIST SP 1500-100 version 2).
+#[derive(Clone, Copy, Debug, PartialEq, Eq, PartialOrd, Ord, Hash)]
+pub enum Class {
+    ElectionReport,
+    Election,
+    ReportingUnit,
+    Party,
+    Coalition,
+    Person,
+    Office,
+    Header,
+    Candidate,
+    CandidateContest,
+    BallotMeasureContest,
+    RetentionContest,
+    PartyContest,
+    CandidateSelection,
+    BallotMeasureSelection,
+    PartySelection,
+    BallotStyle,
+    OrderedContest,
+    OrderedHeader,
+    ExternalIdentifier,
+    InternationalizedText,
+    LanguageString,
+}
+
+/// The families of objects that an `@id` can name. A reference is to an object of one family.
+#[derive(Clone, Copy, Debug, PartialEq, Eq, PartialOrd, Ord, Hash)]
+pub enum Family {
+    Unit,
+    Party,
+    Person,
+    Office,
+    Header,
+    Candidate,
+    Contest,
+    Style,
+    Selection,
+}
+
+/// The class that an `@type` text names: `ElectionResults.` and the name of the class, and no other text.
+pub fn class_of(text: &str) -> Option<Class>
+    ensures value { result ≡ class_of_text text.now }
+    ensures exact { NamesItsClass text.now result }
+{
+    class_from_text(text)
+}
+
+#[tactic(auto, using(crate::proofs::Texts::apart))]
+fn class_from_text(text: &str) -> Option<Class>
+    ensures { result ≡ class_of_text text.now }
+{
+    match text {
+        "ElectionResults.ElectionReport" => Some(Class::ElectionReport),
+        "ElectionResults.Election" => Some(Class::Election),
+        "ElectionResults.ReportingUnit" => Some(Class::ReportingUnit),
+        "ElectionResults.Party" => Some(Class::Party),
+        "ElectionResults.Coalition" => Some(Class::Coalition),
+        "ElectionResults.Person" => Some(Class::Person),
+        "ElectionResults.Office" => Some(Class::Office),
+        "ElectionResults.Header" => Some(Class::Header),
+        "ElectionResults.Candidate" => Some(Class::Candidate),
+        "ElectionResults.CandidateContest" => Some(Class::CandidateContest),
+        "ElectionResults.BallotMeasureContest" => Some(Class::BallotMeasureContest),
+        "ElectionResults.RetentionContest" => Some(Class::RetentionContest),
+        "ElectionResults.PartyContest" => Some(Class::PartyContest),
+        "ElectionResults.CandidateSelection" => Some(Class::CandidateSelection),
+        "ElectionResults.BallotMeasureSelection" => Some(Class::BallotMeasureSelection),
+        "ElectionResults.PartySelection" => Some(Class::PartySelection),
+        "ElectionResults.BallotStyle" => Some(Class::BallotStyle),
+        "ElectionResults.OrderedContest" => Some(Class::OrderedContest),
+        "ElectionResults.OrderedHeader" => Some(Class::OrderedHeader),
+        "ElectionResults.ExternalIdentifier" => Some(Class::ExternalIdentifier),
+        "ElectionResults.InternationalizedText" => Some(Class::InternationalizedText),
+        "ElectionResults.LanguageString" => Some(Class::LanguageString),
+        _ => None,
+    }
+}
+
+/// The `@type` text of a class.
+pub fn type_text(class: Class) -> &'static str
+    ensures { result.now ≡ text_of_class class }
+{
+    match class {
+        Class::ElectionReport => "ElectionResults.ElectionReport",
+        Class::Election => "ElectionResults.Election",
+        Class::ReportingUnit => "ElectionResults.ReportingUnit",
+        Class::Party => "ElectionResults.Party",
+        Class::Coalition => "ElectionResults.Coalition",
+        Class::Person => "ElectionResults.Person",
+        Class::Office => "ElectionResults.Office",
+        Class::Header => "ElectionResults.Header",
+        Class::Candidate => "ElectionResults.Candidate",
+        Class::CandidateContest => "ElectionResults.CandidateContest",
+        Class::BallotMeasureContest => "ElectionResults.BallotMeasureContest",
+        Class::RetentionContest => "ElectionResults.RetentionContest",
+        Class::PartyContest => "ElectionResults.PartyContest",
+        Class::CandidateSelection => "ElectionResults.CandidateSelection",
+        Class::BallotMeasureSelection => "ElectionResults.BallotMeasureSelection",
+        Class::PartySelection => "ElectionResults.PartySelection",
+        Class::BallotStyle => "ElectionResults.BallotStyle",
+        Class::OrderedContest => "ElectionResults.OrderedContest",
+        Class::OrderedHeader => "ElectionResults.OrderedHeader",
+        Class::ExternalIdentifier => "ElectionResults.ExternalIdentifier",
+        Class::InternationalizedText => "ElectionResults.InternationalizedText",
+        Class::LanguageString => "ElectionResults.LanguageString",
+    }
+}
+
+/// The family of the objects of a class, or none for a class whose objects no `@id` names.
+pub fn family_of(class: Class) -> Option<Family>
+    ensures { result ≡ family_of_class class }
+{
+    match class {
+        Class::ReportingUnit => Some(Family::Unit),
+        Class::Party | Class::Coalition => Some(Family::Party),
+        Class::Person => Some(Family::Person),
+        Class::Office => Some(Family::Office),
+        Class::Header => Some(Family::Header),
+        Class::Candidate => Some(Family::Candidate),
+        Class::CandidateContest
+        | Class::BallotMeasureContest
+        | Class::RetentionContest
+        | Class::PartyContest => Some(Family::Contest),
+        Class::BallotStyle => Some(Family::Style),
+        Class::CandidateSelection | Class::BallotMeasureSelection | Class::PartySelection => {
+            Some(Family::Selection)
+        }
+        _ => None,
+    }
+}
