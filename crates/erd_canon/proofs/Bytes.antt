@@ -1,0 +1,23 @@
+-- What a loop of reads or writes keeps of the known bytes.
+use Rattle.std.proofs.Common.{◌≡◌, ◌+◌, ◌<◌, ◌≤◌, ℕ, Bool, false, List, [], ◌++◌, Option, take, drop, length, sym, subst, arith, length-append}
+use Rattle.std.proofs.Math.Seq.{take-add}
+use Rattle.std.proofs.KnownBytes.{Appends-trans, Consumes-trans}
+use Rattle.std.specs.Io.KnownBytes.{Appends, Consumes}
+use Rattle.erd_canon.specs.Reading.{Exceeds}
+
+-- the reads so far: no more bytes than the limit, each read gave one at least, and none failed
+pub record IsFilled (limit room : ℕ) (failed : Bool) (first_read reads first_given given : ℕ) (before after : Option (List ℕ)) (bytes : List ℕ) : Type 0 where
+  pub in_limit : length bytes ≤ limit
+  pub has_room : 0 < room
+  pub works : failed ≡ false
+  pub counted : reads ≤ first_read + length bytes
+  pub gave : given ≡ first_given + length bytes
+  pub came : Consumes before after bytes
+
+-- a write of n more bytes
+pub Appends-more : (a b c : Option (List ℕ)) (xs : List ℕ) (i n : ℕ) → Appends a b (take i xs) → Appends b c (take n (drop i xs)) → Appends a c (take (i + n) xs)
+Appends-more a b c xs i n p q = subst (Appends a c) (sym (take-add i n xs)) (Appends-trans a b c _ _ p q)
+
+-- more bytes than the limit
+pub Exceeds-more : (limit : ℕ) (a b c : Option (List ℕ)) (xs more : List ℕ) → Consumes a b xs → Consumes b c more → limit < length xs + length more → Exceeds limit a c
+Exceeds-more limit a b c xs more p q lt = (xs ++ more, Consumes-trans a b c xs more p q, omega (arith, length-append xs more))
