@@ -1,0 +1,28 @@
+-- What is answered for the bytes of a report, for now.
+use Rattle.std.specs.Prelude.{ℕ, ◌≡◌, List}
+use Rattle.serde_json.specs.Data.{Data}
+use Rattle.serde_json.specs.Written.{compact_text}
+use Rattle.erd_canon.specs.Trees.{IsTreeOf}
+use Rattle.erd_canon.specs.Bare.{IsBare}
+use Rattle.erd_canon.specs.Meaning.{meaning}
+
+-- the bytes are no tree
+abbrev pub IsNotJson : List ℕ → Type 0
+IsNotJson bytes = (t : Data) → ¬ IsTreeOf bytes t
+
+-- the bytes are a tree that is no bare report
+pub record IsNotBare (bytes : List ℕ) : Type 0 where
+  pub tree : Data
+  pub read : IsTreeOf bytes tree
+  pub other : ¬ IsBare tree
+
+-- the text is the compact text of a bare report that means what the bare report in the bytes means
+pub record IsWritten (bytes text : List ℕ) : Type 0 where
+  pub report : Data
+  pub read : IsTreeOf bytes report
+  pub bare : IsBare report
+  pub tree : Data
+  pub reads_back : IsTreeOf text tree
+  pub is_bare : IsBare tree
+  pub same : meaning tree ≡ meaning report
+  pub written : text ≡ compact_text tree
