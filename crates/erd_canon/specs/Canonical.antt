@@ -16,13 +16,17 @@ pub record IsNotBare (bytes : List ℕ) : Type 0 where
   pub read : IsTreeOf bytes tree
   pub other : ¬ IsBare tree
 
--- the text is the compact text of a bare report that means what the bare report in the bytes means
+-- the text is the compact text of a bare report that means the same
+pub record IsWrittenFor (report : Data) (text : List ℕ) : Type 0 where
+  pub tree : Data
+  pub reads_back : IsTreeOf text tree
+  pub bare : IsBare tree
+  pub same : meaning tree ≡ meaning report
+  pub written : text ≡ compact_text tree
+
+-- the bytes are a bare report, and the text is written for it
 pub record IsWritten (bytes text : List ℕ) : Type 0 where
   pub report : Data
   pub read : IsTreeOf bytes report
   pub bare : IsBare report
-  pub tree : Data
-  pub reads_back : IsTreeOf text tree
-  pub is_bare : IsBare tree
-  pub same : meaning tree ≡ meaning report
-  pub written : text ≡ compact_text tree
+  pub text_for : IsWrittenFor report text

@@ -1,6 +1,10 @@
-ghost use Rattle.std.specs.Prelude.{◌≡◌, ◌↔◌, IfOk, Err};
+ghost use Rattle.std.specs.Prelude.{◌≡◌, ◌↔◌, ◌≤◌, IfOk, Err};
 ghost use Rattle.serde_json.specs.Errors.{IsMemory};
-ghost use Rattle.erd_canon.specs.Canonical.{IsWritten, IsNotBare, IsNotJson};
+ghost use Rattle.serde_json.specs.Data.{depth};
+ghost use Rattle.serde_json.specs.Read.{max_depth};
+ghost use Rattle.serde_json.specs.View.{view};
+ghost use Rattle.erd_canon.specs.Bare.{IsBare};
+ghost use Rattle.erd_canon.specs.Canonical.{IsWrittenFor, IsWritten, IsNotBare, IsNotJson};
 
 use crate::bare::is_bare_report;
 use crate::naming::named_tree;
@@ -52,7 +56,11 @@ fn refusal_of(error: &Error) -> Refusal
 }
 
 // The compact text of the tree that is written for a bare report.
-fn written(alloc: Global, report: &Value) -> Result<Vec<u8>, AllocError> {
+fn written(alloc: Global, report: &Value) -> Result<Vec<u8>, AllocError>
+    requires bare { IsBare (view report.now) }
+    requires nests { depth (view report.now) ≤ max_depth }
+    ensures { IfOk result (λ text. IsWrittenFor (view report.now) text.items) }
+{
     let tree = named_tree(alloc, report)?;
     tree.to_vec(alloc)
 }

@@ -10,7 +10,8 @@ use std::alloc::{AllocError, Global};
 
 /// The tree that is written for a bare report. Each part of the report is copied once.
 pub(crate) fn named_tree(alloc: Global, report: &Value) -> Result<Value, AllocError>
-    ensures { IfOk result (λ tree. view tree ≡ named (view report.now)) }
+    ensures tree { IfOk result (λ tree. view tree ≡ named (view report.now)) }
+    ensures count { length (units (view report.now)) < 2 ^ 64 }
 {
     let units = entries(report, "GpUnit");
     let scope = scope_position(units, sole_text(report, "Election", "ElectionScopeId"));
