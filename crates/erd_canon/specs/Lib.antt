@@ -6,3 +6,4 @@ pub mod Bare
 pub mod Meaning
 pub mod Canonical
 pub mod Naming
+pub mod Run

@@ -1,7 +1,7 @@
 use Rattle.serde_json.specs.View.{view}
 use Rattle.erd_canon.proofs.Results.{IfOk-join}
 use Rattle.erd_canon.proofs.Writing.{written_for}
-use Rattle.erd_canon.proofs.canonical.written.Goals as goal
+use Rattle.erd_canon.proofs.canonical_bytes.written.Goals as goal
 
 pub returns : goal.returns
 returns c =

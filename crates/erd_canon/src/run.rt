@@ -1,0 +1,124 @@
+ghost use Rattle.std.specs.Prelude.{◌≡◌, ◌≢◌, ◌↔◌, ◌⊎◌, ◌+◌, ◌^◌, ◌<◌, ◌≤◌, false, true, Err, IfErr, IfOk, OnOk, OnErr, IsErrOf};
+ghost use Rattle.std.specs.Io.KnownBytes.{Appends};
+ghost use Rattle.erd_canon.specs.Reading.{Exceeds};
+ghost use Rattle.erd_canon.specs.Run.{IsAnswerWritten, IsWholeRun};
+
+use crate::canonical_bytes::{Refusal, canonical};
+use crate::outcome::{Outcome, RunFault};
+use crate::sink::{Sink, write_out};
+use crate::source::{MOST_BYTES, Source, read_all};
+use std::alloc::Global;
+
+/// Reads a report to its end, judges it, writes its canonical bytes to `out`, and flushes `out` and then `err`.
+///
+/// Of a report that is not accepted nothing goes to `out`, and a line that says so goes to `err`. A reader
+/// holds at most 67,108,864 bytes. The devices must not have failed yet; after a failure nothing more is read,
+/// written or flushed.
+pub fn run_canon<S: Source, O: Sink, E: Sink>(
+    alloc: Global,
+    reader: &mut S,
+    out: &mut O,
+    err: &mut E,
+) -> Result<Outcome, RunFault>
+    requires reader_works { S.has_failed reader.old ≡ false }
+    requires out_works { O.has_failed out.old ≡ false }
+    requires err_works { E.has_failed err.old ≡ false }
+
+    // What an outcome says.
+    ensures whole { IfOk result (λ outcome. IsWholeRun MOST_BYTES outcome (S.remaining reader.old) (S.remaining reader.new)
+        (O.contents out.old) (O.contents out.new) (E.contents err.old) (E.contents err.new)) }
+    ensures flushed { OnOk result ((O.is_flushed out.new ≡ true) × (E.is_flushed err.new ≡ true)) }
+
+    // Before a write fails nothing is written or flushed.
+    ensures quiet { IfErr result (λ fault. fault ≢ RunFault.Write → (out.new ≡ out.old) × (err.new ≡ err.old)) }
+
+    // A failed write to `out` leaves `err` alone, no flush comes before a failed write, and `err` is flushed
+    // only where `out` was.
+    ensures out_first { O.has_failed out.new ≡ true → O.flushes out.new ≡ O.flushes out.old → err.new ≡ err.old }
+    ensures writes_first { E.has_failed err.new ≡ true → E.flushes err.new ≡ E.flushes err.old
+        → O.flushes out.new ≡ O.flushes out.old }
+    ensures flush_order { (E.flushes err.new ≡ E.flushes err.old) ⊎ (O.is_flushed out.new ≡ true) }
+
+    // When each fault comes.
+    ensures read { IsErrOf result RunFault.Read ↔ (S.has_failed reader.new ≡ true) }
+    ensures write { IsErrOf result RunFault.Write
+        ↔ ((O.has_failed out.new ≡ true) ⊎ (E.has_failed err.new ≡ true)) }
+    ensures too_long { result ≡ Err RunFault.TooLong
+        → Exceeds MOST_BYTES (S.remaining reader.old) (S.remaining reader.new) }
+    ensures too_many { result ≡ Err RunFault.TooLong
+        → S.given reader.old + MOST_BYTES < S.given reader.new }
+    ensures calls { S.reads reader.new ≤ S.reads reader.old + 2 ^ 27 }
+{
+    let bytes = match read_all(alloc, reader) {
+        Ok(bytes) => bytes,
+        Err(fault) => return Err(fault),
+    };
+    write_answer(alloc, bytes.as_slice(), out, err)
+}
+
+// Writes what is answered for the bytes.
+fn write_answer<O: Sink, E: Sink>(
+    alloc: Global,
+    bytes: &[u8],
+    out: &mut O,
+    err: &mut E,
+) -> Result<Outcome, RunFault>
+    requires out_works { O.has_failed out.old ≡ false }
+    requires err_works { E.has_failed err.old ≡ false }
+    ensures written { IfOk result (λ outcome. IsAnswerWritten bytes.now outcome (O.contents out.old) (O.contents out.new)
+        (E.contents err.old) (E.contents err.new)) }
+    ensures flushed { OnOk result ((O.is_flushed out.new ≡ true) × (E.is_flushed err.new ≡ true)) }
+    ensures works { OnOk result ((O.has_failed out.new ≡ false) × (E.has_failed err.new ≡ false)) }
+    ensures memory { result ≡ Err RunFault.Memory → (out.new ≡ out.old) × (err.new ≡ err.old) }
+    ensures write { result ≡ Err RunFault.Write
+        → (O.has_failed out.new ≡ true) ⊎ (E.has_failed err.new ≡ true) }
+    ensures faults { IfErr result (λ fault. (fault ≡ RunFault.Memory) ⊎ (fault ≡ RunFault.Write)) }
+    ensures out_first { O.has_failed out.new ≡ true → O.flushes out.new ≡ O.flushes out.old → err.new ≡ err.old }
+    ensures writes_first { E.has_failed err.new ≡ true → E.flushes err.new ≡ E.flushes err.old
+        → O.flushes out.new ≡ O.flushes out.old }
+    ensures flush_order { (E.flushes err.new ≡ E.flushes err.old) ⊎ (O.is_flushed out.new ≡ true) }
+{
+    match canonical(alloc, bytes) {
+        Ok(text) => write_both(out, err, Outcome::Good, text.as_slice(), &[]),
+        Err(Refusal::NotJson) => write_both(out, err, Outcome::NotJson, &[], b"not JSON\n"),
+        Err(Refusal::NotYet) => write_both(out, err, Outcome::Bad, &[], b"not yet\n"),
+        Err(Refusal::Memory) => Err(RunFault::Memory),
+    }
+}
+
+// Writes to both, then flushes both, and gives the outcome.
+fn write_both<O: Sink, E: Sink>(
+    out: &mut O,
+    err: &mut E,
+    outcome: Outcome,
+    out_text: &[u8],
+    err_text: &[u8],
+) -> Result<Outcome, RunFault>
+    requires out_works { O.has_failed out.old ≡ false }
+    requires err_works { E.has_failed err.old ≡ false }
+    ensures outcome { IfOk result (λ answer. answer ≡ outcome) }
+    ensures fault { IfErr result (λ fault. fault ≡ RunFault.Write) }
+    ensures wrote_out { OnOk result (Appends (O.contents out.old) (O.contents out.new) out_text.now) }
+    ensures wrote_err { OnOk result (Appends (E.contents err.old) (E.contents err.new) err_text.now) }
+    ensures flushed { OnOk result ((O.is_flushed out.new ≡ true) × (E.is_flushed err.new ≡ true)) }
+    ensures works { OnOk result ((O.has_failed out.new ≡ false) × (E.has_failed err.new ≡ false)) }
+    ensures failed { OnErr result ((O.has_failed out.new ≡ true) ⊎ (E.has_failed err.new ≡ true)) }
+    ensures out_first { O.has_failed out.new ≡ true → O.flushes out.new ≡ O.flushes out.old → err.new ≡ err.old }
+    ensures writes_first { E.has_failed err.new ≡ true → E.flushes err.new ≡ E.flushes err.old
+        → O.flushes out.new ≡ O.flushes out.old }
+    ensures flush_order { (E.flushes err.new ≡ E.flushes err.old) ⊎ (O.is_flushed out.new ≡ true) }
+{
+    if write_out(out, out_text).is_err() {
+        return Err(RunFault::Write);
+    }
+    if write_out(err, err_text).is_err() {
+        return Err(RunFault::Write);
+    }
+    if out.flush().is_err() {
+        return Err(RunFault::Write);
+    }
+    if err.flush().is_err() {
+        return Err(RunFault::Write);
+    }
+    Ok(outcome)
+}
