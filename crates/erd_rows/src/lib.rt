@@ -1,13 +1,8 @@
-// A library with one function.
+//! Tests that cross the crates, with the vectors and the failing devices that they use.
 #![tactic(auto)]
 
-ghost use Rattle.std.specs.Prelude.{◌≡◌};
-ghost use Rattle.erd_rows.specs.Echo.{echo_of};
-
-// The `ensures` clause is the contract: what `echo` returns is `echo_of` of its argument, a definition
-// in `specs/Echo.antt`, which a caller's clause can cite too.
-pub fn echo(x: usize) -> usize
-    ensures { result ≡ echo_of x }
-{
-    x
-}
+pub mod readers;
+#[cfg(test)]
+mod tests;
+pub mod vectors;
+pub mod writers;

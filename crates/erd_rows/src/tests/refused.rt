@@ -1,0 +1,64 @@
+//! Calls whose memory may be refused: `tests/refusals.sh` refuses each request of memory in turn.
+use crate::vectors::{ONE_UNIT, ONE_UNIT_CANONICAL};
+use crate::writers::PageWriter;
+use erd_canon::{Outcome, ReadFrom, Refusal, RunFault, WriteTo, canonical, run_canon};
+use std::alloc::Global;
+
+// What came of a call.
+#[derive(Clone, Copy, PartialEq, Eq)]
+enum Answer {
+    Right,
+    WantsMemory,
+    Wrong,
+}
+
+// At most one request is refused, so one of two calls answers rightly, and the other so or with want of memory.
+fn is_pair(first: Answer, second: Answer) -> bool {
+    match (first, second) {
+        (Answer::Wrong, _) | (_, Answer::Wrong) => false,
+        (Answer::WantsMemory, Answer::WantsMemory) => false,
+        _ => true,
+    }
+}
+
+fn bytes(alloc: Global) -> Answer {
+    match canonical(alloc, ONE_UNIT.as_bytes()) {
+        Ok(text) => {
+            if text.as_slice() == ONE_UNIT_CANONICAL.as_bytes() {
+                Answer::Right
+            } else {
+                Answer::Wrong
+            }
+        }
+        Err(Refusal::Memory) => Answer::WantsMemory,
+        Err(_) => Answer::Wrong,
+    }
+}
+
+fn run(alloc: Global) -> Answer {
+    let mut reader = ReadFrom::of(ONE_UNIT.as_bytes());
+    let mut out = WriteTo::of(PageWriter::empty());
+    let mut err = WriteTo::of(PageWriter::empty());
+    let answer = run_canon(alloc, &mut reader, &mut out, &mut err);
+    let whole = out.writer.holds(ONE_UNIT_CANONICAL.as_bytes());
+    let nothing = out.writer.holds(b"");
+    match answer {
+        Ok(Outcome::Good) if whole && err.writer.holds(b"") => Answer::Right,
+        Err(RunFault::Memory) if nothing && err.writer.holds(b"") => Answer::WantsMemory,
+        _ => Answer::Wrong,
+    }
+}
+
+#[test]
+fn refused_canonical(rt: HostRuntime) {
+    let first = bytes(rt.alloc());
+    let second = bytes(rt.alloc());
+    assert!(rt; is_pair(first, second));
+}
+
+#[test]
+fn refused_run(rt: HostRuntime) {
+    let first = run(rt.alloc());
+    let second = run(rt.alloc());
+    assert!(rt; is_pair(first, second));
+}
