@@ -1,0 +1,17 @@
+# `make erd` proves and builds the program; `make test` is the gate.
+SHELL := /bin/bash
+SOURCES := crates.txt $(shell find crates/erd_tables crates/erd_canon crates/erd -name out -prune -o -name must-fail -prune -o -type f -print)
+
+.PHONY: test tools
+
+erd: $(SOURCES) | tools
+	cd crates/erd && rt run < stdin > /dev/null
+	cp crates/erd/out/erd erd
+
+test: tools
+	@tests/gate.sh
+
+tools:
+	@for tool in rt cc cmp; do \
+	    command -v $$tool > /dev/null || { echo "make: $$tool is missing" >&2; exit 1; }; \
+	done

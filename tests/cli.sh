@@ -1,0 +1,131 @@
+#!/usr/bin/env bash
+# Runs the built program as a user does, on files, pipes and closed descriptors. One line a case.
+set -u
+cd "$(dirname "$0")/.." || exit 1
+erd=$PWD/erd
+work=$(mktemp -d) || exit 1
+trap 'rm -rf "$work"' EXIT
+passed=0
+failed=0
+
+# said NAME WHY: one case is done; it is right where WHY is empty
+said() {
+    if [ -z "$2" ]; then
+        passed=$((passed + 1))
+        echo "ok      $1"
+    else
+        failed=$((failed + 1))
+        echo "FAILED  $1: $2"
+    fi
+}
+
+# expect NAME STATUS OUT ERR: what the last run left in $work/out, $work/err and $status
+expect() {
+    local why=''
+    [ "$status" -eq "$2" ] || why+="status $status, not $2; "
+    cmp -s "$work/out" "$3" || why+="other standard output; "
+    printf '%s' "$4" > "$work/wanted"
+    cmp -s "$work/err" "$work/wanted" || why+="standard error '$(head -c 200 "$work/err")'; "
+    said "$1" "$why"
+}
+
+# run FILE [WORD ..]: the program on the file
+run() {
+    local input=$1
+    shift
+    "$erd" "$@" < "$input" > "$work/out" 2> "$work/err"
+    status=$?
+}
+
+: > "$work/empty"
+one=examples/one-unit.json
+canonical=examples/one-unit.canonical.json
+
+run "$one"
+expect 'a report with one unit' 0 "$canonical" ''
+
+run "$canonical"
+expect 'canonical output fed back' 0 "$canonical" ''
+
+cat "$one" | "$erd" 2> "$work/err" | cat > "$work/out"
+status=${PIPESTATUS[1]}
+expect 'through pipes' 0 "$canonical" ''
+
+{ head -c 100 "$one"; sleep 0.2; tail -c +101 "$one"; } | "$erd" > "$work/out" 2> "$work/err"
+status=$?
+expect 'a slow pipe' 0 "$canonical" ''
+
+run examples/small-ballot.json
+expect 'a report that is not judged yet' 1 "$work/empty" $'not yet\n'
+
+run "$work/empty"
+expect 'no bytes' 2 "$work/empty" $'not JSON\n'
+
+head -c -1 "$one" > "$work/short"
+run "$work/short"
+expect 'a report cut short' 2 "$work/empty" $'not JSON\n'
+
+printf '\xff' > "$work/byte"
+run "$work/byte"
+expect 'a byte that is no text' 2 "$work/empty" $'not JSON\n'
+
+size=$(wc -c < "$one")
+{ cat "$one"; head -c $((67108864 - size)) /dev/zero | tr '\0' ' '; } > "$work/large"
+run "$work/large"
+expect 'the largest input' 0 "$canonical" ''
+
+printf ' ' >> "$work/large"
+run "$work/large"
+expect 'one byte more' 3 "$work/empty" $'too long\n'
+rm -f "$work/large"
+
+"$erd" < "$one" > /dev/full 2> "$work/err"
+status=$?
+: > "$work/out"
+expect 'a full device' 3 "$work/empty" $'write failed\n'
+
+"$erd" < "$one" >&- 2> "$work/err"
+status=$?
+expect 'standard output closed' 3 "$work/empty" $'write failed\n'
+
+"$erd" < "$one" 2> "$work/err" | true
+status=${PIPESTATUS[0]}
+expect 'a pipe that nobody reads' 3 "$work/empty" $'write failed\n'
+
+"$erd" <&- > "$work/out" 2> "$work/err"
+status=$?
+expect 'standard input closed' 3 "$work/empty" $'read failed\n'
+
+run examples
+expect 'a folder as standard input' 3 "$work/empty" $'read failed\n'
+
+"$erd" < "$one" > "$work/out" 2>&-
+status=$?
+: > "$work/err"
+expect 'standard error closed, and not needed' 0 "$canonical" ''
+
+"$erd" < "$work/empty" > "$work/out" 2>&-
+status=$?
+expect 'standard error closed, and needed' 3 "$work/empty" ''
+
+run "$one" check
+expect 'a word' 3 "$work/empty" $'only the filter\n'
+
+run "$one" --help
+expect 'an option' 3 "$work/empty" $'only the filter\n'
+
+run "$one" $'\xff'
+expect 'a word that is no text' 3 "$work/empty" $'only the filter\n'
+
+# The vectors stand in three places.
+why=''
+cmp -s "$one" crates/erd/stdin || why+='crates/erd/stdin differs; '
+cmp -s "$canonical" crates/erd/stdout || why+='crates/erd/stdout differs; '
+for file in one-unit.json one-unit.canonical.json small-ballot.json; do
+    sed 's/\\/\\\\/g; s/"/\\"/g' "examples/$file" > "$work/literal"
+    grep -qFf "$work/literal" crates/erd_rows/src/vectors.rt || why+="$file is not in erd_rows; "
+done
+said 'examples are the vectors of the tests' "$why"
+
+echo "$passed passed, $failed failed"
+[ "$failed" -eq 0 ]

@@ -1,0 +1,88 @@
+#!/usr/bin/env bash
+# Refuses each request of memory in turn, in the built program and in built tests, until a run meets no refusal.
+# Each run must end right, or with want of memory and nothing else. One line a case.
+set -u
+cd "$(dirname "$0")/.." || exit 1
+work=$(mktemp -d) || exit 1
+trap 'rm -rf "$work"' EXIT
+passed=0
+failed=0
+most=20000
+
+"${CC:-cc}" -O2 -shared -fPIC -o "$work/refuse.so" tests/refuse.c -ldl || exit 1
+
+# refusing N COMMAND ..: the command with its request N refused; $work/log stands where one was
+refusing() {
+    local at=$1
+    shift
+    rm -f "$work/log"
+    REFUSE_AT=$at REFUSE_LOG=$work/log LD_PRELOAD=$work/refuse.so "$@"
+}
+
+# Whether the last run of the program ended with want of memory, and wrote nothing.
+is_memory() {
+    [ "$status" -eq 4 ] && [ ! -s "$work/out" ] && [ "$(cat "$work/err")" = 'no memory' ]
+}
+
+# program NAME INPUT STATUS OUT ERR
+program() {
+    local name=$1 input=$2 wanted=$3 out=$4 err=$5 refusals=0 at
+    printf '%s' "$err" > "$work/wanted"
+    for ((at = 1; at <= most; at++)); do
+        refusing "$at" ./erd < "$input" > "$work/out" 2> "$work/err"
+        status=$?
+        local right=no
+        [ "$status" -eq "$wanted" ] && cmp -s "$work/out" "$out" && cmp -s "$work/err" "$work/wanted" && right=yes
+        if [ ! -e "$work/log" ]; then
+            [ "$right" = yes ] && [ "$refusals" -gt 0 ] && break
+            ended "$name" "status $status with no refusal, after $refusals"
+            return
+        fi
+        refusals=$((refusals + 1))
+        if [ "$right" = no ] && ! is_memory; then
+            ended "$name" "status $status at refusal $at"
+            return
+        fi
+    done
+    ended "$name ($refusals refusals)" "$([ "$at" -le "$most" ] || echo 'no end')"
+}
+
+# a test of the crate erd_rows, which passes where its call answers rightly or with want of memory
+one_test() {
+    local name=$1 refusals=0 at
+    for ((at = 1; at <= most; at++)); do
+        refusing "$at" crates/erd_rows/out/erd_rows_tests "$name" > "$work/out" 2>&1
+        status=$?
+        if [ ! -e "$work/log" ]; then
+            [ "$status" -eq 0 ] && [ "$refusals" -gt 0 ] && break
+            ended "$name" "status $status with no refusal, after $refusals"
+            return
+        fi
+        refusals=$((refusals + 1))
+        if [ "$status" -ne 0 ]; then
+            ended "$name" "status $status at refusal $at"
+            return
+        fi
+    done
+    ended "$name ($refusals refusals)" "$([ "$at" -le "$most" ] || echo 'no end')"
+}
+
+ended() {
+    if [ -z "$2" ]; then
+        passed=$((passed + 1))
+        echo "ok      $1"
+    else
+        failed=$((failed + 1))
+        echo "FAILED  $1: $2"
+    fi
+}
+
+: > "$work/empty"
+program 'a report with one unit' examples/one-unit.json 0 examples/one-unit.canonical.json ''
+program 'a report that is not judged yet' examples/small-ballot.json 1 "$work/empty" $'not yet\n'
+program 'no JSON' tests/refuse.c 2 "$work/empty" $'not JSON\n'
+one_test tests::refused::refused_canonical
+one_test tests::refused::refused_run
+
+echo "$passed passed, $failed failed"
+[ "$failed" -eq 0 ]
