@@ -7,23 +7,41 @@ use crate::class::{Class, Family, family_of};
 /// What the table asks of a member.
 #[derive(Clone, Copy, Debug, PartialEq, Eq)]
 pub enum MemberKind {
+    /// `@type`.
     ClassText,
+    /// `@id` of an object of a family.
     Identity,
+    /// A text.
     Word,
+    /// A text, or an InternationalizedText.
     Label,
+    /// A truth value.
     Flag,
+    /// A whole number.
     Whole,
+    /// A reference to an object of the family.
     One(Family),
+    /// A set of references to objects of the family.
     Many(Family),
+    /// A set of ExternalIdentifier objects.
     Identifiers,
+    /// A set of LanguageString objects.
     Languages,
+    /// An array of objects of the family.
     Keyed(Family),
+    /// The array of the report's elections.
     Elections,
+    /// The order of a ballot: a list of OrderedContest and OrderedHeader objects.
     Content,
+    /// A list of references to selections.
     Ordered,
+    /// A member outside the profile: `[]`, or refused.
     Outside,
+    /// A name that the class does not have, and that ends as those of references do.
     StrangeReference,
+    /// `@id` of an object that is of no family.
     StrangeIdentity,
+    /// Any other member.
     Carried,
 }
 
