@@ -1,13 +1,8 @@
-// A library with one function.
+//! Keys, names, references and the meaning of a report.
 #![tactic(auto)]
 
-ghost use Rattle.std.specs.Prelude.{◌≡◌};
-ghost use Rattle.erd_meaning.specs.Echo.{echo_of};
+pub mod key;
+pub mod selection_name;
 
-// The `ensures` clause is the contract: what `echo` returns is `echo_of` of its argument, a definition
-// in `specs/Echo.antt`, which a caller's clause can cite too.
-pub fn echo(x: usize) -> usize
-    ensures { result ≡ echo_of x }
-{
-    x
-}
+pub use key::Key;
+pub use selection_name::SelectionName;
