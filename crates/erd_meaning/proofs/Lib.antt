@@ -1,0 +1,3 @@
+mod ReferenceExamples
+mod NameExamples
+mod RecordExamples
