@@ -1,13 +1,6 @@
-// A library with one function.
+//! The first difference of two reports.
 #![tactic(auto)]
 
-ghost use Rattle.std.specs.Prelude.{◌≡◌};
-ghost use Rattle.erd_compare.specs.Echo.{echo_of};
+pub mod difference;
 
-// The `ensures` clause is the contract: what `echo` returns is `echo_of` of its argument, a definition
-// in `specs/Echo.antt`, which a caller's clause can cite too.
-pub fn echo(x: usize) -> usize
-    ensures { result ≡ echo_of x }
-{
-    x
-}
+pub use difference::{Difference, How, Part};
