@@ -7,9 +7,23 @@ use Rattle.serde_json.specs.Read.{read}
 abbrev pub tree_of : List ℕ → Data
 tree_of text = unwrap_or (read text) null
 
--- two units, a party, a person, an office, a header, three candidates, two contests with five selections, one ballot style
+-- two units, a party, a person, an office, a header, three candidates, two contests with five selections, one ballot style:
+-- with this value in the identifier of the candidate `a7`, and this order of the ballot
+abbrev pub small_ballot_with : List ℕ → List ℕ → List ℕ
+small_ballot_with value content =
+    codes "{\"Status\":\"pre-election\",\"@type\":\"ElectionResults.ElectionReport\",\"GeneratedDate\":\"2026-08-01T09:00:00Z\",\"Issuer\":\"Vendor A\",\"GpUnit\":[{\"@id\":\"a2\",\"@type\":\"ElectionResults.ReportingUnit\",\"ExternalIdentifier\":[{\"@type\":\"ElectionResults.ExternalIdentifier\",\"Type\":\"local-level\",\"Value\":\"U2\"}],\"Type\":\"precinct\"},{\"@id\":\"a1\",\"@type\":\"ElectionResults.ReportingUnit\",\"ExternalIdentifier\":[{\"@type\":\"ElectionResults.ExternalIdentifier\",\"Type\":\"local-level\",\"Value\":\"U1\"}],\"Type\":\"county\",\"ComposingGpUnitIds\":[\"a2\"]}],\"Party\":[{\"@id\":\"a3\",\"@type\":\"ElectionResults.Party\",\"ExternalIdentifier\":[{\"@type\":\"ElectionResults.ExternalIdentifier\",\"Type\":\"local-level\",\"Value\":\"P1\"}],\"Name\":\"Blue\"}],\"Person\":[{\"@id\":\"a16\",\"@type\":\"ElectionResults.Person\",\"ExternalIdentifier\":[{\"@type\":\"ElectionResults.ExternalIdentifier\",\"Type\":\"local-level\",\"Value\":\"Q1\"}],\"FullName\":\"Ann Ash\"}],\"Office\":[{\"@id\":\"a17\",\"@type\":\"ElectionResults.Office\",\"ExternalIdentifier\":[{\"@type\":\"ElectionResults.ExternalIdentifier\",\"Type\":\"local-level\",\"Value\":\"O1\"}],\"Name\":\"Governor\"}],\"Header\":[{\"@id\":\"a4\",\"@type\":\"ElectionResults.Header\",\"ExternalIdentifier\":[{\"@type\":\"ElectionResults.ExternalIdentifier\",\"Type\":\"local-level\",\"Value\":\"H1\"}],\"Name\":\"State\"}],\"Election\":[{\"@type\":\"ElectionResults.Election\",\"Name\":\"Test\",\"Type\":\"general\",\"StartDate\":\"2026-11-03\",\"EndDate\":\"2026-11-03\",\"ElectionScopeId\":\"a1\",\"Candidate\":[{\"@id\":\"a7\",\"@type\":\"ElectionResults.Candidate\",\"ExternalIdentifier\":[{\"@type\":\"ElectionResults.ExternalIdentifier\",\"Type\":\"local-level\",\"Value\":\"" ++ value ++ codes "\"}],\"BallotName\":\"Cy\",\"PartyId\":\"a3\"},{\"@id\":\"a5\",\"@type\":\"ElectionResults.Candidate\",\"ExternalIdentifier\":[{\"@type\":\"ElectionResults.ExternalIdentifier\",\"Type\":\"local-level\",\"Value\":\"K1\"}],\"BallotName\":\"Ann\",\"PersonId\":\"a16\"},{\"@id\":\"a6\",\"@type\":\"ElectionResults.Candidate\",\"ExternalIdentifier\":[{\"@type\":\"ElectionResults.ExternalIdentifier\",\"Type\":\"local-level\",\"Value\":\"K2\"}],\"BallotName\":\"Bo\"}],\"Contest\":[{\"@id\":\"a8\",\"@type\":\"ElectionResults.CandidateContest\",\"ExternalIdentifier\":[{\"@type\":\"ElectionResults.ExternalIdentifier\",\"Type\":\"local-level\",\"Value\":\"C1\"}],\"Name\":\"Governor\",\"ElectionDistrictId\":\"a1\",\"VotesAllowed\":1,\"OfficeIds\":[\"a17\"],\"ContestSelection\":[{\"@id\":\"a9\",\"@type\":\"ElectionResults.CandidateSelection\",\"CandidateIds\":[\"a6\",\"a5\"]},{\"@id\":\"a10\",\"@type\":\"ElectionResults.CandidateSelection\",\"CandidateIds\":[\"a7\"]},{\"@id\":\"a11\",\"@type\":\"ElectionResults.CandidateSelection\",\"IsWriteIn\":true}]},{\"@id\":\"a12\",\"@type\":\"ElectionResults.BallotMeasureContest\",\"ExternalIdentifier\":[{\"@type\":\"ElectionResults.ExternalIdentifier\",\"Type\":\"local-level\",\"Value\":\"C2\"}],\"Name\":\"Bonds\",\"ElectionDistrictId\":\"a1\",\"ContestSelection\":[{\"@id\":\"a13\",\"@type\":\"ElectionResults.BallotMeasureSelection\",\"Selection\":{\"@type\":\"ElectionResults.InternationalizedText\",\"Text\":[{\"@type\":\"ElectionResults.LanguageString\",\"Language\":\"en\",\"Content\":\"Yes\"},{\"@type\":\"ElectionResults.LanguageString\",\"Language\":\"es\",\"Content\":\"Si\"}]}},{\"@id\":\"a14\",\"@type\":\"ElectionResults.BallotMeasureSelection\",\"Selection\":\"No\"}]}],\"BallotStyle\":[{\"@type\":\"ElectionResults.BallotStyle\",\"ExternalIdentifier\":[{\"@type\":\"ElectionResults.ExternalIdentifier\",\"Type\":\"local-level\",\"Value\":\"S1\"}],\"GpUnitIds\":[\"a2\"],\"OrderedContent\":[" ++ content ++ codes "]}]}]}"
+
+-- the header of the ballot, with the first contest and its three selections
+abbrev pub header_node : List ℕ
+header_node = codes "{\"@type\":\"ElectionResults.OrderedHeader\",\"HeaderId\":\"a4\",\"OrderedContent\":[{\"@type\":\"ElectionResults.OrderedContest\",\"ContestId\":\"a8\",\"OrderedContestSelectionIds\":[\"a10\",\"a9\",\"a11\"]}]}"
+
+-- the second contest of the ballot
+abbrev pub contest_node : List ℕ
+contest_node = codes "{\"@type\":\"ElectionResults.OrderedContest\",\"ContestId\":\"a12\"}"
+
+-- the small ballot
 abbrev pub small_ballot : List ℕ
-small_ballot = codes "{\"Status\":\"pre-election\",\"@type\":\"ElectionResults.ElectionReport\",\"GeneratedDate\":\"2026-08-01T09:00:00Z\",\"Issuer\":\"Vendor A\",\"GpUnit\":[{\"@id\":\"a2\",\"@type\":\"ElectionResults.ReportingUnit\",\"ExternalIdentifier\":[{\"@type\":\"ElectionResults.ExternalIdentifier\",\"Type\":\"local-level\",\"Value\":\"U2\"}],\"Type\":\"precinct\"},{\"@id\":\"a1\",\"@type\":\"ElectionResults.ReportingUnit\",\"ExternalIdentifier\":[{\"@type\":\"ElectionResults.ExternalIdentifier\",\"Type\":\"local-level\",\"Value\":\"U1\"}],\"Type\":\"county\",\"ComposingGpUnitIds\":[\"a2\"]}],\"Party\":[{\"@id\":\"a3\",\"@type\":\"ElectionResults.Party\",\"ExternalIdentifier\":[{\"@type\":\"ElectionResults.ExternalIdentifier\",\"Type\":\"local-level\",\"Value\":\"P1\"}],\"Name\":\"Blue\"}],\"Person\":[{\"@id\":\"a16\",\"@type\":\"ElectionResults.Person\",\"ExternalIdentifier\":[{\"@type\":\"ElectionResults.ExternalIdentifier\",\"Type\":\"local-level\",\"Value\":\"Q1\"}],\"FullName\":\"Ann Ash\"}],\"Office\":[{\"@id\":\"a17\",\"@type\":\"ElectionResults.Office\",\"ExternalIdentifier\":[{\"@type\":\"ElectionResults.ExternalIdentifier\",\"Type\":\"local-level\",\"Value\":\"O1\"}],\"Name\":\"Governor\"}],\"Header\":[{\"@id\":\"a4\",\"@type\":\"ElectionResults.Header\",\"ExternalIdentifier\":[{\"@type\":\"ElectionResults.ExternalIdentifier\",\"Type\":\"local-level\",\"Value\":\"H1\"}],\"Name\":\"State\"}],\"Election\":[{\"@type\":\"ElectionResults.Election\",\"Name\":\"Test\",\"Type\":\"general\",\"StartDate\":\"2026-11-03\",\"EndDate\":\"2026-11-03\",\"ElectionScopeId\":\"a1\",\"Candidate\":[{\"@id\":\"a7\",\"@type\":\"ElectionResults.Candidate\",\"ExternalIdentifier\":[{\"@type\":\"ElectionResults.ExternalIdentifier\",\"Type\":\"local-level\",\"Value\":\"K3\"}],\"BallotName\":\"Cy\",\"PartyId\":\"a3\"},{\"@id\":\"a5\",\"@type\":\"ElectionResults.Candidate\",\"ExternalIdentifier\":[{\"@type\":\"ElectionResults.ExternalIdentifier\",\"Type\":\"local-level\",\"Value\":\"K1\"}],\"BallotName\":\"Ann\",\"PersonId\":\"a16\"},{\"@id\":\"a6\",\"@type\":\"ElectionResults.Candidate\",\"ExternalIdentifier\":[{\"@type\":\"ElectionResults.ExternalIdentifier\",\"Type\":\"local-level\",\"Value\":\"K2\"}],\"BallotName\":\"Bo\"}],\"Contest\":[{\"@id\":\"a8\",\"@type\":\"ElectionResults.CandidateContest\",\"ExternalIdentifier\":[{\"@type\":\"ElectionResults.ExternalIdentifier\",\"Type\":\"local-level\",\"Value\":\"C1\"}],\"Name\":\"Governor\",\"ElectionDistrictId\":\"a1\",\"VotesAllowed\":1,\"OfficeIds\":[\"a17\"],\"ContestSelection\":[{\"@id\":\"a9\",\"@type\":\"ElectionResults.CandidateSelection\",\"CandidateIds\":[\"a6\",\"a5\"]},{\"@id\":\"a10\",\"@type\":\"ElectionResults.CandidateSelection\",\"CandidateIds\":[\"a7\"]},{\"@id\":\"a11\",\"@type\":\"ElectionResults.CandidateSelection\",\"IsWriteIn\":true}]},{\"@id\":\"a12\",\"@type\":\"ElectionResults.BallotMeasureContest\",\"ExternalIdentifier\":[{\"@type\":\"ElectionResults.ExternalIdentifier\",\"Type\":\"local-level\",\"Value\":\"C2\"}],\"Name\":\"Bonds\",\"ElectionDistrictId\":\"a1\",\"ContestSelection\":[{\"@id\":\"a13\",\"@type\":\"ElectionResults.BallotMeasureSelection\",\"Selection\":{\"@type\":\"ElectionResults.InternationalizedText\",\"Text\":[{\"@type\":\"ElectionResults.LanguageString\",\"Language\":\"en\",\"Content\":\"Yes\"},{\"@type\":\"ElectionResults.LanguageString\",\"Language\":\"es\",\"Content\":\"Si\"}]}},{\"@id\":\"a14\",\"@type\":\"ElectionResults.BallotMeasureSelection\",\"Selection\":\"No\"}]}],\"BallotStyle\":[{\"@type\":\"ElectionResults.BallotStyle\",\"ExternalIdentifier\":[{\"@type\":\"ElectionResults.ExternalIdentifier\",\"Type\":\"local-level\",\"Value\":\"S1\"}],\"GpUnitIds\":[\"a2\"],\"OrderedContent\":[{\"@type\":\"ElectionResults.OrderedHeader\",\"HeaderId\":\"a4\",\"OrderedContent\":[{\"@type\":\"ElectionResults.OrderedContest\",\"ContestId\":\"a8\",\"OrderedContestSelectionIds\":[\"a10\",\"a9\",\"a11\"]}]},{\"@type\":\"ElectionResults.OrderedContest\",\"ContestId\":\"a12\"}]}]}]}"
+small_ballot = small_ballot_with (codes "K3") (header_node ++ codes "," ++ contest_node)
 
 -- its canonical form
 abbrev pub small_ballot_canonical : List ℕ
