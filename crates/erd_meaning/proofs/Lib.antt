@@ -1,3 +1,4 @@
 mod ReferenceExamples
 mod NameExamples
 mod RecordExamples
+mod LaterFaultExamples
