@@ -1,4 +1,5 @@
--- The faults of the shape of a report: one relation between a report, a place and a reason, with a case for each of the reasons 1 to 11.
+-- The faults of the shape of a report: one relation between a report, a place and a reason, with a case for each of the
+-- reasons 1 to 11. All is this profile's.
 use Rattle.std.specs.Prelude.{ℕ, List, [], ◌∷◌, Bool, true, false, not, ◌||◌, ◌&&◌, ◌==◌, Some, None, codes, is_some, is_none, IsSomeAnd, IsTrue, length}
 use Rattle.std.specs.List.{list_any}
 use Rattle.std.specs.Option.{option_map_or}
@@ -135,7 +136,8 @@ is_reference w = false
 -- whether a value has a fault of the shape, by what is asked of it; that a reference is repeated is judged with the references
 abbrev pub is_shape_fault : Asked → Reason → Bool
 is_shape_fault a reason.WrongKind = not (has_wanted_kind a.want a.value)
-is_shape_fault a (reason.MissingMember name) = list_any (bytes_eq name) (names_wanted (scope_inside a.want a.value)) && lacks a.value name
+is_shape_fault a (reason.MissingMember name) =
+    list_any (bytes_eq name) (names_wanted (scope_inside a.want a.value)) && lacks a.value name
 is_shape_fault a reason.WrongClassText = is_wrong_class a.want a.value
 is_shape_fault a reason.NotWhole = wants_whole a.want && is_not_whole a.value
 is_shape_fault a reason.OutsideProfile = is_outside a.want && not (is_empty_array a.value)

@@ -1,4 +1,5 @@
--- What the table asks of the value at each place of a report. All is this profile's, over the classes of NIST SP 1500-100 version 2.
+-- What the table asks of the value at each place of a report. All is this profile's, over the classes of
+-- NIST SP 1500-100 version 2.
 use Rattle.std.specs.Prelude.{ℕ, List, [], ◌∷◌, Bool, true, false, ◌||◌, ◌&&◌, if◌then◌else◌, Option, Some, None, option_and_then, option_map, codes, take}
 use Rattle.std.specs.List.{list_any}
 use Rattle.std.specs.Str.{bytes_eq}
@@ -53,7 +54,8 @@ is_report_class c = false
 -- what is asked of a member of an object of the class, but for `@type`
 abbrev pub member_want : Class → List ℕ → Want
 member_want c name =
-    if is_report_class c && bytes_eq name (codes "Status") then Status else want_of_kind (kind_of_member c name) (is_required c name)
+    if is_report_class c && bytes_eq name (codes "Status") then Status
+    else want_of_kind (kind_of_member c name) (is_required c name)
 
 -- what is asked of a member inside a carried value: it may not name an object or refer to one
 abbrev pub carried_want : List ℕ → Want
@@ -124,7 +126,9 @@ asked_of_member want found = option_and_then (λ w. option_map (asked w) found) 
 -- entry i, if there is one and anything is asked of it
 abbrev pub asked_of_entry : Option Want → Bool → Items → ℕ → Option Asked
 asked_of_entry want in_set ds i =
-    option_and_then (λ w. option_map (λ d. record { want = w; value = d; repeated = in_set && is_repeated ds i d }) (get_item i ds)) want
+    option_and_then (λ w.
+    option_map (λ d. record { want = w; value = d; repeated = in_set && is_repeated ds i d }) (get_item i ds))
+    want
 
 -- what is asked one step inside a value of which this is asked
 abbrev pub asked_inside : Want → Data → Step → Option Asked

@@ -28,7 +28,7 @@ no_identifier = (
   record {
     family = family.Unit;
     keyed = refl;
-    it = object_at (tree_of (codes "{\"GpUnit\":[{\"ExternalIdentifier\":[]}]}")) family.Unit 0;
+    placed = object_at (tree_of (codes "{\"GpUnit\":[{\"ExternalIdentifier\":[]}]}")) family.Unit 0;
     stands = (0, lit< tt, refl);
     place = refl;
     keyless = refl;
@@ -36,7 +36,7 @@ no_identifier = (
   record {
     family = family.Style;
     keyed = refl;
-    it = object_at (tree_of (codes "{\"Election\":[{\"BallotStyle\":[{}]}]}")) family.Style 0;
+    placed = object_at (tree_of (codes "{\"Election\":[{\"BallotStyle\":[{}]}]}")) family.Style 0;
     stands = (0, lit< tt, refl);
     place = refl;
     keyless = refl;
@@ -53,27 +53,27 @@ twin_units = (
   record {
     family = family.Unit;
     keyed = refl;
-    it = object_at twins family.Unit 1;
-    stands = (1, lit< tt, refl);
+    later = object_at twins family.Unit 1;
+    later_stands = (1, lit< tt, refl);
     place = refl;
     earlier = object_at twins family.Unit 0;
     earlier_stands = (0, lit< tt, refl);
     before = refl;
     key = record { kind = codes "other"; other = []; value = codes "X" };
-    its_key = refl;
+    later_key = refl;
     earlier_key = refl;
   },
   record {
     family = family.Party;
-    it = object_at twins family.Party 0;
-    stands = (0, lit< tt, refl);
+    later = object_at twins family.Party 0;
+    later_stands = (0, lit< tt, refl);
     place = refl;
     earlier_family = family.Unit;
     earlier = object_at twins family.Unit 0;
     earlier_stands = (0, lit< tt, refl);
     before = refl;
     id = codes "u7";
-    its_id = refl;
+    later_id = refl;
     earlier_id = refl;
   },
 )
@@ -87,14 +87,14 @@ unfolding serde_json_on_literals
 twin_selections = record {
   contest = object_at write_ins family.Contest 0;
   contest_stands = (0, lit< tt, refl);
-  it = object_at write_ins family.Selection 1;
-  stands = (1, lit< tt, refl);
+  later = object_at write_ins family.Selection 1;
+  later_stands = (1, lit< tt, refl);
   place = refl;
   earlier = object_at write_ins family.Selection 0;
   earlier_stands = (0, lit< tt, refl);
   before = refl;
   name = record (name_in_class write_ins class.CandidateSelection write_ins) { write_in = true };
-  its_name = refl;
+  later_name = refl;
   earlier_name = refl;
 }
 

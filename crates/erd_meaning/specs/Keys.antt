@@ -11,7 +11,8 @@ use Rattle.erd_tables.specs.declared.class.Family.TheVariants as family
 use Rattle.erd_check.specs.Trees.{entries_of}
 use Rattle.erd_meaning.specs.declared.key.Key.{Key}
 
--- whether the objects of a family are named by keys: those of the first eight families are, selections have names of their own (profile)
+-- whether the objects of a family are named by keys: those of the first eight families are; selections have names of
+-- their own (profile)
 abbrev pub has_keys : Family → Bool
 has_keys family.Selection = false
 has_keys f = true

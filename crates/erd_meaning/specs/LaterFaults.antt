@@ -32,37 +32,37 @@ IsBefore a b = place_cmp a.place b.place ≡ Less
 pub record LacksIdentifier (t : Data) (p : List Step) : Type 0 where
   pub family : Family
   pub keyed : IsTrue (has_keys family)
-  pub it : Placed
-  pub stands : IsObject t family it
-  pub place : p ≡ it.place
-  pub keyless : key_of it.value ≡ None
+  pub placed : Placed
+  pub stands : IsObject t family placed
+  pub place : p ≡ placed.place
+  pub keyless : key_of placed.value ≡ None
 
 -- reason 13: an earlier object of the family has the same key
 pub record RepeatsKey (t : Data) (p : List Step) : Type 0 where
   pub family : Family
   pub keyed : IsTrue (has_keys family)
-  pub it : Placed
-  pub stands : IsObject t family it
-  pub place : p ≡ it.place
+  pub later : Placed
+  pub later_stands : IsObject t family later
+  pub place : p ≡ later.place
   pub earlier : Placed
   pub earlier_stands : IsObject t family earlier
-  pub before : IsBefore earlier it
+  pub before : IsBefore earlier later
   pub key : Key
-  pub its_key : key_of it.value ≡ Some key
+  pub later_key : key_of later.value ≡ Some key
   pub earlier_key : key_of earlier.value ≡ Some key
 
 -- reason 14: an earlier object, of whatever family, has the same `@id`
 pub record RepeatsId (t : Data) (p : List Step) : Type 0 where
   pub family : Family
-  pub it : Placed
-  pub stands : IsObject t family it
-  pub place : p ≡ it.place ++ Name (codes "@id") ∷ []
+  pub later : Placed
+  pub later_stands : IsObject t family later
+  pub place : p ≡ later.place ++ Name (codes "@id") ∷ []
   pub earlier_family : Family
   pub earlier : Placed
   pub earlier_stands : IsObject t earlier_family earlier
-  pub before : IsBefore earlier it
+  pub before : IsBefore earlier later
   pub id : List ℕ
-  pub its_id : id_of it.value ≡ Some id
+  pub later_id : id_of later.value ≡ Some id
   pub earlier_id : id_of earlier.value ≡ Some id
 
 -- the faults of keys and `@id` texts
@@ -99,7 +99,8 @@ is_selection_in contest id = list_any (has_id id) (entries_at (codes "ContestSel
 abbrev pub is_in_other_contest : Data → Data → List ℕ → Bool
 is_in_other_contest t d id =
     is_some (owner t family.Selection id)
-    && option_map_or (λ contest. not (is_selection_in contest id)) (owner t family.Contest (text_at (codes "ContestId") d)) false
+    && option_map_or (λ contest. not (is_selection_in contest id))
+    (owner t family.Contest (text_at (codes "ContestId") d)) false
 
 -- reason 17: the same of an entry of the object's list (class OrderedContest)
 abbrev pub is_other_selection : Data → Data → Want → Data → Bool
@@ -114,7 +115,8 @@ entry_place q i = q ++ Name (codes "OrderedContestSelectionIds") ∷ At i ∷ []
 abbrev pub ReferenceFault : Data → List Step → Reason → Type 0
 ReferenceFault t p reason.SelectionOfOtherContest =
     (q : List Step) × (i : ℕ) × (p ≡ entry_place q i)
-    × IsSomeAnd (asked_at t q) (λ a. IsSomeAnd (asked_at t p) (λ b. IsTrue (is_other_selection t a.value b.want b.value)))
+    × IsSomeAnd (asked_at t q) (λ a.
+    IsSomeAnd (asked_at t p) (λ b. IsTrue (is_other_selection t a.value b.want b.value)))
 ReferenceFault t p r = IsSomeAnd (asked_at t p) (λ a. IsTrue (is_reference_fault t a r))
 
 -- ---- selections
@@ -123,14 +125,14 @@ ReferenceFault t p r = IsSomeAnd (asked_at t p) (λ a. IsTrue (is_reference_faul
 pub record RepeatsName (t : Data) (p : List Step) : Type 0 where
   pub contest : Placed
   pub contest_stands : IsObject t family.Contest contest
-  pub it : Placed
-  pub stands : Contains (selections_of contest) it
-  pub place : p ≡ it.place
+  pub later : Placed
+  pub later_stands : Contains (selections_of contest) later
+  pub place : p ≡ later.place
   pub earlier : Placed
   pub earlier_stands : Contains (selections_of contest) earlier
-  pub before : IsBefore earlier it
+  pub before : IsBefore earlier later
   pub name : NameParts
-  pub its_name : name_of t it.value ≡ Some name
+  pub later_name : name_of t later.value ≡ Some name
   pub earlier_name : name_of t earlier.value ≡ Some name
 
 -- the faults of selections

@@ -54,10 +54,11 @@ label_of d = untranslated (unwrap_or (as_str d) [])
 
 -- ---- the order of a ballot
 
--- what stands for contests and headers
+-- the class of a contest or a header in the order of a ballot (classes OrderedContest and OrderedHeader)
 abbrev pub class_of_node : Data → Option Class
 class_of_node d = class_of_object role.Content d
 
+-- whether it is a header
 abbrev pub is_header_class : Option Class → Bool
 is_header_class (Some class.OrderedHeader) = true
 is_header_class c = false
@@ -69,7 +70,12 @@ contest_node t d =
     (map (λ r. option_and_then (name_named t) (as_str r)) (entries_at (codes "OrderedContestSelectionIds") d))
     (carried_members (class_of_node d) d)
 
--- a list of contests and headers in its order, at every depth of headers (classes BallotStyle and OrderedHeader); an empty list is as an absent one
+-- a header, with the content inside it (class OrderedHeader)
+abbrev pub header_node : Data → Data → Content → Node
+header_node t d inside = a_header (key_named t family.Header (text_at (codes "HeaderId") d)) inside (carried_members (class_of_node d) d)
+
+-- a list of contests and headers in its order, at every depth of headers (classes BallotStyle and OrderedHeader);
+-- an empty list is as an absent one
 abbrev mutual
   pub content_of : Data → Data → Content
   content_of t (array ds) = nodes_of t ds
@@ -82,7 +88,7 @@ abbrev mutual
   pub node_of : Data → Data → Node
   node_of t (object ms) =
       if is_header_class (class_of_node (object ms))
-      then a_header (key_named t family.Header (text_at (codes "HeaderId") (object ms))) (content_inside t ms) (carried_members (class_of_node (object ms)) (object ms))
+      then header_node t (object ms) (content_inside t ms)
       else contest_node t (object ms)
   node_of t d = contest_node t d
 
@@ -119,7 +125,8 @@ is_in_envelope c name = false
 
 -- what a member of an object of the class means, where it means anything by itself
 abbrev pub plain_member : Data → Data → Class → List ℕ → Option PlainValue
-plain_member t d c name = if is_in_envelope c name then None else option_and_then (plain_value t (kind_of_member c name)) (get name d)
+plain_member t d c name =
+    if is_in_envelope c name then None else option_and_then (plain_value t (kind_of_member c name)) (get name d)
 
 -- ---- objects
 
@@ -133,11 +140,13 @@ selection_record t d = record_with (plain_member t d) selection_role d
 
 -- the selection of this name means this
 abbrev pub selection_map : Data → List Data → NameParts → Option SelectionRecord
-selection_map t ds name = option_and_then (selection_record t) (find (λ d. is_eq (option_cmp name_cmp (name_of t d) (Some name))) ds)
+selection_map t ds name =
+    option_and_then (selection_record t) (find (λ d. is_eq (option_cmp name_cmp (name_of t d) (Some name))) ds)
 
 -- what a member of this kind means: that of a contest's selections is a map
 abbrev pub member_value : Data → MemberKind → Option Data → Option PlainValue → Option MemberValue
-member_value t (kind.Keyed family.Selection) found plain = option_and_then (λ v. unless_empty (a_selection_map (selection_map t (entries_of v))) v) found
+member_value t (kind.Keyed family.Selection) found plain =
+    option_and_then (λ v. unless_empty (a_selection_map (selection_map t (entries_of v))) v) found
 member_value t k found plain = option_map a_plain plain
 
 -- what a member of an object of the class means
@@ -150,7 +159,8 @@ object_record t r d = record_with (member_of_class t d) r d
 
 -- the object of a family that has this key
 abbrev pub object_with_key : Data → Family → Key → Option Data
-object_with_key t f k = option_map (λ o. o.value) (find (λ o. is_eq (option_cmp key_cmp (key_of o.value) (Some k))) (objects f t))
+object_with_key t f k =
+    option_map (λ o. o.value) (find (λ o. is_eq (option_cmp key_cmp (key_of o.value) (Some k))) (objects f t))
 
 -- the records of a family by key; selections are in the records of their contests
 abbrev pub records_of : Data → Family → Key → Option ObjectRecord

@@ -66,12 +66,14 @@ order_of_selection d = option_and_then as_integer (option_and_then as_number (ge
 
 -- a label with its translations in rising order (class InternationalizedText)
 abbrev pub with_rising_text : Data → Data
-with_rising_text (object ms) = object (put (codes "Text") (array (items_of (rising_list compact_cmp (entries_at (codes "Text") (object ms))))) ms)
+with_rising_text (object ms) =
+    object (put (codes "Text") (array (items_of (rising_list compact_cmp (entries_at (codes "Text") (object ms))))) ms)
 with_rising_text d = d
 
 -- the compact text of `Selection`, its translations rising (class BallotMeasureSelection)
 abbrev pub label_of_selection : Class → Data → Option (List ℕ)
-label_of_selection class.BallotMeasureSelection d = option_map (λ v. compact_text (with_rising_text v)) (get (codes "Selection") d)
+label_of_selection class.BallotMeasureSelection d =
+    option_map (λ v. compact_text (with_rising_text v)) (get (codes "Selection") d)
 label_of_selection c d = None
 
 -- ---- names

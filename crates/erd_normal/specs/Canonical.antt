@@ -47,8 +47,10 @@ kind_wanted (Member k required) = Some k
 kind_wanted w = None
 
 -- no array of the table is empty; an outside member of an accepted report is an empty array, so none stands
-abbrev pub IsFull : Data → Type 0
-IsFull t = (p : List Step) (a : Asked) (k : MemberKind) → asked_at t p ≡ Some a → kind_wanted a.want ≡ Some k → is_empty_array a.value ≡ false
+abbrev pub HasNoEmptyArray : Data → Type 0
+HasNoEmptyArray t =
+    (p : List Step) (a : Asked) (k : MemberKind) → asked_at t p ≡ Some a → kind_wanted a.want ≡ Some k
+    → is_empty_array a.value ≡ false
 
 -- the keys of the objects in an array
 abbrev pub keys_of : List Data → List (Option Key)
@@ -58,7 +60,8 @@ keys_of ds = map key_of ds
 abbrev pub keys_referred : Data → Family → List Data → List (Option Key)
 keys_referred t f ds = map (λ r. option_and_then (key_named t f) (as_str r)) ds
 
--- the entries of a set of the table strictly rise: objects by key, selections by name, identifiers and translations by compact text, references by the key of what they name
+-- the entries of a set of the table strictly rise: objects by key, selections by name, identifiers and translations by
+-- compact text, references by the key of what they name
 abbrev pub RisesAs : Data → MemberKind → List Data → Type 0
 RisesAs t (kind.Keyed family.Selection) ds = IsStrictlySortedBy (option_cmp name_cmp) (map (name_of t) ds)
 RisesAs t (kind.Keyed f) ds = IsStrictlySortedBy (option_cmp key_cmp) (keys_of ds)
@@ -69,7 +72,9 @@ RisesAs t k ds = ⊤
 
 -- each set of the table rises
 abbrev pub AreSetsInOrder : Data → Type 0
-AreSetsInOrder t = (p : List Step) (a : Asked) (k : MemberKind) → asked_at t p ≡ Some a → kind_wanted a.want ≡ Some k → RisesAs t k (entries_of a.value)
+AreSetsInOrder t =
+    (p : List Step) (a : Asked) (k : MemberKind) → asked_at t p ≡ Some a → kind_wanted a.want ≡ Some k
+    → RisesAs t k (entries_of a.value)
 
 -- ---- `@id` texts
 
@@ -95,7 +100,8 @@ canonical_selection_id i j = codes "cs" ++ (decimal (i + 1) ++ (codes "-" ++ dec
 
 -- each object is named by its family and rank, a selection by the rank of its contest and its own; a style has no `@id`
 pub record HasCanonicalIds (t : Data) : Type 0 where
-  pub families : (f : Family) (i : ℕ) (o : Placed) → IsTrue (has_keys f) → slice_get (objects f t) i ≡ Some o → id_of o.value ≡ canonical_id f i
+  pub families : (f : Family) (i : ℕ) (o : Placed) → IsTrue (has_keys f) → slice_get (objects f t) i ≡ Some o
+      → id_of o.value ≡ canonical_id f i
   pub selections : (i j : ℕ) (contest o : Placed) → slice_get (objects family.Contest t) i ≡ Some contest
       → slice_get (selections_of contest) j ≡ Some o → id_of o.value ≡ Some (canonical_selection_id i j)
 
@@ -105,7 +111,7 @@ pub record HasCanonicalIds (t : Data) : Type 0 where
 pub record IsCanonical (t : Data) : Type 0 where
   pub accepted : IsAccepted t
   pub envelope : HasCanonicalEnvelope t
-  pub full : IsFull t
+  pub no_empty_array : HasNoEmptyArray t
   pub in_order : AreSetsInOrder t
   pub ids : HasCanonicalIds t
 

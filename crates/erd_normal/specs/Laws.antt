@@ -53,20 +53,22 @@ NamesAgree = (t u : Data) → MeanAlike t u → HaveSameNames t u
 -- ---- the second law
 
 -- the selection stands in a contest of this key and has this name
-pub record IsSelection (t : Data) (key : Key) (name : NameParts) (it : Placed) : Type 0 where
+pub record IsSelection (t : Data) (key : Key) (name : NameParts) (selection : Placed) : Type 0 where
   pub contest : Placed
   pub contest_stands : IsObject t family.Contest contest
   pub contest_key : key_of contest.value ≡ Some key
-  pub stands : Contains (selections_of contest) it
-  pub its_name : name_of t it.value ≡ Some name
+  pub stands : Contains (selections_of contest) selection
+  pub its_name : name_of t selection.value ≡ Some name
 
 -- equal keys, equal sets of keys, equal selection names of one contest and equal contents are written alike
 pub record WriteAlike (t u : Data) : Type 0 where
-  pub references : (f : Family) (a b : List ℕ) (k : Key) → IsTrue (has_keys f) → key_named t f a ≡ Some k → key_named u f b ≡ Some k → a ≡ b
+  pub references : (f : Family) (a b : List ℕ) (k : Key) → IsTrue (has_keys f)
+      → key_named t f a ≡ Some k → key_named u f b ≡ Some k → a ≡ b
   pub sets : (f : Family) (p q : List Step) (a b : Asked) → IsTrue (has_keys f) → asked_at t p ≡ Some a → asked_at u q ≡ Some b
       → kind_wanted a.want ≡ Some (kind.Many f) → kind_wanted b.want ≡ Some (kind.Many f)
       → key_set (keys_named t f (entries_of a.value)) ≡ key_set (keys_named u f (entries_of b.value)) → a.value ≡ b.value
-  pub selections : (k : Key) (n : NameParts) (it twin : Placed) → IsSelection t k n it → IsSelection u k n twin → id_of it.value ≡ id_of twin.value
+  pub selections : (k : Key) (n : NameParts) (one other : Placed) → IsSelection t k n one → IsSelection u k n other
+      → id_of one.value ≡ id_of other.value
   pub contents : (p q : List Step) (a b : Asked) → asked_at t p ≡ Some a → asked_at u q ≡ Some b
       → kind_wanted a.want ≡ Some kind.Content → kind_wanted b.want ≡ Some kind.Content
       → content_of t a.value ≡ content_of u b.value → a.value ≡ b.value
@@ -79,11 +81,12 @@ ReferencesAgree = (t u : Data) → MeanAlike t u → WriteAlike t u
 
 -- objects with equal records and equal `@id`, or none, are equal
 pub record HaveSameObjects (t u : Data) : Type 0 where
-  pub objects : (f : Family) (it twin : Placed) → IsTrue (has_keys f) → IsObject t f it → IsObject u f twin
-      → object_record t (role.OfFamily f) it.value ≡ object_record u (role.OfFamily f) twin.value
-      → id_of it.value ≡ id_of twin.value → it.value ≡ twin.value
-  pub selections : (it twin : Placed) → IsObject t family.Selection it → IsObject u family.Selection twin
-      → selection_record t it.value ≡ selection_record u twin.value → id_of it.value ≡ id_of twin.value → it.value ≡ twin.value
+  pub objects : (f : Family) (one other : Placed) → IsTrue (has_keys f) → IsObject t f one → IsObject u f other
+      → object_record t (role.OfFamily f) one.value ≡ object_record u (role.OfFamily f) other.value
+      → id_of one.value ≡ id_of other.value → one.value ≡ other.value
+  pub selections : (one other : Placed) → IsObject t family.Selection one → IsObject u family.Selection other
+      → selection_record t one.value ≡ selection_record u other.value
+      → id_of one.value ≡ id_of other.value → one.value ≡ other.value
 
 -- the third law under uniqueness
 abbrev pub ObjectsAgree : Type 0
@@ -98,4 +101,5 @@ CanonicalIsUnique = (t u : Data) → MeanAlike t u → t ≡ u
 -- a rearranged report is accepted as it was, and means the same
 abbrev pub RearrangedMeansTheSame : Type 0
 RearrangedMeansTheSame =
-    (t u : Data) (changes : List Change) → IsTree t → IsAccepted t → IsRearrangement changes t u → IsAccepted u × (meaning u ≡ meaning t)
+    (t u : Data) (changes : List Change) → IsTree t → IsAccepted t → IsRearrangement changes t u
+    → IsAccepted u × (meaning u ≡ meaning t)

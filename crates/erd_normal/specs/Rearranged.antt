@@ -53,9 +53,12 @@ renamed pairs t = renamed_value pairs (Some (want.Object role.Report)) t
 
 -- each `@id` text of the report stands on the left, and no text stands twice on either side
 pub record IsRenaming (t : Data) (pairs : Renaming) : Type 0 where
-  pub all : (f : Family) (o : Placed) (id : List ℕ) → IsObject t f o → id_of o.value ≡ Some id → Contains (map (λ pair. pair.0) pairs) id
-  pub left : (i j : ℕ) (p q : List ℕ × List ℕ) → slice_get pairs i ≡ Some p → slice_get pairs j ≡ Some q → p.0 ≡ q.0 → i ≡ j
-  pub right : (i j : ℕ) (p q : List ℕ × List ℕ) → slice_get pairs i ≡ Some p → slice_get pairs j ≡ Some q → p.1 ≡ q.1 → i ≡ j
+  pub all : (f : Family) (o : Placed) (id : List ℕ) → IsObject t f o → id_of o.value ≡ Some id
+      → Contains (map (λ pair. pair.0) pairs) id
+  pub left : (i j : ℕ) (p q : List ℕ × List ℕ) → slice_get pairs i ≡ Some p → slice_get pairs j ≡ Some q
+      → p.0 ≡ q.0 → i ≡ j
+  pub right : (i j : ℕ) (p q : List ℕ × List ℕ) → slice_get pairs i ≡ Some p → slice_get pairs j ≡ Some q
+      → p.1 ≡ q.1 → i ≡ j
 
 -- ---- exchanging
 
@@ -88,7 +91,8 @@ exchanged p i j t = changed_at (swapped i j) p t
 -- a set array of the table stands at the place, and has entries i and j
 abbrev pub HasEntries : Data → List Step → ℕ → ℕ → Type 0
 HasEntries t p i j =
-    IsSomeAnd (asked_at t p) (λ a. IsTrue (is_table_set a.want) × (i < length (entries_of a.value)) × (j < length (entries_of a.value)))
+    IsSomeAnd (asked_at t p)
+    (λ a. IsTrue (is_table_set a.want) × (i < length (entries_of a.value)) × (j < length (entries_of a.value)))
 
 -- ---- one after another
 
