@@ -7,7 +7,7 @@ use Rattle.erd_tables.specs.declared.class.Role.TheVariants as role
 use Rattle.erd_tables.specs.declared.member.MemberKind.TheVariants as kind
 use Rattle.erd_tables.specs.declared.place.Step.{Step}
 use Rattle.erd_tables.specs.declared.place.Step.TheVariants.{Name, At}
-use Rattle.erd_check.proofs.Reports.{tree_of, small_ballot, one_unit_report, status, unit, election, with_report_member, with_unit_member}
+use Rattle.erd_check.proofs.Reports.{tree_of, small_ballot, one_unit_report, status, election, with_report_member, with_unit_member}
 use Rattle.erd_check.specs.Wants.{asked_at}
 use Rattle.erd_check.specs.declared.want.Want.{Want}
 use Rattle.erd_check.specs.declared.want.Want.TheVariants.{Object, ClassText, Reference, Status, Member, Carried}

@@ -1,11 +1,11 @@
 -- Differences of the small ballot and edits of it, and the lines that tell them, by computation.
-use Rattle.std.proofs.Common.{◌≡◌, ◌≢◌, ℕ, List, [], ◌∷◌, ◌++◌, Option, Some, None, map, codes, Bool, true, false, refl, ap}
-use Rattle.std.specs.Prelude.{option_and_then, option_map, is_some}
+use Rattle.std.proofs.Common.{◌≡◌, ℕ, List, [], ◌∷◌, ◌++◌, Option, Some, None, map, codes, Bool, true, false, refl}
+use Rattle.std.specs.Prelude.{option_map, is_some}
 use Rattle.std.specs.declared.cmp.Ordering.TheVariants.{Less}
 use Rattle.serde_json.proofs.OnLiterals.{serde_json_on_literals}
 use Rattle.erd_tables.specs.declared.class.Class.TheVariants as class
 use Rattle.erd_check.proofs.Reports.{tree_of, small_ballot, small_ballot_with, header_node, contest_node}
-use Rattle.erd_meaning.specs.Meaning.{Content, no_content, first_node, Node, a_contest, a_header, PlainValue, a_content, MemberValue, a_plain, ObjectRecord, Meaning}
+use Rattle.erd_meaning.specs.Meaning.{Content, first_node, a_header, a_content, MemberValue, a_plain, ObjectRecord, Meaning}
 use Rattle.erd_meaning.specs.Records.{meaning}
 use Rattle.erd_meaning.specs.declared.key.Key.{Key}
 use Rattle.erd_compare.specs.DifferenceLine.{difference_line}

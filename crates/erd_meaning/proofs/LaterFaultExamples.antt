@@ -1,6 +1,6 @@
 -- Faults of identity and of selections, as facts on small trees, by computation.
-use Rattle.std.proofs.Common.{◌≡◌, ◌≢◌, ℕ, List, [], ◌∷◌, Option, Some, None, codes, Bool, true, false, refl, lit<}
-use Rattle.std.specs.Prelude.{slice_get, unwrap_or, option_and_then, option_map}
+use Rattle.std.proofs.Common.{◌≡◌, ℕ, [], ◌∷◌, Some, None, codes, true, false, refl, lit<}
+use Rattle.std.specs.Prelude.{slice_get, unwrap_or, option_and_then}
 use Rattle.serde_json.specs.Data.{Data, boolean}
 use Rattle.serde_json.proofs.OnLiterals.{serde_json_on_literals}
 use Rattle.erd_tables.specs.declared.class.Class.TheVariants as class
@@ -10,9 +10,8 @@ use Rattle.erd_tables.specs.declared.fault.Reason.TheVariants.{NoIdentifier, Twi
 use Rattle.erd_tables.specs.declared.place.Step.TheVariants.{Name, At}
 use Rattle.erd_check.proofs.Reports.{tree_of}
 use Rattle.erd_meaning.specs.LaterFaults.{IdentityFault, SelectionFault}
-use Rattle.erd_meaning.specs.Meaning.{SelectionRecord, PlainValue, a_json}
-use Rattle.erd_meaning.specs.NameParts.{NameParts}
-use Rattle.erd_meaning.specs.Objects.{Placed, objects, report_of, selections_of}
+use Rattle.erd_meaning.specs.Meaning.{a_json}
+use Rattle.erd_meaning.specs.Objects.{Placed, objects, report_of}
 use Rattle.erd_meaning.specs.Records.{selection_record}
 use Rattle.erd_meaning.specs.SelectionNames.{name_of, name_in_class}
 

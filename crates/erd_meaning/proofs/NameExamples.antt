@@ -1,11 +1,8 @@
 -- The names of the selections of the small ballot, by computation.
-use Rattle.std.proofs.Common.{◌≡◌, ℕ, List, [], ◌∷◌, Option, Some, None, map, codes, Bool, true, false, ◌&&◌, is_lt, Ordering, refl}
-use Rattle.std.specs.Prelude.{ℤ, pos, negsuc, slice_get, option_map, unwrap_or}
-use Rattle.std.specs.Fmt.{digits}
-use Rattle.std.specs.List.{filter_map}
-use Rattle.serde_json.specs.Data.{Data, null}
+use Rattle.std.proofs.Common.{◌≡◌, ℕ, List, [], ◌∷◌, Option, Some, None, map, codes, Bool, true, false, ◌&&◌, is_lt, refl}
+use Rattle.std.specs.Prelude.{ℤ, pos, negsuc}
+use Rattle.serde_json.specs.Data.{Data}
 use Rattle.serde_json.proofs.OnLiterals.{serde_json_on_literals}
-use Rattle.erd_tables.specs.declared.class.Class.{Class}
 use Rattle.erd_tables.specs.declared.class.Class.TheVariants as class
 use Rattle.erd_tables.specs.declared.class.Family.TheVariants as family
 use Rattle.erd_check.proofs.Reports.{tree_of, small_ballot, small_ballot_canonical}

@@ -8,8 +8,6 @@ use Rattle.serde_json.proofs.OnLiterals.{serde_json_on_literals}
 use Rattle.erd_tables.specs.declared.class.Class.TheVariants as class
 use Rattle.erd_tables.specs.declared.class.Family.{Family}
 use Rattle.erd_tables.specs.declared.class.Family.TheVariants as family
-use Rattle.erd_tables.specs.declared.class.Role.{Role}
-use Rattle.erd_tables.specs.declared.class.Role.TheVariants as role
 use Rattle.erd_tables.specs.declared.member.MemberKind.TheVariants as kind
 use Rattle.erd_tables.specs.declared.place.Step.{Step}
 use Rattle.erd_tables.specs.declared.place.Step.TheVariants.{Name, At}
@@ -17,8 +15,8 @@ use Rattle.erd_check.proofs.Reports.{tree_of, small_ballot, small_ballot_canonic
 use Rattle.erd_check.specs.Trees.{entries_of}
 use Rattle.erd_check.specs.Wants.{asked_at}
 use Rattle.erd_meaning.specs.Keys.{key_cmp}
-use Rattle.erd_meaning.specs.Meaning.{Content, no_content, first_node, Node, a_contest, a_header, KeySet, PlainValue, a_json, a_label, untranslated, a_key, a_key_set, MemberValue, a_plain, ObjectRecord, Meaning}
-use Rattle.erd_meaning.specs.Records.{content_of, key_set, json_set, plain_value, records_of, beside_text, carried_members, meaning}
+use Rattle.erd_meaning.specs.Meaning.{Content, no_content, first_node, Node, a_contest, a_header, a_json, a_label, untranslated, a_key, a_key_set, MemberValue, a_plain}
+use Rattle.erd_meaning.specs.Records.{content_of, json_set, plain_value, records_of, beside_text, carried_members, meaning}
 use Rattle.erd_meaning.specs.SelectionNames.{name_named}
 use Rattle.erd_meaning.specs.declared.key.Key.{Key}
 

@@ -1,5 +1,5 @@
 -- The names of the selections of a contest, which tell them apart independently of the vendor.
-use Rattle.std.specs.Prelude.{ℕ, ℤ, List, [], ◌∷◌, Bool, false, if◌then◌else◌, Option, Some, None, option_and_then, option_map, unwrap_or, codes}
+use Rattle.std.specs.Prelude.{ℕ, ℤ, List, [], ◌∷◌, Bool, false, if◌then◌else◌, Option, None, option_and_then, option_map, unwrap_or, codes}
 use Rattle.std.specs.Cmp.Lexicographic.{slice_cmp}
 use Rattle.std.specs.List.{filter_map}
 use Rattle.std.specs.Option.{option_cmp}

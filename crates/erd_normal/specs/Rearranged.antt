@@ -1,5 +1,5 @@
 -- Other spellings of one report: other `@id` texts, and other orders of its sets.
-use Rattle.std.specs.Prelude.{ℕ, zero, suc, ◌≡◌, ◌<◌, List, [], ◌∷◌, Bool, true, false, if◌then◌else◌, Option, Some, None, option_map, unwrap_or, map, find, slice_get, Contains, swap, length, IsSomeAnd, IsTrue}
+use Rattle.std.specs.Prelude.{ℕ, zero, suc, ◌≡◌, ◌<◌, List, [], ◌∷◌, Bool, true, false, if◌then◌else◌, Option, Some, option_map, unwrap_or, map, find, slice_get, Contains, swap, length, IsSomeAnd, IsTrue}
 use Rattle.std.specs.Str.{bytes_eq}
 use Rattle.serde_json.specs.Data.{Data, string, array, object, Items, no_items, item, Members, no_members, member}
 use Rattle.serde_json.specs.View.{items_of}
