@@ -110,7 +110,7 @@ abbrev pub is_strange_identity : Want → Bool
 is_strange_identity (Member kind.StrangeIdentity required) = true
 is_strange_identity w = false
 
--- a `Status` other than that of a report before the election (ReportStatus of the standard)
+-- a `Status` other than that of a report before the election (class ElectionReport)
 abbrev pub is_other_status : Want → Data → Bool
 is_other_status Status d = option_map_or (λ s. not (bytes_eq s (codes "pre-election"))) (as_str d) false
 is_other_status w d = false

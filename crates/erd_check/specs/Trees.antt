@@ -21,7 +21,7 @@ abbrev pub IsNumber : Num → Type 0
 IsNumber (negative (pos n)) = ⊥
 IsNumber n = ⊤
 
--- the members of each object, at every depth, have strictly rising names (an object of RFC 8259 as a finite map)
+-- the members of each object, at every depth, have strictly rising names (RFC 8259, section 4: an object as a finite map)
 abbrev mutual
   pub IsTree : Data → Type 0
   IsTree null = ⊤
@@ -31,10 +31,12 @@ abbrev mutual
   IsTree (array ds) = AreTrees ds
   IsTree (object ms) = AreMembers ms
 
+  -- the entries of an array are trees
   pub AreTrees : Items → Type 0
   AreTrees no_items = ⊤
   AreTrees (item d ds) = IsTree d × AreTrees ds
 
+  -- the members of an object have rising names, and are trees
   pub AreMembers : Members → Type 0
   AreMembers no_members = ⊤
   AreMembers (member k d ms) = IsBeforeFirst k ms × IsTree d × AreMembers ms
@@ -84,11 +86,13 @@ abbrev mutual
   is_same_json (object ms) (object ns) = are_same_members ms ns
   is_same_json d e = false
 
+  -- equal entries, one after another
   pub are_same_items : Items → Items → Bool
   are_same_items no_items no_items = true
   are_same_items (item d ds) (item e es) = is_same_json d e && are_same_items ds es
   are_same_items ds es = false
 
+  -- equal names with equal values; both objects have their names in rising order
   pub are_same_members : Members → Members → Bool
   are_same_members no_members no_members = true
   are_same_members (member k d ms) (member l e ns) = bytes_eq k l && (is_same_json d e && are_same_members ms ns)

@@ -2,3 +2,4 @@ mod ReferenceExamples
 mod NameExamples
 mod RecordExamples
 mod LaterFaultExamples
+pub mod Phases

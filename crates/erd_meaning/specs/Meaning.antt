@@ -31,6 +31,7 @@ mutual
     no_content : Content
     first_node : Node → Content → Content
 
+  -- a contest or a header on a ballot
   pub data Node : Type 0 where
     a_contest : Option Key → List (Option NameParts) → JsonMap → Node
     a_header : Option Key → Content → JsonMap → Node

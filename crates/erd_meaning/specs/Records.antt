@@ -81,10 +81,12 @@ abbrev mutual
   content_of t (array ds) = nodes_of t ds
   content_of t d = no_content
 
+  -- the contests and headers of an array
   pub nodes_of : Data → Items → Content
   nodes_of t no_items = no_content
   nodes_of t (item d ds) = first_node (node_of t d) (nodes_of t ds)
 
+  -- a contest or a header
   pub node_of : Data → Data → Node
   node_of t (object ms) =
       if is_header_class (class_of_node (object ms))

@@ -39,10 +39,12 @@ abbrev mutual
   renamed_value pairs (Some w) (object ms) = object (renamed_members pairs (scope_inside w (object ms)) ms)
   renamed_value pairs w d = d
 
+  -- the entries of an array, of which this is asked
   pub renamed_items : Renaming → Option Want → Items → Items
   renamed_items pairs w no_items = no_items
   renamed_items pairs w (item d ds) = item (renamed_value pairs w d) (renamed_items pairs w ds)
 
+  -- the members of an object
   pub renamed_members : Renaming → Scope → Members → Members
   renamed_members pairs s no_members = no_members
   renamed_members pairs s (member k d ms) = member k (renamed_value pairs (want_of_name s k) d) (renamed_members pairs s ms)
@@ -70,10 +72,12 @@ abbrev mutual
   changed_at f (At i ∷ ss) (array ds) = array (item_changed f i ss ds)
   changed_at f (s ∷ ss) d = d
 
+  -- members with a change inside the one of this name
   pub member_changed : (Data → Data) → List ℕ → List Step → Members → Members
   member_changed f n ss no_members = no_members
   member_changed f n ss (member k d ms) = if bytes_eq n k then member k (changed_at f ss d) ms else member k d (member_changed f n ss ms)
 
+  -- entries with a change inside entry i
   pub item_changed : (Data → Data) → ℕ → List Step → Items → Items
   item_changed f i ss no_items = no_items
   item_changed f zero ss (item d ds) = item (changed_at f ss d) ds
