@@ -3,12 +3,12 @@ use Rattle.std.specs.Prelude.{ℕ, ◌≡◌, ◌↔◌, List}
 use Rattle.serde_json.specs.Data.{Data}
 use Rattle.erd_meaning.specs.Records.{meaning}
 use Rattle.erd_normal.specs.Rearranged.{Change, IsRearrangement}
-use Rattle.erd_canon.specs.Bytes.{IsRead, IsCanonicalBytes}
+use Rattle.erd_canon.specs.Bytes.{IsTreeOf, IsCanonicalBytes}
 
 -- two reports have equal canonical bytes exactly if they mean the same
 abbrev pub OneFormForOneMeaning : Type 0
 OneFormForOneMeaning =
-    (b c b2 c2 : List ℕ) (t t2 : Data) → IsCanonicalBytes b c → IsCanonicalBytes b2 c2 → IsRead b t → IsRead b2 t2 → (c ≡ c2) ↔ (meaning t ≡ meaning t2)
+    (b c b2 c2 : List ℕ) (t t2 : Data) → IsCanonicalBytes b c → IsCanonicalBytes b2 c2 → IsTreeOf b t → IsTreeOf b2 t2 → (c ≡ c2) ↔ (meaning t ≡ meaning t2)
 
 -- canonical bytes are their own canonical bytes, and have no others
 abbrev pub IsItsOwnForm : Type 0
@@ -17,4 +17,4 @@ IsItsOwnForm = (b c : List ℕ) → IsCanonicalBytes b c → IsCanonicalBytes c 
 -- a rearranged report has the same canonical bytes
 abbrev pub SameFormWhenRearranged : Type 0
 SameFormWhenRearranged =
-    (b c d : List ℕ) (t u : Data) (changes : List Change) → IsCanonicalBytes b c → IsRead b t → IsRead d u → IsRearrangement changes t u → IsCanonicalBytes d c
+    (b c d : List ℕ) (t u : Data) (changes : List Change) → IsCanonicalBytes b c → IsTreeOf b t → IsTreeOf d u → IsRearrangement changes t u → IsCanonicalBytes d c

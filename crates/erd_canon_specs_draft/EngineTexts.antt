@@ -9,7 +9,7 @@ use Rattle.erd_meaning.specs.Records.{meaning}
 use Rattle.erd_compare.specs.DifferenceLine.{difference_line}
 use Rattle.erd_compare.specs.Differences.{IsDifference}
 use Rattle.erd_compare.specs.declared.difference.Difference.{Difference}
-use Rattle.erd_canon.specs.Bytes.{IsRead, IsNotJson, IsAcceptedReport, IsCanonicalBytes}
+use Rattle.erd_canon.specs.Bytes.{IsTreeOf, IsNotJson, IsAcceptedReport, IsCanonicalBytes}
 
 -- lines, each ended by one line feed
 abbrev pub text_of_lines : List (List ℕ) → List ℕ
@@ -18,7 +18,7 @@ text_of_lines lines = flat_map (λ line. line ++ 10 ∷ []) lines
 -- the bytes are JSON that is refused, with these faults in their order
 pub record IsRefusedReport (b : List ℕ) (faults : List Fault) : Type 0 where
   pub tree : Data
-  pub read : IsRead b tree
+  pub read : IsTreeOf b tree
   pub all : ListsAll (IsFault tree) faults
   pub some : faults ≢ []
 
