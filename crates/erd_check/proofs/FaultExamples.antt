@@ -1,5 +1,8 @@
 -- Each fault of the shape as a fact and as its absence, on edits of the report of one unit, by computation.
-use Rattle.std.proofs.Common.{◌≡◌, ℕ, List, [], ◌∷◌, ◌++◌, codes, Bool, true, false, refl}
+use Rattle.std.proofs.Common.{◌≡◌, ℕ, zero, suc, Some, None, List, [], ◌∷◌, ◌++◌, codes, Bool, true, false, refl}
+use Rattle.std.specs.Prelude.{option_map}
+use Rattle.serde_json.specs.Data.{depth}
+use Rattle.serde_json.specs.Read.{read}
 use Rattle.serde_json.proofs.OnLiterals.{serde_json_on_literals}
 use Rattle.erd_tables.specs.declared.fault.Reason.{Reason}
 use Rattle.erd_tables.specs.declared.fault.Reason.TheVariants.{WrongKind, MissingMember, WrongClassText, NotWhole, OutsideProfile, UnknownReference, CarriedIdentity, NotPreElection, ElectionCount, EmptyArray, Repeated}
@@ -113,3 +116,12 @@ same : same_texts (codes "{\"a\":[1,null],\"b\":\"x\"}") (codes "{\"b\":\"x\",\"
     ≡ true ∷ false ∷ false ∷ false ∷ false ∷ []
 unfolding serde_json_on_literals
 same = refl
+
+abbrev brackets : ℕ → List ℕ → List ℕ
+brackets zero inside = inside
+brackets (suc n) inside = brackets n (91 ∷ (inside ++ 93 ∷ []))
+
+-- nested 127 deep a text is read, 128 deep it is not
+deepest : (option_map depth (read (brackets 127 [])) ≡ Some 127) × (option_map depth (read (brackets 128 [])) ≡ None)
+unfolding serde_json_on_literals
+deepest = (refl, refl)

@@ -1,5 +1,5 @@
 mod ReferenceExamples
 mod NameExamples
-mod RecordExamples
+pub mod RecordExamples
 mod LaterFaultExamples
 pub mod Phases

@@ -2,7 +2,7 @@
 use Rattle.std.proofs.Common.{inl, inr}
 use Rattle.serde_json.specs.Data.{Data}
 use Rattle.erd_check.specs.Faults.{ShapeFault, NoneOf}
-use Rattle.erd_meaning.specs.Accepted.{IsFault, IsAccepted}
+use Rattle.erd_meaning.specs.Accepted.{IsAccepted}
 use Rattle.erd_meaning.specs.LaterFaults.{IdentityFault, ReferenceFault, SelectionFault}
 
 pub no_shape_fault : (t : Data) → IsAccepted t → NoneOf (ShapeFault t)

@@ -1,10 +1,13 @@
 -- What objects of the small ballot mean, in it and in its canonical form, by computation.
-use Rattle.std.proofs.Common.{◌≡◌, ℕ, List, [], ◌∷◌, Option, Some, None, map, codes, Bool, true, false, ◌||◌, refl, ap}
+use Rattle.std.proofs.Common.{◌≡◌, ℕ, List, [], ◌∷◌, Option, Some, None, map, filter, codes, Bool, true, false, not, ◌||◌, refl, ap}
 use Rattle.std.proofs.Math.Path.{fun_ext}
 use Rattle.std.specs.Ordering.{is_eq}
+use Rattle.std.specs.Str.{bytes_eq}
 use Rattle.std.specs.Prelude.{option_and_then, option_map, unwrap_or}
 use Rattle.serde_json.specs.Data.{Data, null, boolean, string}
 use Rattle.serde_json.proofs.OnLiterals.{serde_json_on_literals}
+use Rattle.erd_tables.specs.Classes.{families}
+use Rattle.erd_tables.specs.Rows.{unit_rows, party_rows, person_rows, office_rows, header_rows, candidate_rows, rows_of_class}
 use Rattle.erd_tables.specs.declared.class.Class.TheVariants as class
 use Rattle.erd_tables.specs.declared.class.Family.{Family}
 use Rattle.erd_tables.specs.declared.class.Family.TheVariants as family
@@ -15,12 +18,12 @@ use Rattle.erd_check.proofs.Reports.{tree_of, small_ballot, small_ballot_canonic
 use Rattle.erd_check.specs.Trees.{entries_of}
 use Rattle.erd_check.specs.Wants.{asked_at}
 use Rattle.erd_meaning.specs.Keys.{key_cmp}
-use Rattle.erd_meaning.specs.Meaning.{Content, no_content, first_node, Node, a_contest, a_header, a_json, a_label, untranslated, a_key, a_key_set, MemberValue, a_plain}
-use Rattle.erd_meaning.specs.Records.{content_of, json_set, plain_value, records_of, beside_text, carried_members, meaning}
+use Rattle.erd_meaning.specs.Meaning.{Label, Content, no_content, first_node, Node, a_contest, a_header, a_json, a_label, untranslated, a_key, a_key_set, MemberValue, a_plain}
+use Rattle.erd_meaning.specs.Records.{label_of, content_of, json_set, plain_value, records_of, beside_text, carried_members, meaning}
 use Rattle.erd_meaning.specs.SelectionNames.{name_named}
 use Rattle.erd_meaning.specs.declared.key.Key.{Key}
 
-abbrev local_key : List ℕ → Key
+abbrev pub local_key : List ℕ → Key
 local_key value = record { kind = codes "local-level"; other = []; value = value }
 
 abbrev value_at : Data → List Step → Data
@@ -61,10 +64,27 @@ empty_lists : (bare (content_of null (tree_of (codes "[{\"@type\":\"ElectionResu
 unfolding serde_json_on_literals
 empty_lists = (refl, refl, refl)
 
+-- a header, in it a header first
+abbrev begins_with_header : Content → Bool
+begins_with_header (first_node (a_header k (first_node (a_header l c other) more) carried) rest) = true
+begins_with_header c = false
+
+abbrev is_untranslated : Label → Bool
+is_untranslated (untranslated text) = true
+is_untranslated label = false
+
+-- a header inside another is not the same order of a ballot as its entries beside it; a label of one language is not the text in it
+other_contents : (begins_with_header (content_of null (tree_of (codes "[{\"@type\":\"ElectionResults.OrderedHeader\",\"OrderedContent\":[{\"@type\":\"ElectionResults.OrderedHeader\"}]}]"))) ≡ true)
+    × (begins_with_header (content_of null (tree_of (codes "[{\"@type\":\"ElectionResults.OrderedHeader\",\"OrderedContent\":[{\"@type\":\"ElectionResults.OrderedContest\"}]}]"))) ≡ false)
+    × (is_untranslated (label_of (tree_of (codes "\"Yes\""))) ≡ true)
+    × (is_untranslated (label_of (tree_of (codes "{\"@type\":\"ElectionResults.InternationalizedText\",\"Text\":[{\"@type\":\"ElectionResults.LanguageString\",\"Content\":\"Yes\",\"Language\":\"en\"}]}"))) ≡ false)
+unfolding serde_json_on_literals
+other_contents = (refl, refl, refl, refl)
+
 -- ---- records
 
 -- what these members of the object of a family with this key mean
-abbrev members_of : Data → Family → List ℕ → List (List ℕ) → List (Option MemberValue)
+abbrev pub members_of : Data → Family → List ℕ → List (List ℕ) → List (Option MemberValue)
 members_of t f key names = map (λ name. option_and_then (λ r. r.members name) (records_of t f (local_key key))) names
 
 abbrev names_of_candidate : List (List ℕ)
@@ -130,3 +150,24 @@ empty_arrays : members_of (tree_of (with_unit_member (codes "\"ComposingGpUnitId
     ≡ None ∷ None ∷ Some (a_plain (a_json (tree_of (codes "[]")))) ∷ []
 unfolding serde_json_on_literals
 empty_arrays = refl
+
+-- ---- the whole
+
+abbrev pub keys_and_names : Family → List (List ℕ) × List (List ℕ)
+keys_and_names family.Unit = (codes "U1" ∷ codes "U2" ∷ [], map (λ row. row.name) unit_rows)
+keys_and_names family.Party = (codes "P1" ∷ [], map (λ row. row.name) party_rows)
+keys_and_names family.Person = (codes "Q1" ∷ [], map (λ row. row.name) person_rows)
+keys_and_names family.Office = (codes "O1" ∷ [], map (λ row. row.name) office_rows)
+keys_and_names family.Header = (codes "H1" ∷ [], map (λ row. row.name) header_rows)
+keys_and_names family.Candidate = (codes "K1" ∷ codes "K2" ∷ codes "K3" ∷ codes "K4" ∷ [], map (λ row. row.name) candidate_rows)
+keys_and_names family.Contest = (codes "C1" ∷ codes "C2" ∷ [], filter (λ name. not (bytes_eq name (codes "ContestSelection"))) (map (λ row. row.name) (rows_of_class class.CandidateContest)))
+keys_and_names family.Style = (codes "S1" ∷ [], codes "GpUnitIds" ∷ codes "PartyIds" ∷ codes "ExternalIdentifier" ∷ [])
+keys_and_names family.Selection = ([], [])
+
+abbrev pub members_of_family : Data → Family → List (List (Option MemberValue))
+members_of_family t f = map (λ key. members_of t f key (keys_and_names f).1) (keys_and_names f).0
+
+-- each object has the same members in the small ballot and in its canonical form, but for selections and contents, which are above
+same_members : map (members_of_family (tree_of small_ballot)) families ≡ map (members_of_family (tree_of small_ballot_canonical)) families
+unfolding serde_json_on_literals
+same_members = refl

@@ -1,7 +1,7 @@
 -- The canonical form of the small ballot, and rearrangements, by computation.
 use Rattle.std.proofs.Common.{◌≡◌, ℕ, List, [], ◌∷◌, ◌++◌, Option, Some, None, map, zero, suc, codes, Bool, true, false, ◌&&◌, is_lt, Ordering, refl, lit<}
 use Rattle.std.specs.Fmt.{digits}
-use Rattle.std.specs.Option.{option_cmp}
+use Rattle.std.specs.Option.{option_cmp, option_map_or}
 use Rattle.std.specs.Prelude.{option_map, unwrap_or}
 use Rattle.serde_json.specs.Data.{Data}
 use Rattle.serde_json.proofs.OnLiterals.{serde_json_on_literals}
@@ -12,12 +12,15 @@ use Rattle.erd_tables.specs.declared.place.Step.TheVariants.{Name, At}
 use Rattle.erd_check.proofs.Reports.{tree_of, small_ballot, small_ballot_canonical}
 use Rattle.erd_check.specs.Trees.{entries_of}
 use Rattle.erd_check.specs.Wants.{asked_at}
+use Rattle.erd_meaning.proofs.RecordExamples.{local_key, members_of}
 use Rattle.erd_meaning.specs.Keys.{key_cmp}
+use Rattle.erd_meaning.specs.Meaning.{a_key, a_plain}
+use Rattle.erd_meaning.specs.NameParts.{NameParts}
 use Rattle.erd_meaning.specs.Objects.{contests}
 use Rattle.erd_meaning.specs.SelectionNames.{compact_cmp, name_cmp}
 use Rattle.erd_normal.specs.Canonical.{HasCanonicalEnvelope, canonical_id, canonical_selection_id, keys_referred}
 use Rattle.erd_normal.specs.Laws.{ids_in, keys_in, names_in}
-use Rattle.erd_normal.specs.Rearranged.{renamed, exchanged, HasEntries, an_exchange, changed}
+use Rattle.erd_normal.specs.Rearranged.{Renaming, renamed, exchanged, HasEntries, a_renaming, an_exchange, changed}
 
 -- ---- `@id` texts
 
@@ -106,6 +109,37 @@ exchanged_units : (let t = tree_of small_ballot in
     × (rises (option_cmp key_cmp) (keys_referred t family.Candidate (entries_at_place (exchanged (Name (codes "Election") ∷ At 0 ∷ Name (codes "Contest") ∷ At 0 ∷ Name (codes "ContestSelection") ∷ At 0 ∷ Name (codes "CandidateIds") ∷ []) 0 1 t) (Name (codes "Election") ∷ At 0 ∷ Name (codes "Contest") ∷ At 0 ∷ Name (codes "ContestSelection") ∷ At 0 ∷ Name (codes "CandidateIds") ∷ []))) ≡ true))
 unfolding serde_json_on_literals
 exchanged_units = (refl, refl, refl)
+
+-- every `@id` of the small ballot with another text
+abbrev other_texts : Renaming
+other_texts =
+    (codes "a1", codes "z1") ∷ (codes "a2", codes "z2") ∷ (codes "a3", codes "z3") ∷ (codes "a4", codes "z4") ∷ (codes "a5", codes "z5") ∷ (codes "a6", codes "z6") ∷ (codes "a7", codes "z7") ∷ (codes "a8", codes "z8") ∷ (codes "a9", codes "z9") ∷ (codes "a10", codes "z10") ∷ (codes "a11", codes "z11") ∷ (codes "a12", codes "z12") ∷ (codes "a13", codes "z13") ∷ (codes "a14", codes "z14") ∷ (codes "a15", codes "z15") ∷ (codes "a16", codes "z16") ∷ (codes "a17", codes "z17") ∷ []
+
+abbrev rearranged : Data → Data
+rearranged t =
+    changed (an_exchange (Name (codes "Election") ∷ At 0 ∷ Name (codes "Contest") ∷ At 0 ∷ Name (codes "ContestSelection") ∷ At 0 ∷ Name (codes "CandidateIds") ∷ []) 0 1)
+    (changed (an_exchange (Name (codes "Election") ∷ At 0 ∷ Name (codes "Candidate") ∷ []) 0 2) (changed (a_renaming other_texts) (changed (an_exchange (Name (codes "GpUnit") ∷ []) 0 1) t)))
+
+abbrev key_values : Option NameParts → List (List ℕ)
+key_values name = option_map_or (λ n. map (λ k. k.value) n.keys) name []
+
+-- renamed and with sets in other orders: the candidates stand in another order under other `@id` texts
+rearranged_ids : (let u = rearranged (tree_of small_ballot) in ids_in family.Candidate u) ≡ Some (codes "z6") ∷ Some (codes "z5") ∷ Some (codes "z7") ∷ []
+unfolding serde_json_on_literals
+rearranged_ids = refl
+
+-- the selections are named by the same keys, in the same order
+rearranged_names : (let u = rearranged (tree_of small_ballot) in map (λ contest. map key_values (names_in u contest)) (contests u))
+    ≡ ((codes "K1" ∷ codes "K2" ∷ []) ∷ (codes "K3" ∷ []) ∷ [] ∷ []) ∷ ([] ∷ [] ∷ []) ∷ []
+unfolding serde_json_on_literals
+rearranged_names = refl
+
+-- the references of a candidate and of a contest mean the same keys
+rearranged_references : (let u = rearranged (tree_of small_ballot) in
+    members_of u family.Candidate (codes "K1") (codes "PersonId" ∷ []) ++ members_of u family.Contest (codes "C1") (codes "ElectionDistrictId" ∷ []))
+    ≡ Some (a_plain (a_key (Some (local_key (codes "Q1"))))) ∷ Some (a_plain (a_key (Some (local_key (codes "U1"))))) ∷ []
+unfolding serde_json_on_literals
+rearranged_references = refl
 
 -- a set may be rearranged; the order of a ballot may not, nor a list of selections, nor a position that has no entry
 allowed_exchanges : (let t = tree_of small_ballot in
