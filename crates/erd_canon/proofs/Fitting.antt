@@ -14,7 +14,7 @@ use Rattle.erd_tables.specs.declared.class.Class.{Class}
 use Rattle.erd_canon.specs.declared.want.Want.{Want}
 use Rattle.erd_canon.specs.declared.want.Want.TheVariants as want
 use Rattle.serde_json.specs.View.{items_of}
-use Rattle.erd_canon.specs.Trees.{listed}
+use Rattle.erd_check.specs.Trees.{list_of_items}
 use Rattle.erd_canon.specs.Wants.{Row, want_in, want_of, want_inside, want_of_entry, number_fits, fits, items_fit, members_fit, has_required, required_of}
 
 -- nothing fits where nothing is asked for
@@ -86,7 +86,7 @@ unwanted (r ∷ rs) name e =
 
 -- ---- arrays
 
-pub items_fit-all : (w : Want) (ds : Items) → items_fit w ds ≡ true → list_all (fits w) (listed ds) ≡ true
+pub items_fit-all : (w : Want) (ds : Items) → items_fit w ds ≡ true → list_all (fits w) (list_of_items ds) ≡ true
 items_fit-all w no_items e = refl
 items_fit-all w (item d ds) e =
     let both = and_parts (fits w d) (items_fit w ds) e in and_from (fits w d) _ both.0 (items_fit-all w ds both.1)

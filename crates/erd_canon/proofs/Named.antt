@@ -14,12 +14,14 @@ use Rattle.erd_tables.specs.Classes.{text_of_class, class_of_text}
 use Rattle.erd_tables.specs.declared.class.Class.{Class}
 use Rattle.erd_tables.specs.declared.class.Class.TheVariants as class
 use Rattle.erd_canon.specs.declared.want.Want.TheVariants as want
-use Rattle.erd_canon.specs.Trees.{entries_of, first, text_at}
+use Rattle.erd_canon.specs.Bare.{first}
+use Rattle.erd_check.specs.Trees.{entries_of}
+use Rattle.erd_meaning.specs.Keys.{text_at}
 use Rattle.erd_canon.specs.Wants.{Row, envelope_rows, want_in, want_of, fits, items_fit}
 use Rattle.erd_canon.specs.Bare.{units, election, scope, Key, key_of, has_id, has_key, are_apart, is_bare}
-use Rattle.erd_canon.specs.Meaning.{Value, a_json, a_key, Record, Meaning, owner, member_meant, record_of, identity_names, report_names, meaning}
+use Rattle.erd_canon.specs.BareMeaning.{Value, a_json, a_key, Record, Meaning, owner, member_meant, record_of, identity_names, report_names, meaning}
 use Rattle.erd_canon.specs.Naming.{with_member, unit_id, position_of, named_unit, named_units, named_election, named_report, named}
-use Rattle.erd_canon.proofs.Lists.{listed-items_of}
+use Rattle.erd_canon.proofs.Lists.{list_of_items-items_of}
 use Rattle.erd_canon.proofs.Texts.{one_text, other_text, same_text, differing, cases_text}
 use Rattle.erd_canon.proofs.Fitting.{absent, unwanted, all-items_fit, fits-whole}
 use Rattle.erd_canon.proofs.Placing.{get-with_member_other, get-with_member, fits-with_member, depth-with_member}
@@ -29,7 +31,7 @@ use Rattle.erd_canon.proofs.Standing.{Bare, bare_parts, Present, present_member,
 -- ---- the parts of the tree
 
 pub units-named : (t : Data) → units (named t) ≡ named_units 0 (units t)
-units-named t = listed-items_of (named_units 0 (units t))
+units-named t = list_of_items-items_of (named_units 0 (units t))
 
 scope-named : (t : Data) → Bare t → scope (named t) ≡ unit_id (position_of (has_id (scope t)) (units t))
 scope-named t b =

@@ -10,7 +10,9 @@ use Rattle.serde_json.specs.Find.{get, as_str}
 use Rattle.serde_json.specs.View.{items_of}
 use Rattle.erd_tables.specs.declared.class.Class.TheVariants as class
 use Rattle.erd_canon.specs.declared.want.Want.TheVariants as want
-use Rattle.erd_canon.specs.Trees.{text_at, entries_of, first}
+use Rattle.erd_canon.specs.Bare.{first}
+use Rattle.erd_check.specs.Trees.{entries_of}
+use Rattle.erd_meaning.specs.Keys.{text_at}
 use Rattle.erd_canon.specs.Wants.{fits}
 use Rattle.erd_canon.specs.Bare.{Key, key_of, id_of, has_id, has_key, are_alike, are_apart}
 use Rattle.erd_canon.specs.Naming.{with_member, unit_id, position_of, named_unit, named_units}

@@ -11,7 +11,8 @@ use Rattle.serde_json.proofs.Views.{get_member-put, get_member-put_other}
 use Rattle.erd_tables.specs.declared.class.Class.{Class}
 use Rattle.erd_canon.specs.declared.want.Want.{Want}
 use Rattle.erd_canon.specs.declared.want.Want.TheVariants as want
-use Rattle.erd_canon.specs.Trees.{text_at, entries_at, sole}
+use Rattle.erd_canon.specs.Bare.{sole}
+use Rattle.erd_meaning.specs.Keys.{text_at, entries_at}
 use Rattle.erd_canon.specs.Wants.{want_of, want_inside, fits, members_fit, has_each, has_required, required_of}
 use Rattle.erd_canon.specs.Naming.{with_member}
 use Rattle.erd_canon.proofs.Fitting.{fits_object}

@@ -13,7 +13,9 @@ use Rattle.erd_tables.specs.Classes.{text_of_class}
 use Rattle.erd_tables.specs.declared.class.Class.{Class}
 use Rattle.erd_tables.specs.declared.class.Class.TheVariants as class
 use Rattle.erd_canon.specs.declared.want.Want.TheVariants as want
-use Rattle.erd_canon.specs.Trees.{listed, entries_of, first, text_at}
+use Rattle.erd_canon.specs.Bare.{first}
+use Rattle.erd_check.specs.Trees.{list_of_items, entries_of}
+use Rattle.erd_meaning.specs.Keys.{text_at}
 use Rattle.erd_canon.specs.Wants.{want_of, want_of_entry, fits, items_fit, has_each, required_of}
 use Rattle.erd_canon.specs.Bare.{units, election, scope, has_id, are_apart, is_bare}
 use Rattle.erd_canon.proofs.Fitting.{fits_object, get_fits, items_fit-all}
@@ -136,16 +138,16 @@ get_depth name (string s) v e = cc
 get_depth name (array ds) v e = cc
 get_depth name (object ms) v e = omega (arith, member_depth name ms v e)
 
-pub items_of-listed : (ds : Items) → items_of (listed ds) ≡ ds
-items_of-listed no_items = refl
-items_of-listed (item d ds) = ap (item d) (items_of-listed ds)
+pub items_of-list_of_items : (ds : Items) → items_of (list_of_items ds) ≡ ds
+items_of-list_of_items no_items = refl
+items_of-list_of_items (item d ds) = ap (item d) (items_of-list_of_items ds)
 
 entries_depth : (c : Class) (v : Data) → fits (want.EachOf c) v ≡ true → items_depth (items_of (entries_of v)) < depth v
 entries_depth c null e = absurd (true≢false (sym e))
 entries_depth c (boolean b) e = absurd (true≢false (sym e))
 entries_depth c (number n) e = absurd (true≢false (sym e))
 entries_depth c (string s) e = absurd (true≢false (sym e))
-entries_depth c (array ds) e = omega (arith, ap items_depth (items_of-listed ds))
+entries_depth c (array ds) e = omega (arith, ap items_depth (items_of-list_of_items ds))
 entries_depth c (object ms) e = absurd (true≢false (sym e))
 
 first_depth : (c : Class) (v : Data) → fits (want.OneOf c) v ≡ true → depth (first (entries_of v)) < depth v

@@ -5,8 +5,8 @@ use Rattle.serde_json.specs.Data.{Data, depth}
 use Rattle.serde_json.specs.Read.{read, max_depth}
 use Rattle.serde_json.specs.Written.{has_float, compact_text}
 use Rattle.erd_canon.specs.Bare.{IsBare, units}
-use Rattle.erd_canon.specs.Meaning.{meaning}
-use Rattle.erd_canon.specs.Canonical.{IsWrittenFor}
+use Rattle.erd_canon.specs.BareMeaning.{meaning}
+use Rattle.erd_canon.specs.BareBytes.{IsWrittenFor}
 use Rattle.erd_canon.specs.Naming.{named}
 use Rattle.erd_canon.proofs.Named.{is_bare-named, has_float-named, depth-named, meaning-named}
 

@@ -2,11 +2,19 @@
 use Rattle.std.specs.Prelude.{◌≡◌, ℕ, List, [], ◌∷◌, Bool, true, not, ◌&&◌, ◌||◌, codes}
 use Rattle.std.specs.List.{list_any}
 use Rattle.std.specs.Str.{bytes_eq}
-use Rattle.serde_json.specs.Data.{Data}
+use Rattle.serde_json.specs.Data.{Data, null}
 use Rattle.erd_tables.specs.declared.class.Class.TheVariants as class
 use Rattle.erd_canon.specs.declared.want.Want.TheVariants as want
-use Rattle.erd_canon.specs.Trees.{entries_at, sole, text_at}
+use Rattle.erd_meaning.specs.Keys.{entries_at, text_at}
 use Rattle.erd_canon.specs.Wants.{fits}
+
+abbrev pub first : List Data → Data
+first [] = null
+first (d ∷ ds) = d
+
+-- the one entry of the array that is a member
+abbrev pub sole : List ℕ → Data → Data
+sole name d = first (entries_at name d)
 
 abbrev pub units : Data → List Data
 units t = entries_at (codes "GpUnit") t

@@ -1,9 +1,11 @@
 pub mod Statuses
 pub mod Reading
-pub mod Trees
+pub mod Bytes
+pub mod ByteLaws
+pub mod EngineTexts
 pub mod Wants
 pub mod Bare
-pub mod Meaning
-pub mod Canonical
+pub mod BareMeaning
+pub mod BareBytes
 pub mod Naming
 pub mod Run

@@ -3,7 +3,8 @@ use Rattle.std.specs.Prelude.{◌≡◌, ◌≤◌, ℕ, List, [], length, codes
 use Rattle.std.specs.Io.KnownBytes.{Appends, Consumes, IsAtEnd}
 use Rattle.erd_canon.specs.declared.outcome.Outcome.{Outcome}
 use Rattle.erd_canon.specs.declared.outcome.Outcome.TheVariants.{Good, Bad, NotJson}
-use Rattle.erd_canon.specs.Canonical.{IsWritten, IsNotBare, IsNotJson}
+use Rattle.erd_canon.specs.Bytes.{IsNotJson}
+use Rattle.erd_canon.specs.BareBytes.{IsWritten, IsNotBare}
 
 -- what goes to the one writer and to the other for given bytes, and the outcome
 abbrev pub IsAnswered : List ℕ → Outcome → List ℕ → List ℕ → Type 0

@@ -9,7 +9,7 @@ use Rattle.erd_tables.specs.declared.class.Class.{Class}
 use Rattle.erd_tables.specs.declared.class.Class.TheVariants as class
 use Rattle.erd_canon.specs.declared.want.Want.{Want}
 use Rattle.erd_canon.specs.declared.want.Want.TheVariants as want
-use Rattle.erd_canon.specs.Trees.{listed}
+use Rattle.erd_check.specs.Trees.{list_of_items}
 
 -- a name, and what is asked of the member with that name
 pub record Row : Type 0 where
@@ -98,7 +98,7 @@ abbrev mutual
   fits w (boolean b) = false
   fits w (number n) = number_fits w (is_float n)
   fits w (string s) = text_fits w s
-  fits w (array ds) = count_fits w (length (listed ds)) && items_fit (want_of_entry w) ds
+  fits w (array ds) = count_fits w (length (list_of_items ds)) && items_fit (want_of_entry w) ds
   fits w (object ms) = has_required w (object ms) && members_fit w ms
 
   pub items_fit : Want → Items → Bool

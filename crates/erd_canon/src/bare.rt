@@ -2,7 +2,9 @@ ghost use Rattle.std.specs.Prelude.{◌≡◌, length, map, codes};
 ghost use Rattle.std.specs.List.{list_any};
 ghost use Rattle.serde_json.specs.View.{view, items_view, members_view};
 ghost use Rattle.erd_canon.specs.Wants.{has_required, has_each, fits, items_fit, members_fit};
-ghost use Rattle.erd_canon.specs.Trees.{listed, sole, text_at};
+ghost use Rattle.erd_canon.specs.Bare.{sole};
+ghost use Rattle.erd_check.specs.Trees.{list_of_items};
+ghost use Rattle.erd_meaning.specs.Keys.{text_at};
 ghost use Rattle.erd_canon.specs.Bare.{has_id, are_alike, are_apart, is_bare};
 
 use crate::tree::{entries, sole_text, text};
@@ -109,7 +111,7 @@ fn members_fit(members: &Map<String, Value>, want: Want) -> bool
 }
 
 fn count(items: &Vec<Value>) -> usize
-    ensures { result ≡ length (listed (items_view items.now.items)) }
+    ensures { result ≡ length (list_of_items (items_view items.now.items)) }
 {
     let entries = items.as_slice();
     entries.len()

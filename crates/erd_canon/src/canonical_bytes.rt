@@ -4,7 +4,8 @@ ghost use Rattle.serde_json.specs.Data.{depth};
 ghost use Rattle.serde_json.specs.Read.{max_depth};
 ghost use Rattle.serde_json.specs.View.{view};
 ghost use Rattle.erd_canon.specs.Bare.{IsBare};
-ghost use Rattle.erd_canon.specs.Canonical.{IsWrittenFor, IsWritten, IsNotBare, IsNotJson};
+ghost use Rattle.erd_canon.specs.Bytes.{IsNotJson};
+ghost use Rattle.erd_canon.specs.BareBytes.{IsWrittenFor, IsWritten, IsNotBare};
 
 use crate::bare::is_bare_report;
 use crate::naming::named_tree;

@@ -2,17 +2,17 @@
 #![tactic(auto)]
 
 mod bare;
-pub mod canonical_bytes;
+mod canonical_bytes;
 mod naming;
-pub mod outcome;
-pub mod read_from;
-pub mod run;
-pub mod sink;
-pub mod source;
-pub mod tally;
+mod outcome;
+mod read_from;
+mod run;
+mod sink;
+mod source;
+mod tally;
 mod tree;
-pub mod want;
-pub mod write_to;
+mod want;
+mod write_to;
 
 pub use canonical_bytes::{Refusal, canonical};
 pub use outcome::{Outcome, RunFault};

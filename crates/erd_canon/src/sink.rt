@@ -44,7 +44,7 @@ pub trait Sink {
 }
 
 /// Writes all of the bytes. An empty slice is not written.
-pub fn write_out<W: Sink>(sink: &mut W, bytes: &[u8]) -> Result<(), Failed>
+pub(crate) fn write_out<W: Sink>(sink: &mut W, bytes: &[u8]) -> Result<(), Failed>
     requires { W.has_failed sink.old ≡ false }
     ensures written { OnOk result (Appends (W.contents sink.old) (W.contents sink.new) bytes.now) }
     ensures failed { IsErr result ↔ (W.has_failed sink.new ≡ true) }

@@ -49,7 +49,7 @@ const CHUNK: usize = 65_536;
 
 /// All that a reader holds, if that is at most `MOST_BYTES`, read one chunk at a time. Each chunk is copied once,
 /// behind the bytes that came before it.
-pub fn read_all<S: Source>(alloc: Global, source: &mut S) -> Result<Vec<u8>, RunFault>
+pub(crate) fn read_all<S: Source>(alloc: Global, source: &mut S) -> Result<Vec<u8>, RunFault>
     requires { S.has_failed source.old ≡ false }
     ensures all { IfOk result (λ v. Consumes (S.remaining source.old) (S.remaining source.new) v.items
         × IsAtEnd (S.remaining source.new)) }

@@ -5,8 +5,8 @@ use std::marker::Model;
 
 /// A whole number without a last value, which contracts alone see. It takes no memory and does nothing at run time.
 #[derive(Drop)]
-pub struct Tally {
-    pub ghost count: { ℕ },
+pub(crate) struct Tally {
+    pub(crate) ghost count: { ℕ },
 }
 
 impl Model for Tally {
@@ -15,7 +15,7 @@ impl Model for Tally {
 
 impl Tally {
     /// The number 0.
-    pub fn new() -> Tally
+    pub(crate) fn new() -> Tally
         ensures { result.count ≡ 0 }
     {
         Tally {}
@@ -23,7 +23,7 @@ impl Tally {
 
     /// The number that is greater by `_more`.
     #[inline(always)]
-    pub fn plus(&self, _more: usize) -> Tally
+    pub(crate) fn plus(&self, _more: usize) -> Tally
         ensures { result.count ≡ self.now.count + _more }
     {
         Tally {}

@@ -1,6 +1,8 @@
 ghost use Rattle.std.specs.Prelude.{◌≡◌, map};
 ghost use Rattle.serde_json.specs.View.{view};
-ghost use Rattle.erd_canon.specs.Trees.{entries_of, entries_at, sole, text_at};
+ghost use Rattle.erd_canon.specs.Bare.{sole};
+ghost use Rattle.erd_check.specs.Trees.{entries_of};
+ghost use Rattle.erd_meaning.specs.Keys.{entries_at, text_at};
 
 use serde_json::Value;
 

@@ -5,7 +5,7 @@ use erd_tables::{Class, type_text};
 
 /// What is asked of a value in a bare report.
 #[derive(Clone, Copy, Debug, PartialEq, Eq)]
-pub enum Want {
+pub(crate) enum Want {
     /// The `@type` text of a class.
     TypeOf(Class),
     /// The text `pre-election`.

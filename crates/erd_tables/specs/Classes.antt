@@ -1,10 +1,12 @@
--- The classes of the format (NIST SP 1500-100 version 2), their `@type` texts and families.
-use Rattle.std.specs.Prelude.{◌≡◌, ◌↔◌, ℕ, List, [], ◌∷◌, ◌++◌, Option, Some, None, codes, find}
+-- The classes of the format (NIST SP 1500-100 version 2), their `@type` texts, roles and families.
+use Rattle.std.specs.Prelude.{◌≡◌, ◌↔◌, ◌==◌, ℕ, List, [], ◌∷◌, ◌++◌, Option, Some, None, option_and_then, codes, find, if◌then◌else◌}
 use Rattle.std.specs.Str.{bytes_eq}
 use Rattle.erd_tables.specs.declared.class.Class.{Class}
 use Rattle.erd_tables.specs.declared.class.Class.TheVariants as class
 use Rattle.erd_tables.specs.declared.class.Family.{Family}
 use Rattle.erd_tables.specs.declared.class.Family.TheVariants as family
+use Rattle.erd_tables.specs.declared.class.Role.{Role}
+use Rattle.erd_tables.specs.declared.class.Role.TheVariants.{Report, Election, OfFamily, Content, Identifier, Label, Language}
 
 -- the standard's name of a class
 abbrev pub class_name : Class → List ℕ
@@ -51,27 +53,72 @@ class_of_text text = find (λ c. bytes_eq text (text_of_class c)) classes
 abbrev pub NamesItsClass : List ℕ → Option Class → Type 0
 NamesItsClass text found = (c : Class) → (found ≡ Some c) ↔ (text ≡ text_of_class c)
 
+-- what the objects of a class stand for: each class has one role, and a place of a report admits the classes of one role (profile)
+abbrev pub role_of_class : Class → Role
+role_of_class class.ElectionReport = Report
+role_of_class class.Election = Election
+role_of_class class.ReportingUnit = OfFamily family.Unit
+role_of_class class.Party = OfFamily family.Party
+role_of_class class.Coalition = OfFamily family.Party
+role_of_class class.Person = OfFamily family.Person
+role_of_class class.Office = OfFamily family.Office
+role_of_class class.Header = OfFamily family.Header
+role_of_class class.Candidate = OfFamily family.Candidate
+role_of_class class.CandidateContest = OfFamily family.Contest
+role_of_class class.BallotMeasureContest = OfFamily family.Contest
+role_of_class class.RetentionContest = OfFamily family.Contest
+role_of_class class.PartyContest = OfFamily family.Contest
+role_of_class class.CandidateSelection = OfFamily family.Selection
+role_of_class class.BallotMeasureSelection = OfFamily family.Selection
+role_of_class class.PartySelection = OfFamily family.Selection
+role_of_class class.BallotStyle = OfFamily family.Style
+role_of_class class.OrderedContest = Content
+role_of_class class.OrderedHeader = Content
+role_of_class class.ExternalIdentifier = Identifier
+role_of_class class.InternationalizedText = Label
+role_of_class class.LanguageString = Language
+
+-- the family that a role is of
+abbrev pub family_of_role : Role → Option Family
+family_of_role (OfFamily f) = Some f
+family_of_role r = None
+
 -- the family of the objects of a class (this profile's word for the classes that one reference may name)
 abbrev pub family_of_class : Class → Option Family
-family_of_class class.ElectionReport = None
-family_of_class class.Election = None
-family_of_class class.ReportingUnit = Some family.Unit
-family_of_class class.Party = Some family.Party
-family_of_class class.Coalition = Some family.Party
-family_of_class class.Person = Some family.Person
-family_of_class class.Office = Some family.Office
-family_of_class class.Header = Some family.Header
-family_of_class class.Candidate = Some family.Candidate
-family_of_class class.CandidateContest = Some family.Contest
-family_of_class class.BallotMeasureContest = Some family.Contest
-family_of_class class.RetentionContest = Some family.Contest
-family_of_class class.PartyContest = Some family.Contest
-family_of_class class.CandidateSelection = Some family.Selection
-family_of_class class.BallotMeasureSelection = Some family.Selection
-family_of_class class.PartySelection = Some family.Selection
-family_of_class class.BallotStyle = Some family.Style
-family_of_class class.OrderedContest = None
-family_of_class class.OrderedHeader = None
-family_of_class class.ExternalIdentifier = None
-family_of_class class.InternationalizedText = None
-family_of_class class.LanguageString = None
+family_of_class c = family_of_role (role_of_class c)
+
+-- the families, in the order of the public list
+abbrev pub families : List Family
+families =
+    family.Unit ∷ family.Party ∷ family.Person ∷ family.Office ∷ family.Header ∷ family.Candidate ∷ family.Contest ∷ family.Style
+    ∷ family.Selection ∷ []
+
+-- a number for each family, by which two are told apart
+abbrev pub family_number : Family → ℕ
+family_number family.Unit = 0
+family_number family.Party = 1
+family_number family.Person = 2
+family_number family.Office = 3
+family_number family.Header = 4
+family_number family.Candidate = 5
+family_number family.Contest = 6
+family_number family.Style = 7
+family_number family.Selection = 8
+
+-- a number for each role, by which two are told apart
+abbrev pub role_number : Role → ℕ
+role_number (OfFamily f) = family_number f
+role_number Report = 9
+role_number Election = 10
+role_number Content = 11
+role_number Identifier = 12
+role_number Label = 13
+role_number Language = 14
+
+-- a class, where its objects have the role
+abbrev pub class_if_role : Role → Class → Option Class
+class_if_role r c = if role_number (role_of_class c) == role_number r then Some c else None
+
+-- the class that an `@type` text names, where its objects have the role
+abbrev pub class_in_role : Role → List ℕ → Option Class
+class_in_role r text = option_and_then (class_if_role r) (class_of_text text)

@@ -42,6 +42,20 @@ pub enum Family {
     Selection,
 }
 
+/// What an object stands for in a report. Each class has one role.
+#[derive(Clone, Copy, Debug, PartialEq, Eq)]
+pub enum Role {
+    Report,
+    Election,
+    /// An object of the family.
+    OfFamily(Family),
+    /// A contest or a header in the order of a ballot.
+    Content,
+    Identifier,
+    Label,
+    Language,
+}
+
 /// The class that an `@type` text names: `ElectionResults.` and the name of the class, and no other text.
 pub fn class_of(text: &str) -> Option<Class>
     ensures value { result ≡ class_of_text text.now }

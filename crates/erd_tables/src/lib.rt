@@ -1,6 +1,14 @@
-//! The classes and families of the format.
+//! The classes and families of the format, the table of their members, places and faults.
 #![tactic(auto)]
 
 pub mod class;
+pub mod fault;
+pub mod member;
+pub mod place;
+pub mod text;
 
 pub use class::{Class, Family, class_of, family_of, type_text};
+pub use fault::{Fault, FaultList, Reason};
+pub use member::{MemberKind, is_envelope, member_kind, required};
+pub use place::{Place, Step};
+pub use text::Text;

@@ -2,13 +2,9 @@
 use Rattle.std.specs.Prelude.{ℕ, ◌≡◌, List}
 use Rattle.serde_json.specs.Data.{Data}
 use Rattle.serde_json.specs.Written.{compact_text}
-use Rattle.erd_canon.specs.Trees.{IsTreeOf}
+use Rattle.erd_canon.specs.Bytes.{IsTreeOf}
 use Rattle.erd_canon.specs.Bare.{IsBare}
-use Rattle.erd_canon.specs.Meaning.{meaning}
-
--- the bytes are no tree
-abbrev pub IsNotJson : List ℕ → Type 0
-IsNotJson bytes = (t : Data) → ¬ IsTreeOf bytes t
+use Rattle.erd_canon.specs.BareMeaning.{meaning}
 
 -- the bytes are a tree that is no bare report
 pub record IsNotBare (bytes : List ℕ) : Type 0 where

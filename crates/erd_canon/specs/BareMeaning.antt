@@ -6,7 +6,7 @@ use Rattle.serde_json.specs.Data.{Data}
 use Rattle.serde_json.specs.Find.{get}
 use Rattle.erd_tables.specs.Classes.{class_of_text}
 use Rattle.erd_tables.specs.declared.class.Class.{Class}
-use Rattle.erd_canon.specs.Trees.{text_at}
+use Rattle.erd_meaning.specs.Keys.{text_at}
 use Rattle.erd_canon.specs.Wants.{envelope_rows}
 use Rattle.erd_canon.specs.Bare.{Key, key_of, has_key, has_id, units, election, scope}
 

@@ -1,0 +1,66 @@
+-- What the three engines write for given bytes. All is this profile's.
+use Rattle.std.specs.Prelude.{ℕ, ◌≡◌, ◌≢◌, ◌⊎◌, List, [], ◌∷◌, ◌++◌, Option, Some, None, map, codes}
+use Rattle.std.specs.List.{flat_map}
+use Rattle.serde_json.specs.Data.{Data}
+use Rattle.erd_tables.specs.Faults.{ListsAll, fault_line}
+use Rattle.erd_tables.specs.declared.fault.Fault.{Fault}
+use Rattle.erd_meaning.specs.Accepted.{IsFault}
+use Rattle.erd_meaning.specs.Records.{meaning}
+use Rattle.erd_compare.specs.DifferenceLine.{difference_line}
+use Rattle.erd_compare.specs.Differences.{IsDifference}
+use Rattle.erd_compare.specs.declared.difference.Difference.{Difference}
+use Rattle.erd_canon.specs.Bytes.{IsTreeOf, IsNotJson, IsAcceptedReport, IsCanonicalBytes}
+
+-- lines, each ended by one line feed
+abbrev pub text_of_lines : List (List ℕ) → List ℕ
+text_of_lines lines = flat_map (λ line. line ++ 10 ∷ []) lines
+
+-- the bytes are JSON that is refused, with these faults in their order
+pub record IsRefusedReport (b : List ℕ) (faults : List Fault) : Type 0 where
+  pub tree : Data
+  pub read : IsTreeOf b tree
+  pub all : ListsAll (IsFault tree) faults
+  pub some : faults ≢ []
+
+-- the lines that tell why the bytes are not accepted: `not JSON`, or one for each fault
+abbrev pub IsRefusal : List ℕ → List (List ℕ) → Type 0
+IsRefusal b lines =
+    (IsNotJson b × (lines ≡ codes "not JSON" ∷ [])) ⊎ ((faults : List Fault) × IsRefusedReport b faults × (lines ≡ map fault_line faults))
+
+-- what checking writes: `accepted`, or why not
+abbrev pub IsCheckText : List ℕ → List ℕ → Type 0
+IsCheckText b x =
+    ((t : Data) × IsAcceptedReport b t × (x ≡ text_of_lines (codes "accepted" ∷ [])))
+    ⊎ ((lines : List (List ℕ)) × IsRefusal b lines × (x ≡ text_of_lines lines))
+
+-- what canonicalising writes to its output: the canonical bytes with no line end, or nothing
+abbrev pub IsCanonicalOutput : List ℕ → List ℕ → Type 0
+IsCanonicalOutput b x = IsCanonicalBytes b x ⊎ (((t : Data) → ¬ IsAcceptedReport b t) × (x ≡ []))
+
+-- what canonicalising writes to its errors: nothing, or why not
+abbrev pub IsCanonicalErrors : List ℕ → List ℕ → Type 0
+IsCanonicalErrors b x = ((t : Data) × IsAcceptedReport b t × (x ≡ [])) ⊎ ((lines : List (List ℕ)) × IsRefusal b lines × (x ≡ text_of_lines lines))
+
+-- the words for a comparison of two accepted reports
+abbrev pub comparison_line : Option Difference → List ℕ
+comparison_line None = codes "same"
+comparison_line (Some d) = difference_line d
+
+-- two accepted reports, and the first difference of their meanings
+pub record IsComparison (left right : List ℕ) (found : Option Difference) : Type 0 where
+  pub left_tree : Data
+  pub right_tree : Data
+  pub left_accepted : IsAcceptedReport left left_tree
+  pub right_accepted : IsAcceptedReport right right_tree
+  pub difference : IsDifference (meaning left_tree) (meaning right_tree) found
+
+-- lines about one of two reports
+abbrev pub lines_of_side : List ℕ → List (List ℕ) → List (List ℕ)
+lines_of_side side lines = map (λ line. side ++ line) lines
+
+-- what comparing writes: `same`, or the difference, or why the first report that is not accepted is refused, the left one before the right
+abbrev pub IsCompareText : List ℕ → List ℕ → List ℕ → Type 0
+IsCompareText left right x =
+    ((lines : List (List ℕ)) × IsRefusal left lines × (x ≡ text_of_lines (lines_of_side (codes "left: ") lines)))
+    ⊎ (((lines : List (List ℕ)) × (t : Data) × IsAcceptedReport left t × IsRefusal right lines × (x ≡ text_of_lines (lines_of_side (codes "right: ") lines)))
+    ⊎ ((found : Option Difference) × IsComparison left right found × (x ≡ text_of_lines (comparison_line found ∷ []))))

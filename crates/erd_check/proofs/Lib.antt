@@ -1,0 +1,3 @@
+pub mod Reports
+mod AskedExamples
+mod FaultExamples

@@ -1,0 +1,61 @@
+-- Reports for the worked examples: the small ballot, its canonical form, and a report of one unit in parts that examples edit.
+use Rattle.std.proofs.Common.{ℕ, List, ◌++◌, codes, unwrap_or}
+use Rattle.serde_json.specs.Data.{Data, null}
+use Rattle.serde_json.specs.Read.{read}
+
+-- what a text is as JSON
+abbrev pub tree_of : List ℕ → Data
+tree_of text = unwrap_or (read text) null
+
+-- two units, a party, a person, an office, a header, three candidates, two contests with five selections, one ballot style:
+-- with this value in the identifier of the candidate `a7`, and this order of the ballot
+abbrev pub small_ballot_with : List ℕ → List ℕ → List ℕ
+small_ballot_with value content =
+    codes "{\"Status\":\"pre-election\",\"@type\":\"ElectionResults.ElectionReport\",\"GeneratedDate\":\"2026-08-01T09:00:00Z\",\"Issuer\":\"Vendor A\",\"GpUnit\":[{\"@id\":\"a2\",\"@type\":\"ElectionResults.ReportingUnit\",\"ExternalIdentifier\":[{\"@type\":\"ElectionResults.ExternalIdentifier\",\"Type\":\"local-level\",\"Value\":\"U2\"}],\"Type\":\"precinct\"},{\"@id\":\"a1\",\"@type\":\"ElectionResults.ReportingUnit\",\"ExternalIdentifier\":[{\"@type\":\"ElectionResults.ExternalIdentifier\",\"Type\":\"local-level\",\"Value\":\"U1\"}],\"Type\":\"county\",\"ComposingGpUnitIds\":[\"a2\"]}],\"Party\":[{\"@id\":\"a3\",\"@type\":\"ElectionResults.Party\",\"ExternalIdentifier\":[{\"@type\":\"ElectionResults.ExternalIdentifier\",\"Type\":\"local-level\",\"Value\":\"P1\"}],\"Name\":\"Blue\"}],\"Person\":[{\"@id\":\"a16\",\"@type\":\"ElectionResults.Person\",\"ExternalIdentifier\":[{\"@type\":\"ElectionResults.ExternalIdentifier\",\"Type\":\"local-level\",\"Value\":\"Q1\"}],\"FullName\":\"Ann Ash\"}],\"Office\":[{\"@id\":\"a17\",\"@type\":\"ElectionResults.Office\",\"ExternalIdentifier\":[{\"@type\":\"ElectionResults.ExternalIdentifier\",\"Type\":\"local-level\",\"Value\":\"O1\"}],\"Name\":\"Governor\"}],\"Header\":[{\"@id\":\"a4\",\"@type\":\"ElectionResults.Header\",\"ExternalIdentifier\":[{\"@type\":\"ElectionResults.ExternalIdentifier\",\"Type\":\"local-level\",\"Value\":\"H1\"}],\"Name\":\"State\"}],\"Election\":[{\"@type\":\"ElectionResults.Election\",\"Name\":\"Test\",\"Type\":\"general\",\"StartDate\":\"2026-11-03\",\"EndDate\":\"2026-11-03\",\"ElectionScopeId\":\"a1\",\"Candidate\":[{\"@id\":\"a7\",\"@type\":\"ElectionResults.Candidate\",\"ExternalIdentifier\":[{\"@type\":\"ElectionResults.ExternalIdentifier\",\"Type\":\"local-level\",\"Value\":\"" ++ value ++ codes "\"}],\"BallotName\":\"Cy\",\"PartyId\":\"a3\"},{\"@id\":\"a5\",\"@type\":\"ElectionResults.Candidate\",\"ExternalIdentifier\":[{\"@type\":\"ElectionResults.ExternalIdentifier\",\"Type\":\"local-level\",\"Value\":\"K1\"}],\"BallotName\":\"Ann\",\"PersonId\":\"a16\"},{\"@id\":\"a6\",\"@type\":\"ElectionResults.Candidate\",\"ExternalIdentifier\":[{\"@type\":\"ElectionResults.ExternalIdentifier\",\"Type\":\"local-level\",\"Value\":\"K2\"}],\"BallotName\":\"Bo\"}],\"Contest\":[{\"@id\":\"a8\",\"@type\":\"ElectionResults.CandidateContest\",\"ExternalIdentifier\":[{\"@type\":\"ElectionResults.ExternalIdentifier\",\"Type\":\"local-level\",\"Value\":\"C1\"}],\"Name\":\"Governor\",\"ElectionDistrictId\":\"a1\",\"VotesAllowed\":1,\"OfficeIds\":[\"a17\"],\"ContestSelection\":[{\"@id\":\"a9\",\"@type\":\"ElectionResults.CandidateSelection\",\"CandidateIds\":[\"a6\",\"a5\"]},{\"@id\":\"a10\",\"@type\":\"ElectionResults.CandidateSelection\",\"CandidateIds\":[\"a7\"]},{\"@id\":\"a11\",\"@type\":\"ElectionResults.CandidateSelection\",\"IsWriteIn\":true}]},{\"@id\":\"a12\",\"@type\":\"ElectionResults.BallotMeasureContest\",\"ExternalIdentifier\":[{\"@type\":\"ElectionResults.ExternalIdentifier\",\"Type\":\"local-level\",\"Value\":\"C2\"}],\"Name\":\"Bonds\",\"ElectionDistrictId\":\"a1\",\"ContestSelection\":[{\"@id\":\"a13\",\"@type\":\"ElectionResults.BallotMeasureSelection\",\"Selection\":{\"@type\":\"ElectionResults.InternationalizedText\",\"Text\":[{\"@type\":\"ElectionResults.LanguageString\",\"Language\":\"en\",\"Content\":\"Yes\"},{\"@type\":\"ElectionResults.LanguageString\",\"Language\":\"es\",\"Content\":\"Si\"}]}},{\"@id\":\"a14\",\"@type\":\"ElectionResults.BallotMeasureSelection\",\"Selection\":\"No\"}]}],\"BallotStyle\":[{\"@type\":\"ElectionResults.BallotStyle\",\"ExternalIdentifier\":[{\"@type\":\"ElectionResults.ExternalIdentifier\",\"Type\":\"local-level\",\"Value\":\"S1\"}],\"GpUnitIds\":[\"a2\"],\"OrderedContent\":[" ++ content ++ codes "]}]}]}"
+
+-- the header of the ballot, with the first contest and its three selections
+abbrev pub header_node : List ℕ
+header_node = codes "{\"@type\":\"ElectionResults.OrderedHeader\",\"HeaderId\":\"a4\",\"OrderedContent\":[{\"@type\":\"ElectionResults.OrderedContest\",\"ContestId\":\"a8\",\"OrderedContestSelectionIds\":[\"a10\",\"a9\",\"a11\"]}]}"
+
+-- the second contest of the ballot
+abbrev pub contest_node : List ℕ
+contest_node = codes "{\"@type\":\"ElectionResults.OrderedContest\",\"ContestId\":\"a12\"}"
+
+-- the small ballot
+abbrev pub small_ballot : List ℕ
+small_ballot = small_ballot_with (codes "K3") (header_node ++ codes "," ++ contest_node)
+
+-- its canonical form
+abbrev pub small_ballot_canonical : List ℕ
+small_ballot_canonical = codes "{\"@type\":\"ElectionResults.ElectionReport\",\"Election\":[{\"@type\":\"ElectionResults.Election\",\"BallotStyle\":[{\"@type\":\"ElectionResults.BallotStyle\",\"ExternalIdentifier\":[{\"@type\":\"ElectionResults.ExternalIdentifier\",\"Type\":\"local-level\",\"Value\":\"S1\"}],\"GpUnitIds\":[\"gp2\"],\"OrderedContent\":[{\"@type\":\"ElectionResults.OrderedHeader\",\"HeaderId\":\"hd1\",\"OrderedContent\":[{\"@type\":\"ElectionResults.OrderedContest\",\"ContestId\":\"co1\",\"OrderedContestSelectionIds\":[\"cs1-3\",\"cs1-2\",\"cs1-1\"]}]},{\"@type\":\"ElectionResults.OrderedContest\",\"ContestId\":\"co2\"}]}],\"Candidate\":[{\"@id\":\"ca1\",\"@type\":\"ElectionResults.Candidate\",\"BallotName\":\"Ann\",\"ExternalIdentifier\":[{\"@type\":\"ElectionResults.ExternalIdentifier\",\"Type\":\"local-level\",\"Value\":\"K1\"}],\"PersonId\":\"pe1\"},{\"@id\":\"ca2\",\"@type\":\"ElectionResults.Candidate\",\"BallotName\":\"Bo\",\"ExternalIdentifier\":[{\"@type\":\"ElectionResults.ExternalIdentifier\",\"Type\":\"local-level\",\"Value\":\"K2\"}]},{\"@id\":\"ca3\",\"@type\":\"ElectionResults.Candidate\",\"BallotName\":\"Cy\",\"ExternalIdentifier\":[{\"@type\":\"ElectionResults.ExternalIdentifier\",\"Type\":\"local-level\",\"Value\":\"K3\"}],\"PartyId\":\"pa1\"}],\"Contest\":[{\"@id\":\"co1\",\"@type\":\"ElectionResults.CandidateContest\",\"ContestSelection\":[{\"@id\":\"cs1-1\",\"@type\":\"ElectionResults.CandidateSelection\",\"IsWriteIn\":true},{\"@id\":\"cs1-2\",\"@type\":\"ElectionResults.CandidateSelection\",\"CandidateIds\":[\"ca1\",\"ca2\"]},{\"@id\":\"cs1-3\",\"@type\":\"ElectionResults.CandidateSelection\",\"CandidateIds\":[\"ca3\"]}],\"ElectionDistrictId\":\"gp1\",\"ExternalIdentifier\":[{\"@type\":\"ElectionResults.ExternalIdentifier\",\"Type\":\"local-level\",\"Value\":\"C1\"}],\"Name\":\"Governor\",\"OfficeIds\":[\"of1\"],\"VotesAllowed\":1},{\"@id\":\"co2\",\"@type\":\"ElectionResults.BallotMeasureContest\",\"ContestSelection\":[{\"@id\":\"cs2-1\",\"@type\":\"ElectionResults.BallotMeasureSelection\",\"Selection\":\"No\"},{\"@id\":\"cs2-2\",\"@type\":\"ElectionResults.BallotMeasureSelection\",\"Selection\":{\"@type\":\"ElectionResults.InternationalizedText\",\"Text\":[{\"@type\":\"ElectionResults.LanguageString\",\"Content\":\"Si\",\"Language\":\"es\"},{\"@type\":\"ElectionResults.LanguageString\",\"Content\":\"Yes\",\"Language\":\"en\"}]}}],\"ElectionDistrictId\":\"gp1\",\"ExternalIdentifier\":[{\"@type\":\"ElectionResults.ExternalIdentifier\",\"Type\":\"local-level\",\"Value\":\"C2\"}],\"Name\":\"Bonds\"}],\"ElectionScopeId\":\"gp1\",\"EndDate\":\"2026-11-03\",\"Name\":\"Test\",\"StartDate\":\"2026-11-03\",\"Type\":\"general\"}],\"Format\":\"summary-contest\",\"GeneratedDate\":\"2000-01-01T00:00:00Z\",\"GpUnit\":[{\"@id\":\"gp1\",\"@type\":\"ElectionResults.ReportingUnit\",\"ComposingGpUnitIds\":[\"gp2\"],\"ExternalIdentifier\":[{\"@type\":\"ElectionResults.ExternalIdentifier\",\"Type\":\"local-level\",\"Value\":\"U1\"}],\"Type\":\"county\"},{\"@id\":\"gp2\",\"@type\":\"ElectionResults.ReportingUnit\",\"ExternalIdentifier\":[{\"@type\":\"ElectionResults.ExternalIdentifier\",\"Type\":\"local-level\",\"Value\":\"U2\"}],\"Type\":\"precinct\"}],\"Header\":[{\"@id\":\"hd1\",\"@type\":\"ElectionResults.Header\",\"ExternalIdentifier\":[{\"@type\":\"ElectionResults.ExternalIdentifier\",\"Type\":\"local-level\",\"Value\":\"H1\"}],\"Name\":\"State\"}],\"Issuer\":\"canonical\",\"IssuerAbbreviation\":\"canonical\",\"Office\":[{\"@id\":\"of1\",\"@type\":\"ElectionResults.Office\",\"ExternalIdentifier\":[{\"@type\":\"ElectionResults.ExternalIdentifier\",\"Type\":\"local-level\",\"Value\":\"O1\"}],\"Name\":\"Governor\"}],\"Party\":[{\"@id\":\"pa1\",\"@type\":\"ElectionResults.Party\",\"ExternalIdentifier\":[{\"@type\":\"ElectionResults.ExternalIdentifier\",\"Type\":\"local-level\",\"Value\":\"P1\"}],\"Name\":\"Blue\"}],\"Person\":[{\"@id\":\"pe1\",\"@type\":\"ElectionResults.Person\",\"ExternalIdentifier\":[{\"@type\":\"ElectionResults.ExternalIdentifier\",\"Type\":\"local-level\",\"Value\":\"Q1\"}],\"FullName\":\"Ann Ash\"}],\"SequenceEnd\":1,\"SequenceStart\":1,\"Status\":\"pre-election\",\"VendorApplicationId\":\"canonical\"}"
+
+-- a report with these members beside `@type`, of one unit and one election with these members
+abbrev pub one_unit_report : List ℕ → List ℕ → List ℕ → List ℕ
+one_unit_report report unit election =
+    codes "{\"@type\":\"ElectionResults.ElectionReport\"," ++ report ++ codes ",\"GpUnit\":[{\"@id\":\"u7\"," ++ unit ++ codes "}],\"Election\":[{" ++ election ++ codes "}]}"
+
+-- the members of the report of one unit
+abbrev pub status : List ℕ
+status = codes "\"Status\":\"pre-election\""
+
+-- those of its unit
+abbrev pub unit : List ℕ
+unit = codes "\"@type\":\"ElectionResults.ReportingUnit\",\"Type\":\"county\",\"ExternalIdentifier\":[{\"@type\":\"ElectionResults.ExternalIdentifier\",\"Type\":\"local-level\",\"Value\":\"U1\"}]"
+
+-- those of its election
+abbrev pub election : List ℕ
+election = codes "\"@type\":\"ElectionResults.Election\",\"Name\":\"Test\",\"Type\":\"general\",\"StartDate\":\"2026-11-03\",\"EndDate\":\"2026-11-03\",\"ElectionScopeId\":\"u7\""
+
+-- the report of one unit
+abbrev pub one_unit : List ℕ
+one_unit = one_unit_report status unit election
+
+-- with more members in the report, in its unit, in its election
+abbrev pub with_report_member : List ℕ → List ℕ
+with_report_member more = one_unit_report (status ++ codes "," ++ more) unit election
+
+abbrev pub with_unit_member : List ℕ → List ℕ
+with_unit_member more = one_unit_report status (unit ++ codes "," ++ more) election
+
+abbrev pub with_election_member : List ℕ → List ℕ
+with_election_member more = one_unit_report status unit (election ++ codes "," ++ more)

@@ -1,0 +1,158 @@
+-- The faults of the shape of a report: one relation between a report, a place and a reason, with a case for each of the
+-- reasons 1 to 11. All is this profile's.
+use Rattle.std.specs.Prelude.{ℕ, List, [], ◌∷◌, Bool, true, false, not, ◌||◌, ◌&&◌, ◌==◌, Some, None, codes, is_some, is_none, IsSomeAnd, IsTrue, length}
+use Rattle.std.specs.List.{list_any}
+use Rattle.std.specs.Option.{option_map_or}
+use Rattle.std.specs.Str.{bytes_eq}
+use Rattle.serde_json.specs.Data.{Data}
+use Rattle.serde_json.specs.Find.{get, as_bool, as_number, as_str, as_array, as_object, is_float}
+use Rattle.erd_tables.specs.Classes.{class_in_role}
+use Rattle.erd_tables.specs.Table.{required_names}
+use Rattle.erd_tables.specs.declared.fault.Reason.{Reason}
+use Rattle.erd_tables.specs.declared.fault.Reason.TheVariants as reason
+use Rattle.erd_tables.specs.declared.member.MemberKind.{MemberKind}
+use Rattle.erd_tables.specs.declared.member.MemberKind.TheVariants as kind
+use Rattle.erd_tables.specs.declared.place.Step.{Step}
+use Rattle.erd_check.specs.Trees.{list_of_items}
+use Rattle.erd_check.specs.Wants.{Asked, scope_inside, asked_at}
+use Rattle.erd_check.specs.declared.want.Scope.{Scope}
+use Rattle.erd_check.specs.declared.want.Scope.TheVariants as scope
+use Rattle.erd_check.specs.declared.want.Want.{Want}
+use Rattle.erd_check.specs.declared.want.Want.TheVariants.{Object, ClassText, Reference, Status, Member, Carried}
+
+-- ---- tests of values
+
+-- a JSON string
+abbrev pub is_text : Data → Bool
+is_text d = is_some (as_str d)
+
+-- a JSON array
+abbrev pub is_array : Data → Bool
+is_array d = is_some (as_array d)
+
+-- a JSON object
+abbrev pub is_object : Data → Bool
+is_object d = is_some (as_object d)
+
+-- an array with no entry
+abbrev pub is_empty_array : Data → Bool
+is_empty_array d = option_map_or (λ ds. length (list_of_items ds) == 0) (as_array d) false
+
+-- an array that has not exactly one entry
+abbrev pub has_not_one_entry : Data → Bool
+has_not_one_entry d = option_map_or (λ ds. not (length (list_of_items ds) == 1)) (as_array d) false
+
+-- a number that is not whole: with a fraction or an exponent, or beyond -2^63 to 2^64 - 1
+abbrev pub is_not_whole : Data → Bool
+is_not_whole d = option_map_or is_float (as_number d) false
+
+-- an object without this member
+abbrev pub lacks : Data → List ℕ → Bool
+lacks d name = is_none (get name d)
+
+-- ---- what each reason asks
+
+-- whether a value is of the JSON kind that a member asks for; outside members and names out of place have reasons of their own
+abbrev pub has_kind : MemberKind → Data → Bool
+has_kind kind.Identity d = is_text d
+has_kind kind.Word d = is_text d
+has_kind kind.Label d = is_text d || is_object d
+has_kind kind.Flag d = is_some (as_bool d)
+has_kind kind.Whole d = is_some (as_number d)
+has_kind (kind.Many f) d = is_array d
+has_kind kind.Identifiers d = is_array d
+has_kind kind.Languages d = is_array d
+has_kind (kind.Keyed f) d = is_array d
+has_kind kind.Elections d = is_array d
+has_kind kind.Content d = is_array d
+has_kind kind.Ordered d = is_array d
+has_kind k d = true
+
+-- whether a value is of the JSON kind that is asked for
+abbrev pub has_wanted_kind : Want → Data → Bool
+has_wanted_kind (Object r) d = is_object d
+has_wanted_kind (ClassText r) d = is_text d
+has_wanted_kind (Reference f) d = is_text d
+has_wanted_kind Status d = is_text d
+has_wanted_kind (Member k required) d = has_kind k d
+has_wanted_kind Carried d = true
+
+-- the members that an object must have: `@type` alone where its class is unknown
+abbrev pub names_wanted : Scope → List (List ℕ)
+names_wanted scope.Nothing = []
+names_wanted (scope.Members r None) = codes "@type" ∷ []
+names_wanted (scope.Members r (Some c)) = required_names c
+names_wanted scope.Carried = []
+
+-- a text that is the `@type` of no class that may stand there
+abbrev pub is_wrong_class : Want → Data → Bool
+is_wrong_class (ClassText r) d = option_map_or (λ s. is_none (class_in_role r s)) (as_str d) false
+is_wrong_class w d = false
+
+-- a place whose number has to be whole
+abbrev pub wants_whole : Want → Bool
+wants_whole (Member kind.Whole required) = true
+wants_whole Carried = true
+wants_whole w = false
+
+-- a member outside the profile
+abbrev pub is_outside : Want → Bool
+is_outside (Member kind.Outside required) = true
+is_outside w = false
+
+-- a reference that the table does not know
+abbrev pub is_strange_reference : Want → Bool
+is_strange_reference (Member kind.StrangeReference required) = true
+is_strange_reference w = false
+
+-- an identity where none belongs, or a reference inside a carried value
+abbrev pub is_strange_identity : Want → Bool
+is_strange_identity (Member kind.StrangeIdentity required) = true
+is_strange_identity w = false
+
+-- a `Status` other than that of a report before the election (class ElectionReport)
+abbrev pub is_other_status : Want → Data → Bool
+is_other_status Status d = option_map_or (λ s. not (bytes_eq s (codes "pre-election"))) (as_str d) false
+is_other_status w d = false
+
+-- the array of elections
+abbrev pub is_elections : Want → Bool
+is_elections (Member kind.Elections required) = true
+is_elections w = false
+
+-- an array that may not be empty: a set of references or of translations that is required
+abbrev pub wants_entry : Want → Bool
+wants_entry (Member (kind.Many f) required) = required
+wants_entry (Member kind.Languages required) = required
+wants_entry w = false
+
+-- a reference
+abbrev pub is_reference : Want → Bool
+is_reference (Reference f) = true
+is_reference w = false
+
+-- ---- the faults
+
+-- whether a value has a fault of the shape, by what is asked of it; that a reference is repeated is judged with the references
+abbrev pub is_shape_fault : Asked → Reason → Bool
+is_shape_fault a reason.WrongKind = not (has_wanted_kind a.want a.value)
+is_shape_fault a (reason.MissingMember name) =
+    list_any (bytes_eq name) (names_wanted (scope_inside a.want a.value)) && lacks a.value name
+is_shape_fault a reason.WrongClassText = is_wrong_class a.want a.value
+is_shape_fault a reason.NotWhole = wants_whole a.want && is_not_whole a.value
+is_shape_fault a reason.OutsideProfile = is_outside a.want && not (is_empty_array a.value)
+is_shape_fault a reason.UnknownReference = is_strange_reference a.want
+is_shape_fault a reason.CarriedIdentity = is_strange_identity a.want
+is_shape_fault a reason.NotPreElection = is_other_status a.want a.value
+is_shape_fault a reason.ElectionCount = is_elections a.want && has_not_one_entry a.value
+is_shape_fault a reason.EmptyArray = wants_entry a.want && is_empty_array a.value
+is_shape_fault a reason.Repeated = a.repeated && not (is_reference a.want)
+is_shape_fault a r = false
+
+-- the faults of the shape of a report
+abbrev pub ShapeFault : Data → List Step → Reason → Type 0
+ShapeFault t p r = IsSomeAnd (asked_at t p) (λ a. IsTrue (is_shape_fault a r))
+
+-- there is no fault of this kind
+abbrev pub NoneOf : (List Step → Reason → Type 0) → Type 0
+NoneOf IsFault = (p : List Step) (r : Reason) → ¬ IsFault p r

@@ -1,0 +1,4 @@
+pub mod Trees
+pub mod Wants
+pub mod Faults
+pub mod Refusals

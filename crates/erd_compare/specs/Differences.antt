@@ -1,0 +1,87 @@
+-- The first difference of two meanings. All is this profile's.
+use Rattle.std.specs.Prelude.{ℕ, ◌≡◌, ◌≢◌, List, Option, Some, None}
+use Rattle.std.specs.Option.{option_cmp}
+use Rattle.std.specs.Ordering.{nat_cmp, ordering_then}
+use Rattle.std.specs.declared.cmp.Ordering.{Ordering}
+use Rattle.std.specs.declared.cmp.Ordering.TheVariants.{Less}
+use Rattle.erd_tables.specs.Texts.{text_cmp}
+use Rattle.erd_tables.specs.declared.class.Family.{Family}
+use Rattle.erd_tables.specs.declared.class.Family.TheVariants as family
+use Rattle.erd_meaning.specs.Keys.{key_cmp}
+use Rattle.erd_meaning.specs.Meaning.{ObjectRecord, Meaning}
+use Rattle.erd_meaning.specs.declared.key.Key.{Key}
+use Rattle.erd_compare.specs.declared.difference.Difference.{Difference}
+use Rattle.erd_compare.specs.declared.difference.How.{How}
+use Rattle.erd_compare.specs.declared.difference.How.TheVariants.{OnlyLeft, OnlyRight, OtherClass, Member}
+use Rattle.erd_compare.specs.declared.difference.Part.{Part}
+use Rattle.erd_compare.specs.declared.difference.Part.TheVariants as part
+
+-- ---- parts
+
+-- the position of a part among them
+abbrev pub part_number : Part → ℕ
+part_number part.Report = 0
+part_number part.Unit = 1
+part_number part.Party = 2
+part_number part.Person = 3
+part_number part.Office = 4
+part_number part.Header = 5
+part_number part.Election = 6
+part_number part.Candidate = 7
+part_number part.Contest = 8
+part_number part.Style = 9
+
+-- by part, then by key
+abbrev pub part_cmp : Part → Option Key → Part → Option Key → Ordering
+part_cmp p k q l = ordering_then (nat_cmp (part_number p) (part_number q)) (option_cmp key_cmp k l)
+
+-- the record of an object of a family, which has a key
+abbrev pub record_with_key : Meaning → Family → Option Key → Option ObjectRecord
+record_with_key m f None = None
+record_with_key m f (Some k) = m.objects f k
+
+-- the record of the report or the election, which has no key
+abbrev pub record_without_key : Option ObjectRecord → Option Key → Option ObjectRecord
+record_without_key r None = r
+record_without_key r (Some k) = None
+
+-- the record that a meaning has at a part and a key
+abbrev pub record_at : Meaning → Part → Option Key → Option ObjectRecord
+record_at m part.Report k = record_without_key m.report k
+record_at m part.Unit k = record_with_key m family.Unit k
+record_at m part.Party k = record_with_key m family.Party k
+record_at m part.Person k = record_with_key m family.Person k
+record_at m part.Office k = record_with_key m family.Office k
+record_at m part.Header k = record_with_key m family.Header k
+record_at m part.Election k = record_without_key m.election k
+record_at m part.Candidate k = record_with_key m family.Candidate k
+record_at m part.Contest k = record_with_key m family.Contest k
+record_at m part.Style k = record_with_key m family.Style k
+
+-- ---- differences
+
+-- the name is the least at which the two maps differ; one of them may have nothing there
+pub record DifferFirstAt (a b : ObjectRecord) (name : List ℕ) : Type 0 where
+  pub same_class : a.class ≡ b.class
+  pub differ : a.members name ≢ b.members name
+  pub least : (n : List ℕ) → text_cmp n name ≡ Less → a.members n ≡ b.members n
+
+-- how two records differ: one side alone has one; another class before any member; else the least member
+abbrev pub Differ : Option ObjectRecord → Option ObjectRecord → How → Type 0
+Differ None None how = ⊥
+Differ (Some a) None how = how ≡ OnlyLeft
+Differ None (Some b) how = how ≡ OnlyRight
+Differ (Some a) (Some b) OnlyLeft = ⊥
+Differ (Some a) (Some b) OnlyRight = ⊥
+Differ (Some a) (Some b) OtherClass = a.class ≢ b.class
+Differ (Some a) (Some b) (Member name) = DifferFirstAt a b name
+
+-- the difference is at the least part and key at which the two meanings differ
+pub record IsFirstDifference (m n : Meaning) (d : Difference) : Type 0 where
+  pub differ : Differ (record_at m d.part d.key) (record_at n d.part d.key) d.how
+  pub least : (p : Part) (k : Option Key) → part_cmp p k d.part d.key ≡ Less → record_at m p k ≡ record_at n p k
+
+-- the first difference of two meanings, and none exactly if they are equal
+abbrev pub IsDifference : Meaning → Meaning → Option Difference → Type 0
+IsDifference m n None = m ≡ n
+IsDifference m n (Some d) = IsFirstDifference m n d

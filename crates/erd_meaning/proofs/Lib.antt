@@ -1,0 +1,5 @@
+mod ReferenceExamples
+mod NameExamples
+pub mod RecordExamples
+mod LaterFaultExamples
+pub mod Phases

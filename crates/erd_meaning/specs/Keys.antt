@@ -1,0 +1,52 @@
+-- Keys: what names an object independently of the vendor.
+use Rattle.std.specs.Prelude.{ℕ, List, [], ◌∷◌, if◌then◌else◌, Bool, true, false, Option, Some, None, option_and_then, unwrap_or, map, codes}
+use Rattle.std.specs.Option.{option_map_or}
+use Rattle.std.specs.Ordering.{ordering_then, is_lt}
+use Rattle.std.specs.declared.cmp.Ordering.{Ordering}
+use Rattle.serde_json.specs.Data.{Data}
+use Rattle.serde_json.specs.Find.{get, as_str}
+use Rattle.erd_tables.specs.Texts.{text_cmp}
+use Rattle.erd_tables.specs.declared.class.Family.{Family}
+use Rattle.erd_tables.specs.declared.class.Family.TheVariants as family
+use Rattle.erd_check.specs.Trees.{entries_of}
+use Rattle.erd_meaning.specs.declared.key.Key.{Key}
+
+-- whether the objects of a family are named by keys: those of the first eight families are; selections have names of
+-- their own (profile)
+abbrev pub has_keys : Family → Bool
+has_keys family.Selection = false
+has_keys f = true
+
+-- keys are compared part by part (profile)
+abbrev pub key_cmp : Key → Key → Ordering
+key_cmp a b = ordering_then (text_cmp a.kind b.kind) (ordering_then (text_cmp a.other b.other) (text_cmp a.value b.value))
+
+-- the text of a member, or the empty text
+abbrev pub text_at : List ℕ → Data → List ℕ
+text_at name d = unwrap_or (option_and_then as_str (get name d)) []
+
+-- the entries of the array of a member, and none where it is absent
+abbrev pub entries_at : List ℕ → Data → List Data
+entries_at name d = option_map_or entries_of (get name d) []
+
+-- the triple of an identifier: `Type`, `OtherType` or the empty text, `Value` (class ExternalIdentifier)
+abbrev pub triple_of : Data → Key
+triple_of d = record { kind = text_at (codes "Type") d; other = text_at (codes "OtherType") d; value = text_at (codes "Value") d }
+
+-- the lesser of two
+abbrev pub lesser_key : Key → Key → Key
+lesser_key a b = if is_lt (key_cmp b a) then b else a
+
+-- the least of one and more
+abbrev pub least_key_of : Key → List Key → Key
+least_key_of k [] = k
+least_key_of k (l ∷ ls) = least_key_of (lesser_key k l) ls
+
+-- the least of a list, if it has any
+abbrev pub least_key : List Key → Option Key
+least_key [] = None
+least_key (k ∷ ks) = Some (least_key_of k ks)
+
+-- the key of an object: the least triple of its identifiers, if it has any (profile)
+abbrev pub key_of : Data → Option Key
+key_of d = least_key (map triple_of (entries_at (codes "ExternalIdentifier") d))

@@ -1,0 +1,13 @@
+-- The six parts of a selection's name.
+use Rattle.std.specs.Prelude.{ℕ, ℤ, List, Bool, Option}
+use Rattle.erd_tables.specs.declared.class.Class.{Class}
+use Rattle.erd_meaning.specs.declared.key.Key.{Key}
+
+-- class, keys of candidates or parties, whether it is for a write-in, sequence order, label, triple of identifiers (profile)
+pub record NameParts : Type 0 where
+  pub class : Class
+  pub keys : List Key
+  pub write_in : Bool
+  pub order : Option ℤ
+  pub label : Option (List ℕ)
+  pub identifier : Option Key

@@ -1,0 +1,178 @@
+-- What the objects of a report mean. All is this profile's.
+use Rattle.std.specs.Prelude.{ℕ, List, [], Bool, true, false, ◌||◌, if◌then◌else◌, Option, Some, None, option_and_then, option_map, unwrap_or, map, find, slice_get, codes}
+use Rattle.std.specs.List.{list_any}
+use Rattle.std.specs.Option.{option_cmp}
+use Rattle.std.specs.Ordering.{is_eq}
+use Rattle.std.specs.Str.{bytes_eq}
+use Rattle.serde_json.specs.Data.{Data, array, object, Items, no_items, item, Members, no_members, member}
+use Rattle.serde_json.specs.Find.{get, as_str}
+use Rattle.erd_tables.specs.Table.{kind_of_member, is_envelope_name}
+use Rattle.erd_tables.specs.declared.class.Class.{Class}
+use Rattle.erd_tables.specs.declared.class.Class.TheVariants as class
+use Rattle.erd_tables.specs.declared.class.Family.{Family}
+use Rattle.erd_tables.specs.declared.class.Family.TheVariants as family
+use Rattle.erd_tables.specs.declared.class.Role.{Role}
+use Rattle.erd_tables.specs.declared.class.Role.TheVariants as role
+use Rattle.erd_tables.specs.declared.member.MemberKind.{MemberKind}
+use Rattle.erd_tables.specs.declared.member.MemberKind.TheVariants as kind
+use Rattle.erd_check.specs.Trees.{is_same_json, entries_of}
+use Rattle.erd_check.specs.Wants.{class_of_object}
+use Rattle.erd_meaning.specs.Keys.{key_cmp, key_of, entries_at, text_at}
+use Rattle.erd_meaning.specs.Meaning.{JsonMap, JsonSet, KeySet, Label, untranslated, translated, Content, no_content, first_node, Node, a_contest, a_header, PlainValue, a_json, a_label, a_json_set, a_key, a_key_set, a_content, Record, SelectionRecord, MemberValue, a_plain, a_selection_map, ObjectRecord, Meaning}
+use Rattle.erd_meaning.specs.NameParts.{NameParts}
+use Rattle.erd_meaning.specs.Objects.{objects, elections}
+use Rattle.erd_meaning.specs.SelectionNames.{selection_role, name_of, name_cmp, key_named, keys_named, name_named}
+use Rattle.erd_meaning.specs.declared.key.Key.{Key}
+
+-- ---- values
+
+-- the set of these JSON values
+abbrev pub json_set : List Data → JsonSet
+json_set ds d = list_any (is_same_json d) ds
+
+-- the set of these keys
+abbrev pub key_set : List Key → KeySet
+key_set ks k = list_any (λ l. is_eq (key_cmp l k)) ks
+
+-- a value, where the member is carried
+abbrev pub if_carried : MemberKind → Option Data → Option Data
+if_carried kind.Carried found = found
+if_carried k found = None
+
+-- the carried members of an object of a class
+abbrev pub carried_members : Option Class → Data → JsonMap
+carried_members class d name = option_and_then (λ c. if_carried (kind_of_member c name) (get name d)) class
+
+-- the members of a label but for its translations, and for `@type`, which is the same in every accepted label
+abbrev pub beside_text : Data → JsonMap
+beside_text d name = if bytes_eq name (codes "@type") || bytes_eq name (codes "Text") then None else get name d
+
+-- a label (class InternationalizedText, or a text)
+abbrev pub label_of : Data → Label
+label_of (object ms) = translated (beside_text (object ms)) (json_set (entries_at (codes "Text") (object ms)))
+label_of d = untranslated (unwrap_or (as_str d) [])
+
+-- ---- the order of a ballot
+
+-- the class of a contest or a header in the order of a ballot (classes OrderedContest and OrderedHeader)
+abbrev pub class_of_node : Data → Option Class
+class_of_node d = class_of_object role.Content d
+
+-- whether it is a header
+abbrev pub is_header_class : Option Class → Bool
+is_header_class (Some class.OrderedHeader) = true
+is_header_class c = false
+
+-- a contest, with the names of its selections in their order (class OrderedContest)
+abbrev pub contest_node : Data → Data → Node
+contest_node t d =
+    a_contest (key_named t family.Contest (text_at (codes "ContestId") d))
+    (map (λ r. option_and_then (name_named t) (as_str r)) (entries_at (codes "OrderedContestSelectionIds") d))
+    (carried_members (class_of_node d) d)
+
+-- a header, with the content inside it (class OrderedHeader)
+abbrev pub header_node : Data → Data → Content → Node
+header_node t d inside = a_header (key_named t family.Header (text_at (codes "HeaderId") d)) inside (carried_members (class_of_node d) d)
+
+-- a list of contests and headers in its order, at every depth of headers (classes BallotStyle and OrderedHeader);
+-- an empty list is as an absent one
+abbrev mutual
+  pub content_of : Data → Data → Content
+  content_of t (array ds) = nodes_of t ds
+  content_of t d = no_content
+
+  -- the contests and headers of an array
+  pub nodes_of : Data → Items → Content
+  nodes_of t no_items = no_content
+  nodes_of t (item d ds) = first_node (node_of t d) (nodes_of t ds)
+
+  -- a contest or a header
+  pub node_of : Data → Data → Node
+  node_of t (object ms) =
+      if is_header_class (class_of_node (object ms))
+      then header_node t (object ms) (content_inside t ms)
+      else contest_node t (object ms)
+  node_of t d = contest_node t d
+
+  -- the content of the member `OrderedContent`
+  pub content_inside : Data → Members → Content
+  content_inside t no_members = no_content
+  content_inside t (member k d ms) = if bytes_eq (codes "OrderedContent") k then content_of t d else content_inside t ms
+
+-- ---- members
+
+-- a meaning, unless the value is an empty array
+abbrev pub unless_empty : {V : Type 0} → V → Data → Option V
+unless_empty v (array no_items) = None
+unless_empty v d = Some v
+
+-- what the value of a member of this kind means, where it means anything by itself
+abbrev pub plain_value : Data → MemberKind → Data → Option PlainValue
+plain_value t kind.Word d = Some (a_json d)
+plain_value t kind.Flag d = Some (a_json d)
+plain_value t kind.Whole d = Some (a_json d)
+plain_value t kind.Carried d = Some (a_json d)
+plain_value t kind.Label d = Some (a_label (label_of d))
+plain_value t (kind.One f) d = Some (a_key (option_and_then (key_named t f) (as_str d)))
+plain_value t (kind.Many f) d = unless_empty (a_key_set (key_set (keys_named t f (entries_of d)))) d
+plain_value t kind.Identifiers d = unless_empty (a_json_set (json_set (entries_of d))) d
+plain_value t kind.Languages d = unless_empty (a_json_set (json_set (entries_of d))) d
+plain_value t kind.Content d = unless_empty (a_content (content_of t d)) d
+plain_value t k d = None
+
+-- a member of the report that is no part of its meaning
+abbrev pub is_in_envelope : Class → List ℕ → Bool
+is_in_envelope class.ElectionReport name = is_envelope_name name
+is_in_envelope c name = false
+
+-- what a member of an object of the class means, where it means anything by itself
+abbrev pub plain_member : Data → Data → Class → List ℕ → Option PlainValue
+plain_member t d c name =
+    if is_in_envelope c name then None else option_and_then (plain_value t (kind_of_member c name)) (get name d)
+
+-- ---- objects
+
+-- an object that is of a class with the role, its members read by class and name
+abbrev pub record_with : {V : Type 0} → (Class → List ℕ → Option V) → Role → Data → Option (Record V)
+record_with members_of r d = option_map (λ c. record { class = c; members = members_of c }) (class_of_object r d)
+
+-- what a selection means
+abbrev pub selection_record : Data → Data → Option SelectionRecord
+selection_record t d = record_with (plain_member t d) selection_role d
+
+-- the selection of this name means this
+abbrev pub selection_map : Data → List Data → NameParts → Option SelectionRecord
+selection_map t ds name =
+    option_and_then (selection_record t) (find (λ d. is_eq (option_cmp name_cmp (name_of t d) (Some name))) ds)
+
+-- what a member of this kind means: that of a contest's selections is a map
+abbrev pub member_value : Data → MemberKind → Option Data → Option PlainValue → Option MemberValue
+member_value t (kind.Keyed family.Selection) found plain =
+    option_and_then (λ v. unless_empty (a_selection_map (selection_map t (entries_of v))) v) found
+member_value t k found plain = option_map a_plain plain
+
+-- what a member of an object of the class means
+abbrev pub member_of_class : Data → Data → Class → List ℕ → Option MemberValue
+member_of_class t d c name = member_value t (kind_of_member c name) (get name d) (plain_member t d c name)
+
+-- what an object means that is no selection
+abbrev pub object_record : Data → Role → Data → Option ObjectRecord
+object_record t r d = record_with (member_of_class t d) r d
+
+-- the object of a family that has this key
+abbrev pub object_with_key : Data → Family → Key → Option Data
+object_with_key t f k =
+    option_map (λ o. o.value) (find (λ o. is_eq (option_cmp key_cmp (key_of o.value) (Some k))) (objects f t))
+
+-- the records of a family by key; selections are in the records of their contests
+abbrev pub records_of : Data → Family → Key → Option ObjectRecord
+records_of t family.Selection k = None
+records_of t f k = option_and_then (object_record t (role.OfFamily f)) (object_with_key t f k)
+
+-- what a report means
+abbrev pub meaning : Data → Meaning
+meaning t = record {
+  report = object_record t role.Report t;
+  election = option_and_then (λ o. object_record t role.Election o.value) (slice_get (elections t) 0);
+  objects = records_of t;
+}

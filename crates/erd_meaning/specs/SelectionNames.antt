@@ -1,0 +1,116 @@
+-- The names of the selections of a contest, which tell them apart independently of the vendor.
+use Rattle.std.specs.Prelude.{ℕ, ℤ, List, [], ◌∷◌, Bool, false, if◌then◌else◌, Option, None, option_and_then, option_map, unwrap_or, codes}
+use Rattle.std.specs.Cmp.Lexicographic.{slice_cmp}
+use Rattle.std.specs.List.{filter_map}
+use Rattle.std.specs.Option.{option_cmp}
+use Rattle.std.specs.Ordering.{int_cmp, bool_cmp, ordering_then, is_lt}
+use Rattle.std.specs.declared.cmp.Ordering.{Ordering}
+use Rattle.serde_json.specs.Data.{Data, array, object, put}
+use Rattle.serde_json.specs.Find.{get, as_str, as_bool, as_number, as_integer}
+use Rattle.serde_json.specs.View.{items_of}
+use Rattle.serde_json.specs.Written.{compact_text}
+use Rattle.erd_tables.specs.Classes.{class_name}
+use Rattle.erd_tables.specs.Texts.{text_cmp}
+use Rattle.erd_tables.specs.declared.class.Class.{Class}
+use Rattle.erd_tables.specs.declared.class.Class.TheVariants as class
+use Rattle.erd_tables.specs.declared.class.Family.{Family}
+use Rattle.erd_tables.specs.declared.class.Family.TheVariants as family
+use Rattle.erd_tables.specs.declared.class.Role.{Role}
+use Rattle.erd_tables.specs.declared.class.Role.TheVariants as role
+use Rattle.erd_check.specs.Wants.{class_of_object}
+use Rattle.erd_meaning.specs.Keys.{key_cmp, key_of, entries_at}
+use Rattle.erd_meaning.specs.NameParts.{NameParts}
+use Rattle.erd_meaning.specs.Objects.{owner}
+use Rattle.erd_meaning.specs.declared.key.Key.{Key}
+
+-- ---- lists in order
+
+-- a value put before the first one that is not below it
+abbrev pub with_inserted : {A : Type 0} → (A → A → Ordering) → A → List A → List A
+with_inserted cmp x [] = x ∷ []
+with_inserted cmp x (y ∷ ys) = if is_lt (cmp y x) then y ∷ with_inserted cmp x ys else x ∷ (y ∷ ys)
+
+-- the same values in rising order, each as often
+abbrev pub rising_list : {A : Type 0} → (A → A → Ordering) → List A → List A
+rising_list cmp [] = []
+rising_list cmp (x ∷ xs) = with_inserted cmp x (rising_list cmp xs)
+
+-- JSON values by the bytes of their compact texts (profile)
+abbrev pub compact_cmp : Data → Data → Ordering
+compact_cmp a b = text_cmp (compact_text a) (compact_text b)
+
+-- ---- the six parts
+
+-- the key of what a reference names: none if it names nothing of the family
+abbrev pub key_named : Data → Family → List ℕ → Option Key
+key_named t f id = option_and_then key_of (owner t f id)
+
+-- the keys that the references of an array name
+abbrev pub keys_named : Data → Family → List Data → List Key
+keys_named t f references = filter_map (λ r. option_and_then (key_named t f) (as_str r)) references
+
+-- the keys of the candidates or the parties that a selection is for (classes CandidateSelection, PartySelection)
+abbrev pub keys_of_selection : Data → Class → Data → List Key
+keys_of_selection t class.CandidateSelection d = keys_named t family.Candidate (entries_at (codes "CandidateIds") d)
+keys_of_selection t class.PartySelection d = keys_named t family.Party (entries_at (codes "PartyIds") d)
+keys_of_selection t c d = []
+
+-- whether `IsWriteIn` is true (class CandidateSelection)
+abbrev pub is_write_in : Class → Data → Bool
+is_write_in class.CandidateSelection d = unwrap_or (option_and_then as_bool (get (codes "IsWriteIn") d)) false
+is_write_in c d = false
+
+-- the number in `SequenceOrder`, if there is one (class ContestSelection)
+abbrev pub order_of_selection : Data → Option ℤ
+order_of_selection d = option_and_then as_integer (option_and_then as_number (get (codes "SequenceOrder") d))
+
+-- a label with its translations in rising order (class InternationalizedText)
+abbrev pub with_rising_text : Data → Data
+with_rising_text (object ms) =
+    object (put (codes "Text") (array (items_of (rising_list compact_cmp (entries_at (codes "Text") (object ms))))) ms)
+with_rising_text d = d
+
+-- the compact text of `Selection`, its translations rising (class BallotMeasureSelection)
+abbrev pub label_of_selection : Class → Data → Option (List ℕ)
+label_of_selection class.BallotMeasureSelection d =
+    option_map (λ v. compact_text (with_rising_text v)) (get (codes "Selection") d)
+label_of_selection c d = None
+
+-- ---- names
+
+-- the name of a selection of this class
+abbrev pub name_in_class : Data → Class → Data → NameParts
+name_in_class t c d = record {
+  class = c;
+  keys = rising_list key_cmp (keys_of_selection t c d);
+  write_in = is_write_in c d;
+  order = order_of_selection d;
+  label = label_of_selection c d;
+  identifier = key_of d;
+}
+
+-- what the objects of a contest's array stand for
+abbrev pub selection_role : Role
+selection_role = role.OfFamily family.Selection
+
+-- the name of a selection: none where it is of no class of selection
+abbrev pub name_of : Data → Data → Option NameParts
+name_of t d = option_map (λ c. name_in_class t c d) (class_of_object selection_role d)
+
+-- classes by their names
+abbrev pub class_cmp : Class → Class → Ordering
+class_cmp c d = text_cmp (class_name c) (class_name d)
+
+-- names part by part: lists of keys as words, false before true, none before a value (profile)
+abbrev pub name_cmp : NameParts → NameParts → Ordering
+name_cmp a b =
+    ordering_then (class_cmp a.class b.class)
+    (ordering_then (slice_cmp key_cmp a.keys b.keys)
+    (ordering_then (bool_cmp a.write_in b.write_in)
+    (ordering_then (option_cmp int_cmp a.order b.order)
+    (ordering_then (option_cmp text_cmp a.label b.label)
+    (option_cmp key_cmp a.identifier b.identifier)))))
+
+-- the name of the selection that a reference names: none if it names none
+abbrev pub name_named : Data → List ℕ → Option NameParts
+name_named t id = option_and_then (name_of t) (owner t family.Selection id)

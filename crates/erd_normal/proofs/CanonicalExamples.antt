@@ -1,0 +1,150 @@
+-- The canonical form of the small ballot, and rearrangements, by computation.
+use Rattle.std.proofs.Common.{◌≡◌, ℕ, List, [], ◌∷◌, ◌++◌, Option, Some, None, map, zero, suc, codes, Bool, true, false, ◌&&◌, is_lt, Ordering, refl, lit<}
+use Rattle.std.specs.Fmt.{digits}
+use Rattle.std.specs.Option.{option_cmp, option_map_or}
+use Rattle.std.specs.Prelude.{option_map, unwrap_or}
+use Rattle.serde_json.specs.Data.{Data}
+use Rattle.serde_json.proofs.OnLiterals.{serde_json_on_literals}
+use Rattle.erd_tables.specs.declared.class.Family.{Family}
+use Rattle.erd_tables.specs.declared.class.Family.TheVariants as family
+use Rattle.erd_tables.specs.declared.place.Step.{Step}
+use Rattle.erd_tables.specs.declared.place.Step.TheVariants.{Name, At}
+use Rattle.erd_check.proofs.Reports.{tree_of, small_ballot, small_ballot_canonical}
+use Rattle.erd_check.specs.Trees.{entries_of}
+use Rattle.erd_check.specs.Wants.{asked_at}
+use Rattle.erd_meaning.proofs.RecordExamples.{local_key, members_of}
+use Rattle.erd_meaning.specs.Keys.{key_cmp}
+use Rattle.erd_meaning.specs.Meaning.{a_key, a_plain}
+use Rattle.erd_meaning.specs.NameParts.{NameParts}
+use Rattle.erd_meaning.specs.Objects.{contests}
+use Rattle.erd_meaning.specs.SelectionNames.{compact_cmp, name_cmp}
+use Rattle.erd_normal.specs.Canonical.{HasCanonicalEnvelope, canonical_id, canonical_selection_id, keys_referred}
+use Rattle.erd_normal.specs.Laws.{ids_in, keys_in, names_in}
+use Rattle.erd_normal.specs.Rearranged.{Renaming, renamed, exchanged, HasEntries, a_renaming, an_exchange, changed}
+
+-- ---- `@id` texts
+
+ids_of_units : canonical_id family.Unit 9 ≡ Some (codes "gp10")
+unfolding digits
+ids_of_units = refl
+
+ids_of_selections : canonical_selection_id 2 0 ≡ codes "cs3-1"
+unfolding digits
+ids_of_selections = refl
+
+abbrev ranked : Family → ℕ → List (Option (List ℕ))
+ranked f zero = []
+ranked f (suc n) = ranked f n ++ canonical_id f n ∷ []
+
+-- the objects of the canonical small ballot have these names; the style has none
+canonical_ids : (let u = tree_of small_ballot_canonical in
+    map (λ f. ids_in f u) (family.Unit ∷ family.Party ∷ family.Person ∷ family.Office ∷ family.Header ∷ family.Candidate ∷ family.Contest ∷ family.Style ∷ []))
+    ≡ ranked family.Unit 2 ∷ ranked family.Party 1 ∷ ranked family.Person 1 ∷ ranked family.Office 1 ∷ ranked family.Header 1 ∷ ranked family.Candidate 3
+    ∷ ranked family.Contest 2 ∷ (None ∷ []) ∷ []
+unfolding serde_json_on_literals digits
+canonical_ids = refl
+
+canonical_selection_ids : ids_in family.Selection (tree_of small_ballot_canonical)
+    ≡ Some (canonical_selection_id 0 0) ∷ Some (canonical_selection_id 0 1) ∷ Some (canonical_selection_id 0 2) ∷ Some (canonical_selection_id 1 0) ∷ Some (canonical_selection_id 1 1) ∷ []
+unfolding serde_json_on_literals digits
+canonical_selection_ids = refl
+
+-- ---- order and envelope
+
+abbrev rises : {A : Type 0} → (A → A → Ordering) → List A → Bool
+rises cmp [] = true
+rises cmp (x ∷ []) = true
+rises cmp (x ∷ y ∷ xs) = is_lt (cmp x y) && rises cmp (y ∷ xs)
+
+abbrev entries_at_place : Data → List Step → List Data
+entries_at_place t p = unwrap_or (option_map (λ a. entries_of a.value) (asked_at t p)) []
+
+-- units, candidates, contests; the selections of each contest; a set of references; translations
+abbrev orders : Data → List Step → List Step → List Bool
+orders t references translations =
+    map (λ f. rises (option_cmp key_cmp) (keys_in f t)) (family.Unit ∷ family.Candidate ∷ family.Contest ∷ [])
+    ++ (map (λ contest. rises (option_cmp name_cmp) (names_in t contest)) (contests t)
+    ++ rises (option_cmp key_cmp) (keys_referred t family.Candidate (entries_at_place t references)) ∷ rises compact_cmp (entries_at_place t translations) ∷ [])
+
+canonical_orders : orders (tree_of small_ballot_canonical) (Name (codes "Election") ∷ At 0 ∷ Name (codes "Contest") ∷ At 0 ∷ Name (codes "ContestSelection") ∷ At 1 ∷ Name (codes "CandidateIds") ∷ []) (Name (codes "Election") ∷ At 0 ∷ Name (codes "Contest") ∷ At 1 ∷ Name (codes "ContestSelection") ∷ At 1 ∷ Name (codes "Selection") ∷ Name (codes "Text") ∷ [])
+    ≡ true ∷ true ∷ true ∷ true ∷ true ∷ true ∷ true ∷ []
+unfolding serde_json_on_literals
+canonical_orders = refl
+
+-- the input has its contests in order, and nothing else
+other_orders : orders (tree_of small_ballot) (Name (codes "Election") ∷ At 0 ∷ Name (codes "Contest") ∷ At 0 ∷ Name (codes "ContestSelection") ∷ At 0 ∷ Name (codes "CandidateIds") ∷ []) (Name (codes "Election") ∷ At 0 ∷ Name (codes "Contest") ∷ At 1 ∷ Name (codes "ContestSelection") ∷ At 0 ∷ Name (codes "Selection") ∷ Name (codes "Text") ∷ [])
+    ≡ false ∷ false ∷ true ∷ false ∷ false ∷ false ∷ false ∷ []
+unfolding serde_json_on_literals
+other_orders = refl
+
+canonical_envelope : HasCanonicalEnvelope (tree_of small_ballot_canonical)
+unfolding serde_json_on_literals
+canonical_envelope = record {
+  format = refl;
+  date = refl;
+  issuer = refl;
+  abbreviation = refl;
+  application = refl;
+  start = refl;
+  end = refl;
+  notes = refl;
+  identifiers = refl;
+}
+
+-- ---- rearrangements
+
+untrue : false ≡ true → ⊥
+untrue h = absurd (cc h)
+
+-- the `@id` and the references follow; labels and carried texts of the same bytes stay
+renamed_unit : renamed ((codes "u7", codes "k") ∷ []) (tree_of (codes "{\"@type\":\"ElectionResults.ElectionReport\",\"Status\":\"pre-election\",\"Note\":\"u7\",\"GpUnit\":[{\"@id\":\"u7\",\"@type\":\"ElectionResults.ReportingUnit\",\"Type\":\"u7\",\"ComposingGpUnitIds\":[\"u7\"],\"ContactInformation\":{\"Name\":\"u7\"}}],\"Election\":[{\"@type\":\"ElectionResults.Election\",\"Name\":\"u7\",\"ElectionScopeId\":\"u7\"}]}"))
+    ≡ tree_of (codes "{\"@type\":\"ElectionResults.ElectionReport\",\"Status\":\"pre-election\",\"Note\":\"u7\",\"GpUnit\":[{\"@id\":\"k\",\"@type\":\"ElectionResults.ReportingUnit\",\"Type\":\"u7\",\"ComposingGpUnitIds\":[\"k\"],\"ContactInformation\":{\"Name\":\"u7\"}}],\"Election\":[{\"@type\":\"ElectionResults.Election\",\"Name\":\"u7\",\"ElectionScopeId\":\"k\"}]}")
+unfolding serde_json_on_literals
+renamed_unit = refl
+
+-- exchanged twice the report is as it was; once, its units and the keys of a set of references stand the other way round
+exchanged_units : (let t = tree_of small_ballot in
+    (changed (an_exchange (Name (codes "GpUnit") ∷ []) 0 1) (changed (an_exchange (Name (codes "GpUnit") ∷ []) 0 1) t) ≡ t)
+    × (rises (option_cmp key_cmp) (keys_in family.Unit (exchanged (Name (codes "GpUnit") ∷ []) 0 1 t)) ≡ true)
+    × (rises (option_cmp key_cmp) (keys_referred t family.Candidate (entries_at_place (exchanged (Name (codes "Election") ∷ At 0 ∷ Name (codes "Contest") ∷ At 0 ∷ Name (codes "ContestSelection") ∷ At 0 ∷ Name (codes "CandidateIds") ∷ []) 0 1 t) (Name (codes "Election") ∷ At 0 ∷ Name (codes "Contest") ∷ At 0 ∷ Name (codes "ContestSelection") ∷ At 0 ∷ Name (codes "CandidateIds") ∷ []))) ≡ true))
+unfolding serde_json_on_literals
+exchanged_units = (refl, refl, refl)
+
+-- every `@id` of the small ballot with another text
+abbrev other_texts : Renaming
+other_texts =
+    (codes "a1", codes "z1") ∷ (codes "a2", codes "z2") ∷ (codes "a3", codes "z3") ∷ (codes "a4", codes "z4") ∷ (codes "a5", codes "z5") ∷ (codes "a6", codes "z6") ∷ (codes "a7", codes "z7") ∷ (codes "a8", codes "z8") ∷ (codes "a9", codes "z9") ∷ (codes "a10", codes "z10") ∷ (codes "a11", codes "z11") ∷ (codes "a12", codes "z12") ∷ (codes "a13", codes "z13") ∷ (codes "a14", codes "z14") ∷ (codes "a15", codes "z15") ∷ (codes "a16", codes "z16") ∷ (codes "a17", codes "z17") ∷ []
+
+abbrev rearranged : Data → Data
+rearranged t =
+    changed (an_exchange (Name (codes "Election") ∷ At 0 ∷ Name (codes "Contest") ∷ At 0 ∷ Name (codes "ContestSelection") ∷ At 0 ∷ Name (codes "CandidateIds") ∷ []) 0 1)
+    (changed (an_exchange (Name (codes "Election") ∷ At 0 ∷ Name (codes "Candidate") ∷ []) 0 2) (changed (a_renaming other_texts) (changed (an_exchange (Name (codes "GpUnit") ∷ []) 0 1) t)))
+
+abbrev key_values : Option NameParts → List (List ℕ)
+key_values name = option_map_or (λ n. map (λ k. k.value) n.keys) name []
+
+-- renamed and with sets in other orders: the candidates stand in another order under other `@id` texts
+rearranged_ids : (let u = rearranged (tree_of small_ballot) in ids_in family.Candidate u) ≡ Some (codes "z6") ∷ Some (codes "z5") ∷ Some (codes "z7") ∷ []
+unfolding serde_json_on_literals
+rearranged_ids = refl
+
+-- the selections are named by the same keys, in the same order
+rearranged_names : (let u = rearranged (tree_of small_ballot) in map (λ contest. map key_values (names_in u contest)) (contests u))
+    ≡ ((codes "K1" ∷ codes "K2" ∷ []) ∷ (codes "K3" ∷ []) ∷ [] ∷ []) ∷ ([] ∷ [] ∷ []) ∷ []
+unfolding serde_json_on_literals
+rearranged_names = refl
+
+-- the references of a candidate and of a contest mean the same keys
+rearranged_references : (let u = rearranged (tree_of small_ballot) in
+    members_of u family.Candidate (codes "K1") (codes "PersonId" ∷ []) ++ members_of u family.Contest (codes "C1") (codes "ElectionDistrictId" ∷ []))
+    ≡ Some (a_plain (a_key (Some (local_key (codes "Q1"))))) ∷ Some (a_plain (a_key (Some (local_key (codes "U1"))))) ∷ []
+unfolding serde_json_on_literals
+rearranged_references = refl
+
+-- a set may be rearranged; the order of a ballot may not, nor a list of selections, nor a position that has no entry
+allowed_exchanges : (let t = tree_of small_ballot in
+    HasEntries t (Name (codes "Election") ∷ At 0 ∷ Name (codes "Contest") ∷ At 1 ∷ Name (codes "ContestSelection") ∷ []) 0 1 × ¬ HasEntries t (Name (codes "Election") ∷ At 0 ∷ Name (codes "BallotStyle") ∷ At 0 ∷ Name (codes "OrderedContent") ∷ []) 0 1
+    × ¬ HasEntries t (Name (codes "Election") ∷ At 0 ∷ Name (codes "BallotStyle") ∷ At 0 ∷ Name (codes "OrderedContent") ∷ At 0 ∷ Name (codes "OrderedContent") ∷ At 0 ∷ Name (codes "OrderedContestSelectionIds") ∷ []) 0 1
+    × ¬ HasEntries t (Name (codes "Election") ∷ []) 0 0)
+unfolding serde_json_on_literals
+allowed_exchanges = ((refl, lit< tt, lit< tt), λ h. untrue h.0, λ h. untrue h.0, λ h. untrue h.0)

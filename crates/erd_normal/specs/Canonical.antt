@@ -1,0 +1,121 @@
+-- The canonical form of a report, as a predicate on trees. All is this profile's.
+use Rattle.std.specs.Prelude.{ℕ, ◌≡◌, ◌+◌, List, ◌++◌, false, IsTrue, Option, Some, None, option_and_then, option_map, codes, decimal, slice_get, map, ⊤}
+use Rattle.std.specs.List.Sorted.{IsStrictlySortedBy}
+use Rattle.std.specs.Option.{option_cmp}
+use Rattle.serde_json.specs.Data.{Data, string, number, unsigned}
+use Rattle.serde_json.specs.Find.{get, as_str}
+use Rattle.erd_tables.specs.declared.class.Family.{Family}
+use Rattle.erd_tables.specs.declared.class.Family.TheVariants as family
+use Rattle.erd_tables.specs.declared.member.MemberKind.{MemberKind}
+use Rattle.erd_tables.specs.declared.member.MemberKind.TheVariants as kind
+use Rattle.erd_tables.specs.declared.place.Step.{Step}
+use Rattle.erd_check.specs.Trees.{entries_of}
+use Rattle.erd_check.specs.Wants.{Asked, asked_at}
+use Rattle.erd_check.specs.Faults.{is_empty_array}
+use Rattle.erd_check.specs.declared.want.Want.{Want}
+use Rattle.erd_check.specs.declared.want.Want.TheVariants.{Member}
+use Rattle.erd_meaning.specs.Accepted.{IsAccepted}
+use Rattle.erd_meaning.specs.Keys.{has_keys, key_cmp, key_of}
+use Rattle.erd_meaning.specs.Objects.{Placed, objects, id_of, selections_of}
+use Rattle.erd_meaning.specs.Records.{meaning}
+use Rattle.erd_meaning.specs.SelectionNames.{compact_cmp, name_cmp, name_of, key_named}
+use Rattle.erd_meaning.specs.declared.key.Key.{Key}
+
+-- ---- the envelope
+
+-- the member has this value
+abbrev pub HasMember : Data → List ℕ → Data → Type 0
+HasMember t name d = get name t ≡ Some d
+
+-- the members that say how a file came about are this project's own, and two are absent (class ElectionReport)
+pub record HasCanonicalEnvelope (t : Data) : Type 0 where
+  pub format : HasMember t (codes "Format") (string (codes "summary-contest"))
+  pub date : HasMember t (codes "GeneratedDate") (string (codes "2000-01-01T00:00:00Z"))
+  pub issuer : HasMember t (codes "Issuer") (string (codes "canonical"))
+  pub abbreviation : HasMember t (codes "IssuerAbbreviation") (string (codes "canonical"))
+  pub application : HasMember t (codes "VendorApplicationId") (string (codes "canonical"))
+  pub start : HasMember t (codes "SequenceStart") (number (unsigned 1))
+  pub end : HasMember t (codes "SequenceEnd") (number (unsigned 1))
+  pub notes : get (codes "Notes") t ≡ None
+  pub identifiers : get (codes "ExternalIdentifier") t ≡ None
+
+-- ---- arrays
+
+-- the kind of a member that is neither a reference nor carried
+abbrev pub kind_wanted : Want → Option MemberKind
+kind_wanted (Member k required) = Some k
+kind_wanted w = None
+
+-- no array of the table is empty; an outside member of an accepted report is an empty array, so none stands
+abbrev pub HasNoEmptyArray : Data → Type 0
+HasNoEmptyArray t =
+    (p : List Step) (a : Asked) (k : MemberKind) → asked_at t p ≡ Some a → kind_wanted a.want ≡ Some k
+    → is_empty_array a.value ≡ false
+
+-- the keys of the objects in an array
+abbrev pub keys_of : List Data → List (Option Key)
+keys_of ds = map key_of ds
+
+-- the keys of what the references in an array name
+abbrev pub keys_referred : Data → Family → List Data → List (Option Key)
+keys_referred t f ds = map (λ r. option_and_then (key_named t f) (as_str r)) ds
+
+-- the entries of a set of the table strictly rise: objects by key, selections by name, identifiers and translations by
+-- compact text, references by the key of what they name
+abbrev pub RisesAs : Data → MemberKind → List Data → Type 0
+RisesAs t (kind.Keyed family.Selection) ds = IsStrictlySortedBy (option_cmp name_cmp) (map (name_of t) ds)
+RisesAs t (kind.Keyed f) ds = IsStrictlySortedBy (option_cmp key_cmp) (keys_of ds)
+RisesAs t kind.Identifiers ds = IsStrictlySortedBy compact_cmp ds
+RisesAs t kind.Languages ds = IsStrictlySortedBy compact_cmp ds
+RisesAs t (kind.Many f) ds = IsStrictlySortedBy (option_cmp key_cmp) (keys_referred t f ds)
+RisesAs t k ds = ⊤
+
+-- each set of the table rises
+abbrev pub AreSetsInOrder : Data → Type 0
+AreSetsInOrder t =
+    (p : List Step) (a : Asked) (k : MemberKind) → asked_at t p ≡ Some a → kind_wanted a.want ≡ Some k
+    → RisesAs t k (entries_of a.value)
+
+-- ---- `@id` texts
+
+-- the first letters of the canonical `@id` of a family; styles have none, selections are named within their contests
+abbrev pub id_prefix : Family → Option (List ℕ)
+id_prefix family.Unit = Some (codes "gp")
+id_prefix family.Party = Some (codes "pa")
+id_prefix family.Person = Some (codes "pe")
+id_prefix family.Office = Some (codes "of")
+id_prefix family.Header = Some (codes "hd")
+id_prefix family.Candidate = Some (codes "ca")
+id_prefix family.Contest = Some (codes "co")
+id_prefix family.Style = None
+id_prefix family.Selection = None
+
+-- the `@id` of the object at position i of its family: ranks count from 1
+abbrev pub canonical_id : Family → ℕ → Option (List ℕ)
+canonical_id f i = option_map (λ letters. letters ++ decimal (i + 1)) (id_prefix f)
+
+-- the `@id` of selection j of contest i
+abbrev pub canonical_selection_id : ℕ → ℕ → List ℕ
+canonical_selection_id i j = codes "cs" ++ (decimal (i + 1) ++ (codes "-" ++ decimal (j + 1)))
+
+-- each object is named by its family and rank, a selection by the rank of its contest and its own; a style has no `@id`
+pub record HasCanonicalIds (t : Data) : Type 0 where
+  pub families : (f : Family) (i : ℕ) (o : Placed) → IsTrue (has_keys f) → slice_get (objects f t) i ≡ Some o
+      → id_of o.value ≡ canonical_id f i
+  pub selections : (i j : ℕ) (contest o : Placed) → slice_get (objects family.Contest t) i ≡ Some contest
+      → slice_get (selections_of contest) j ≡ Some o → id_of o.value ≡ Some (canonical_selection_id i j)
+
+-- ---- the whole
+
+-- a tree is canonical; what its references say needs no part of its own, since those of an accepted report resolve
+pub record IsCanonical (t : Data) : Type 0 where
+  pub accepted : IsAccepted t
+  pub envelope : HasCanonicalEnvelope t
+  pub no_empty_array : HasNoEmptyArray t
+  pub in_order : AreSetsInOrder t
+  pub ids : HasCanonicalIds t
+
+-- u is the canonical form of t
+pub record IsCanonicalFormOf (t u : Data) : Type 0 where
+  pub canonical : IsCanonical u
+  pub same : meaning u ≡ meaning t

@@ -1,0 +1,2 @@
+//! The canonical form of a report.
+#![tactic(auto)]

@@ -1,0 +1,47 @@
+ghost use Rattle.std.specs.Prelude.{◌≡◌, length, slice_get};
+ghost use Rattle.std.specs.Option.{option_copied};
+
+use crate::text::Text;
+use std::marker::Model;
+
+/// A step from a JSON value to one inside it.
+#[derive(Drop)]
+pub enum Step {
+    Name(Text),
+    At(usize),
+}
+
+/// A place in a JSON value, as the steps that lead to it.
+#[derive(Drop)]
+pub struct Place {
+    steps: Vec<Step>,
+}
+
+impl Model for Place {
+    ghost use Rattle.std.specs.Prelude.{List};
+    ghost use Rattle.erd_tables.specs.declared.place.Step.{Step};
+
+    ghost Value = { List Step };
+
+    ghost view = { λ p. p.steps.items };
+}
+
+impl Place {
+    pub fn of(steps: Vec<Step>) -> Place
+        ensures { result ≡ steps.items }
+    {
+        Place { steps }
+    }
+
+    pub fn len(&self) -> usize
+        ensures { result ≡ length self.now }
+    {
+        self.steps.len()
+    }
+
+    pub fn step(&self, index: usize) -> Option<&Step>
+        ensures { option_copied result ≡ slice_get self.now index }
+    {
+        self.steps.get(index)
+    }
+}
