@@ -1,5 +1,5 @@
 -- What stands in a value that fits what is asked.
-use Rattle.std.proofs.Common.{◌≡◌, ◌≢◌, ℕ, List, [], ◌∷◌, Bool, true, false, true≢false, not, is_some, Option, Some, None, IsSome, Ordering, Less, Equal, Greater, refl, sym, ap, ◌∙◌, subst, cond}
+use Rattle.std.proofs.Common.{◌≡◌, ℕ, List, [], ◌∷◌, Bool, true, false, true≢false, Option, Some, None, Ordering, Less, Equal, Greater, refl, sym, ap, ◌∙◌, subst, cond}
 use Rattle.std.proofs.lemmas.Bool.{and_parts, and_from, or_from, or_parts, not-true}
 use Rattle.std.proofs.lemmas.Map.Lookups.{exact_bytes}
 use Rattle.std.specs.Cmp.Lexicographic.{slice_cmp}
@@ -15,7 +15,7 @@ use Rattle.erd_canon.specs.declared.want.Want.{Want}
 use Rattle.erd_canon.specs.declared.want.Want.TheVariants as want
 use Rattle.serde_json.specs.View.{items_of}
 use Rattle.erd_check.specs.Trees.{list_of_items}
-use Rattle.erd_canon.specs.Wants.{Row, want_in, want_of, want_inside, want_of_entry, number_fits, fits, items_fit, members_fit, has_required, required_of}
+use Rattle.erd_canon.specs.Wants.{Row, want_in, want_of, want_inside, want_of_entry, number_fits, fits, items_fit, members_fit, has_required}
 
 -- nothing fits where nothing is asked for
 pub nothing_fits : (d : Data) → fits want.Nothing d ≡ true → ⊥

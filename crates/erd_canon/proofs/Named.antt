@@ -1,23 +1,18 @@
 -- The tree that is written for a bare report is bare, and means what the report means.
-use Rattle.std.proofs.Common.{◌≡◌, ◌≢◌, ℕ, ◌+◌, ◌^◌, ◌<◌, ◌≤◌, List, [], ◌∷◌, length, Bool, true, false, true≢false, ◌&&◌, ◌||◌, cond, is_some, Option, Some, None, option_map, option_and_then, unwrap_or, codes, refl, sym, ap, ap₂, ◌∙◌, subst, arith, zero-add, ◌⊎◌, inl, inr}
+use Rattle.std.proofs.Common.{◌≡◌, ◌≢◌, ℕ, ◌+◌, ◌^◌, ◌<◌, ◌≤◌, List, [], ◌∷◌, length, Bool, true, false, true≢false, cond, is_some, Option, Some, None, option_map, option_and_then, unwrap_or, codes, refl, sym, ap, ap₂, ◌∙◌, arith, zero-add, ◌⊎◌, inl, inr}
 use mathlib.Core.Path.{fun_ext}
 use Rattle.std.proofs.lemmas.Bool.{and_from, or_parts}
 use Rattle.std.specs.List.{list_any, find}
-use Rattle.std.specs.Option.{option_map_or}
-use Rattle.std.specs.Prelude.{map}
 use Rattle.std.specs.Str.{bytes_eq}
 use Rattle.serde_json.specs.Data.{Data, null, boolean, number, string, array, object, depth, items_depth}
 use Rattle.serde_json.specs.Find.{get, as_str}
 use Rattle.serde_json.specs.View.{items_of}
 use Rattle.serde_json.specs.Written.{has_float}
-use Rattle.erd_tables.specs.Classes.{text_of_class, class_of_text}
+use Rattle.erd_tables.specs.Classes.{class_of_text}
 use Rattle.erd_tables.specs.declared.class.Class.{Class}
 use Rattle.erd_tables.specs.declared.class.Class.TheVariants as class
 use Rattle.erd_canon.specs.declared.want.Want.TheVariants as want
-use Rattle.erd_canon.specs.Bare.{first}
-use Rattle.erd_check.specs.Trees.{entries_of}
-use Rattle.erd_meaning.specs.Keys.{text_at}
-use Rattle.erd_canon.specs.Wants.{Row, envelope_rows, want_in, want_of, fits, items_fit}
+use Rattle.erd_canon.specs.Wants.{envelope_rows, want_of, fits, items_fit}
 use Rattle.erd_canon.specs.Bare.{units, election, scope, Key, key_of, has_id, has_key, are_apart, is_bare}
 use Rattle.erd_canon.specs.BareMeaning.{Value, a_json, a_key, Record, Meaning, owner, member_meant, record_of, identity_names, report_names, meaning}
 use Rattle.erd_canon.specs.Naming.{with_member, unit_id, position_of, named_unit, named_units, named_election, named_report, named}
@@ -25,8 +20,8 @@ use Rattle.erd_canon.proofs.Lists.{list_of_items-items_of}
 use Rattle.erd_canon.proofs.Texts.{one_text, other_text, same_text, differing, cases_text}
 use Rattle.erd_canon.proofs.Fitting.{absent, unwanted, all-items_fit, fits-whole}
 use Rattle.erd_canon.proofs.Placing.{get-with_member_other, get-with_member, fits-with_member, depth-with_member}
-use Rattle.erd_canon.proofs.NamedUnits.{are_units, are_units-named, has_key-named_unit, are_apart-named, key_found-named, is_some-find, is_some-option_map, items_depth-named}
-use Rattle.erd_canon.proofs.Standing.{Bare, bare_parts, Present, present_member, type_is, units_depth, election_depth}
+use Rattle.erd_canon.proofs.NamedUnits.{are_units-named, has_key-named_unit, are_apart-named, key_found-named, is_some-find, is_some-option_map, items_depth-named}
+use Rattle.erd_canon.proofs.Standing.{Bare, bare_parts, present_member, type_is, units_depth, election_depth}
 
 -- ---- the parts of the tree
 

@@ -1,12 +1,12 @@
 -- Units that are named by their positions.
-use Rattle.std.proofs.Common.{◌≡◌, ◌≢◌, ℕ, zero, suc, ◌+◌, ◌^◌, ◌<◌, ◌≤◌, max, List, [], ◌∷◌, ◌++◌, length, Bool, true, false, true≢false, not, ◌||◌, ◌&&◌, cond, is_some, Option, Some, None, option_map, option_and_then, unwrap_or, codes, decimal, refl, sym, ap, ap₂, ◌∙◌, subst, arith}
+use Rattle.std.proofs.Common.{◌≡◌, ◌≢◌, ℕ, suc, ◌+◌, ◌^◌, ◌<◌, ◌≤◌, List, [], ◌∷◌, length, Bool, true, false, true≢false, not, ◌||◌, ◌&&◌, cond, is_some, Option, Some, None, option_map, option_and_then, unwrap_or, codes, decimal, refl, sym, ap, ap₂, ◌∙◌, arith}
 use Rattle.std.proofs.lemmas.Bool.{and_parts, and_from, or_from, or_parts, not-true, not_from_false}
 use Rattle.std.proofs.lemmas.Fmt.{decimal_injective}
 use Rattle.std.specs.List.{list_any, list_all, find}
 use Rattle.std.specs.Option.{option_map_or}
 use Rattle.std.specs.Str.{bytes_eq}
-use Rattle.serde_json.specs.Data.{Data, string, depth, items_depth}
-use Rattle.serde_json.specs.Find.{get, as_str}
+use Rattle.serde_json.specs.Data.{Data, string, items_depth}
+use Rattle.serde_json.specs.Find.{as_str}
 use Rattle.serde_json.specs.View.{items_of}
 use Rattle.erd_tables.specs.declared.class.Class.TheVariants as class
 use Rattle.erd_canon.specs.declared.want.Want.TheVariants as want
@@ -15,9 +15,9 @@ use Rattle.erd_check.specs.Trees.{entries_of}
 use Rattle.erd_meaning.specs.Keys.{text_at}
 use Rattle.erd_canon.specs.Wants.{fits}
 use Rattle.erd_canon.specs.Bare.{Key, key_of, id_of, has_id, has_key, are_alike, are_apart}
-use Rattle.erd_canon.specs.Naming.{with_member, unit_id, position_of, named_unit, named_units}
+use Rattle.erd_canon.specs.Naming.{unit_id, position_of, named_unit, named_units}
 use Rattle.erd_canon.proofs.Placing.{get-with_member_other, get-with_member, fits-with_member, depth-with_member}
-use Rattle.erd_canon.proofs.Texts.{one_text, same_text, other_text, differing}
+use Rattle.erd_canon.proofs.Texts.{same_text, other_text, differing}
 
 -- each of the trees is a unit
 abbrev pub are_units : List Data → Bool

@@ -1,9 +1,8 @@
 -- An object with one more member.
-use Rattle.std.proofs.Common.{◌≡◌, ◌≢◌, ℕ, ◌≤◌, max, List, [], ◌∷◌, Bool, true, false, true≢false, is_some, Option, Some, None, Ordering, Less, Equal, Greater, refl, sym, ap, ◌∙◌, subst, arith, ◌⊎◌, inl, inr}
+use Rattle.std.proofs.Common.{◌≡◌, ◌≢◌, ℕ, ◌≤◌, List, [], ◌∷◌, true, true≢false, is_some, Some, Ordering, Less, Equal, Greater, refl, sym, ap, ◌∙◌, subst, arith, ◌⊎◌, inl, inr}
 use Rattle.std.proofs.lemmas.Bool.{and_parts, and_from}
 use Rattle.std.proofs.lemmas.Map.Lookups.{exact_bytes}
 use Rattle.std.specs.Cmp.Lexicographic.{slice_cmp}
-use Rattle.std.specs.List.{list_all}
 use Rattle.std.specs.Ordering.{nat_cmp, match_ordering}
 use Rattle.serde_json.specs.Data.{Data, null, boolean, number, string, array, object, Members, no_members, member, put, depth, members_depth}
 use Rattle.serde_json.specs.Find.{get, get_member}
@@ -11,11 +10,8 @@ use Rattle.serde_json.proofs.Views.{get_member-put, get_member-put_other}
 use Rattle.erd_tables.specs.declared.class.Class.{Class}
 use Rattle.erd_canon.specs.declared.want.Want.{Want}
 use Rattle.erd_canon.specs.declared.want.Want.TheVariants as want
-use Rattle.erd_canon.specs.Bare.{sole}
-use Rattle.erd_meaning.specs.Keys.{text_at, entries_at}
-use Rattle.erd_canon.specs.Wants.{want_of, want_inside, fits, members_fit, has_each, has_required, required_of}
+use Rattle.erd_canon.specs.Wants.{want_of, want_inside, fits, members_fit, has_each, required_of}
 use Rattle.erd_canon.specs.Naming.{with_member}
-use Rattle.erd_canon.proofs.Fitting.{fits_object}
 use Rattle.erd_canon.proofs.Texts.{cases_text}
 
 pub get-with_member_other : (q k : List ℕ) (v d : Data) → q ≢ k → get q (with_member k v d) ≡ get q d

@@ -1,5 +1,5 @@
 -- What stands in a bare report.
-use Rattle.std.proofs.Common.{◌≡◌, ◌≢◌, ℕ, ◌+◌, ◌<◌, ◌≤◌, max, List, [], ◌∷◌, length, Bool, true, false, true≢false, ◌&&◌, ◌||◌, is_some, Option, Some, None, option_and_then, unwrap_or, codes, Ordering, Less, Equal, Greater, refl, sym, ap, ◌∙◌, subst, arith}
+use Rattle.std.proofs.Common.{◌≡◌, ℕ, ◌+◌, ◌<◌, ◌≤◌, List, [], ◌∷◌, Bool, true, false, true≢false, ◌||◌, is_some, Option, Some, None, option_and_then, unwrap_or, codes, Ordering, Less, Equal, Greater, refl, sym, ap, ◌∙◌, subst, arith}
 use Rattle.std.proofs.lemmas.Bool.{and_parts}
 use Rattle.std.specs.Cmp.Lexicographic.{slice_cmp}
 use Rattle.std.specs.List.{list_any, list_all}
@@ -16,7 +16,7 @@ use Rattle.erd_canon.specs.declared.want.Want.TheVariants as want
 use Rattle.erd_canon.specs.Bare.{first}
 use Rattle.erd_check.specs.Trees.{list_of_items, entries_of}
 use Rattle.erd_meaning.specs.Keys.{text_at}
-use Rattle.erd_canon.specs.Wants.{want_of, want_of_entry, fits, items_fit, has_each, required_of}
+use Rattle.erd_canon.specs.Wants.{want_of, fits, items_fit, has_each, required_of}
 use Rattle.erd_canon.specs.Bare.{units, election, scope, has_id, are_apart, is_bare}
 use Rattle.erd_canon.proofs.Fitting.{fits_object, get_fits, items_fit-all}
 use Rattle.erd_canon.proofs.NamedUnits.{are_units}

@@ -1,6 +1,6 @@
 -- The tree that is written for a bare report, for now: this profile's envelope, and units named by their positions.
 use Rattle.std.specs.Prelude.{ℕ, ◌+◌, List, [], ◌∷◌, ◌++◌, Bool, if◌then◌else◌, codes, decimal}
-use Rattle.serde_json.specs.Data.{Data, null, boolean, number, unsigned, string, array, object, item, no_items, Members, no_members, member, put}
+use Rattle.serde_json.specs.Data.{Data, number, unsigned, string, array, object, item, no_items, no_members, member, put}
 use Rattle.serde_json.specs.View.{items_of}
 use Rattle.erd_tables.specs.Classes.{text_of_class}
 use Rattle.erd_tables.specs.declared.class.Class.TheVariants as class

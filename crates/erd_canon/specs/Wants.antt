@@ -1,5 +1,5 @@
 -- What stands in the objects of a bare report.
-use Rattle.std.specs.Prelude.{◌≡◌, ◌==◌, ℕ, length, List, [], ◌∷◌, Bool, true, false, not, ◌&&◌, if◌then◌else◌, is_some, codes}
+use Rattle.std.specs.Prelude.{◌==◌, ℕ, length, List, [], ◌∷◌, Bool, true, false, not, ◌&&◌, if◌then◌else◌, is_some, codes}
 use Rattle.std.specs.List.{list_all}
 use Rattle.std.specs.Str.{bytes_eq}
 use Rattle.serde_json.specs.Data.{Data, null, boolean, number, string, array, object, Items, no_items, item, Members, no_members, member}

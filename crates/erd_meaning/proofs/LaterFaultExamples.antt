@@ -1,4 +1,4 @@
--- Faults of identity and of selections, as facts on small trees, by computation.
+-- Faults of identity, of references and of selections, as facts on small trees, by computation.
 use Rattle.std.proofs.Common.{◌≡◌, ℕ, [], ◌∷◌, Some, None, codes, true, false, refl, lit<}
 use Rattle.std.specs.Prelude.{slice_get, unwrap_or, option_and_then}
 use Rattle.serde_json.specs.Data.{Data, boolean}
@@ -6,10 +6,13 @@ use Rattle.serde_json.proofs.OnLiterals.{serde_json_on_literals}
 use Rattle.erd_tables.specs.declared.class.Class.TheVariants as class
 use Rattle.erd_tables.specs.declared.class.Family.{Family}
 use Rattle.erd_tables.specs.declared.class.Family.TheVariants as family
-use Rattle.erd_tables.specs.declared.fault.Reason.TheVariants.{NoIdentifier, TwinIdentifier, DuplicateId, TwinSelection}
+use Rattle.erd_tables.specs.declared.class.Role.TheVariants as role
+use Rattle.erd_tables.specs.declared.fault.Reason.TheVariants.{NoIdentifier, TwinIdentifier, DuplicateId, WrongFamily, SelectionOfOtherContest, TwinSelection}
 use Rattle.erd_tables.specs.declared.place.Step.TheVariants.{Name, At}
 use Rattle.erd_check.proofs.Reports.{tree_of}
-use Rattle.erd_meaning.specs.LaterFaults.{IdentityFault, SelectionFault}
+use Rattle.erd_check.specs.Wants.{asked}
+use Rattle.erd_check.specs.declared.want.Want.TheVariants.{Object, Reference}
+use Rattle.erd_meaning.specs.LaterFaults.{IdentityFault, ReferenceFault, SelectionFault}
 use Rattle.erd_meaning.specs.Meaning.{a_json}
 use Rattle.erd_meaning.specs.Objects.{Placed, objects, report_of}
 use Rattle.erd_meaning.specs.Records.{selection_record}
@@ -96,6 +99,27 @@ twin_selections = record {
   later_name = refl;
   earlier_name = refl;
 }
+
+abbrev other_contest : Data
+other_contest = tree_of (codes "{\"@type\":\"ElectionResults.ElectionReport\",\"Election\":[{\"@type\":\"ElectionResults.Election\",\"Contest\":[{\"@id\":\"c1\",\"ContestSelection\":[{\"@id\":\"s1\"}]},{\"@id\":\"c2\",\"ContestSelection\":[{\"@id\":\"s2\"}]}],\"BallotStyle\":[{\"@type\":\"ElectionResults.BallotStyle\",\"OrderedContent\":[{\"@type\":\"ElectionResults.OrderedContest\",\"ContestId\":\"c1\",\"OrderedContestSelectionIds\":[\"s1\",\"s2\",\"c2\"]}]}]}]}")
+
+-- a selection of the second contest where the first is named, and a contest where a selection belongs
+other_selections : ReferenceFault other_contest (Name (codes "Election") ∷ At 0 ∷ Name (codes "BallotStyle") ∷ At 0 ∷ Name (codes "OrderedContent") ∷ At 0 ∷ Name (codes "OrderedContestSelectionIds") ∷ At 1 ∷ []) SelectionOfOtherContest
+    × ReferenceFault other_contest (Name (codes "Election") ∷ At 0 ∷ Name (codes "BallotStyle") ∷ At 0 ∷ Name (codes "OrderedContent") ∷ At 0 ∷ Name (codes "OrderedContestSelectionIds") ∷ At 2 ∷ []) WrongFamily
+unfolding serde_json_on_literals
+other_selections = (
+  record {
+    object_place = (Name (codes "Election") ∷ At 0 ∷ Name (codes "BallotStyle") ∷ At 0 ∷ Name (codes "OrderedContent") ∷ At 0 ∷ []);
+    position = 1;
+    place = refl;
+    contest = asked (Object role.Content) (tree_of (codes "{\"@type\":\"ElectionResults.OrderedContest\",\"ContestId\":\"c1\",\"OrderedContestSelectionIds\":[\"s1\",\"s2\",\"c2\"]}"));
+    contest_stands = refl;
+    entry = asked (Reference family.Selection) (tree_of (codes "\"s2\""));
+    entry_stands = refl;
+    elsewhere = refl;
+  },
+  refl,
+)
 
 -- `IsWriteIn` false and absent give one name and two records
 absent_or_false : (let t = tree_of (codes "{\"@type\":\"ElectionResults.CandidateSelection\"}") in let u = tree_of (codes "{\"@type\":\"ElectionResults.CandidateSelection\",\"IsWriteIn\":false}") in

@@ -102,7 +102,7 @@ is_in_other_contest t d id =
     && option_map_or (λ contest. not (is_selection_in contest id))
     (owner t family.Contest (text_at (codes "ContestId") d)) false
 
--- reason 17: the same of an entry of the object's list (class OrderedContest)
+-- the same of an entry of the object's list (class OrderedContest)
 abbrev pub is_other_selection : Data → Data → Want → Data → Bool
 is_other_selection t d (Reference family.Selection) entry = option_map_or (is_in_other_contest t d) (as_str entry) false
 is_other_selection t d w entry = false
@@ -111,12 +111,20 @@ is_other_selection t d w entry = false
 abbrev pub entry_place : List Step → ℕ → List Step
 entry_place q i = q ++ Name (codes "OrderedContestSelectionIds") ∷ At i ∷ []
 
+-- reason 17: an entry of the list of an object that names one contest is a selection of another
+pub record NamesOtherContest (t : Data) (p : List Step) : Type 0 where
+  pub object_place : List Step
+  pub position : ℕ
+  pub place : p ≡ entry_place object_place position
+  pub contest : Asked
+  pub contest_stands : asked_at t object_place ≡ Some contest
+  pub entry : Asked
+  pub entry_stands : asked_at t p ≡ Some entry
+  pub elsewhere : IsTrue (is_other_selection t contest.value entry.want entry.value)
+
 -- the faults of references
 abbrev pub ReferenceFault : Data → List Step → Reason → Type 0
-ReferenceFault t p reason.SelectionOfOtherContest =
-    (q : List Step) × (i : ℕ) × (p ≡ entry_place q i)
-    × IsSomeAnd (asked_at t q) (λ a.
-    IsSomeAnd (asked_at t p) (λ b. IsTrue (is_other_selection t a.value b.want b.value)))
+ReferenceFault t p reason.SelectionOfOtherContest = NamesOtherContest t p
 ReferenceFault t p r = IsSomeAnd (asked_at t p) (λ a. IsTrue (is_reference_fault t a r))
 
 -- ---- selections

@@ -1,5 +1,5 @@
 use Rattle.std.proofs.Common.{[], codes, refl, sym, ap, subst, Err}
-use Rattle.erd_canon.specs.Run.{IsAnswered, IsAnswerWritten}
+use Rattle.erd_canon.specs.Run.{IsAnswered}
 use Rattle.erd_canon.proofs.Results.{IfOk-join}
 use Rattle.erd_canon.proofs.run.write_answer.Goals as goal
 
