@@ -5,6 +5,7 @@ pub mod class;
 pub mod fault;
 pub mod member;
 pub mod place;
+mod row_kinds;
 pub mod text;
 
 pub use class::{Class, Family, class_of, family_of, type_text};
