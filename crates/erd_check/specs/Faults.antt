@@ -42,7 +42,8 @@ is_empty_array d = option_map_or (λ ds. length (list_of_items ds) == 0) (as_arr
 abbrev pub has_not_one_entry : Data → Bool
 has_not_one_entry d = option_map_or (λ ds. not (length (list_of_items ds) == 1)) (as_array d) false
 
--- a number that is not whole: with a fraction or an exponent, or beyond -2^63 to 2^64 - 1
+-- a number that is not whole, which `serde_json` keeps as a float: one with a fraction or an exponent, `-0`, and whole
+-- ones beyond -2^63 to 2^64 - 1
 abbrev pub is_not_whole : Data → Bool
 is_not_whole d = option_map_or is_float (as_number d) false
 

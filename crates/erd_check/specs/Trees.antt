@@ -21,7 +21,8 @@ abbrev pub IsNumber : Num → Type 0
 IsNumber (negative (pos n)) = ⊥
 IsNumber n = ⊤
 
--- the members of each object, at every depth, have strictly rising names (RFC 8259, section 4: an object as a finite map)
+-- the members of each object, at every depth, have strictly rising names (RFC 8259, section 4: an object as a finite map),
+-- and a number that is kept as a negative one is below zero
 abbrev mutual
   pub IsTree : Data → Type 0
   IsTree null = ⊤

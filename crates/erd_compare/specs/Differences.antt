@@ -81,7 +81,8 @@ pub record IsFirstDifference (m n : Meaning) (d : Difference) : Type 0 where
   pub differ : Differ (record_at m d.part d.key) (record_at n d.part d.key) d.how
   pub least : (p : Part) (k : Option Key) → part_cmp p k d.part d.key ≡ Less → record_at m p k ≡ record_at n p k
 
--- the first difference of two meanings, and none exactly if they are equal
+-- the first difference of two meanings, and none exactly if they are equal: a meaning has nothing at the family of
+-- selections, so two that are equal at every part and key are equal
 abbrev pub IsDifference : Meaning → Meaning → Option Difference → Type 0
 IsDifference m n None = m ≡ n
 IsDifference m n (Some d) = IsFirstDifference m n d

@@ -41,7 +41,7 @@ pub record HasCanonicalEnvelope (t : Data) : Type 0 where
 
 -- ---- arrays
 
--- the kind of a member that is neither a reference nor carried
+-- the kind of a member, but for `Status`, one reference and a carried member, none of which is an array of the table
 abbrev pub kind_wanted : Want → Option MemberKind
 kind_wanted (Member k required) = Some k
 kind_wanted w = None
