@@ -3,3 +3,4 @@ mod NameExamples
 pub mod RecordExamples
 mod LaterFaultExamples
 pub mod Phases
+pub mod WholeRecords

@@ -8,6 +8,7 @@ use Rattle.serde_json.specs.Data.{Data, null, boolean, string}
 use Rattle.serde_json.proofs.OnLiterals.{serde_json_on_literals}
 use Rattle.erd_tables.specs.Classes.{families}
 use Rattle.erd_tables.specs.Rows.{unit_rows, party_rows, person_rows, office_rows, header_rows, candidate_rows, rows_of_class}
+use Rattle.erd_tables.specs.declared.class.Class.{Class}
 use Rattle.erd_tables.specs.declared.class.Class.TheVariants as class
 use Rattle.erd_tables.specs.declared.class.Family.{Family}
 use Rattle.erd_tables.specs.declared.class.Family.TheVariants as family
@@ -18,16 +19,20 @@ use Rattle.erd_check.proofs.Reports.{tree_of, small_ballot, small_ballot_canonic
 use Rattle.erd_check.specs.Trees.{entries_of}
 use Rattle.erd_check.specs.Wants.{asked_at}
 use Rattle.erd_meaning.specs.Keys.{key_cmp}
-use Rattle.erd_meaning.specs.Meaning.{Label, Content, no_content, first_node, Node, a_contest, a_header, a_json, a_label, untranslated, a_key, a_key_set, MemberValue, a_plain}
-use Rattle.erd_meaning.specs.Records.{label_of, content_of, json_set, plain_value, records_of, beside_text, carried_members, meaning}
+use Rattle.erd_meaning.specs.Meaning.{Label, Content, no_content, first_node, Node, a_contest, a_header, a_json, a_label, untranslated, a_key, a_key_set, MemberValue, a_plain, Record}
+use Rattle.erd_meaning.specs.Records.{selection_record, object_with_key, member_of_class, plain_member, label_of, content_of, json_set, plain_value, records_of, beside_text, carried_members, meaning}
 use Rattle.erd_meaning.specs.SelectionNames.{name_named}
 use Rattle.erd_meaning.specs.declared.key.Key.{Key}
+use Rattle.erd_meaning.proofs.WholeRecords.{names_in, absent_plain, absent_member, same_at_every_name}
 
 abbrev pub local_key : List ℕ → Key
 local_key value = record { kind = codes "local-level"; other = []; value = value }
 
 abbrev value_at : Data → List Step → Data
 value_at t p = unwrap_or (option_map (λ a. a.value) (asked_at t p)) null
+
+abbrev record_of_members : {V : Type 0} → Class → (List ℕ → Option V) → Option (Record V)
+record_of_members c members = Some (record { class = c; members = members })
 
 -- ---- the order of a ballot
 
@@ -131,6 +136,37 @@ same_translations : (let t = tree_of small_ballot in let u = tree_of small_ballo
     × (map (beside_text (value_at t (Name (codes "Election") ∷ At 0 ∷ Name (codes "Contest") ∷ At 1 ∷ Name (codes "ContestSelection") ∷ At 0 ∷ Name (codes "Selection") ∷ []))) (codes "@type" ∷ codes "Text" ∷ codes "Note" ∷ []) ≡ None ∷ None ∷ None ∷ []))
 unfolding serde_json_on_literals
 same_translations = (refl, refl, refl)
+
+-- ---- whole records
+
+abbrev object_of : Data → Family → List ℕ → Data
+object_of t f key = unwrap_or (object_with_key t f (local_key key)) null
+
+-- the candidate means the same in both, at every name
+same_candidate : (let t = tree_of small_ballot in let u = tree_of small_ballot_canonical in
+    records_of t family.Candidate (local_key (codes "K1")) ≡ records_of u family.Candidate (local_key (codes "K1")))
+unfolding serde_json_on_literals
+same_candidate =
+    let t = tree_of small_ballot in let u = tree_of small_ballot_canonical in
+    let d = object_of t family.Candidate (codes "K1") in let e = object_of u family.Candidate (codes "K1") in
+    ap (record_of_members class.Candidate)
+    (same_at_every_name (member_of_class t d class.Candidate) (member_of_class u e class.Candidate) d e (names_in d)
+    (absent_member t d class.Candidate) (absent_member u e class.Candidate) (λ name h. h) (λ name h. h) refl)
+
+abbrev selection_at : Data → ℕ → Data
+selection_at t i = value_at t (Name (codes "Election") ∷ At 0 ∷ Name (codes "Contest") ∷ At 0 ∷ Name (codes "ContestSelection") ∷ At i ∷ [])
+
+-- so does the selection of two candidates, which stand in another order
+same_selection : (let t = tree_of small_ballot in let u = tree_of small_ballot_canonical in
+    selection_record t (selection_at t 0) ≡ selection_record u (selection_at u 1))
+unfolding serde_json_on_literals
+same_selection =
+    let t = tree_of small_ballot in let u = tree_of small_ballot_canonical in
+    let d = selection_at t 0 in let e = selection_at u 1 in
+    ap (record_of_members class.CandidateSelection)
+    (same_at_every_name (plain_member t d class.CandidateSelection) (plain_member u e class.CandidateSelection) d e (names_in d)
+    (absent_plain t d class.CandidateSelection) (absent_plain u e class.CandidateSelection) (λ name h. h) (λ name h. h)
+    (ap (λ v. None ∷ None ∷ v ∷ []) same_set_of_keys))
 
 -- ---- what is no part of the meaning
 

@@ -1,0 +1,94 @@
+-- When two objects have one record: they agree at the names that either has, and neither has any other.
+use Rattle.std.proofs.Common.{◌≡◌, ℕ, List, [], ◌∷◌, ◌++◌, Bool, true, false, true≢false, ◌||◌, Option, Some, None, All, map, Ordering, Less, Equal, Greater, refl, sym, ap, ap₂, ◌∙◌, subst}
+use Rattle.std.proofs.Math.Path.{fun_ext}
+use Rattle.std.proofs.lemmas.Bool.{or_parts, or_cases}
+use Rattle.std.proofs.lemmas.Map.Text.{is_eq-slice_cmp}
+use Rattle.std.proofs.lemmas.Slice.Eq.{bytes_eq-Decides}
+use Rattle.std.specs.Cmp.Lexicographic.{slice_cmp}
+use Rattle.std.specs.List.{list_any}
+use Rattle.std.specs.Ordering.{nat_cmp, is_eq, match_ordering}
+use Rattle.std.specs.Prelude.{option_and_then, option_map, cond}
+use Rattle.std.specs.Str.{bytes_eq}
+use Rattle.serde_json.specs.Data.{Data, null, boolean, number, string, array, object, Members, no_members, member}
+use Rattle.serde_json.specs.Find.{get, get_member}
+use Rattle.erd_tables.specs.Table.{kind_of_member}
+use Rattle.erd_tables.specs.declared.class.Class.{Class}
+use Rattle.erd_tables.specs.declared.class.Family.TheVariants as family
+use Rattle.erd_tables.specs.declared.member.MemberKind.{MemberKind}
+use Rattle.erd_tables.specs.declared.member.MemberKind.TheVariants as kind
+use Rattle.erd_meaning.specs.Meaning.{Record, ObjectRecord, PlainValue, MemberValue, a_plain}
+use Rattle.erd_meaning.specs.Records.{is_in_envelope, plain_value, plain_member, member_value, member_of_class}
+
+-- the names of an object
+abbrev pub names_of_members : Members → List (List ℕ)
+names_of_members no_members = []
+names_of_members (member k d ms) = k ∷ names_of_members ms
+
+abbrev pub names_in : Data → List (List ℕ)
+names_in (object ms) = names_of_members ms
+names_in d = []
+
+passed_over : (o : Ordering) (found rest : Option Data) → is_eq o ≡ false → match_ordering o rest found rest ≡ rest
+passed_over Less found rest e = refl
+passed_over Equal found rest e = absurd (true≢false e)
+passed_over Greater found rest e = refl
+
+member_absent : (name : List ℕ) (ms : Members) → list_any (bytes_eq name) (names_of_members ms) ≡ false → get_member name ms ≡ None
+member_absent name no_members e = refl
+member_absent name (member k d ms) e =
+    let both = or_parts (bytes_eq name k) (list_any (bytes_eq name) (names_of_members ms)) e in
+    passed_over (slice_cmp nat_cmp name k) (Some d) (get_member name ms) (is_eq-slice_cmp name k ∙ both.0) ∙ member_absent name ms both.1
+
+pub absent : (name : List ℕ) (d : Data) → list_any (bytes_eq name) (names_in d) ≡ false → get name d ≡ None
+absent name null e = refl
+absent name (boolean b) e = refl
+absent name (number n) e = refl
+absent name (string s) e = refl
+absent name (array ds) e = refl
+absent name (object ms) e = member_absent name ms e
+
+neither : (b : Bool) (o : Option PlainValue) → o ≡ None → cond b None o ≡ None
+neither true o e = refl
+neither false o e = e
+
+nothing_meant : (t : Data) (k : MemberKind) (plain : Option PlainValue) → plain ≡ None → member_value t k None plain ≡ None
+nothing_meant t (kind.Keyed family.Selection) plain e = refl
+nothing_meant t k plain e = ap (option_map a_plain) e
+
+-- a member that is not there means nothing
+pub absent_plain : (t d : Data) (c : Class) (name : List ℕ) → get name d ≡ None → plain_member t d c name ≡ None
+absent_plain t d c name e =
+    ap (λ o. cond (is_in_envelope c name) None (option_and_then (plain_value t (kind_of_member c name)) o)) e ∙ neither (is_in_envelope c name) None refl
+
+pub absent_member : (t d : Data) (c : Class) (name : List ℕ) → get name d ≡ None → member_of_class t d c name ≡ None
+absent_member t d c name e =
+    ap (λ o. member_value t (kind_of_member c name) o (plain_member t d c name)) e
+    ∙ nothing_meant t (kind_of_member c name) (plain_member t d c name) (absent_plain t d c name e)
+
+-- ---- at every name
+
+agree_at : {V : Type 0} (f g : List ℕ → V) (names : List (List ℕ)) (name : List ℕ) → map f names ≡ map g names → list_any (bytes_eq name) names ≡ true → f name ≡ g name
+agree_at f g [] name e among = absurd (true≢false (sym among))
+agree_at f g (n ∷ ns) name e among = at (bytes_eq name n) refl among (agree_at f g ns name (ap drop_first e))
+  where
+    drop_first : {W : Type 0} → List W → List W
+    drop_first [] = []
+    drop_first (x ∷ xs) = xs
+
+    at : (b : Bool) → bytes_eq name n ≡ b → (b || list_any (bytes_eq name) ns) ≡ true → (list_any (bytes_eq name) ns ≡ true → f name ≡ g name) → f name ≡ g name
+    at true is h later = let same : f n ≡ g n = cc in subst (λ q. f q ≡ g q) (sym ((bytes_eq-Decides name n).0 is)) same
+    at false is h later = later h
+
+either_name : {V : Type 0} (b : Bool) (x y : V) → (b ≡ true → x ≡ y) → (b ≡ false → x ≡ y) → x ≡ y
+either_name true x y among outside = among refl
+either_name false x y among outside = outside refl
+
+-- what two objects mean is the same at every name, if it is at the names that either has
+pub same_at_every_name : {V : Type 0} (f g : List ℕ → Option V) (d e : Data) (names : List (List ℕ))
+    → ((name : List ℕ) → get name d ≡ None → f name ≡ None) → ((name : List ℕ) → get name e ≡ None → g name ≡ None)
+    → ((name : List ℕ) → list_any (bytes_eq name) names ≡ false → list_any (bytes_eq name) (names_in d) ≡ false)
+    → ((name : List ℕ) → list_any (bytes_eq name) names ≡ false → list_any (bytes_eq name) (names_in e) ≡ false) → map f names ≡ map g names → f ≡ g
+same_at_every_name f g d e names no_f no_g left right agree =
+    fun_ext (λ name.
+    either_name (list_any (bytes_eq name) names) (f name) (g name) (λ among. agree_at f g names name agree among)
+    (λ outside. no_f name (absent name d (left name outside)) ∙ sym (no_g name (absent name e (right name outside)))))
