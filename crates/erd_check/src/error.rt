@@ -2,7 +2,7 @@ use erd_tables::FaultList;
 use std::alloc::AllocError;
 
 /// Why a report is not taken: its faults, of which there is at least one, or want of memory.
-#[derive(Drop)]
+#[derive(Debug, Drop)]
 pub enum CheckError {
     Faults(FaultList),
     Memory,

@@ -17,7 +17,7 @@ pub enum Part {
 }
 
 /// How two reports differ at a part and a key.
-#[derive(Drop)]
+#[derive(Debug, Drop)]
 pub enum How {
     OnlyLeft,
     OnlyRight,
@@ -27,7 +27,7 @@ pub enum How {
 }
 
 /// The first difference of two reports. The report and the election have no key.
-#[derive(Drop)]
+#[derive(Debug, Drop)]
 pub struct Difference {
     pub part: Part,
     pub key: Option<Key>,

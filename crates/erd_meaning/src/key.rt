@@ -1,7 +1,7 @@
 use erd_tables::Text;
 
 /// What names an object, whichever vendor wrote it: the least of its external identifiers.
-#[derive(Drop)]
+#[derive(Debug, PartialEq, Eq, PartialOrd, Ord, Hash, Drop)]
 pub struct Key {
     /// `Type`.
     pub kind: Text,

@@ -3,7 +3,7 @@ use erd_tables::{Class, Text};
 use std::marker::Model;
 
 /// What names a selection in its contest, whichever vendor wrote it. Contracts see its six parts.
-#[derive(Drop)]
+#[derive(Debug, Drop)]
 pub struct SelectionName {
     class: Class,
     keys: Vec<Key>,

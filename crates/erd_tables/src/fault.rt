@@ -6,7 +6,7 @@ use crate::text::Text;
 use std::marker::Model;
 
 /// Why a report is refused: the reasons 1 to 18, in this order.
-#[derive(Drop)]
+#[derive(Debug, Drop)]
 pub enum Reason {
     WrongKind,
     MissingMember(Text),
@@ -29,14 +29,14 @@ pub enum Reason {
 }
 
 /// A fault: a place of the report, and what is wrong there.
-#[derive(Drop)]
+#[derive(Debug, Drop)]
 pub struct Fault {
     pub place: Place,
     pub reason: Reason,
 }
 
 /// A list of faults.
-#[derive(Drop)]
+#[derive(Debug, Drop)]
 pub struct FaultList {
     faults: Vec<Fault>,
 }

@@ -5,14 +5,14 @@ use crate::text::Text;
 use std::marker::Model;
 
 /// A step from a JSON value to one inside it.
-#[derive(Drop)]
+#[derive(Debug, Drop)]
 pub enum Step {
     Name(Text),
     At(usize),
 }
 
 /// A place in a JSON value, as the steps that lead to it.
-#[derive(Drop)]
+#[derive(Debug, Drop)]
 pub struct Place {
     steps: Vec<Step>,
 }
