@@ -1,6 +1,6 @@
 # `make erd` proves and builds the program; `make test` is the gate.
 SHELL := /bin/bash
-SOURCES := crates.txt $(shell find crates/erd_tables crates/erd_canon crates/erd -name out -prune -o -name must-fail -prune -o -type f -print)
+SOURCES := crates.txt $(shell find crates -path crates/erd_rows -prune -o -name out -prune -o -name must-fail -prune -o -type f -print)
 
 .PHONY: test tools
 
