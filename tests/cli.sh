@@ -5,19 +5,7 @@ cd "$(dirname "$0")/.." || exit 1
 erd=$PWD/erd
 work=$(mktemp -d) || exit 1
 trap 'rm -rf "$work"' EXIT
-passed=0
-failed=0
-
-# said NAME WHY: one case is done; it is right where WHY is empty
-said() {
-    if [ -z "$2" ]; then
-        passed=$((passed + 1))
-        echo "ok      $1"
-    else
-        failed=$((failed + 1))
-        echo "FAILED  $1: $2"
-    fi
-}
+. tests/counting.sh
 
 # expect NAME STATUS OUT ERR: what the last run left in $work/out, $work/err and $status
 expect() {
@@ -127,5 +115,4 @@ for file in one-unit.json one-unit.canonical.json small-ballot.json; do
 done
 said 'examples are the vectors of the tests' "$why"
 
-echo "$passed passed, $failed failed"
-[ "$failed" -eq 0 ]
+counts

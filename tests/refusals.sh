@@ -5,8 +5,7 @@ set -u
 cd "$(dirname "$0")/.." || exit 1
 work=$(mktemp -d) || exit 1
 trap 'rm -rf "$work"' EXIT
-passed=0
-failed=0
+. tests/counting.sh
 most=20000
 
 "${CC:-cc}" -O2 -shared -fPIC -o "$work/refuse.so" tests/refuse.c -ldl || exit 1
@@ -35,16 +34,16 @@ program() {
         [ "$status" -eq "$wanted" ] && cmp -s "$work/out" "$out" && cmp -s "$work/err" "$work/wanted" && right=yes
         if [ ! -e "$work/log" ]; then
             [ "$right" = yes ] && [ "$refusals" -gt 0 ] && break
-            ended "$name" "status $status with no refusal, after $refusals"
+            said "$name" "status $status with no refusal, after $refusals"
             return
         fi
         refusals=$((refusals + 1))
         if [ "$right" = no ] && ! is_memory; then
-            ended "$name" "status $status at refusal $at"
+            said "$name" "status $status at refusal $at"
             return
         fi
     done
-    ended "$name ($refusals refusals)" "$([ "$at" -le "$most" ] || echo 'no end')"
+    said "$name ($refusals refusals)" "$([ "$at" -le "$most" ] || echo 'no end')"
 }
 
 # a test of the crate erd_rows, which passes where its call answers rightly or with want of memory
@@ -55,26 +54,16 @@ one_test() {
         status=$?
         if [ ! -e "$work/log" ]; then
             [ "$status" -eq 0 ] && [ "$refusals" -gt 0 ] && break
-            ended "$name" "status $status with no refusal, after $refusals"
+            said "$name" "status $status with no refusal, after $refusals"
             return
         fi
         refusals=$((refusals + 1))
         if [ "$status" -ne 0 ]; then
-            ended "$name" "status $status at refusal $at"
+            said "$name" "status $status at refusal $at"
             return
         fi
     done
-    ended "$name ($refusals refusals)" "$([ "$at" -le "$most" ] || echo 'no end')"
-}
-
-ended() {
-    if [ -z "$2" ]; then
-        passed=$((passed + 1))
-        echo "ok      $1"
-    else
-        failed=$((failed + 1))
-        echo "FAILED  $1: $2"
-    fi
+    said "$name ($refusals refusals)" "$([ "$at" -le "$most" ] || echo 'no end')"
 }
 
 : > "$work/empty"
@@ -84,5 +73,4 @@ program 'no JSON' tests/refuse.c 2 "$work/empty" $'not JSON\n'
 one_test tests::refused::refused_canonical
 one_test tests::refused::refused_run
 
-echo "$passed passed, $failed failed"
-[ "$failed" -eq 0 ]
+counts
