@@ -8,23 +8,41 @@ use std::marker::Model;
 /// Why a report is refused: the reasons 1 to 18, in this order.
 #[derive(Debug, Drop)]
 pub enum Reason {
+    /// Not the JSON kind that the table asks for.
     WrongKind,
+    /// A required member is absent; its name.
     MissingMember(Text),
+    /// The `@type` names no class that may stand there.
     WrongClassText,
+    /// A number that is not whole, where only whole ones are taken.
     NotWhole,
+    /// A member outside the profile that is not an empty array.
     OutsideProfile,
+    /// A member named as a reference that the table does not list.
     UnknownReference,
+    /// An identity or a reference where none belongs.
     CarriedIdentity,
+    /// `Status` is another text than `pre-election`.
     NotPreElection,
+    /// `Election` has not exactly one entry.
     ElectionCount,
+    /// An array that needs an entry has none.
     EmptyArray,
+    /// An entry is the same as an earlier one of its set.
     Repeated,
+    /// An object that needs a key has no external identifier.
     NoIdentifier,
+    /// The key of an earlier object of the family.
     TwinIdentifier,
+    /// The `@id` of an earlier object.
     DuplicateId,
+    /// No object has this `@id`.
     Unresolved,
+    /// The object with this `@id` is of another family.
     WrongFamily,
+    /// A selection, but of another contest than the one named beside it.
     SelectionOfOtherContest,
+    /// The selection name of an earlier selection of the contest.
     TwinSelection,
 }
 
@@ -51,18 +69,21 @@ impl Model for FaultList {
 }
 
 impl FaultList {
+    /// The faults in this order.
     pub fn of(faults: Vec<Fault>) -> FaultList
         ensures { result ≡ faults.items }
     {
         FaultList { faults }
     }
 
+    /// How many faults there are.
     pub fn len(&self) -> usize
         ensures { result ≡ length self.now }
     {
         self.faults.len()
     }
 
+    /// The fault at the position, counted from 0, if there is one.
     pub fn get(&self, index: usize) -> Option<&Fault>
         ensures { option_copied result ≡ slice_get self.now index }
     {

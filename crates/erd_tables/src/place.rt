@@ -7,7 +7,9 @@ use std::marker::Model;
 /// A step from a JSON value to one inside it.
 #[derive(Debug, Drop)]
 pub enum Step {
+    /// To the member of an object with this name.
     Name(Text),
+    /// To the entry of an array at this position, counted from 0.
     At(usize),
 }
 
@@ -27,18 +29,21 @@ impl Model for Place {
 }
 
 impl Place {
+    /// The place to which these steps lead from the whole value; no step leads to the value itself.
     pub fn of(steps: Vec<Step>) -> Place
         ensures { result ≡ steps.items }
     {
         Place { steps }
     }
 
+    /// How many steps it has.
     pub fn len(&self) -> usize
         ensures { result ≡ length self.now }
     {
         self.steps.len()
     }
 
+    /// The step at the position, counted from 0, if there is one.
     pub fn step(&self, index: usize) -> Option<&Step>
         ensures { option_copied result ≡ slice_get self.now index }
     {
