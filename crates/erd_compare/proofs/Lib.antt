@@ -1,1 +1,2 @@
 mod DifferenceExamples
+mod OrderExample

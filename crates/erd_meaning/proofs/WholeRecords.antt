@@ -92,3 +92,13 @@ same_at_every_name f g d e names no_f no_g left right agree =
     fun_ext (λ name.
     either_name (list_any (bytes_eq name) names) (f name) (g name) (λ among. agree_at f g names name agree among)
     (λ outside. no_f name (absent name d (left name outside)) ∙ sym (no_g name (absent name e (right name outside)))))
+
+-- what two objects mean is the same at every name but one, if it is at the other names that either has
+pub same_at_other_names : {V : Type 0} (f g : List ℕ → Option V) (d e : Data) (names : List (List ℕ)) (one : List ℕ)
+    → ((name : List ℕ) → get name d ≡ None → f name ≡ None) → ((name : List ℕ) → get name e ≡ None → g name ≡ None)
+    → ((name : List ℕ) → bytes_eq name one ≡ false → list_any (bytes_eq name) names ≡ false → list_any (bytes_eq name) (names_in d) ≡ false)
+    → ((name : List ℕ) → bytes_eq name one ≡ false → list_any (bytes_eq name) names ≡ false → list_any (bytes_eq name) (names_in e) ≡ false)
+    → map f names ≡ map g names → (name : List ℕ) → bytes_eq name one ≡ false → f name ≡ g name
+same_at_other_names f g d e names one no_f no_g left right agree name other =
+    either_name (list_any (bytes_eq name) names) (f name) (g name) (λ among. agree_at f g names name agree among)
+    (λ outside. no_f name (absent name d (left name other outside)) ∙ sym (no_g name (absent name e (right name other outside))))
