@@ -1,2 +1,2 @@
 mod DifferenceExamples
-mod OrderExample
+mod OrderExamples
