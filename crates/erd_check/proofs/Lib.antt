@@ -1,3 +1,8 @@
+pub mod Lists
+pub mod Order
+pub mod Reasons
+pub mod FaultsInside
+pub mod FaultLists
 pub mod Reports
 mod AskedExamples
 mod FaultExamples

@@ -2,3 +2,6 @@ pub mod Trees
 pub mod Wants
 pub mod Faults
 pub mod Refusals
+pub mod Shapes
+pub mod Paths
+pub mod Walk

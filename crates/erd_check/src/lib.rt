@@ -1,7 +1,16 @@
-//! The shape of a report: what the table asks of the value at each place.
+//! The shape of a report: what the table asks of the value at each place, and the faults of a report that does not meet it.
 #![tactic(auto)]
 
+mod equality;
 pub mod error;
-pub mod want;
+mod judge;
+mod path;
+mod shape_faults;
+mod shaped;
+mod walk;
+mod want;
 
+pub use equality::same_json;
 pub use error::CheckError;
+pub use shape_faults::faults;
+pub use shaped::{Shaped, shape};

@@ -1,3 +1,5 @@
 pub mod Texts
 pub mod ClassTexts
+pub mod Lists
+pub mod Pointers
 mod Examples

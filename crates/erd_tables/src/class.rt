@@ -1,5 +1,5 @@
 ghost use Rattle.std.specs.Prelude.{◌≡◌};
-ghost use Rattle.erd_tables.specs.Classes.{text_of_class, class_of_text, family_of_class, NamesItsClass};
+ghost use Rattle.erd_tables.specs.Classes.{text_of_class, class_of_text, family_of_class, role_of_class, class_in_role, NamesItsClass};
 
 /// The classes of a pre-election report (NIST SP 1500-100 version 2).
 #[derive(Clone, Copy, Debug, PartialEq, Eq, PartialOrd, Ord, Hash)]
@@ -145,5 +145,45 @@ pub fn family_of(class: Class) -> Option<Family>
             Some(Family::Selection)
         }
         _ => None,
+    }
+}
+
+/// What the objects of a class stand for.
+pub fn role_of(class: Class) -> Role
+    ensures { result ≡ role_of_class class }
+{
+    match class {
+        Class::ElectionReport => Role::Report,
+        Class::Election => Role::Election,
+        Class::ReportingUnit => Role::OfFamily(Family::Unit),
+        Class::Party | Class::Coalition => Role::OfFamily(Family::Party),
+        Class::Person => Role::OfFamily(Family::Person),
+        Class::Office => Role::OfFamily(Family::Office),
+        Class::Header => Role::OfFamily(Family::Header),
+        Class::Candidate => Role::OfFamily(Family::Candidate),
+        Class::CandidateContest
+        | Class::BallotMeasureContest
+        | Class::RetentionContest
+        | Class::PartyContest => Role::OfFamily(Family::Contest),
+        Class::CandidateSelection | Class::BallotMeasureSelection | Class::PartySelection => {
+            Role::OfFamily(Family::Selection)
+        }
+        Class::BallotStyle => Role::OfFamily(Family::Style),
+        Class::OrderedContest | Class::OrderedHeader => Role::Content,
+        Class::ExternalIdentifier => Role::Identifier,
+        Class::InternationalizedText => Role::Label,
+        Class::LanguageString => Role::Language,
+    }
+}
+
+/// The class that an `@type` text names, where its objects have the role.
+pub fn class_in(role: Role, text: &str) -> Option<Class>
+    ensures { result ≡ class_in_role role text.now }
+{
+    let class = class_of(text)?;
+    if role_of(class) == role {
+        Some(class)
+    } else {
+        None
     }
 }

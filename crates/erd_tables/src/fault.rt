@@ -1,8 +1,10 @@
-ghost use Rattle.std.specs.Prelude.{◌≡◌, length, slice_get};
+ghost use Rattle.std.specs.Prelude.{◌≡◌, ◌++◌, length, slice_get, string_bytes, IfOk};
 ghost use Rattle.std.specs.Option.{option_copied};
+ghost use Rattle.erd_tables.specs.Faults.{fault_line, missing_name, reason_text};
 
-use crate::place::Place;
+use crate::place::{Place, pointer};
 use crate::text::Text;
+use std::alloc::{AllocError, Global};
 use std::marker::Model;
 
 /// Why a report is refused: the reasons 1 to 18, in this order.
@@ -51,6 +53,48 @@ pub enum Reason {
 pub struct Fault {
     pub place: Place,
     pub reason: Reason,
+}
+
+impl Fault {
+    /// The line that tells the fault, without a line end: the JSON Pointer of its place, a colon, a blank, and the words
+    /// of its reason. Names are written as they are, a line feed too.
+    pub fn line(&self, alloc: Global) -> Result<String, AllocError>
+        ensures { IfOk result (λ line. string_bytes line ≡ fault_line self.now) }
+    {
+        let mut line = pointer(alloc, &self.place)?;
+        line.push_str(": ")?;
+        line.push_str(words(&self.reason))?;
+        if let Reason::MissingMember(name) = &self.reason {
+            line.push_str(name.as_str())?;
+        }
+        Ok(line)
+    }
+}
+
+/// The words of a reason, before the name of a member.
+fn words(reason: &Reason) -> &'static str
+    ensures { result.now ++ missing_name reason.now ≡ reason_text reason.now }
+{
+    match reason {
+        Reason::WrongKind => "wrong kind",
+        Reason::MissingMember(_) => "missing member ",
+        Reason::WrongClassText => "wrong class",
+        Reason::NotWhole => "not a whole number",
+        Reason::OutsideProfile => "outside the profile",
+        Reason::UnknownReference => "unknown reference",
+        Reason::CarriedIdentity => "carried identity",
+        Reason::NotPreElection => "not pre-election",
+        Reason::ElectionCount => "wrong number of elections",
+        Reason::EmptyArray => "empty array",
+        Reason::Repeated => "repeated",
+        Reason::NoIdentifier => "no external identifier",
+        Reason::TwinIdentifier => "identifier used twice",
+        Reason::DuplicateId => "@id used twice",
+        Reason::Unresolved => "unresolved reference",
+        Reason::WrongFamily => "reference to another family",
+        Reason::SelectionOfOtherContest => "selection of another contest",
+        Reason::TwinSelection => "selection name used twice",
+    }
 }
 
 /// A list of faults.

@@ -8,8 +8,10 @@ pub mod place;
 mod row_kinds;
 pub mod text;
 
-pub use class::{Class, Family, class_of, family_of, type_text};
+pub use class::{Class, Family, Role, class_in, class_of, family_of, role_of, type_text};
 pub use fault::{Fault, FaultList, Reason};
-pub use member::{MemberKind, is_envelope, member_kind, required};
-pub use place::{Place, Step};
+pub use member::{
+    MemberKind, is_envelope, is_reference_form, is_required_member, member_kind, required,
+};
+pub use place::{Place, Step, pointer};
 pub use text::Text;

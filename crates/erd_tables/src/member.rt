@@ -1,5 +1,5 @@
 ghost use Rattle.std.specs.Prelude.{◌≡◌, map};
-ghost use Rattle.erd_tables.specs.Table.{is_envelope_name, is_reference_name, kind_of_unlisted, kind_of_member, required_names};
+ghost use Rattle.erd_tables.specs.Table.{is_envelope_name, is_reference_name, kind_of_unlisted, kind_of_member, required_names, is_required};
 
 use crate::class::{Class, Family, family_of};
 use crate::row_kinds::{envelope_kind, kind_in_table};
@@ -62,8 +62,8 @@ pub fn is_envelope(name: &str) -> bool
     envelope_kind(name).is_some()
 }
 
-/// Whether a name ends as the names of references do.
-fn is_reference_form(name: &str) -> bool
+/// Whether a name ends as the names of references do: in `Id` or `Ids`.
+pub fn is_reference_form(name: &str) -> bool
     ensures { result ≡ is_reference_name name.now }
 {
     let name = name.as_bytes();
@@ -115,4 +115,11 @@ pub fn required(class: Class) -> &'static [&'static str]
         Class::InternationalizedText => &["Text"],
         Class::LanguageString => &["Content", "Language"],
     }
+}
+
+/// Whether an object of the class must have the member, of the members other than `@type`.
+pub fn is_required_member(class: Class, name: &str) -> bool
+    ensures { result ≡ is_required class name.now }
+{
+    required(class).contains(&name)
 }

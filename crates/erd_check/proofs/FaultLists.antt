@@ -1,0 +1,13 @@
+-- Lists of all faults.
+use Rattle.std.proofs.Common.{◌≡◌, ◌<◌, List, length, arith}
+use Rattle.serde_json.specs.Data.{Data}
+use Rattle.erd_tables.specs.Faults.{ListsAll}
+use Rattle.erd_tables.specs.declared.fault.Fault.{Fault}
+use Rattle.erd_check.specs.Faults.{ShapeFault, NoneOf}
+use Rattle.erd_check.specs.Paths.{fault_at}
+
+pub no_fault_from_empty : (t : Data) (faults : List Fault) → ListsAll (ShapeFault t) faults → length faults ≡ 0 → NoneOf (ShapeFault t)
+no_fault_from_empty t faults all empty p r h =
+    let there = (all.each (fault_at p r)).1 h in
+    let inside : there.0 < length faults = there.1 in
+    omega arith

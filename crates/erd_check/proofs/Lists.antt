@@ -1,0 +1,26 @@
+-- Lists of entries and of members.
+use Rattle.std.proofs.Common.{◌≡◌, List, [], ◌∷◌, length, suc, String, Global, Less, string_bytes, string_cmp, refl, ap}
+use Rattle.std.specs.List.{AllByRecursion}
+use Rattle.std.specs.List.Sorted.{IsStrictlySortedBy}
+use Rattle.std.specs.Map.{keys_of}
+use Rattle.serde_json.specs.View.{items_view, members_view}
+use Rattle.serde_json.proofs.Views.{Entry}
+use Rattle.serde_json.specs.declared.value.Value.{Value}
+use Rattle.erd_tables.specs.Texts.{text_cmp}
+use Rattle.erd_check.specs.Trees.{list_of_items}
+use Rattle.erd_check.specs.Walk.{names}
+
+pub count_of_view : (vs : List Value) → length (list_of_items (items_view vs)) ≡ length vs
+count_of_view [] = refl
+count_of_view (v ∷ vs) = ap suc (count_of_view vs)
+
+names_above : (k : String Global) (es : List Entry) → AllByRecursion (λ y. string_cmp k y ≡ Less) (keys_of es)
+    → AllByRecursion (λ y. text_cmp (string_bytes k) y ≡ Less) (names (members_view es))
+names_above k [] h = tt
+names_above k (e ∷ es) h = (h.0, names_above k es h.1)
+
+-- the keys of a map rise, and so do the names of its members
+pub names_sorted : (es : List Entry) → IsStrictlySortedBy string_cmp (keys_of es) → IsStrictlySortedBy text_cmp (names (members_view es))
+unfolding IsStrictlySortedBy
+names_sorted [] h = tt
+names_sorted (e ∷ es) h = (names_above e.0 es h.0, names_sorted es h.1)

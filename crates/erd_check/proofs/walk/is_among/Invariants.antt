@@ -1,0 +1,9 @@
+use Rattle.std.proofs.Common.{◌≡◌, map, drop}
+use Rattle.std.specs.List.{list_any}
+use Rattle.serde_json.specs.View.{view}
+use Rattle.erd_check.specs.Trees.{is_same_json}
+use Rattle.erd_check.proofs.walk.is_among.Given as goal
+
+abbrev pub invariant-loop-other : goal.invariant-loop-other
+invariant-loop-other l =
+    list_any (is_same_json (view l.value)) (map view l.earlier) ≡ list_any (is_same_json (view l.value)) (map view (drop l.other-index l.earlier))

@@ -1,0 +1,178 @@
+ghost use Rattle.std.specs.Prelude.{◌≡◌, ◌++◌, map, IfOk};
+ghost use Rattle.std.specs.Option.{option_to_list};
+ghost use Rattle.serde_json.specs.View.{view};
+ghost use Rattle.erd_check.specs.Faults.{has_kind, has_wanted_kind, names_wanted, is_not_whole, is_empty_array, has_not_one_entry, is_reference, lacks};
+ghost use Rattle.erd_check.specs.Walk.{other_reasons, missing, reasons, faults_of};
+ghost use Rattle.erd_check.specs.Wants.{scope_inside};
+ghost use Rattle.erd_check.specs.Paths.{steps_of};
+
+use crate::path::{Path, push_fault};
+use crate::want::{Scope, Want};
+use erd_tables::{Fault, MemberKind, Reason, Text, class_in, required};
+use serde_json::Value;
+use std::alloc::{AllocError, Global};
+
+/// Adds the faults of one value, and none of what is inside it.
+pub fn judge(
+    alloc: Global,
+    want: Want,
+    scope: Scope,
+    value: &Value,
+    is_repeated: bool,
+    path: &Path,
+    faults: &mut Vec<Fault>,
+) -> Result<(), AllocError>
+    requires { scope ≡ scope_inside want (view value.now) }
+    ensures { IfOk result (λ _. faults.new.items
+        ≡ faults.old.items ++ faults_of (steps_of path.now) (reasons want is_repeated (view value.now))) }
+{
+    if !fits(want, value) {
+        push_fault(alloc, path, Reason::WrongKind, faults)?;
+    }
+    push_missing(alloc, scope, value, path, faults)?;
+    if let Some(reason) = other_reason(want, value) {
+        push_fault(alloc, path, reason, faults)?;
+    }
+    if is_repeated && !is_reference_wanted(want) {
+        push_fault(alloc, path, Reason::Repeated, faults)?;
+    }
+    Ok(())
+}
+
+fn is_reference_wanted(want: Want) -> bool
+    ensures { result ≡ is_reference want }
+{
+    matches!(want, Want::Reference(_))
+}
+
+/// Whether a value is of the JSON kind that is asked_with for.
+fn fits(want: Want, value: &Value) -> bool
+    ensures { result ≡ has_wanted_kind want (view value.now) }
+{
+    match want {
+        Want::Object(_) => value.is_object(),
+        Want::ClassText(_) | Want::Reference(_) | Want::Status => value.is_string(),
+        Want::Member(kind, _) => fits_kind(kind, value),
+        Want::Carried => true,
+    }
+}
+
+fn fits_kind(kind: MemberKind, value: &Value) -> bool
+    ensures { result ≡ has_kind kind (view value.now) }
+{
+    match kind {
+        MemberKind::Identity | MemberKind::Word => value.is_string(),
+        MemberKind::Label => value.is_string() || value.is_object(),
+        MemberKind::Flag => value.is_boolean(),
+        MemberKind::Whole => value.is_number(),
+        MemberKind::Many(_)
+        | MemberKind::Identifiers
+        | MemberKind::Languages
+        | MemberKind::Keyed(_)
+        | MemberKind::Elections
+        | MemberKind::Content
+        | MemberKind::Ordered => value.is_array(),
+        MemberKind::ClassText
+        | MemberKind::One(_)
+        | MemberKind::Outside
+        | MemberKind::StrangeReference
+        | MemberKind::StrangeIdentity
+        | MemberKind::Carried => true,
+    }
+}
+
+/// Adds a fault for each member that the object must have and lacks.
+fn push_missing(
+    alloc: Global,
+    scope: Scope,
+    value: &Value,
+    path: &Path,
+    faults: &mut Vec<Fault>,
+) -> Result<(), AllocError>
+    ensures { IfOk result (λ _. faults.new.items
+        ≡ faults.old.items ++ faults_of (steps_of path.now) (missing scope (view value.now))) }
+{
+    for name in names_needed(scope) {
+        if value.get(*name).is_none() {
+            let name = Text::of(String::from_str(alloc, name)?);
+            push_fault(alloc, path, Reason::MissingMember(name), faults)?;
+        }
+    }
+    Ok(())
+}
+
+/// The members that an object must have: `@type` alone where its class is unknown.
+fn names_needed(scope: Scope) -> &'static [&'static str]
+    ensures { map (λ s. s.now) result.now ≡ names_wanted scope }
+{
+    match scope {
+        Scope::Nothing | Scope::Carried => &[],
+        Scope::Members(_, None) => &["@type"],
+        Scope::Members(_, Some(class)) => required(class),
+    }
+}
+
+fn other_reason(want: Want, value: &Value) -> Option<Reason>
+    ensures { option_to_list result ≡ other_reasons want (view value.now) }
+{
+    match want {
+        Want::Object(_) | Want::Reference(_) => None,
+        Want::ClassText(role) => match value.as_str() {
+            Some(text) if class_in(role, text).is_none() => Some(Reason::WrongClassText),
+            _ => None,
+        },
+        Want::Status => match value.as_str() {
+            Some(text) if text != "pre-election" => Some(Reason::NotPreElection),
+            _ => None,
+        },
+        Want::Member(kind, is_required) => member_reason(kind, is_required, value),
+        Want::Carried if is_float(value) => Some(Reason::NotWhole),
+        Want::Carried => None,
+    }
+}
+
+fn member_reason(kind: MemberKind, is_required: bool, value: &Value) -> Option<Reason>
+    ensures { option_to_list result ≡ other_reasons (Want.Member kind is_required) (view value.now) }
+{
+    match kind {
+        MemberKind::Whole if is_float(value) => Some(Reason::NotWhole),
+        MemberKind::Outside if !has_no_entry(value) => Some(Reason::OutsideProfile),
+        MemberKind::StrangeReference => Some(Reason::UnknownReference),
+        MemberKind::StrangeIdentity => Some(Reason::CarriedIdentity),
+        MemberKind::Elections if has_other_count(value) => Some(Reason::ElectionCount),
+        MemberKind::Many(_) | MemberKind::Languages if is_required && has_no_entry(value) => {
+            Some(Reason::EmptyArray)
+        }
+        _ => None,
+    }
+}
+
+fn is_float(value: &Value) -> bool
+    ensures { result ≡ is_not_whole (view value.now) }
+{
+    match value.as_number() {
+        Some(number) => number.is_f64(),
+        None => false,
+    }
+}
+
+#[tactic(auto, using(crate::proofs::Lists::count_of_view))]
+fn has_no_entry(value: &Value) -> bool
+    ensures { result ≡ is_empty_array (view value.now) }
+{
+    match value.as_array() {
+        Some(items) => items.is_empty(),
+        None => false,
+    }
+}
+
+/// Whether a value is an array of no entry or of several.
+#[tactic(auto, using(crate::proofs::Lists::count_of_view))]
+fn has_other_count(value: &Value) -> bool
+    ensures { result ≡ has_not_one_entry (view value.now) }
+{
+    match value.as_array() {
+        Some(items) => items.len() != 1,
+        None => false,
+    }
+}

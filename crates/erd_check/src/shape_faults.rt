@@ -1,0 +1,32 @@
+ghost use Rattle.std.specs.Prelude.{IfOk};
+ghost use Rattle.serde_json.specs.View.{view};
+ghost use Rattle.erd_tables.specs.Faults.{ListsAll};
+ghost use Rattle.erd_check.specs.Faults.{ShapeFault};
+ghost use Rattle.erd_check.specs.Trees.{IsShallow};
+
+use crate::path::Path;
+use crate::walk::walk;
+use crate::want::Want;
+use erd_tables::{FaultList, Role};
+use serde_json::Value;
+use std::alloc::{AllocError, Global};
+
+/// All faults of the shape of a report (reasons 1 to 11), by place, then by reason, each once; no fault, where the shape
+/// is as the table asks. The report is nested at most 127 deep, as each is that `serde_json` reads.
+///
+/// The report is walked once. Memory is taken for the faults alone, so none for a report without a fault.
+pub fn faults(alloc: Global, tree: &Value) -> Result<FaultList, AllocError>
+    requires nests { IsShallow (view tree.now) }
+    ensures { IfOk result (ListsAll (ShapeFault (view tree.now))) }
+{
+    let mut found = Vec::new(alloc);
+    walk(
+        alloc,
+        Want::Object(Role::Report),
+        tree,
+        false,
+        &Path::Root,
+        &mut found,
+    )?;
+    Ok(FaultList::of(found))
+}

@@ -1,0 +1,59 @@
+ghost use Rattle.std.specs.Prelude.{◌≡◌, IfOk, IfErr};
+ghost use Rattle.serde_json.specs.View.{view};
+ghost use Rattle.erd_check.specs.Faults.{ShapeFault};
+ghost use Rattle.erd_check.specs.Refusals.{RefusedFor};
+ghost use Rattle.erd_check.specs.Shapes.{IsFaultless};
+ghost use Rattle.erd_check.specs.Trees.{IsShallow};
+
+use crate::error::CheckError;
+use crate::shape_faults::faults;
+use serde_json::Value;
+use std::alloc::Global;
+use std::marker::Model;
+
+/// A report whose shape has no fault. It borrows the report, and is seen by contracts as it.
+#[derive(Debug)]
+pub struct Shaped<'a> {
+    tree: &'a Value,
+}
+
+impl<'a> Model for Shaped<'a> {
+    ghost use Rattle.std.specs.Coded.{codes};
+    ghost use Rattle.serde_json.specs.contracts.value.Value as tree_value;
+    ghost use Rattle.serde_json.specs.declared.value.Value.{Value as Tree};
+    ghost use Rattle.erd_check.specs.Shapes.{IsFaultless};
+
+    ghost Value = { Tree };
+
+    ghost coded = { Prim.hlevel (codes, tree_value.the_row.coded) };
+
+    ghost view = { λ s. s.tree.now };
+
+    ghost invariant = { λ s. IsFaultless s.tree.now };
+}
+
+impl<'a> Shaped<'a> {
+    /// The report that was handed in. It has no fault of the shape.
+    pub fn tree(&self) -> &'a Value
+        ensures tree { result.now ≡ self.now }
+        ensures faultless { IsFaultless result.now }
+    {
+        self.tree
+    }
+}
+
+/// Takes a report whose shape has no fault, or refuses it with all its faults of the shape, of which there is one at
+/// least. The report is nested at most 127 deep, as each is that `serde_json` reads.
+pub fn shape<'a>(alloc: Global, tree: &'a Value) -> Result<Shaped<'a>, CheckError>
+    requires nests { IsShallow (view tree.now) }
+    ensures tree { IfOk result (λ s. s ≡ tree.now) }
+    ensures ok { IfOk result (λ _. IsFaultless tree.now) }
+    ensures refused { IfErr result (RefusedFor (ShapeFault (view tree.now))) }
+{
+    let list = faults(alloc, tree)?;
+    if list.len() == 0 {
+        Ok(Shaped { tree })
+    } else {
+        Err(CheckError::Faults(list))
+    }
+}
