@@ -72,5 +72,6 @@ program 'a report that is not judged yet' examples/small-ballot.json 1 "$work/em
 program 'no JSON' tests/refuse.c 2 "$work/empty" $'not JSON\n'
 one_test tests::refused::refused_canonical
 one_test tests::refused::refused_run
+one_test tests::refused::refused_shape
 
 counts

@@ -12,7 +12,7 @@ use std::alloc::Global;
 use std::marker::Model;
 
 /// A report whose shape has no fault. It borrows the report, and is seen by contracts as it.
-#[derive(Debug)]
+#[derive(Debug, Drop)]
 pub struct Shaped<'a> {
     tree: &'a Value,
 }

@@ -1,3 +1,5 @@
 mod devices;
+mod edits;
 mod refused;
 mod reports;
+mod shape;

@@ -1,8 +1,11 @@
 //! Calls whose memory may be refused: `tests/refusals.sh` refuses each request of memory in turn.
-use crate::vectors::{ONE_UNIT, ONE_UNIT_CANONICAL};
+use crate::vectors::{ONE_UNIT, ONE_UNIT_CANONICAL, THREE_SHAPE_FAULT_LINES, THREE_SHAPE_FAULTS};
 use crate::writers::PageWriter;
 use erd_canon::{Outcome, ReadFrom, Refusal, RunFault, WriteTo, canonical, run_canon};
-use std::alloc::Global;
+use erd_check::{CheckError, shape};
+use erd_tables::FaultList;
+use serde_json::Value;
+use std::alloc::{AllocError, Global};
 
 // What came of a call.
 #[derive(Clone, Copy, PartialEq, Eq)]
@@ -49,6 +52,34 @@ fn run(alloc: Global) -> Answer {
     }
 }
 
+// Whether the list has these lines, each with its line end.
+fn has_lines(alloc: Global, faults: &FaultList, wanted: &str) -> Result<bool, AllocError> {
+    let mut text = String::new(alloc);
+    for index in 0..faults.len() {
+        if let Some(fault) = faults.get(index) {
+            let line = fault.line(alloc)?;
+            text.push_str(line.as_str())?;
+            text.push('\n')?;
+        }
+    }
+    Ok(text.as_str() == wanted)
+}
+
+fn shape_faults(alloc: Global) -> Answer {
+    let Ok(tree) = Value::from_str(alloc, THREE_SHAPE_FAULTS) else {
+        return Answer::WantsMemory;
+    };
+    match shape(alloc, &tree) {
+        Ok(_) => Answer::Wrong,
+        Err(CheckError::Memory) => Answer::WantsMemory,
+        Err(CheckError::Faults(faults)) => match has_lines(alloc, &faults, THREE_SHAPE_FAULT_LINES) {
+            Ok(true) => Answer::Right,
+            Ok(false) => Answer::Wrong,
+            Err(_) => Answer::WantsMemory,
+        },
+    }
+}
+
 #[test]
 fn refused_canonical(rt: HostRuntime) {
     let first = bytes(rt.alloc());
@@ -60,5 +91,12 @@ fn refused_canonical(rt: HostRuntime) {
 fn refused_run(rt: HostRuntime) {
     let first = run(rt.alloc());
     let second = run(rt.alloc());
+    assert!(rt; is_pair(first, second));
+}
+
+#[test]
+fn refused_shape(rt: HostRuntime) {
+    let first = shape_faults(rt.alloc());
+    let second = shape_faults(rt.alloc());
     assert!(rt; is_pair(first, second));
 }

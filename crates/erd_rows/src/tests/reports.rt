@@ -1,17 +1,11 @@
 //! What is answered for reports.
+use crate::tests::edits::edited;
 use crate::vectors::{ONE_UNIT, ONE_UNIT_CANONICAL, SMALL_BALLOT};
 use erd_canon::{Outcome, Refusal, RunFault, canonical};
-use std::alloc::Global;
 use std::test::Fail;
 
 const SECOND_UNIT: &str =
     "\"@type\":\"ElectionResults.ReportingUnit\",\"ExternalIdentifier\":[{\"@type\":\"ElectionResults.ExternalIdentifier\",\"Type\":\"local-level\",\"Value\":\"U2\"}],\"Type\":\"county\"},";
-
-// The text with the first `from` replaced.
-fn edited(alloc: Global, text: &str, from: &str, to: &str) -> Result<String, Fail> {
-    let (before, after) = text.split_once(from).ok_or("no such text")?;
-    Ok(format!(in alloc; "{before}{to}{after}")?)
-}
 
 #[test]
 fn one_unit(rt: HostRuntime) -> Result<(), Fail> {

@@ -1,0 +1,471 @@
+//! Faults of the shape, by their lines.
+use crate::tests::edits::edited;
+use crate::vectors::{
+    ONE_UNIT, SMALL_BALLOT, SMALL_BALLOT_CANONICAL, THREE_SHAPE_FAULT_LINES, THREE_SHAPE_FAULTS,
+};
+use erd_check::{CheckError, faults, same_json, shape};
+use erd_tables::{Fault, FaultList, Place, Reason, Step, Text, pointer};
+use serde_json::Value;
+use std::alloc::Global;
+use std::test::Fail;
+
+// The unit's identifiers in the report with one unit, and the entry twice.
+const IDENTIFIER: &str =
+    r#"[{"@type":"ElectionResults.ExternalIdentifier","Type":"local-level","Value":"U1"}]"#;
+
+const IDENTIFIER_TWICE: &str =
+    r#"[{"@type":"ElectionResults.ExternalIdentifier","Type":"local-level","Value":"U1"},{"@type":"ElectionResults.ExternalIdentifier","Type":"local-level","Value":"U1"}]"#;
+
+// The lines of a list of faults, each with its line end.
+fn lines(alloc: Global, faults: &FaultList) -> Result<String, Fail> {
+    let mut text = String::new(alloc);
+    for index in 0..faults.len() {
+        let fault = faults.get(index).ok_or("no such fault")?;
+        let line = fault.line(alloc)?;
+        text.push_str(line.as_str())?;
+        text.push('\n')?;
+    }
+    Ok(text)
+}
+
+// A report, an edit of it, and its fault lines.
+type Case = (&'static str, &'static str, &'static str, &'static str);
+
+// Each edited report has these fault lines.
+fn all_hold(alloc: Global, cases: &[Case]) -> Result<(), Fail> {
+    for (report, from, to, wanted) in cases {
+        let report = edited(alloc, report, from, to)?;
+        let found = fault_lines(alloc, report.as_str())?;
+        if found.as_str() != *wanted {
+            let text = format!(in alloc; "with {to}: {found}")?;
+            return Err(Fail::from(text));
+        }
+    }
+    Ok(())
+}
+
+// The fault lines of a report, by `faults` and by `shape`.
+fn fault_lines(alloc: Global, report: &str) -> Result<String, Fail> {
+    let tree = Value::from_str(alloc, report)?;
+    let found = faults(alloc, &tree)?;
+    let found = lines(alloc, &found)?;
+    let refused = match shape(alloc, &tree) {
+        Ok(shaped) => {
+            if !same_json(shaped.tree(), &tree) {
+                return Err(Fail::from("another tree"));
+            }
+            String::new(alloc)
+        }
+        Err(CheckError::Faults(list)) => lines(alloc, &list)?,
+        Err(CheckError::Memory) => return Err(Fail::from("no memory")),
+    };
+    if found.as_str() != refused.as_str() {
+        return Err(Fail::from("two answers"));
+    }
+    Ok(found)
+}
+
+#[test]
+fn accepted_shapes(rt: HostRuntime) -> Result<(), Fail> {
+    all_hold(
+        rt.alloc(),
+        &[
+            (ONE_UNIT, "U1", "U1", ""),
+            (SMALL_BALLOT, "U1", "U1", ""),
+            (SMALL_BALLOT_CANONICAL, "U1", "U1", ""),
+        ],
+    )
+}
+
+#[test]
+fn three_shape_faults(rt: HostRuntime) -> Result<(), Fail> {
+    let found = fault_lines(rt.alloc(), THREE_SHAPE_FAULTS)?;
+    assert_eq!(rt; found.as_str(), THREE_SHAPE_FAULT_LINES);
+    Ok(())
+}
+
+#[test]
+fn root_kinds(rt: HostRuntime) -> Result<(), Fail> {
+    for (report, wanted) in [
+        ("[]", ": wrong kind\n"),
+        ("{}", ": missing member @type\n"),
+        (
+            r#"{"@type":"ElectionResults.ElectionReport"}"#,
+            ": missing member Election\n: missing member Status\n",
+        ),
+    ] {
+        let found = fault_lines(rt.alloc(), report)?;
+        assert_eq!(rt; found.as_str(), wanted);
+    }
+    Ok(())
+}
+
+#[test]
+fn reporting_device(rt: HostRuntime) -> Result<(), Fail> {
+    all_hold(
+        rt.alloc(),
+        &[(
+            ONE_UNIT,
+            "ElectionResults.ReportingUnit",
+            "ElectionResults.ReportingDevice",
+            "/GpUnit/0/@type: wrong class\n",
+        )],
+    )
+}
+
+#[test]
+fn status_and_election_count(rt: HostRuntime) -> Result<(), Fail> {
+    let alloc = rt.alloc();
+    all_hold(
+        alloc,
+        &[(
+            ONE_UNIT,
+            "pre-election",
+            "certified",
+            "/Status: not pre-election\n",
+        )],
+    )?;
+    let (before, elections) = ONE_UNIT.split_once("\"Election\":[").ok_or("no election")?;
+    let election = elections.strip_suffix("]}").ok_or("no end")?;
+    let none = format!(in alloc; "{before}\"Election\":[]}}")?;
+    let two = format!(in alloc; "{before}\"Election\":[{election},{election}]}}")?;
+    for report in [none.as_str(), two.as_str()] {
+        let found = fault_lines(alloc, report)?;
+        assert_eq!(rt; found.as_str(), "/Election: wrong number of elections\n");
+    }
+    Ok(())
+}
+
+#[test]
+fn empty_and_repeated(rt: HostRuntime) -> Result<(), Fail> {
+    all_hold(
+        rt.alloc(),
+        &[
+            (
+                SMALL_BALLOT,
+                r#""GpUnitIds":["a2"]"#,
+                r#""GpUnitIds":[]"#,
+                "/Election/0/BallotStyle/0/GpUnitIds: empty array\n",
+            ),
+            // A repeated reference is told with the references, where each has its target.
+            (
+                SMALL_BALLOT,
+                r#""GpUnitIds":["a2"]"#,
+                r#""GpUnitIds":["a2","a2"]"#,
+                "",
+            ),
+            (
+                ONE_UNIT,
+                IDENTIFIER,
+                IDENTIFIER_TWICE,
+                "/GpUnit/0/ExternalIdentifier/1: repeated\n",
+            ),
+            // Equal to two earlier ones, and told once each; members stand in any order.
+            (
+                ONE_UNIT,
+                IDENTIFIER,
+                r#"[{"@type":"ElectionResults.ExternalIdentifier","Type":"local-level","Value":"U1"},{"Value":"U1","@type":"ElectionResults.ExternalIdentifier","Type":"local-level"},{"Type":"local-level","@type":"ElectionResults.ExternalIdentifier","Value":"U1"}]"#,
+                "/GpUnit/0/ExternalIdentifier/1: repeated\n/GpUnit/0/ExternalIdentifier/2: repeated\n",
+            ),
+            // Two faults of one entry, by the numbers of their reasons.
+            (
+                ONE_UNIT,
+                IDENTIFIER,
+                r#"["a","a"]"#,
+                "/GpUnit/0/ExternalIdentifier/0: wrong kind\n/GpUnit/0/ExternalIdentifier/1: wrong kind\n/GpUnit/0/ExternalIdentifier/1: repeated\n",
+            ),
+            // A number that is not whole is equal to none.
+            (
+                ONE_UNIT,
+                IDENTIFIER,
+                "[1.5,1.5]",
+                "/GpUnit/0/ExternalIdentifier/0: wrong kind\n/GpUnit/0/ExternalIdentifier/1: wrong kind\n",
+            ),
+            // The repetition comes before the faults inside the entry.
+            (
+                ONE_UNIT,
+                IDENTIFIER,
+                r#"[{"@type":"ElectionResults.ExternalIdentifier","Type":7,"Value":"U1"},{"@type":"ElectionResults.ExternalIdentifier","Type":7,"Value":"U1"}]"#,
+                "/GpUnit/0/ExternalIdentifier/0/Type: wrong kind\n/GpUnit/0/ExternalIdentifier/1: repeated\n/GpUnit/0/ExternalIdentifier/1/Type: wrong kind\n",
+            ),
+        ],
+    )
+}
+
+#[test]
+fn required_members(rt: HostRuntime) -> Result<(), Fail> {
+    all_hold(
+        rt.alloc(),
+        &[
+            (
+                ONE_UNIT,
+                r#","Value":"U1""#,
+                "",
+                "/GpUnit/0/ExternalIdentifier/0: missing member Value\n",
+            ),
+            (
+                ONE_UNIT,
+                r#""Name":"Test""#,
+                r#""Name":{"@type":"ElectionResults.InternationalizedText","Text":[]}"#,
+                "/Election/0/Name/Text: empty array\n",
+            ),
+            // Several at one place, by their names.
+            (
+                ONE_UNIT,
+                r#""Name":"Test","Type":"general","StartDate":"2026-11-03","EndDate":"2026-11-03","#,
+                "",
+                "/Election/0: missing member EndDate\n/Election/0: missing member Name\n/Election/0: missing member StartDate\n/Election/0: missing member Type\n",
+            ),
+        ],
+    )
+}
+
+#[test]
+fn outside_members(rt: HostRuntime) -> Result<(), Fail> {
+    all_hold(
+        rt.alloc(),
+        &[
+            (
+                SMALL_BALLOT,
+                r#""@id":"a9","#,
+                r#""@id":"a9","VoteCounts":[],"#,
+                "",
+            ),
+            (
+                SMALL_BALLOT,
+                r#""@id":"a9","#,
+                r#""@id":"a9","VoteCounts":[{}],"#,
+                "/Election/0/Contest/0/ContestSelection/0/VoteCounts: outside the profile\n",
+            ),
+            (
+                ONE_UNIT,
+                "{",
+                r#"{"a/b~c":1.5,"#,
+                "/a~1b~0c: not a whole number\n",
+            ),
+            (
+                SMALL_BALLOT,
+                r#""@id":"a8","#,
+                r#""@id":"a8","OtherCounts":[],"#,
+                "",
+            ),
+            (
+                SMALL_BALLOT,
+                r#""@id":"a8","#,
+                r#""@id":"a8","OtherCounts":null,"#,
+                "/Election/0/Contest/0/OtherCounts: outside the profile\n",
+            ),
+            // Under another class the member is carried.
+            (
+                SMALL_BALLOT,
+                r#""@id":"a9","#,
+                r#""@id":"a9","OtherCounts":[{}],"#,
+                "",
+            ),
+            // Nothing is sought inside.
+            (
+                ONE_UNIT,
+                "{",
+                r#"{"OfficeGroup":[{"a":1.5,"@id":"u7"}],"#,
+                "/OfficeGroup: outside the profile\n",
+            ),
+        ],
+    )
+}
+
+#[test]
+fn identity_where_none_belongs(rt: HostRuntime) -> Result<(), Fail> {
+    all_hold(
+        rt.alloc(),
+        &[
+            (
+                ONE_UNIT,
+                "{",
+                r#"{"FooId":"u7","#,
+                "/FooId: unknown reference\n",
+            ),
+            (
+                ONE_UNIT,
+                r#""@id":"u7","#,
+                r#""@id":"u7","ContactInformation":{"OwnerIds":["u7"]},"#,
+                "/GpUnit/0/ContactInformation/OwnerIds: carried identity\n",
+            ),
+            (
+                ONE_UNIT,
+                r#"[{"@type":"ElectionResults.Election","#,
+                r#"[{"@id":"e","@type":"ElectionResults.Election","#,
+                "/Election/0/@id: carried identity\n",
+            ),
+            // Nothing is sought inside, and other endings are no references.
+            (
+                ONE_UNIT,
+                "{",
+                r#"{"FooId":{"a":1.5},"#,
+                "/FooId: unknown reference\n",
+            ),
+            (ONE_UNIT, "{", r#"{"fooid":"u7","Idle":"u7","#, ""),
+            (
+                ONE_UNIT,
+                "{",
+                r#"{"a":{"Id":1.5},"#,
+                "/a/Id: carried identity\n",
+            ),
+        ],
+    )
+}
+
+#[test]
+fn whole_numbers(rt: HostRuntime) -> Result<(), Fail> {
+    all_hold(
+        rt.alloc(),
+        &[
+            (
+                SMALL_BALLOT,
+                r#""VotesAllowed":1"#,
+                r#""VotesAllowed":1.5"#,
+                "/Election/0/Contest/0/VotesAllowed: not a whole number\n",
+            ),
+            (
+                SMALL_BALLOT,
+                r#""VotesAllowed":1"#,
+                r#""VotesAllowed":1e0"#,
+                "/Election/0/Contest/0/VotesAllowed: not a whole number\n",
+            ),
+            (
+                SMALL_BALLOT,
+                r#""VotesAllowed":1"#,
+                r#""VotesAllowed":-1"#,
+                "",
+            ),
+            // Inside carried values, however deep.
+            (
+                ONE_UNIT,
+                "{",
+                r#"{"a":{"b":[0,{"c":[1.5]}]},"#,
+                "/a/b/1/c/0: not a whole number\n",
+            ),
+        ],
+    )
+}
+
+#[test]
+fn nothing_further(rt: HostRuntime) -> Result<(), Fail> {
+    all_hold(
+        rt.alloc(),
+        &[
+            // Below a wrong kind.
+            (
+                ONE_UNIT,
+                r#""Type":"county""#,
+                r#""Type":{"a":1.5}"#,
+                "/GpUnit/0/Type: wrong kind\n",
+            ),
+            // In an object without `@type`, with another kind of it, or of another class.
+            (
+                ONE_UNIT,
+                r#""@type":"ElectionResults.ReportingUnit","Type":"county""#,
+                r#""Type":1.5"#,
+                "/GpUnit/0: missing member @type\n",
+            ),
+            (
+                ONE_UNIT,
+                r#""@type":"ElectionResults.ReportingUnit","Type":"county""#,
+                r#""@type":1.5,"Type":1.5"#,
+                "/GpUnit/0/@type: wrong kind\n",
+            ),
+            (
+                ONE_UNIT,
+                r#""@type":"ElectionResults.ReportingUnit","Type":"county""#,
+                r#""@type":"ElectionResults.Party","Type":1.5"#,
+                "/GpUnit/0/@type: wrong class\n",
+            ),
+        ],
+    )
+}
+
+// Members that the table lists under another class are carried: they may be empty, and repeat entries.
+#[test]
+fn carried_members(rt: HostRuntime) -> Result<(), Fail> {
+    all_hold(
+        rt.alloc(),
+        &[
+            (
+                ONE_UNIT,
+                r#""@id":"u7","#,
+                r#""@id":"u7","Text":[],"ContestSelection":["a","a"],"#,
+                "",
+            ),
+            (
+                ONE_UNIT,
+                r#""@id":"u7","#,
+                r#""@id":"u7","Text":[{"@type":7,"@id":"u7"}],"#,
+                "/GpUnit/0/Text/0/@id: carried identity\n",
+            ),
+        ],
+    )
+}
+
+#[test]
+fn names_in_pointers(rt: HostRuntime) -> Result<(), Fail> {
+    all_hold(
+        rt.alloc(),
+        &[
+            (ONE_UNIT, "{", r#"{"":1.5,"#, "/: not a whole number\n"),
+            (
+                ONE_UNIT,
+                "{",
+                r#"{"~1/~0":1.5,"#,
+                "/~01~1~00: not a whole number\n",
+            ),
+            (
+                ONE_UNIT,
+                "{",
+                r#"{"\u00e9\u20ac\n":1.5,"#,
+                "/\u{e9}\u{20ac}\n: not a whole number\n",
+            ),
+            // By the bytes of the names themselves, which `~` and `/` stand in as they are.
+            (
+                ONE_UNIT,
+                "{",
+                r#"{"a":{"b":1.5},"a0":1.5,"a/":1.5,"#,
+                "/a/b: not a whole number\n/a~1: not a whole number\n/a0: not a whole number\n",
+            ),
+        ],
+    )
+}
+
+#[test]
+fn pointers(rt: HostRuntime) -> Result<(), Fail> {
+    let alloc = rt.alloc();
+    let whole = pointer(alloc, &Place::of(Vec::new(alloc)))?;
+    assert_eq!(rt; whole.as_str(), "");
+    let name = Text::of(String::from_str(alloc, "GpUnit")?);
+    let place = Place::of(vec![in alloc; Step::Name(name), Step::At(10)]?);
+    let text = pointer(alloc, &place)?;
+    assert_eq!(rt; text.as_str(), "/GpUnit/10");
+    let fault = Fault {
+        place,
+        reason: Reason::DuplicateId,
+    };
+    let line = fault.line(alloc)?;
+    assert_eq!(rt; line.as_str(), "/GpUnit/10: @id used twice");
+    Ok(())
+}
+
+// A report may be nested as deep as `serde_json` reads: 127 arrays and objects.
+#[test]
+fn deepest_nesting(rt: HostRuntime) -> Result<(), Fail> {
+    let alloc = rt.alloc();
+    for (arrays, is_read) in [(126, true), (127, false)] {
+        let open = "[".repeat(alloc, arrays)?;
+        let close = "]".repeat(alloc, arrays)?;
+        let member = format!(in alloc; "{{\"Depth\":{open}{close},")?;
+        let report = edited(alloc, ONE_UNIT, "{", member.as_str())?;
+        assert_eq!(rt; Value::from_str(alloc, report.as_str()).is_ok(), is_read);
+        if is_read {
+            let found = fault_lines(alloc, report.as_str())?;
+            assert_eq!(rt; found.as_str(), "");
+        }
+    }
+    Ok(())
+}
