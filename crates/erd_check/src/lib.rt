@@ -4,7 +4,7 @@
 mod equality;
 pub mod error;
 mod judge;
-mod path;
+pub mod path;
 mod shape_faults;
 mod shaped;
 mod walk;

@@ -4,3 +4,5 @@ pub mod RecordExamples
 mod LaterFaultExamples
 pub mod Phases
 pub mod WholeRecords
+pub mod Lists
+pub mod MetObjects

@@ -1,0 +1,13 @@
+use Rattle.std.proofs.Common.{◌≡◌, drop, map}
+use Rattle.std.specs.List.{flat_map}
+use Rattle.serde_json.specs.View.{view}
+use Rattle.erd_check.specs.Paths.{steps_of}
+use Rattle.erd_meaning.specs.Objects.{placed_from}
+use Rattle.erd_meaning.specs.ObjectWalk.{election_located, met_all}
+use Rattle.erd_meaning.specs.Shown.{met_of}
+use Rattle.erd_meaning.proofs.object_walk.meet_elections.Given as goal
+
+abbrev pub invariant-loop-index : goal.invariant-loop-index
+invariant-loop-index l =
+    met_all (met_of l.walk) (flat_map election_located (placed_from (steps_of l.elections) l.index (map view (drop l.index l.election-items))))
+    ≡ met_all (met_of l.initial.walk) (flat_map election_located (placed_from (steps_of l.elections) 0 (map view l.election-items)))

@@ -1,0 +1,114 @@
+-- The objects of a report in the order of their places, as the program goes over them, with the faults of identity that it
+-- tells on the way. It is no definition of the profile: that the objects are those of `objects`, and the faults those of
+-- `IdentityFault`, is proved in `IdentityFaults`.
+use Rattle.std.specs.Prelude.{ℕ, List, [], ◌∷◌, ◌++◌, Bool, true, false, ◌&&◌, ◌==◌, if◌then◌else◌, Option, Some, None, map, codes, is_none, flat_map}
+use Rattle.std.specs.List.{list_any}
+use Rattle.std.specs.Ordering.{is_eq}
+use Rattle.std.specs.Str.{bytes_eq}
+use Rattle.serde_json.specs.Data.{Data}
+use Rattle.serde_json.specs.View.{view}
+use Rattle.erd_tables.specs.Classes.{family_number}
+use Rattle.erd_tables.specs.declared.class.Family.{Family}
+use Rattle.erd_tables.specs.declared.class.Family.TheVariants as family
+use Rattle.erd_tables.specs.declared.fault.Fault.{Fault}
+use Rattle.erd_tables.specs.declared.fault.Reason.TheVariants.{NoIdentifier, TwinIdentifier, DuplicateId}
+use Rattle.erd_tables.specs.declared.place.Step.{Step}
+use Rattle.erd_tables.specs.declared.place.Step.TheVariants.{Name}
+use Rattle.erd_check.specs.Paths.{fault_at}
+use Rattle.erd_meaning.specs.Keys.{has_keys, key_cmp, key_of}
+use Rattle.erd_meaning.specs.Objects.{Placed, elections, id_of, placed_entries, report_of, selections_of}
+use Rattle.erd_meaning.specs.declared.key.Key.{Key}
+
+-- ---- objects
+
+-- what is kept of an object: its family, its value, its key if the family has keys, its `@id`
+pub record Kept : Type 0 where
+  pub family : Family
+  pub value : Data
+  pub key : Option Key
+  pub id : Option (List ℕ)
+
+-- the key that is kept of an object of a family
+abbrev pub kept_key : Family → Data → Option Key
+kept_key f d = if has_keys f then key_of d else None
+
+-- an object of a family
+abbrev pub kept : Family → Data → Kept
+kept f d = record { family = f; value = d; key = kept_key f d; id = id_of d }
+
+-- an object and its place
+abbrev pub Located : Type 0
+Located = List Step × Kept
+
+-- objects of one family
+abbrev pub located : Family → List Placed → List Located
+located f os = map (λ o. (o.place, kept f o.value)) os
+
+-- a contest and its selections
+abbrev pub contest_located : Placed → List Located
+contest_located o = (o.place, kept family.Contest o.value) ∷ located family.Selection (selections_of o)
+
+-- the objects of an election
+abbrev pub election_located : Placed → List Located
+election_located e =
+    located family.Style (placed_entries (codes "BallotStyle") e)
+    ++ (located family.Candidate (placed_entries (codes "Candidate") e) ++ flat_map contest_located (placed_entries (codes "Contest") e))
+
+-- the objects of a report outside its elections
+abbrev pub shared_located : Placed → List Located
+shared_located r =
+    located family.Unit (placed_entries (codes "GpUnit") r)
+    ++ (located family.Header (placed_entries (codes "Header") r)
+    ++ (located family.Office (placed_entries (codes "Office") r)
+    ++ (located family.Party (placed_entries (codes "Party") r) ++ located family.Person (placed_entries (codes "Person") r))))
+
+-- the objects of a report
+abbrev pub all_located : Data → List Located
+all_located t = flat_map election_located (elections t) ++ shared_located (report_of t)
+
+-- ---- faults
+
+-- one key
+abbrev pub same_key : Option Key → Option Key → Bool
+same_key (Some a) (Some b) = is_eq (key_cmp a b)
+same_key a b = false
+
+-- one `@id`
+abbrev pub same_id : Option (List ℕ) → Option (List ℕ) → Bool
+same_id (Some a) (Some b) = bytes_eq a b
+same_id a b = false
+
+-- two objects of one family with one key
+abbrev pub has_same_key : Kept → Kept → Bool
+has_same_key a b = (family_number a.family == family_number b.family) && same_key a.key b.key
+
+-- two objects with one `@id`
+abbrev pub has_same_id : Kept → Kept → Bool
+has_same_id a b = same_id a.id b.id
+
+-- a fault, where the test holds
+abbrev pub fault_if : Bool → Fault → List Fault
+fault_if b f = if b then f ∷ [] else []
+
+-- the faults of an object after these earlier ones
+abbrev pub faults_after : List Kept → List Step → Kept → List Fault
+faults_after earlier p k =
+    fault_if (has_keys k.family && is_none k.key) (fault_at p NoIdentifier)
+    ++ (fault_if (list_any (has_same_key k) earlier) (fault_at p TwinIdentifier)
+    ++ fault_if (list_any (has_same_id k) earlier) (fault_at (p ++ Name (codes "@id") ∷ []) DuplicateId))
+
+-- ---- the walk
+
+-- the objects that were met, and their faults
+pub record Met : Type 0 where
+  pub objects : List Kept
+  pub faults : List Fault
+
+-- one more object
+abbrev pub met_one : Met → Located → Met
+met_one m x = record { objects = m.objects ++ x.1 ∷ []; faults = m.faults ++ faults_after m.objects x.0 x.1 }
+
+-- more objects, one after another
+abbrev pub met_all : Met → List Located → Met
+met_all m [] = m
+met_all m (x ∷ xs) = met_all (met_one m x) xs

@@ -1,0 +1,22 @@
+-- What the objects that the program keeps stand for.
+use Rattle.std.specs.Prelude.{List, map, option_map}
+use Rattle.serde_json.specs.View.{view}
+use Rattle.erd_meaning.specs.ObjectWalk.{Kept, Met}
+use Rattle.erd_check.specs.Paths.{steps_of}
+use Rattle.erd_check.specs.declared.path.Path.{Path}
+use Rattle.serde_json.specs.declared.value.Value.{Value}
+use Rattle.erd_meaning.specs.Objects.{Placed}
+use Rattle.erd_meaning.specs.declared.object.Object.{Object}
+use Rattle.erd_meaning.specs.declared.object_walk.ObjectWalk.{ObjectWalk}
+
+-- an object as it is kept
+abbrev pub shown : Object → Kept
+shown o = record { family = o.family; value = view o.value.now; key = o.key; id = option_map (λ s. s.now) o.id }
+
+-- what the walk has met
+abbrev pub met_of : ObjectWalk → Met
+met_of w = record { objects = map shown w.objects.items; faults = w.faults.items }
+
+-- a value at the place of a path
+abbrev pub placed_at : Path → Value → Placed
+placed_at p v = record { place = steps_of p; value = view v }

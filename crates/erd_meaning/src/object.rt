@@ -1,0 +1,41 @@
+ghost use Rattle.std.specs.Prelude.{◌≡◌};
+ghost use Rattle.erd_meaning.specs.ObjectWalk.{has_same_key, has_same_id};
+ghost use Rattle.erd_meaning.specs.Shown.{shown};
+
+use crate::key::Key;
+use erd_tables::Family;
+use serde_json::Value;
+
+/// An object of a family, with its key, if its family has keys, and its `@id`.
+#[derive(Debug, Drop)]
+pub(crate) struct Object<'a> {
+    pub(crate) family: Family,
+    pub(crate) value: &'a Value,
+    pub(crate) key: Option<Key>,
+    pub(crate) id: Option<&'a str>,
+}
+
+impl<'a> Object<'a> {
+    /// Whether two objects are of one family and have one key.
+    pub(crate) fn is_twin(&self, other: &Object) -> bool
+        ensures { result ≡ has_same_key (shown self.now) (shown other.now) }
+    {
+        if self.family != other.family {
+            return false;
+        }
+        match (&self.key, &other.key) {
+            (Some(key), Some(other)) => key.cmp(other).is_eq(),
+            _ => false,
+        }
+    }
+
+    /// Whether two objects have one `@id`.
+    pub(crate) fn has_id_of(&self, other: &Object) -> bool
+        ensures { result ≡ has_same_id (shown self.now) (shown other.now) }
+    {
+        match (self.id, other.id) {
+            (Some(id), Some(other)) => id == other,
+            _ => false,
+        }
+    }
+}
