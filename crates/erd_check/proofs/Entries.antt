@@ -1,10 +1,15 @@
 -- The kinds of JSON values, and the entries of arrays.
-use Rattle.std.proofs.Common.{◌≡◌, ℕ, zero, suc, List, Some, true, refl, ap, ap₂, subst, ◌⊎◌, inl, inr, ⊎_elim}
+use Rattle.std.proofs.Common.{◌≡◌, ℕ, zero, suc, List, [], Option, Some, true, refl, ap, ap₂, subst, ◌⊎◌, inl, inr, ⊎_elim}
+use Rattle.std.specs.Option.{option_map_or}
 use Rattle.serde_json.specs.Data.{Data, string, array, object, Items, no_items, item, Members}
 use Rattle.serde_json.specs.Find.{get_item}
-use Rattle.erd_check.specs.Trees.{list_of_items, IsTree, AreTrees}
+use Rattle.erd_check.specs.Trees.{list_of_items, entries_of, IsTree, AreTrees}
 use Rattle.erd_check.specs.Faults.{is_array, is_object, is_text}
 use Rattle.erd_check.proofs.Rising.{Has, Has-cases}
+
+-- the entries of an array that may be absent
+abbrev pub entries_in : Option Data → List Data
+entries_in o = option_map_or entries_of o []
 
 pub object_from : (d : Data) → is_object d ≡ true → (ms : Members) × (d ≡ object ms)
 object_from (object ms) e = (ms, refl)

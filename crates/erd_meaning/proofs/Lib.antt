@@ -3,4 +3,9 @@ mod NameExamples
 pub mod RecordExamples
 mod LaterFaultExamples
 pub mod Phases
+pub mod Orders
+pub mod Sets
+pub mod References
+pub mod Skeleton
+pub mod Standing
 pub mod WholeRecords
