@@ -7,3 +7,5 @@ pub mod Records
 pub mod Apart
 pub mod FamilyArrays
 pub mod Families
+pub mod Selections
+pub mod Agreement
