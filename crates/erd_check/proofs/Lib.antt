@@ -4,5 +4,14 @@ pub mod Reasons
 pub mod FaultsInside
 pub mod FaultLists
 pub mod Reports
+pub mod Members
+pub mod Rising
+pub mod Exact
+pub mod Entries
+pub mod Shapes
+pub mod ObjectsAt
+pub mod TableKinds
+pub mod Whole
+pub mod Clean
 mod AskedExamples
 mod FaultExamples

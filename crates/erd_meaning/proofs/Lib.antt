@@ -3,6 +3,11 @@ mod NameExamples
 pub mod RecordExamples
 mod LaterFaultExamples
 pub mod Phases
+pub mod Orders
+pub mod Sets
+pub mod References
+pub mod Skeleton
+pub mod Standing
 pub mod WholeRecords
 pub mod Lists
 pub mod MetObjects

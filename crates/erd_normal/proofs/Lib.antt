@@ -1,1 +1,11 @@
 mod CanonicalExamples
+pub mod Paired
+pub mod Arrays
+pub mod Labels
+pub mod Contents
+pub mod Records
+pub mod Apart
+pub mod FamilyArrays
+pub mod Families
+pub mod Selections
+pub mod Agreement

@@ -1,0 +1,47 @@
+-- The kinds of JSON values, and the entries of arrays.
+use Rattle.std.proofs.Common.{◌≡◌, ℕ, zero, suc, List, [], Option, Some, true, refl, ap, ap₂, subst, ◌⊎◌, inl, inr, ⊎_elim}
+use Rattle.std.specs.Option.{option_map_or}
+use Rattle.serde_json.specs.Data.{Data, string, array, object, Items, no_items, item, Members}
+use Rattle.serde_json.specs.Find.{get_item}
+use Rattle.erd_check.specs.Trees.{list_of_items, entries_of, IsTree, AreTrees}
+use Rattle.erd_check.specs.Faults.{is_array, is_object, is_text}
+use Rattle.erd_check.proofs.Rising.{Has, Has-cases}
+
+-- the entries of an array that may be absent
+abbrev pub entries_in : Option Data → List Data
+entries_in o = option_map_or entries_of o []
+
+pub object_from : (d : Data) → is_object d ≡ true → (ms : Members) × (d ≡ object ms)
+object_from (object ms) e = (ms, refl)
+object_from _ e = cc
+
+pub string_from_text : (d : Data) → is_text d ≡ true → (s : List ℕ) × (d ≡ string s)
+string_from_text (string s) e = (s, refl)
+string_from_text _ e = cc
+
+pub array_from : (d : Data) → is_array d ≡ true → (ds : Items) × (d ≡ array ds)
+array_from (array ds) e = (ds, refl)
+array_from _ e = cc
+
+pub list_of_items_exact : (ds es : Items) → list_of_items ds ≡ list_of_items es → ds ≡ es
+list_of_items_exact no_items no_items e = refl
+list_of_items_exact no_items (item d ds) e = cc
+list_of_items_exact (item d ds) no_items e = cc
+list_of_items_exact (item d ds) (item f es) e = let h : list_of_items ds ≡ list_of_items es = cc in let g : d ≡ f = cc in ap₂ item g (list_of_items_exact ds es h)
+
+pub list_of_items-place : (ds : Items) (d : Data) → Has (list_of_items ds) d → (i : ℕ) × (get_item i ds ≡ Some d)
+list_of_items-place no_items d h = elim h [ ]
+list_of_items-place (item e ds) d h = at (Has-cases e d (list_of_items ds) h) (list_of_items-place ds d)
+  where
+    at : (e ≡ d) ⊎ Has (list_of_items ds) d → (Has (list_of_items ds) d → (i : ℕ) × (get_item i ds ≡ Some d)) → (i : ℕ) × (get_item i (item e ds) ≡ Some d)
+    at (inl s) k = (zero, ap Some s)
+    at (inr h) k = (suc (k h).0, (k h).1)
+
+pub list_of_items-tree : (ds : Items) (d : Data) → AreTrees ds → Has (list_of_items ds) d → IsTree d
+list_of_items-tree no_items d tree h = elim h [ ]
+list_of_items-tree (item e ds) d tree h = ⊎_elim (λ s. subst IsTree s tree.0) (λ k. list_of_items-tree ds d tree.1 k) (Has-cases e d (list_of_items ds) h)
+
+pub get_item-tree : (i : ℕ) (v : Data) (ds : Items) → AreTrees ds → get_item i ds ≡ Some v → IsTree v
+get_item-tree i v no_items tree e = cc
+get_item-tree zero v (item d ds) tree e = let h : d ≡ v = cc in subst IsTree h tree.0
+get_item-tree (suc i) v (item d ds) tree e = get_item-tree i v ds tree.1 e

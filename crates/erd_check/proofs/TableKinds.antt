@@ -1,0 +1,76 @@
+-- What kinds the table has for a class.
+use Rattle.std.proofs.Common.{◌≡◌, ℕ, List, [], ◌∷◌, unwrap_or, Bool, true, false, ◌&&◌, cond, codes, refl, sym, ap, ◌∙◌}
+use Rattle.std.specs.List.{list_all}
+use Rattle.std.specs.Str.{bytes_eq}
+use Rattle.erd_tables.specs.Rows.{Row, rows_of_class}
+use Rattle.erd_tables.specs.Table.{kind_in_rows, kind_of_unlisted, kind_of_identity, is_reference_name, kind_of_member, is_required}
+use Rattle.erd_tables.specs.declared.class.Class.{Class}
+use Rattle.erd_tables.specs.declared.member.MemberKind.{MemberKind}
+use Rattle.erd_tables.specs.declared.class.Class.TheVariants as class
+use Rattle.erd_tables.specs.declared.member.MemberKind.TheVariants as kind
+use Rattle.erd_check.specs.Wants.{is_report_class, want_of_kind, member_want}
+use Rattle.erd_check.proofs.Exact.{both_true, text_exact}
+
+cond_keeps : {A : Type 0} (P : A → Bool) (b : Bool) (x y : A) → P x ≡ true → P y ≡ true → P (cond b x y) ≡ true
+cond_keeps P true x y h k = h
+cond_keeps P false x y h k = k
+
+-- what holds of the kinds of unlisted names holds of one
+pub kind_of_unlisted_has : (P : MemberKind → Bool) (c : Class) (name : List ℕ) → bytes_eq name (codes "@type") ≡ false
+    → P (kind_of_identity c) ≡ true → P kind.StrangeReference ≡ true → P kind.Carried ≡ true → P (kind_of_unlisted c name) ≡ true
+kind_of_unlisted_has P c name other id reference carried =
+    rw other
+    (cond_keeps P (bytes_eq name (codes "@id")) (kind_of_identity c) _ id
+    (cond_keeps P (is_reference_name name) kind.StrangeReference kind.Carried reference carried))
+
+kind_or : (Q : Row → Bool) (P : MemberKind → Bool) (other : MemberKind) (name : List ℕ) (ms : List Row) → list_all Q ms ≡ true → ((m : Row) → Q m ≡ true → bytes_eq name m.name ≡ true → P m.kind ≡ true) → P other ≡ true
+    → P (unwrap_or (kind_in_rows ms name) other) ≡ true
+kind_or Q P other name [] h each k = k
+kind_or Q P other name (m ∷ ms) h each k = at (bytes_eq name m.name) refl (kind_or Q P other name ms (both_true (Q m) _ h).1 each k)
+  where
+    at : (b : Bool) → bytes_eq name m.name ≡ b → P (unwrap_or (kind_in_rows ms name) other) ≡ true → P (unwrap_or (kind_in_rows (m ∷ ms) name) other) ≡ true
+    at true is r = rw is (each m (both_true (Q m) _ h).0 is)
+    at false is r = rw is r
+
+-- what holds of each kind in a class's lines, and of the kinds of unlisted names, holds of a member's kind
+pub kind_of_class : (P : MemberKind → Bool) (c : Class) (name : List ℕ) → bytes_eq name (codes "@type") ≡ false → list_all (λ m. P m.kind) (rows_of_class c) ≡ true
+    → P (kind_of_identity c) ≡ true → P kind.StrangeReference ≡ true → P kind.Carried ≡ true → P (kind_of_member c name) ≡ true
+kind_of_class P c name other lines id reference carried =
+    kind_or (λ m. P m.kind) P (kind_of_unlisted c name) name (rows_of_class c) lines (λ m h e. h) (kind_of_unlisted_has P c name other id reference carried)
+
+-- what each line of a class that has the name says, and the kinds of unlisted names, for a name other than `@type` and `@id`
+pub kind_of_name : (Q : Row → Bool) (P : MemberKind → Bool) (c : Class) (name : List ℕ) → bytes_eq name (codes "@type") ≡ false → bytes_eq name (codes "@id") ≡ false
+    → list_all Q (rows_of_class c) ≡ true → ((m : Row) → Q m ≡ true → bytes_eq name m.name ≡ true → P m.kind ≡ true)
+    → P kind.StrangeReference ≡ true → P kind.Carried ≡ true → P (kind_of_member c name) ≡ true
+kind_of_name Q P c name no_type no_id lines each reference carried =
+    kind_or Q P (kind_of_unlisted c name) name (rows_of_class c) lines each
+    (rw (no_type, no_id) (cond_keeps P (is_reference_name name) kind.StrangeReference kind.Carried reference carried))
+
+-- `@id` is in no class's lines
+pub kind_of_id : (c : Class) → kind_of_member c (codes "@id") ≡ kind_of_identity c
+kind_of_id class.ElectionReport = refl
+kind_of_id c = refl
+
+-- the report's `Status` alone is asked for apart
+
+abbrev pub is_word : MemberKind → Bool
+is_word kind.Word = true
+is_word k = false
+
+status_word : (c : Class) (name : List ℕ) (k : MemberKind) → kind_of_member c name ≡ k → is_word k ≡ false → (is_report_class c && bytes_eq name (codes "Status")) ≡ true → ⊥
+status_word class.ElectionReport name k e h is =
+    let s : name ≡ codes "Status" = text_exact name (codes "Status") is in
+    let w : kind.Word ≡ k = sym (ap (kind_of_member class.ElectionReport) s) ∙ e in
+    let x : true ≡ false = ap is_word w ∙ h in
+    cc
+status_word c name k e h is = cc
+
+pub want_by_kind : (c : Class) (name : List ℕ) (k : MemberKind) → kind_of_member c name ≡ k → is_word k ≡ false → member_want c name ≡ want_of_kind k (is_required c name)
+want_by_kind c name k e h = at (is_report_class c && bytes_eq name (codes "Status")) refl
+  where
+    at : (b : Bool) → (is_report_class c && bytes_eq name (codes "Status")) ≡ b → member_want c name ≡ want_of_kind k (is_required c name)
+    at true is = absurd (status_word c name k e h is)
+    at false is = rw (is, e)
+
+pub want_unless_status : (c : Class) (name : List ℕ) → (is_report_class c && bytes_eq name (codes "Status")) ≡ false → member_want c name ≡ want_of_kind (kind_of_member c name) (is_required c name)
+want_unless_status c name is = rw is

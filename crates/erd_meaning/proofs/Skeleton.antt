@@ -1,0 +1,74 @@
+-- The report and its one election, and where the objects of families stand.
+use Rattle.std.proofs.Common.{◌≡◌, ◌≢◌, ◌+◌, ℕ, List, [], ◌∷◌, ◌++◌, Option, Some, None, map, flat_map, Bool, true, false, codes, refl, sym, ap, ◌∙◌, subst, append-nil, option_map}
+use Rattle.serde_json.specs.Data.{Data, array, object, no_items, item, Members}
+use Rattle.serde_json.specs.Find.{get_member, get_item}
+use Rattle.erd_tables.specs.declared.class.Family.{Family}
+use Rattle.erd_tables.specs.declared.place.Step.{Step}
+use Rattle.erd_tables.specs.declared.place.Step.TheVariants.{At, Name}
+use Rattle.erd_tables.specs.declared.class.Class.TheVariants as class
+use Rattle.erd_tables.specs.declared.class.Family.TheVariants as family
+use Rattle.erd_tables.specs.declared.class.Role.TheVariants as role
+use Rattle.erd_tables.specs.declared.member.MemberKind.TheVariants as kind
+use Rattle.erd_tables.specs.declared.fault.Reason.TheVariants as reason
+use Rattle.erd_check.specs.declared.want.Want.TheVariants.{Member, Object}
+use Rattle.erd_check.proofs.ObjectsAt.{ObjectAt, election_class, object_at, one_entry, report_class}
+use Rattle.erd_check.proofs.Shapes.{Within, Within-root, Within-step, faultless, wanted_within, lacks_none, member_within, of_role}
+use Rattle.erd_check.specs.Wants.{asked}
+use Rattle.erd_check.proofs.Entries.{array_from}
+use Rattle.erd_meaning.specs.Accepted.{IsAccepted}
+use Rattle.erd_meaning.specs.Objects.{Placed, elections, placed_entries, placed_from}
+use Rattle.erd_meaning.specs.Keys.{entries_at, has_keys}
+use Rattle.erd_meaning.proofs.Phases.{no_shape_fault}
+
+-- the report and its one election
+pub record Skeleton (t : Data) : Type 0 where
+  pub ms : Members
+  pub is_object : t ≡ object ms
+  pub report : ObjectAt t (Object role.Report) role.Report class.ElectionReport ms
+  pub es : Members
+  pub listed_election : get_member (codes "Election") ms ≡ Some (array (item (object es) no_items))
+  pub election : ObjectAt t (Object role.Election) role.Election class.Election es
+
+pub skeleton : (t : Data) → IsAccepted t → Skeleton t
+skeleton t accepted = at (get_member (codes "Election") ms) refl
+  where
+    top : (ms : Members) × (t ≡ object ms) × ObjectAt t (Object role.Report) role.Report class.ElectionReport ms
+    top = object_at t (no_shape_fault t accepted) role.Report class.ElectionReport report_class t (Within-root t)
+
+    ms : Members
+    ms = top.0
+
+    at : (o : Option Data) → get_member (codes "Election") ms ≡ o → Skeleton t
+    at None e = absurd (lacks_none t (no_shape_fault t accepted) (asked (Object role.Report) (object ms)) (codes "Election") top.2.inside (rw top.2.typed refl) e)
+    at (Some v) e =
+        let inside : Within t (asked (Member kind.Elections true) v) = member_within t (no_shape_fault t accepted) (Object role.Report) role.Report ms class.ElectionReport (codes "Election") v of_role top.2.among refl top.2.inside e in
+        let ds = array_from v (wanted_within t (no_shape_fault t accepted) (asked (Member kind.Elections true) v) inside) in
+        let inside' : Within t (asked (Member kind.Elections true) (array ds.0)) = subst (λ x. Within t (asked (Member kind.Elections true) x)) ds.1 inside in
+        let one = one_entry ds.0 (faultless t (no_shape_fault t accepted) (asked (Member kind.Elections true) (array ds.0)) reason.ElectionCount inside') in
+        let entry : Within t (asked (Object role.Election) one.0) = Within-step t (asked (Member kind.Elections true) (array ds.0)) (asked (Object role.Election) one.0) (At 0) inside' (ap (λ ds. option_map (asked (Object role.Election)) (get_item 0 ds)) {y = item one.0 no_items} one.1) in
+        let election = object_at t (no_shape_fault t accepted) role.Election class.Election election_class one.0 entry in
+        record {
+          ms = ms;
+          is_object = top.1;
+          report = top.2;
+          es = election.0;
+          listed_election = e ∙ ap Some (ds.1 ∙ ap array (one.1 ∙ ap (λ x. item x no_items) election.1));
+          election = election.2;
+        }
+
+pub values-placed_from : (p : List Step) (i : ℕ) (ds : List Data) → map (λ o. o.value) (placed_from p i ds) ≡ ds
+values-placed_from p i [] = refl
+values-placed_from p i (d ∷ ds) = ap (◌∷◌ d) (values-placed_from p (i + 1) ds)
+
+abbrev pub the_election : Members → Placed
+the_election es = record { place = Name (codes "Election") ∷ At 0 ∷ []; value = object es }
+
+pub elections_are : (t : Data) (s : Skeleton t) → elections t ≡ the_election s.es ∷ []
+elections_are t s = rw (s.is_object, s.listed_election)
+
+pub values-placed_entries : (name : List ℕ) (o : Placed) → map (λ o. o.value) (placed_entries name o) ≡ entries_at name o.value
+values-placed_entries name o = values-placed_from (o.place ++ Name name ∷ []) 0 (entries_at name o.value)
+
+-- the objects that stand in the one election
+pub election_objects : (t : Data) (s : Skeleton t) (name : List ℕ) → flat_map (placed_entries name) (elections t) ≡ placed_entries name (the_election s.es)
+election_objects t s name = ap (flat_map (placed_entries name)) (elections_are t s) ∙ append-nil (placed_entries name (the_election s.es))
