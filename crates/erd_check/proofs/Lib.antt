@@ -3,6 +3,7 @@ pub mod Order
 pub mod Reasons
 pub mod FaultsInside
 pub mod FaultLists
+pub mod AllAsked
 pub mod Reports
 mod AskedExamples
 mod FaultExamples
