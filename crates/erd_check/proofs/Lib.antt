@@ -8,3 +8,4 @@ pub mod Deciding
 pub mod Reports
 mod AskedExamples
 mod FaultExamples
+pub mod WholeExamples
