@@ -32,7 +32,7 @@ use Rattle.erd_check.proofs.Reasons.{reasons_sound, reasons_complete, reasons_so
 same_text : (xs : List ℕ) → slice_cmp nat_cmp xs xs ≡ Equal
 same_text xs = tied_itself nat_list_cmp_total xs
 
-text_from_equal : (k l : List ℕ) → slice_cmp nat_cmp k l ≡ Equal → k ≡ l
+pub text_from_equal : (k l : List ℕ) → slice_cmp nat_cmp k l ≡ Equal → k ≡ l
 text_from_equal k l e = (bytes_eq-Decides k l).0 (sym (is_eq-slice_cmp k l) ∙ ap is_eq e)
 
 step_same : (s : Step) → step_cmp s s ≡ Equal
@@ -107,7 +107,7 @@ first_item p w is_set earlier d ds f b = record {
   faulty = subst (λ es. Faulty (asked_from (asked_with w (is_set && list_any (is_same_json d) es) d) b.rest) f.reason) (sym (append-nil earlier)) b.faulty;
 }
 
-next_index : (earlier : List Data) (d : Data) (i : ℕ) → length (earlier ++ d ∷ []) + i ≡ length earlier + suc i
+pub next_index : (earlier : List Data) (d : Data) (i : ℕ) → length (earlier ++ d ∷ []) + i ≡ length earlier + suc i
 next_index earlier d i = omega (arith, length-append earlier (d ∷ []))
 
 later_item : (p : List Step) (w : Want) (is_set : Bool) (earlier : List Data) (d : Data) (ds : Items) (f : Fault)

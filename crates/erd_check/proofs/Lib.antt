@@ -3,6 +3,8 @@ pub mod Order
 pub mod Reasons
 pub mod FaultsInside
 pub mod FaultLists
+pub mod AllAsked
+pub mod Deciding
 pub mod Reports
 pub mod Members
 pub mod Rising
@@ -15,3 +17,4 @@ pub mod Whole
 pub mod Clean
 mod AskedExamples
 mod FaultExamples
+pub mod WholeExamples

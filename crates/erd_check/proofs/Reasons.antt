@@ -22,11 +22,11 @@ use Rattle.erd_check.proofs.Order.{In, In-append, In-append_left, In-append_righ
 
 -- ---- tests
 
-and_true : (a b : Bool) → a && b ≡ true → (a ≡ true) × (b ≡ true)
+pub and_true : (a b : Bool) → a && b ≡ true → (a ≡ true) × (b ≡ true)
 and_true true b h = (refl, h)
 and_true false b h = absurd (true≢false (sym h))
 
-both_true : (a b : Bool) → a ≡ true → b ≡ true → a && b ≡ true
+pub both_true : (a b : Bool) → a ≡ true → b ≡ true → a && b ≡ true
 both_true a b p q = rw (p, q)
 
 in_head : (n x : List ℕ) (xs : List (List ℕ)) (b : Bool) → bytes_eq n x ≡ b → (list_any (bytes_eq n) xs ≡ true → In n xs) → list_any (bytes_eq n) (x ∷ xs) ≡ true → In n (x ∷ xs)

@@ -8,6 +8,8 @@ pub mod Sets
 pub mod References
 pub mod Skeleton
 pub mod Standing
+pub mod LaterFaultLists
+pub mod AcceptedExamples
 pub mod WholeRecords
 pub mod Lists
 pub mod MetObjects

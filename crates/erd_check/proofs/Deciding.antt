@@ -1,0 +1,128 @@
+-- Whether a value is a tree, by a test; of a tree the walk's list is that of all faults of the shape.
+use Rattle.std.proofs.Common.{◌≡◌, ℕ, List, [], Bool, true, false, ◌&&◌, Ordering, Less, Equal, Greater, is_lt, Option, Some, None, length, refl}
+use Rattle.std.specs.Prelude.{pos}
+use Rattle.std.proofs.lemmas.Cmp.{nat_list_cmp_total}
+use Rattle.std.specs.List.{AllByRecursion}
+use Rattle.std.specs.List.Sorted.{IsStrictlySortedBy}
+use Rattle.std.specs.Prelude.{IfSome}
+use Rattle.serde_json.specs.Data.{Num, negative, Data, null, boolean, number, string, array, object, Items, no_items, item, Members, no_members, member}
+use Rattle.erd_tables.specs.Faults.{ListsAll}
+use Rattle.erd_tables.specs.Texts.{text_cmp}
+use Rattle.erd_tables.specs.declared.class.Role.TheVariants.{Report}
+use Rattle.erd_check.specs.Faults.{ShapeFault, NoneOf}
+use Rattle.erd_check.specs.Trees.{IsBeforeFirst, IsNumber, IsTree, AreTrees, AreMembers}
+use Rattle.erd_check.specs.Walk.{names, faults_at, IsInOrder, AreItemsInOrder, AreMembersInOrder}
+use Rattle.erd_check.specs.Wants.{scope_inside, want_of_name, entry_want}
+use Rattle.erd_check.specs.declared.want.Scope.{Scope}
+use Rattle.erd_check.specs.declared.want.Want.{Want}
+use Rattle.erd_check.specs.declared.want.Want.TheVariants.{Object}
+use Rattle.erd_check.proofs.FaultLists.{no_fault_from_empty}
+use Rattle.erd_check.proofs.FaultsInside.{walk_finds_all}
+use Rattle.erd_check.proofs.Reasons.{and_true}
+
+-- ---- the test
+
+abbrev pub is_before_first : List ℕ → Members → Bool
+is_before_first k no_members = true
+is_before_first k (member l d ms) = is_lt (text_cmp k l)
+
+abbrev pub is_number : Num → Bool
+is_number (negative (pos n)) = false
+is_number n = true
+
+abbrev mutual
+  pub is_tree : Data → Bool
+  is_tree null = true
+  is_tree (boolean b) = true
+  is_tree (number n) = is_number n
+  is_tree (string s) = true
+  is_tree (array ds) = are_trees ds
+  is_tree (object ms) = are_members ms
+
+  pub are_trees : Items → Bool
+  are_trees no_items = true
+  are_trees (item d ds) = is_tree d && are_trees ds
+
+  pub are_members : Members → Bool
+  are_members no_members = true
+  are_members (member k d ms) = is_before_first k ms && (is_tree d && are_members ms)
+
+less : (o : Ordering) → is_lt o ≡ true → o ≡ Less
+less Less h = refl
+less Equal h = cc
+less Greater h = cc
+
+before_first_sound : (k : List ℕ) (ms : Members) → is_before_first k ms ≡ true → IsBeforeFirst k ms
+before_first_sound k no_members h = tt
+before_first_sound k (member l d ms) h = less (text_cmp k l) h
+
+number_sound : (n : Num) → is_number n ≡ true → IsNumber n
+number_sound (negative (pos n)) h = cc
+number_sound n h = tt
+
+mutual
+  pub tree_sound : (d : Data) → is_tree d ≡ true → IsTree d
+  tree_sound null h = tt
+  tree_sound (boolean b) h = tt
+  tree_sound (number n) h = number_sound n h
+  tree_sound (string s) h = tt
+  tree_sound (array ds) h = trees_sound ds h
+  tree_sound (object ms) h = members_sound ms h
+
+  trees_sound : (ds : Items) → are_trees ds ≡ true → AreTrees ds
+  trees_sound no_items h = tt
+  trees_sound (item d ds) h =
+      let both = and_true (is_tree d) (are_trees ds) h in
+      (tree_sound d both.0, trees_sound ds both.1)
+
+  members_sound : (ms : Members) → are_members ms ≡ true → AreMembers ms
+  members_sound no_members h = tt
+  members_sound (member k d ms) h =
+      let first = and_true (is_before_first k ms) (is_tree d && are_members ms) h in
+      let both = and_true (is_tree d) (are_members ms) first.1 in
+      (before_first_sound k ms first.0, tree_sound d both.0, members_sound ms both.1)
+
+-- ---- trees are in order
+
+before_later : (k l : List ℕ) (ms : Members) → text_cmp k l ≡ Less → IsBeforeFirst l ms → IsBeforeFirst k ms
+before_later k l no_members e h = tt
+before_later k l (member m d ms) e h = nat_list_cmp_total.trans k l m e h
+
+before_all : (k : List ℕ) (ms : Members) → IsBeforeFirst k ms → AreMembers ms → AllByRecursion (λ n. text_cmp k n ≡ Less) (names ms)
+before_all k no_members h trees = tt
+before_all k (member l d ms) h trees = (h, before_all k ms (before_later k l ms h trees.0) trees.2)
+
+names_rise : (ms : Members) → AreMembers ms → IsStrictlySortedBy text_cmp (names ms)
+unfolding IsStrictlySortedBy
+names_rise no_members trees = tt
+names_rise (member k d ms) trees = (before_all k ms trees.0 trees.2, names_rise ms trees.2)
+
+if_some : {A : Type 0} (P : A → Type 0) (o : Option A) → ((a : A) → P a) → IfSome o P
+if_some P None h = tt
+if_some P (Some a) h = h a
+
+mutual
+  pub tree_in_order : (w : Want) (d : Data) → IsTree d → IsInOrder w d
+  tree_in_order w null tree = tt
+  tree_in_order w (boolean b) tree = tt
+  tree_in_order w (number n) tree = tt
+  tree_in_order w (string s) tree = tt
+  tree_in_order w (array ds) tree = if_some (λ v. AreItemsInOrder v ds) (entry_want w) (λ v. items_in_order v ds tree)
+  tree_in_order w (object ms) tree = (names_rise ms tree, members_in_order (scope_inside w (object ms)) ms tree)
+
+  items_in_order : (w : Want) (ds : Items) → AreTrees ds → AreItemsInOrder w ds
+  items_in_order w no_items trees = tt
+  items_in_order w (item d ds) trees = (tree_in_order w d trees.0, items_in_order w ds trees.1)
+
+  members_in_order : (s : Scope) (ms : Members) → AreMembers ms → AreMembersInOrder s ms
+  members_in_order s no_members trees = tt
+  members_in_order s (member k d ms) trees =
+      (if_some (λ v. IsInOrder v d) (want_of_name s k) (λ v. tree_in_order v d trees.1), members_in_order s ms trees.2)
+
+-- ---- the faults of a tree
+
+pub faults_listed : (t : Data) → IsTree t → ListsAll (ShapeFault t) (faults_at [] (Object Report) false t)
+faults_listed t tree = walk_finds_all (Object Report) t (tree_in_order (Object Report) t tree)
+
+pub no_fault_listed : (t : Data) → IsTree t → length (faults_at [] (Object Report) false t) ≡ 0 → NoneOf (ShapeFault t)
+no_fault_listed t tree empty = no_fault_from_empty t (faults_at [] (Object Report) false t) (faults_listed t tree) empty
