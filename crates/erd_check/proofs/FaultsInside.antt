@@ -11,7 +11,8 @@ use Rattle.std.specs.Option.{option_map_or}
 use Rattle.std.specs.Ordering.{match_ordering, ordering_reverse}
 use Rattle.serde_json.specs.Data.{Data, null, boolean, number, string, array, object, Items, no_items, item, Members, no_members, member}
 use Rattle.serde_json.specs.Find.{get_member, get_item}
-use Rattle.erd_tables.specs.Places.{step_cmp, place_cmp}
+use Rattle.erd_tables.specs.Places.{place_cmp}
+use Rattle.erd_tables.proofs.PlaceOrder.{place_same, start_less, steps_less}
 use Rattle.erd_tables.specs.declared.place.Step.{Step}
 use Rattle.erd_tables.specs.declared.place.Step.TheVariants.{Name, At}
 use Rattle.erd_tables.specs.declared.fault.Reason.{Reason}
@@ -34,25 +35,6 @@ same_text xs = tied_itself nat_list_cmp_total xs
 
 pub text_from_equal : (k l : List ℕ) → slice_cmp nat_cmp k l ≡ Equal → k ≡ l
 text_from_equal k l e = (bytes_eq-Decides k l).0 (sym (is_eq-slice_cmp k l) ∙ ap is_eq e)
-
-step_same : (s : Step) → step_cmp s s ≡ Equal
-step_same (Name n) = same_text n
-step_same (At i) = tied_itself nat_cmp_total i
-
-place_prefix : (p x y : List Step) → place_cmp (p ++ x) (p ++ y) ≡ place_cmp x y
-place_prefix [] x y = refl
-place_prefix (s ∷ p) x y = rw (step_same s) (place_prefix p x y)
-
-steps_less : (p : List Step) (s t : Step) (x y : List Step) → step_cmp s t ≡ Less → place_cmp (p ++ s ∷ x) (p ++ t ∷ y) ≡ Less
-steps_less p s t x y e = place_prefix p (s ∷ x) (t ∷ y) ∙ rw e
-
-start_less : (p : List Step) (s : Step) (x : List Step) → place_cmp p (p ++ s ∷ x) ≡ Less
-start_less [] s x = refl
-start_less (t ∷ p) s x = rw (step_same t) (start_less p s x)
-
-place_same : (p : List Step) → place_cmp p p ≡ Equal
-place_same [] = refl
-place_same (s ∷ p) = rw (step_same s) (place_same p)
 
 fault_less : (x y : Fault) (a b : List Step) → x.place ≡ a → y.place ≡ b → place_cmp a b ≡ Less → fault_cmp x y ≡ Less
 fault_less x y a b p q e = rw (p, q, e)

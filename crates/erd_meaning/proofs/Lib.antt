@@ -13,3 +13,5 @@ pub mod AcceptedExamples
 pub mod WholeRecords
 pub mod Lists
 pub mod MetObjects
+pub mod ObjectPlaces
+pub mod ObjectFamilies

@@ -8,7 +8,7 @@ use Rattle.erd_tables.specs.declared.place.Step.{Step}
 use Rattle.erd_tables.specs.declared.place.Step.TheVariants.{At}
 use Rattle.erd_tables.specs.declared.class.Family.TheVariants.{Contest, Selection}
 use Rattle.erd_meaning.specs.Objects.{Placed, placed_from, selections_of}
-use Rattle.erd_meaning.specs.ObjectWalk.{Located, Met, kept, located, contest_located, met_one, met_all}
+use Rattle.erd_meaning.specs.ObjectWalk.{Located, Met, located, located_one, contest_located, met_one, met_all}
 
 pub met_all_append : (m : Met) (xs ys : List Located) → met_all m (xs ++ ys) ≡ met_all (met_all m xs) ys
 met_all_append m [] ys = refl
@@ -28,6 +28,6 @@ met_inside f p vs i v m n whole inside is before more =
     ap (λ k. met_all k rest) more ∙ sym (met_all_append m (f (entry p i v)) rest) ∙ sym first ∙ before
 
 -- a contest, and then its selections
-pub contest_met : (o : Placed) (m k n : Met) → k ≡ met_one m (o.place, kept Contest o.value)
+pub contest_met : (o : Placed) (m k n : Met) → k ≡ met_one m (located_one Contest o)
     → n ≡ met_all k (located Selection (selections_of o)) → n ≡ met_all m (contest_located o)
 contest_met o m k n first rest = rest ∙ ap (λ j. met_all j (located Selection (selections_of o))) first

@@ -37,16 +37,21 @@ abbrev pub kept : Family → Data → Kept
 kept f d = record { family = f; value = d; key = kept_key f d; id = id_of d }
 
 -- an object and its place
-abbrev pub Located : Type 0
-Located = List Step × Kept
+pub record Located : Type 0 where
+  pub place : List Step
+  pub object : Kept
+
+-- an object of a family at its place
+abbrev pub located_one : Family → Placed → Located
+located_one f o = record { place = o.place; object = kept f o.value }
 
 -- objects of one family
 abbrev pub located : Family → List Placed → List Located
-located f os = map (λ o. (o.place, kept f o.value)) os
+located f os = map (located_one f) os
 
 -- a contest and its selections
 abbrev pub contest_located : Placed → List Located
-contest_located o = (o.place, kept family.Contest o.value) ∷ located family.Selection (selections_of o)
+contest_located o = located_one family.Contest o ∷ located family.Selection (selections_of o)
 
 -- the objects of an election
 abbrev pub election_located : Placed → List Located
@@ -106,7 +111,7 @@ pub record Met : Type 0 where
 
 -- one more object
 abbrev pub met_one : Met → Located → Met
-met_one m x = record { objects = m.objects ++ x.1 ∷ []; faults = m.faults ++ faults_after m.objects x.0 x.1 }
+met_one m x = record { objects = m.objects ++ x.object ∷ []; faults = m.faults ++ faults_after m.objects x.place x.object }
 
 -- more objects, one after another
 abbrev pub met_all : Met → List Located → Met

@@ -3,7 +3,7 @@ ghost use Rattle.std.specs.List.{list_any};
 ghost use Rattle.serde_json.specs.View.{view};
 ghost use Rattle.erd_check.specs.Paths.{steps_of};
 ghost use Rattle.erd_meaning.specs.Objects.{placed_entries};
-ghost use Rattle.erd_meaning.specs.ObjectWalk.{kept, faults_after, has_same_key, has_same_id, located, contest_located, election_located, all_located, met_one, met_all};
+ghost use Rattle.erd_meaning.specs.ObjectWalk.{kept, faults_after, has_same_key, has_same_id, located, located_one, contest_located, election_located, all_located, met_one, met_all};
 ghost use Rattle.erd_meaning.specs.Shown.{shown, met_of, placed_at};
 
 use crate::identifier::key_of;
@@ -118,7 +118,7 @@ fn meet_object<'a>(
     walk: &mut ObjectWalk<'a>,
 ) -> Result<(), AllocError>
     ensures { IfOk result (λ _. met_of walk.new
-        ≡ met_one (met_of walk.old) (steps_of path.now, kept family (view value.now))) }
+        ≡ met_one (met_of walk.old) (located_one family (placed_at path.now value.now))) }
 {
     let object = object_of(alloc, family, value)?;
     push_identity_faults(alloc, &object, &walk.objects, path, &mut walk.faults)?;
