@@ -15,3 +15,4 @@ pub mod Lists
 pub mod MetObjects
 pub mod ObjectPlaces
 pub mod ObjectFamilies
+pub mod ToldFaults
