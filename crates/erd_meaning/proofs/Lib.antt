@@ -5,5 +5,7 @@ mod LaterFaultExamples
 pub mod Phases
 pub mod Orders
 pub mod LaterFaultLists
+pub mod RefusedLists
 pub mod AcceptedExamples
+mod RefusedExamples
 pub mod WholeRecords
