@@ -9,6 +9,7 @@ use Rattle.serde_json.specs.Data.{Num, negative, Data, null, boolean, number, st
 use Rattle.erd_tables.specs.Faults.{ListsAll}
 use Rattle.erd_tables.specs.Texts.{text_cmp}
 use Rattle.erd_tables.specs.declared.class.Role.TheVariants.{Report}
+use Rattle.erd_tables.specs.declared.fault.Fault.{Fault}
 use Rattle.erd_check.specs.Faults.{ShapeFault, NoneOf}
 use Rattle.erd_check.specs.Trees.{IsBeforeFirst, IsNumber, IsTree, AreTrees, AreMembers}
 use Rattle.erd_check.specs.Walk.{names, faults_at, IsInOrder, AreItemsInOrder, AreMembersInOrder}
@@ -121,8 +122,12 @@ mutual
 
 -- ---- the faults of a tree
 
-pub faults_listed : (t : Data) → IsTree t → ListsAll (ShapeFault t) (faults_at [] (Object Report) false t)
+-- the faults of the shape of a report, as the walk finds them
+abbrev pub faults_found : Data → List Fault
+faults_found t = faults_at [] (Object Report) false t
+
+pub faults_listed : (t : Data) → IsTree t → ListsAll (ShapeFault t) (faults_found t)
 faults_listed t tree = walk_finds_all (Object Report) t (tree_in_order (Object Report) t tree)
 
-pub no_fault_listed : (t : Data) → IsTree t → length (faults_at [] (Object Report) false t) ≡ 0 → NoneOf (ShapeFault t)
-no_fault_listed t tree empty = no_fault_from_empty t (faults_at [] (Object Report) false t) (faults_listed t tree) empty
+pub no_fault_listed : (t : Data) → is_tree t ≡ true → length (faults_found t) ≡ 0 → NoneOf (ShapeFault t)
+no_fault_listed t tree empty = no_fault_from_empty t (faults_found t) (faults_listed t (tree_sound t tree)) empty

@@ -1,5 +1,5 @@
 -- The faults of one value: the list of its reasons holds each of them, and rises.
-use Rattle.std.proofs.Common.{◌≡◌, ℕ, ◌<◌, ◌≤◌, inl, inr, List, [], ◌∷◌, ◌++◌, filter, Bool, true, false, ◌&&◌, ◌||◌, Less, nat_cmp, Some, None, refl, sym, subst, true≢false, arith, rules}
+use Rattle.std.proofs.Common.{◌≡◌, ℕ, ◌<◌, ◌≤◌, inl, inr, List, [], ◌∷◌, ◌++◌, filter, Bool, true, false, ◌&&◌, Less, nat_cmp, Some, None, refl, sym, subst, true≢false, arith, rules}
 use Rattle.std.specs.Cmp.Lexicographic.{slice_cmp}
 use Rattle.std.specs.List.{list_any, AllByRecursion}
 use Rattle.std.specs.List.Sorted.{IsStrictlySortedBy}
@@ -18,7 +18,7 @@ use Rattle.erd_check.specs.Walk.{asked_with, missing, other_reasons, reasons}
 use Rattle.erd_check.specs.declared.want.Want.{Want}
 use Rattle.erd_check.specs.declared.want.Scope.{Scope}
 use Rattle.erd_check.specs.declared.want.Scope.TheVariants as scope
-use Rattle.erd_check.proofs.Order.{In, In-append, In-append_left, In-append_right, In-map, In-map_from, In-filter, In-filter_kept, Below, sorted_append, sorted_map, sorted_filter, In-all}
+use Rattle.erd_check.proofs.Order.{In, In-append, In-append_left, In-append_right, In-map, In-map_from, In-filter, In-filter_kept, Below, sorted_append, sorted_map, sorted_filter, In-all, or_true}
 
 -- ---- tests
 
@@ -37,14 +37,10 @@ In-from_any : (n : List ℕ) (xs : List (List ℕ)) → list_any (bytes_eq n) xs
 In-from_any n [] h = absurd (true≢false (sym h))
 In-from_any n (x ∷ xs) h = in_head n x xs (bytes_eq n x) refl (In-from_any n xs) h
 
-any_later : (a b : Bool) → b ≡ true → a || b ≡ true
-any_later true b h = refl
-any_later false b h = h
-
 any_from_In : (n : List ℕ) (xs : List (List ℕ)) → In n xs → list_any (bytes_eq n) xs ≡ true
 any_from_In n [] h = absurd h
 any_from_In n (x ∷ xs) (inl e) = rw ((bytes_eq-Decides n x).1 (sym e))
-any_from_In n (x ∷ xs) (inr t) = any_later (bytes_eq n x) _ (any_from_In n xs t)
+any_from_In n (x ∷ xs) (inr t) = or_true (bytes_eq n x) _ (any_from_In n xs t)
 
 -- ---- the parts of the list
 

@@ -1,23 +1,15 @@
 -- Whole reports are trees and have no fault of the shape, or exactly the faults that are listed, by computation.
-use Rattle.std.proofs.Common.{◌≡◌, ℕ, List, [], ◌∷◌, codes, true, false, length, refl, subst}
-use Rattle.serde_json.specs.Data.{Data}
+use Rattle.std.proofs.Common.{◌≡◌, ℕ, List, [], ◌∷◌, codes, true, length, refl, subst}
 use Rattle.serde_json.proofs.OnLiterals.{serde_json_on_literals}
 use Rattle.erd_tables.specs.Faults.{ListsAll}
-use Rattle.erd_tables.specs.declared.class.Role.TheVariants.{Report}
 use Rattle.erd_tables.specs.declared.fault.Fault.{Fault}
 use Rattle.erd_tables.specs.declared.fault.Reason.TheVariants.{WrongKind, MissingMember, NotWhole, OutsideProfile, UnknownReference, CarriedIdentity, NotPreElection}
 use Rattle.erd_tables.specs.declared.place.Step.TheVariants.{Name, At}
 use Rattle.erd_check.specs.Faults.{ShapeFault, NoneOf}
 use Rattle.erd_check.specs.Paths.{fault_at}
 use Rattle.erd_check.specs.Trees.{IsTree}
-use Rattle.erd_check.specs.Walk.{faults_at}
-use Rattle.erd_check.specs.declared.want.Want.TheVariants.{Object}
-use Rattle.erd_check.proofs.Deciding.{is_tree, tree_sound, faults_listed, no_fault_listed}
+use Rattle.erd_check.proofs.Deciding.{is_tree, tree_sound, faults_found, faults_listed, no_fault_listed}
 use Rattle.erd_check.proofs.Reports.{tree_of, one_unit, small_ballot, small_ballot_canonical, one_unit_report}
-
--- the faults of a report, as the walk finds them
-abbrev faults_found : Data → List Fault
-faults_found t = faults_at [] (Object Report) false t
 
 -- ---- reports without a fault
 
@@ -33,7 +25,7 @@ pub one_unit_is_tree : IsTree (tree_of one_unit)
 one_unit_is_tree = tree_sound (tree_of one_unit) unit_test
 
 pub one_unit_is_faultless : NoneOf (ShapeFault (tree_of one_unit))
-one_unit_is_faultless = no_fault_listed (tree_of one_unit) one_unit_is_tree unit_faults
+one_unit_is_faultless = no_fault_listed (tree_of one_unit) unit_test unit_faults
 
 ballot_test : is_tree (tree_of small_ballot) ≡ true
 unfolding serde_json_on_literals
@@ -47,7 +39,7 @@ pub small_ballot_is_tree : IsTree (tree_of small_ballot)
 small_ballot_is_tree = tree_sound (tree_of small_ballot) ballot_test
 
 pub small_ballot_is_faultless : NoneOf (ShapeFault (tree_of small_ballot))
-small_ballot_is_faultless = no_fault_listed (tree_of small_ballot) small_ballot_is_tree ballot_faults
+small_ballot_is_faultless = no_fault_listed (tree_of small_ballot) ballot_test ballot_faults
 
 canonical_test : is_tree (tree_of small_ballot_canonical) ≡ true
 unfolding serde_json_on_literals
@@ -61,18 +53,18 @@ pub small_ballot_canonical_is_tree : IsTree (tree_of small_ballot_canonical)
 small_ballot_canonical_is_tree = tree_sound (tree_of small_ballot_canonical) canonical_test
 
 pub small_ballot_canonical_is_faultless : NoneOf (ShapeFault (tree_of small_ballot_canonical))
-small_ballot_canonical_is_faultless = no_fault_listed (tree_of small_ballot_canonical) small_ballot_canonical_is_tree canonical_faults
+small_ballot_canonical_is_faultless = no_fault_listed (tree_of small_ballot_canonical) canonical_test canonical_faults
 
 -- ---- a report with faults
 
 -- a status after the election, a strange reference, a unit without its type, an election without its scope, and more
-abbrev faulty : List ℕ
+abbrev pub faulty : List ℕ
 faulty =
     one_unit_report (codes "\"Status\":\"certified\",\"FooId\":\"u7\"") (codes "\"@type\":\"ElectionResults.ReportingUnit\",\"PartyRegistration\":[{}],\"Note\":1.5,\"AuthorityIds\":[\"u7\",1]")
     (codes "\"@id\":\"e\",\"@type\":\"ElectionResults.Election\",\"Name\":\"Test\",\"Type\":\"general\",\"StartDate\":\"2026-11-03\",\"EndDate\":\"2026-11-03\"")
 
 -- all that it has, by place, then by reason
-abbrev faulty_faults : List Fault
+abbrev pub faulty_faults : List Fault
 faulty_faults =
     fault_at (Name (codes "Election") ∷ At 0 ∷ []) (MissingMember (codes "ElectionScopeId"))
     ∷ fault_at (Name (codes "Election") ∷ At 0 ∷ Name (codes "@id") ∷ []) CarriedIdentity
@@ -92,5 +84,5 @@ faulty_found : faults_found (tree_of faulty) ≡ faulty_faults
 unfolding serde_json_on_literals
 faulty_found = refl
 
-faulty_has_all : ListsAll (ShapeFault (tree_of faulty)) faulty_faults
+pub faulty_has_all : ListsAll (ShapeFault (tree_of faulty)) faulty_faults
 faulty_has_all = subst (ListsAll (ShapeFault (tree_of faulty))) faulty_found (faults_listed (tree_of faulty) (tree_sound (tree_of faulty) faulty_test))

@@ -9,7 +9,9 @@ pub mod References
 pub mod Skeleton
 pub mod Standing
 pub mod LaterFaultLists
+pub mod RefusedLists
 pub mod AcceptedExamples
+mod RefusedExamples
 pub mod WholeRecords
 pub mod Lists
 pub mod MetObjects
