@@ -18,3 +18,4 @@ pub mod MetObjects
 pub mod ObjectPlaces
 pub mod ObjectFamilies
 pub mod ToldFaults
+pub mod IdentityFaults

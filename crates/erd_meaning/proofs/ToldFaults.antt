@@ -133,13 +133,13 @@ if_below b c f g less x y i j = subst (λ z. fault_cmp z y ≡ Less) (in_if b f 
 below_both : (xs ys zs : List Fault) → Below fault_cmp xs ys → Below fault_cmp xs zs → Below fault_cmp xs (ys ++ zs)
 below_both xs ys zs a b x y i j = elim (In-append y ys zs j) [ inl k ↦ a x y i k | inr k ↦ b x y i k ]
 
-abbrev no_identifier : Bool → List Step → List Fault
+abbrev pub no_identifier : Bool → List Step → List Fault
 no_identifier b p = fault_if b (fault_at p NoIdentifier)
 
-abbrev twin_identifier : Bool → List Step → List Fault
+abbrev pub twin_identifier : Bool → List Step → List Fault
 twin_identifier b p = fault_if b (fault_at p TwinIdentifier)
 
-abbrev duplicate_id : Bool → List Step → List Fault
+abbrev pub duplicate_id : Bool → List Step → List Fault
 duplicate_id b p = fault_if b (fault_at (id_place p) DuplicateId)
 
 -- the faults of one object, by what holds of it
