@@ -9,3 +9,4 @@ pub mod FamilyArrays
 pub mod Families
 pub mod Selections
 pub mod Agreement
+pub mod Unique
