@@ -10,3 +10,6 @@ pub mod Families
 pub mod Selections
 pub mod Agreement
 pub mod Unique
+pub mod NamesAlike
+pub mod ReferencesAlike
+pub mod ObjectsAlike

@@ -31,7 +31,7 @@ use Rattle.erd_meaning.specs.Meaning.{ObjectRecord, SelectionRecord}
 use Rattle.erd_meaning.specs.SelectionNames.{selection_role}
 use Rattle.erd_meaning.proofs.Standing.{flat-has, stands}
 use Rattle.erd_meaning.proofs.Phases.{no_shape_fault}
-use Rattle.erd_normal.proofs.Selections.{AlikeSelections, selection_array}
+use Rattle.erd_normal.proofs.Selections.{selection_array}
 use Rattle.erd_normal.proofs.Agreement.{ContestPair, contest_pairs, pairs_of, same_names}
 use Rattle.erd_normal.specs.Canonical.{IsCanonical}
 use Rattle.erd_normal.proofs.Paired.{Paired}
@@ -45,7 +45,7 @@ paired_values xs ys Paired.none each = refl
 paired_values xs ys (Paired.more {x = x} {y = y} {xs = xs'} {ys = ys'} r rest) each = ap₂ ◌∷◌ (each x y here here r) (paired_values xs' ys' rest (λ a b h k. each a b (later h) (later k)))
 
 -- two objects of one class
-record Two (t u : Data) (q : Role) (d e : Data) : Type 0 where
+pub record Two (t u : Data) (q : Role) (d e : Data) : Type 0 where
   ms : Members
   ns : Members
   class : Class
@@ -64,11 +64,11 @@ two_objects t u canonical canonical' q d e w w' same =
     record { ms = a.ms; ns = b.ms; class = a.class; role = a.role; is = a.is_object; is' = b.is_object; at = a.at; at' = subst (λ c. ObjectAt u (Object q) q c b.ms) one b.at }
 
 -- a class whose records leave out these names alone
-abbrev leaves_out : List (List ℕ) → Class → Bool
+abbrev pub leaves_out : List (List ℕ) → Class → Bool
 leaves_out names c = not (is_report_class c) && are_apart names c
 
 -- what the records of a family's objects leave out
-abbrev left_of : Option Family → List (List ℕ)
+abbrev pub left_of : Option Family → List (List ℕ)
 left_of (Some family.Contest) = codes "ContestSelection" ∷ []
 left_of f = []
 
@@ -82,7 +82,7 @@ class_leaves class.InternationalizedText h = cc
 class_leaves class.LanguageString h = cc
 class_leaves c h = refl
 
-leaves : (f : Family) (c : Class) → role_of_class c ≡ role.OfFamily f → leaves_out (left_of (Some f)) c ≡ true
+pub leaves : (f : Family) (c : Class) → role_of_class c ≡ role.OfFamily f → leaves_out (left_of (Some f)) c ≡ true
 leaves f c e =
     let g : family_of_class c ≡ Some f = ap family_of_role e in
     subst (λ o. leaves_out (left_of o) c ≡ true) g (class_leaves c (ap is_some g))
@@ -120,11 +120,11 @@ module _ (t u : Data) (canonical : IsCanonical t) (canonical' : IsCanonical u) (
   members_value w w' q c ms ns a b e k plain =
       plain_from_value t u (kind_of_member c k) (get_member k ms) (get_member k ns) _ _ (plain_unless_apart c k plain) (rw (a.among, b.among) at (ap (λ r. members_in r k) e))
 
-  selection_same : (d e : Data) → Within t (asked (Object selection_role) d) → Within u (asked (Object selection_role) e) → AlikeSelections t u d e → id_of d ≡ id_of e → d ≡ e
+  pub selection_same : (d e : Data) → Within t (asked (Object selection_role) d) → Within u (asked (Object selection_role) e) → selection_record t d ≡ selection_record u e → id_of d ≡ id_of e → d ≡ e
   selection_same d e w w' alike ids =
       let two : Two t u selection_role d e = two_objects t u canonical canonical' selection_role d e w w'
-      (sym (class_of_record (plain_member t d) selection_role d) ∙ ap (option_map (λ (x : SelectionRecord). x.class)) alike.1 ∙ class_of_record (plain_member u e) selection_role e) in
-      let records : selection_record t (object two.ms) ≡ selection_record u (object two.ns) = sym (ap (selection_record t) two.is) ∙ alike.1 ∙ ap (selection_record u) two.is' in
+      (sym (class_of_record (plain_member t d) selection_role d) ∙ ap (option_map (λ (x : SelectionRecord). x.class)) alike ∙ class_of_record (plain_member u e) selection_role e) in
+      let records : selection_record t (object two.ms) ≡ selection_record u (object two.ns) = sym (ap (selection_record t) two.is) ∙ alike ∙ ap (selection_record u) two.is' in
       two.is ∙ ap object (object_same t u canonical canonical' (same_names t u canonical canonical' same) (Object selection_role) (Object selection_role) selection_role two.class two.ms two.ns two.at two.at'
       (subst IsTree two.is (within-tree t (asked (Object selection_role) d) tree w)) (subst IsTree two.is' (within-tree u (asked (Object selection_role) e) tree' w'))
       (ap id_of (sym two.is) ∙ ids ∙ ap id_of two.is')
@@ -132,7 +132,7 @@ module _ (t u : Data) (canonical : IsCanonical t) (canonical' : IsCanonical u) (
       (λ k h. rw (two.at.among, two.at'.among) at (ap (λ r. members_in r k) records))) ∙ sym two.is'
 
   -- an object of a family whose records leave out these names
-  object_unique : (names : List (List ℕ)) (q : Role) (d e : Data) → ((c : Class) → role_of_class c ≡ q → leaves_out names c ≡ true) → Within t (asked (Object q) d) → Within u (asked (Object q) e)
+  pub object_unique : (names : List (List ℕ)) (q : Role) (d e : Data) → ((c : Class) → role_of_class c ≡ q → leaves_out names c ≡ true) → Within t (asked (Object q) d) → Within u (asked (Object q) e)
       → object_record t q d ≡ object_record u q e → id_of d ≡ id_of e → ((two : Two t u q d e) (k : List ℕ) → Has names k → get_member k two.ms ≡ get_member k two.ns) → d ≡ e
   object_unique names q d e plain w w' records ids given =
       let two : Two t u q d e = two_objects t u canonical canonical' q d e w w'
@@ -146,10 +146,10 @@ module _ (t u : Data) (canonical : IsCanonical t) (canonical' : IsCanonical u) (
   abbrev cs_name : List ℕ
   cs_name = codes "ContestSelection"
 
-  within_t : (f : Family) (o : Placed) → Has (objects f t) o → Within t (asked (Object (role.OfFamily f)) o.value)
+  pub within_t : (f : Family) (o : Placed) → Has (objects f t) o → Within t (asked (Object (role.OfFamily f)) o.value)
   within_t f o h = record { place = o.place; is = stands t canonical.accepted f o h }
 
-  within_u : (f : Family) (o : Placed) → Has (objects f u) o → Within u (asked (Object (role.OfFamily f)) o.value)
+  pub within_u : (f : Family) (o : Placed) → Has (objects f u) o → Within u (asked (Object (role.OfFamily f)) o.value)
   within_u f o h = record { place = o.place; is = stands u canonical'.accepted f o h }
 
   -- the selections of two paired contests are equal
@@ -157,7 +157,7 @@ module _ (t u : Data) (canonical : IsCanonical t) (canonical' : IsCanonical u) (
   selections_same o p h k pair =
       sym (values-placed_entries cs_name o)
       ∙ paired_values (selections_of o) (selections_of p) pair.selections
-      (λ x y i j r. selection_same x.value y.value (within_t family.Selection x (flat-has selections_of (objects family.Contest t) o x h i)) (within_u family.Selection y (flat-has selections_of (objects family.Contest u) p y k j)) r.alike r.same_id)
+      (λ x y i j r. selection_same x.value y.value (within_t family.Selection x (flat-has selections_of (objects family.Contest t) o x h i)) (within_u family.Selection y (flat-has selections_of (objects family.Contest u) p y k j)) r.alike.1 r.same_id)
       ∙ values-placed_entries cs_name p
 
   contest_same : (o p : Placed) → Has (objects family.Contest t) o → Has (objects family.Contest u) p → ContestPair t u o p → o.value ≡ p.value

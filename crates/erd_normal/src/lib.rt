@@ -3,4 +3,4 @@
 
 mod laws;
 
-pub use laws::canonical_is_unique;
+pub use laws::{canonical_is_unique, names_agree, objects_agree, references_agree};
