@@ -1,5 +1,5 @@
 -- What the references of an accepted report name.
-use Rattle.std.proofs.Common.{◌≡◌, ◌≢◌, ℕ, zero, suc, List, [], ◌∷◌, ◌++◌, Option, Some, None, option_map, option_and_then, is_some, Contains, Bool, true, false, codes, find, refl, sym, ap, ◌∙◌, subst, arith, not, is_none, IsSomeAnd, ◌&&◌}
+use Rattle.std.proofs.Common.{◌≡◌, ℕ, zero, suc, List, [], ◌∷◌, ◌++◌, Option, Some, None, option_map, option_and_then, is_some, Contains, Bool, true, false, codes, find, refl, sym, ap, ◌∙◌, subst, arith, not, is_none, ◌&&◌}
 use Rattle.std.specs.Prelude.{IsTrue}
 use Rattle.std.specs.List.{list_any}
 use Rattle.serde_json.specs.Data.{Data, string}
@@ -14,7 +14,7 @@ use Rattle.erd_check.specs.declared.want.Want.TheVariants.{Reference}
 use Rattle.erd_check.proofs.Shapes.{Within, false_unless, not_within, true_unless}
 use Rattle.erd_meaning.specs.declared.key.Key.{Key}
 use Rattle.erd_meaning.specs.Accepted.{IsAccepted}
-use Rattle.erd_meaning.specs.LaterFaults.{is_other_selection, is_reference_fault, is_selection_in}
+use Rattle.erd_meaning.specs.LaterFaults.{is_reference_fault, is_selection_in}
 use Rattle.erd_meaning.specs.Objects.{Placed, has_id, is_owned, objects, owner}
 use Rattle.erd_meaning.specs.SelectionNames.{key_named}
 use Rattle.erd_meaning.specs.Keys.{key_of, text_at, has_keys}

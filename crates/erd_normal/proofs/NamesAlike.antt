@@ -1,5 +1,5 @@
 -- Two canonical reports that mean the same have the same keys, names and `@id` texts, in the same order.
-use Rattle.std.proofs.Common.{◌≡◌, List, [], ◌∷◌, map, refl, ap₂}
+use Rattle.std.proofs.Common.{◌≡◌, List, ◌∷◌, map, refl, ap₂}
 use Rattle.serde_json.specs.Data.{Data}
 use Rattle.erd_tables.specs.declared.class.Family.{Family}
 use Rattle.erd_tables.specs.declared.class.Family.TheVariants as family

@@ -1,5 +1,5 @@
 -- Two canonical reports that mean the same write references, sets of them and contents alike.
-use Rattle.std.proofs.Common.{◌≡◌, List, Some, Contains, Bool, true, false, refl, sym, ap, ◌∙◌, subst}
+use Rattle.std.proofs.Common.{◌≡◌, List, Some, Contains, Bool, true, refl, sym, ap, ◌∙◌, subst}
 use Rattle.serde_json.specs.Data.{Data, array}
 use Rattle.erd_tables.specs.declared.class.Family.{Family}
 use Rattle.erd_tables.specs.declared.class.Family.TheVariants as family
@@ -15,7 +15,7 @@ use Rattle.erd_check.proofs.Entries.{array_from}
 use Rattle.erd_check.proofs.Shapes.{Within, unrepeated, wanted_within, within-tree}
 use Rattle.erd_meaning.specs.declared.key.Key.{Key}
 use Rattle.erd_meaning.specs.Accepted.{IsAccepted}
-use Rattle.erd_meaning.specs.Keys.{has_keys, key_of}
+use Rattle.erd_meaning.specs.Keys.{has_keys}
 use Rattle.erd_meaning.specs.NameParts.{NameParts}
 use Rattle.erd_meaning.specs.Objects.{Placed, id_of, objects, selections_of}
 use Rattle.erd_meaning.specs.Records.{content_of, key_set}

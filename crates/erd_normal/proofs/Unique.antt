@@ -143,8 +143,8 @@ module _ (t u : Data) (canonical : IsCanonical t) (canonical' : IsCanonical u) (
       (λ k f g h. given two k (left_out names two.class k (plain two.class two.role) f g h))
       (members_value (Object q) (Object q) q two.class two.ms two.ns two.at two.at' (sym (ap (object_record t q) two.is) ∙ records ∙ ap (object_record u q) two.is'))) ∙ sym two.is'
 
-  abbrev cs_name : List ℕ
-  cs_name = codes "ContestSelection"
+  abbrev selection_member : List ℕ
+  selection_member = codes "ContestSelection"
 
   pub within_t : (f : Family) (o : Placed) → Has (objects f t) o → Within t (asked (Object (role.OfFamily f)) o.value)
   within_t f o h = record { place = o.place; is = stands t canonical.accepted f o h }
@@ -153,20 +153,20 @@ module _ (t u : Data) (canonical : IsCanonical t) (canonical' : IsCanonical u) (
   within_u f o h = record { place = o.place; is = stands u canonical'.accepted f o h }
 
   -- the selections of two paired contests are equal
-  selections_same : (o p : Placed) → Has (objects family.Contest t) o → Has (objects family.Contest u) p → ContestPair t u o p → entries_at cs_name o.value ≡ entries_at cs_name p.value
+  selections_same : (o p : Placed) → Has (objects family.Contest t) o → Has (objects family.Contest u) p → ContestPair t u o p → entries_at selection_member o.value ≡ entries_at selection_member p.value
   selections_same o p h k pair =
-      sym (values-placed_entries cs_name o)
+      sym (values-placed_entries selection_member o)
       ∙ paired_values (selections_of o) (selections_of p) pair.selections
       (λ x y i j r. selection_same x.value y.value (within_t family.Selection x (flat-has selections_of (objects family.Contest t) o x h i)) (within_u family.Selection y (flat-has selections_of (objects family.Contest u) p y k j)) r.alike.1 r.same_id)
-      ∙ values-placed_entries cs_name p
+      ∙ values-placed_entries selection_member p
 
   contest_same : (o p : Placed) → Has (objects family.Contest t) o → Has (objects family.Contest u) p → ContestPair t u o p → o.value ≡ p.value
   contest_same o p h k pair =
-      object_unique (cs_name ∷ []) (role.OfFamily family.Contest) o.value p.value (leaves family.Contest) (within_t family.Contest o h) (within_u family.Contest p k) pair.pair.alike.1 pair.pair.same_id
+      object_unique (selection_member ∷ []) (role.OfFamily family.Contest) o.value p.value (leaves family.Contest) (within_t family.Contest o h) (within_u family.Contest p k) pair.pair.alike.1 pair.pair.same_id
       (λ two n i. ⊎_elim (λ e. subst (λ x. get_member x two.ms ≡ get_member x two.ns) e
-      (arrays_same _ _ (get_member cs_name two.ms) (get_member cs_name two.ns) (selection_array t canonical two.class two.ms two.role two.at) (selection_array u canonical' two.class two.ns two.role two.at')
-      (ap (entries_at cs_name) (sym two.is) ∙ selections_same o p h k pair ∙ ap (entries_at cs_name) two.is')))
-      (λ j. elim j [ ]) (Has-cases cs_name n [] i))
+      (arrays_same _ _ (get_member selection_member two.ms) (get_member selection_member two.ns) (selection_array t canonical two.class two.ms two.role two.at) (selection_array u canonical' two.class two.ns two.role two.at')
+      (ap (entries_at selection_member) (sym two.is) ∙ selections_same o p h k pair ∙ ap (entries_at selection_member) two.is')))
+      (λ j. elim j [ ]) (Has-cases selection_member n [] i))
 
   -- an object of a family without selections
   other_same : (f : Family) → has_keys f ≡ true → ((c : Class) → role_of_class c ≡ role.OfFamily f → leaves_out [] c ≡ true) → map (λ o. o.value) (objects f t) ≡ map (λ o. o.value) (objects f u)
