@@ -1,4 +1,4 @@
--- A value is clean if nothing below it has a fault: if it has none itself, and all that is asked one step below is clean.
+-- A value is clean if nothing in it has a fault: if it has none itself, and all that is asked one step inside is clean.
 use Rattle.std.proofs.Common.{◌≡◌, List, [], ◌∷◌, Option, Some, None, option_and_then, IsSomeAnd, false, refl, sym, subst}
 use Rattle.std.specs.Prelude.{IsTrue, ◌↔◌}
 use Rattle.serde_json.specs.Data.{Data}
@@ -17,7 +17,7 @@ pub record IsClean (a : Asked) : Type 0 where
 pub record HasNoLocalFault (a : Asked) : Type 0 where
   pub none : (r : Reason) → is_shape_fault a r ≡ false
 
--- all that is asked one step below is clean
+-- all that is asked one step inside is clean
 pub record IsCleanInside (a : Asked) : Type 0 where
   pub each : (s : Step) (b : Asked) → asked_inside a.want a.value s ≡ Some b → IsClean b
 

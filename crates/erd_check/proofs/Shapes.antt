@@ -149,7 +149,7 @@ module _ (t : Data) (clean : NoneOf (ShapeFault t)) where
       let m = object_from d e in
       subst (Classed r) (sym m.1) (classed_members w r m.0 h (subst (λ x. Within t (asked w x)) m.1 inside))
 
-  -- a member that isn't `@type`, below an object of a known class
+  -- a member other than `@type`, in an object of a known class
   pub member_within : (w : Want) (r : Role) (ms : Members) (c : Class) (name : List ℕ) (v : Data) → AsksObject w r → class_of_object r (object ms) ≡ Some c → bytes_eq name (codes "@type") ≡ false
       → Within t (asked w (object ms)) → get_member name ms ≡ Some v → Within t (asked (member_want c name) v)
   member_within w r ms c name v h among other inside e = Within-step t (asked w (object ms)) (asked (member_want c name) v) (Name name) inside (asked_inside_object w r ms c name v h among other e)

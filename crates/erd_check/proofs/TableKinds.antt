@@ -32,13 +32,13 @@ kind_or Q P other name (m ∷ ms) h each k = at (bytes_eq name m.name) refl (kin
     at true is r = rw is (each m (both_true (Q m) _ h).0 is)
     at false is r = rw is r
 
--- what holds of each kind in a class's lines, and of the kinds of unlisted names, holds of a member's kind
+-- what holds of each kind in a class's rows, and of the kinds of unlisted names, holds of a member's kind
 pub kind_of_class : (P : MemberKind → Bool) (c : Class) (name : List ℕ) → bytes_eq name (codes "@type") ≡ false → list_all (λ m. P m.kind) (rows_of_class c) ≡ true
     → P (kind_of_identity c) ≡ true → P kind.StrangeReference ≡ true → P kind.Carried ≡ true → P (kind_of_member c name) ≡ true
 kind_of_class P c name other lines id reference carried =
     kind_or (λ m. P m.kind) P (kind_of_unlisted c name) name (rows_of_class c) lines (λ m h e. h) (kind_of_unlisted_has P c name other id reference carried)
 
--- what each line of a class that has the name says, and the kinds of unlisted names, for a name other than `@type` and `@id`
+-- what each row of a class that has the name says, and the kinds of unlisted names, for a name other than `@type` and `@id`
 pub kind_of_name : (Q : Row → Bool) (P : MemberKind → Bool) (c : Class) (name : List ℕ) → bytes_eq name (codes "@type") ≡ false → bytes_eq name (codes "@id") ≡ false
     → list_all Q (rows_of_class c) ≡ true → ((m : Row) → Q m ≡ true → bytes_eq name m.name ≡ true → P m.kind ≡ true)
     → P kind.StrangeReference ≡ true → P kind.Carried ≡ true → P (kind_of_member c name) ≡ true
@@ -46,7 +46,7 @@ kind_of_name Q P c name no_type no_id lines each reference carried =
     kind_or Q P (kind_of_unlisted c name) name (rows_of_class c) lines each
     (rw (no_type, no_id) (cond_keeps P (is_reference_name name) kind.StrangeReference kind.Carried reference carried))
 
--- `@id` is in no class's lines
+-- `@id` is in no class's rows
 pub kind_of_id : (c : Class) → kind_of_member c (codes "@id") ≡ kind_of_identity c
 kind_of_id class.ElectionReport = refl
 kind_of_id c = refl

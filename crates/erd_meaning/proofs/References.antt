@@ -1,5 +1,5 @@
 -- What the references of an accepted report name.
-use Rattle.std.proofs.Common.{◌≡◌, ◌≢◌, ℕ, suc, List, [], ◌∷◌, ◌++◌, Option, Some, None, option_map, option_and_then, is_some, Contains, Bool, true, false, codes, find, refl, sym, ap, ◌∙◌, subst, arith, not, is_none, IsSomeAnd, ◌&&◌}
+use Rattle.std.proofs.Common.{◌≡◌, ℕ, zero, suc, List, [], ◌∷◌, ◌++◌, Option, Some, None, option_map, option_and_then, is_some, Contains, Bool, true, false, codes, find, refl, sym, ap, ◌∙◌, subst, arith, not, is_none, ◌&&◌}
 use Rattle.std.specs.Prelude.{IsTrue}
 use Rattle.std.specs.List.{list_any}
 use Rattle.serde_json.specs.Data.{Data, string}
@@ -14,7 +14,7 @@ use Rattle.erd_check.specs.declared.want.Want.TheVariants.{Reference}
 use Rattle.erd_check.proofs.Shapes.{Within, false_unless, not_within, true_unless}
 use Rattle.erd_meaning.specs.declared.key.Key.{Key}
 use Rattle.erd_meaning.specs.Accepted.{IsAccepted}
-use Rattle.erd_meaning.specs.LaterFaults.{is_other_selection, is_reference_fault, is_selection_in}
+use Rattle.erd_meaning.specs.LaterFaults.{is_reference_fault, is_selection_in}
 use Rattle.erd_meaning.specs.Objects.{Placed, has_id, is_owned, objects, owner}
 use Rattle.erd_meaning.specs.SelectionNames.{key_named}
 use Rattle.erd_meaning.specs.Keys.{key_of, text_at, has_keys}
@@ -83,6 +83,11 @@ find-any {A} test (x ∷ xs) e = at (test x) refl (find-any test xs)
 pub Contains-Has : {A : Type 0} (xs : List A) (x : A) → Has xs x → Contains xs x
 Contains-Has xs x (here {xs = ys}) = (0, omega arith, refl)
 Contains-Has xs x (later {y = y} {xs = ys} h) = let r = Contains-Has ys x h in (suc r.0, omega (arith, r.1), r.2)
+
+pub Has-Contains : {A : Type 0} (xs : List A) (x : A) → Contains xs x → Has xs x
+Has-Contains [] x (k, low, e) = absurd (omega (arith, low))
+Has-Contains (y ∷ ys) x (zero, low, e) = subst (Has (y ∷ ys)) e here
+Has-Contains (y ∷ ys) x (suc k, low, e) = later (Has-Contains ys x (k, omega (arith, low), e))
 
 pub option_map-Some : {A B : Type 0} (f : A → B) (o : Option A) (y : B) → option_map f o ≡ Some y → (x : A) × (o ≡ Some x) × (f x ≡ y)
 option_map-Some f None y e = cc

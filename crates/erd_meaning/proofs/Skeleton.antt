@@ -1,12 +1,10 @@
 -- The report and its one election, and where the objects of families stand.
-use Rattle.std.proofs.Common.{◌≡◌, ◌≢◌, ◌+◌, ℕ, List, [], ◌∷◌, ◌++◌, Option, Some, None, map, flat_map, Bool, true, false, codes, refl, sym, ap, ◌∙◌, subst, append-nil, option_map}
-use Rattle.serde_json.specs.Data.{Data, array, object, no_items, item, Members}
+use Rattle.std.proofs.Common.{◌≡◌, ◌+◌, ℕ, List, [], ◌∷◌, ◌++◌, Option, Some, None, map, flat_map, true, codes, refl, ap, ◌∙◌, subst, append-nil, option_map}
+use Rattle.serde_json.specs.Data.{Data, array, object, Items, no_items, item, Members}
 use Rattle.serde_json.specs.Find.{get_member, get_item}
-use Rattle.erd_tables.specs.declared.class.Family.{Family}
 use Rattle.erd_tables.specs.declared.place.Step.{Step}
 use Rattle.erd_tables.specs.declared.place.Step.TheVariants.{At, Name}
 use Rattle.erd_tables.specs.declared.class.Class.TheVariants as class
-use Rattle.erd_tables.specs.declared.class.Family.TheVariants as family
 use Rattle.erd_tables.specs.declared.class.Role.TheVariants as role
 use Rattle.erd_tables.specs.declared.member.MemberKind.TheVariants as kind
 use Rattle.erd_tables.specs.declared.fault.Reason.TheVariants as reason
@@ -17,7 +15,7 @@ use Rattle.erd_check.specs.Wants.{asked}
 use Rattle.erd_check.proofs.Entries.{array_from}
 use Rattle.erd_meaning.specs.Accepted.{IsAccepted}
 use Rattle.erd_meaning.specs.Objects.{Placed, elections, placed_entries, placed_from}
-use Rattle.erd_meaning.specs.Keys.{entries_at, has_keys}
+use Rattle.erd_meaning.specs.Keys.{entries_at}
 use Rattle.erd_meaning.proofs.Phases.{no_shape_fault}
 
 -- the report and its one election
@@ -28,6 +26,10 @@ pub record Skeleton (t : Data) : Type 0 where
   pub es : Members
   pub listed_election : get_member (codes "Election") ms ≡ Some (array (item (object es) no_items))
   pub election : ObjectAt t (Object role.Election) role.Election class.Election es
+
+-- an array of one object, put together
+listed_one : (o : Option Data) (v : Data) (ds : Items) (d : Data) (es : Members) → o ≡ Some v → v ≡ array ds → ds ≡ item d no_items → d ≡ object es → o ≡ Some (array (item (object es) no_items))
+listed_one o v ds d es e f g h = e ∙ ap Some (f ∙ ap array (g ∙ ap (λ x. item x no_items) h))
 
 pub skeleton : (t : Data) → IsAccepted t → Skeleton t
 skeleton t accepted = at (get_member (codes "Election") ms) refl
@@ -52,7 +54,7 @@ skeleton t accepted = at (get_member (codes "Election") ms) refl
           is_object = top.1;
           report = top.2;
           es = election.0;
-          listed_election = e ∙ ap Some (ds.1 ∙ ap array (one.1 ∙ ap (λ x. item x no_items) election.1));
+          listed_election = listed_one (get_member (codes "Election") ms) v ds.0 one.0 election.0 e ds.1 one.1 election.1;
           election = election.2;
         }
 

@@ -1,5 +1,5 @@
 -- Each object stands at its place, and no two have one `@id`.
-use Rattle.std.proofs.Common.{◌≡◌, ◌≢◌, ◌+◌, ℕ, suc, List, [], ◌∷◌, ◌++◌, Option, Some, flat_map, true, false, codes, Ordering, Less, Equal, Greater, refl, sym, ap, ◌∙◌, subst, ◌⊎◌, inl, inr, ⊎_elim, arith, None, option_map, find}
+use Rattle.std.proofs.Common.{◌≡◌, ◌+◌, ℕ, suc, List, [], ◌∷◌, ◌++◌, Option, Some, flat_map, true, false, codes, Ordering, Less, Equal, Greater, refl, sym, ap, ◌∙◌, subst, ◌⊎◌, inl, inr, ⊎_elim, arith, None, option_map, find}
 use Rattle.std.specs.Ordering.{ordering_reverse}
 use Rattle.std.specs.Str.{bytes_eq}
 use Rattle.std.specs.Option.{option_map_or}
@@ -156,21 +156,22 @@ stands t accepted family.Selection o h =
     selection_stands t accepted c.0 (keyed_stands t accepted (skeleton t accepted) family.Contest refl c.0 c.1) o c.2
 
 -- two objects of which neither is before the other are one
-pub one_value : (t : Data) → IsAccepted t → (f g : Family) (o p : Placed) → Has (objects f t) o → Has (objects g t) p → (IsBefore o p → ⊥) → (IsBefore p o → ⊥) → o.value ≡ p.value
-one_value t accepted f g o p h k before after = at (place_cmp o.place p.place) refl
+pub one_placed : (t : Data) → IsAccepted t → (f g : Family) (o p : Placed) → Has (objects f t) o → Has (objects g t) p → (IsBefore o p → ⊥) → (IsBefore p o → ⊥) → o ≡ p
+one_placed t accepted f g o p h k before after = at (place_cmp o.place p.place) refl
   where
-    at : (c : Ordering) → place_cmp o.place p.place ≡ c → o.value ≡ p.value
+    at : (c : Ordering) → place_cmp o.place p.place ≡ c → o ≡ p
     at Less is = absurd (before is)
     at Equal is =
         let same : o.place ≡ p.place = place_cmp_exact o.place p.place is in
         let both : Some (asked (Object (role.OfFamily f)) o.value) ≡ Some (asked (Object (role.OfFamily g)) p.value) = sym (stands t accepted f o h) ∙ ap (asked_at t) same ∙ stands t accepted g p k in
         let one : asked (Object (role.OfFamily f)) o.value ≡ asked (Object (role.OfFamily g)) p.value = cc in
-        ap (λ a. a.value) one
+        let values : o.value ≡ p.value = ap (λ a. a.value) one in
+        λ i. record { place = same i; value = values i }
     at Greater is = absurd (after (place_cmp_total.antisymm p.place o.place ∙ ap ordering_reverse is))
 
 -- two objects with one `@id` are one
-pub one_object : (t : Data) → IsAccepted t → (f g : Family) (o p : Placed) (r : List ℕ) → Has (objects f t) o → Has (objects g t) p → id_of o.value ≡ Some r → id_of p.value ≡ Some r → o.value ≡ p.value
-one_object t accepted f g o p r h k e l = one_value t accepted f g o p h k
+pub one_object : (t : Data) → IsAccepted t → (f g : Family) (o p : Placed) (r : List ℕ) → Has (objects f t) o → Has (objects g t) p → id_of o.value ≡ Some r → id_of p.value ≡ Some r → o ≡ p
+one_object t accepted f g o p r h k e l = one_placed t accepted f g o p h k
     (λ is. no_identity_fault t accepted (p.place ++ Name (codes "@id") ∷ []) reason.DuplicateId (record {
       family = g;
       later = p;
@@ -215,9 +216,9 @@ no_twin t accepted f o p k keyed h i e l is = no_identity_fault t accepted p.pla
 })
 
 -- two objects of a family with one key are one
-pub one_keyed : (t : Data) → IsAccepted t → (f : Family) (o p : Placed) (k : Key) → has_keys f ≡ true → Has (objects f t) o → Has (objects f t) p → key_of o.value ≡ Some k → key_of p.value ≡ Some k → o.value ≡ p.value
+pub one_keyed : (t : Data) → IsAccepted t → (f : Family) (o p : Placed) (k : Key) → has_keys f ≡ true → Has (objects f t) o → Has (objects f t) p → key_of o.value ≡ Some k → key_of p.value ≡ Some k → o ≡ p
 one_keyed t accepted f o p k keyed h i e l =
-    one_value t accepted f f o p h i (no_twin t accepted f o p k keyed h i e l) (no_twin t accepted f p o k keyed i h l e)
+    one_placed t accepted f f o p h i (no_twin t accepted f o p k keyed h i e l) (no_twin t accepted f p o k keyed i h l e)
 
 -- a later selection of a contest has not the name of an earlier one
 no_second_name : (t : Data) → IsAccepted t → (contest o p : Placed) (n : NameParts) → Has (objects family.Contest t) contest → Has (selections_of contest) o → Has (selections_of contest) p
@@ -238,9 +239,9 @@ no_second_name t accepted contest o p n c h k e l is = no_selection_fault t acce
 
 -- two selections of a contest with one name are one
 pub one_named : (t : Data) → IsAccepted t → (contest o p : Placed) (n : NameParts) → Has (objects family.Contest t) contest → Has (selections_of contest) o → Has (selections_of contest) p
-    → name_of t o.value ≡ Some n → name_of t p.value ≡ Some n → o.value ≡ p.value
+    → name_of t o.value ≡ Some n → name_of t p.value ≡ Some n → o ≡ p
 one_named t accepted contest o p n c h k e l =
-    one_value t accepted family.Selection family.Selection o p (flat-has selections_of (contests t) contest o c h) (flat-has selections_of (contests t) contest p c k)
+    one_placed t accepted family.Selection family.Selection o p (flat-has selections_of (contests t) contest o c h) (flat-has selections_of (contests t) contest p c k)
     (no_second_name t accepted contest o p n c h k e l) (no_second_name t accepted contest p o n c k h l e)
 
 pub has_id-Some : (r : List ℕ) (d : Data) → has_id r d ≡ true → id_of d ≡ Some r
@@ -257,7 +258,7 @@ has_id-from r d e = ap (λ o. option_map_or (bytes_eq r) o false) e ∙ text_its
 pub owner_is : (t : Data) → IsAccepted t → (f : Family) (o : Placed) (r : List ℕ) → Has (objects f t) o → id_of o.value ≡ Some r → owner t f r ≡ Some o.value
 owner_is t accepted f o r h e =
     let x = find-any (λ o. has_id r o.value) (objects f t) (any-has (λ o. has_id r o.value) (objects f t) o h (has_id-from r o.value e)) in
-    ap (option_map (λ o. o.value)) x.1 ∙ ap Some (one_object t accepted f f x.0 o r x.3 h (has_id-Some r x.0.value x.2) e)
+    ap (option_map (λ o. o.value)) x.1 ∙ ap (λ x. Some x.value) (one_object t accepted f f x.0 o r x.3 h (has_id-Some r x.0.value x.2) e)
 
 -- the object that an `@id` names
 pub owned_by : (t : Data) (f : Family) (r : List ℕ) (d : Data) → owner t f r ≡ Some d → (o : Placed) × Has (objects f t) o × (o.value ≡ d) × (id_of d ≡ Some r)

@@ -35,7 +35,7 @@ names_of t canonical = record {
       let y = and_then-Some key_of (owner t f s) k g in
       let o = owned_by t f r x.0 x.1 in
       let p = owned_by t f s y.0 y.1 in
-      let same : o.0.value ≡ p.0.value = one_keyed t canonical.accepted f o.0 p.0 k keyed o.1 p.1 (ap key_of o.2 ∙ x.2) (ap key_of p.2 ∙ y.2) in
+      let same : o.0.value ≡ p.0.value = ap (λ z. z.value) (one_keyed t canonical.accepted f o.0 p.0 k keyed o.1 p.1 (ap key_of o.2 ∙ x.2) (ap key_of p.2 ∙ y.2)) in
       let ids : Some r ≡ Some s = sym o.3 ∙ ap id_of (sym o.2 ∙ same ∙ p.2) ∙ p.3 in
       cc;
 }
@@ -89,7 +89,7 @@ module _ (t u : Data) (canonical : IsCanonical t) (canonical' : IsCanonical u) (
         selections = selection_pairs t u canonical canonical' i o p e g (selections_paired t u canonical canonical' o.value p.value (record { place = o.place; is = stands t canonical.accepted family.Contest o (slice_get-has (objects family.Contest t) i o e) }) (record { place = p.place; is = stands u canonical'.accepted family.Contest p (slice_get-has (objects family.Contest u) i p g) }) r.alike.1);
       })
 
-  all_selections : Paired (SelectionPair t u) (objects family.Selection t) (objects family.Selection u)
+  pub all_selections : Paired (SelectionPair t u) (objects family.Selection t) (objects family.Selection u)
   all_selections = paired_flat (ContestPair t u) (SelectionPair t u) selections_of selections_of (contests t) (contests u) contest_pairs (λ o p r. r.selections)
 
   key_same : (f : Family) (r : List ℕ) → has_keys f ≡ true → key_named t f r ≡ key_named u f r
@@ -116,7 +116,7 @@ module _ (t u : Data) (canonical : IsCanonical t) (canonical' : IsCanonical u) (
       let y = selection_named t canonical o.0 s o.1 (ap (λ d. is_selection_in d s) o.2 ∙ k) in
       let stands_at = stands t canonical.accepted family.Selection x.0 (flat-has selections_of (contests t) o.0 x.0 o.1 x.1) in
       let n = has_name t canonical.accepted x.0.value (record { place = x.0.place; is = stands_at }) in
-      let one : x.0.value ≡ y.0.value = one_named t canonical.accepted o.0 x.0 y.0 n.0 o.1 x.1 y.1 n.1 (sym y.3 ∙ sym names ∙ x.3 ∙ n.1) in
+      let one : x.0.value ≡ y.0.value = ap (λ z. z.value) (one_named t canonical.accepted o.0 x.0 y.0 n.0 o.1 x.1 y.1 n.1 (sym y.3 ∙ sym names ∙ x.3 ∙ n.1)) in
       let ids : Some r ≡ Some s = sym x.2 ∙ ap id_of one ∙ y.2 in
       cc
 

@@ -9,3 +9,7 @@ pub mod FamilyArrays
 pub mod Families
 pub mod Selections
 pub mod Agreement
+pub mod Unique
+pub mod NamesAlike
+pub mod ReferencesAlike
+pub mod ObjectsAlike

@@ -1,5 +1,5 @@
 -- The selections of a contest are paired by their names, and all objects by their `@id` texts.
-use Rattle.std.proofs.Common.{◌≡◌, ◌+◌, ℕ, zero, suc, List, [], ◌∷◌, ◌++◌, Option, Some, None, option_map, option_and_then, filter_map, find, flat_map, Bool, true, false, codes, slice_get, refl, sym, ap, ◌∙◌, subst}
+use Rattle.std.proofs.Common.{◌≡◌, ◌+◌, ℕ, zero, suc, List, ◌∷◌, ◌++◌, Option, Some, None, option_map, option_and_then, filter_map, find, flat_map, Bool, true, false, codes, slice_get, refl, sym, ap, ◌∙◌, subst}
 use Rattle.std.specs.Str.{bytes_eq}
 use Rattle.std.specs.Option.{option_map_or}
 use Rattle.std.specs.List.Sorted.{IsStrictlySortedBy}

@@ -1,0 +1,5 @@
+use Rattle.erd_normal.proofs.Unique.{unique}
+use Rattle.erd_normal.proofs.laws.canonical_is_unique.Goals as goal
+
+pub returns : goal.returns
+returns c = record { law = unique }

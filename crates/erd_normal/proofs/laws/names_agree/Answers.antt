@@ -1,0 +1,5 @@
+use Rattle.erd_normal.proofs.NamesAlike.{names_agree}
+use Rattle.erd_normal.proofs.laws.names_agree.Goals as goal
+
+pub returns : goal.returns
+returns c = record { law = names_agree }

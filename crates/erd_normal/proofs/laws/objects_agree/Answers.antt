@@ -1,0 +1,5 @@
+use Rattle.erd_normal.proofs.ObjectsAlike.{objects_agree}
+use Rattle.erd_normal.proofs.laws.objects_agree.Goals as goal
+
+pub returns : goal.returns
+returns c = record { law = objects_agree }

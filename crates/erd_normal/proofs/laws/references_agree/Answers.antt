@@ -1,0 +1,5 @@
+use Rattle.erd_normal.proofs.ReferencesAlike.{references_agree}
+use Rattle.erd_normal.proofs.laws.references_agree.Goals as goal
+
+pub returns : goal.returns
+returns c = record { law = references_agree }
