@@ -1,1 +1,2 @@
 mod CanonicalExamples
+mod StableOrderExamples
