@@ -1,2 +1,3 @@
 mod CanonicalExamples
 mod StableOrderExamples
+mod RearrangedExamples
