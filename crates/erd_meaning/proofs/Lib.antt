@@ -4,3 +4,4 @@ pub mod RecordExamples
 mod LaterFaultExamples
 pub mod Phases
 pub mod WholeRecords
+pub mod WholeMeanings

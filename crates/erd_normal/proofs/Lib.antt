@@ -1,3 +1,4 @@
 mod CanonicalExamples
 mod StableOrderExamples
 mod RearrangedExamples
+mod MeaningExamples
