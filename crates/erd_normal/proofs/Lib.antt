@@ -1,4 +1,6 @@
 mod CanonicalExamples
+mod CanonicalPartExamples
 mod StableOrderExamples
 mod RearrangedExamples
-mod MeaningExamples
+pub mod MeaningExamples
+pub mod Lists

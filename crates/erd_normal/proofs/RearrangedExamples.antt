@@ -1,5 +1,5 @@
 -- Whole reports that are rearrangements of one another, and changes that are refused.
-use Rattle.std.proofs.Common.{◌≡◌, ℕ, zero, suc, List, [], ◌∷◌, ◌++◌, map, codes, Contains, Option, Some, None, Bool, true, false, true≢false, not, ◌&&◌, refl, sym, ap, ◌∙◌, subst, arith, lit<}
+use Rattle.std.proofs.Common.{◌≡◌, ℕ, zero, suc, List, [], ◌∷◌, ◌++◌, map, codes, Contains, Option, Some, None, Bool, true, false, true≢false, not, ◌&&◌, refl, sym, ap, ◌∙◌, arith, lit<}
 use Rattle.std.proofs.lemmas.Bool.{and_parts, or_parts, not-true}
 use Rattle.std.proofs.lemmas.Bool.Decides.{Decides-eqb}
 use Rattle.std.proofs.lemmas.Map.Views.{Contains-from_any}
@@ -10,14 +10,14 @@ use Rattle.std.specs.Prelude.{slice_get, length, option_map, unwrap_or, if◌the
 use Rattle.std.specs.Str.{bytes_eq}
 use Rattle.serde_json.specs.Data.{Num, unsigned, Data, null, boolean, number, string, array, object, Items, no_items, item, Members, no_members, member}
 use Rattle.serde_json.proofs.OnLiterals.{serde_json_on_literals}
-use Rattle.erd_tables.specs.Classes.{families, family_number}
-use Rattle.erd_tables.specs.declared.class.Family.{Family}
+use Rattle.erd_tables.specs.Classes.{families}
 use Rattle.erd_tables.specs.declared.class.Family.TheVariants as family
 use Rattle.erd_tables.specs.declared.place.Step.{Step}
 use Rattle.erd_tables.specs.declared.place.Step.TheVariants.{Name, At}
 use Rattle.erd_check.proofs.Reports.{tree_of, small_ballot, small_ballot_canonical, one_unit}
 use Rattle.erd_check.specs.Trees.{same_flag}
 use Rattle.erd_meaning.specs.Objects.{Placed, objects, id_of, report_of}
+use Rattle.erd_normal.proofs.Lists.{passed, is_family}
 use Rattle.erd_normal.specs.Rearranged.{Renaming, IsRenaming, Change, a_renaming, an_exchange, IsRearrangement}
 
 -- ---- texts with a part replaced
@@ -47,15 +47,6 @@ abbrev is_renaming : Data → Renaming → Bool
 is_renaming t pairs =
     list_all (λ f. are_among (map (λ pair. pair.0) pairs) (objects f t)) families
     && (are_apart (λ pair. pair.0) pairs && are_apart (λ pair. pair.1) pairs)
-
-passed : {A : Type 0} (test : A → Bool) (xs : List A) (x : A) → list_all test xs ≡ true → Contains xs x → test x ≡ true
-passed test [] x h (k, low, is) = absurd (omega arith)
-passed test (y ∷ ys) x h (zero, low, is) = subst (λ z. test z ≡ true) is (and_parts (test y) _ h).0
-passed test (y ∷ ys) x h (suc k, low, is) = passed test ys x (and_parts (test y) _ h).1 (k, omega arith, is)
-
-is_family : (f : Family) → Contains families f
-is_family family.Unit = (0, lit< tt, refl)
-is_family f = (family_number f, lit< tt, refl)
 
 not_later : {A : Type 0} (test : A → Bool) (xs : List A) (j : ℕ) (y : A) → list_any test xs ≡ false → slice_get xs j ≡ Some y → test y ≡ true → ⊥
 not_later test [] j y h e g = absurd (cc e)
