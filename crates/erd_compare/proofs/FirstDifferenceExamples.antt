@@ -1,9 +1,6 @@
 -- The first difference of whole reports, each of one unit: none, and one for each of some edits.
-use Rattle.std.proofs.Common.{◌≡◌, ◌≢◌, ℕ, List, [], ◌∷◌, codes, slice_get, filter, map, Bool, true, false, true≢false, not, ◌||◌, Option, Some, None, refl, sym, ap, ◌∙◌, Equal}
-use Rattle.std.proofs.lemmas.Bool.{or_from, or_parts}
-use Rattle.std.proofs.lemmas.List.Folds.{list_any-append}
+use Rattle.std.proofs.Common.{◌≡◌, ◌≢◌, ℕ, List, [], ◌∷◌, codes, slice_get, Bool, true, false, true≢false, Option, Some, None, refl, sym, ap, ◌∙◌, Equal}
 use Rattle.std.proofs.lemmas.Slice.Eq.{bytes_eq-Decides}
-use Rattle.std.specs.List.{list_any}
 use Rattle.std.specs.Ordering.{is_eq, is_lt}
 use Rattle.std.specs.Prelude.{option_and_then, option_map, unwrap_or, is_some}
 use Rattle.std.specs.Str.{bytes_eq}
@@ -11,7 +8,6 @@ use Rattle.std.specs.declared.cmp.Ordering.TheVariants.{Less}
 use Rattle.serde_json.specs.Data.{Data, null, string}
 use Rattle.serde_json.proofs.OnLiterals.{serde_json_on_literals}
 use Rattle.erd_tables.specs.Texts.{text_cmp}
-use Rattle.erd_tables.specs.declared.class.Class.{Class}
 use Rattle.erd_tables.specs.declared.class.Class.TheVariants as class
 use Rattle.erd_tables.specs.declared.class.Family.{Family}
 use Rattle.erd_tables.specs.declared.class.Family.TheVariants as family
@@ -23,8 +19,9 @@ use Rattle.erd_meaning.specs.Objects.{objects, elections}
 use Rattle.erd_meaning.specs.Records.{member_of_class, object_record, records_of, meaning}
 use Rattle.erd_meaning.specs.declared.key.Key.{Key}
 use Rattle.erd_meaning.proofs.RecordExamples.{local_key}
-use Rattle.erd_meaning.proofs.WholeMeanings.{names_of_both, same_object, same_at_every_key, no_record, same_meaning, equal_keys, is_key_in}
-use Rattle.erd_meaning.proofs.WholeRecords.{names_in, absent_member, same_at_other_names}
+use Rattle.erd_meaning.proofs.EqualNames.{equal_keys}
+use Rattle.erd_meaning.proofs.WholeMeanings.{same_but_one, same_object, is_key_in, same_at_every_key, no_record, same_meaning}
+use Rattle.erd_meaning.proofs.WholeRecords.{absent_member}
 use Rattle.erd_compare.specs.Differences.{record_at, part_cmp, IsFirstDifference, IsDifference}
 use Rattle.erd_compare.specs.declared.difference.How.{How}
 use Rattle.erd_compare.specs.declared.difference.How.TheVariants.{OnlyLeft, OnlyRight, Member}
@@ -40,27 +37,6 @@ other_if_less name one itself less = at (bytes_eq name one) refl
     at : (b : Bool) → bytes_eq name one ≡ b → bytes_eq name one ≡ false
     at true is = let same : Equal ≡ Less = sym itself ∙ (ap (λ n. text_cmp n one) (sym ((bytes_eq-Decides name one).0 is)) ∙ less) in absurd (cc same)
     at false is = is
-
--- these names without one of them
-abbrev but_one : List ℕ → List (List ℕ) → List (List ℕ)
-but_one one names = filter (λ n. not (bytes_eq n one)) names
-
-outside : (name one : List ℕ) (names : List (List ℕ)) → bytes_eq name one ≡ false → list_any (bytes_eq name) (but_one one names) ≡ false → list_any (bytes_eq name) names ≡ false
-outside name one [] other h = refl
-outside name one (n ∷ ns) other h = at (bytes_eq n one) refl (outside name one ns other)
-  where
-    at : (b : Bool) → bytes_eq n one ≡ b → (list_any (bytes_eq name) (but_one one ns) ≡ false → list_any (bytes_eq name) ns ≡ false) → (bytes_eq name n || list_any (bytes_eq name) ns) ≡ false
-    at true is rest = or_from (bytes_eq name n) _ (ap (bytes_eq name) ((bytes_eq-Decides n one).0 is) ∙ other) (rest (rw is at h))
-    at false is rest = let both = or_parts (bytes_eq name n) _ (rw is at h) in or_from (bytes_eq name n) _ both.0 (rest both.1)
-
--- two objects of one class mean the same at every name but one, if they do at the others that either has
-same_but_one : (t u d e : Data) (c : Class) (one : List ℕ) → map (member_of_class t d c) (but_one one (names_of_both d e)) ≡ map (member_of_class u e c) (but_one one (names_of_both d e))
-    → (name : List ℕ) → bytes_eq name one ≡ false → member_of_class t d c name ≡ member_of_class u e c name
-same_but_one t u d e c one agree =
-    let parts : (name : List ℕ) → list_any (bytes_eq name) (names_of_both d e) ≡ false → (list_any (bytes_eq name) (names_in d) ≡ false) × (list_any (bytes_eq name) (names_in e) ≡ false) =
-    λ name h. or_parts (list_any (bytes_eq name) (names_in d)) (list_any (bytes_eq name) (names_in e)) (sym (list_any-append (bytes_eq name) (names_in d) (names_in e)) ∙ h) in
-    same_at_other_names (member_of_class t d c) (member_of_class u e c) d e (but_one one (names_of_both d e)) one (absent_member t d c) (absent_member u e c)
-    (λ name other h. (parts name (outside name one (names_of_both d e) other h)).0) (λ name other h. (parts name (outside name one (names_of_both d e) other h)).1) agree
 
 -- ---- reports of one unit
 
@@ -128,7 +104,8 @@ other_name e = true≢false (sym old_name ∙ ap (is_labelled (codes "Test")) e 
 
 same_but_name : (name : List ℕ) → bytes_eq name (codes "Name") ≡ false → election_member left name ≡ election_member renamed name
 unfolding serde_json_on_literals
-same_but_name = same_but_one left renamed (election_in left) (election_in renamed) class.Election (codes "Name") refl
+same_but_name =
+    same_but_one (election_member left) (election_member renamed) (election_in left) (election_in renamed) (codes "Name") (absent_member left (election_in left) class.Election) (absent_member renamed (election_in renamed) class.Election) refl
 
 renamed_report : object_record left role.Report left ≡ object_record renamed role.Report renamed
 unfolding serde_json_on_literals
