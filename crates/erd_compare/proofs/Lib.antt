@@ -1,2 +1,3 @@
 mod DifferenceExamples
 mod OrderExamples
+mod FirstDifferenceExamples

@@ -19,3 +19,5 @@ pub mod ObjectPlaces
 pub mod ObjectFamilies
 pub mod ToldFaults
 pub mod IdentityFaults
+pub mod EqualNames
+pub mod WholeMeanings

@@ -13,3 +13,8 @@ pub mod Unique
 pub mod NamesAlike
 pub mod ReferencesAlike
 pub mod ObjectsAlike
+mod CanonicalPartExamples
+mod StableOrderExamples
+mod RearrangedExamples
+pub mod MeaningExamples
+pub mod Lists

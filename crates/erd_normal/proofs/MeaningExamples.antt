@@ -1,0 +1,54 @@
+-- The report of one unit and its canonical form mean the same.
+use Rattle.std.proofs.Common.{◌≡◌, ℕ, List, [], ◌∷◌, codes, slice_get, refl}
+use Rattle.std.specs.Prelude.{option_map, unwrap_or}
+use Rattle.serde_json.specs.Data.{Data, null}
+use Rattle.serde_json.proofs.OnLiterals.{serde_json_on_literals}
+use Rattle.erd_tables.specs.declared.class.Class.TheVariants as class
+use Rattle.erd_tables.specs.declared.class.Family.{Family}
+use Rattle.erd_tables.specs.declared.class.Family.TheVariants as family
+use Rattle.erd_tables.specs.declared.class.Role.TheVariants as role
+use Rattle.erd_check.proofs.Reports.{tree_of, one_unit}
+use Rattle.erd_meaning.proofs.RecordExamples.{local_key}
+use Rattle.erd_meaning.proofs.WholeMeanings.{same_object, same_at_every_key, no_record, same_meaning}
+use Rattle.erd_meaning.specs.Objects.{objects, elections}
+use Rattle.erd_meaning.specs.Records.{object_record, records_of, meaning}
+use Rattle.erd_meaning.specs.declared.key.Key.{Key}
+
+-- the canonical form of the report of one unit
+abbrev pub one_unit_canonical : List ℕ
+one_unit_canonical = codes "{\"@type\":\"ElectionResults.ElectionReport\",\"Election\":[{\"@type\":\"ElectionResults.Election\",\"ElectionScopeId\":\"gp1\",\"EndDate\":\"2026-11-03\",\"Name\":\"Test\",\"StartDate\":\"2026-11-03\",\"Type\":\"general\"}],\"Format\":\"summary-contest\",\"GeneratedDate\":\"2000-01-01T00:00:00Z\",\"GpUnit\":[{\"@id\":\"gp1\",\"@type\":\"ElectionResults.ReportingUnit\",\"ExternalIdentifier\":[{\"@type\":\"ElectionResults.ExternalIdentifier\",\"Type\":\"local-level\",\"Value\":\"U1\"}],\"Type\":\"county\"}],\"Issuer\":\"canonical\",\"IssuerAbbreviation\":\"canonical\",\"SequenceEnd\":1,\"SequenceStart\":1,\"Status\":\"pre-election\",\"VendorApplicationId\":\"canonical\"}"
+
+abbrev given : Data
+given = tree_of one_unit
+
+abbrev canonical : Data
+canonical = tree_of one_unit_canonical
+
+abbrev election_in : Data → Data
+election_in t = unwrap_or (option_map (λ o. o.value) (slice_get (elections t) 0)) null
+
+abbrev unit_in : Data → Data
+unit_in t = unwrap_or (option_map (λ o. o.value) (slice_get (objects family.Unit t) 0)) null
+
+same_report : object_record canonical role.Report canonical ≡ object_record given role.Report given
+unfolding serde_json_on_literals
+same_report = same_object canonical given canonical given role.Report class.ElectionReport refl refl refl
+
+same_election : (meaning canonical).election ≡ (meaning given).election
+unfolding serde_json_on_literals
+same_election = same_object canonical given (election_in canonical) (election_in given) role.Election class.Election refl refl refl
+
+same_unit : records_of canonical family.Unit (local_key (codes "U1")) ≡ records_of given family.Unit (local_key (codes "U1"))
+unfolding serde_json_on_literals
+same_unit = same_object canonical given (unit_in canonical) (unit_in given) (role.OfFamily family.Unit) class.ReportingUnit refl refl refl
+
+same_objects : (f : Family) (k : Key) → records_of canonical f k ≡ records_of given f k
+unfolding serde_json_on_literals
+same_objects family.Unit k =
+    same_at_every_key (records_of canonical family.Unit) (records_of given family.Unit) (local_key (codes "U1") ∷ []) (same_unit, tt)
+    (no_record canonical family.Unit) (no_record given family.Unit) k
+same_objects f k = refl
+
+-- they mean the same
+pub canonical_means_the_same : meaning (tree_of one_unit_canonical) ≡ meaning (tree_of one_unit)
+canonical_means_the_same = same_meaning canonical given same_report same_election same_objects
