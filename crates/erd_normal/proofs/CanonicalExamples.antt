@@ -77,7 +77,7 @@ other_orders : orders (tree_of small_ballot) (Name (codes "Election") âˆ· At 0 â
 unfolding serde_json_on_literals
 other_orders = refl
 
-canonical_envelope : HasCanonicalEnvelope (tree_of small_ballot_canonical)
+pub canonical_envelope : HasCanonicalEnvelope (tree_of small_ballot_canonical)
 unfolding serde_json_on_literals
 canonical_envelope = record {
   format = refl;

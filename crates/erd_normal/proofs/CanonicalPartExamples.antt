@@ -62,11 +62,11 @@ canonical_ids t h =
           (passed_at (λ i contest. all_from (is_selection_ranked i) 0 (selections_of contest)) (objects family.Contest t) i contest parts.1 contest_at) at);
     }
 
-ids_of_one_unit : HasCanonicalIds (tree_of one_unit_canonical)
+pub ids_of_one_unit : HasCanonicalIds (tree_of one_unit_canonical)
 unfolding serde_json_on_literals digits
 ids_of_one_unit = canonical_ids (tree_of one_unit_canonical) refl
 
-ids_of_small_ballot : HasCanonicalIds (tree_of small_ballot_canonical)
+pub ids_of_small_ballot : HasCanonicalIds (tree_of small_ballot_canonical)
 unfolding serde_json_on_literals digits
 ids_of_small_ballot = canonical_ids (tree_of small_ballot_canonical) refl
 
@@ -80,7 +80,7 @@ other_ids h = true≢false (ap (is_same (Some (codes "a2"))) (h.families family.
 
 -- ---- the envelope
 
-envelope_of_one_unit : HasCanonicalEnvelope (tree_of one_unit_canonical)
+pub envelope_of_one_unit : HasCanonicalEnvelope (tree_of one_unit_canonical)
 unfolding serde_json_on_literals
 envelope_of_one_unit = record {
   format = refl;

@@ -1,4 +1,4 @@
-mod CanonicalExamples
+pub mod CanonicalExamples
 pub mod Paired
 pub mod Arrays
 pub mod Labels
@@ -13,8 +13,9 @@ pub mod Unique
 pub mod NamesAlike
 pub mod ReferencesAlike
 pub mod ObjectsAlike
-mod CanonicalPartExamples
+pub mod CanonicalPartExamples
 mod StableOrderExamples
 mod RearrangedExamples
 pub mod MeaningExamples
 pub mod Lists
+pub mod CanonicalReports
