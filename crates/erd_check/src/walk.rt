@@ -7,10 +7,10 @@ ghost use Rattle.erd_check.specs.Trees.{is_same_json};
 ghost use Rattle.erd_check.specs.Paths.{steps_of};
 ghost use Rattle.erd_check.specs.Walk.{names, faults_at, item_faults, member_faults, IsInOrder, AreItemsInOrder, AreMembersInOrder};
 
+use crate::equality::same_json;
 use crate::judge::judge;
 use crate::path::Path;
-use crate::equality::same_json;
-use crate::want::{Scope, Want, want_of_entry, is_set_wanted, scope_of, want_in};
+use crate::want::{Scope, Want, is_set_wanted, scope_of, want_in, want_of_entry};
 use erd_tables::Fault;
 use serde_json::{Map, Value};
 use std::alloc::{AllocError, Global};

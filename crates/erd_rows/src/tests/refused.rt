@@ -72,7 +72,11 @@ fn shape_faults(alloc: Global) -> Answer {
     match shape(alloc, &tree) {
         Ok(_) => Answer::Wrong,
         Err(CheckError::Memory) => Answer::WantsMemory,
-        Err(CheckError::Faults(faults)) => match has_lines(alloc, &faults, THREE_SHAPE_FAULT_LINES) {
+        Err(CheckError::Faults(faults)) => match has_lines(
+            alloc,
+            &faults,
+            THREE_SHAPE_FAULT_LINES,
+        ) {
             Ok(true) => Answer::Right,
             Ok(false) => Answer::Wrong,
             Err(_) => Answer::WantsMemory,

@@ -1,0 +1,57 @@
+-- The report of one unit as bytes: it is accepted, these are its canonical bytes, and the engines write these texts.
+use Rattle.std.proofs.Common.{◌≡◌, List, ℕ, [], codes, None, inl, inr, refl, sym}
+use Rattle.std.specs.Fmt.{digits}
+use Rattle.serde_json.proofs.OnLiterals.{serde_json_on_literals}
+use Rattle.erd_check.proofs.Reports.{one_unit, tree_of}
+use Rattle.erd_meaning.proofs.AcceptedExamples.{one_unit_is_accepted}
+use Rattle.erd_normal.proofs.CanonicalReports.{form_of_one_unit, one_unit_canonical_is_accepted}
+use Rattle.erd_normal.proofs.MeaningExamples.{canonical_means_the_same, one_unit_canonical}
+use Rattle.erd_canon.specs.Bytes.{IsAcceptedReport, IsCanonicalBytes, IsTreeOf}
+use Rattle.erd_canon.specs.EngineTexts.{IsCanonicalErrors, IsCanonicalOutput, IsCheckText, IsCompareText, IsComparison}
+
+tree_of_one_unit : IsTreeOf one_unit (tree_of one_unit)
+unfolding serde_json_on_literals
+tree_of_one_unit = ((one_unit, (refl, refl)), refl)
+
+tree_of_canonical : IsTreeOf one_unit_canonical (tree_of one_unit_canonical)
+unfolding serde_json_on_literals
+tree_of_canonical = ((one_unit_canonical, (refl, refl)), refl)
+
+accepted : IsAcceptedReport one_unit (tree_of one_unit)
+accepted = record { read = tree_of_one_unit; accepted = one_unit_is_accepted }
+
+canonical_accepted : IsAcceptedReport one_unit_canonical (tree_of one_unit_canonical)
+canonical_accepted = record { read = tree_of_canonical; accepted = one_unit_canonical_is_accepted }
+
+canonical_bytes : IsCanonicalBytes one_unit one_unit_canonical
+unfolding serde_json_on_literals digits
+canonical_bytes = record {
+  report = tree_of one_unit;
+  is_accepted = accepted;
+  tree = tree_of one_unit_canonical;
+  is_canonical = form_of_one_unit;
+  written = refl;
+  reads_back = tree_of_canonical;
+}
+
+checked : IsCheckText one_unit (codes "accepted\n")
+checked = inl (tree_of one_unit, accepted, refl)
+
+written : IsCanonicalOutput one_unit one_unit_canonical
+written = inl canonical_bytes
+
+no_errors : IsCanonicalErrors one_unit []
+no_errors = inl (tree_of one_unit, accepted, refl)
+
+-- the report and its canonical form mean the same
+comparison : IsComparison one_unit one_unit_canonical None
+comparison = record {
+  left_tree = tree_of one_unit;
+  right_tree = tree_of one_unit_canonical;
+  left_accepted = accepted;
+  right_accepted = canonical_accepted;
+  difference = sym canonical_means_the_same;
+}
+
+compared : IsCompareText one_unit one_unit_canonical (codes "same\n")
+compared = inr (inr (None, comparison, refl))
