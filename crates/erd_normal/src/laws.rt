@@ -18,7 +18,7 @@ pub fn objects_agree()
     ensures law { ObjectsAgree }
 {}
 
-/// The law that no two canonical reports mean the same. It runs nothing.
+/// The law that two canonical reports that mean the same are equal. It runs nothing.
 pub fn canonical_is_unique()
     ensures law { CanonicalIsUnique }
 {}

@@ -1,5 +1,6 @@
 mod devices;
 mod edits;
+mod lines;
 mod refused;
 mod reports;
 mod shape;

@@ -1,11 +1,12 @@
 //! Calls whose memory may be refused: `tests/refusals.sh` refuses each request of memory in turn.
+use crate::tests::lines::lines;
 use crate::vectors::{ONE_UNIT, ONE_UNIT_CANONICAL, THREE_SHAPE_FAULT_LINES, THREE_SHAPE_FAULTS};
 use crate::writers::PageWriter;
 use erd_canon::{Outcome, ReadFrom, Refusal, RunFault, WriteTo, canonical, run_canon};
 use erd_check::{CheckError, shape};
 use erd_tables::FaultList;
 use serde_json::Value;
-use std::alloc::{AllocError, Global};
+use std::alloc::Global;
 
 // What came of a call.
 #[derive(Clone, Copy, PartialEq, Eq)]
@@ -52,17 +53,13 @@ fn run(alloc: Global) -> Answer {
     }
 }
 
-// Whether the list has these lines, each with its line end.
-fn has_lines(alloc: Global, faults: &FaultList, wanted: &str) -> Result<bool, AllocError> {
-    let mut text = String::new(alloc);
-    for index in 0..faults.len() {
-        if let Some(fault) = faults.get(index) {
-            let line = fault.line(alloc)?;
-            text.push_str(line.as_str())?;
-            text.push('\n')?;
-        }
+// Whether these are the lines of the faults.
+fn told(alloc: Global, faults: &FaultList, wanted: &str) -> Answer {
+    match lines(alloc, faults) {
+        Ok(text) if text.as_str() == wanted => Answer::Right,
+        Ok(_) => Answer::Wrong,
+        Err(_) => Answer::WantsMemory,
     }
-    Ok(text.as_str() == wanted)
 }
 
 fn shape_faults(alloc: Global) -> Answer {
@@ -72,15 +69,7 @@ fn shape_faults(alloc: Global) -> Answer {
     match shape(alloc, &tree) {
         Ok(_) => Answer::Wrong,
         Err(CheckError::Memory) => Answer::WantsMemory,
-        Err(CheckError::Faults(faults)) => match has_lines(
-            alloc,
-            &faults,
-            THREE_SHAPE_FAULT_LINES,
-        ) {
-            Ok(true) => Answer::Right,
-            Ok(false) => Answer::Wrong,
-            Err(_) => Answer::WantsMemory,
-        },
+        Err(CheckError::Faults(faults)) => told(alloc, &faults, THREE_SHAPE_FAULT_LINES),
     }
 }
 

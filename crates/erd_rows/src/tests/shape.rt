@@ -1,10 +1,11 @@
 //! Faults of the shape, by their lines.
 use crate::tests::edits::edited;
+use crate::tests::lines::lines;
 use crate::vectors::{
     ONE_UNIT, SMALL_BALLOT, SMALL_BALLOT_CANONICAL, THREE_SHAPE_FAULT_LINES, THREE_SHAPE_FAULTS,
 };
 use erd_check::{CheckError, faults, same_json, shape};
-use erd_tables::{Fault, FaultList, Place, Reason, Step, Text, pointer};
+use erd_tables::{Fault, Place, Reason, Step, Text, pointer};
 use serde_json::Value;
 use std::alloc::Global;
 use std::test::Fail;
@@ -15,18 +16,6 @@ const IDENTIFIER: &str =
 
 const IDENTIFIER_TWICE: &str =
     r#"[{"@type":"ElectionResults.ExternalIdentifier","Type":"local-level","Value":"U1"},{"@type":"ElectionResults.ExternalIdentifier","Type":"local-level","Value":"U1"}]"#;
-
-// The lines of a list of faults, each with its line end.
-fn lines(alloc: Global, faults: &FaultList) -> Result<String, Fail> {
-    let mut text = String::new(alloc);
-    for index in 0..faults.len() {
-        let fault = faults.get(index).ok_or("no such fault")?;
-        let line = fault.line(alloc)?;
-        text.push_str(line.as_str())?;
-        text.push('\n')?;
-    }
-    Ok(text)
-}
 
 // A report, an edit of it, and its fault lines.
 type Case = (&'static str, &'static str, &'static str, &'static str);
