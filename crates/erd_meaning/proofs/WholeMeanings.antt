@@ -1,15 +1,15 @@
 -- When two reports mean the same: the report, the election and the object of each key mean the same.
-use Rattle.std.proofs.Common.{◌≡◌, ℕ, List, [], ◌∷◌, ◌++◌, Bool, true, false, true≢false, not, ◌||◌, Contains, Option, Some, None, find, filter, map, refl, sym, ap, ◌∙◌, subst, zero, suc, arith}
+use Rattle.std.proofs.Common.{◌≡◌, ℕ, List, [], ◌∷◌, ◌++◌, Bool, true, false, true≢false, not, ◌&&◌, ◌||◌, Contains, Option, Some, None, find, filter, map, Ordering, refl, sym, ap, ◌∙◌, subst, zero, suc, arith}
 use Rattle.std.proofs.Math.Path.{fun_ext}
-use Rattle.std.proofs.lemmas.Bool.{or_from, or_parts}
+use Rattle.std.proofs.lemmas.Bool.{and_parts, or_from, or_parts}
 use Rattle.std.proofs.lemmas.List.Folds.{list_any-append}
 use Rattle.std.proofs.lemmas.Slice.Eq.{bytes_eq-Decides}
 use Rattle.std.specs.List.{list_any}
 use Rattle.std.specs.Option.{option_cmp}
 use Rattle.std.specs.Ordering.{is_eq}
-use Rattle.std.specs.Prelude.{option_and_then, option_map, cond, ⊤}
+use Rattle.std.specs.Prelude.{option_and_then, option_map, unwrap_or, is_some, cond, ⊤}
 use Rattle.std.specs.Str.{bytes_eq}
-use Rattle.serde_json.specs.Data.{Data}
+use Rattle.serde_json.specs.Data.{Data, null}
 use Rattle.serde_json.specs.Find.{get}
 use Rattle.erd_tables.specs.Table.{kind_of_member}
 use Rattle.erd_tables.specs.declared.class.Class.{Class}
@@ -20,14 +20,14 @@ use Rattle.erd_tables.specs.declared.class.Role.TheVariants as role
 use Rattle.erd_tables.specs.declared.member.MemberKind.{MemberKind}
 use Rattle.erd_tables.specs.declared.member.MemberKind.TheVariants as kind
 use Rattle.erd_check.specs.Wants.{class_of_object}
-use Rattle.erd_meaning.specs.Keys.{key_cmp, key_of}
+use Rattle.erd_meaning.specs.Keys.{has_keys, key_cmp, key_of}
 use Rattle.erd_meaning.specs.Meaning.{Record}
 use Rattle.erd_meaning.specs.NameParts.{NameParts}
 use Rattle.erd_meaning.specs.Objects.{Placed, objects}
-use Rattle.erd_meaning.specs.Records.{if_carried, carried_members, beside_text, plain_member, member_of_class, record_with, object_record, selection_record, selection_map, records_of, meaning}
+use Rattle.erd_meaning.specs.Records.{object_with_key, if_carried, carried_members, beside_text, plain_member, member_of_class, record_with, object_record, selection_record, selection_map, records_of, meaning}
 use Rattle.erd_meaning.specs.SelectionNames.{selection_role, name_cmp, name_of}
 use Rattle.erd_meaning.specs.declared.key.Key.{Key}
-use Rattle.erd_meaning.proofs.EqualNames.{equal_keys, equal_names}
+use Rattle.erd_meaning.proofs.EqualNames.{options_exact, equal_keys, equal_names}
 use Rattle.erd_meaning.proofs.WholeRecords.{names_in, absent_member, absent_plain, same_at_every_name, same_at_other_names}
 
 -- ---- members
@@ -175,6 +175,31 @@ pub none_among : {A : Type 0} (test : A → Bool) (xs ys : List A) → AreAmong 
 none_among test xs [] among h = refl
 none_among test xs (y ∷ ys) among h = or_from (test y) _ (failed test xs y h among.0) (none_among test xs ys among.1 h)
 
+-- where these are the keys of a list, one of its values has a key exactly if the key is among them
+pub looked_for : {A K : Type 0} (cmp : K → K → Ordering) (key : A → Option K) (xs : List A) (keys : List K) → map key xs ≡ map Some keys → (k : K)
+    → list_any (λ x. is_eq (option_cmp cmp (key x) (Some k))) xs ≡ list_any (λ l. is_eq (cmp l k)) keys
+looked_for cmp key [] [] e k = refl
+looked_for cmp key (x ∷ xs) (l ∷ ls) e k =
+    let first : key x ≡ Some l = cc in let rest : map key xs ≡ map Some ls = cc in
+    rw (first, looked_for cmp key xs ls rest k)
+looked_for cmp key [] (l ∷ ls) e k = absurd (cc e)
+looked_for cmp key (x ∷ xs) [] e k = absurd (cc e)
+
+-- the values of the one list have the keys of the other, in order
+abbrev pub have_keys : {A K : Type 0} → (K → K → Ordering) → (A → Option K) → List A → List K → Bool
+have_keys cmp key [] [] = true
+have_keys cmp key (x ∷ xs) (k ∷ ks) = is_eq (option_cmp cmp (key x) (Some k)) && have_keys cmp key xs ks
+have_keys cmp key xs ks = false
+
+pub keys_had : {A K : Type 0} (cmp : K → K → Ordering) → ((a b : K) → is_eq (cmp a b) ≡ true → a ≡ b) → (key : A → Option K) (xs : List A) (keys : List K) → have_keys cmp key xs keys ≡ true → map key xs ≡ map Some keys
+keys_had cmp exact key [] [] h = refl
+keys_had cmp exact key (x ∷ xs) (k ∷ ks) h =
+    let both = and_parts (is_eq (option_cmp cmp (key x) (Some k))) _ h in
+    let first : key x ≡ Some k = options_exact cmp exact (key x) (Some k) both.0 in
+    let rest : map key xs ≡ map Some ks = keys_had cmp exact key xs ks both.1 in cc
+keys_had cmp exact key [] (k ∷ ks) h = absurd (cc h)
+keys_had cmp exact key (x ∷ xs) [] h = absurd (cc h)
+
 -- the object has this key
 abbrev pub has_key : Key → Placed → Bool
 has_key k o = is_eq (option_cmp key_cmp (key_of o.value) (Some k))
@@ -188,9 +213,34 @@ pub no_record : (t : Data) (f : Family) (k : Key) → list_any (has_key k) (obje
 no_record t family.Selection k h = refl
 no_record t f k h = ap (λ o. option_and_then (object_record t (role.OfFamily f)) (option_map (λ p. p.value) o)) (none_found (has_key k) (objects f t) h)
 
+abbrev pub value_with_key : Data → Family → Key → Data
+value_with_key t f k = unwrap_or (object_with_key t f k) null
+
+one_found : (o : Option Data) → is_some o ≡ true → o ≡ Some (unwrap_or o null)
+one_found None h = absurd (cc h)
+one_found (Some d) h = refl
+
+record_with_key : (t : Data) (f : Family) (k : Key) → has_keys f ≡ true → is_some (object_with_key t f k) ≡ true → records_of t f k ≡ object_record t (role.OfFamily f) (value_with_key t f k)
+record_with_key t family.Selection k keyed h = absurd (cc keyed)
+record_with_key t f k keyed h = ap (option_and_then (object_record t (role.OfFamily f))) (one_found (object_with_key t f k) h)
+
+-- the objects of one key mean the same in both reports
+pub same_with_key : (t u : Data) (f : Family) (k : Key) → has_keys f ≡ true → is_some (object_with_key t f k) ≡ true → is_some (object_with_key u f k) ≡ true
+    → object_record t (role.OfFamily f) (value_with_key t f k) ≡ object_record u (role.OfFamily f) (value_with_key u f k) → records_of t f k ≡ records_of u f k
+same_with_key t u f k keyed left right same = record_with_key t f k keyed left ∙ (same ∙ sym (record_with_key u f k keyed right))
+
 -- the selection has this name
 abbrev pub has_name : Data → NameParts → Data → Bool
 has_name t n d = is_eq (option_cmp name_cmp (name_of t d) (Some n))
+
+abbrev pub selection_with_name : Data → List Data → NameParts → Data
+selection_with_name t ds n = unwrap_or (find (has_name t n) ds) null
+
+-- the selections of one name mean the same in both
+pub same_with_name : (t u : Data) (ds es : List Data) (n : NameParts) → is_some (find (has_name t n) ds) ≡ true → is_some (find (has_name u n) es) ≡ true
+    → selection_record t (selection_with_name t ds n) ≡ selection_record u (selection_with_name u es n) → selection_map t ds n ≡ selection_map u es n
+same_with_name t u ds es n left right same =
+    ap (option_and_then (selection_record t)) (one_found (find (has_name t n) ds) left) ∙ (same ∙ sym (ap (option_and_then (selection_record u)) (one_found (find (has_name u n) es) right)))
 
 -- two maps of selections are equal, if they agree at these names, and no selection has another
 pub same_selections : (t u : Data) (ds es : List Data) (names : List NameParts) → AgreeAt (selection_map t ds) (selection_map u es) names

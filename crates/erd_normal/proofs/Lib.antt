@@ -3,4 +3,5 @@ mod CanonicalPartExamples
 mod StableOrderExamples
 mod RearrangedExamples
 pub mod MeaningExamples
+mod BallotMeaningExamples
 pub mod Lists
