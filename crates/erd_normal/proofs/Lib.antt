@@ -5,3 +5,4 @@ mod RearrangedExamples
 pub mod MeaningExamples
 mod BallotMeaningExamples
 pub mod Lists
+pub mod EqualTrees
