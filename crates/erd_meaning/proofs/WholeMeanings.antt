@@ -156,10 +156,6 @@ pub same_at_every_key : {V : Type 0} (f g : Key → Option V) (keys : List Key) 
     → ((k : Key) → is_key_in keys k ≡ false → f k ≡ None) → ((k : Key) → is_key_in keys k ≡ false → g k ≡ None) → (k : Key) → f k ≡ g k
 same_at_every_key f g keys agree no_f no_g k = same_at_every (λ l k. is_eq (key_cmp l k)) equal_keys f g keys agree no_f no_g k
 
--- some name of the list is equal to this one
-abbrev pub is_name_in : List NameParts → NameParts → Bool
-is_name_in names n = list_any (λ m. is_eq (name_cmp m n)) names
-
 -- each of the later values is among the earlier ones
 abbrev pub AreAmong : {A : Type 0} → List A → List A → Type 0
 AreAmong xs [] = ⊤
@@ -229,6 +225,51 @@ pub same_with_key : (t u : Data) (f : Family) (k : Key) → has_keys f ≡ true 
     → object_record t (role.OfFamily f) (value_with_key t f k) ≡ object_record u (role.OfFamily f) (value_with_key u f k) → records_of t f k ≡ records_of u f k
 same_with_key t u f k keyed left right same = record_with_key t f k keyed left ∙ (same ∙ sym (record_with_key u f k keyed right))
 
+-- both reports have an object of this key and class, with the same members
+abbrev pub ObjectsAgree : Data → Data → Family → Key → Class → Type 0
+ObjectsAgree t u f k c =
+    let d = value_with_key t f k in let e = value_with_key u f k in
+    (is_some (object_with_key t f k) ≡ true) × (is_some (object_with_key u f k) ≡ true)
+    × (class_of_object (role.OfFamily f) d ≡ Some c) × (class_of_object (role.OfFamily f) e ≡ Some c)
+    × (map (member_of_class t d c) (names_of_both d e) ≡ map (member_of_class u e c) (names_of_both d e))
+
+pub same_at_key : (t u : Data) (f : Family) (k : Key) (c : Class) → has_keys f ≡ true → ObjectsAgree t u f k c → records_of t f k ≡ records_of u f k
+same_at_key t u f k c keyed agree =
+    same_with_key t u f k keyed agree.0 agree.1 (same_object t u (value_with_key t f k) (value_with_key u f k) (role.OfFamily f) c agree.2 agree.3 agree.4)
+
+-- the same members but for one
+abbrev pub ObjectsAgreeButOne : Data → Data → Family → Key → Class → List ℕ → Type 0
+ObjectsAgreeButOne t u f k c one =
+    let d = value_with_key t f k in let e = value_with_key u f k in
+    (is_some (object_with_key t f k) ≡ true) × (is_some (object_with_key u f k) ≡ true)
+    × (class_of_object (role.OfFamily f) d ≡ Some c) × (class_of_object (role.OfFamily f) e ≡ Some c)
+    × (map (member_of_class t d c) (but_one one (names_of_both d e)) ≡ map (member_of_class u e c) (but_one one (names_of_both d e)))
+
+abbrev pub SameMember : Data → Data → Family → Key → Class → List ℕ → Type 0
+SameMember t u f k c one = member_of_class t (value_with_key t f k) c one ≡ member_of_class u (value_with_key u f k) c one
+
+pub same_at_key_with : (t u : Data) (f : Family) (k : Key) (c : Class) (one : List ℕ) → has_keys f ≡ true → ObjectsAgreeButOne t u f k c one → SameMember t u f k c one → records_of t f k ≡ records_of u f k
+same_at_key_with t u f k c one keyed agree at_one =
+    same_with_key t u f k keyed agree.0 agree.1 (same_object_with t u (value_with_key t f k) (value_with_key u f k) (role.OfFamily f) c one agree.2 agree.3 agree.4 at_one)
+
+-- the keys of the objects of a family, in their order
+abbrev pub HaveKeys : Data → Family → List Key → Type 0
+HaveKeys t f keys = map (λ o. key_of o.value) (objects f t) ≡ map Some keys
+
+pub keys_of_family : (t : Data) (f : Family) (keys : List Key) → have_keys key_cmp (λ o. key_of o.value) (objects f t) keys ≡ true → HaveKeys t f keys
+keys_of_family t f keys h = keys_had key_cmp equal_keys (λ o. key_of o.value) (objects f t) keys h
+
+-- a family means nothing at a key that is not among those of its objects
+pub nothing_at : (t : Data) (f : Family) (keys : List Key) (k : Key) → HaveKeys t f keys → is_key_in keys k ≡ false → records_of t f k ≡ None
+nothing_at t f keys k have h = no_record t f k (looked_for key_cmp (λ o. key_of o.value) (objects f t) keys have k ∙ h)
+
+-- a family means the same in both reports, if its keys stand in any order and the object of each means the same
+pub same_family : (t u : Data) (f : Family) (keys others : List Key) → HaveKeys t f keys → HaveKeys u f others → AreAmong keys others → AgreeAt (records_of t f) (records_of u f) keys
+    → (k : Key) → records_of t f k ≡ records_of u f k
+same_family t u f keys others have have_others among agree =
+    same_at_every_key (records_of t f) (records_of u f) keys agree (λ k h. nothing_at t f keys k have h)
+    (λ k h. nothing_at u f others k have_others (none_among (λ l. is_eq (key_cmp l k)) keys others among h))
+
 -- the selection has this name
 abbrev pub has_name : Data → NameParts → Data → Bool
 has_name t n d = is_eq (option_cmp name_cmp (name_of t d) (Some n))
@@ -242,14 +283,34 @@ pub same_with_name : (t u : Data) (ds es : List Data) (n : NameParts) → is_som
 same_with_name t u ds es n left right same =
     ap (option_and_then (selection_record t)) (one_found (find (has_name t n) ds) left) ∙ (same ∙ sym (ap (option_and_then (selection_record u)) (one_found (find (has_name u n) es) right)))
 
--- two maps of selections are equal, if they agree at these names, and no selection has another
-pub same_selections : (t u : Data) (ds es : List Data) (names : List NameParts) → AgreeAt (selection_map t ds) (selection_map u es) names
-    → ((n : NameParts) → is_name_in names n ≡ false → list_any (has_name t n) ds ≡ false) → ((n : NameParts) → is_name_in names n ≡ false → list_any (has_name u n) es ≡ false)
-    → selection_map t ds ≡ selection_map u es
-same_selections t u ds es names agree no_left no_right =
+-- both have a selection of this name and class, with the same members but for one
+abbrev pub SelectionsAgreeButOne : Data → Data → List Data → List Data → NameParts → Class → List ℕ → Type 0
+SelectionsAgreeButOne t u ds es n c one =
+    let d = selection_with_name t ds n in let e = selection_with_name u es n in
+    (is_some (find (has_name t n) ds) ≡ true) × (is_some (find (has_name u n) es) ≡ true)
+    × (class_of_object selection_role d ≡ Some c) × (class_of_object selection_role e ≡ Some c)
+    × (map (plain_member t d c) (but_one one (names_of_both d e)) ≡ map (plain_member u e c) (but_one one (names_of_both d e)))
+
+pub same_at_name : (t u : Data) (ds es : List Data) (n : NameParts) (c : Class) (one : List ℕ) → SelectionsAgreeButOne t u ds es n c one
+    → plain_member t (selection_with_name t ds n) c one ≡ plain_member u (selection_with_name u es n) c one → selection_map t ds n ≡ selection_map u es n
+same_at_name t u ds es n c one agree at_one =
+    same_with_name t u ds es n agree.0 agree.1 (same_selection_with t u (selection_with_name t ds n) (selection_with_name u es n) c one agree.2 agree.3 agree.4 at_one)
+
+-- the names of selections, in their order
+abbrev pub HaveNames : Data → List Data → List NameParts → Type 0
+HaveNames t ds names = map (name_of t) ds ≡ map Some names
+
+pub names_of_selections : (t : Data) (ds : List Data) (names : List NameParts) → have_keys name_cmp (name_of t) ds names ≡ true → HaveNames t ds names
+names_of_selections t ds names h = keys_had name_cmp equal_names (name_of t) ds names h
+
+-- two maps of selections are equal, if their names stand in any order and the selection of each means the same
+pub same_selections : (t u : Data) (ds es : List Data) (names others : List NameParts) → HaveNames t ds names → HaveNames u es others → AreAmong names others
+    → AgreeAt (selection_map t ds) (selection_map u es) names → selection_map t ds ≡ selection_map u es
+same_selections t u ds es names others have have_others among agree =
     fun_ext (same_at_every (λ m n. is_eq (name_cmp m n)) equal_names (selection_map t ds) (selection_map u es) names agree
-    (λ n h. ap (option_and_then (selection_record t)) (none_found (has_name t n) ds (no_left n h)))
-    (λ n h. ap (option_and_then (selection_record u)) (none_found (has_name u n) es (no_right n h))))
+    (λ n h. ap (option_and_then (selection_record t)) (none_found (has_name t n) ds (looked_for name_cmp (name_of t) ds names have n ∙ h)))
+    (λ n h. ap (option_and_then (selection_record u)) (none_found (has_name u n) es
+    (looked_for name_cmp (name_of u) es others have_others n ∙ none_among (λ m. is_eq (name_cmp m n)) names others among h))))
 
 -- ---- the whole
 

@@ -1,9 +1,8 @@
 -- The small ballot and its canonical form mean the same.
-use Rattle.std.proofs.Common.{◌≡◌, ℕ, List, [], ◌∷◌, codes, slice_get, Option, Some, None, Bool, true, false, ◌||◌, map, find, refl, sym, ap, ◌∙◌, lit<}
+use Rattle.std.proofs.Common.{◌≡◌, ℕ, List, [], ◌∷◌, codes, slice_get, Option, Some, None, Bool, true, false, ◌||◌, map, refl, sym, ap, ◌∙◌, lit<}
 use Rattle.std.proofs.Math.Path.{fun_ext}
-use Rattle.std.specs.List.{list_any}
 use Rattle.std.specs.Ordering.{is_eq}
-use Rattle.std.specs.Prelude.{option_and_then, option_map, unwrap_or, is_some}
+use Rattle.std.specs.Prelude.{option_and_then, option_map, unwrap_or}
 use Rattle.serde_json.specs.Data.{Data, null}
 use Rattle.serde_json.specs.Find.{get}
 use Rattle.serde_json.proofs.OnLiterals.{serde_json_on_literals}
@@ -13,17 +12,15 @@ use Rattle.erd_tables.specs.declared.class.Family.{Family}
 use Rattle.erd_tables.specs.declared.class.Family.TheVariants as family
 use Rattle.erd_tables.specs.declared.class.Role.TheVariants as role
 use Rattle.erd_check.proofs.Reports.{tree_of, small_ballot, small_ballot_canonical}
-use Rattle.erd_check.specs.Wants.{class_of_object}
 use Rattle.erd_check.specs.Trees.{is_same_json, entries_of}
 use Rattle.erd_meaning.proofs.RecordExamples.{local_key}
-use Rattle.erd_meaning.proofs.EqualNames.{equal_keys, equal_names}
-use Rattle.erd_meaning.proofs.WholeMeanings.{names_of_both, but_one, same_members, same_object, same_object_with, same_selection_with, absent_carried, absent_beside, looked_for, AgreeAt, AreAmong, is_key_in, have_keys, keys_had, none_among, same_at_every_key, no_record, value_with_key, same_with_key, has_name, selection_with_name, same_with_name, same_selections, same_meaning}
-use Rattle.erd_meaning.specs.Keys.{has_keys, key_of, key_cmp, entries_at}
+use Rattle.erd_meaning.proofs.WholeMeanings.{same_members, same_object, absent_carried, absent_beside, AgreeAt, AreAmong, ObjectsAgree, same_at_key, ObjectsAgreeButOne, SameMember, same_at_key_with, value_with_key, HaveKeys, keys_of_family, same_family, selection_with_name, SelectionsAgreeButOne, same_at_name, HaveNames, names_of_selections, same_selections, same_meaning}
+use Rattle.erd_meaning.specs.Keys.{has_keys, key_cmp, entries_at}
 use Rattle.erd_meaning.specs.Meaning.{Content, no_content, first_node, a_contest, a_header, JsonMap, a_label, translated, a_key_set, a_content, a_plain, a_selection_map}
 use Rattle.erd_meaning.specs.NameParts.{NameParts}
-use Rattle.erd_meaning.specs.Objects.{objects, elections, contests}
-use Rattle.erd_meaning.specs.Records.{content_of, beside_text, carried_members, json_set, plain_member, member_of_class, object_record, object_with_key, selection_map, records_of, meaning}
-use Rattle.erd_meaning.specs.SelectionNames.{selection_role, name_named, name_cmp, name_of}
+use Rattle.erd_meaning.specs.Objects.{elections, contests}
+use Rattle.erd_meaning.specs.Records.{content_of, beside_text, carried_members, json_set, plain_member, object_record, selection_map, records_of, meaning}
+use Rattle.erd_meaning.specs.SelectionNames.{name_named, name_of}
 use Rattle.erd_meaning.specs.declared.key.Key.{Key}
 
 abbrev given : Data
@@ -41,18 +38,8 @@ election_in t = unwrap_or (option_map (λ o. o.value) (slice_get (elections t) 0
 abbrev MeansTheSame : Family → List ℕ → Type 0
 MeansTheSame f key = records_of canonical f (local_key key) ≡ records_of given f (local_key key)
 
--- both have an object of this key and class, with the same members
-abbrev Agree : Family → List ℕ → Class → Type 0
-Agree f key c =
-    let k = local_key key in
-    let d = value_with_key canonical f k in let e = value_with_key given f k in
-    (is_some (object_with_key canonical f k) ≡ true) × (is_some (object_with_key given f k) ≡ true)
-    × (class_of_object (role.OfFamily f) d ≡ Some c) × (class_of_object (role.OfFamily f) e ≡ Some c) × (map (member_of_class canonical d c) (names_of_both d e) ≡ map (member_of_class given e c) (names_of_both d e))
-
-same : (f : Family) (key : List ℕ) (c : Class) → has_keys f ≡ true → Agree f key c → MeansTheSame f key
-same f key c keyed agree =
-    let k = local_key key in
-    same_with_key canonical given f k keyed agree.0 agree.1 (same_object canonical given (value_with_key canonical f k) (value_with_key given f k) (role.OfFamily f) c agree.2 agree.3 agree.4)
+same : (f : Family) (key : List ℕ) (c : Class) → has_keys f ≡ true → ObjectsAgree canonical given f (local_key key) c → MeansTheSame f key
+same f key c keyed agree = same_at_key canonical given f (local_key key) c keyed agree
 
 same_report : object_record canonical role.Report canonical ≡ object_record given role.Report given
 unfolding serde_json_on_literals
@@ -115,19 +102,9 @@ selection_in t i j = selection_with_name t (selections_in t i) (name_at i j)
 abbrev NamedTheSame : ℕ → ℕ → Type 0
 NamedTheSame i j = selection_map canonical (selections_in canonical i) (name_at i j) ≡ selection_map given (selections_in given i) (name_at i j)
 
--- both have a selection of this name and class, with the same members but for one
-abbrev SelectionsAgree : ℕ → ℕ → Class → List ℕ → Type 0
-SelectionsAgree i j c one =
-    let d = selection_in canonical i j in let e = selection_in given i j in
-    (is_some (find (has_name canonical (name_at i j)) (selections_in canonical i)) ≡ true) × (is_some (find (has_name given (name_at i j)) (selections_in given i)) ≡ true)
-    × (class_of_object selection_role d ≡ Some c) × (class_of_object selection_role e ≡ Some c)
-    × (map (plain_member canonical d c) (but_one one (names_of_both d e)) ≡ map (plain_member given e c) (but_one one (names_of_both d e)))
-
-same_selection : (i j : ℕ) (c : Class) (one : List ℕ) → SelectionsAgree i j c one
+same_selection : (i j : ℕ) (c : Class) (one : List ℕ) → SelectionsAgreeButOne canonical given (selections_in canonical i) (selections_in given i) (name_at i j) c one
     → plain_member canonical (selection_in canonical i j) c one ≡ plain_member given (selection_in given i j) c one → NamedTheSame i j
-same_selection i j c one agree at_one =
-    same_with_name canonical given (selections_in canonical i) (selections_in given i) (name_at i j) agree.0 agree.1
-    (same_selection_with canonical given (selection_in canonical i j) (selection_in given i j) c one agree.2 agree.3 agree.4 at_one)
+same_selection i j c one agree at_one = same_at_name canonical given (selections_in canonical i) (selections_in given i) (name_at i j) c one agree at_one
 
 write_in : NamedTheSame 0 0
 unfolding serde_json_on_literals
@@ -172,73 +149,40 @@ yes_selection =
 
 -- ---- contests
 
--- the names of the selections of a contest, in the order of this report
-abbrev HaveNames : Data → ℕ → List NameParts → Type 0
-HaveNames t i names = map (name_of t) (selections_in t i) ≡ map Some names
-
-have_names : (t : Data) (i : ℕ) (names : List NameParts) → have_keys name_cmp (name_of t) (selections_in t i) names ≡ true → HaveNames t i names
-have_names t i names h = keys_had name_cmp equal_names (name_of t) (selections_in t i) names h
-
-first_names : HaveNames canonical 0 (name_at 0 0 ∷ name_at 0 1 ∷ name_at 0 2 ∷ [])
+first_names : HaveNames canonical (selections_in canonical 0) (name_at 0 0 ∷ name_at 0 1 ∷ name_at 0 2 ∷ [])
 unfolding serde_json_on_literals
-first_names = have_names canonical 0 (name_at 0 0 ∷ name_at 0 1 ∷ name_at 0 2 ∷ []) refl
+first_names = names_of_selections canonical (selections_in canonical 0) (name_at 0 0 ∷ name_at 0 1 ∷ name_at 0 2 ∷ []) refl
 
-first_names_given : HaveNames given 0 (name_at 0 1 ∷ name_at 0 2 ∷ name_at 0 0 ∷ [])
+first_names_given : HaveNames given (selections_in given 0) (name_at 0 1 ∷ name_at 0 2 ∷ name_at 0 0 ∷ [])
 unfolding serde_json_on_literals
-first_names_given = have_names given 0 (name_at 0 1 ∷ name_at 0 2 ∷ name_at 0 0 ∷ []) refl
+first_names_given = names_of_selections given (selections_in given 0) (name_at 0 1 ∷ name_at 0 2 ∷ name_at 0 0 ∷ []) refl
 
-second_names : HaveNames canonical 1 (name_at 1 0 ∷ name_at 1 1 ∷ [])
+second_names : HaveNames canonical (selections_in canonical 1) (name_at 1 0 ∷ name_at 1 1 ∷ [])
 unfolding serde_json_on_literals
-second_names = have_names canonical 1 (name_at 1 0 ∷ name_at 1 1 ∷ []) refl
+second_names = names_of_selections canonical (selections_in canonical 1) (name_at 1 0 ∷ name_at 1 1 ∷ []) refl
 
-second_names_given : HaveNames given 1 (name_at 1 1 ∷ name_at 1 0 ∷ [])
+second_names_given : HaveNames given (selections_in given 1) (name_at 1 1 ∷ name_at 1 0 ∷ [])
 unfolding serde_json_on_literals
-second_names_given = have_names given 1 (name_at 1 1 ∷ name_at 1 0 ∷ []) refl
-
-three_elsewhere : {A : Type 0} (test : A → Bool) (a b c : A) → list_any test (a ∷ b ∷ c ∷ []) ≡ false → list_any test (b ∷ c ∷ a ∷ []) ≡ false
-three_elsewhere test a b c h = none_among test (a ∷ b ∷ c ∷ []) (b ∷ c ∷ a ∷ []) ((1, lit< tt, refl), ((2, lit< tt, refl), ((0, lit< tt, refl), tt))) h
-
-two_elsewhere : {A : Type 0} (test : A → Bool) (a b : A) → list_any test (a ∷ b ∷ []) ≡ false → list_any test (b ∷ a ∷ []) ≡ false
-two_elsewhere test a b h = none_among test (a ∷ b ∷ []) (b ∷ a ∷ []) ((1, lit< tt, refl), ((0, lit< tt, refl), tt)) h
-
-unnamed : (t : Data) (i : ℕ) (names : List NameParts) (n : NameParts) → HaveNames t i names → list_any (λ m. is_eq (name_cmp m n)) names ≡ false → list_any (has_name t n) (selections_in t i) ≡ false
-unnamed t i names n have h = looked_for name_cmp (name_of t) (selections_in t i) names have n ∙ h
+second_names_given = names_of_selections given (selections_in given 1) (name_at 1 1 ∷ name_at 1 0 ∷ []) refl
 
 first_selections : selection_map canonical (selections_in canonical 0) ≡ selection_map given (selections_in given 0)
 first_selections =
-    same_selections canonical given (selections_in canonical 0) (selections_in given 0) (name_at 0 0 ∷ name_at 0 1 ∷ name_at 0 2 ∷ []) (write_in, (two_candidates, (one_candidate, tt)))
-    (λ n h. unnamed canonical 0 (name_at 0 0 ∷ name_at 0 1 ∷ name_at 0 2 ∷ []) n first_names h)
-    (λ n h. unnamed given 0 (name_at 0 1 ∷ name_at 0 2 ∷ name_at 0 0 ∷ []) n first_names_given (three_elsewhere (λ m. is_eq (name_cmp m n)) (name_at 0 0) (name_at 0 1) (name_at 0 2) h))
+    same_selections canonical given (selections_in canonical 0) (selections_in given 0) (name_at 0 0 ∷ name_at 0 1 ∷ name_at 0 2 ∷ []) (name_at 0 1 ∷ name_at 0 2 ∷ name_at 0 0 ∷ [])
+    first_names first_names_given ((1, lit< tt, refl), ((2, lit< tt, refl), ((0, lit< tt, refl), tt))) (write_in, (two_candidates, (one_candidate, tt)))
 
 second_selections : selection_map canonical (selections_in canonical 1) ≡ selection_map given (selections_in given 1)
 second_selections =
-    same_selections canonical given (selections_in canonical 1) (selections_in given 1) (name_at 1 0 ∷ name_at 1 1 ∷ []) (no_selection, (yes_selection, tt))
-    (λ n h. unnamed canonical 1 (name_at 1 0 ∷ name_at 1 1 ∷ []) n second_names h)
-    (λ n h. unnamed given 1 (name_at 1 1 ∷ name_at 1 0 ∷ []) n second_names_given (two_elsewhere (λ m. is_eq (name_cmp m n)) (name_at 1 0) (name_at 1 1) h))
+    same_selections canonical given (selections_in canonical 1) (selections_in given 1) (name_at 1 0 ∷ name_at 1 1 ∷ []) (name_at 1 1 ∷ name_at 1 0 ∷ [])
+    second_names second_names_given ((1, lit< tt, refl), ((0, lit< tt, refl), tt)) (no_selection, (yes_selection, tt))
 
--- both have an object of this key and class, with the same members but for one
-abbrev AgreeButOne : Family → List ℕ → Class → List ℕ → Type 0
-AgreeButOne f key c one =
-    let k = local_key key in
-    let d = value_with_key canonical f k in let e = value_with_key given f k in
-    (is_some (object_with_key canonical f k) ≡ true) × (is_some (object_with_key given f k) ≡ true)
-    × (class_of_object (role.OfFamily f) d ≡ Some c) × (class_of_object (role.OfFamily f) e ≡ Some c)
-    × (map (member_of_class canonical d c) (but_one one (names_of_both d e)) ≡ map (member_of_class given e c) (but_one one (names_of_both d e)))
+same_with : (f : Family) (key : List ℕ) (c : Class) (one : List ℕ) → has_keys f ≡ true → ObjectsAgreeButOne canonical given f (local_key key) c one → SameMember canonical given f (local_key key) c one → MeansTheSame f key
+same_with f key c one keyed agree at_one = same_at_key_with canonical given f (local_key key) c one keyed agree at_one
 
-abbrev SameMember : Family → List ℕ → Class → List ℕ → Type 0
-SameMember f key c one =
-    member_of_class canonical (value_with_key canonical f (local_key key)) c one ≡ member_of_class given (value_with_key given f (local_key key)) c one
-
-same_with : (f : Family) (key : List ℕ) (c : Class) (one : List ℕ) → has_keys f ≡ true → AgreeButOne f key c one → SameMember f key c one → MeansTheSame f key
-same_with f key c one keyed agree at_one =
-    let k = local_key key in
-    same_with_key canonical given f k keyed agree.0 agree.1 (same_object_with canonical given (value_with_key canonical f k) (value_with_key given f k) (role.OfFamily f) c one agree.2 agree.3 agree.4 at_one)
-
-first_contest : SameMember family.Contest (codes "C1") class.CandidateContest (codes "ContestSelection")
+first_contest : SameMember canonical given family.Contest (local_key (codes "C1")) class.CandidateContest (codes "ContestSelection")
 unfolding serde_json_on_literals
 first_contest = ap (λ m. Some (a_selection_map m)) first_selections
 
-second_contest : SameMember family.Contest (codes "C2") class.BallotMeasureContest (codes "ContestSelection")
+second_contest : SameMember canonical given family.Contest (local_key (codes "C2")) class.BallotMeasureContest (codes "ContestSelection")
 unfolding serde_json_on_literals
 second_contest = ap (λ m. Some (a_selection_map m)) second_selections
 
@@ -320,7 +264,7 @@ same_content =
     ∙ (ap (λ carried. content_with names_given (header (header_in given)) carried (contest (second_in canonical))) first_carries
     ∙ (ap (λ carried. content_with names_given (header (header_in given)) (contest (first_in given)) carried) second_carries ∙ sym content_given))))
 
-style_order : SameMember family.Style (codes "S1") class.BallotStyle (codes "OrderedContent")
+style_order : SameMember canonical given family.Style (local_key (codes "S1")) class.BallotStyle (codes "OrderedContent")
 unfolding serde_json_on_literals
 style_order = ap (λ c. Some (a_plain (a_content c))) same_content
 
@@ -329,23 +273,6 @@ unfolding serde_json_on_literals
 same_style = same_with family.Style (codes "S1") class.BallotStyle (codes "OrderedContent") refl (refl, refl, refl, refl, refl) style_order
 
 -- ---- the whole
-
--- the keys of the objects of a family, in the order of this report
-abbrev HaveKeys : Data → Family → List Key → Type 0
-HaveKeys t f keys = map (λ o. key_of o.value) (objects f t) ≡ map Some keys
-
-have_keys_of : (t : Data) (f : Family) (keys : List Key) → have_keys key_cmp (λ o. key_of o.value) (objects f t) keys ≡ true → HaveKeys t f keys
-have_keys_of t f keys h = keys_had key_cmp equal_keys (λ o. key_of o.value) (objects f t) keys h
-
-nothing_at : (t : Data) (f : Family) (keys : List Key) (k : Key) → HaveKeys t f keys → is_key_in keys k ≡ false → records_of t f k ≡ None
-nothing_at t f keys k have h = no_record t f k (looked_for key_cmp (λ o. key_of o.value) (objects f t) keys have k ∙ h)
-
--- a family means the same in both reports, if its keys stand in any order and the object of each means the same
-same_family : (f : Family) (keys others : List Key) → HaveKeys canonical f keys → HaveKeys given f others → AreAmong keys others → AgreeAt (records_of canonical f) (records_of given f) keys
-    → (k : Key) → records_of canonical f k ≡ records_of given f k
-same_family f keys others have have_others among agree =
-    same_at_every_key (records_of canonical f) (records_of given f) keys agree (λ k h. nothing_at canonical f keys k have h)
-    (λ k h. nothing_at given f others k have_others (none_among (λ l. is_eq (key_cmp l k)) keys others among h))
 
 abbrev keys_of : Family → List Key
 keys_of family.Unit = local_key (codes "U1") ∷ local_key (codes "U2") ∷ []
@@ -367,20 +294,20 @@ keys_given f = keys_of f
 every_key : (f : Family) → has_keys f ≡ true → HaveKeys canonical f (keys_of f)
 unfolding serde_json_on_literals
 every_key family.Selection keyed = absurd (cc keyed)
-every_key family.Unit keyed = have_keys_of canonical family.Unit (keys_of family.Unit) refl
-every_key f keyed = have_keys_of canonical f (keys_of f) refl
+every_key family.Unit keyed = keys_of_family canonical family.Unit (keys_of family.Unit) refl
+every_key f keyed = keys_of_family canonical f (keys_of f) refl
 
 every_key_given : (f : Family) → has_keys f ≡ true → HaveKeys given f (keys_given f)
 unfolding serde_json_on_literals
 every_key_given family.Selection keyed = absurd (cc keyed)
-every_key_given family.Unit keyed = have_keys_of given family.Unit (keys_given family.Unit) refl
-every_key_given f keyed = have_keys_of given f (keys_given f) refl
+every_key_given family.Unit keyed = keys_of_family given family.Unit (keys_given family.Unit) refl
+every_key_given f keyed = keys_of_family given f (keys_given f) refl
 
 abbrev AreAlike : Family → Type 0
 AreAlike f = AgreeAt (records_of canonical f) (records_of given f) (keys_of f)
 
 by_keys : (f : Family) → has_keys f ≡ true → AreAmong (keys_of f) (keys_given f) → AreAlike f → (k : Key) → records_of canonical f k ≡ records_of given f k
-by_keys f keyed among agree = same_family f (keys_of f) (keys_given f) (every_key f keyed) (every_key_given f keyed) among agree
+by_keys f keyed among agree = same_family canonical given f (keys_of f) (keys_given f) (every_key f keyed) (every_key_given f keyed) among agree
 
 same_objects : (f : Family) (k : Key) → records_of canonical f k ≡ records_of given f k
 same_objects family.Unit = by_keys family.Unit refl ((1, lit< tt, refl), ((0, lit< tt, refl), tt)) (same_units.0, (same_units.1, tt))
