@@ -4,7 +4,7 @@ use Rattle.std.specs.Fmt.{digits}
 use Rattle.serde_json.proofs.OnLiterals.{serde_json_on_literals}
 use Rattle.erd_check.proofs.Reports.{one_unit, tree_of}
 use Rattle.erd_meaning.proofs.AcceptedExamples.{one_unit_is_accepted}
-use Rattle.erd_normal.proofs.CanonicalReports.{form_of_one_unit, one_unit_canonical_is_accepted}
+use Rattle.erd_normal.proofs.CanonicalReports.{form_of_one_unit, one_unit_canonical_is_accepted, one_unit_is_canonical}
 use Rattle.erd_normal.proofs.MeaningExamples.{canonical_means_the_same, one_unit_canonical}
 use Rattle.erd_canon.specs.Bytes.{IsAcceptedReport, IsCanonicalBytes, IsTreeOf}
 use Rattle.erd_canon.specs.EngineTexts.{IsCanonicalErrors, IsCanonicalOutput, IsCheckText, IsCompareText, IsComparison}
@@ -30,6 +30,18 @@ canonical_bytes = record {
   is_accepted = accepted;
   tree = tree_of one_unit_canonical;
   is_canonical = form_of_one_unit;
+  written = refl;
+  reads_back = tree_of_canonical;
+}
+
+-- canonical bytes are their own
+own_form : IsCanonicalBytes one_unit_canonical one_unit_canonical
+unfolding serde_json_on_literals digits
+own_form = record {
+  report = tree_of one_unit_canonical;
+  is_accepted = canonical_accepted;
+  tree = tree_of one_unit_canonical;
+  is_canonical = record { canonical = one_unit_is_canonical; same = refl };
   written = refl;
   reads_back = tree_of_canonical;
 }

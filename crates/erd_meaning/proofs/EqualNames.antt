@@ -23,7 +23,7 @@ both_equal x y h = and_parts (is_eq x) (is_eq y) (tied_then x y ∙ h)
 texts_exact : (a b : List ℕ) → is_eq (text_cmp a b) ≡ true → a ≡ b
 texts_exact a b h = (bytes_eq-Decides a b).0 (sym (is_eq-slice_cmp a b) ∙ h)
 
-options_exact : {A : Type 0} (cmp : A → A → Ordering) → ((a b : A) → is_eq (cmp a b) ≡ true → a ≡ b) → (x y : Option A) → is_eq (option_cmp cmp x y) ≡ true → x ≡ y
+pub options_exact : {A : Type 0} (cmp : A → A → Ordering) → ((a b : A) → is_eq (cmp a b) ≡ true → a ≡ b) → (x y : Option A) → is_eq (option_cmp cmp x y) ≡ true → x ≡ y
 options_exact cmp exact None None h = refl
 options_exact cmp exact (Some a) (Some b) h = ap Some (exact a b h)
 options_exact cmp exact x y h = absurd (cc h)

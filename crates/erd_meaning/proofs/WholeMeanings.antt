@@ -1,15 +1,15 @@
 -- When two reports mean the same: the report, the election and the object of each key mean the same.
-use Rattle.std.proofs.Common.{◌≡◌, ℕ, List, [], ◌∷◌, ◌++◌, Bool, true, false, true≢false, not, ◌||◌, Contains, Option, Some, None, find, filter, map, refl, sym, ap, ◌∙◌, subst, zero, suc, arith}
+use Rattle.std.proofs.Common.{◌≡◌, ℕ, List, [], ◌∷◌, ◌++◌, Bool, true, false, true≢false, not, ◌&&◌, ◌||◌, Contains, Option, Some, None, find, filter, map, Ordering, refl, sym, ap, ◌∙◌, subst, zero, suc, arith}
 use Rattle.std.proofs.Math.Path.{fun_ext}
-use Rattle.std.proofs.lemmas.Bool.{or_from, or_parts}
+use Rattle.std.proofs.lemmas.Bool.{and_parts, or_from, or_parts}
 use Rattle.std.proofs.lemmas.List.Folds.{list_any-append}
 use Rattle.std.proofs.lemmas.Slice.Eq.{bytes_eq-Decides}
 use Rattle.std.specs.List.{list_any}
 use Rattle.std.specs.Option.{option_cmp}
 use Rattle.std.specs.Ordering.{is_eq}
-use Rattle.std.specs.Prelude.{option_and_then, option_map, cond, ⊤}
+use Rattle.std.specs.Prelude.{option_and_then, option_map, unwrap_or, is_some, cond, ⊤}
 use Rattle.std.specs.Str.{bytes_eq}
-use Rattle.serde_json.specs.Data.{Data}
+use Rattle.serde_json.specs.Data.{Data, null}
 use Rattle.serde_json.specs.Find.{get}
 use Rattle.erd_tables.specs.Table.{kind_of_member}
 use Rattle.erd_tables.specs.declared.class.Class.{Class}
@@ -20,14 +20,14 @@ use Rattle.erd_tables.specs.declared.class.Role.TheVariants as role
 use Rattle.erd_tables.specs.declared.member.MemberKind.{MemberKind}
 use Rattle.erd_tables.specs.declared.member.MemberKind.TheVariants as kind
 use Rattle.erd_check.specs.Wants.{class_of_object}
-use Rattle.erd_meaning.specs.Keys.{key_cmp, key_of}
+use Rattle.erd_meaning.specs.Keys.{has_keys, key_cmp, key_of}
 use Rattle.erd_meaning.specs.Meaning.{Record}
 use Rattle.erd_meaning.specs.NameParts.{NameParts}
 use Rattle.erd_meaning.specs.Objects.{Placed, objects}
-use Rattle.erd_meaning.specs.Records.{if_carried, carried_members, beside_text, plain_member, member_of_class, record_with, object_record, selection_record, selection_map, records_of, meaning}
+use Rattle.erd_meaning.specs.Records.{object_with_key, if_carried, carried_members, beside_text, plain_member, member_of_class, record_with, object_record, selection_record, selection_map, records_of, meaning}
 use Rattle.erd_meaning.specs.SelectionNames.{selection_role, name_cmp, name_of}
 use Rattle.erd_meaning.specs.declared.key.Key.{Key}
-use Rattle.erd_meaning.proofs.EqualNames.{equal_keys, equal_names}
+use Rattle.erd_meaning.proofs.EqualNames.{options_exact, equal_keys, equal_names}
 use Rattle.erd_meaning.proofs.WholeRecords.{names_in, absent_member, absent_plain, same_at_every_name, same_at_other_names}
 
 -- ---- members
@@ -156,10 +156,6 @@ pub same_at_every_key : {V : Type 0} (f g : Key → Option V) (keys : List Key) 
     → ((k : Key) → is_key_in keys k ≡ false → f k ≡ None) → ((k : Key) → is_key_in keys k ≡ false → g k ≡ None) → (k : Key) → f k ≡ g k
 same_at_every_key f g keys agree no_f no_g k = same_at_every (λ l k. is_eq (key_cmp l k)) equal_keys f g keys agree no_f no_g k
 
--- some name of the list is equal to this one
-abbrev pub is_name_in : List NameParts → NameParts → Bool
-is_name_in names n = list_any (λ m. is_eq (name_cmp m n)) names
-
 -- each of the later values is among the earlier ones
 abbrev pub AreAmong : {A : Type 0} → List A → List A → Type 0
 AreAmong xs [] = ⊤
@@ -175,6 +171,31 @@ pub none_among : {A : Type 0} (test : A → Bool) (xs ys : List A) → AreAmong 
 none_among test xs [] among h = refl
 none_among test xs (y ∷ ys) among h = or_from (test y) _ (failed test xs y h among.0) (none_among test xs ys among.1 h)
 
+-- where these are the keys of a list, one of its values has a key exactly if the key is among them
+pub looked_for : {A K : Type 0} (cmp : K → K → Ordering) (key : A → Option K) (xs : List A) (keys : List K) → map key xs ≡ map Some keys → (k : K)
+    → list_any (λ x. is_eq (option_cmp cmp (key x) (Some k))) xs ≡ list_any (λ l. is_eq (cmp l k)) keys
+looked_for cmp key [] [] e k = refl
+looked_for cmp key (x ∷ xs) (l ∷ ls) e k =
+    let first : key x ≡ Some l = cc in let rest : map key xs ≡ map Some ls = cc in
+    rw (first, looked_for cmp key xs ls rest k)
+looked_for cmp key [] (l ∷ ls) e k = absurd (cc e)
+looked_for cmp key (x ∷ xs) [] e k = absurd (cc e)
+
+-- the values of the one list have the keys of the other, in order
+abbrev pub have_keys : {A K : Type 0} → (K → K → Ordering) → (A → Option K) → List A → List K → Bool
+have_keys cmp key [] [] = true
+have_keys cmp key (x ∷ xs) (k ∷ ks) = is_eq (option_cmp cmp (key x) (Some k)) && have_keys cmp key xs ks
+have_keys cmp key xs ks = false
+
+pub keys_had : {A K : Type 0} (cmp : K → K → Ordering) → ((a b : K) → is_eq (cmp a b) ≡ true → a ≡ b) → (key : A → Option K) (xs : List A) (keys : List K) → have_keys cmp key xs keys ≡ true → map key xs ≡ map Some keys
+keys_had cmp exact key [] [] h = refl
+keys_had cmp exact key (x ∷ xs) (k ∷ ks) h =
+    let both = and_parts (is_eq (option_cmp cmp (key x) (Some k))) _ h in
+    let first : key x ≡ Some k = options_exact cmp exact (key x) (Some k) both.0 in
+    let rest : map key xs ≡ map Some ks = keys_had cmp exact key xs ks both.1 in cc
+keys_had cmp exact key [] (k ∷ ks) h = absurd (cc h)
+keys_had cmp exact key (x ∷ xs) [] h = absurd (cc h)
+
 -- the object has this key
 abbrev pub has_key : Key → Placed → Bool
 has_key k o = is_eq (option_cmp key_cmp (key_of o.value) (Some k))
@@ -188,18 +209,108 @@ pub no_record : (t : Data) (f : Family) (k : Key) → list_any (has_key k) (obje
 no_record t family.Selection k h = refl
 no_record t f k h = ap (λ o. option_and_then (object_record t (role.OfFamily f)) (option_map (λ p. p.value) o)) (none_found (has_key k) (objects f t) h)
 
+abbrev pub value_with_key : Data → Family → Key → Data
+value_with_key t f k = unwrap_or (object_with_key t f k) null
+
+one_found : (o : Option Data) → is_some o ≡ true → o ≡ Some (unwrap_or o null)
+one_found None h = absurd (cc h)
+one_found (Some d) h = refl
+
+record_with_key : (t : Data) (f : Family) (k : Key) → has_keys f ≡ true → is_some (object_with_key t f k) ≡ true → records_of t f k ≡ object_record t (role.OfFamily f) (value_with_key t f k)
+record_with_key t family.Selection k keyed h = absurd (cc keyed)
+record_with_key t f k keyed h = ap (option_and_then (object_record t (role.OfFamily f))) (one_found (object_with_key t f k) h)
+
+-- the objects of one key mean the same in both reports
+pub same_with_key : (t u : Data) (f : Family) (k : Key) → has_keys f ≡ true → is_some (object_with_key t f k) ≡ true → is_some (object_with_key u f k) ≡ true
+    → object_record t (role.OfFamily f) (value_with_key t f k) ≡ object_record u (role.OfFamily f) (value_with_key u f k) → records_of t f k ≡ records_of u f k
+same_with_key t u f k keyed left right same = record_with_key t f k keyed left ∙ (same ∙ sym (record_with_key u f k keyed right))
+
+-- both reports have an object of this key and class, with the same members
+abbrev pub ObjectsAgree : Data → Data → Family → Key → Class → Type 0
+ObjectsAgree t u f k c =
+    let d = value_with_key t f k in let e = value_with_key u f k in
+    (is_some (object_with_key t f k) ≡ true) × (is_some (object_with_key u f k) ≡ true)
+    × (class_of_object (role.OfFamily f) d ≡ Some c) × (class_of_object (role.OfFamily f) e ≡ Some c)
+    × (map (member_of_class t d c) (names_of_both d e) ≡ map (member_of_class u e c) (names_of_both d e))
+
+pub same_at_key : (t u : Data) (f : Family) (k : Key) (c : Class) → has_keys f ≡ true → ObjectsAgree t u f k c → records_of t f k ≡ records_of u f k
+same_at_key t u f k c keyed agree =
+    same_with_key t u f k keyed agree.0 agree.1 (same_object t u (value_with_key t f k) (value_with_key u f k) (role.OfFamily f) c agree.2 agree.3 agree.4)
+
+-- the same members but for one
+abbrev pub ObjectsAgreeButOne : Data → Data → Family → Key → Class → List ℕ → Type 0
+ObjectsAgreeButOne t u f k c one =
+    let d = value_with_key t f k in let e = value_with_key u f k in
+    (is_some (object_with_key t f k) ≡ true) × (is_some (object_with_key u f k) ≡ true)
+    × (class_of_object (role.OfFamily f) d ≡ Some c) × (class_of_object (role.OfFamily f) e ≡ Some c)
+    × (map (member_of_class t d c) (but_one one (names_of_both d e)) ≡ map (member_of_class u e c) (but_one one (names_of_both d e)))
+
+abbrev pub SameMember : Data → Data → Family → Key → Class → List ℕ → Type 0
+SameMember t u f k c one = member_of_class t (value_with_key t f k) c one ≡ member_of_class u (value_with_key u f k) c one
+
+pub same_at_key_with : (t u : Data) (f : Family) (k : Key) (c : Class) (one : List ℕ) → has_keys f ≡ true → ObjectsAgreeButOne t u f k c one → SameMember t u f k c one → records_of t f k ≡ records_of u f k
+same_at_key_with t u f k c one keyed agree at_one =
+    same_with_key t u f k keyed agree.0 agree.1 (same_object_with t u (value_with_key t f k) (value_with_key u f k) (role.OfFamily f) c one agree.2 agree.3 agree.4 at_one)
+
+-- the keys of the objects of a family, in their order
+abbrev pub HaveKeys : Data → Family → List Key → Type 0
+HaveKeys t f keys = map (λ o. key_of o.value) (objects f t) ≡ map Some keys
+
+pub keys_of_family : (t : Data) (f : Family) (keys : List Key) → have_keys key_cmp (λ o. key_of o.value) (objects f t) keys ≡ true → HaveKeys t f keys
+keys_of_family t f keys h = keys_had key_cmp equal_keys (λ o. key_of o.value) (objects f t) keys h
+
+-- a family means nothing at a key that is not among those of its objects
+pub nothing_at : (t : Data) (f : Family) (keys : List Key) (k : Key) → HaveKeys t f keys → is_key_in keys k ≡ false → records_of t f k ≡ None
+nothing_at t f keys k have h = no_record t f k (looked_for key_cmp (λ o. key_of o.value) (objects f t) keys have k ∙ h)
+
+-- a family means the same in both reports, if its keys stand in any order and the object of each means the same
+pub same_family : (t u : Data) (f : Family) (keys others : List Key) → HaveKeys t f keys → HaveKeys u f others → AreAmong keys others → AgreeAt (records_of t f) (records_of u f) keys
+    → (k : Key) → records_of t f k ≡ records_of u f k
+same_family t u f keys others have have_others among agree =
+    same_at_every_key (records_of t f) (records_of u f) keys agree (λ k h. nothing_at t f keys k have h)
+    (λ k h. nothing_at u f others k have_others (none_among (λ l. is_eq (key_cmp l k)) keys others among h))
+
 -- the selection has this name
 abbrev pub has_name : Data → NameParts → Data → Bool
 has_name t n d = is_eq (option_cmp name_cmp (name_of t d) (Some n))
 
--- two maps of selections are equal, if they agree at these names, and no selection has another
-pub same_selections : (t u : Data) (ds es : List Data) (names : List NameParts) → AgreeAt (selection_map t ds) (selection_map u es) names
-    → ((n : NameParts) → is_name_in names n ≡ false → list_any (has_name t n) ds ≡ false) → ((n : NameParts) → is_name_in names n ≡ false → list_any (has_name u n) es ≡ false)
-    → selection_map t ds ≡ selection_map u es
-same_selections t u ds es names agree no_left no_right =
+abbrev pub selection_with_name : Data → List Data → NameParts → Data
+selection_with_name t ds n = unwrap_or (find (has_name t n) ds) null
+
+-- the selections of one name mean the same in both
+pub same_with_name : (t u : Data) (ds es : List Data) (n : NameParts) → is_some (find (has_name t n) ds) ≡ true → is_some (find (has_name u n) es) ≡ true
+    → selection_record t (selection_with_name t ds n) ≡ selection_record u (selection_with_name u es n) → selection_map t ds n ≡ selection_map u es n
+same_with_name t u ds es n left right same =
+    ap (option_and_then (selection_record t)) (one_found (find (has_name t n) ds) left) ∙ (same ∙ sym (ap (option_and_then (selection_record u)) (one_found (find (has_name u n) es) right)))
+
+-- both have a selection of this name and class, with the same members but for one
+abbrev pub SelectionsAgreeButOne : Data → Data → List Data → List Data → NameParts → Class → List ℕ → Type 0
+SelectionsAgreeButOne t u ds es n c one =
+    let d = selection_with_name t ds n in let e = selection_with_name u es n in
+    (is_some (find (has_name t n) ds) ≡ true) × (is_some (find (has_name u n) es) ≡ true)
+    × (class_of_object selection_role d ≡ Some c) × (class_of_object selection_role e ≡ Some c)
+    × (map (plain_member t d c) (but_one one (names_of_both d e)) ≡ map (plain_member u e c) (but_one one (names_of_both d e)))
+
+pub same_at_name : (t u : Data) (ds es : List Data) (n : NameParts) (c : Class) (one : List ℕ) → SelectionsAgreeButOne t u ds es n c one
+    → plain_member t (selection_with_name t ds n) c one ≡ plain_member u (selection_with_name u es n) c one → selection_map t ds n ≡ selection_map u es n
+same_at_name t u ds es n c one agree at_one =
+    same_with_name t u ds es n agree.0 agree.1 (same_selection_with t u (selection_with_name t ds n) (selection_with_name u es n) c one agree.2 agree.3 agree.4 at_one)
+
+-- the names of selections, in their order
+abbrev pub HaveNames : Data → List Data → List NameParts → Type 0
+HaveNames t ds names = map (name_of t) ds ≡ map Some names
+
+pub names_of_selections : (t : Data) (ds : List Data) (names : List NameParts) → have_keys name_cmp (name_of t) ds names ≡ true → HaveNames t ds names
+names_of_selections t ds names h = keys_had name_cmp equal_names (name_of t) ds names h
+
+-- two maps of selections are equal, if their names stand in any order and the selection of each means the same
+pub same_selections : (t u : Data) (ds es : List Data) (names others : List NameParts) → HaveNames t ds names → HaveNames u es others → AreAmong names others
+    → AgreeAt (selection_map t ds) (selection_map u es) names → selection_map t ds ≡ selection_map u es
+same_selections t u ds es names others have have_others among agree =
     fun_ext (same_at_every (λ m n. is_eq (name_cmp m n)) equal_names (selection_map t ds) (selection_map u es) names agree
-    (λ n h. ap (option_and_then (selection_record t)) (none_found (has_name t n) ds (no_left n h)))
-    (λ n h. ap (option_and_then (selection_record u)) (none_found (has_name u n) es (no_right n h))))
+    (λ n h. ap (option_and_then (selection_record t)) (none_found (has_name t n) ds (looked_for name_cmp (name_of t) ds names have n ∙ h)))
+    (λ n h. ap (option_and_then (selection_record u)) (none_found (has_name u n) es
+    (looked_for name_cmp (name_of u) es others have_others n ∙ none_among (λ m. is_eq (name_cmp m n)) names others among h))))
 
 -- ---- the whole
 

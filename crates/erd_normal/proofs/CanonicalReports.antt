@@ -1,5 +1,5 @@
 -- Whole reports that are canonical, and the canonical forms of two, by tests that compute.
-use Rattle.std.proofs.Common.{◌≡◌, ℕ, List, [], ◌∷◌, Bool, true, false, not, ◌&&◌, true≢false, Ordering, Less, Equal, Greater, is_lt, Option, Some, None, length, map, refl, sym, ap, ◌∙◌, subst}
+use Rattle.std.proofs.Common.{◌≡◌, ℕ, List, [], ◌∷◌, Bool, true, false, not, ◌&&◌, true≢false, Ordering, Less, Equal, Greater, is_lt, Option, Some, None, length, map, refl, sym, ap, ◌∙◌, subst, arith}
 use Rattle.std.specs.Fmt.{digits}
 use Rattle.std.specs.List.{AllByRecursion, list_all}
 use Rattle.std.specs.List.Sorted.{IsStrictlySortedBy}
@@ -13,7 +13,7 @@ use Rattle.erd_tables.specs.declared.member.MemberKind.{MemberKind}
 use Rattle.erd_tables.specs.declared.member.MemberKind.TheVariants as kind
 use Rattle.erd_tables.specs.declared.place.Step.{Step}
 use Rattle.erd_check.specs.Faults.{is_empty_array}
-use Rattle.erd_check.specs.Trees.{entries_of}
+use Rattle.erd_check.specs.Trees.{IsNoDeeper, entries_of}
 use Rattle.erd_check.specs.Wants.{Asked, asked_at}
 use Rattle.erd_check.proofs.AllAsked.{AskedPlace, all_asked, tested_at}
 use Rattle.erd_check.proofs.Deciding.{faults_found, is_tree, no_fault_listed}
@@ -26,6 +26,7 @@ use Rattle.erd_meaning.proofs.AcceptedExamples.{small_ballot_canonical_is_accept
 use Rattle.erd_meaning.proofs.LaterFaultLists.{identity_faults, reference_faults, selection_faults, no_identity_fault_listed, no_reference_fault_listed, no_selection_fault_listed}
 use Rattle.erd_meaning.proofs.Phases.{accepted_by_phases}
 use Rattle.erd_normal.specs.Canonical.{AreSetsInOrder, HasNoEmptyArray, IsCanonical, IsCanonicalFormOf, RisesAs, keys_of, keys_referred, kind_wanted}
+use Rattle.erd_normal.proofs.BallotMeaningExamples.{canonical_ballot_means_the_same}
 use Rattle.erd_normal.proofs.CanonicalExamples.{canonical_envelope}
 use Rattle.erd_normal.proofs.CanonicalPartExamples.{envelope_of_one_unit, ids_of_one_unit, ids_of_small_ballot}
 use Rattle.erd_normal.proofs.MeaningExamples.{one_unit_canonical, canonical_means_the_same}
@@ -167,6 +168,14 @@ small_ballot_is_canonical = record {
   in_order = sets_in_order (tree_of small_ballot_canonical) small_ballot_in_form;
   ids = ids_of_small_ballot;
 }
+
+pub form_of_small_ballot : IsCanonicalFormOf (tree_of small_ballot) (tree_of small_ballot_canonical)
+form_of_small_ballot = record { canonical = small_ballot_is_canonical; same = canonical_ballot_means_the_same }
+
+-- a canonical form is nested no deeper than its report
+no_deeper : IsNoDeeper (tree_of small_ballot_canonical) (tree_of small_ballot)
+unfolding serde_json_on_literals
+no_deeper = omega arith
 
 -- as its vendor wrote it, the small ballot is not canonical
 small_ballot_is_not : IsCanonical (tree_of small_ballot) → ⊥

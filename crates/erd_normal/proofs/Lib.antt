@@ -17,5 +17,7 @@ pub mod CanonicalPartExamples
 mod StableOrderExamples
 mod RearrangedExamples
 pub mod MeaningExamples
+pub mod BallotMeaningExamples
 pub mod Lists
 pub mod CanonicalReports
+pub mod EqualTrees

@@ -1,22 +1,21 @@
 -- Whole reports that are rearrangements of one another, and changes that are refused.
 use Rattle.std.proofs.Common.{◌≡◌, ℕ, zero, suc, List, [], ◌∷◌, ◌++◌, map, codes, Contains, Option, Some, None, Bool, true, false, true≢false, not, ◌&&◌, refl, sym, ap, ◌∙◌, arith, lit<}
 use Rattle.std.proofs.lemmas.Bool.{and_parts, or_parts, not-true}
-use Rattle.std.proofs.lemmas.Bool.Decides.{Decides-eqb}
 use Rattle.std.proofs.lemmas.Map.Views.{Contains-from_any}
 use Rattle.std.proofs.lemmas.Slice.Eq.{bytes_eq-Decides}
 use Rattle.std.specs.List.{list_any, list_all}
 use Rattle.std.specs.Option.{option_map_or}
 use Rattle.std.specs.Prelude.{slice_get, length, option_map, unwrap_or, if◌then◌else◌, ◌==◌}
 use Rattle.std.specs.Str.{bytes_eq}
-use Rattle.serde_json.specs.Data.{Num, unsigned, Data, null, boolean, number, string, array, object, Items, no_items, item, Members, no_members, member}
+use Rattle.serde_json.specs.Data.{Data}
 use Rattle.serde_json.proofs.OnLiterals.{serde_json_on_literals}
 use Rattle.erd_tables.specs.Classes.{families}
 use Rattle.erd_tables.specs.declared.class.Family.TheVariants as family
 use Rattle.erd_tables.specs.declared.place.Step.{Step}
 use Rattle.erd_tables.specs.declared.place.Step.TheVariants.{Name, At}
 use Rattle.erd_check.proofs.Reports.{tree_of, small_ballot, small_ballot_canonical, one_unit}
-use Rattle.erd_check.specs.Trees.{same_flag}
 use Rattle.erd_meaning.specs.Objects.{Placed, objects, id_of, report_of}
+use Rattle.erd_normal.proofs.EqualTrees.{equal_trees}
 use Rattle.erd_normal.proofs.Lists.{passed, is_family}
 use Rattle.erd_normal.specs.Rearranged.{Renaming, IsRenaming, Change, a_renaming, an_exchange, IsRearrangement}
 
@@ -93,65 +92,6 @@ renamed_unit : IsRearrangement (a_renaming new_name ∷ []) (tree_of one_unit)
     (tree_of (codes "{\"@type\":\"ElectionResults.ElectionReport\",\"Status\":\"pre-election\",\"GpUnit\":[{\"@id\":\"k\",\"@type\":\"ElectionResults.ReportingUnit\",\"Type\":\"county\",\"ExternalIdentifier\":[{\"@type\":\"ElectionResults.ExternalIdentifier\",\"Type\":\"local-level\",\"Value\":\"U1\"}]}],\"Election\":[{\"@type\":\"ElectionResults.Election\",\"Name\":\"Test\",\"Type\":\"general\",\"StartDate\":\"2026-11-03\",\"EndDate\":\"2026-11-03\",\"ElectionScopeId\":\"k\"}]}"))
 unfolding serde_json_on_literals
 renamed_unit = (renaming (tree_of one_unit) new_name refl, refl)
-
--- ---- a test of equal trees
-
--- built alike, of equal texts and equal numbers that are not negative; a tree with another number is equal to none
-abbrev is_number : Num → Num → Bool
-is_number (unsigned m) (unsigned n) = m == n
-is_number m n = false
-
-abbrev mutual
-  is_tree : Data → Data → Bool
-  is_tree null null = true
-  is_tree (boolean a) (boolean b) = same_flag a b
-  is_tree (number m) (number n) = is_number m n
-  is_tree (string a) (string b) = bytes_eq a b
-  is_tree (array ds) (array es) = are_items ds es
-  is_tree (object ms) (object ns) = are_members ms ns
-  is_tree d e = false
-
-  are_items : Items → Items → Bool
-  are_items no_items no_items = true
-  are_items (item d ds) (item e es) = is_tree d e && are_items ds es
-  are_items ds es = false
-
-  are_members : Members → Members → Bool
-  are_members no_members no_members = true
-  are_members (member k d ms) (member l e ns) = bytes_eq k l && (is_tree d e && are_members ms ns)
-  are_members ms ns = false
-
-equal_flags : (a b : Bool) → same_flag a b ≡ true → a ≡ b
-equal_flags true b h = sym h
-equal_flags false b h = sym (not-true b h)
-
-equal_numbers : (m n : Num) → is_number m n ≡ true → m ≡ n
-equal_numbers (unsigned m) (unsigned n) h = ap unsigned ((Decides-eqb m n).0 h)
-equal_numbers m n h = absurd (cc h)
-
-mutual
-  equal_trees : (d e : Data) → is_tree d e ≡ true → d ≡ e
-  equal_trees null null h = refl
-  equal_trees (boolean a) (boolean b) h = ap boolean (equal_flags a b h)
-  equal_trees (number m) (number n) h = ap number (equal_numbers m n h)
-  equal_trees (string a) (string b) h = ap string ((bytes_eq-Decides a b).0 h)
-  equal_trees (array ds) (array es) h = ap array (equal_items ds es h)
-  equal_trees (object ms) (object ns) h = ap object (equal_members ms ns h)
-  equal_trees d e h = absurd (cc h)
-
-  equal_items : (ds es : Items) → are_items ds es ≡ true → ds ≡ es
-  equal_items no_items no_items h = refl
-  equal_items (item d ds) (item e es) h =
-      let both = and_parts (is_tree d e) (are_items ds es) h in
-      let first : d ≡ e = equal_trees d e both.0 in let rest : ds ≡ es = equal_items ds es both.1 in cc
-  equal_items ds es h = absurd (cc h)
-
-  equal_members : (ms ns : Members) → are_members ms ns ≡ true → ms ≡ ns
-  equal_members no_members no_members h = refl
-  equal_members (member k d ms) (member l e ns) h =
-      let both = and_parts (bytes_eq k l) _ h in let rests = and_parts (is_tree d e) (are_members ms ns) both.1 in
-      let name : k ≡ l = (bytes_eq-Decides k l).0 both.0 in let first : d ≡ e = equal_trees d e rests.0 in let rest : ms ≡ ns = equal_members ms ns rests.1 in cc
-  equal_members ms ns h = absurd (cc h)
 
 -- ---- the small ballot
 
