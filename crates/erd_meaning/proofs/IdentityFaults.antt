@@ -1,7 +1,6 @@
 -- The walk over the objects of a report tells exactly the faults of identity.
-use Rattle.std.proofs.Common.{◌≡◌, ℕ, ◌⊎◌, inl, inr, List, [], ◌∷◌, ◌++◌, map, Bool, true, false, cond, ◌&&◌, ◌||◌, ◌==◌, true≢false, Ordering, Less, Equal, Greater, is_eq, Option, Some, None, is_none, IsTrue, refl, sym, ap, ap₂, ◌∙◌, subst}
+use Rattle.std.proofs.Common.{◌≡◌, ℕ, ◌⊎◌, inl, inr, List, [], ◌∷◌, ◌++◌, Bool, true, false, cond, ◌||◌, ◌==◌, true≢false, Ordering, Less, Equal, Greater, is_eq, Option, Some, None, is_none, refl, sym, ap, ◌∙◌, subst}
 use Rattle.std.specs.List.{list_any}
-use Rattle.std.specs.Str.{bytes_eq}
 use Rattle.std.proofs.lemmas.Cmp.{tied_itself}
 use Rattle.std.proofs.lemmas.Slice.Eq.{bytes_eq-Decides}
 use Rattle.serde_json.specs.Data.{Data}
@@ -18,13 +17,13 @@ use Rattle.erd_check.proofs.Order.{In, In-append, In-append_left, In-append_righ
 use Rattle.erd_check.proofs.Reasons.{and_true, both_true}
 use Rattle.erd_meaning.specs.Keys.{has_keys, key_of}
 use Rattle.erd_meaning.specs.LaterFaults.{IdentityFault, LacksIdentifier, RepeatsId, RepeatsKey}
-use Rattle.erd_meaning.specs.ObjectWalk.{Kept, Located, all_located, fault_if, faults_after, has_same_id, has_same_key, kept, kept_key, located, located_one, same_id, same_key}
+use Rattle.erd_meaning.specs.ObjectWalk.{Kept, Located, all_located, fault_if, faults_after, has_same_id, has_same_key, kept, kept_key, located_one, same_id, same_key}
 use Rattle.erd_meaning.specs.Objects.{Placed, id_of, objects}
 use Rattle.erd_meaning.specs.declared.key.Key.{Key}
-use Rattle.erd_meaning.proofs.ObjectFamilies.{family_exact, is_of, itself, objects_met, pick}
+use Rattle.erd_meaning.proofs.ObjectFamilies.{family_exact, is_of, itself, objects_met}
 use Rattle.erd_meaning.proofs.ObjectPlaces.{all_parted, id_place}
 use Rattle.erd_meaning.proofs.Orders.{key_cmp_exact, key_cmp_total}
-use Rattle.erd_meaning.proofs.ToldFaults.{Complete, Told, complete, duplicate_id, has_twin, in_if, is_keyless, is_named_before, no_identifier, three, told, told_rising, told_sound, twin_identifier}
+use Rattle.erd_meaning.proofs.ToldFaults.{Complete, Told, complete, duplicate_id, has_twin, in_if, is_keyless, is_named_before, no_identifier, told, told_rising, told_sound, twin_identifier}
 
 -- ---- the objects of the walk
 

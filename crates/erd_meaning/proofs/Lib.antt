@@ -19,3 +19,4 @@ pub mod ObjectPlaces
 pub mod ObjectFamilies
 pub mod ToldFaults
 pub mod IdentityFaults
+pub mod Resolved

@@ -86,7 +86,14 @@ fn meet_contests<'a>(
     for (index, contest) in entries(election, "Contest").iter().enumerate() {
         let contest_path = Path::Entry(&contests, index);
         meet_object(alloc, Family::Contest, contest, &contest_path, walk)?;
-        meet_entries(alloc, Family::Selection, contest, "ContestSelection", &contest_path, walk)?;
+        meet_entries(
+            alloc,
+            Family::Selection,
+            contest,
+            "ContestSelection",
+            &contest_path,
+            walk,
+        )?;
     }
     Ok(())
 }
@@ -126,11 +133,7 @@ fn meet_object<'a>(
     Ok(())
 }
 
-fn object_of<'a>(
-    alloc: Global,
-    family: Family,
-    value: &'a Value,
-) -> Result<Object<'a>, AllocError>
+fn object_of<'a>(alloc: Global, family: Family, value: &'a Value) -> Result<Object<'a>, AllocError>
     ensures { IfOk result (λ object. shown object ≡ kept family (view value.now)) }
 {
     let key = match family {
