@@ -41,7 +41,7 @@ of_family t x i =
     let from = In-map_from (located_one f) (objects f t) x (subst (In x) (objects_met f t) kept) in
     record { family = f; one = from.from; there = from.inside; is = from.is }
 
-is_met : (t : Data) (f : Family) (o : Placed) → In o (objects f t) → In (located_one f o) (all_located t)
+pub is_met : (t : Data) (f : Family) (o : Placed) → In o (objects f t) → In (located_one f o) (all_located t)
 is_met t f o i =
     (In-filter (is_of f) (located_one f o) (all_located t) (subst (In (located_one f o)) (sym (objects_met f t)) (In-map (located_one f) o (objects f t) i))).0
 
@@ -59,7 +59,7 @@ keyed_at : (d : Data) (k : Key) (b : Bool) → cond b (key_of d) None ≡ Some k
 keyed_at d k true e = (refl, e)
 keyed_at d k false e = cc
 
-kept_keyed : (f : Family) (d : Data) (k : Key) → kept_key f d ≡ Some k → (has_keys f ≡ true) × (key_of d ≡ Some k)
+pub kept_keyed : (f : Family) (d : Data) (k : Key) → kept_key f d ≡ Some k → (has_keys f ≡ true) × (key_of d ≡ Some k)
 kept_keyed f d k e = keyed_at d k (has_keys f) e
 
 none_from : {A : Type 0} (o : Option A) → is_none o ≡ true → o ≡ None
@@ -72,12 +72,12 @@ tied_from Equal e = refl
 tied_from Greater e = absurd (true≢false (sym e))
 
 -- the one key of two objects
-same_key_from : (a b : Option Key) → same_key a b ≡ true → (k : Key) × (a ≡ Some k) × (b ≡ Some k)
+pub same_key_from : (a b : Option Key) → same_key a b ≡ true → (k : Key) × (a ≡ Some k) × (b ≡ Some k)
 same_key_from None b e = absurd (true≢false (sym e))
 same_key_from (Some a) None e = absurd (true≢false (sym e))
 same_key_from (Some a) (Some b) e = (a, refl, ap Some (sym (key_cmp_exact a b (tied_from _ e))))
 
-same_id_from : (a b : Option (List ℕ)) → same_id a b ≡ true → (s : List ℕ) × (a ≡ Some s) × (b ≡ Some s)
+pub same_id_from : (a b : Option (List ℕ)) → same_id a b ≡ true → (s : List ℕ) × (a ≡ Some s) × (b ≡ Some s)
 same_id_from None b e = absurd (true≢false (sym e))
 same_id_from (Some a) None e = absurd (true≢false (sym e))
 same_id_from (Some a) (Some b) e = (a, refl, ap Some (sym ((bytes_eq-Decides a b).0 e)))

@@ -20,3 +20,6 @@ pub mod ObjectFamilies
 pub mod ToldFaults
 pub mod IdentityFaults
 pub mod Resolved
+pub mod Lookups
+pub mod Found
+pub mod Lookings

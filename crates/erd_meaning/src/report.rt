@@ -1,11 +1,16 @@
-ghost use Rattle.std.specs.Prelude.{◌≡◌, [], ◌∷◌, map};
+ghost use Rattle.std.specs.Prelude.{◌≡◌, [], ◌∷◌, length, map, option_map, slice_get};
+ghost use Rattle.std.specs.Option.{option_copied};
 ghost use Rattle.serde_json.specs.View.{view};
 ghost use Rattle.erd_check.specs.Shapes.{IsFaultless};
-ghost use Rattle.erd_meaning.specs.Objects.{elections};
+ghost use Rattle.erd_meaning.specs.Lookups.{FindsId, FindsKey, key_in};
+ghost use Rattle.erd_meaning.specs.Objects.{elections, objects};
 ghost use Rattle.erd_meaning.specs.Resolved.{HasIdentity, IsResolved};
 
+use crate::key::Key;
+use crate::lookup::{count_of, nth_of, place_of_id, place_of_key};
 use crate::members::entries;
 use crate::object::Object;
+use erd_tables::Family;
 use serde_json::Value;
 use std::marker::Model;
 
@@ -57,5 +62,57 @@ impl<'a> Report<'a> {
         ensures { map (λ o. o.value) (elections (view self.now)) ≡ view result.now ∷ [] }
     {
         &entries(self.tree, "Election")[0]
+    }
+
+    /// How many objects of the family there are. All are gone over.
+    pub fn count(&self, family: Family) -> usize
+        ensures { result ≡ length (objects family (view self.now)) }
+    {
+        count_of(&self.objects, family)
+    }
+
+    /// The object of the family at the position, if there is one. It is found by going over the objects, as are all that
+    /// are asked for below.
+    pub fn object(&self, family: Family, index: usize) -> Option<&'a Value>
+        ensures { option_map (λ v. view v.now) result ≡ option_map (λ o. o.value) (slice_get (objects family (view self.now)) index) }
+    {
+        match nth_of(&self.objects, family, index) {
+            Some(object) => Some(object.value),
+            None => None,
+        }
+    }
+
+    /// The key of the object of the family at the position, if there is one. Selections have no keys; each object of
+    /// another family has one.
+    pub fn key_at(&self, family: Family, index: usize) -> Option<&Key>
+        ensures { option_copied result ≡ key_in family (view self.now) index }
+    {
+        match nth_of(&self.objects, family, index) {
+            Some(object) => object.key.as_ref(),
+            None => None,
+        }
+    }
+
+    /// The position of the object of the family with the key, if there is one. No two objects of a family have one key.
+    pub fn find(&self, family: Family, key: &Key) -> Option<usize>
+        ensures { FindsKey (view self.now) family key.now result }
+    {
+        match place_of_key(&self.objects, family, key) {
+            Some(place) => Some(count_of(&self.objects[..place], family)),
+            None => None,
+        }
+    }
+
+    /// The family and the position of the object with the `@id`, if there is one. No two objects have one `@id`.
+    pub fn target(&self, id: &str) -> Option<(Family, usize)>
+        ensures { FindsId (view self.now) id.now result }
+    {
+        match place_of_id(&self.objects, id) {
+            Some(place) => {
+                let family = self.objects[place].family;
+                Some((family, count_of(&self.objects[..place], family)))
+            }
+            None => None,
+        }
     }
 }
