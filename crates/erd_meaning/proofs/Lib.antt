@@ -21,5 +21,5 @@ pub mod ToldFaults
 pub mod IdentityFaults
 pub mod Resolved
 pub mod Lookups
+pub mod OneObject
 pub mod Found
-pub mod Lookings

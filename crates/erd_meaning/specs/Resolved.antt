@@ -10,11 +10,11 @@ use Rattle.erd_meaning.specs.Shown.{shown}
 use Rattle.erd_meaning.specs.declared.object.Object.{Object}
 
 -- no two objects have one key or one `@id`, and those that need a key have one
-abbrev pub HasIdentity : Value → Type 0
-HasIdentity tree = NoneOf (IdentityFault (view tree))
+abbrev pub IsIdentified : Value → Type 0
+IsIdentified tree = NoneOf (IdentityFault (view tree))
 
 -- a report without a fault of shape or of identity, and its objects in the order of their places
 pub record IsResolved (tree : Value) (objects : List Object) : Type 0 where
   pub faultless : IsFaultless tree
-  pub identified : HasIdentity tree
+  pub identified : IsIdentified tree
   pub kept : map shown objects ≡ kept_objects (view tree)

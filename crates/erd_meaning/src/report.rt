@@ -4,7 +4,7 @@ ghost use Rattle.serde_json.specs.View.{view};
 ghost use Rattle.erd_check.specs.Shapes.{IsFaultless};
 ghost use Rattle.erd_meaning.specs.Lookups.{FindsId, FindsKey, key_in};
 ghost use Rattle.erd_meaning.specs.Objects.{elections, objects};
-ghost use Rattle.erd_meaning.specs.Resolved.{HasIdentity, IsResolved};
+ghost use Rattle.erd_meaning.specs.Resolved.{IsIdentified, IsResolved};
 
 use crate::key::Key;
 use crate::lookup::{count_of, nth_of, place_of_id, place_of_key};
@@ -52,7 +52,7 @@ impl<'a> Report<'a> {
     pub fn tree(&self) -> &'a Value
         ensures tree { result.now ≡ self.now }
         ensures faultless { IsFaultless result.now }
-        ensures identified { HasIdentity result.now }
+        ensures identified { IsIdentified result.now }
     {
         self.tree
     }
