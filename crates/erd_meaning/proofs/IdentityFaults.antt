@@ -1,7 +1,6 @@
 -- The walk over the objects of a report tells exactly the faults of identity.
-use Rattle.std.proofs.Common.{◌≡◌, ℕ, ◌⊎◌, inl, inr, List, [], ◌∷◌, ◌++◌, map, Bool, true, false, cond, ◌&&◌, ◌||◌, ◌==◌, true≢false, Ordering, Less, Equal, Greater, is_eq, Option, Some, None, is_none, IsTrue, refl, sym, ap, ap₂, ◌∙◌, subst}
+use Rattle.std.proofs.Common.{◌≡◌, ℕ, ◌⊎◌, inl, inr, List, [], ◌∷◌, ◌++◌, Bool, true, false, cond, ◌||◌, ◌==◌, true≢false, Ordering, Less, Equal, Greater, is_eq, Option, Some, None, is_none, refl, sym, ap, ◌∙◌, subst}
 use Rattle.std.specs.List.{list_any}
-use Rattle.std.specs.Str.{bytes_eq}
 use Rattle.std.proofs.lemmas.Cmp.{tied_itself}
 use Rattle.std.proofs.lemmas.Slice.Eq.{bytes_eq-Decides}
 use Rattle.serde_json.specs.Data.{Data}
@@ -18,13 +17,13 @@ use Rattle.erd_check.proofs.Order.{In, In-append, In-append_left, In-append_righ
 use Rattle.erd_check.proofs.Reasons.{and_true, both_true}
 use Rattle.erd_meaning.specs.Keys.{has_keys, key_of}
 use Rattle.erd_meaning.specs.LaterFaults.{IdentityFault, LacksIdentifier, RepeatsId, RepeatsKey}
-use Rattle.erd_meaning.specs.ObjectWalk.{Kept, Located, all_located, fault_if, faults_after, has_same_id, has_same_key, kept, kept_key, located, located_one, same_id, same_key}
+use Rattle.erd_meaning.specs.ObjectWalk.{Kept, Located, all_located, fault_if, faults_after, has_same_id, has_same_key, kept, kept_key, located_one, same_id, same_key}
 use Rattle.erd_meaning.specs.Objects.{Placed, id_of, objects}
 use Rattle.erd_meaning.specs.declared.key.Key.{Key}
-use Rattle.erd_meaning.proofs.ObjectFamilies.{family_exact, is_of, itself, objects_met, pick}
+use Rattle.erd_meaning.proofs.ObjectFamilies.{family_exact, is_of, itself, objects_met}
 use Rattle.erd_meaning.proofs.ObjectPlaces.{all_parted, id_place}
 use Rattle.erd_meaning.proofs.Orders.{key_cmp_exact, key_cmp_total}
-use Rattle.erd_meaning.proofs.ToldFaults.{Complete, Told, complete, duplicate_id, has_twin, in_if, is_keyless, is_named_before, no_identifier, three, told, told_rising, told_sound, twin_identifier}
+use Rattle.erd_meaning.proofs.ToldFaults.{Complete, Told, complete, duplicate_id, has_twin, in_if, is_keyless, is_named_before, no_identifier, told, told_rising, told_sound, twin_identifier}
 
 -- ---- the objects of the walk
 
@@ -42,7 +41,7 @@ of_family t x i =
     let from = In-map_from (located_one f) (objects f t) x (subst (In x) (objects_met f t) kept) in
     record { family = f; one = from.from; there = from.inside; is = from.is }
 
-is_met : (t : Data) (f : Family) (o : Placed) → In o (objects f t) → In (located_one f o) (all_located t)
+pub is_met : (t : Data) (f : Family) (o : Placed) → In o (objects f t) → In (located_one f o) (all_located t)
 is_met t f o i =
     (In-filter (is_of f) (located_one f o) (all_located t) (subst (In (located_one f o)) (sym (objects_met f t)) (In-map (located_one f) o (objects f t) i))).0
 
@@ -60,7 +59,7 @@ keyed_at : (d : Data) (k : Key) (b : Bool) → cond b (key_of d) None ≡ Some k
 keyed_at d k true e = (refl, e)
 keyed_at d k false e = cc
 
-kept_keyed : (f : Family) (d : Data) (k : Key) → kept_key f d ≡ Some k → (has_keys f ≡ true) × (key_of d ≡ Some k)
+pub kept_keyed : (f : Family) (d : Data) (k : Key) → kept_key f d ≡ Some k → (has_keys f ≡ true) × (key_of d ≡ Some k)
 kept_keyed f d k e = keyed_at d k (has_keys f) e
 
 none_from : {A : Type 0} (o : Option A) → is_none o ≡ true → o ≡ None
@@ -73,12 +72,12 @@ tied_from Equal e = refl
 tied_from Greater e = absurd (true≢false (sym e))
 
 -- the one key of two objects
-same_key_from : (a b : Option Key) → same_key a b ≡ true → (k : Key) × (a ≡ Some k) × (b ≡ Some k)
+pub same_key_from : (a b : Option Key) → same_key a b ≡ true → (k : Key) × (a ≡ Some k) × (b ≡ Some k)
 same_key_from None b e = absurd (true≢false (sym e))
 same_key_from (Some a) None e = absurd (true≢false (sym e))
 same_key_from (Some a) (Some b) e = (a, refl, ap Some (sym (key_cmp_exact a b (tied_from _ e))))
 
-same_id_from : (a b : Option (List ℕ)) → same_id a b ≡ true → (s : List ℕ) × (a ≡ Some s) × (b ≡ Some s)
+pub same_id_from : (a b : Option (List ℕ)) → same_id a b ≡ true → (s : List ℕ) × (a ≡ Some s) × (b ≡ Some s)
 same_id_from None b e = absurd (true≢false (sym e))
 same_id_from (Some a) None e = absurd (true≢false (sym e))
 same_id_from (Some a) (Some b) e = (a, refl, ap Some (sym ((bytes_eq-Decides a b).0 e)))

@@ -21,3 +21,7 @@ pub mod ToldFaults
 pub mod IdentityFaults
 pub mod EqualNames
 pub mod WholeMeanings
+pub mod Resolved
+pub mod Lookups
+pub mod OneObject
+pub mod Found

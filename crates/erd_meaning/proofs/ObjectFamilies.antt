@@ -1,5 +1,5 @@
 -- The objects of a family are those that the walk meets of it, in the same order.
-use Rattle.std.proofs.Common.{◌≡◌, ℕ, List, [], ◌∷◌, ◌++◌, map, filter, cond, Bool, true, false, ◌==◌, codes, refl, sym, ap, ap₂, ◌∙◌, append-nil, append_assoc, find, Option, Some, subst}
+use Rattle.std.proofs.Common.{◌≡◌, ℕ, List, [], ◌∷◌, ◌++◌, filter, cond, Bool, true, false, ◌==◌, codes, refl, sym, ap, ap₂, ◌∙◌, append-nil, append_assoc, find, Option, Some, subst}
 use Rattle.std.proofs.lemmas.Bool.Decides.{Decides-eqb}
 use Rattle.std.proofs.lemmas.List.Elements.{filter-append}
 use Rattle.std.specs.List.{flat_map}
@@ -8,7 +8,7 @@ use Rattle.erd_tables.specs.Classes.{families, family_number}
 use Rattle.erd_tables.specs.declared.class.Family.{Family}
 use Rattle.erd_tables.specs.declared.class.Family.TheVariants as family
 use Rattle.erd_meaning.specs.ObjectWalk.{Located, located, located_one, contest_located, election_located, shared_located, all_located}
-use Rattle.erd_meaning.specs.Objects.{Placed, contests, elections, objects, placed_entries, report_of, selections_of}
+use Rattle.erd_meaning.specs.Objects.{Placed, elections, objects, placed_entries, report_of, selections_of}
 
 -- an object is of the family
 abbrev pub is_of : Family → Located → Bool

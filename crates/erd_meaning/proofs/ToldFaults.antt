@@ -31,13 +31,13 @@ met_faults m (x ∷ xs) =
 
 -- ---- what is told of an object
 
-less_itself : (p : List Step) → place_cmp p p ≡ Less → ⊥
+pub less_itself : (p : List Step) → place_cmp p p ≡ Less → ⊥
 less_itself p e = let h = sym (place_same p) ∙ e in cc
 
 turned : (p q : List Step) → place_cmp p q ≡ Less → place_cmp q p ≡ Less → ⊥
 turned p q a b = less_itself p (place_cmp_total.trans p q p a b)
 
-before_apart : (x y : Located) → apart x y ≡ Less → place_cmp x.place y.place ≡ Less
+pub before_apart : (x y : Located) → apart x y ≡ Less → place_cmp x.place y.place ≡ Less
 before_apart x y e = place_cmp_total.trans x.place (id_place x.place) y.place (start_less x.place _ []) e
 
 -- an object of the list, with those that were met before it

@@ -1,12 +1,11 @@
 -- The objects of a report in the order of their places, as the program goes over them, with the faults of identity that it
 -- tells on the way. It is no definition of the profile: that the objects are those of `objects`, and the faults those of
 -- `IdentityFault`, is proved in `IdentityFaults`.
-use Rattle.std.specs.Prelude.{ℕ, List, [], ◌∷◌, ◌++◌, Bool, true, false, ◌&&◌, ◌==◌, if◌then◌else◌, Option, Some, None, map, codes, is_none, flat_map}
+use Rattle.std.specs.Prelude.{ℕ, List, [], ◌∷◌, ◌++◌, Bool, false, ◌&&◌, ◌==◌, if◌then◌else◌, Option, Some, None, map, codes, is_none, flat_map}
 use Rattle.std.specs.List.{list_any}
 use Rattle.std.specs.Ordering.{is_eq}
 use Rattle.std.specs.Str.{bytes_eq}
 use Rattle.serde_json.specs.Data.{Data}
-use Rattle.serde_json.specs.View.{view}
 use Rattle.erd_tables.specs.Classes.{family_number}
 use Rattle.erd_tables.specs.declared.class.Family.{Family}
 use Rattle.erd_tables.specs.declared.class.Family.TheVariants as family
@@ -70,6 +69,10 @@ shared_located r =
 -- the objects of a report
 abbrev pub all_located : Data → List Located
 all_located t = flat_map election_located (elections t) ++ shared_located (report_of t)
+
+-- what is kept of the objects of a report
+abbrev pub kept_objects : Data → List Kept
+kept_objects t = map (λ x. x.object) (all_located t)
 
 -- ---- faults
 

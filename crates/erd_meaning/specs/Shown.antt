@@ -1,5 +1,5 @@
 -- What the objects that the program keeps stand for.
-use Rattle.std.specs.Prelude.{List, map, option_map}
+use Rattle.std.specs.Prelude.{map, option_map}
 use Rattle.serde_json.specs.View.{view}
 use Rattle.erd_meaning.specs.ObjectWalk.{Kept, Met}
 use Rattle.erd_check.specs.Paths.{steps_of}

@@ -3,10 +3,15 @@
 
 mod identifier;
 pub mod key;
+mod lookup;
 mod members;
 mod object;
 mod object_walk;
+mod report;
+mod resolving;
 pub mod selection_name;
 
 pub use key::Key;
+pub use report::Report;
+pub use resolving::resolve;
 pub use selection_name::SelectionName;

@@ -1,4 +1,5 @@
 ghost use Rattle.std.specs.Prelude.{◌≡◌};
+ghost use Rattle.erd_meaning.specs.Lookups.{is_of_family, is_keyed, is_named};
 ghost use Rattle.erd_meaning.specs.ObjectWalk.{has_same_key, has_same_id};
 ghost use Rattle.erd_meaning.specs.Shown.{shown};
 
@@ -36,6 +37,36 @@ impl<'a> Object<'a> {
         match (self.id, other.id) {
             (Some(id), Some(other)) => id == other,
             _ => false,
+        }
+    }
+
+    /// Whether it is an object of the family.
+    pub(crate) fn is_of(&self, family: Family) -> bool
+        ensures { result ≡ is_of_family family (shown self.now) }
+    {
+        self.family == family
+    }
+
+    /// Whether it is the object of the family with the key.
+    pub(crate) fn is_keyed(&self, family: Family, key: &Key) -> bool
+        ensures { result ≡ is_keyed family key.now (shown self.now) }
+    {
+        if !self.is_of(family) {
+            return false;
+        }
+        match &self.key {
+            Some(own) => own.cmp(key).is_eq(),
+            None => false,
+        }
+    }
+
+    /// Whether it has the `@id`.
+    pub(crate) fn is_named(&self, id: &str) -> bool
+        ensures { result ≡ is_named id.now (shown self.now) }
+    {
+        match self.id {
+            Some(own) => own == id,
+            None => false,
         }
     }
 }

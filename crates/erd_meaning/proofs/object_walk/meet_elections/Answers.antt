@@ -1,4 +1,3 @@
-use Rattle.erd_check.specs.Paths.{steps_of}
 use Rattle.erd_meaning.specs.ObjectWalk.{election_located}
 use Rattle.erd_meaning.specs.Shown.{met_of}
 use Rattle.erd_meaning.proofs.MetObjects.{met_inside}

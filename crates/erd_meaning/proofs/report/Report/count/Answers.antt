@@ -1,0 +1,10 @@
+use Rattle.std.proofs.Common.{◌∙◌, sym, subst}
+use Rattle.erd_meaning.specs.Resolved.{IsResolved}
+use Rattle.erd_meaning.proofs.Lookups.{counted}
+use Rattle.erd_meaning.proofs.report.Report.count.Goals as goal
+
+pub returns : goal.returns
+returns c =
+    let resolved : IsResolved c.args.self.now c.deref.result.now =
+    subst (λ v. IsResolved v c.deref.result.now) c.self.view_is (subst (IsResolved c.self.inside.tree.now) (sym c.deref.ensures.value) c.self.invariant) in
+    c.count_of.ensures ∙ counted c.args.self.now c.deref.result.now c.args.family resolved

@@ -1,0 +1,18 @@
+use Rattle.std.proofs.Common.{ap, option_and_then, ◌∙◌, sym, subst}
+use Rattle.erd_meaning.specs.Resolved.{IsResolved}
+use Rattle.erd_meaning.specs.ObjectWalk.{Kept}
+use Rattle.erd_meaning.proofs.Lookups.{part_at}
+use Rattle.erd_meaning.proofs.report.Report.key_at.Goals as goal
+
+pub returns-in-Some : goal.returns-in-Some
+returns-in-Some c =
+    let resolved : IsResolved c.args.self.now c.deref.result.now =
+    subst (λ v. IsResolved v c.deref.result.now) c.self.view_is (subst (IsResolved c.self.inside.tree.now) (sym c.deref.ensures.value) c.self.invariant) in
+    c.as_ref.ensures.value ∙ ap (option_and_then (λ (k : Kept). k.key)) c.in-Some.ensures
+    ∙ part_at (λ k. k.key) c.args.self.now c.deref.result.now c.args.family c.args.index resolved
+
+pub returns-in-None : goal.returns-in-None
+returns-in-None c =
+    let resolved : IsResolved c.args.self.now c.deref.result.now =
+    subst (λ v. IsResolved v c.deref.result.now) c.self.view_is (subst (IsResolved c.self.inside.tree.now) (sym c.deref.ensures.value) c.self.invariant) in
+    ap (option_and_then (λ (k : Kept). k.key)) c.in-None.ensures ∙ part_at (λ k. k.key) c.args.self.now c.deref.result.now c.args.family c.args.index resolved

@@ -1,0 +1,45 @@
+-- What is looked up among the objects of a report, by family and position.
+use Rattle.std.specs.Prelude.{◌≡◌, ◌↔◌, ℕ, List, Bool, ◌&&◌, ◌==◌, Option, Some, option_and_then, filter}
+use Rattle.std.specs.List.{slice_get}
+use Rattle.serde_json.specs.Data.{Data}
+use Rattle.erd_tables.specs.Classes.{family_number}
+use Rattle.erd_tables.specs.declared.class.Family.{Family}
+use Rattle.erd_meaning.specs.Objects.{id_of, objects}
+use Rattle.erd_meaning.specs.ObjectWalk.{Kept, kept_key, same_id, same_key}
+use Rattle.erd_meaning.specs.declared.key.Key.{Key}
+
+-- ---- in a report
+
+-- the key of the object of a family at a position, if there is one, and if the family has keys
+abbrev pub key_in : Family → Data → ℕ → Option Key
+key_in f t i = option_and_then (λ o. kept_key f o.value) (slice_get (objects f t) i)
+
+-- the `@id` of the object of a family at a position, if there is one, and if it has one
+abbrev pub id_in : Family → Data → ℕ → Option (List ℕ)
+id_in f t i = option_and_then (λ o. id_of o.value) (slice_get (objects f t) i)
+
+-- the position is that of the object of the family with the key, of which there is one at most
+abbrev pub FindsKey : Data → Family → Key → Option ℕ → Type 0
+FindsKey t f key found = (i : ℕ) → (found ≡ Some i) ↔ (key_in f t i ≡ Some key)
+
+-- the family and the position are those of the object with the `@id`, of which there is one at most
+abbrev pub FindsId : Data → List ℕ → Option (Family × ℕ) → Type 0
+FindsId t id found = (f : Family) (i : ℕ) → (found ≡ Some (f, i)) ↔ (id_in f t i ≡ Some id)
+
+-- ---- among the objects that are kept
+
+-- an object of the family
+abbrev pub is_of_family : Family → Kept → Bool
+is_of_family f k = family_number k.family == family_number f
+
+-- those of a family
+abbrev pub those_of : Family → List Kept → List Kept
+those_of f ks = filter (is_of_family f) ks
+
+-- the object of a family with a key
+abbrev pub is_keyed : Family → Key → Kept → Bool
+is_keyed f key k = is_of_family f k && same_key k.key (Some key)
+
+-- an object with an `@id`
+abbrev pub is_named : List ℕ → Kept → Bool
+is_named id k = same_id k.id (Some id)

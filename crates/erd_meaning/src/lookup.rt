@@ -1,0 +1,57 @@
+ghost use Rattle.std.specs.Prelude.{◌≡◌, length, map, option_map, slice_get};
+ghost use Rattle.std.specs.List.{position};
+ghost use Rattle.erd_meaning.specs.Lookups.{is_keyed, is_named, those_of};
+ghost use Rattle.erd_meaning.specs.Shown.{shown};
+
+use crate::key::Key;
+use crate::object::Object;
+use erd_tables::Family;
+
+/// How many of the objects are of the family.
+pub(crate) fn count_of(objects: &[Object], family: Family) -> usize
+    ensures { result ≡ length (those_of family (map shown objects.now)) }
+{
+    let mut count = 0;
+    for object in objects {
+        if object.is_of(family) {
+            count += 1;
+        }
+    }
+    count
+}
+
+/// The object at this position among those of the family.
+pub(crate) fn nth_of<'b, 'a>(
+    objects: &'b [Object<'a>],
+    family: Family,
+    index: usize,
+) -> Option<&'b Object<'a>>
+    ensures { option_map (λ o. shown o.now) result ≡ slice_get (those_of family (map shown objects.now)) index }
+{
+    let mut left = index;
+    for object in objects {
+        if object.is_of(family) {
+            if left == 0 {
+                return Some(object);
+            }
+            left -= 1;
+        }
+    }
+    None
+}
+
+/// Where the object of the family with the key stands among all.
+pub(crate) fn place_of_key(objects: &[Object], family: Family, key: &Key) -> Option<usize>
+    ensures { result ≡ position (λ o. is_keyed family key.now (shown o)) objects.now }
+{
+    objects
+        .iter()
+        .position(|object| object.is_keyed(family, key))
+}
+
+/// Where the object with the `@id` stands among all.
+pub(crate) fn place_of_id(objects: &[Object], id: &str) -> Option<usize>
+    ensures { result ≡ position (λ o. is_named id.now (shown o)) objects.now }
+{
+    objects.iter().position(|object| object.is_named(id))
+}

@@ -1,0 +1,118 @@
+ghost use Rattle.std.specs.Prelude.{◌≡◌, [], ◌∷◌, length, map, option_map, slice_get};
+ghost use Rattle.std.specs.Option.{option_copied};
+ghost use Rattle.serde_json.specs.View.{view};
+ghost use Rattle.erd_check.specs.Shapes.{IsFaultless};
+ghost use Rattle.erd_meaning.specs.Lookups.{FindsId, FindsKey, key_in};
+ghost use Rattle.erd_meaning.specs.Objects.{elections, objects};
+ghost use Rattle.erd_meaning.specs.Resolved.{IsIdentified, IsResolved};
+
+use crate::key::Key;
+use crate::lookup::{count_of, nth_of, place_of_id, place_of_key};
+use crate::members::entries;
+use crate::object::Object;
+use erd_tables::Family;
+use serde_json::Value;
+use std::marker::Model;
+
+/// A report that has no fault of the shape, and whose objects are told apart: those that need a key have one, no two of a
+/// family have one key, and no two at all have one `@id`. It borrows the report, and is seen by contracts as it.
+///
+/// Its objects are named by their family and their position in it, counted from 0 in the order of the report.
+#[derive(Debug, Drop)]
+pub struct Report<'a> {
+    tree: &'a Value,
+    objects: Vec<Object<'a>>,
+}
+
+impl<'a> Model for Report<'a> {
+    ghost use Rattle.std.specs.Coded.{codes};
+    ghost use Rattle.serde_json.specs.contracts.value.Value as tree_value;
+    ghost use Rattle.serde_json.specs.declared.value.Value.{Value as Tree};
+    ghost use Rattle.erd_meaning.specs.Resolved.{IsResolved};
+
+    ghost Value = { Tree };
+
+    ghost coded = { Prim.hlevel (codes, tree_value.the_row.coded) };
+
+    ghost view = { λ r. r.tree.now };
+
+    ghost invariant = { λ r. IsResolved r.tree.now r.objects.items };
+}
+
+impl<'a> Report<'a> {
+    /// The report of this tree, with its objects in the order of their places.
+    pub(crate) fn of(tree: &'a Value, objects: Vec<Object<'a>>) -> Report<'a>
+        requires { IsResolved tree.now objects.items }
+        ensures { result ≡ tree.now }
+    {
+        Report { tree, objects }
+    }
+
+    /// The report that was handed in. It has no fault of the shape, and none of identity.
+    pub fn tree(&self) -> &'a Value
+        ensures tree { result.now ≡ self.now }
+        ensures faultless { IsFaultless result.now }
+        ensures identified { IsIdentified result.now }
+    {
+        self.tree
+    }
+
+    /// The one election of the report.
+    pub fn election(&self) -> &'a Value
+        ensures { map (λ o. o.value) (elections (view self.now)) ≡ view result.now ∷ [] }
+    {
+        &entries(self.tree, "Election")[0]
+    }
+
+    /// How many objects of the family there are. All are gone over.
+    pub fn count(&self, family: Family) -> usize
+        ensures { result ≡ length (objects family (view self.now)) }
+    {
+        count_of(&self.objects, family)
+    }
+
+    /// The object of the family at the position, if there is one. It is found by going over the objects, as are all that
+    /// are asked for below.
+    pub fn object(&self, family: Family, index: usize) -> Option<&'a Value>
+        ensures { option_map (λ v. view v.now) result ≡ option_map (λ o. o.value) (slice_get (objects family (view self.now)) index) }
+    {
+        match nth_of(&self.objects, family, index) {
+            Some(object) => Some(object.value),
+            None => None,
+        }
+    }
+
+    /// The key of the object of the family at the position, if there is one. Selections have no keys; each object of
+    /// another family has one.
+    pub fn key_at(&self, family: Family, index: usize) -> Option<&Key>
+        ensures { option_copied result ≡ key_in family (view self.now) index }
+    {
+        match nth_of(&self.objects, family, index) {
+            Some(object) => object.key.as_ref(),
+            None => None,
+        }
+    }
+
+    /// The position of the object of the family with the key, if there is one. No two objects of a family have one key.
+    pub fn find(&self, family: Family, key: &Key) -> Option<usize>
+        ensures { FindsKey (view self.now) family key.now result }
+    {
+        match place_of_key(&self.objects, family, key) {
+            Some(place) => Some(count_of(&self.objects[..place], family)),
+            None => None,
+        }
+    }
+
+    /// The family and the position of the object with the `@id`, if there is one. No two objects have one `@id`.
+    pub fn target(&self, id: &str) -> Option<(Family, usize)>
+        ensures { FindsId (view self.now) id.now result }
+    {
+        match place_of_id(&self.objects, id) {
+            Some(place) => {
+                let family = self.objects[place].family;
+                Some((family, count_of(&self.objects[..place], family)))
+            }
+            None => None,
+        }
+    }
+}
