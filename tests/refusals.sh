@@ -73,5 +73,6 @@ program 'no JSON' tests/refuse.c 2 "$work/empty" $'not JSON\n'
 one_test tests::refused::refused_canonical
 one_test tests::refused::refused_run
 one_test tests::refused::refused_shape
+one_test tests::refused::refused_resolve
 
 counts

@@ -1,5 +1,6 @@
 mod devices;
 mod edits;
+mod identity;
 mod lines;
 mod refused;
 mod reports;

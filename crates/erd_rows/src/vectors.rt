@@ -23,3 +23,7 @@ pub const THREE_SHAPE_FAULTS: &str =
 /// The lines of the faults of `THREE_SHAPE_FAULTS`.
 pub const THREE_SHAPE_FAULT_LINES: &str =
     "/Election/0/Contest/0: missing member Name\n/Election/0/Contest/0/VotesAllowed: wrong kind\n/GpUnit/1/ContactInformation/LatLng/Latitude: not a whole number\n";
+
+/// `ONE_UNIT` with a second unit of the same key.
+pub const TWIN_UNITS: &str =
+    "{\"@type\":\"ElectionResults.ElectionReport\",\"Status\":\"pre-election\",\"GpUnit\":[{\"@id\":\"u7\",\"@type\":\"ElectionResults.ReportingUnit\",\"Type\":\"county\",\"ExternalIdentifier\":[{\"@type\":\"ElectionResults.ExternalIdentifier\",\"Type\":\"local-level\",\"Value\":\"U1\"}]},{\"@id\":\"u8\",\"@type\":\"ElectionResults.ReportingUnit\",\"Type\":\"county\",\"ExternalIdentifier\":[{\"@type\":\"ElectionResults.ExternalIdentifier\",\"Type\":\"local-level\",\"Value\":\"U1\"}]}],\"Election\":[{\"@type\":\"ElectionResults.Election\",\"Name\":\"Test\",\"Type\":\"general\",\"StartDate\":\"2026-11-03\",\"EndDate\":\"2026-11-03\",\"ElectionScopeId\":\"u7\"}]}";

@@ -1,9 +1,12 @@
 //! Calls whose memory may be refused: `tests/refusals.sh` refuses each request of memory in turn.
 use crate::tests::lines::lines;
-use crate::vectors::{ONE_UNIT, ONE_UNIT_CANONICAL, THREE_SHAPE_FAULT_LINES, THREE_SHAPE_FAULTS};
+use crate::vectors::{
+    ONE_UNIT, ONE_UNIT_CANONICAL, THREE_SHAPE_FAULT_LINES, THREE_SHAPE_FAULTS, TWIN_UNITS,
+};
 use crate::writers::PageWriter;
 use erd_canon::{Outcome, ReadFrom, Refusal, RunFault, WriteTo, canonical, run_canon};
 use erd_check::{CheckError, shape};
+use erd_meaning::resolve;
 use erd_tables::FaultList;
 use serde_json::Value;
 use std::alloc::Global;
@@ -73,6 +76,25 @@ fn shape_faults(alloc: Global) -> Answer {
     }
 }
 
+// The one unit and a second one with its key.
+fn identity_faults(alloc: Global) -> Answer {
+    let Ok(tree) = Value::from_str(alloc, TWIN_UNITS) else {
+        return Answer::WantsMemory;
+    };
+    let shaped = match shape(alloc, &tree) {
+        Ok(shaped) => shaped,
+        Err(CheckError::Memory) => return Answer::WantsMemory,
+        Err(CheckError::Faults(_)) => return Answer::Wrong,
+    };
+    match resolve(alloc, shaped) {
+        Ok(_) => Answer::Wrong,
+        Err(CheckError::Memory) => Answer::WantsMemory,
+        Err(CheckError::Faults(faults)) => {
+            told(alloc, &faults, "/GpUnit/1: identifier used twice\n")
+        }
+    }
+}
+
 #[test]
 fn refused_canonical(rt: HostRuntime) {
     let first = bytes(rt.alloc());
@@ -91,5 +113,12 @@ fn refused_run(rt: HostRuntime) {
 fn refused_shape(rt: HostRuntime) {
     let first = shape_faults(rt.alloc());
     let second = shape_faults(rt.alloc());
+    assert!(rt; is_pair(first, second));
+}
+
+#[test]
+fn refused_resolve(rt: HostRuntime) {
+    let first = identity_faults(rt.alloc());
+    let second = identity_faults(rt.alloc());
     assert!(rt; is_pair(first, second));
 }
