@@ -198,7 +198,7 @@ unfolding serde_json_on_literals
 rekeyed_report = same_object left rekeyed left rekeyed role.Report class.ElectionReport refl refl refl
 
 -- a key below a bound is none that is not below it
-not_in : (l k bound : Key) → key_cmp k bound ≡ Less → is_lt (key_cmp l bound) ≡ false → is_key_in (l ∷ []) k ≡ false
+pub not_in : (l k bound : Key) → key_cmp k bound ≡ Less → is_lt (key_cmp l bound) ≡ false → is_key_in (l ∷ []) k ≡ false
 not_in l k bound less not_less = at (is_eq (key_cmp l k)) refl
   where
     at : (b : Bool) → is_eq (key_cmp l k) ≡ b → is_key_in (l ∷ []) k ≡ false

@@ -1,3 +1,4 @@
 mod DifferenceExamples
-mod OrderExamples
-mod FirstDifferenceExamples
+pub mod OrderExamples
+pub mod FirstDifferenceExamples
+mod BallotDifferenceExamples

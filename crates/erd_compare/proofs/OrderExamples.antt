@@ -76,7 +76,7 @@ same_before =
     same_at_other_names (style_member left) (style_member right) (style left) (style right) other_names (codes "OrderedContent")
     (absent_member left (style left) class.BallotStyle) (absent_member right (style right) class.BallotStyle) among_others among_others refl
 
-first_member : Differ (record_at (meaning left) part.Style (Some style_key)) (record_at (meaning right) part.Style (Some style_key)) (Member (codes "OrderedContent"))
+pub first_member : Differ (record_at (meaning left) part.Style (Some style_key)) (record_at (meaning right) part.Style (Some style_key)) (Member (codes "OrderedContent"))
 unfolding serde_json_on_literals
 first_member = record {
   same_class = refl;
