@@ -1,6 +1,10 @@
 //! Lists of faults as lines.
+use crate::tests::edits::edited;
+use erd_check::{CheckError, faults, same_json, shape};
 use erd_tables::FaultList;
+use serde_json::Value;
 use std::alloc::{AllocError, Global};
+use std::test::Fail;
 
 // The lines of a list of faults, each with its line end.
 pub fn lines(alloc: Global, faults: &FaultList) -> Result<String, AllocError> {
@@ -13,4 +17,41 @@ pub fn lines(alloc: Global, faults: &FaultList) -> Result<String, AllocError> {
         }
     }
     Ok(text)
+}
+
+// A report, an edit of it, and its fault lines.
+pub type Case = (&'static str, &'static str, &'static str, &'static str);
+
+// Each edited report has these fault lines.
+pub fn all_hold(alloc: Global, cases: &[Case]) -> Result<(), Fail> {
+    for (report, from, to, wanted) in cases {
+        let report = edited(alloc, report, from, to)?;
+        let found = shape_lines(alloc, report.as_str())?;
+        if found.as_str() != *wanted {
+            let text = format!(in alloc; "with {to}: {found}")?;
+            return Err(Fail::from(text));
+        }
+    }
+    Ok(())
+}
+
+// The fault lines of a report, by `faults` and by `shape`.
+pub fn shape_lines(alloc: Global, report: &str) -> Result<String, Fail> {
+    let tree = Value::from_str(alloc, report)?;
+    let found = faults(alloc, &tree)?;
+    let found = lines(alloc, &found)?;
+    let refused = match shape(alloc, &tree) {
+        Ok(shaped) => {
+            if !same_json(shaped.tree(), &tree) {
+                return Err(Fail::from("another tree"));
+            }
+            String::new(alloc)
+        }
+        Err(CheckError::Faults(list)) => lines(alloc, &list)?,
+        Err(CheckError::Memory) => return Err(Fail::from("no memory")),
+    };
+    if found.as_str() != refused.as_str() {
+        return Err(Fail::from("two answers"));
+    }
+    Ok(found)
 }

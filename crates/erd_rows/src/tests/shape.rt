@@ -1,13 +1,8 @@
 //! Faults of the shape, by their lines.
-use crate::tests::edits::edited;
-use crate::tests::lines::lines;
+use crate::tests::lines::{all_hold, shape_lines};
 use crate::vectors::{
     ONE_UNIT, SMALL_BALLOT, SMALL_BALLOT_CANONICAL, THREE_SHAPE_FAULT_LINES, THREE_SHAPE_FAULTS,
 };
-use erd_check::{CheckError, faults, same_json, shape};
-use erd_tables::{Fault, Place, Reason, Step, Text, pointer};
-use serde_json::Value;
-use std::alloc::Global;
 use std::test::Fail;
 
 // The unit's identifiers in the report with one unit, and the entry twice.
@@ -16,43 +11,6 @@ const IDENTIFIER: &str =
 
 const IDENTIFIER_TWICE: &str =
     r#"[{"@type":"ElectionResults.ExternalIdentifier","Type":"local-level","Value":"U1"},{"@type":"ElectionResults.ExternalIdentifier","Type":"local-level","Value":"U1"}]"#;
-
-// A report, an edit of it, and its fault lines.
-type Case = (&'static str, &'static str, &'static str, &'static str);
-
-// Each edited report has these fault lines.
-fn all_hold(alloc: Global, cases: &[Case]) -> Result<(), Fail> {
-    for (report, from, to, wanted) in cases {
-        let report = edited(alloc, report, from, to)?;
-        let found = fault_lines(alloc, report.as_str())?;
-        if found.as_str() != *wanted {
-            let text = format!(in alloc; "with {to}: {found}")?;
-            return Err(Fail::from(text));
-        }
-    }
-    Ok(())
-}
-
-// The fault lines of a report, by `faults` and by `shape`.
-fn fault_lines(alloc: Global, report: &str) -> Result<String, Fail> {
-    let tree = Value::from_str(alloc, report)?;
-    let found = faults(alloc, &tree)?;
-    let found = lines(alloc, &found)?;
-    let refused = match shape(alloc, &tree) {
-        Ok(shaped) => {
-            if !same_json(shaped.tree(), &tree) {
-                return Err(Fail::from("another tree"));
-            }
-            String::new(alloc)
-        }
-        Err(CheckError::Faults(list)) => lines(alloc, &list)?,
-        Err(CheckError::Memory) => return Err(Fail::from("no memory")),
-    };
-    if found.as_str() != refused.as_str() {
-        return Err(Fail::from("two answers"));
-    }
-    Ok(found)
-}
 
 #[test]
 fn accepted_shapes(rt: HostRuntime) -> Result<(), Fail> {
@@ -68,7 +26,7 @@ fn accepted_shapes(rt: HostRuntime) -> Result<(), Fail> {
 
 #[test]
 fn three_shape_faults(rt: HostRuntime) -> Result<(), Fail> {
-    let found = fault_lines(rt.alloc(), THREE_SHAPE_FAULTS)?;
+    let found = shape_lines(rt.alloc(), THREE_SHAPE_FAULTS)?;
     assert_eq!(rt; found.as_str(), THREE_SHAPE_FAULT_LINES);
     Ok(())
 }
@@ -83,7 +41,7 @@ fn root_kinds(rt: HostRuntime) -> Result<(), Fail> {
             ": missing member Election\n: missing member Status\n",
         ),
     ] {
-        let found = fault_lines(rt.alloc(), report)?;
+        let found = shape_lines(rt.alloc(), report)?;
         assert_eq!(rt; found.as_str(), wanted);
     }
     Ok(())
@@ -119,7 +77,7 @@ fn status_and_election_count(rt: HostRuntime) -> Result<(), Fail> {
     let none = format!(in alloc; "{before}\"Election\":[]}}")?;
     let two = format!(in alloc; "{before}\"Election\":[{election},{election}]}}")?;
     for report in [none.as_str(), two.as_str()] {
-        let found = fault_lines(alloc, report)?;
+        let found = shape_lines(alloc, report)?;
         assert_eq!(rt; found.as_str(), "/Election: wrong number of elections\n");
     }
     Ok(())
@@ -392,69 +350,4 @@ fn carried_members(rt: HostRuntime) -> Result<(), Fail> {
             ),
         ],
     )
-}
-
-#[test]
-fn names_in_pointers(rt: HostRuntime) -> Result<(), Fail> {
-    all_hold(
-        rt.alloc(),
-        &[
-            (ONE_UNIT, "{", r#"{"":1.5,"#, "/: not a whole number\n"),
-            (
-                ONE_UNIT,
-                "{",
-                r#"{"~1/~0":1.5,"#,
-                "/~01~1~00: not a whole number\n",
-            ),
-            (
-                ONE_UNIT,
-                "{",
-                r#"{"\u00e9\u20ac\n":1.5,"#,
-                "/\u{e9}\u{20ac}\n: not a whole number\n",
-            ),
-            // By the bytes of the names themselves, which `~` and `/` stand in as they are.
-            (
-                ONE_UNIT,
-                "{",
-                r#"{"a":{"b":1.5},"a0":1.5,"a/":1.5,"#,
-                "/a/b: not a whole number\n/a~1: not a whole number\n/a0: not a whole number\n",
-            ),
-        ],
-    )
-}
-
-#[test]
-fn pointers(rt: HostRuntime) -> Result<(), Fail> {
-    let alloc = rt.alloc();
-    let whole = pointer(alloc, &Place::of(Vec::new(alloc)))?;
-    assert_eq!(rt; whole.as_str(), "");
-    let name = Text::of(String::from_str(alloc, "GpUnit")?);
-    let place = Place::of(vec![in alloc; Step::Name(name), Step::At(10)]?);
-    let text = pointer(alloc, &place)?;
-    assert_eq!(rt; text.as_str(), "/GpUnit/10");
-    let fault = Fault {
-        place,
-        reason: Reason::DuplicateId,
-    };
-    let line = fault.line(alloc)?;
-    assert_eq!(rt; line.as_str(), "/GpUnit/10: @id used twice");
-    Ok(())
-}
-
-// A report may be nested as deep as `serde_json` reads: 127 arrays and objects.
-#[test]
-fn deepest_nesting(rt: HostRuntime) -> Result<(), Fail> {
-    let alloc = rt.alloc();
-    for (arrays, is_read) in [(126, true), (127, false)] {
-        let open = "[".repeat(alloc, arrays)?;
-        let close = "]".repeat(alloc, arrays)?;
-        let member = format!(in alloc; "{{\"Depth\":{open}{close},")?;
-        let report = edited(alloc, ONE_UNIT, "{", member.as_str())?;
-        assert_eq!(rt; Value::from_str(alloc, report.as_str()).is_ok(), is_read);
-        if is_read {
-            let found = fault_lines(alloc, report.as_str())?;
-            assert_eq!(rt; found.as_str(), "");
-        }
-    }
-    Ok(())
 }

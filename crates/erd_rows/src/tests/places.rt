@@ -1,0 +1,104 @@
+//! Places and their pointers, deep values, and equality.
+use crate::tests::edits::edited;
+use crate::tests::lines::{all_hold, shape_lines};
+use crate::vectors::ONE_UNIT;
+use erd_check::same_json;
+use erd_tables::{Fault, Place, Reason, Step, Text, pointer};
+use serde_json::Value;
+use std::test::Fail;
+
+#[test]
+fn names_in_pointers(rt: HostRuntime) -> Result<(), Fail> {
+    all_hold(
+        rt.alloc(),
+        &[
+            (ONE_UNIT, "{", r#"{"":1.5,"#, "/: not a whole number\n"),
+            (
+                ONE_UNIT,
+                "{",
+                r#"{"~1/~0":1.5,"#,
+                "/~01~1~00: not a whole number\n",
+            ),
+            (
+                ONE_UNIT,
+                "{",
+                r#"{"\u00e9\u20ac\n":1.5,"#,
+                "/\u{e9}\u{20ac}\n: not a whole number\n",
+            ),
+            // By the bytes of the names themselves, which `~` and `/` stand in as they are.
+            (
+                ONE_UNIT,
+                "{",
+                r#"{"a":{"b":1.5},"a0":1.5,"a/":1.5,"#,
+                "/a/b: not a whole number\n/a~1: not a whole number\n/a0: not a whole number\n",
+            ),
+        ],
+    )
+}
+
+#[test]
+fn pointers(rt: HostRuntime) -> Result<(), Fail> {
+    let alloc = rt.alloc();
+    let whole = pointer(alloc, &Place::of(Vec::new(alloc)))?;
+    assert_eq!(rt; whole.as_str(), "");
+    let name = Text::of(String::from_str(alloc, "GpUnit")?);
+    let place = Place::of(vec![in alloc; Step::Name(name), Step::At(10)]?);
+    let text = pointer(alloc, &place)?;
+    assert_eq!(rt; text.as_str(), "/GpUnit/10");
+    let fault = Fault {
+        place,
+        reason: Reason::DuplicateId,
+    };
+    let line = fault.line(alloc)?;
+    assert_eq!(rt; line.as_str(), "/GpUnit/10: @id used twice");
+    Ok(())
+}
+
+// Equality as JSON: objects as maps, arrays as lists, whole numbers by value, and no other number equal to any.
+#[test]
+fn equal_as_json(rt: HostRuntime) -> Result<(), Fail> {
+    let alloc = rt.alloc();
+    for (left, right, wanted) in [
+        (
+            r#"{"a":1,"b":[true,null]}"#,
+            r#"{"b":[true,null],"a":1}"#,
+            true,
+        ),
+        (r#"[1,2]"#, r#"[2,1]"#, false),
+        (r#"[1]"#, r#"[1,2]"#, false),
+        (r#"{"a":1}"#, r#"{"b":1}"#, false),
+        (r#"{"a":1}"#, r#"{"a":1,"b":1}"#, false),
+        (r#""\u0041""#, r#""A""#, true),
+        ("-3", "-3", true),
+        ("18446744073709551615", "18446744073709551615", true),
+        ("1.5", "1.5", false),
+        ("1", "1.0", false),
+        ("0", "-0", false),
+        ("true", "false", false),
+        ("null", "[]", false),
+    ] {
+        let one = Value::from_str(alloc, left)?;
+        let other = Value::from_str(alloc, right)?;
+        assert_eq!(rt; same_json(&one, &other), wanted, "{left} and {right}");
+        assert_eq!(rt; same_json(&other, &one), wanted, "{right} and {left}");
+    }
+    Ok(())
+}
+
+// A report may be nested as deep as `serde_json` reads: 127 arrays and objects.
+#[test]
+fn deepest_nesting(rt: HostRuntime) -> Result<(), Fail> {
+    let alloc = rt.alloc();
+    for (arrays, is_read) in [(126, true), (127, false)] {
+        let open = "[".repeat(alloc, arrays)?;
+        let close = "]".repeat(alloc, arrays)?;
+        let member = format!(in alloc; "{{\"Depth\":{open}{close},")?;
+        let report = edited(alloc, ONE_UNIT, "{", member.as_str())?;
+        assert_eq!(rt; Value::from_str(alloc, report.as_str()).is_ok(), is_read);
+        if is_read {
+            let found = shape_lines(alloc, report.as_str())?;
+            assert_eq!(rt; found.as_str(), "");
+        }
+    }
+    Ok(())
+}
