@@ -1,9 +1,5 @@
 ghost use Rattle.std.specs.Prelude.{◌≡◌, IfOk};
-ghost use Rattle.std.specs.Cmp.Lexicographic.{slice_cmp};
-ghost use Rattle.std.specs.Option.{option_cmp};
-ghost use Rattle.erd_tables.specs.Texts.{text_cmp};
-ghost use Rattle.erd_meaning.specs.Keys.{key_cmp};
-ghost use Rattle.erd_meaning.specs.SelectionNames.{class_cmp, name_cmp};
+ghost use Rattle.erd_meaning.specs.SelectionNames.{name_cmp};
 
 use crate::key::{Key, copied};
 use erd_tables::{Class, Text, type_text};
@@ -88,39 +84,16 @@ fn copied_identifier(alloc: Global, identifier: &Option<Key>) -> Result<Option<K
     }
 }
 
-fn class_order(left: Class, right: Class) -> Ordering
-    ensures { result ≡ class_cmp left right }
-{
-    type_text(left).cmp(type_text(right))
-}
-
-fn keys_order(left: &[Key], right: &[Key]) -> Ordering
-    ensures { result ≡ slice_cmp key_cmp left.now right.now }
-{
-    left.cmp(right)
-}
-
-fn label_order(left: &Option<Text>, right: &Option<Text>) -> Ordering
-    ensures { result ≡ option_cmp text_cmp left.now right.now }
-{
-    left.cmp(right)
-}
-
-fn identifier_order(left: &Option<Key>, right: &Option<Key>) -> Ordering
-    ensures { result ≡ option_cmp key_cmp left.now right.now }
-{
-    left.cmp(right)
-}
-
 fn order_of_names(left: &SelectionName, right: &SelectionName) -> Ordering
     ensures { result ≡ name_cmp left.now right.now }
 {
-    class_order(left.class, right.class)
-        .then(keys_order(&left.keys, &right.keys))
+    type_text(left.class)
+        .cmp(type_text(right.class))
+        .then(left.keys.cmp(&right.keys))
         .then(left.write_in.cmp(&right.write_in))
         .then(left.order.cmp(&right.order))
-        .then(label_order(&left.label, &right.label))
-        .then(identifier_order(&left.identifier, &right.identifier))
+        .then(left.label.cmp(&right.label))
+        .then(left.identifier.cmp(&right.identifier))
 }
 
 impl PartialEq for SelectionName {
