@@ -21,7 +21,7 @@ use Rattle.erd_meaning.proofs.OneObject.{Hit, hit, in_at, missed, one_id, one_ke
 use Rattle.erd_meaning.proofs.IdentityFaults.{same_id_from, same_key_from}
 use Rattle.erd_meaning.proofs.Lookups.{part_at, ranked}
 use Rattle.erd_meaning.proofs.ObjectFamilies.{itself}
-use Rattle.erd_meaning.proofs.Orders.{key_cmp_total}
+use Rattle.erd_meaning.specs.Orders.{key_cmp_total}
 
 -- the position in its family of the object at this place among all
 abbrev pub rank : Family → List Object → ℕ → ℕ

@@ -27,7 +27,7 @@ use Rattle.erd_meaning.specs.LaterFaults.{LacksIdentifier, RepeatsKey, RepeatsId
 use Rattle.erd_meaning.specs.Objects.{Placed, objects, selections_of, id_of}
 use Rattle.erd_meaning.specs.SelectionNames.{name_of, name_cmp}
 use Rattle.erd_meaning.specs.declared.key.Key.{Key}
-use Rattle.erd_meaning.proofs.Orders.{key_cmp_total, name_cmp_total}
+use Rattle.erd_meaning.specs.Orders.{key_cmp_total, name_cmp_total}
 
 -- ---- what repeats the name of an earlier one
 

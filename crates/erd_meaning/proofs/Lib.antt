@@ -3,7 +3,7 @@ mod NameExamples
 pub mod RecordExamples
 mod LaterFaultExamples
 pub mod Phases
-pub mod Orders
+pub mod ComparisonChains
 pub mod Sets
 pub mod References
 pub mod Skeleton

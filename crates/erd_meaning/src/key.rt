@@ -27,7 +27,7 @@ impl Key {
     }
 }
 
-fn copied(alloc: Global, text: &Text) -> Result<Text, AllocError>
+pub(crate) fn copied(alloc: Global, text: &Text) -> Result<Text, AllocError>
     ensures { IfOk result (λ copy. copy ≡ text.now) }
 {
     Ok(Text::of(String::from_str(alloc, text.as_str())?))

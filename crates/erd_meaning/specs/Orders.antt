@@ -1,9 +1,9 @@
 -- The orders of keys, names and compact texts are total, and tell unequal ones apart.
 use Rattle.std.proofs.Common.{◌≡◌, ℕ, List, Option, Some, None, true, false, Ordering, is_eq, int_cmp, refl, sym, ap, ◌∙◌, find}
-use Rattle.std.specs.Cmp.{IsTotalOrder, bool_cmp_total}
+use Rattle.std.specs.Cmp.{Equal-is, IsTotalOrder, bool_cmp_total}
 use Rattle.std.specs.Cmp.Lexicographic.{slice_cmp, options_total}
 use Rattle.std.specs.Option.{option_cmp}
-use Rattle.std.specs.Ordering.{bool_cmp, ordering_then}
+use Rattle.std.specs.Ordering.{bool_cmp, eq_by_cmp, ordering_then}
 use Rattle.std.proofs.lemmas.Cmp.{nat_list_cmp_total, int_cmp_total, lists_total, then_total, on_total}
 use Rattle.std.proofs.lemmas.Map.Lookups.{CmpEqualImpliesEq, exact_bytes, exact_signed}
 use Rattle.serde_json.specs.Written.{compact_text}
@@ -12,6 +12,7 @@ use Rattle.erd_tables.specs.Classes.{class_name, classes}
 use Rattle.erd_tables.specs.Texts.{text_cmp}
 use Rattle.erd_tables.proofs.PlaceOrder.{lists_exact, then_both}
 use Rattle.erd_tables.specs.declared.class.Class.TheVariants as class
+use Rattle.erd_meaning.specs.NameParts.{NameParts}
 use Rattle.erd_meaning.specs.SelectionNames.{class_cmp, compact_cmp, name_cmp}
 use Rattle.erd_meaning.specs.Keys.{key_cmp}
 
@@ -80,3 +81,7 @@ name_cmp_exact m n e =
     let label_same = options_exact text_cmp exact_bytes m.label n.label f.0 in
     let identifier_same = options_exact key_cmp key_cmp_exact m.identifier n.identifier f.1 in
     λ i. record { class = class_same i; keys = keys_same i; write_in = write_in_same i; order = order_same i; label = label_same i; identifier = identifier_same i }
+
+-- what is made of a name is the same of an equal one
+pub equal_names_alike : {B : Type 0} (f : NameParts → B) (m n : NameParts) → eq_by_cmp name_cmp m n ≡ true → f m ≡ f n
+equal_names_alike f m n e = ap f (name_cmp_exact m n ((Equal-is (name_cmp m n)).0 e))
