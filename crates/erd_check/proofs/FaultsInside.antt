@@ -1,6 +1,6 @@
 -- The walk's list is that of all faults: each fault is found at its place, none is left out, and the list rises.
 use Rattle.std.proofs.Common.{◌≡◌, ℕ, zero, suc, ◌+◌, ◌<◌, inl, inr, List, [], ◌∷◌, ◌++◌, length, take, Bool, true, false, ◌&&◌, Ordering, Less, Equal, Greater, nat_cmp, is_eq, Option, Some, None, option_map, option_and_then, IsTrue, refl, sym, ap, ◌∙◌, subst, append_assoc, append-nil, add-zero, zero-add, length-append, arith}
-use Rattle.std.proofs.lemmas.Cmp.{nat_list_cmp_total, nat_cmp_total, tied_itself}
+use Rattle.std.proofs.lemmas.Cmp.{nat_list_cmp_total, tied_itself}
 use Rattle.std.proofs.lemmas.Map.Text.{is_eq-slice_cmp}
 use Rattle.std.proofs.lemmas.Slice.Eq.{bytes_eq-Decides}
 use Rattle.std.specs.Prelude.{IfSome, IsSomeAnd}
@@ -30,7 +30,7 @@ use Rattle.erd_check.proofs.Reasons.{reasons_sound, reasons_complete, reasons_so
 
 -- ---- names and places
 
-same_text : (xs : List ℕ) → slice_cmp nat_cmp xs xs ≡ Equal
+pub same_text : (xs : List ℕ) → slice_cmp nat_cmp xs xs ≡ Equal
 same_text xs = tied_itself nat_list_cmp_total xs
 
 pub text_from_equal : (k l : List ℕ) → slice_cmp nat_cmp k l ≡ Equal → k ≡ l
@@ -139,7 +139,7 @@ found_all_at P n k d e ms Equal is h more p = subst P (sym (text_from_equal n k 
 found_all_at P n k d e ms Greater is h more p = more h
 
 -- what holds of all names holds of one that is found
-found_all : (P : List ℕ → Type 0) (n : List ℕ) (d : Data) (ms : Members) → get_member n ms ≡ Some d → AllByRecursion P (names ms) → P n
+pub found_all : (P : List ℕ → Type 0) (n : List ℕ) (d : Data) (ms : Members) → get_member n ms ≡ Some d → AllByRecursion P (names ms) → P n
 found_all P n d no_members h a = absurd (cc h)
 found_all P n d (member k e ms) h a = found_all_at P n k d e ms _ refl h (λ t. found_all P n d ms t a.1) a.0
 
@@ -331,7 +331,7 @@ place_here p k d f (Some v) order h =
     let b = sound_at (p ++ Name k ∷ []) v false d f order h in
     (b.rest, b.place ∙ append_assoc p (Name k ∷ []) b.rest)
 
-at_less : (i j : ℕ) → i < j → nat_cmp i j ≡ Less
+pub at_less : (i j : ℕ) → i < j → nat_cmp i j ≡ Less
 at_less i j h = grind arith
 
 mutual

@@ -4,6 +4,8 @@ pub mod Reasons
 pub mod FaultsInside
 pub mod FaultLists
 pub mod AllAsked
+pub mod AskedInside
+pub mod FaultsAsked
 pub mod Deciding
 pub mod Reports
 pub mod Members

@@ -9,6 +9,7 @@ pub mod References
 pub mod Skeleton
 pub mod Standing
 pub mod LaterFaultLists
+pub mod ReferenceFaultLists
 pub mod RefusedLists
 pub mod AcceptedExamples
 mod RefusedExamples
