@@ -37,7 +37,6 @@ abbrev pub are_entry_steps : List Step → Bool
 are_entry_steps (Name n ∷ At i ∷ []) = bytes_eq n (codes "OrderedContestSelectionIds")
 are_entry_steps ss = false
 
-
 entry_steps_from : (ss : List Step) → are_entry_steps ss ≡ true → (i : ℕ) × (ss ≡ Name (codes "OrderedContestSelectionIds") ∷ At i ∷ [])
 entry_steps_from (Name n ∷ At i ∷ []) h = (i, ap (λ (m : List ℕ). Name m ∷ At i ∷ []) ((bytes_eq-Decides n (codes "OrderedContestSelectionIds")).0 h))
 entry_steps_from ss h = absurd (true≢false (sym h))
