@@ -10,6 +10,7 @@ pub mod Skeleton
 pub mod Standing
 pub mod LaterFaultLists
 pub mod ReferenceFaultLists
+pub mod SelectionEntries
 pub mod RefusedLists
 pub mod AcceptedExamples
 mod RefusedExamples

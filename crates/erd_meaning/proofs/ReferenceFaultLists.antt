@@ -37,7 +37,6 @@ abbrev pub are_entry_steps : List Step → Bool
 are_entry_steps (Name n ∷ At i ∷ []) = bytes_eq n (codes "OrderedContestSelectionIds")
 are_entry_steps ss = false
 
-
 entry_steps_from : (ss : List Step) → are_entry_steps ss ≡ true → (i : ℕ) × (ss ≡ Name (codes "OrderedContestSelectionIds") ∷ At i ∷ [])
 entry_steps_from (Name n ∷ At i ∷ []) h = (i, ap (λ (m : List ℕ). Name m ∷ At i ∷ []) ((bytes_eq-Decides n (codes "OrderedContestSelectionIds")).0 h))
 entry_steps_from ss h = absurd (true≢false (sym h))
@@ -70,7 +69,7 @@ abbrev pub has_reference_reason : Data → List Step → Asked → Reason → Bo
 has_reference_reason t p a SelectionOfOtherContest = are_entry_steps (last_steps p) && is_elsewhere t p a
 has_reference_reason t p a r = is_reference_fault t a r
 
-abbrev reference_reasons : List Reason
+abbrev pub reference_reasons : List Reason
 reference_reasons = Repeated ∷ Unresolved ∷ WrongFamily ∷ SelectionOfOtherContest ∷ []
 
 -- the reasons of a place, in the order of reasons
@@ -81,7 +80,7 @@ reference_reasons_at t p a = filter (has_reference_reason t p a) reference_reaso
 abbrev pub reference_list : Data → List Fault
 reference_list t = faults_asked (reference_reasons_at t) t
 
-reference_reasons_rise : IsStrictlySortedBy reason_cmp reference_reasons
+pub reference_reasons_rise : IsStrictlySortedBy reason_cmp reference_reasons
 unfolding IsStrictlySortedBy
 reference_reasons_rise = search rules
 
@@ -110,14 +109,14 @@ other_contest t p a e h =
 said_at : (P : Asked → Type 0) (o : Option Asked) (a : Asked) → o ≡ Some a → P a → IsSomeAnd o P
 said_at P o a e h = subst (λ q. IsSomeAnd q P) (sym e) h
 
-fault_of_reason : (t : Data) (p : List Step) (a : Asked) (r : Reason) → asked_at t p ≡ Some a → has_reference_reason t p a r ≡ true → ReferenceFault t p r
+pub fault_of_reason : (t : Data) (p : List Step) (a : Asked) (r : Reason) → asked_at t p ≡ Some a → has_reference_reason t p a r ≡ true → ReferenceFault t p r
 fault_of_reason t p a SelectionOfOtherContest e h = other_contest t p a e h
 fault_of_reason t p a r e h = said_at (λ b. IsTrue (is_reference_fault t b r)) (asked_at t p) a e h
 
 -- ---- none is left out
 
 -- what is asked there, and the reason that it has
-abbrev HasReason : Data → List Step → Reason → Type 0
+abbrev pub HasReason : Data → List Step → Reason → Type 0
 HasReason t p r = (a : Asked) × (asked_at t p ≡ Some a) × In r (reference_reasons_at t p a)
 
 kept_there : (t : Data) (p : List Step) (r : Reason) (P : Asked → Bool) → ((a : Asked) → P a ≡ true → In r (reference_reasons_at t p a)) → (o : Option Asked) → asked_at t p ≡ o → IsSomeAnd o (λ a. IsTrue (P a)) → HasReason t p r
@@ -134,7 +133,7 @@ other_kept t p h =
     let elsewhere : is_elsewhere t p h.entry ≡ true = rw (object, h.contest_stands) h.elsewhere in
     (h.entry, h.entry_stands, kept t p SelectionOfOtherContest h.entry (inr (inr (inr (inl refl)))) (both_true (are_entry_steps (last_steps p)) (is_elsewhere t p h.entry) steps elsewhere))
 
-reason_of_fault : (t : Data) (p : List Step) (r : Reason) → ReferenceFault t p r → HasReason t p r
+pub reason_of_fault : (t : Data) (p : List Step) (r : Reason) → ReferenceFault t p r → HasReason t p r
 reason_of_fault t p SelectionOfOtherContest h = other_kept t p h
 reason_of_fault t p Repeated h = kept_there t p Repeated (λ a. is_reference_fault t a Repeated) (λ a e. kept t p Repeated a (inl refl) e) (asked_at t p) refl h
 reason_of_fault t p Unresolved h = kept_there t p Unresolved (λ a. is_reference_fault t a Unresolved) (λ a e. kept t p Unresolved a (inr (inl refl)) e) (asked_at t p) refl h
