@@ -1,4 +1,5 @@
-ghost use Rattle.std.specs.Prelude.{◌≡◌};
+ghost use Rattle.std.specs.Prelude.{◌≡◌, map};
+ghost use Rattle.std.specs.List.{list_any};
 ghost use Rattle.serde_json.specs.View.{view, number_view, items_view, members_view};
 ghost use Rattle.erd_check.specs.Trees.{is_same_json, are_same_items, are_same_members, same_number};
 
@@ -60,4 +61,16 @@ fn same_members(left: &Map<String, Value>, right: &Map<String, Value>) -> bool
         }
     }
     others.next().is_none()
+}
+
+/// Whether a value is equal as JSON to one of the earlier ones.
+pub fn is_among(value: &Value, earlier: &[Value]) -> bool
+    ensures { result ≡ list_any (is_same_json (view value.now)) (map view earlier.now) }
+{
+    for other in earlier {
+        if same_json(value, other) {
+            return true;
+        }
+    }
+    false
 }

@@ -8,9 +8,9 @@ pub mod path;
 mod shape_faults;
 mod shaped;
 mod walk;
-mod want;
+pub mod want;
 
-pub use equality::same_json;
+pub use equality::{is_among, same_json};
 pub use error::CheckError;
 pub use shape_faults::faults;
 pub use shaped::{Shaped, shape};

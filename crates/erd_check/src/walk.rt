@@ -1,13 +1,11 @@
-ghost use Rattle.std.specs.Prelude.{◌≡◌, ◌++◌, [], map, IfOk};
-ghost use Rattle.std.specs.List.{list_any};
+ghost use Rattle.std.specs.Prelude.{◌≡◌, ◌++◌, [], IfOk};
 ghost use Rattle.std.specs.List.Sorted.{IsStrictlySortedBy};
 ghost use Rattle.serde_json.specs.View.{view, items_view, members_view};
 ghost use Rattle.erd_tables.specs.Texts.{text_cmp};
-ghost use Rattle.erd_check.specs.Trees.{is_same_json};
 ghost use Rattle.erd_check.specs.Paths.{steps_of};
 ghost use Rattle.erd_check.specs.Walk.{names, faults_at, item_faults, member_faults, IsInOrder, AreItemsInOrder, AreMembersInOrder};
 
-use crate::equality::same_json;
+use crate::equality::is_among;
 use crate::judge::judge;
 use crate::path::Path;
 use crate::want::{Scope, Want, is_set_wanted, scope_of, want_in, want_of_entry};
@@ -60,18 +58,6 @@ fn walk_items(
         walk(alloc, want, item, is_repeated, &below, faults)?;
     }
     Ok(())
-}
-
-/// Whether a value is equal as JSON to one of the earlier ones.
-fn is_among(value: &Value, earlier: &[Value]) -> bool
-    ensures { result ≡ list_any (is_same_json (view value.now)) (map view earlier.now) }
-{
-    for other in earlier {
-        if same_json(value, other) {
-            return true;
-        }
-    }
-    false
 }
 
 #[cycle(walk)]

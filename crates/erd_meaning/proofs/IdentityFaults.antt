@@ -47,7 +47,7 @@ is_met t f o i =
 
 -- ---- tests of one or two objects
 
-any_from : {A : Type 0} (test : A → Bool) (xs : List A) → list_any test xs ≡ true → (x : A) × In x xs × (test x ≡ true)
+pub any_from : {A : Type 0} (test : A → Bool) (xs : List A) → list_any test xs ≡ true → (x : A) × In x xs × (test x ≡ true)
 any_from test [] h = absurd (true≢false (sym h))
 any_from {A} test (x ∷ xs) h = at (test x) refl h (any_from test xs)
   where

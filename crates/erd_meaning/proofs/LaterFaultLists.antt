@@ -84,7 +84,7 @@ id_faults t = map {A = NamedPlace (List ℕ)} (λ x. fault_at (x.0 ++ Name (code
 abbrev pub identity_faults : Data → List Fault
 identity_faults t = flat_map (key_faults t) (filter has_keys families) ++ id_faults t
 
-every_family : (f : Family) → In f families
+pub every_family : (f : Family) → In f families
 every_family family.Unit = inl refl
 every_family family.Party = inr (inl refl)
 every_family family.Person = inr (inr (inl refl))

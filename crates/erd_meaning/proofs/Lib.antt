@@ -27,3 +27,5 @@ pub mod Resolved
 pub mod Lookups
 pub mod OneObject
 pub mod Found
+pub mod ReferenceLookups
+pub mod ReferenceWalks

@@ -1,5 +1,6 @@
 -- The list of all faults of a report by the first phase that has any.
-use Rattle.std.proofs.Common.{◌≡◌, List, ◌∷◌, inl, inr, refl, subst}
+use Rattle.std.proofs.Common.{◌≡◌, List, [], ◌∷◌, inl, inr, refl, subst}
+use Rattle.std.specs.Prelude.{◌≢◌}
 use Rattle.std.specs.List.{AllByRecursion}
 use Rattle.std.specs.List.Sorted.{IsStrictlySortedBy}
 use Rattle.serde_json.specs.Data.{Data}
@@ -10,7 +11,7 @@ use Rattle.erd_tables.specs.declared.place.Step.{Step}
 use Rattle.erd_check.specs.Faults.{ShapeFault, NoneOf}
 use Rattle.erd_check.specs.Paths.{fault_at}
 use Rattle.erd_check.proofs.Order.{In, In-all, In-from_contains, contains_from_In}
-use Rattle.erd_meaning.specs.Accepted.{IsFault}
+use Rattle.erd_meaning.specs.Accepted.{IsFault, OrElse}
 use Rattle.erd_meaning.specs.LaterFaults.{IdentityFault, ReferenceFault, SelectionFault}
 use Rattle.erd_meaning.proofs.LaterFaultLists.{identity_faults, reference_faults, selection_faults, identity_listed, reference_listed, selection_listed}
 
@@ -24,6 +25,32 @@ lists_all IsOne faults rising each listed = record {
   rising = rising;
   each = λ f. (λ h. each f (In-from_contains f faults h), λ h. contains_from_In f faults (listed f.place f.reason h));
 }
+
+-- where the first phase has faults, they are all
+pub first_refused : (First Second : List Step → Reason → Type 0) (faults : List Fault) → ListsAll First faults → faults ≢ [] → ListsAll (OrElse First Second) faults
+first_refused First Second [] all some = absurd (some refl)
+first_refused First Second (f ∷ fs) all some = record {
+  rising = all.rising;
+  each = λ g. (λ h. inl ((all.each g).0 h), λ h. (all.each g).1 (only g.place g.reason h));
+}
+  where
+    first : First f.place f.reason
+    first = (all.each f).0 (contains_from_In f (f ∷ fs) (inl refl))
+
+    only : (p : List Step) (r : Reason) → OrElse First Second p r → First p r
+    only p r (inl h) = h
+    only p r (inr (n, h)) = absurd (n f.place f.reason first)
+
+-- where it has none, those of the second phase are all
+pub second_refused : (First Second : List Step → Reason → Type 0) (faults : List Fault) → NoneOf First → ListsAll Second faults → ListsAll (OrElse First Second) faults
+second_refused First Second faults none all = record {
+  rising = all.rising;
+  each = λ g. (λ h. inr (none, (all.each g).0 h), λ h. (all.each g).1 (only g.place g.reason h));
+}
+  where
+    only : (p : List Step) (r : Reason) → OrElse First Second p r → Second p r
+    only p r (inl h) = absurd (none p r h)
+    only p r (inr (n, h)) = h
 
 pub refused_by_shape : (t : Data) {f : Fault} {fs : List Fault} → ListsAll (ShapeFault t) (f ∷ fs) → ListsAll (IsFault t) (f ∷ fs)
 refused_by_shape t {f} {fs} all = record {

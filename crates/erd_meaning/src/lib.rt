@@ -7,6 +7,7 @@ mod lookup;
 mod members;
 mod object;
 mod object_walk;
+mod reference_walk;
 mod report;
 mod resolving;
 pub mod selection_name;

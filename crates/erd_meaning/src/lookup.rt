@@ -1,11 +1,14 @@
 ghost use Rattle.std.specs.Prelude.{◌≡◌, length, map, option_map, slice_get};
 ghost use Rattle.std.specs.List.{position};
+ghost use Rattle.serde_json.specs.View.{view};
 ghost use Rattle.erd_meaning.specs.Lookups.{is_keyed, is_named, those_of};
+ghost use Rattle.erd_meaning.specs.ReferenceWalk.{is_known, owner_among};
 ghost use Rattle.erd_meaning.specs.Shown.{shown};
 
 use crate::key::Key;
 use crate::object::Object;
 use erd_tables::Family;
+use serde_json::Value;
 
 /// How many of the objects are of the family.
 pub(crate) fn count_of(objects: &[Object], family: Family) -> usize
@@ -54,4 +57,28 @@ pub(crate) fn place_of_id(objects: &[Object], id: &str) -> Option<usize>
     ensures { result ≡ position (λ o. is_named id.now (shown o)) objects.now }
 {
     objects.iter().position(|object| object.is_named(id))
+}
+
+/// Whether an object has the `@id`.
+pub(crate) fn is_id_known(objects: &[Object], id: &str) -> bool
+    ensures { result ≡ is_known (map shown objects.now) id.now }
+{
+    for object in objects {
+        if object.is_named(id) {
+            return true;
+        }
+    }
+    false
+}
+
+/// The first object of the family with the `@id`.
+pub(crate) fn owner_of<'a>(objects: &[Object<'a>], family: Family, id: &str) -> Option<&'a Value>
+    ensures { option_map (λ v. view v.now) result ≡ owner_among (map shown objects.now) family id.now }
+{
+    for object in objects {
+        if object.is_of(family) && object.is_named(id) {
+            return Some(object.value);
+        }
+    }
+    None
 }

@@ -4,7 +4,7 @@ ghost use Rattle.serde_json.specs.View.{view};
 ghost use Rattle.erd_check.specs.Shapes.{IsFaultless};
 ghost use Rattle.erd_meaning.specs.Lookups.{FindsId, FindsKey, key_in};
 ghost use Rattle.erd_meaning.specs.Objects.{elections, objects};
-ghost use Rattle.erd_meaning.specs.Resolved.{IsIdentified, IsResolved};
+ghost use Rattle.erd_meaning.specs.Resolved.{IsIdentified, IsReferred, IsResolved};
 
 use crate::key::Key;
 use crate::lookup::{count_of, nth_of, place_of_id, place_of_key};
@@ -14,8 +14,9 @@ use erd_tables::Family;
 use serde_json::Value;
 use std::marker::Model;
 
-/// A report that has no fault of the shape, and whose objects are told apart: those that need a key have one, no two of a
-/// family have one key, and no two at all have one `@id`. It borrows the report, and is seen by contracts as it.
+/// A report that has no fault of the shape, whose objects are told apart, and whose references name them: the objects that
+/// need a key have one, no two of a family have one key, no two at all have one `@id`, and each reference names an object of
+/// its family. It borrows the report, and is seen by contracts as it.
 ///
 /// Its objects are named by their family and their position in it, counted from 0 in the order of the report.
 #[derive(Debug, Drop)]
@@ -48,11 +49,12 @@ impl<'a> Report<'a> {
         Report { tree, objects }
     }
 
-    /// The report that was handed in. It has no fault of the shape, and none of identity.
+    /// The report that was handed in. It has no fault of the shape, none of identity, and none of references.
     pub fn tree(&self) -> &'a Value
         ensures tree { result.now ≡ self.now }
         ensures faultless { IsFaultless result.now }
         ensures identified { IsIdentified result.now }
+        ensures referred { IsReferred result.now }
     {
         self.tree
     }

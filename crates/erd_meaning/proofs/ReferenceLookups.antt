@@ -1,0 +1,98 @@
+-- What is looked up among the objects that are kept of a report is what its `@id` texts name.
+use Rattle.std.proofs.Common.{◌≡◌, ℕ, inl, inr, List, [], ◌∷◌, filter, find, cond, Bool, true, false, ◌&&◌, ◌||◌, Option, Some, None, option_map, is_some, refl, sym, ap, ◌∙◌}
+use Rattle.std.specs.List.{list_any}
+use Rattle.std.specs.Option.{option_map_or}
+use Rattle.std.specs.Str.{bytes_eq}
+use Rattle.std.proofs.lemmas.Slice.Eq.{bytes_eq-Decides}
+use Rattle.serde_json.specs.Data.{Data}
+use Rattle.erd_tables.specs.Classes.{families, family_number}
+use Rattle.erd_tables.specs.declared.class.Family.{Family}
+use Rattle.erd_check.proofs.Order.{In, any_at}
+use Rattle.erd_check.proofs.Reasons.{both_true}
+use Rattle.erd_meaning.specs.Lookups.{is_of_family, is_named}
+use Rattle.erd_meaning.specs.Objects.{Placed, has_id, id_of, is_owned, objects, owner}
+use Rattle.erd_meaning.specs.ObjectWalk.{Kept, kept, kept_objects, same_id}
+use Rattle.erd_meaning.specs.ReferenceWalk.{is_known, owner_among}
+use Rattle.erd_meaning.proofs.IdentityFaults.{any_from}
+use Rattle.erd_meaning.proofs.LaterFaultLists.{every_family}
+use Rattle.erd_meaning.proofs.Lookups.{kept_of, those_kept}
+use Rattle.erd_meaning.proofs.ObjectFamilies.{itself}
+
+-- ---- tests and searches
+
+both_tests : (a b : Bool) → (a ≡ true → b ≡ true) → (b ≡ true → a ≡ true) → a ≡ b
+both_tests true b f g = sym (f refl)
+both_tests false true f g = g refl
+both_tests false false f g = refl
+
+text_same : (a b : List ℕ) → bytes_eq a b ≡ bytes_eq b a
+text_same a b =
+    both_tests (bytes_eq a b) (bytes_eq b a) (λ h. (bytes_eq-Decides b a).1 (sym ((bytes_eq-Decides a b).0 h))) (λ h. (bytes_eq-Decides a b).1 (sym ((bytes_eq-Decides b a).0 h)))
+
+find_both : {A : Type 0} (p q : A → Bool) (xs : List A) → find (λ x. p x && q x) xs ≡ find q (filter p xs)
+find_both p q [] = refl
+find_both {A} p q (x ∷ xs) = at (p x) (find_both p q xs)
+  where
+    at : (b : Bool) → find (λ x. p x && q x) xs ≡ find q (filter p xs) → cond (b && q x) (Some x) (find (λ x. p x && q x) xs) ≡ find q (cond b (x ∷ filter p xs) (filter p xs))
+    at true h = ap (cond (q x) (Some x)) h
+    at false h = h
+
+found_some : {A B : Type 0} (g : A → B) (p : A → Bool) (x : A) (xs : List A) → In x xs → p x ≡ true → is_some (option_map g (find p xs)) ≡ true
+found_some g p x [] i h = absurd i
+found_some g p x (y ∷ ys) (inl e) h = rw (ap p e ∙ h)
+found_some g p x (y ∷ ys) (inr t) h = at (p y) (found_some g p x ys t h)
+  where
+    at : (b : Bool) → is_some (option_map g (find p ys)) ≡ true → is_some (option_map g (cond b (Some y) (find p ys))) ≡ true
+    at true k = refl
+    at false k = k
+
+found_any : {A B : Type 0} (g : A → B) (q p : A → Bool) (xs : List A) → is_some (option_map g (find (λ x. q x && p x) xs)) ≡ true → list_any p xs ≡ true
+found_any g q p [] h = cc
+found_any g q p (x ∷ xs) h = at (q x) (p x) (found_any g q p xs) h
+  where
+    at : (b c : Bool) → (is_some (option_map g (find (λ x. q x && p x) xs)) ≡ true → list_any p xs ≡ true)
+        → is_some (option_map g (cond (b && c) (Some x) (find (λ x. q x && p x) xs))) ≡ true → c || list_any p xs ≡ true
+    at b true more k = refl
+    at true false more k = more k
+    at false false more k = more k
+
+-- ---- the object of a family
+
+named_same : (id : List ℕ) (o : Option (List ℕ)) → same_id o (Some id) ≡ option_map_or (bytes_eq id) o false
+named_same id None = refl
+named_same id (Some a) = text_same a id
+
+find_kept : (f : Family) (id : List ℕ) (os : List Placed) → option_map (λ k. k.value) (find (is_named id) (kept_of f os)) ≡ option_map (λ o. o.value) (find (λ o. has_id id o.value) os)
+find_kept f id [] = refl
+find_kept f id (o ∷ os) = at (is_named id (kept f o.value)) (has_id id o.value) (named_same id (id_of o.value)) (find_kept f id os)
+  where
+    at : (a b : Bool) → a ≡ b → option_map (λ k. k.value) (find (is_named id) (kept_of f os)) ≡ option_map (λ o. o.value) (find (λ o. has_id id o.value) os)
+        → option_map (λ k. k.value) (cond a (Some (kept f o.value)) (find (is_named id) (kept_of f os))) ≡ option_map (λ o. o.value) (cond b (Some o) (find (λ o. has_id id o.value) os))
+    at true true e h = refl
+    at true false e h = cc
+    at false true e h = cc
+    at false false e h = h
+
+pub owner_same : (t : Data) (f : Family) (id : List ℕ) → owner_among (kept_objects t) f id ≡ owner t f id
+owner_same t f id =
+    ap (option_map (λ (k : Kept). k.value)) (find_both (is_of_family f) (is_named id) (kept_objects t) ∙ ap (find (is_named id)) (those_kept f t))
+    ∙ find_kept f id (objects f t)
+
+-- ---- an object of any family
+
+from_known : (t : Data) (id : List ℕ) → is_known (kept_objects t) id ≡ true → is_owned t id ≡ true
+from_known t id h =
+    let x = any_from (is_named id) (kept_objects t) h in
+    let f = x.0.family in
+    let passes : is_of_family f x.0 && is_named id x.0 ≡ true = both_true (is_of_family f x.0) (is_named id x.0) (itself (family_number f)) x.2 in
+    let found : is_some (owner_among (kept_objects t) f id) ≡ true =
+    found_some (λ (k : Kept). k.value) (λ k. is_of_family f k && is_named id k) x.0 (kept_objects t) x.1 passes in
+    any_at (λ f. is_some (owner t f id)) f families (every_family f) (ap is_some (sym (owner_same t f id)) ∙ found)
+
+to_known : (t : Data) (id : List ℕ) → is_owned t id ≡ true → is_known (kept_objects t) id ≡ true
+to_known t id h =
+    let x = any_from (λ f. is_some (owner t f id)) families h in
+    found_any (λ (k : Kept). k.value) (is_of_family x.0) (is_named id) (kept_objects t) (ap is_some (owner_same t x.0 id) ∙ x.2)
+
+pub known_same : (t : Data) (id : List ℕ) → is_known (kept_objects t) id ≡ is_owned t id
+known_same t id = both_tests (is_known (kept_objects t) id) (is_owned t id) (from_known t id) (to_known t id)
