@@ -3,6 +3,7 @@ mod edits;
 mod identity;
 mod lines;
 mod places;
+mod references;
 mod refused;
 mod reports;
 mod shape;

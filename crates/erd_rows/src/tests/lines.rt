@@ -1,6 +1,7 @@
 //! Lists of faults as lines.
 use crate::tests::edits::edited;
 use erd_check::{CheckError, faults, same_json, shape};
+use erd_meaning::resolve;
 use erd_tables::FaultList;
 use serde_json::Value;
 use std::alloc::{AllocError, Global};
@@ -54,4 +55,17 @@ pub fn shape_lines(alloc: Global, report: &str) -> Result<String, Fail> {
         return Err(Fail::from("two answers"));
     }
     Ok(found)
+}
+
+// The fault lines of a report whose shape has no fault.
+pub fn resolve_lines(alloc: Global, report: &str) -> Result<String, Fail> {
+    let tree = Value::from_str(alloc, report)?;
+    let Ok(shaped) = shape(alloc, &tree) else {
+        return Err(Fail::from("a fault of the shape"));
+    };
+    match resolve(alloc, shaped) {
+        Ok(_) => Ok(String::new(alloc)),
+        Err(CheckError::Faults(faults)) => Ok(lines(alloc, &faults)?),
+        Err(CheckError::Memory) => Err(Fail::from("no memory")),
+    }
 }
