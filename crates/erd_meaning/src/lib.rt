@@ -11,6 +11,7 @@ mod reference_walk;
 mod report;
 mod resolving;
 pub mod selection_name;
+mod selection_naming;
 
 pub use key::Key;
 pub use report::Report;

@@ -1,0 +1,46 @@
+-- The names of selections, with look-ups among the objects that are kept. It is no definition of the profile: that the names
+-- are those of `SelectionNames` is proved in `AmongNames`.
+use Rattle.std.specs.Prelude.{ℕ, List, [], ◌&&◌, Option, option_and_then, option_map, find, codes}
+use Rattle.std.specs.List.{filter_map}
+use Rattle.serde_json.specs.Data.{Data}
+use Rattle.serde_json.specs.Find.{as_str}
+use Rattle.erd_tables.specs.declared.class.Class.{Class}
+use Rattle.erd_tables.specs.declared.class.Class.TheVariants as class
+use Rattle.erd_tables.specs.declared.class.Family.{Family}
+use Rattle.erd_tables.specs.declared.class.Family.TheVariants as family
+use Rattle.erd_check.specs.Wants.{class_of_object}
+use Rattle.erd_meaning.specs.Keys.{key_cmp, key_of, entries_at}
+use Rattle.erd_meaning.specs.Lookups.{is_of_family, is_named}
+use Rattle.erd_meaning.specs.NameParts.{NameParts}
+use Rattle.erd_meaning.specs.ObjectWalk.{Kept}
+use Rattle.erd_meaning.specs.SelectionNames.{is_write_in, label_of_selection, order_of_selection, rising_list, selection_role}
+use Rattle.erd_meaning.specs.declared.key.Key.{Key}
+
+-- the key of the object of a family with the `@id`
+abbrev pub key_among : List Kept → Family → List ℕ → Option Key
+key_among ks f id = option_and_then (λ k. k.key) (find (λ k. is_of_family f k && is_named id k) ks)
+
+-- the keys that the references of an array name
+abbrev pub keys_among : List Kept → Family → List Data → List Key
+keys_among ks f references = filter_map (λ r. option_and_then (key_among ks f) (as_str r)) references
+
+-- the keys of the candidates or the parties that a selection is for
+abbrev pub selection_keys_among : List Kept → Class → Data → List Key
+selection_keys_among ks class.CandidateSelection d = keys_among ks family.Candidate (entries_at (codes "CandidateIds") d)
+selection_keys_among ks class.PartySelection d = keys_among ks family.Party (entries_at (codes "PartyIds") d)
+selection_keys_among ks c d = []
+
+-- the name of a selection of this class
+abbrev pub class_name_among : List Kept → Class → Data → NameParts
+class_name_among ks c d = record {
+  class = c;
+  keys = rising_list key_cmp (selection_keys_among ks c d);
+  write_in = is_write_in c d;
+  order = order_of_selection d;
+  label = label_of_selection c d;
+  identifier = key_of d;
+}
+
+-- the name of a selection: none where it is of no class of selection
+abbrev pub name_among : List Kept → Data → Option NameParts
+name_among ks d = option_map (λ c. class_name_among ks c d) (class_of_object selection_role d)
