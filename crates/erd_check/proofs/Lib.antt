@@ -17,6 +17,7 @@ pub mod ObjectsAt
 pub mod TableKinds
 pub mod Whole
 pub mod Clean
+pub mod Fractions
 mod AskedExamples
 mod FaultExamples
 pub mod WholeExamples
