@@ -1,5 +1,5 @@
 -- A report without a fault of the shape has no number that is not whole.
-use Rattle.std.proofs.Common.{◌≡◌, ◌≢◌, ℕ, suc, arith, inl, inr, Ordering, Less, Equal, Greater, nat_cmp, is_none, List, [], ◌∷◌, ◌++◌, map, length, ◌==◌, Bool, true, false, ◌&&◌, ◌||◌, not, cond, Option, Some, None, option_and_then, codes, refl, sym, ap, ◌∙◌, subst}
+use Rattle.std.proofs.Common.{◌≡◌, ℕ, suc, arith, inl, Ordering, Less, Equal, Greater, nat_cmp, is_none, List, [], ◌∷◌, ◌++◌, length, ◌==◌, Bool, true, false, ◌&&◌, ◌||◌, not, cond, Option, Some, None, option_and_then, codes, refl, sym, ap, ◌∙◌, subst}
 use Rattle.std.specs.Ordering.{match_ordering}
 use Rattle.std.specs.Cmp.Lexicographic.{slice_cmp}
 use Rattle.std.proofs.lemmas.Option.{same_Some}
@@ -27,7 +27,6 @@ use Rattle.erd_tables.specs.declared.member.MemberKind.TheVariants as kind
 use Rattle.erd_tables.specs.declared.place.Step.{Step}
 use Rattle.erd_tables.specs.declared.place.Step.TheVariants.{Name, At}
 use Rattle.erd_check.specs.Faults.{is_shape_fault, is_empty_array, names_wanted, NoneOf, ShapeFault}
-use Rattle.erd_check.specs.Paths.{fault_at}
 use Rattle.erd_check.specs.Trees.{is_same_json, list_of_items}
 use Rattle.erd_check.specs.Walk.{asked_with, faults_at, faults_of, item_faults, member_faults, reasons, IsInOrder}
 use Rattle.erd_check.specs.Wants.{class_of_object, entry_want, is_compared_set, is_report_class, member_want, carried_want, scope_inside, want_of_kind, want_of_name}
@@ -43,11 +42,11 @@ use Rattle.erd_check.proofs.TableKinds.{kind_of_class}
 
 -- ---- lists without an entry
 
-empty_left : {A : Type 0} (xs ys : List A) → xs ++ ys ≡ [] → xs ≡ []
+pub empty_left : {A : Type 0} (xs ys : List A) → xs ++ ys ≡ [] → xs ≡ []
 empty_left [] ys e = refl
 empty_left (x ∷ xs) ys e = cc
 
-empty_right : {A : Type 0} (xs ys : List A) → xs ++ ys ≡ [] → ys ≡ []
+pub empty_right : {A : Type 0} (xs ys : List A) → xs ++ ys ≡ [] → ys ≡ []
 empty_right [] ys e = e
 empty_right (x ∷ xs) ys e = cc
 
@@ -59,8 +58,8 @@ no_reason p [] e = refl
 no_reason p (r ∷ rs) e = cc
 
 -- a value that gives no reason
-record IsRight (w : Want) (repeated : Bool) (d : Data) : Type 0 where
-  none : (r : Reason) → is_shape_fault (asked_with w repeated d) r ≡ false
+pub record IsRight (w : Want) (repeated : Bool) (d : Data) : Type 0 where
+  pub none : (r : Reason) → is_shape_fault (asked_with w repeated d) r ≡ false
 
 right : (p : List Step) (w : Want) (repeated : Bool) (d : Data) → faults_of p (reasons w repeated d) ≡ [] → IsRight w repeated d
 right p w repeated d e = record {
@@ -70,16 +69,16 @@ right p w repeated d e = record {
 -- ---- what is asked at the places of a report
 
 -- not of these kinds, of which something else is asked
-abbrev is_sought : Want → Bool
+abbrev pub is_sought : Want → Bool
 is_sought (Member kind.ClassText required) = false
 is_sought (Member (kind.One f) required) = false
 is_sought (Member kind.Carried required) = false
 is_sought w = true
 
-record Sought (o : Option Want) : Type 0 where
-  want : Want
-  is : o ≡ Some want
-  sought : is_sought want ≡ true
+pub record Sought (o : Option Want) : Type 0 where
+  pub want : Want
+  pub is : o ≡ Some want
+  pub sought : is_sought want ≡ true
 
 abbrev is_untyped : MemberKind → Bool
 is_untyped kind.ClassText = false
@@ -118,7 +117,7 @@ sought_carried name = record { want = carried_want name; is = refl; sought = at 
     at true = refl
     at false = refl
 
-sought_entry : (w v : Want) → entry_want w ≡ Some v → is_sought v ≡ true
+pub sought_entry : (w v : Want) → entry_want w ≡ Some v → is_sought v ≡ true
 sought_entry (Member (kind.Many f) required) v e = let h : Reference f ≡ v = cc in ap is_sought (sym h)
 sought_entry (Member (kind.Keyed f) required) v e = let h : Object (role.OfFamily f) ≡ v = cc in ap is_sought (sym h)
 sought_entry (Member kind.Identifiers required) v e = let h : Object role.Identifier ≡ v = cc in ap is_sought (sym h)
@@ -143,33 +142,33 @@ number_whole (Member kind.Carried required) repeated n s h = cc
 number_whole w repeated n s h = let x : true ≡ false = h.none reason.WrongKind in cc
 
 -- an array of which nothing is asked inside has no entry
-no_entry : (ds : Items) → not (is_empty_array (array ds)) ≡ false → items_have_float ds ≡ false
+no_entry : (ds : Items) → not (is_empty_array (array ds)) ≡ false → ds ≡ no_items
 no_entry no_items e = refl
 no_entry (item d ds) e =
     let some : (suc (length (list_of_items ds)) == 0) ≡ false = grind arith in
     let x : true ≡ false = sym (ap not some) ∙ e in
     cc
 
-array_whole : (w : Want) (repeated : Bool) (ds : Items) → is_sought w ≡ true → entry_want w ≡ None → IsRight w repeated (array ds) → items_have_float ds ≡ false
-array_whole (Member kind.Outside required) repeated ds s e h = no_entry ds (h.none reason.OutsideProfile)
-array_whole (Member kind.StrangeReference required) repeated ds s e h = let x : true ≡ false = h.none reason.UnknownReference in cc
-array_whole (Member kind.StrangeIdentity required) repeated ds s e h = let x : true ≡ false = h.none reason.CarriedIdentity in cc
-array_whole (Member kind.ClassText required) repeated ds s e h = cc
-array_whole (Member (kind.One f) required) repeated ds s e h = cc
-array_whole (Member kind.Carried required) repeated ds s e h = cc
-array_whole (Member kind.Identity required) repeated ds s e h = let x : true ≡ false = h.none reason.WrongKind in cc
-array_whole (Member kind.Word required) repeated ds s e h = let x : true ≡ false = h.none reason.WrongKind in cc
-array_whole (Member kind.Label required) repeated ds s e h = let x : true ≡ false = h.none reason.WrongKind in cc
-array_whole (Member kind.Flag required) repeated ds s e h = let x : true ≡ false = h.none reason.WrongKind in cc
-array_whole (Member kind.Whole required) repeated ds s e h = let x : true ≡ false = h.none reason.WrongKind in cc
-array_whole (Member k required) repeated ds s e h = cc
-array_whole Carried repeated ds s e h = cc
-array_whole w repeated ds s e h = let x : true ≡ false = h.none reason.WrongKind in cc
+pub array_empty : (w : Want) (repeated : Bool) (ds : Items) → is_sought w ≡ true → entry_want w ≡ None → IsRight w repeated (array ds) → ds ≡ no_items
+array_empty (Member kind.Outside required) repeated ds s e h = no_entry ds (h.none reason.OutsideProfile)
+array_empty (Member kind.StrangeReference required) repeated ds s e h = let x : true ≡ false = h.none reason.UnknownReference in cc
+array_empty (Member kind.StrangeIdentity required) repeated ds s e h = let x : true ≡ false = h.none reason.CarriedIdentity in cc
+array_empty (Member kind.ClassText required) repeated ds s e h = cc
+array_empty (Member (kind.One f) required) repeated ds s e h = cc
+array_empty (Member kind.Carried required) repeated ds s e h = cc
+array_empty (Member kind.Identity required) repeated ds s e h = let x : true ≡ false = h.none reason.WrongKind in cc
+array_empty (Member kind.Word required) repeated ds s e h = let x : true ≡ false = h.none reason.WrongKind in cc
+array_empty (Member kind.Label required) repeated ds s e h = let x : true ≡ false = h.none reason.WrongKind in cc
+array_empty (Member kind.Flag required) repeated ds s e h = let x : true ≡ false = h.none reason.WrongKind in cc
+array_empty (Member kind.Whole required) repeated ds s e h = let x : true ≡ false = h.none reason.WrongKind in cc
+array_empty (Member k required) repeated ds s e h = cc
+array_empty Carried repeated ds s e h = cc
+array_empty w repeated ds s e h = let x : true ≡ false = h.none reason.WrongKind in cc
 
 -- ---- the members of an object
 
-record AllSought (s : Scope) : Type 0 where
-  each : (name : List ℕ) → Sought (want_of_name s name)
+pub record AllSought (s : Scope) : Type 0 where
+  pub each : (name : List ℕ) → Sought (want_of_name s name)
 
 text_found : (k : List ℕ) (v : Data) (p : List Step) (r : Role) (c : Option Class) (ms : Members) → k ≡ codes "@type" → get_member k ms ≡ Some v
     → member_faults p (scope.Members r c) ms ≡ [] → faults_at (p ++ Name k ∷ []) (ClassText r) false v ≡ []
@@ -189,7 +188,7 @@ text_found k v p r c (member l d ms) is e none = at (slice_cmp nat_cmp k l) refl
         let quiet : faults_at (p ++ Name l ∷ []) (ClassText r) false d ≡ [] = rw named at here in
         subst (λ n. faults_at (p ++ Name n ∷ []) (ClassText r) false v ≡ []) (sym same) (subst (λ x. faults_at (p ++ Name l ∷ []) (ClassText r) false x ≡ []) value quiet)
 
-own_faults : (p : List Step) (w : Want) (repeated : Bool) (d : Data) → faults_at p w repeated d ≡ [] → IsRight w repeated d
+pub own_faults : (p : List Step) (w : Want) (repeated : Bool) (d : Data) → faults_at p w repeated d ≡ [] → IsRight w repeated d
 own_faults p w repeated null e = right p w repeated null e
 own_faults p w repeated (boolean b) e = right p w repeated (boolean b) e
 own_faults p w repeated (number n) e = right p w repeated (number n) e
@@ -232,7 +231,7 @@ scope_sought : (p : List Step) (w : Want) (r : Role) (repeated : Bool) (ms : Mem
 scope_sought p w r repeated ms s h quiet =
     subst AllSought (sym s) (class_known p r ms (class_of_object r (object ms)) refl (ap (λ x. member_faults p x ms) (sym s) ∙ quiet) (λ n e. lacks_type w r repeated ms s h n e))
 
-object_sought : (p : List Step) (w : Want) (repeated : Bool) (ms : Members) → is_sought w ≡ true → IsRight w repeated (object ms) → member_faults p (scope_inside w (object ms)) ms ≡ []
+pub object_sought : (p : List Step) (w : Want) (repeated : Bool) (ms : Members) → is_sought w ≡ true → IsRight w repeated (object ms) → member_faults p (scope_inside w (object ms)) ms ≡ []
     → AllSought (scope_inside w (object ms))
 object_sought p (Object r) repeated ms s h quiet = scope_sought p (Object r) r repeated ms refl h quiet
 object_sought p (Member kind.Label required) repeated ms s h quiet = scope_sought p (Member kind.Label required) role.Label repeated ms refl h quiet
@@ -253,7 +252,7 @@ nowhere_float a b h k = rw (h, k)
 items_of_want : (p : List Step) (w : Want) (repeated : Bool) (ds : Items) (o : Option Want) → entry_want w ≡ o → is_sought w ≡ true → IsRight w repeated (array ds)
     → option_map_or (λ v. item_faults p v (is_compared_set w) [] ds) o [] ≡ []
     → ((v : Want) → is_sought v ≡ true → item_faults p v (is_compared_set w) [] ds ≡ [] → items_have_float ds ≡ false) → items_have_float ds ≡ false
-items_of_want p w repeated ds None e s h quiet each = array_whole w repeated ds s e h
+items_of_want p w repeated ds None e s h quiet each = ap items_have_float (array_empty w repeated ds s e h)
 items_of_want p w repeated ds (Some v) e s h quiet each = each v (sought_entry w v e) quiet
 
 member_of_want : (p : List Step) (k : List ℕ) (d : Data) (o : Option Want) → Sought o → option_map_or (λ v. faults_at (p ++ Name k ∷ []) v false d) o [] ≡ []
@@ -291,7 +290,7 @@ mutual
       (member_of_want p k d (want_of_name s k) (all.each k) (empty_left here (member_faults p s ms) e) (λ v t q. whole_at (p ++ Name k ∷ []) v false d t q))
       (whole_members p s ms all (empty_right here (member_faults p s ms) e))
 
-no_fault_in : (t : Data) (faults : List Fault) → ListsAll (ShapeFault t) faults → NoneOf (ShapeFault t) → faults ≡ []
+pub no_fault_in : (t : Data) (faults : List Fault) → ListsAll (ShapeFault t) faults → NoneOf (ShapeFault t) → faults ≡ []
 no_fault_in t [] all none = refl
 no_fault_in t (f ∷ fs) all none = absurd (none f.place f.reason ((all.each f).0 (contains_from_In f (f ∷ fs) (inl refl))))
 

@@ -18,6 +18,8 @@ pub mod TableKinds
 pub mod Whole
 pub mod Clean
 pub mod Fractions
+pub mod Numbers
+pub mod ReportTrees
 mod AskedExamples
 mod FaultExamples
 pub mod WholeExamples
