@@ -3,6 +3,7 @@
 
 mod identifier;
 pub mod key;
+mod label;
 mod lookup;
 mod members;
 mod object;
@@ -12,6 +13,8 @@ mod report;
 mod resolving;
 pub mod selection_name;
 mod selection_naming;
+mod shared_key;
+mod translation;
 
 pub use key::Key;
 pub use report::Report;

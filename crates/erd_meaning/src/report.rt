@@ -90,7 +90,10 @@ impl<'a> Report<'a> {
         ensures { option_copied result ≡ key_in family (view self.now) index }
     {
         match nth_of(&self.objects, family, index) {
-            Some(object) => object.key.as_ref(),
+            Some(object) => match &object.key {
+                Some(shared) => Some(shared.key()),
+                None => None,
+            },
             None => None,
         }
     }
