@@ -5,6 +5,7 @@ mod identifier;
 pub mod key;
 mod lookup;
 mod members;
+mod named_selection;
 mod object;
 mod object_walk;
 mod reference_walk;
@@ -12,6 +13,7 @@ mod report;
 mod resolving;
 pub mod selection_name;
 mod selection_naming;
+mod selection_walk;
 
 pub use key::Key;
 pub use report::Report;
