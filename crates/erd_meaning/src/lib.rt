@@ -6,6 +6,7 @@ pub mod key;
 mod label;
 mod lookup;
 mod members;
+mod named_selection;
 mod object;
 mod object_walk;
 mod reference_walk;
@@ -13,6 +14,7 @@ mod report;
 mod resolving;
 pub mod selection_name;
 mod selection_naming;
+mod selection_walk;
 mod shared_key;
 mod translation;
 
