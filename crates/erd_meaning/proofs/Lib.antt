@@ -31,3 +31,4 @@ pub mod ReferenceLookups
 pub mod ReferenceWalks
 pub mod WholeNumbers
 pub mod MetSelections
+pub mod NamesTold
