@@ -32,3 +32,5 @@ pub mod ReferenceWalks
 pub mod WholeNumbers
 pub mod MetSelections
 pub mod NamesTold
+pub mod NumberedSelections
+pub mod SelectionFaults

@@ -65,7 +65,7 @@ with_part {A} g f t i a e = from (slice_get (objects f t) i) refl e
 pub object_in : (f : Family) (t : Data) (i : ℕ) (o : ObjectIn f t i) → In o.one (objects f t)
 object_in f t i o = in_at (objects f t) i o.one o.at
 
-family_apart : (f : Family) (t : Data) → AreApart (located f (objects f t))
+pub family_apart : (f : Family) (t : Data) → AreApart (located f (objects f t))
 family_apart f t = subst AreApart (objects_met f t) (sorted_filter (is_of f) apart (all_located t) (all_parted t))
 
 located_at : (f : Family) (t : Data) (i : ℕ) (o : ObjectIn f t i) → slice_get (located f (objects f t)) i ≡ Some (located_one f o.one)
