@@ -29,3 +29,6 @@ pub mod OneObject
 pub mod Found
 pub mod ReferenceLookups
 pub mod ReferenceWalks
+pub mod RisingLists
+pub mod WholeParts
+pub mod AmongNames

@@ -8,7 +8,7 @@ pub returns-in-Some : goal.returns-in-Some
 returns-in-Some c =
     let resolved : IsResolved c.args.self.now c.deref.result.now =
     subst (λ v. IsResolved v c.deref.result.now) c.self.view_is (subst (IsResolved c.self.inside.tree.now) (sym c.deref.ensures.value) c.self.invariant) in
-    c.as_ref.ensures.value ∙ ap (option_and_then (λ (k : Kept). k.key)) c.in-Some.ensures
+    c.shown_key.ensures ∙ ap (option_and_then (λ (k : Kept). k.key)) c.in-Some.ensures
     ∙ part_at (λ k. k.key) c.args.self.now c.deref.result.now c.args.family c.args.index resolved
 
 pub returns-in-None : goal.returns-in-None
