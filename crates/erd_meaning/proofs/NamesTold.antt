@@ -74,17 +74,21 @@ all_faults name m (x ∷ xs) =
 
 -- ---- names that are taken
 
+pub is_named_from : (s : NumberedName) (c : ℕ) (n : NameParts) → is_selection_named c n s ≡ true → ◌≡◌ {A = NumberedName} s (c, n)
+is_named_from s c n h =
+    let both = and_true (s.0 == c) (is_eq (name_cmp s.1 n)) h in
+    ap₂ (λ (d : ℕ) (m : NameParts). (d, m)) ((Decides-eqb s.0 c).0 both.0) (name_cmp_exact s.1 n (tied_from _ both.1))
+
+pub is_named_itself : (c : ℕ) (n : NameParts) → is_selection_named c n (c, n) ≡ true
+is_named_itself c n = both_true (c == c) (is_eq (name_cmp n n)) (itself c) (ap is_eq (tied_itself name_cmp_total n))
+
 taken_from : (names : List NumberedName) (c : ℕ) (n : NameParts) → is_taken names c n ≡ true → In {A = NumberedName} (c, n) names
 taken_from names c n h =
     let found = any_from {A = NumberedName} (is_selection_named c n) names h in
-    let both = and_true (found.0.0 == c) (is_eq (name_cmp found.0.1 n)) found.2 in
-    let number : found.0.0 ≡ c = (Decides-eqb found.0.0 c).0 both.0 in
-    let parts : found.0.1 ≡ n = name_cmp_exact found.0.1 n (tied_from _ both.1) in
-    subst (λ (s : NumberedName). In {A = NumberedName} s names) (ap₂ (λ (d : ℕ) (m : NameParts). (d, m)) number parts) found.1
+    subst (λ (s : NumberedName). In {A = NumberedName} s names) (is_named_from found.0 c n found.2) found.1
 
 taken_by : (names : List NumberedName) (c : ℕ) (n : NameParts) → In {A = NumberedName} (c, n) names → is_taken names c n ≡ true
-taken_by names c n i =
-    any_at {A = NumberedName} (is_selection_named c n) (c, n) names i (both_true (c == c) (is_eq (name_cmp n n)) (itself c) (ap is_eq (tied_itself name_cmp_total n)))
+taken_by names c n i = any_at {A = NumberedName} (is_selection_named c n) (c, n) names i (is_named_itself c n)
 
 in_name : (c : ℕ) (o : Option NameParts) (d : ℕ) (n : NameParts) → In {A = NumberedName} (d, n) (name_if c o) → (c ≡ d) × (o ≡ Some n)
 in_name c None d n i = absurd i

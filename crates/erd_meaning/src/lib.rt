@@ -3,6 +3,7 @@
 
 mod identifier;
 pub mod key;
+mod label;
 mod lookup;
 mod members;
 mod named_selection;
@@ -14,6 +15,8 @@ mod resolving;
 pub mod selection_name;
 mod selection_naming;
 mod selection_walk;
+mod shared_key;
+mod translation;
 
 pub use key::Key;
 pub use report::Report;

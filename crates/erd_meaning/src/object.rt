@@ -1,9 +1,11 @@
 ghost use Rattle.std.specs.Prelude.{◌≡◌};
+ghost use Rattle.std.specs.Option.{option_copied};
 ghost use Rattle.erd_meaning.specs.Lookups.{is_of_family, is_keyed, is_named};
 ghost use Rattle.erd_meaning.specs.ObjectWalk.{has_same_key, has_same_id};
 ghost use Rattle.erd_meaning.specs.Shown.{shown};
 
 use crate::key::Key;
+use crate::shared_key::SharedKey;
 use erd_tables::Family;
 use serde_json::Value;
 
@@ -12,7 +14,7 @@ use serde_json::Value;
 pub(crate) struct Object<'a> {
     pub(crate) family: Family,
     pub(crate) value: &'a Value,
-    pub(crate) key: Option<Key>,
+    pub(crate) key: Option<SharedKey>,
     pub(crate) id: Option<&'a str>,
 }
 
@@ -27,6 +29,16 @@ impl<'a> Object<'a> {
         match (&self.key, &other.key) {
             (Some(key), Some(other)) => key.cmp(other).is_eq(),
             _ => false,
+        }
+    }
+
+    /// The key, if there is one.
+    pub(crate) fn shown_key(&self) -> Option<&Key>
+        ensures { option_copied result ≡ self.now.key }
+    {
+        match &self.key {
+            Some(shared) => Some(shared.key()),
+            None => None,
         }
     }
 
@@ -55,7 +67,7 @@ impl<'a> Object<'a> {
             return false;
         }
         match &self.key {
-            Some(own) => own.cmp(key).is_eq(),
+            Some(own) => own.key().cmp(key).is_eq(),
             None => false,
         }
     }

@@ -98,7 +98,7 @@ impl<'a> Report<'a> {
         ensures { option_copied result ≡ key_in family (view self.now) index }
     {
         match nth_of(&self.objects, family, index) {
-            Some(object) => object.key.as_ref(),
+            Some(object) => object.shown_key(),
             None => None,
         }
     }

@@ -9,7 +9,7 @@ returns-in-Some c =
     let names = c.self.inside.names.items in
     let resolved : IsResolved c.args.self.now c.deref.result.now names =
     subst (λ v. IsResolved v c.deref.result.now names) c.self.view_is (subst (λ os. IsResolved c.self.inside.tree.now os names) (sym c.deref.ensures.value) c.self.invariant) in
-    c.as_ref.ensures.value ∙ ap (option_and_then (λ (k : Kept). k.key)) c.in-Some.ensures
+    c.shown_key.ensures ∙ ap (option_and_then (λ (k : Kept). k.key)) c.in-Some.ensures
     ∙ part_at (λ k. k.key) c.args.self.now c.deref.result.now names c.args.family c.args.index resolved
 
 pub returns-in-None : goal.returns-in-None
