@@ -38,3 +38,5 @@ pub mod WholeParts
 pub mod AmongNames
 pub mod SelectionsMet
 pub mod FoundSelections
+pub mod WalkedNames
+pub mod Refused
