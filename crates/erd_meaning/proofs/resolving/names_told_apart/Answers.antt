@@ -14,7 +14,7 @@ returns-then-len-eq0-clause-told_apart c =
     let tree = view c.args.tree.now in
     let walked : NamesWalked before after kept tree =
     record { no_name = c.new.ensures.items; no_fault = c.new-2.ensures.items; kept = c.requires.kept; met = c.in_ok-meet_selections.ensures } in
-    no_twin_left before after kept tree walked c.of-list.result c.of-list.ensures (sym c.len.ensures ∙ c.if-len-eq0.true)
+    no_twin_left before after kept tree walked c.of-twins.result c.of-twins.ensures (sym c.len.ensures ∙ c.if-len-eq0.true)
 
 pub returns-then-len-eq0-clause-named : goal.returns-then-len-eq0-clause-named
 returns-then-len-eq0-clause-named c =
@@ -34,6 +34,6 @@ returns-else-len-eq0-clause-refused c =
     let tree = view c.args.tree.now in
     let walked : NamesWalked before after kept tree =
     record { no_name = c.new.ensures.items; no_fault = c.new-2.ensures.items; kept = c.requires.kept; met = c.in_ok-meet_selections.ensures } in
-    let list = c.of-list.result in
+    let list = c.of-twins.result in
     let some : list ≢ [] = λ empty. let zero : length list ≡ 0 = ap length empty in c.if-len-eq0.false (c.len.ensures ∙ zero) in
-    (twins_left before after kept tree walked list c.of-list.ensures, some)
+    (twins_left before after kept tree walked list c.of-twins.ensures, some)
