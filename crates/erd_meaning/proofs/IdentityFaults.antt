@@ -66,7 +66,7 @@ none_from : {A : Type 0} (o : Option A) → is_none o ≡ true → o ≡ None
 none_from None e = refl
 none_from (Some x) e = absurd (true≢false (sym e))
 
-tied_from : (o : Ordering) → is_eq o ≡ true → o ≡ Equal
+pub tied_from : (o : Ordering) → is_eq o ≡ true → o ≡ Equal
 tied_from Less e = absurd (true≢false (sym e))
 tied_from Equal e = refl
 tied_from Greater e = absurd (true≢false (sym e))
@@ -196,7 +196,7 @@ identity_told t = told [] (all_located t)
 abbrev completed : (t : Data) (f : Family) (o : Placed) → In o (objects f t) → Complete [] (all_located t) (located_one f o)
 completed t f o i = complete [] (all_located t) (located_one f o) (all_parted t) (is_met t f o i)
 
-at_true : (b : Bool) (f : Fault) → b ≡ true → In f (fault_if b f)
+pub at_true : (b : Bool) (f : Fault) → b ≡ true → In f (fault_if b f)
 at_true true f e = inl refl
 at_true false f e = absurd (true≢false (sym e))
 

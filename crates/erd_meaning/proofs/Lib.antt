@@ -29,5 +29,14 @@ pub mod OneObject
 pub mod Found
 pub mod ReferenceLookups
 pub mod ReferenceWalks
-pub mod WholeNumbers
 pub mod MetSelections
+pub mod NamesTold
+pub mod NumberedSelections
+pub mod SelectionFaults
+pub mod RisingLists
+pub mod WholeParts
+pub mod AmongNames
+pub mod SelectionsMet
+pub mod FoundSelections
+pub mod WalkedNames
+pub mod Refused

@@ -32,7 +32,7 @@ passed f g e (o ∷ os) = rw e (passed f g e os)
 pick-append : (f : Family) (xs ys us vs : List Located) → pick f xs ≡ us → pick f ys ≡ vs → pick f (xs ++ ys) ≡ us ++ vs
 pick-append f xs ys us vs a b = filter-append (is_of f) xs ys ∙ ap₂ ◌++◌ a b
 
-located-append : (f : Family) (xs ys : List Placed) → located f (xs ++ ys) ≡ located f xs ++ located f ys
+pub located-append : (f : Family) (xs ys : List Placed) → located f (xs ++ ys) ≡ located f xs ++ located f ys
 located-append f [] ys = refl
 located-append f (x ∷ xs) ys = ap (λ zs. located_one f x ∷ zs) (located-append f xs ys)
 

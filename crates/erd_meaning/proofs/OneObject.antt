@@ -27,7 +27,7 @@ in_at [] i x e = cc
 in_at (y ∷ xs) zero x e = let same : y ≡ x = cc in inl same
 in_at (y ∷ xs) (suc i) x e = inr (in_at xs i x e)
 
-sorted_at : {A : Type 0} (cmp : A → A → Ordering) (xs : List A) (i j : ℕ) (x y : A) → IsStrictlySortedBy cmp xs → i < j
+pub sorted_at : {A : Type 0} (cmp : A → A → Ordering) (xs : List A) (i j : ℕ) (x y : A) → IsStrictlySortedBy cmp xs → i < j
     → slice_get xs i ≡ Some x → slice_get xs j ≡ Some y → cmp x y ≡ Less
 unfolding IsStrictlySortedBy
 sorted_at cmp [] i j x y s l a b = cc
@@ -65,7 +65,7 @@ with_part {A} g f t i a e = from (slice_get (objects f t) i) refl e
 pub object_in : (f : Family) (t : Data) (i : ℕ) (o : ObjectIn f t i) → In o.one (objects f t)
 object_in f t i o = in_at (objects f t) i o.one o.at
 
-family_apart : (f : Family) (t : Data) → AreApart (located f (objects f t))
+pub family_apart : (f : Family) (t : Data) → AreApart (located f (objects f t))
 family_apart f t = subst AreApart (objects_met f t) (sorted_filter (is_of f) apart (all_located t) (all_parted t))
 
 located_at : (f : Family) (t : Data) (i : ℕ) (o : ObjectIn f t i) → slice_get (located f (objects f t)) i ≡ Some (located_one f o.one)
@@ -76,7 +76,7 @@ before_in f t i j a b l =
     before_apart (located_one f a.one) (located_one f b.one)
     (sorted_at apart (located f (objects f t)) i j (located_one f a.one) (located_one f b.one) (family_apart f t) l (located_at f t i a) (located_at f t j b))
 
-which_first : (i j : ℕ) → (i ≡ j) ⊎ ((i < j) ⊎ (j < i))
+pub which_first : (i j : ℕ) → (i ≡ j) ⊎ ((i < j) ⊎ (j < i))
 which_first i j = grind arith
 
 -- ---- one key

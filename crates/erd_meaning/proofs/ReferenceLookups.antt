@@ -29,7 +29,7 @@ text_same : (a b : List ℕ) → bytes_eq a b ≡ bytes_eq b a
 text_same a b =
     both_tests (bytes_eq a b) (bytes_eq b a) (λ h. (bytes_eq-Decides b a).1 (sym ((bytes_eq-Decides a b).0 h))) (λ h. (bytes_eq-Decides a b).1 (sym ((bytes_eq-Decides b a).0 h)))
 
-find_both : {A : Type 0} (p q : A → Bool) (xs : List A) → find (λ x. p x && q x) xs ≡ find q (filter p xs)
+pub find_both : {A : Type 0} (p q : A → Bool) (xs : List A) → find (λ x. p x && q x) xs ≡ find q (filter p xs)
 find_both p q [] = refl
 find_both {A} p q (x ∷ xs) = at (p x) (find_both p q xs)
   where
@@ -58,7 +58,7 @@ found_any g q p (x ∷ xs) h = at (q x) (p x) (found_any g q p xs) h
 
 -- ---- the object of a family
 
-named_same : (id : List ℕ) (o : Option (List ℕ)) → same_id o (Some id) ≡ option_map_or (bytes_eq id) o false
+pub named_same : (id : List ℕ) (o : Option (List ℕ)) → same_id o (Some id) ≡ option_map_or (bytes_eq id) o false
 named_same id None = refl
 named_same id (Some a) = text_same a id
 

@@ -24,6 +24,7 @@ use Rattle.erd_check.proofs.Rising.{Has, Has-cases, here, later}
 use Rattle.erd_check.proofs.ObjectsAt.{MayBeArray, ObjectAt, ObjectIn, is_filled_array, keyed_list, is_absent, object_in}
 use Rattle.erd_check.specs.declared.want.Want.TheVariants.{Member, Object}
 use Rattle.erd_check.proofs.Shapes.{Within, asked_inside_object, asked_at-step}
+use Rattle.erd_check.specs.Faults.{NoneOf, ShapeFault}
 use Rattle.erd_check.specs.Wants.{asked, asked_inside, asked_at}
 use Rattle.erd_check.proofs.Entries.{entries_in}
 use Rattle.erd_check.specs.Trees.{list_of_items}
@@ -34,7 +35,7 @@ use Rattle.erd_meaning.proofs.References.{Contains-Has, find-Some, find-any, opt
 use Rattle.erd_meaning.specs.Accepted.{IsAccepted}
 use Rattle.erd_meaning.specs.LaterFaults.{IsBefore}
 use Rattle.erd_meaning.specs.Objects.{Placed, contests, elections, has_id, id_of, objects, owner, placed_entries, placed_from, report_of, selections_of}
-use Rattle.erd_meaning.proofs.Skeleton.{Skeleton, election_objects, skeleton, the_election}
+use Rattle.erd_meaning.proofs.Skeleton.{Skeleton, election_objects, skeleton_of_shape, the_election}
 use Rattle.erd_meaning.proofs.Sets.{any-has}
 use Rattle.erd_meaning.specs.Keys.{entries_at, key_of, has_keys}
 use Rattle.erd_meaning.specs.SelectionNames.{name_of}
@@ -69,11 +70,11 @@ entries_found t parent w q c ms is a stands f name other keyed found_at e (is_fi
     ap (asked_at t) (j.1 ∙ ap (λ n. (parent.place ++ Name name ∷ []) ++ At n ∷ []) s)
     ∙ asked_at-step t (parent.place ++ Name name ∷ []) (asked (Member (kind.Keyed f) (is_required c name)) (array ds)) (asked (Object (role.OfFamily f)) o.value) (At j.0) above (rw j.2)
 
-pub placed_found : (t : Data) → IsAccepted t → (parent : Placed) (w : Want) (q : Role) (c : Class) (ms : Members) → parent.value ≡ object ms → ObjectAt t w q c ms → asked_at t parent.place ≡ Some (asked w (object ms))
+pub placed_found : (t : Data) → NoneOf (ShapeFault t) → (parent : Placed) (w : Want) (q : Role) (c : Class) (ms : Members) → parent.value ≡ object ms → ObjectAt t w q c ms → asked_at t parent.place ≡ Some (asked w (object ms))
     → (f : Family) (name : List ℕ) → bytes_eq name (codes "@type") ≡ false → kind_of_member c name ≡ kind.Keyed f
     → (o : Placed) → Has (placed_entries name parent) o → asked_at t o.place ≡ Some (asked (Object (role.OfFamily f)) o.value)
-placed_found t accepted parent w q c ms is a stands f name other keyed o h =
-    entries_found t parent w q c ms is a stands f name other keyed (get_member name ms) refl (keyed_list t (no_shape_fault t accepted) w q c ms a f name other keyed (get_member name ms) refl) o
+placed_found t none parent w q c ms is a stands f name other keyed o h =
+    entries_found t parent w q c ms is a stands f name other keyed (get_member name ms) refl (keyed_list t none w q c ms a f name other keyed (get_member name ms) refl) o
     (subst (λ x. Has (placed_from (parent.place ++ Name name ∷ []) 0 (entries_at name x)) o) is h)
 
 election_stands : (t : Data) (s : Skeleton t) → asked_at t (Name (codes "Election") ∷ At 0 ∷ []) ≡ Some (asked (Object role.Election) (object s.es))
@@ -84,28 +85,28 @@ election_stands t s =
     (asked_inside_object (Object role.Report) role.Report s.ms class.ElectionReport (codes "Election") (array (item (object s.es) no_items)) s.report.asks s.report.among refl s.listed_election)))
     refl
 
-in_report : (t : Data) → IsAccepted t → (s : Skeleton t) (f : Family) (name : List ℕ) → bytes_eq name (codes "@type") ≡ false → kind_of_member class.ElectionReport name ≡ kind.Keyed f
+in_report : (t : Data) → NoneOf (ShapeFault t) → (s : Skeleton t) (f : Family) (name : List ℕ) → bytes_eq name (codes "@type") ≡ false → kind_of_member class.ElectionReport name ≡ kind.Keyed f
     → (o : Placed) → Has (placed_entries name (report_of t)) o → asked_at t o.place ≡ Some (asked (Object (role.OfFamily f)) o.value)
-in_report t accepted s f name other keyed o h =
-    placed_found t accepted (report_of t) (Object role.Report) role.Report class.ElectionReport s.ms s.is_object s.report (ap (λ x. Some (asked (Object role.Report) x)) s.is_object) f name other keyed o h
+in_report t none s f name other keyed o h =
+    placed_found t none (report_of t) (Object role.Report) role.Report class.ElectionReport s.ms s.is_object s.report (ap (λ x. Some (asked (Object role.Report) x)) s.is_object) f name other keyed o h
 
-in_election : (t : Data) → IsAccepted t → (s : Skeleton t) (f : Family) (name : List ℕ) → bytes_eq name (codes "@type") ≡ false → kind_of_member class.Election name ≡ kind.Keyed f
+in_election : (t : Data) → NoneOf (ShapeFault t) → (s : Skeleton t) (f : Family) (name : List ℕ) → bytes_eq name (codes "@type") ≡ false → kind_of_member class.Election name ≡ kind.Keyed f
     → (o : Placed) → Has (flat_map (placed_entries name) (elections t)) o → asked_at t o.place ≡ Some (asked (Object (role.OfFamily f)) o.value)
-in_election t accepted s f name other keyed o h =
-    placed_found t accepted (the_election s.es) (Object role.Election) role.Election class.Election s.es refl s.election (election_stands t s) f name other keyed o
+in_election t none s f name other keyed o h =
+    placed_found t none (the_election s.es) (Object role.Election) role.Election class.Election s.es refl s.election (election_stands t s) f name other keyed o
     (subst (λ xs. Has xs o) (election_objects t s name) h)
 
 -- an object of a family stands at its place
-keyed_stands : (t : Data) → IsAccepted t → (s : Skeleton t) (f : Family) → has_keys f ≡ true → (o : Placed) → Has (objects f t) o → asked_at t o.place ≡ Some (asked (Object (role.OfFamily f)) o.value)
-keyed_stands t accepted s family.Unit k o h = in_report t accepted s family.Unit (codes "GpUnit") refl refl o h
-keyed_stands t accepted s family.Party k o h = in_report t accepted s family.Party (codes "Party") refl refl o h
-keyed_stands t accepted s family.Person k o h = in_report t accepted s family.Person (codes "Person") refl refl o h
-keyed_stands t accepted s family.Office k o h = in_report t accepted s family.Office (codes "Office") refl refl o h
-keyed_stands t accepted s family.Header k o h = in_report t accepted s family.Header (codes "Header") refl refl o h
-keyed_stands t accepted s family.Candidate k o h = in_election t accepted s family.Candidate (codes "Candidate") refl refl o h
-keyed_stands t accepted s family.Contest k o h = in_election t accepted s family.Contest (codes "Contest") refl refl o h
-keyed_stands t accepted s family.Style k o h = in_election t accepted s family.Style (codes "BallotStyle") refl refl o h
-keyed_stands t accepted s family.Selection k o h = cc
+keyed_stands : (t : Data) → NoneOf (ShapeFault t) → (s : Skeleton t) (f : Family) → has_keys f ≡ true → (o : Placed) → Has (objects f t) o → asked_at t o.place ≡ Some (asked (Object (role.OfFamily f)) o.value)
+keyed_stands t none s family.Unit k o h = in_report t none s family.Unit (codes "GpUnit") refl refl o h
+keyed_stands t none s family.Party k o h = in_report t none s family.Party (codes "Party") refl refl o h
+keyed_stands t none s family.Person k o h = in_report t none s family.Person (codes "Person") refl refl o h
+keyed_stands t none s family.Office k o h = in_report t none s family.Office (codes "Office") refl refl o h
+keyed_stands t none s family.Header k o h = in_report t none s family.Header (codes "Header") refl refl o h
+keyed_stands t none s family.Candidate k o h = in_election t none s family.Candidate (codes "Candidate") refl refl o h
+keyed_stands t none s family.Contest k o h = in_election t none s family.Contest (codes "Contest") refl refl o h
+keyed_stands t none s family.Style k o h = in_election t none s family.Style (codes "BallotStyle") refl refl o h
+keyed_stands t none s family.Selection k o h = cc
 
 has-append : {A : Type 0} (xs ys : List A) (x : A) → Has (xs ++ ys) x → Has xs x ⊎ Has ys x
 has-append [] ys x h = inr h
@@ -135,25 +136,28 @@ contest_selections class.PartyContest e = refl
 contest_selections c e = cc
 
 -- a selection stands at its place in its contest
-selection_stands : (t : Data) → IsAccepted t → (contest : Placed) → asked_at t contest.place ≡ Some (asked (Object (role.OfFamily family.Contest)) contest.value)
+selection_stands : (t : Data) → NoneOf (ShapeFault t) → (contest : Placed) → asked_at t contest.place ≡ Some (asked (Object (role.OfFamily family.Contest)) contest.value)
     → (o : Placed) → Has (placed_entries (codes "ContestSelection") contest) o → asked_at t o.place ≡ Some (asked (Object (role.OfFamily family.Selection)) o.value)
-selection_stands t accepted contest stands o h =
-    let a : ObjectIn t (role.OfFamily family.Contest) contest.value = object_in t (no_shape_fault t accepted) (role.OfFamily family.Contest) contest.value (record { place = contest.place; is = stands }) in
-    placed_found t accepted contest (Object (role.OfFamily family.Contest)) (role.OfFamily family.Contest) a.class a.ms a.is_object a.at
+selection_stands t none contest stands o h =
+    let a : ObjectIn t (role.OfFamily family.Contest) contest.value = object_in t none (role.OfFamily family.Contest) contest.value (record { place = contest.place; is = stands }) in
+    placed_found t none contest (Object (role.OfFamily family.Contest)) (role.OfFamily family.Contest) a.class a.ms a.is_object a.at
     (stands ∙ ap (λ x. Some (asked (Object (role.OfFamily family.Contest)) x)) a.is_object) family.Selection (codes "ContestSelection") refl (contest_selections a.class a.role) o h
 
-pub stands : (t : Data) → IsAccepted t → (f : Family) (o : Placed) → Has (objects f t) o → asked_at t o.place ≡ Some (asked (Object (role.OfFamily f)) o.value)
-stands t accepted family.Unit o h = keyed_stands t accepted (skeleton t accepted) family.Unit refl o h
-stands t accepted family.Party o h = keyed_stands t accepted (skeleton t accepted) family.Party refl o h
-stands t accepted family.Person o h = keyed_stands t accepted (skeleton t accepted) family.Person refl o h
-stands t accepted family.Office o h = keyed_stands t accepted (skeleton t accepted) family.Office refl o h
-stands t accepted family.Header o h = keyed_stands t accepted (skeleton t accepted) family.Header refl o h
-stands t accepted family.Candidate o h = keyed_stands t accepted (skeleton t accepted) family.Candidate refl o h
-stands t accepted family.Contest o h = keyed_stands t accepted (skeleton t accepted) family.Contest refl o h
-stands t accepted family.Style o h = keyed_stands t accepted (skeleton t accepted) family.Style refl o h
-stands t accepted family.Selection o h =
+pub stands_of_shape : (t : Data) → NoneOf (ShapeFault t) → (f : Family) (o : Placed) → Has (objects f t) o → asked_at t o.place ≡ Some (asked (Object (role.OfFamily f)) o.value)
+stands_of_shape t none family.Unit o h = keyed_stands t none (skeleton_of_shape t none) family.Unit refl o h
+stands_of_shape t none family.Party o h = keyed_stands t none (skeleton_of_shape t none) family.Party refl o h
+stands_of_shape t none family.Person o h = keyed_stands t none (skeleton_of_shape t none) family.Person refl o h
+stands_of_shape t none family.Office o h = keyed_stands t none (skeleton_of_shape t none) family.Office refl o h
+stands_of_shape t none family.Header o h = keyed_stands t none (skeleton_of_shape t none) family.Header refl o h
+stands_of_shape t none family.Candidate o h = keyed_stands t none (skeleton_of_shape t none) family.Candidate refl o h
+stands_of_shape t none family.Contest o h = keyed_stands t none (skeleton_of_shape t none) family.Contest refl o h
+stands_of_shape t none family.Style o h = keyed_stands t none (skeleton_of_shape t none) family.Style refl o h
+stands_of_shape t none family.Selection o h =
     let c = has-flat (placed_entries (codes "ContestSelection")) (contests t) o h in
-    selection_stands t accepted c.0 (keyed_stands t accepted (skeleton t accepted) family.Contest refl c.0 c.1) o c.2
+    selection_stands t none c.0 (keyed_stands t none (skeleton_of_shape t none) family.Contest refl c.0 c.1) o c.2
+
+pub stands : (t : Data) → IsAccepted t → (f : Family) (o : Placed) → Has (objects f t) o → asked_at t o.place ≡ Some (asked (Object (role.OfFamily f)) o.value)
+stands t accepted = stands_of_shape t (no_shape_fault t accepted)
 
 -- two objects of which neither is before the other are one
 pub one_placed : (t : Data) → IsAccepted t → (f g : Family) (o p : Placed) → Has (objects f t) o → Has (objects g t) p → (IsBefore o p → ⊥) → (IsBefore p o → ⊥) → o ≡ p

@@ -34,7 +34,7 @@ met_faults m (x ∷ xs) =
 pub less_itself : (p : List Step) → place_cmp p p ≡ Less → ⊥
 less_itself p e = let h = sym (place_same p) ∙ e in cc
 
-turned : (p q : List Step) → place_cmp p q ≡ Less → place_cmp q p ≡ Less → ⊥
+pub turned : (p q : List Step) → place_cmp p q ≡ Less → place_cmp q p ≡ Less → ⊥
 turned p q a b = less_itself p (place_cmp_total.trans p q p a b)
 
 pub before_apart : (x y : Located) → apart x y ≡ Less → place_cmp x.place y.place ≡ Less
@@ -122,7 +122,7 @@ in_if true f g (inl e) = (refl, e)
 in_if true f g (inr h) = absurd h
 in_if false f g h = absurd h
 
-if_sorted : (b : Bool) (f : Fault) → IsStrictlySortedBy fault_cmp (fault_if b f)
+pub if_sorted : (b : Bool) (f : Fault) → IsStrictlySortedBy fault_cmp (fault_if b f)
 unfolding IsStrictlySortedBy
 if_sorted true f = (tt, tt)
 if_sorted false f = tt

@@ -1,6 +1,6 @@
 -- The names of the selections of a report in the order of their places, as the program goes over them, with the faults of
--- selections that it tells on the way. It is no definition of the profile: that the names are those of `selection_in`, and the
--- faults those of `SelectionFault`, is proved in `SelectionsMet`.
+-- selections that it tells on the way. It is no definition of the profile: that the names are those of `selection_in` is
+-- proved in `SelectionsMet`, and that the faults are those of `SelectionFault` in `SelectionFaults`.
 use Rattle.std.specs.Prelude.{ℕ, List, [], ◌∷◌, ◌++◌, Bool, ◌&&◌, ◌==◌, Option}
 use Rattle.std.specs.List.{list_any}
 use Rattle.std.specs.Option.{option_map_or}

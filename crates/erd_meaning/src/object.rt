@@ -1,4 +1,5 @@
 ghost use Rattle.std.specs.Prelude.{◌≡◌};
+ghost use Rattle.std.specs.Option.{option_copied};
 ghost use Rattle.erd_meaning.specs.Lookups.{is_of_family, is_keyed, is_named};
 ghost use Rattle.erd_meaning.specs.ObjectWalk.{has_same_key, has_same_id};
 ghost use Rattle.erd_meaning.specs.Shown.{shown};
@@ -28,6 +29,16 @@ impl<'a> Object<'a> {
         match (&self.key, &other.key) {
             (Some(key), Some(other)) => key.cmp(other).is_eq(),
             _ => false,
+        }
+    }
+
+    /// The key, if there is one.
+    pub(crate) fn shown_key(&self) -> Option<&Key>
+        ensures { option_copied result ≡ self.now.key }
+    {
+        match &self.key {
+            Some(shared) => Some(shared.key()),
+            None => None,
         }
     }
 

@@ -98,10 +98,7 @@ impl<'a> Report<'a> {
         ensures { option_copied result ≡ key_in family (view self.now) index }
     {
         match nth_of(&self.objects, family, index) {
-            Some(object) => match &object.key {
-                Some(shared) => Some(shared.key()),
-                None => None,
-            },
+            Some(object) => object.shown_key(),
             None => None,
         }
     }

@@ -52,11 +52,11 @@ fn objects_told_apart<'a>(alloc: Global, tree: &'a Value) -> Result<Vec<Object<'
     };
     meet_report(alloc, tree, &mut walk)?;
     let ObjectWalk { objects, faults } = walk;
-    let list = FaultList::of(faults);
-    if list.len() == 0 {
+    let identity = FaultList::of(faults);
+    if identity.len() == 0 {
         Ok(objects)
     } else {
-        Err(CheckError::Faults(list))
+        Err(CheckError::Faults(identity))
     }
 }
 
@@ -66,11 +66,11 @@ fn check_references(alloc: Global, tree: &Value, objects: &[Object]) -> Result<(
     ensures referred { IfOk result (λ _. IsReferred tree.now) }
     ensures refused { IfErr result (RefusedFor (ReferenceFault (view tree.now))) }
 {
-    let list = reference_faults(alloc, tree, objects)?;
-    if list.len() == 0 {
+    let references = reference_faults(alloc, tree, objects)?;
+    if references.len() == 0 {
         Ok(())
     } else {
-        Err(CheckError::Faults(list))
+        Err(CheckError::Faults(references))
     }
 }
 
@@ -93,10 +93,10 @@ fn names_told_apart(
     };
     meet_selections(alloc, tree, objects, &mut walk)?;
     let SelectionWalk { names, faults } = walk;
-    let list = FaultList::of(faults);
-    if list.len() == 0 {
+    let twins = FaultList::of(faults);
+    if twins.len() == 0 {
         Ok(names)
     } else {
-        Err(CheckError::Faults(list))
+        Err(CheckError::Faults(twins))
     }
 }

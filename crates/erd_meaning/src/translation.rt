@@ -19,10 +19,9 @@ pub(crate) struct Translation<'a> {
 impl<'a> Model for Translation<'a> {
     ghost use Rattle.std.specs.Prelude.{◌≡◌};
     ghost use Rattle.std.specs.Coded.{codes};
-    ghost use Rattle.serde_json.specs.View.{view};
-    ghost use Rattle.serde_json.specs.Written.{compact_text};
     ghost use Rattle.serde_json.specs.contracts.value.Value as tree_value;
     ghost use Rattle.serde_json.specs.declared.value.Value.{Value as Tree};
+    ghost use Rattle.erd_meaning.specs.TranslationOrder.{tree_text};
 
     ghost Value = { Tree };
 
@@ -30,7 +29,7 @@ impl<'a> Model for Translation<'a> {
 
     ghost view = { λ t. t.value.now };
 
-    ghost invariant = { λ t. t.text ≡ compact_text (view t.value.now) };
+    ghost invariant = { λ t. t.text ≡ tree_text t.value.now };
 }
 
 impl<'a> Translation<'a> {

@@ -8,7 +8,7 @@ use Rattle.erd_meaning.specs.SelectionWalk.{named_all}
 use Rattle.erd_meaning.specs.Shown.{names_met, shown}
 use Rattle.erd_meaning.proofs.MetSelections.{all_named, named_inside, selections_here}
 use Rattle.erd_meaning.proofs.Skeleton.{one_election}
-use Rattle.erd_meaning.proofs.WholeNumbers.{read_whole}
+use Rattle.erd_meaning.proofs.WholeParts.{whole_entry}
 use Rattle.erd_meaning.proofs.selection_walk.meet_selections.Goals as goal
 
 -- the place of the contests
@@ -27,9 +27,9 @@ meet_contest-requires c =
     let one : length c.entries.result.now ≡ 1 = ap length found.alone in
     let inside : 0 < length c.entries.result.now = omega (arith, one) in
     let election : has_float (view c.index-entries-0.result) ≡ false =
-    read_whole (codes "Election") (view c.args.report.now) c.entries.result.now 0 c.index-entries-0.result c.requires.whole c.entries.ensures inside c.index-entries-0.is in
+    whole_entry (codes "Election") (view c.args.report.now) c.entries.result.now 0 c.index-entries-0.result c.requires.whole c.entries.ensures inside c.index-entries-0.is in
     record {
-      whole = read_whole (codes "Contest") (view c.index-entries-0.result) c.entries-contest-items.result.now c.loop-index.index c.contest-item.result election
+      whole = whole_entry (codes "Contest") (view c.index-entries-0.result) c.entries-contest-items.result.now c.loop-index.index c.contest-item.result election
           c.entries-contest-items.ensures c.loop-index-test.true c.contest-item.is;
     }
 

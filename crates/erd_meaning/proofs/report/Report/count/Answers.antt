@@ -5,6 +5,7 @@ use Rattle.erd_meaning.proofs.report.Report.count.Goals as goal
 
 pub returns : goal.returns
 returns c =
-    let resolved : IsResolved c.args.self.now c.deref.result.now =
-    subst (λ v. IsResolved v c.deref.result.now) c.self.view_is (subst (IsResolved c.self.inside.tree.now) (sym c.deref.ensures.value) c.self.invariant) in
-    c.count_of.ensures ∙ counted c.args.self.now c.deref.result.now c.args.family resolved
+    let names = c.self.inside.names.items in
+    let resolved : IsResolved c.args.self.now c.deref.result.now names =
+    subst (λ v. IsResolved v c.deref.result.now names) c.self.view_is (subst (λ os. IsResolved c.self.inside.tree.now os names) (sym c.deref.ensures.value) c.self.invariant) in
+    c.count_of.ensures ∙ counted c.args.self.now c.deref.result.now names c.args.family resolved

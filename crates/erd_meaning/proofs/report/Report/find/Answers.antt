@@ -5,14 +5,16 @@ use Rattle.erd_meaning.proofs.report.Report.find.Goals as goal
 
 pub returns-in-Some : goal.returns-in-Some
 returns-in-Some c =
-    let resolved : IsResolved c.args.self.now c.deref.result.now =
-    subst (λ v. IsResolved v c.deref.result.now) c.self.view_is (subst (IsResolved c.self.inside.tree.now) (sym c.deref.ensures.value) c.self.invariant) in
+    let names = c.self.inside.names.items in
+    let resolved : IsResolved c.args.self.now c.deref.result.now names =
+    subst (λ v. IsResolved v c.deref.result.now names) c.self.view_is (subst (λ os. IsResolved c.self.inside.tree.now os names) (sym c.deref.ensures.value) c.self.invariant) in
     let counted : c.count_of.result ≡ rank c.args.family c.deref.result.now c.in-Some.place =
     c.count_of.ensures ∙ ap (λ os. rank c.args.family os c.in-Some.place) (c.deref-in-Some.ensures.value ∙ sym c.deref.ensures.value) in
-    key_found c.args.self.now c.deref.result.now c.args.family c.args.key.now c.in-Some.place c.count_of.result resolved (sym c.in-Some.ensures) counted
+    key_found c.args.self.now c.deref.result.now names c.args.family c.args.key.now c.in-Some.place c.count_of.result resolved (sym c.in-Some.ensures) counted
 
 pub returns-in-None : goal.returns-in-None
 returns-in-None c =
-    let resolved : IsResolved c.args.self.now c.deref.result.now =
-    subst (λ v. IsResolved v c.deref.result.now) c.self.view_is (subst (IsResolved c.self.inside.tree.now) (sym c.deref.ensures.value) c.self.invariant) in
-    key_missed c.args.self.now c.deref.result.now c.args.family c.args.key.now resolved (sym c.in-None.ensures)
+    let names = c.self.inside.names.items in
+    let resolved : IsResolved c.args.self.now c.deref.result.now names =
+    subst (λ v. IsResolved v c.deref.result.now names) c.self.view_is (subst (λ os. IsResolved c.self.inside.tree.now os names) (sym c.deref.ensures.value) c.self.invariant) in
+    key_missed c.args.self.now c.deref.result.now names c.args.family c.args.key.now resolved (sym c.in-None.ensures)

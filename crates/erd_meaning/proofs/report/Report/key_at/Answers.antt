@@ -6,13 +6,15 @@ use Rattle.erd_meaning.proofs.report.Report.key_at.Goals as goal
 
 pub returns-in-Some : goal.returns-in-Some
 returns-in-Some c =
-    let resolved : IsResolved c.args.self.now c.deref.result.now =
-    subst (λ v. IsResolved v c.deref.result.now) c.self.view_is (subst (IsResolved c.self.inside.tree.now) (sym c.deref.ensures.value) c.self.invariant) in
-    c.as_ref.ensures.value ∙ ap (option_and_then (λ (k : Kept). k.key)) c.in-Some.ensures
-    ∙ part_at (λ k. k.key) c.args.self.now c.deref.result.now c.args.family c.args.index resolved
+    let names = c.self.inside.names.items in
+    let resolved : IsResolved c.args.self.now c.deref.result.now names =
+    subst (λ v. IsResolved v c.deref.result.now names) c.self.view_is (subst (λ os. IsResolved c.self.inside.tree.now os names) (sym c.deref.ensures.value) c.self.invariant) in
+    c.shown_key.ensures ∙ ap (option_and_then (λ (k : Kept). k.key)) c.in-Some.ensures
+    ∙ part_at (λ k. k.key) c.args.self.now c.deref.result.now names c.args.family c.args.index resolved
 
 pub returns-in-None : goal.returns-in-None
 returns-in-None c =
-    let resolved : IsResolved c.args.self.now c.deref.result.now =
-    subst (λ v. IsResolved v c.deref.result.now) c.self.view_is (subst (IsResolved c.self.inside.tree.now) (sym c.deref.ensures.value) c.self.invariant) in
-    ap (option_and_then (λ (k : Kept). k.key)) c.in-None.ensures ∙ part_at (λ k. k.key) c.args.self.now c.deref.result.now c.args.family c.args.index resolved
+    let names = c.self.inside.names.items in
+    let resolved : IsResolved c.args.self.now c.deref.result.now names =
+    subst (λ v. IsResolved v c.deref.result.now names) c.self.view_is (subst (λ os. IsResolved c.self.inside.tree.now os names) (sym c.deref.ensures.value) c.self.invariant) in
+    ap (option_and_then (λ (k : Kept). k.key)) c.in-None.ensures ∙ part_at (λ k. k.key) c.args.self.now c.deref.result.now names c.args.family c.args.index resolved

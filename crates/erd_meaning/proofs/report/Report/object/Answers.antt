@@ -6,12 +6,14 @@ use Rattle.erd_meaning.proofs.report.Report.object.Goals as goal
 
 pub returns-in-Some : goal.returns-in-Some
 returns-in-Some c =
-    let resolved : IsResolved c.args.self.now c.deref.result.now =
-    subst (λ v. IsResolved v c.deref.result.now) c.self.view_is (subst (IsResolved c.self.inside.tree.now) (sym c.deref.ensures.value) c.self.invariant) in
-    ap (option_map (λ (k : Kept). k.value)) c.in-Some.ensures ∙ value_at c.args.self.now c.deref.result.now c.args.family c.args.index resolved
+    let names = c.self.inside.names.items in
+    let resolved : IsResolved c.args.self.now c.deref.result.now names =
+    subst (λ v. IsResolved v c.deref.result.now names) c.self.view_is (subst (λ os. IsResolved c.self.inside.tree.now os names) (sym c.deref.ensures.value) c.self.invariant) in
+    ap (option_map (λ (k : Kept). k.value)) c.in-Some.ensures ∙ value_at c.args.self.now c.deref.result.now names c.args.family c.args.index resolved
 
 pub returns-in-None : goal.returns-in-None
 returns-in-None c =
-    let resolved : IsResolved c.args.self.now c.deref.result.now =
-    subst (λ v. IsResolved v c.deref.result.now) c.self.view_is (subst (IsResolved c.self.inside.tree.now) (sym c.deref.ensures.value) c.self.invariant) in
-    ap (option_map (λ (k : Kept). k.value)) c.in-None.ensures ∙ value_at c.args.self.now c.deref.result.now c.args.family c.args.index resolved
+    let names = c.self.inside.names.items in
+    let resolved : IsResolved c.args.self.now c.deref.result.now names =
+    subst (λ v. IsResolved v c.deref.result.now names) c.self.view_is (subst (λ os. IsResolved c.self.inside.tree.now os names) (sym c.deref.ensures.value) c.self.invariant) in
+    ap (option_map (λ (k : Kept). k.value)) c.in-None.ensures ∙ value_at c.args.self.now c.deref.result.now names c.args.family c.args.index resolved

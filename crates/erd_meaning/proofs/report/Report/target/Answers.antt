@@ -5,16 +5,18 @@ use Rattle.erd_meaning.proofs.report.Report.target.Goals as goal
 
 pub returns-in-Some : goal.returns-in-Some
 returns-in-Some c =
-    let resolved : IsResolved c.args.self.now c.deref.result.now =
-    subst (λ v. IsResolved v c.deref.result.now) c.self.view_is (subst (IsResolved c.self.inside.tree.now) (sym c.deref.ensures.value) c.self.invariant) in
+    let names = c.self.inside.names.items in
+    let resolved : IsResolved c.args.self.now c.deref.result.now names =
+    subst (λ v. IsResolved v c.deref.result.now names) c.self.view_is (subst (λ os. IsResolved c.self.inside.tree.now os names) (sym c.deref.ensures.value) c.self.invariant) in
     let counted : c.count_of.result ≡ rank c.index.result.now.family c.deref.result.now c.in-Some.place =
     c.count_of.ensures ∙ ap (λ os. rank c.index.result.now.family os c.in-Some.place) (c.deref-in-Some.ensures.value ∙ sym c.deref.ensures.value) in
     let read : c.index.result.now ≡ get_or c.deref.result.now c.in-Some.place c.index.result.now =
     c.index.ensures ∙ ap (λ os. get_or os c.in-Some.place c.index.result.now) (sym c.deref.ensures.value) in
-    id_found c.args.self.now c.deref.result.now c.args.id.now c.in-Some.place c.count_of.result c.index.result.now resolved (sym c.in-Some.ensures) read counted
+    id_found c.args.self.now c.deref.result.now names c.args.id.now c.in-Some.place c.count_of.result c.index.result.now resolved (sym c.in-Some.ensures) read counted
 
 pub returns-in-None : goal.returns-in-None
 returns-in-None c =
-    let resolved : IsResolved c.args.self.now c.deref.result.now =
-    subst (λ v. IsResolved v c.deref.result.now) c.self.view_is (subst (IsResolved c.self.inside.tree.now) (sym c.deref.ensures.value) c.self.invariant) in
-    id_missed c.args.self.now c.deref.result.now c.args.id.now resolved (sym c.in-None.ensures)
+    let names = c.self.inside.names.items in
+    let resolved : IsResolved c.args.self.now c.deref.result.now names =
+    subst (λ v. IsResolved v c.deref.result.now names) c.self.view_is (subst (λ os. IsResolved c.self.inside.tree.now os names) (sym c.deref.ensures.value) c.self.invariant) in
+    id_missed c.args.self.now c.deref.result.now names c.args.id.now resolved (sym c.in-None.ensures)

@@ -1,0 +1,115 @@
+-- The parts of a value that has no fraction have none, and a label keeps it so with its translations in rising order.
+use Rattle.std.proofs.Common.{◌≡◌, ℕ, zero, suc, ◌<◌, length, get_or, List, [], ◌∷◌, map, cond, Bool, true, false, ◌||◌, Option, Some, None, codes, Ordering, Less, Equal, Greater, refl, sym, ap, ◌∙◌, subst, arith}
+use Rattle.std.specs.Cmp.Lexicographic.{slice_cmp}
+use Rattle.std.specs.List.{AllByRecursion}
+use Rattle.std.specs.Option.{option_map_or}
+use Rattle.std.specs.Ordering.{is_lt, match_ordering, nat_cmp}
+use Rattle.serde_json.specs.Data.{Data, null, boolean, number, string, array, object, Items, no_items, item, Members, no_members, member, put}
+use Rattle.serde_json.specs.Find.{get, get_member}
+use Rattle.serde_json.specs.View.{items_of, view}
+use Rattle.serde_json.specs.Written.{has_float, items_have_float, members_have_float}
+use Rattle.serde_json.specs.declared.value.Value.{Value}
+use Rattle.erd_check.specs.Trees.{entries_of, list_of_items}
+use Rattle.erd_meaning.specs.Keys.{entries_at}
+use Rattle.erd_meaning.specs.SelectionNames.{compact_cmp, rising_list, with_inserted, with_rising_text}
+
+-- values that have no fraction
+abbrev AreWhole : List Data → Type 0
+AreWhole ds = AllByRecursion (λ d. has_float d ≡ false) ds
+
+first_false : (a b : Bool) → a || b ≡ false → a ≡ false
+first_false true b e = e
+first_false false b e = refl
+
+second_false : (a b : Bool) → a || b ≡ false → b ≡ false
+second_false true b e = cc
+second_false false b e = e
+
+both_false : (a b : Bool) → a ≡ false → b ≡ false → a || b ≡ false
+both_false true b e f = e
+both_false false b e f = f
+
+-- ---- members and entries
+
+whole_member : (name : List ℕ) (ms : Members) (d : Data) → members_have_float ms ≡ false → get_member name ms ≡ Some d → has_float d ≡ false
+whole_member name no_members d h e = cc
+whole_member name (member l v ms) d h e = at (slice_cmp nat_cmp name l) (whole_member name ms d (second_false (has_float v) (members_have_float ms) h)) e
+  where
+    at : (o : Ordering) → (get_member name ms ≡ Some d → has_float d ≡ false) → match_ordering o (get_member name ms) (Some v) (get_member name ms) ≡ Some d → has_float d ≡ false
+    at Less rest k = rest k
+    at Equal rest k = let same : v ≡ d = cc in subst (λ w. has_float w ≡ false) same (first_false (has_float v) (members_have_float ms) h)
+    at Greater rest k = rest k
+
+pub whole_get : (name : List ℕ) (d v : Data) → has_float d ≡ false → get name d ≡ Some v → has_float v ≡ false
+whole_get name null v h e = cc
+whole_get name (boolean b) v h e = cc
+whole_get name (number n) v h e = cc
+whole_get name (string s) v h e = cc
+whole_get name (array ds) v h e = cc
+whole_get name (object ms) v h e = whole_member name ms v h e
+
+whole_items : (ds : Items) → items_have_float ds ≡ false → AreWhole (list_of_items ds)
+whole_items no_items h = tt
+whole_items (item d ds) h = (first_false (has_float d) (items_have_float ds) h, whole_items ds (second_false (has_float d) (items_have_float ds) h))
+
+whole_entries_of : (d : Data) → has_float d ≡ false → AreWhole (entries_of d)
+whole_entries_of null h = tt
+whole_entries_of (boolean b) h = tt
+whole_entries_of (number n) h = tt
+whole_entries_of (string s) h = tt
+whole_entries_of (array ds) h = whole_items ds h
+whole_entries_of (object ms) h = tt
+
+whole_entries : (name : List ℕ) (d : Data) → has_float d ≡ false → AreWhole (entries_at name d)
+whole_entries name d h = at (get name d) refl
+  where
+    at : (o : Option Data) → get name d ≡ o → AreWhole (option_map_or entries_of o [])
+    at None e = tt
+    at (Some v) e = whole_entries_of v (whole_get name d v h e)
+
+whole_at : (vs : List Value) (i : ℕ) (v : Value) → AreWhole (map view vs) → i < length vs → v ≡ get_or vs i v → has_float (view v) ≡ false
+whole_at [] i v h low e = absurd (omega arith)
+whole_at (w ∷ vs) zero v h low e = subst (λ u. has_float (view u) ≡ false) (sym e) h.0
+whole_at (w ∷ vs) (suc i) v h low e = whole_at vs i v h.1 (omega arith) e
+
+-- an entry of the array of a member
+pub whole_entry : (name : List ℕ) (d : Data) (vs : List Value) (i : ℕ) (v : Value) → has_float d ≡ false → map view vs ≡ entries_at name d → i < length vs → v ≡ get_or vs i v → has_float (view v) ≡ false
+whole_entry name d vs i v h is low e = whole_at vs i v (subst AreWhole (sym is) (whole_entries name d h)) low e
+
+-- ---- a label with its translations in rising order
+
+whole_inserted : (x : Data) (ds : List Data) → has_float x ≡ false → AreWhole ds → AreWhole (with_inserted compact_cmp x ds)
+whole_inserted x [] e h = (e, tt)
+whole_inserted x (d ∷ ds) e h = at (is_lt (compact_cmp d x)) (whole_inserted x ds e h.1)
+  where
+    at : (b : Bool) → AreWhole (with_inserted compact_cmp x ds) → AreWhole (cond b (d ∷ with_inserted compact_cmp x ds) (x ∷ (d ∷ ds)))
+    at true k = (h.0, k)
+    at false k = (e, h)
+
+whole_rising : (ds : List Data) → AreWhole ds → AreWhole (rising_list compact_cmp ds)
+whole_rising [] h = tt
+whole_rising (d ∷ ds) h = whole_inserted d (rising_list compact_cmp ds) h.0 (whole_rising ds h.1)
+
+whole_items_of : (ds : List Data) → AreWhole ds → items_have_float (items_of ds) ≡ false
+whole_items_of [] h = refl
+whole_items_of (d ∷ ds) h = both_false (has_float d) (items_have_float (items_of ds)) h.0 (whole_items_of ds h.1)
+
+whole_put : (name : List ℕ) (d : Data) (ms : Members) → has_float d ≡ false → members_have_float ms ≡ false → members_have_float (put name d ms) ≡ false
+whole_put name d no_members e h = both_false (has_float d) false e refl
+whole_put name d (member l v ms) e h = at (slice_cmp nat_cmp name l) (whole_put name d ms e (second_false (has_float v) (members_have_float ms) h))
+  where
+    at : (o : Ordering) → members_have_float (put name d ms) ≡ false → members_have_float (match_ordering o (member name d (member l v ms)) (member l d ms) (member l v (put name d ms))) ≡ false
+    at Less k = both_false (has_float d) (members_have_float (member l v ms)) e h
+    at Equal k = both_false (has_float d) (members_have_float ms) e (second_false (has_float v) (members_have_float ms) h)
+    at Greater k = both_false (has_float v) (members_have_float (put name d ms)) (first_false (has_float v) (members_have_float ms) h) k
+
+pub whole_label : (d : Data) → has_float d ≡ false → has_float (with_rising_text d) ≡ false
+whole_label null h = h
+whole_label (boolean b) h = h
+whole_label (number n) h = h
+whole_label (string s) h = h
+whole_label (array ds) h = h
+whole_label (object ms) h =
+    whole_put (codes "Text") (array (items_of (rising_list compact_cmp (entries_at (codes "Text") (object ms))))) ms
+    (whole_items_of (rising_list compact_cmp (entries_at (codes "Text") (object ms))) (whole_rising (entries_at (codes "Text") (object ms)) (whole_entries (codes "Text") (object ms) h)))
+    h
