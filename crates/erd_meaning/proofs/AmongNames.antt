@@ -1,6 +1,6 @@
 -- The names of selections with look-ups among the objects that are kept are those of the definition.
-use Rattle.std.proofs.Common.{◌≡◌, ℕ, List, [], ◌∷◌, filter, find, cond, Bool, true, false, ◌&&◌, Option, Some, None, option_and_then, option_map, codes, refl, sym, ap, ◌∙◌}
-use Rattle.std.specs.List.{cons_option, filter_map}
+use Rattle.std.proofs.Common.{◌≡◌, ℕ, List, [], ◌∷◌, find, cond, Bool, true, false, Option, Some, None, option_and_then, option_map, codes, refl, ap, ◌∙◌}
+use Rattle.std.specs.List.{cons_option}
 use Rattle.serde_json.specs.Data.{Data}
 use Rattle.serde_json.specs.Find.{as_str}
 use Rattle.erd_tables.specs.declared.class.Class.{Class}
@@ -10,12 +10,10 @@ use Rattle.erd_tables.specs.declared.class.Family.TheVariants as family
 use Rattle.erd_check.specs.Wants.{class_of_object}
 use Rattle.erd_meaning.specs.Keys.{entries_at, has_keys, key_cmp, key_of}
 use Rattle.erd_meaning.specs.Lookups.{is_of_family, is_named}
-use Rattle.erd_meaning.specs.NameParts.{NameParts}
 use Rattle.erd_meaning.specs.NamesAmong.{class_name_among, key_among, keys_among, name_among, selection_keys_among}
-use Rattle.erd_meaning.specs.Objects.{Placed, has_id, id_of, objects, owner}
+use Rattle.erd_meaning.specs.Objects.{Placed, has_id, id_of, objects}
 use Rattle.erd_meaning.specs.ObjectWalk.{Kept, kept, kept_key, kept_objects}
 use Rattle.erd_meaning.specs.SelectionNames.{is_write_in, key_named, keys_named, keys_of_selection, label_of_selection, name_in_class, name_of, order_of_selection, rising_list, selection_role}
-use Rattle.erd_meaning.specs.declared.key.Key.{Key}
 use Rattle.erd_meaning.proofs.Lookups.{kept_of, those_kept}
 use Rattle.erd_meaning.proofs.ReferenceLookups.{find_both, named_same}
 

@@ -1,9 +1,9 @@
 -- A stable sort gives the rising list: a list in order is determined by what ties with each value, in its order.
-use Rattle.std.proofs.Common.{◌≡◌, ℕ, zero, suc, ◌<◌, ◌≤◌, length, get_or, List, [], ◌∷◌, map, filter, cond, Bool, true, false, not, ◌&&◌, Ordering, refl, sym, ap, ◌∙◌, subst, add-one, arith}
+use Rattle.std.proofs.Common.{◌≡◌, suc, List, [], ◌∷◌, map, filter, cond, Bool, true, false, not, ◌&&◌, Ordering, refl, sym, ap, ◌∙◌, subst, add-one, arith}
 use Rattle.std.specs.Cmp.{IsStrictWeakOrder, IsTotalOrder}
 use Rattle.std.proofs.lemmas.List.Sorted.{ranks_by}
 use Rattle.std.specs.List.{AllByRecursion}
-use Rattle.std.specs.List.Sorted.{IsSorted, IsSortedBy, IsStable, ties}
+use Rattle.std.specs.List.Sorted.{IsSorted, IsStable, ties}
 use Rattle.std.specs.Ordering.{is_lt}
 use Rattle.erd_meaning.specs.SelectionNames.{rising_list, with_inserted}
 

@@ -1,5 +1,5 @@
 -- The parts of a value that has no fraction have none, and a label keeps it so with its translations in rising order.
-use Rattle.std.proofs.Common.{◌≡◌, ℕ, zero, suc, ◌<◌, length, get_or, List, [], ◌∷◌, map, cond, Bool, true, false, ◌||◌, Option, Some, None, codes, Ordering, Less, Equal, Greater, refl, sym, ap, ◌∙◌, subst, arith}
+use Rattle.std.proofs.Common.{◌≡◌, ℕ, zero, suc, ◌<◌, length, get_or, List, [], ◌∷◌, map, cond, Bool, true, false, ◌||◌, Option, Some, None, codes, Ordering, Less, Equal, Greater, refl, sym, subst, arith}
 use Rattle.std.specs.Cmp.Lexicographic.{slice_cmp}
 use Rattle.std.specs.List.{AllByRecursion}
 use Rattle.std.specs.Option.{option_map_or}

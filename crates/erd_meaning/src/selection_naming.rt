@@ -63,7 +63,14 @@ fn selection_keys(
     ensures { IfOk result (λ keys. keys.items
         ≡ rising_list key_cmp (selection_keys_among (map shown objects.now) class (view selection.now))) }
 {
-    let mut keys = named_keys(alloc, objects, class, selection)?;
+    let keys = named_keys(alloc, objects, class, selection)?;
+    in_rising_order(keys)
+}
+
+/// The same keys in rising order, each as often.
+fn in_rising_order(mut keys: Vec<SharedKey>) -> Result<Vec<SharedKey>, AllocError>
+    ensures { IfOk result (λ rising. rising.items ≡ rising_list key_cmp keys.items) }
+{
     keys.sort()?;
     Ok(keys)
 }

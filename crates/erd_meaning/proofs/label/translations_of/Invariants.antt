@@ -1,4 +1,4 @@
-use Rattle.std.proofs.Common.{◌≡◌, take, map}
+use Rattle.std.proofs.Common.{◌≡◌, take}
 use Rattle.erd_meaning.proofs.label.translations_of.Given as goal
 
 abbrev pub invariant-loop-value : goal.invariant-loop-value

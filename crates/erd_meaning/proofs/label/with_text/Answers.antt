@@ -1,6 +1,6 @@
-use Rattle.std.proofs.Common.{◌≡◌, codes, map, string_bytes, ap, ◌∙◌}
-use Rattle.serde_json.specs.Data.{array, put}
-use Rattle.serde_json.specs.View.{items_of, members_view, view}
+use Rattle.std.proofs.Common.{codes, ap, ◌∙◌}
+use Rattle.serde_json.specs.Data.{put}
+use Rattle.serde_json.specs.View.{members_view, view}
 use Rattle.serde_json.specs.declared.value.Value.{Array}
 use Rattle.serde_json.proofs.Views.{members_view-insert_entry, view-Array}
 use Rattle.erd_meaning.proofs.label.with_text.Goals as goal
