@@ -35,13 +35,6 @@ impl CompactText {
             text: Text::of(text),
         })
     }
-
-    /// The text.
-    pub fn as_str(&self) -> &str
-        ensures { result.now ≡ self.now }
-    {
-        self.text.as_str()
-    }
 }
 
 impl SetOrder for CompactText {
