@@ -22,3 +22,4 @@ pub mod Lists
 pub mod CanonicalReports
 pub mod EqualTrees
 mod StableSorts
+pub mod StableOrders

@@ -1,9 +1,9 @@
 -- Of a list of pairs there is one stable sorting, and it rises strictly where no two keys are equal.
-use Rattle.std.proofs.Common.{◌≡◌, ℕ, zero, suc, ◌+◌, ◌≤◌, ◌<◌, List, [], ◌∷◌, length, map, slice_index_or, Bool, true, false, Ordering, Less, Equal, Greater, refl, sym, ap, subst, ◌∙◌, arith}
+use Rattle.std.proofs.Common.{◌≡◌, ℕ, suc, ◌≤◌, ◌<◌, List, [], ◌∷◌, length, map, slice_index_or, if◌then◌else◌, Bool, true, false, Ordering, Less, Equal, Greater, refl, sym, ap, subst, ◌∙◌, arith}
 use Rattle.std.proofs.lemmas.List.Sorted.{ranks_by, sorted_far}
 use Rattle.std.proofs.lemmas.Map.Keys.{IsDistinct-head, IsDistinct-tail}
 use Rattle.std.specs.Cmp.{IsTotalOrder, Equal-is, alike_right, eq_by_cmp_equiv, tied_back, tied_itself}
-use Rattle.std.specs.List.{filter, AllByRecursion, IsDistinct}
+use Rattle.std.specs.List.{AllByRecursion, IsDistinct}
 use Rattle.std.specs.List.Sorted.{IsSortedByKey, IsStrictlySortedBy}
 use Rattle.std.specs.Ordering.{eq_by_cmp, is_eq, is_lt, ordering_reverse}
 use Rattle.erd_normal.specs.StableOrder.{IsStablySorted, pairs_of}
@@ -51,13 +51,7 @@ module _ {K T : Type 0} (cmp : K → K → Ordering) where
       at true is = let e : y ∷ pairs_of cmp k xs ≡ y ∷ pairs_of cmp k ys = sym (of_front y xs k true is) ∙ own ∙ of_front y ys k true is in cc
       at false is = sym (of_front y xs k false is) ∙ own ∙ of_front y ys k false is
 
-module _ {K T : Type 0} (cmp : K → K → Ordering) (total : IsTotalOrder cmp) where
-  rises_by_key : (xs : List (K × T)) → IsSortedByKey (λ pair. pair.0) cmp xs → Rises cmp xs
-  rises_by_key xs sorted = rises cmp xs (sorted_far (λ x y. is_lt (cmp x.0 y.0)) (ranks_by total (λ (pair : K × T). pair.0)) xs sorted)
-
-  own : (x : K × T) (xs : List (K × T)) → pairs_of cmp x.0 (x ∷ xs) ≡ x ∷ pairs_of cmp x.0 xs
-  own x xs = of_front cmp x xs x.0 true (ap is_eq (tied_itself total x.0))
-
+module _ {K : Type 0} (cmp : K → K → Ordering) (total : IsTotalOrder cmp) where
   -- less than one that is not greater than a third
   further : (a b c : K) → cmp a b ≡ Less → (o : Ordering) → cmp c b ≡ o → is_lt o ≡ false → cmp a c ≡ Less
   further a b c less Less e h = absurd (cc h)
@@ -67,14 +61,21 @@ module _ {K T : Type 0} (cmp : K → K → Ordering) (total : IsTotalOrder cmp) 
   not_equal : (a b : K) → cmp a b ≡ Less → is_eq (cmp b a) ≡ false
   not_equal a b less = ap is_eq (total.antisymm b a ∙ ap ordering_reverse less)
 
+module _ {K T : Type 0} (cmp : K → K → Ordering) (total : IsTotalOrder cmp) where
+  rises_by_key : (xs : List (K × T)) → IsSortedByKey (λ pair. pair.0) cmp xs → Rises cmp xs
+  rises_by_key xs sorted = rises cmp xs (sorted_far (λ x y. is_lt (cmp x.0 y.0)) (ranks_by total (λ (pair : K × T). pair.0)) xs sorted)
+
+  own : (x : K × T) (xs : List (K × T)) → pairs_of cmp x.0 (x ∷ xs) ≡ x ∷ pairs_of cmp x.0 xs
+  own x xs = of_front cmp x xs x.0 true (ap is_eq (tied_itself total x.0))
+
   -- a key below all has no pairs
   none_of : (k l : K) → cmp k l ≡ Less → (xs : List (K × T)) → NoneBelow cmp l xs → pairs_of cmp k xs ≡ []
   none_of k l less [] h = refl
   none_of k l less (x ∷ xs) h =
-      of_front cmp x xs k false (not_equal k x.0 (further k l x.0 less (cmp x.0 l) refl h.0)) ∙ none_of k l less xs h.1
+      of_front cmp x xs k false (not_equal cmp total k x.0 (further cmp total k l x.0 less (cmp x.0 l) refl h.0)) ∙ none_of k l less xs h.1
 
   none_of_all : (k : K) (x : K × T) (xs : List (K × T)) → cmp k x.0 ≡ Less → NoneBelow cmp x.0 xs → pairs_of cmp k (x ∷ xs) ≡ []
-  none_of_all k x xs less h = of_front cmp x xs k false (not_equal k x.0 less) ∙ none_of k x.0 less xs h
+  none_of_all k x xs less h = of_front cmp x xs k false (not_equal cmp total k x.0 less) ∙ none_of k x.0 less xs h
 
   -- the first keys of two rising lists with the same pairs of each key are equal, and so are the first pairs
   not_less : (x y : K × T) (xs ys : List (K × T)) → NoneBelow cmp y.0 ys → pairs_of cmp x.0 (x ∷ xs) ≡ pairs_of cmp x.0 (y ∷ ys) → cmp x.0 y.0 ≡ Less → ⊥
