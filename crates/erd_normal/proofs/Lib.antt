@@ -21,3 +21,5 @@ pub mod BallotMeaningExamples
 pub mod Lists
 pub mod CanonicalReports
 pub mod EqualTrees
+mod StableSorts
+pub mod StableOrders
