@@ -21,3 +21,4 @@ pub mod BallotMeaningExamples
 pub mod Lists
 pub mod CanonicalReports
 pub mod EqualTrees
+mod NormalTreeExamples
