@@ -1,11 +1,13 @@
 -- Reports whose objects are told apart, whose references name objects, and whose selections are told apart.
-use Rattle.std.specs.Prelude.{◌≡◌, ℕ, List, map}
+use Rattle.std.specs.Prelude.{◌≡◌, false, ℕ, List, map}
 use Rattle.std.specs.List.{slice_get}
 use Rattle.serde_json.specs.Data.{Data}
 use Rattle.serde_json.specs.View.{view}
+use Rattle.serde_json.specs.Written.{has_float}
 use Rattle.serde_json.specs.declared.value.Value.{Value}
 use Rattle.erd_check.specs.Faults.{NoneOf}
 use Rattle.erd_check.specs.Shapes.{IsFaultless}
+use Rattle.erd_check.specs.Trees.{IsTree}
 use Rattle.erd_meaning.specs.LaterFaults.{IdentityFault, ReferenceFault, SelectionFault}
 use Rattle.erd_meaning.specs.Lookups.{selection_in}
 use Rattle.erd_meaning.specs.ObjectWalk.{kept_objects}
@@ -33,6 +35,8 @@ AreNames t names = (i : ℕ) → slice_get names i ≡ selection_in t i
 -- an accepted report, its objects and the names of its selections, each in the order of their places
 pub record IsResolved (tree : Value) (objects : List Object) (names : List NamedSelection) : Type 0 where
   pub faultless : IsFaultless tree
+  pub is_tree : IsTree (view tree)
+  pub whole : has_float (view tree) ≡ false
   pub identified : IsIdentified tree
   pub referred : IsReferred tree
   pub told_apart : IsToldApart tree

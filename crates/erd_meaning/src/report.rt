@@ -1,6 +1,8 @@
-ghost use Rattle.std.specs.Prelude.{◌≡◌, [], ◌∷◌, length, map, option_map, slice_get};
+ghost use Rattle.std.specs.Prelude.{◌≡◌, false, [], ◌∷◌, length, map, option_map, slice_get};
 ghost use Rattle.std.specs.Option.{option_copied};
 ghost use Rattle.serde_json.specs.View.{view};
+ghost use Rattle.serde_json.specs.Written.{has_float};
+ghost use Rattle.erd_check.specs.Trees.{IsTree};
 ghost use Rattle.erd_meaning.specs.Accepted.{IsAccepted};
 ghost use Rattle.erd_meaning.specs.Lookups.{FindsId, FindsKey, FindsSelection, key_in, selection_in};
 ghost use Rattle.erd_meaning.specs.Objects.{elections, objects};
@@ -59,10 +61,12 @@ impl<'a> Report<'a> {
         }
     }
 
-    /// The report that was handed in. It is accepted.
+    /// The report that was handed in. It is accepted; the names of each object in it rise, and each number in it is whole.
     pub fn tree(&self) -> &'a Value
         ensures tree { result.now ≡ self.now }
         ensures accepted { IsAccepted (view result.now) }
+        ensures is_tree { IsTree (view result.now) }
+        ensures whole { has_float (view result.now) ≡ false }
     {
         self.tree
     }
