@@ -1,4 +1,4 @@
-//! Lists of faults as lines.
+//! Lists of faults as lines, and what is told of reports.
 use crate::tests::edits::edited;
 use erd_check::{CheckError, faults, same_json, shape};
 use erd_meaning::resolve;
@@ -6,6 +6,9 @@ use erd_tables::FaultList;
 use serde_json::Value;
 use std::alloc::{AllocError, Global};
 use std::test::Fail;
+
+// What is told of an accepted report.
+pub const ACCEPTED: &str = "accepted\n";
 
 // The lines of a list of faults, each with its line end.
 pub fn lines(alloc: Global, faults: &FaultList) -> Result<String, AllocError> {
@@ -20,14 +23,14 @@ pub fn lines(alloc: Global, faults: &FaultList) -> Result<String, AllocError> {
     Ok(text)
 }
 
-// A report, an edit of it, and its fault lines.
+// A report, an edit of it, and what is told of the edited report.
 pub type Case = (&'static str, &'static str, &'static str, &'static str);
 
-// Each edited report has these fault lines.
+// Each edited report is judged so.
 pub fn all_hold(alloc: Global, cases: &[Case]) -> Result<(), Fail> {
     for (report, from, to, wanted) in cases {
         let report = edited(alloc, report, from, to)?;
-        let found = shape_lines(alloc, report.as_str())?;
+        let found = check_lines(alloc, report.as_str())?;
         if found.as_str() != *wanted {
             let text = format!(in alloc; "with {to}: {found}")?;
             return Err(Fail::from(text));
@@ -36,7 +39,17 @@ pub fn all_hold(alloc: Global, cases: &[Case]) -> Result<(), Fail> {
     Ok(())
 }
 
-// The fault lines of a report, by `faults` and by `shape`.
+// What is told of a report: `accepted`, or its fault lines.
+pub fn check_lines(alloc: Global, report: &str) -> Result<String, Fail> {
+    let shape = shape_lines(alloc, report)?;
+    if shape.is_empty() {
+        resolve_lines(alloc, report)
+    } else {
+        Ok(shape)
+    }
+}
+
+// The fault lines of the shape of a report, by `faults` and by `shape`.
 pub fn shape_lines(alloc: Global, report: &str) -> Result<String, Fail> {
     let tree = Value::from_str(alloc, report)?;
     let found = faults(alloc, &tree)?;
@@ -57,14 +70,14 @@ pub fn shape_lines(alloc: Global, report: &str) -> Result<String, Fail> {
     Ok(found)
 }
 
-// The fault lines of a report whose shape has no fault.
-pub fn resolve_lines(alloc: Global, report: &str) -> Result<String, Fail> {
+// What is told of a report whose shape has no fault.
+fn resolve_lines(alloc: Global, report: &str) -> Result<String, Fail> {
     let tree = Value::from_str(alloc, report)?;
     let Ok(shaped) = shape(alloc, &tree) else {
         return Err(Fail::from("a fault of the shape"));
     };
     match resolve(alloc, shaped) {
-        Ok(_) => Ok(String::new(alloc)),
+        Ok(_) => Ok(String::from_str(alloc, ACCEPTED)?),
         Err(CheckError::Faults(faults)) => Ok(lines(alloc, &faults)?),
         Err(CheckError::Memory) => Err(Fail::from("no memory")),
     }

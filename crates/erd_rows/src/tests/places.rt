@@ -1,6 +1,6 @@
 //! Places and their pointers, deep values, and equality.
 use crate::tests::edits::edited;
-use crate::tests::lines::{all_hold, shape_lines};
+use crate::tests::lines::{ACCEPTED, all_hold, check_lines};
 use crate::vectors::ONE_UNIT;
 use erd_check::same_json;
 use erd_tables::{Fault, Place, Reason, Step, Text, pointer};
@@ -96,8 +96,8 @@ fn deepest_nesting(rt: HostRuntime) -> Result<(), Fail> {
         let report = edited(alloc, ONE_UNIT, "{", member.as_str())?;
         assert_eq!(rt; Value::from_str(alloc, report.as_str()).is_ok(), is_read);
         if is_read {
-            let found = shape_lines(alloc, report.as_str())?;
-            assert_eq!(rt; found.as_str(), "");
+            let found = check_lines(alloc, report.as_str())?;
+            assert_eq!(rt; found.as_str(), ACCEPTED);
         }
     }
     Ok(())
