@@ -28,7 +28,7 @@ use Rattle.erd_canon.proofs.Standing.{Bare, bare_parts, present_member, type_is,
 pub units-named : (t : Data) → units (named t) ≡ named_units 0 (units t)
 units-named t = list_of_items-items_of (named_units 0 (units t))
 
-scope-named : (t : Data) → Bare t → scope (named t) ≡ unit_id (position_of (has_id (scope t)) (units t))
+pub scope-named : (t : Data) → Bare t → scope (named t) ≡ unit_id (position_of (has_id (scope t)) (units t))
 scope-named t b =
     ap (λ o. unwrap_or (option_and_then as_str o) [])
     (get-with_member class.Election (codes "ElectionScopeId") (string (unit_id (position_of (has_id (scope t)) (units t)))) (election t) b.fit_election)
@@ -174,7 +174,7 @@ status_fits (string s) e = ap string (one_text s (codes "pre-election") e)
 status_fits (array ds) e = absurd (true≢false (sym e))
 status_fits (object ms) e = absurd (true≢false (sym e))
 
-status_is : (t : Data) → fits (want.ObjectOf class.ElectionReport) t ≡ true → get (codes "Status") t ≡ Some (string (codes "pre-election"))
+pub status_is : (t : Data) → fits (want.ObjectOf class.ElectionReport) t ≡ true → get (codes "Status") t ≡ Some (string (codes "pre-election"))
 status_is t e =
     let m = present_member class.ElectionReport (codes "Status") t e refl in
     m.is ∙ ap Some (status_fits m.value m.fit)

@@ -53,7 +53,7 @@ present_member c name d e among = present_at c name d (get name d) refl e (prese
 
 -- ---- values by what is asked of them
 
-type_text_fits : (c : Class) (v : Data) → fits (want.TypeOf c) v ≡ true → as_str v ≡ Some (text_of_class c)
+pub type_text_fits : (c : Class) (v : Data) → fits (want.TypeOf c) v ≡ true → as_str v ≡ Some (text_of_class c)
 type_text_fits c null e = absurd (true≢false (sym e))
 type_text_fits c (boolean b) e = absurd (true≢false (sym e))
 type_text_fits c (number n) e = absurd (true≢false (sym e))

@@ -17,6 +17,9 @@ pub mod ObjectsAt
 pub mod TableKinds
 pub mod Whole
 pub mod Clean
+pub mod Fractions
+pub mod Numbers
+pub mod ReportTrees
 mod AskedExamples
 mod FaultExamples
 pub mod WholeExamples

@@ -3,6 +3,9 @@ ghost use Rattle.serde_json.specs.View.{view};
 ghost use Rattle.erd_tables.specs.Faults.{ListsAll};
 ghost use Rattle.erd_check.specs.Faults.{ShapeFault};
 ghost use Rattle.erd_check.specs.Trees.{IsShallow};
+ghost use Rattle.erd_check.specs.Walk.{IsInOrder};
+ghost use Rattle.erd_check.specs.declared.want.Want.TheVariants.{Object};
+ghost use Rattle.erd_tables.specs.declared.class.Role.TheVariants.{Report};
 
 use crate::path::Path;
 use crate::walk::walk;
@@ -18,6 +21,14 @@ use std::alloc::{AllocError, Global};
 pub fn faults(alloc: Global, tree: &Value) -> Result<FaultList, AllocError>
     requires nests { IsShallow (view tree.now) }
     ensures { IfOk result (ListsAll (ShapeFault (view tree.now))) }
+{
+    walked_faults(alloc, tree)
+}
+
+/// The same faults; the walk has seen that the names of each object that is asked for rise.
+pub(crate) fn walked_faults(alloc: Global, tree: &Value) -> Result<FaultList, AllocError>
+    ensures all { IfOk result (ListsAll (ShapeFault (view tree.now))) }
+    ensures in_order { IfOk result (λ _. IsInOrder (Object Report) (view tree.now)) }
 {
     let mut found = Vec::new(alloc);
     walk(

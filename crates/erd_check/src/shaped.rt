@@ -1,12 +1,13 @@
-ghost use Rattle.std.specs.Prelude.{◌≡◌, IfOk, IfErr};
+ghost use Rattle.std.specs.Prelude.{◌≡◌, false, IfOk, IfErr};
 ghost use Rattle.serde_json.specs.View.{view};
+ghost use Rattle.serde_json.specs.Written.{has_float};
 ghost use Rattle.erd_check.specs.Faults.{ShapeFault};
 ghost use Rattle.erd_check.specs.Refusals.{RefusedFor};
 ghost use Rattle.erd_check.specs.Shapes.{IsFaultless};
-ghost use Rattle.erd_check.specs.Trees.{IsShallow};
+ghost use Rattle.erd_check.specs.Trees.{IsShallow, IsTree};
 
 use crate::error::CheckError;
-use crate::shape_faults::faults;
+use crate::shape_faults::walked_faults;
 use serde_json::Value;
 use std::alloc::Global;
 use std::marker::Model;
@@ -21,7 +22,7 @@ impl<'a> Model for Shaped<'a> {
     ghost use Rattle.std.specs.Coded.{codes};
     ghost use Rattle.serde_json.specs.contracts.value.Value as tree_value;
     ghost use Rattle.serde_json.specs.declared.value.Value.{Value as Tree};
-    ghost use Rattle.erd_check.specs.Shapes.{IsFaultless};
+    ghost use Rattle.erd_check.specs.Shapes.{IsShaped};
 
     ghost Value = { Tree };
 
@@ -29,14 +30,17 @@ impl<'a> Model for Shaped<'a> {
 
     ghost view = { λ s. s.tree.now };
 
-    ghost invariant = { λ s. IsFaultless s.tree.now };
+    ghost invariant = { λ s. IsShaped s.tree.now };
 }
 
 impl<'a> Shaped<'a> {
-    /// The report that was handed in. It has no fault of the shape.
+    /// The report that was handed in. It has no fault of the shape; so the names of each object in it rise, and each
+    /// number in it is whole.
     pub fn tree(&self) -> &'a Value
         ensures tree { result.now ≡ self.now }
         ensures faultless { IsFaultless result.now }
+        ensures is_tree { IsTree (view result.now) }
+        ensures whole { has_float (view result.now) ≡ false }
     {
         self.tree
     }
@@ -50,7 +54,7 @@ pub fn shape<'a>(alloc: Global, tree: &'a Value) -> Result<Shaped<'a>, CheckErro
     ensures ok { IfOk result (λ _. IsFaultless tree.now) }
     ensures refused { IfErr result (RefusedFor (ShapeFault (view tree.now))) }
 {
-    let list = faults(alloc, tree)?;
+    let list = walked_faults(alloc, tree)?;
     if list.len() == 0 {
         Ok(Shaped { tree })
     } else {

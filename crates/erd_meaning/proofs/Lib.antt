@@ -29,3 +29,5 @@ pub mod OneObject
 pub mod Found
 pub mod ReferenceLookups
 pub mod ReferenceWalks
+pub mod WholeNumbers
+pub mod MetSelections

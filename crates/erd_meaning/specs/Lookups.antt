@@ -1,11 +1,13 @@
 -- What is looked up among the objects of a report, by family and position.
-use Rattle.std.specs.Prelude.{◌≡◌, ◌↔◌, ℕ, List, Bool, ◌&&◌, ◌==◌, Option, Some, option_and_then, filter}
+use Rattle.std.specs.Prelude.{◌≡◌, ◌↔◌, ℕ, List, Bool, ◌&&◌, ◌==◌, Option, Some, option_and_then, option_map, filter}
 use Rattle.std.specs.List.{slice_get}
 use Rattle.serde_json.specs.Data.{Data}
 use Rattle.erd_tables.specs.Classes.{family_number}
 use Rattle.erd_tables.specs.declared.class.Family.{Family}
-use Rattle.erd_meaning.specs.Objects.{id_of, objects}
+use Rattle.erd_meaning.specs.NameParts.{NameParts}
+use Rattle.erd_meaning.specs.Objects.{id_of, numbered_selections, objects}
 use Rattle.erd_meaning.specs.ObjectWalk.{Kept, kept_key, same_id, same_key}
+use Rattle.erd_meaning.specs.SelectionNames.{name_of}
 use Rattle.erd_meaning.specs.declared.key.Key.{Key}
 
 -- ---- in a report
@@ -18,6 +20,10 @@ key_in f t i = option_and_then (λ o. kept_key f o.value) (slice_get (objects f 
 abbrev pub id_in : Family → Data → ℕ → Option (List ℕ)
 id_in f t i = option_and_then (λ o. id_of o.value) (slice_get (objects f t) i)
 
+-- the position of the contest of the selection at a position, and its name
+abbrev pub selection_in : Data → ℕ → Option (ℕ × NameParts)
+selection_in t i = option_and_then (λ s. option_map (λ n. (s.0, n)) (name_of t s.1.value)) (slice_get (numbered_selections t) i)
+
 -- the position is that of the object of the family with the key, of which there is one at most
 abbrev pub FindsKey : Data → Family → Key → Option ℕ → Type 0
 FindsKey t f key found = (i : ℕ) → (found ≡ Some i) ↔ (key_in f t i ≡ Some key)
@@ -25,6 +31,10 @@ FindsKey t f key found = (i : ℕ) → (found ≡ Some i) ↔ (key_in f t i ≡ 
 -- the family and the position are those of the object with the `@id`, of which there is one at most
 abbrev pub FindsId : Data → List ℕ → Option (Family × ℕ) → Type 0
 FindsId t id found = (f : Family) (i : ℕ) → (found ≡ Some (f, i)) ↔ (id_in f t i ≡ Some id)
+
+-- the position is that of the selection of the contest with the name, of which there is one at most
+abbrev pub FindsSelection : Data → ℕ → NameParts → Option ℕ → Type 0
+FindsSelection t c n found = (i : ℕ) → (found ≡ Some i) ↔ (selection_in t i ≡ Some (c, n))
 
 -- ---- among the objects that are kept
 

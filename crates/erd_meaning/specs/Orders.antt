@@ -15,6 +15,7 @@ use Rattle.erd_tables.specs.declared.class.Class.TheVariants as class
 use Rattle.erd_meaning.specs.NameParts.{NameParts}
 use Rattle.erd_meaning.specs.SelectionNames.{class_cmp, compact_cmp, name_cmp}
 use Rattle.erd_meaning.specs.Keys.{key_cmp}
+use Rattle.erd_meaning.specs.declared.key.Key.{Key}
 
 pub key_cmp_total : IsTotalOrder key_cmp
 key_cmp_total = then_total (on_total (λ k. k.kind) nat_list_cmp_total) (then_total (on_total (λ k. k.other) nat_list_cmp_total) (on_total (λ k. k.value) nat_list_cmp_total))
@@ -81,6 +82,10 @@ name_cmp_exact m n e =
     let label_same = options_exact text_cmp exact_bytes m.label n.label f.0 in
     let identifier_same = options_exact key_cmp key_cmp_exact m.identifier n.identifier f.1 in
     λ i. record { class = class_same i; keys = keys_same i; write_in = write_in_same i; order = order_same i; label = label_same i; identifier = identifier_same i }
+
+-- what is made of a key is the same of an equal one
+pub equal_keys_alike : {B : Type 0} (f : Key → B) (k l : Key) → eq_by_cmp key_cmp k l ≡ true → f k ≡ f l
+equal_keys_alike f k l e = ap f (key_cmp_exact k l ((Equal-is (key_cmp k l)).0 e))
 
 -- what is made of a name is the same of an equal one
 pub equal_names_alike : {B : Type 0} (f : NameParts → B) (m n : NameParts) → eq_by_cmp name_cmp m n ≡ true → f m ≡ f n

@@ -1,12 +1,17 @@
--- Reports whose objects are told apart and whose references name objects.
-use Rattle.std.specs.Prelude.{◌≡◌, List, map}
+-- Reports whose objects are told apart, whose references name objects, and whose selections are told apart.
+use Rattle.std.specs.Prelude.{◌≡◌, ℕ, List, map}
+use Rattle.std.specs.List.{slice_get}
+use Rattle.serde_json.specs.Data.{Data}
 use Rattle.serde_json.specs.View.{view}
 use Rattle.serde_json.specs.declared.value.Value.{Value}
 use Rattle.erd_check.specs.Faults.{NoneOf}
 use Rattle.erd_check.specs.Shapes.{IsFaultless}
-use Rattle.erd_meaning.specs.LaterFaults.{IdentityFault, ReferenceFault}
+use Rattle.erd_meaning.specs.LaterFaults.{IdentityFault, ReferenceFault, SelectionFault}
+use Rattle.erd_meaning.specs.Lookups.{selection_in}
 use Rattle.erd_meaning.specs.ObjectWalk.{kept_objects}
-use Rattle.erd_meaning.specs.Shown.{shown}
+use Rattle.erd_meaning.specs.SelectionWalk.{NumberedName}
+use Rattle.erd_meaning.specs.Shown.{name_shown, shown}
+use Rattle.erd_meaning.specs.declared.named_selection.NamedSelection.{NamedSelection}
 use Rattle.erd_meaning.specs.declared.object.Object.{Object}
 
 -- no two objects have one key or one `@id`, and those that need a key have one
@@ -17,9 +22,19 @@ IsIdentified tree = NoneOf (IdentityFault (view tree))
 abbrev pub IsReferred : Value → Type 0
 IsReferred tree = NoneOf (ReferenceFault (view tree))
 
--- a report without a fault of shape, of identity or of references, and its objects in the order of their places
-pub record IsResolved (tree : Value) (objects : List Object) : Type 0 where
+-- no two selections of one contest have one name
+abbrev pub IsToldApart : Value → Type 0
+IsToldApart tree = NoneOf (SelectionFault (view tree))
+
+-- these are the names of the selections of a report, in the order of their places
+abbrev pub AreNames : Data → List NumberedName → Type 0
+AreNames t names = (i : ℕ) → slice_get names i ≡ selection_in t i
+
+-- an accepted report, its objects and the names of its selections, each in the order of their places
+pub record IsResolved (tree : Value) (objects : List Object) (names : List NamedSelection) : Type 0 where
   pub faultless : IsFaultless tree
   pub identified : IsIdentified tree
   pub referred : IsReferred tree
+  pub told_apart : IsToldApart tree
   pub kept : map shown objects ≡ kept_objects (view tree)
+  pub named : AreNames (view tree) (map name_shown names)

@@ -6,8 +6,11 @@ use Rattle.erd_check.specs.Paths.{steps_of}
 use Rattle.erd_check.specs.declared.path.Path.{Path}
 use Rattle.serde_json.specs.declared.value.Value.{Value}
 use Rattle.erd_meaning.specs.Objects.{Placed}
+use Rattle.erd_meaning.specs.SelectionWalk.{NamesMet, NumberedName}
+use Rattle.erd_meaning.specs.declared.named_selection.NamedSelection.{NamedSelection}
 use Rattle.erd_meaning.specs.declared.object.Object.{Object}
 use Rattle.erd_meaning.specs.declared.object_walk.ObjectWalk.{ObjectWalk}
+use Rattle.erd_meaning.specs.declared.selection_walk.SelectionWalk.{SelectionWalk}
 
 -- an object as it is kept
 abbrev pub shown : Object → Kept
@@ -16,6 +19,14 @@ shown o = record { family = o.family; value = view o.value.now; key = o.key; id 
 -- what the walk has met
 abbrev pub met_of : ObjectWalk → Met
 met_of w = record { objects = map shown w.objects.items; faults = w.faults.items }
+
+-- the name of a selection as it is kept
+abbrev pub name_shown : NamedSelection → NumberedName
+name_shown s = (s.contest, s.name)
+
+-- what the walk over the selections has met
+abbrev pub names_met : SelectionWalk → NamesMet
+names_met w = record { names = map name_shown w.names.items; faults = w.faults.items }
 
 -- a value at the place of a path
 abbrev pub placed_at : Path → Value → Placed

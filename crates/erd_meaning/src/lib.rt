@@ -3,8 +3,10 @@
 
 mod identifier;
 pub mod key;
+mod label;
 mod lookup;
 mod members;
+mod named_selection;
 mod object;
 mod object_walk;
 mod reference_walk;
@@ -12,6 +14,9 @@ mod report;
 mod resolving;
 pub mod selection_name;
 mod selection_naming;
+mod selection_walk;
+mod shared_key;
+mod translation;
 
 pub use key::Key;
 pub use report::Report;

@@ -1,12 +1,15 @@
 ghost use Rattle.std.specs.Prelude.{◌≡◌, length, map, option_map, slice_get};
 ghost use Rattle.std.specs.List.{position};
+ghost use Rattle.std.specs.Option.{option_copied};
 ghost use Rattle.serde_json.specs.View.{view};
 ghost use Rattle.erd_meaning.specs.Lookups.{is_keyed, is_named, those_of};
 ghost use Rattle.erd_meaning.specs.ReferenceWalk.{is_known, owner_among};
+ghost use Rattle.erd_meaning.specs.NamesAmong.{key_among};
 ghost use Rattle.erd_meaning.specs.Shown.{shown};
 
 use crate::key::Key;
 use crate::object::Object;
+use crate::shared_key::SharedKey;
 use erd_tables::Family;
 use serde_json::Value;
 
@@ -78,6 +81,22 @@ pub(crate) fn owner_of<'a>(objects: &[Object<'a>], family: Family, id: &str) -> 
     for object in objects {
         if object.is_of(family) && object.is_named(id) {
             return Some(object.value);
+        }
+    }
+    None
+}
+
+/// The key of the first object of the family with the `@id`, if it has one.
+pub(crate) fn key_among<'b>(
+    objects: &'b [Object],
+    family: Family,
+    id: &str,
+) -> Option<&'b SharedKey>
+    ensures { option_copied result ≡ key_among (map shown objects.now) family id.now }
+{
+    for object in objects {
+        if object.is_of(family) && object.is_named(id) {
+            return object.key.as_ref();
         }
     }
     None

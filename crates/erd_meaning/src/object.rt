@@ -4,6 +4,7 @@ ghost use Rattle.erd_meaning.specs.ObjectWalk.{has_same_key, has_same_id};
 ghost use Rattle.erd_meaning.specs.Shown.{shown};
 
 use crate::key::Key;
+use crate::shared_key::SharedKey;
 use erd_tables::Family;
 use serde_json::Value;
 
@@ -12,7 +13,7 @@ use serde_json::Value;
 pub(crate) struct Object<'a> {
     pub(crate) family: Family,
     pub(crate) value: &'a Value,
-    pub(crate) key: Option<Key>,
+    pub(crate) key: Option<SharedKey>,
     pub(crate) id: Option<&'a str>,
 }
 
@@ -55,7 +56,7 @@ impl<'a> Object<'a> {
             return false;
         }
         match &self.key {
-            Some(own) => own.cmp(key).is_eq(),
+            Some(own) => own.key().cmp(key).is_eq(),
             None => false,
         }
     }

@@ -7,8 +7,10 @@ ghost use Rattle.erd_meaning.specs.ObjectWalk.{kept, faults_after, has_same_key,
 ghost use Rattle.erd_meaning.specs.Shown.{shown, met_of, placed_at};
 
 use crate::identifier::key_of;
+use crate::key::Key;
 use crate::members::entries;
 use crate::object::Object;
+use crate::shared_key::SharedKey;
 use erd_check::path::{Path, push_fault};
 use erd_tables::{Family, Fault, Reason};
 use serde_json::Value;
@@ -138,7 +140,7 @@ fn object_of<'a>(alloc: Global, family: Family, value: &'a Value) -> Result<Obje
 {
     let key = match family {
         Family::Selection => None,
-        _ => key_of(alloc, value)?,
+        _ => shared(alloc, key_of(alloc, value)?)?,
     };
     let id = value.get("@id").and_then(Value::as_str);
     Ok(Object {
@@ -147,6 +149,15 @@ fn object_of<'a>(alloc: Global, family: Family, value: &'a Value) -> Result<Obje
         key,
         id,
     })
+}
+
+fn shared(alloc: Global, key: Option<Key>) -> Result<Option<SharedKey>, AllocError>
+    ensures { IfOk result (λ shared. shared ≡ key) }
+{
+    match key {
+        Some(key) => Ok(Some(SharedKey::of(alloc, key)?)),
+        None => Ok(None),
+    }
 }
 
 fn push_identity_faults(

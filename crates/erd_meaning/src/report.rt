@@ -1,28 +1,30 @@
 ghost use Rattle.std.specs.Prelude.{◌≡◌, [], ◌∷◌, length, map, option_map, slice_get};
 ghost use Rattle.std.specs.Option.{option_copied};
 ghost use Rattle.serde_json.specs.View.{view};
-ghost use Rattle.erd_check.specs.Shapes.{IsFaultless};
-ghost use Rattle.erd_meaning.specs.Lookups.{FindsId, FindsKey, key_in};
+ghost use Rattle.erd_meaning.specs.Accepted.{IsAccepted};
+ghost use Rattle.erd_meaning.specs.Lookups.{FindsId, FindsKey, FindsSelection, key_in, selection_in};
 ghost use Rattle.erd_meaning.specs.Objects.{elections, objects};
-ghost use Rattle.erd_meaning.specs.Resolved.{IsIdentified, IsReferred, IsResolved};
+ghost use Rattle.erd_meaning.specs.Resolved.{IsResolved};
 
 use crate::key::Key;
 use crate::lookup::{count_of, nth_of, place_of_id, place_of_key};
 use crate::members::entries;
+use crate::named_selection::{NamedSelection, place_of_name};
 use crate::object::Object;
+use crate::selection_name::SelectionName;
 use erd_tables::Family;
 use serde_json::Value;
 use std::marker::Model;
 
-/// A report that has no fault of the shape, whose objects are told apart, and whose references name them: the objects that
-/// need a key have one, no two of a family have one key, no two at all have one `@id`, and each reference names an object of
-/// its family. It borrows the report, and is seen by contracts as it.
+/// A report that is accepted: it has no fault of the shape, its objects are told apart, its references name them, and no two
+/// selections of one contest have one name. It borrows the report, and is seen by contracts as it.
 ///
 /// Its objects are named by their family and their position in it, counted from 0 in the order of the report.
 #[derive(Debug, Drop)]
 pub struct Report<'a> {
     tree: &'a Value,
     objects: Vec<Object<'a>>,
+    names: Vec<NamedSelection>,
 }
 
 impl<'a> Model for Report<'a> {
@@ -37,24 +39,30 @@ impl<'a> Model for Report<'a> {
 
     ghost view = { λ r. r.tree.now };
 
-    ghost invariant = { λ r. IsResolved r.tree.now r.objects.items };
+    ghost invariant = { λ r. IsResolved r.tree.now r.objects.items r.names.items };
 }
 
 impl<'a> Report<'a> {
-    /// The report of this tree, with its objects in the order of their places.
-    pub(crate) fn of(tree: &'a Value, objects: Vec<Object<'a>>) -> Report<'a>
-        requires { IsResolved tree.now objects.items }
+    /// The report of this tree, with its objects and the names of its selections in the order of their places.
+    pub(crate) fn of(
+        tree: &'a Value,
+        objects: Vec<Object<'a>>,
+        names: Vec<NamedSelection>,
+    ) -> Report<'a>
+        requires { IsResolved tree.now objects.items names.items }
         ensures { result ≡ tree.now }
     {
-        Report { tree, objects }
+        Report {
+            tree,
+            objects,
+            names,
+        }
     }
 
-    /// The report that was handed in. It has no fault of the shape, none of identity, and none of references.
+    /// The report that was handed in. It is accepted.
     pub fn tree(&self) -> &'a Value
         ensures tree { result.now ≡ self.now }
-        ensures faultless { IsFaultless result.now }
-        ensures identified { IsIdentified result.now }
-        ensures referred { IsReferred result.now }
+        ensures accepted { IsAccepted (view result.now) }
     {
         self.tree
     }
@@ -90,7 +98,10 @@ impl<'a> Report<'a> {
         ensures { option_copied result ≡ key_in family (view self.now) index }
     {
         match nth_of(&self.objects, family, index) {
-            Some(object) => object.key.as_ref(),
+            Some(object) => match &object.key {
+                Some(shared) => Some(shared.key()),
+                None => None,
+            },
             None => None,
         }
     }
@@ -116,5 +127,23 @@ impl<'a> Report<'a> {
             }
             None => None,
         }
+    }
+
+    /// The position of the contest of the selection at the position, and its name, if there is a selection.
+    pub fn selection_at(&self, index: usize) -> Option<(usize, &SelectionName)>
+        ensures { option_map (λ s. (s.0, s.1.now)) result ≡ selection_in (view self.now) index }
+    {
+        match self.names.get(index) {
+            Some(selection) => Some((selection.contest, &selection.name)),
+            None => None,
+        }
+    }
+
+    /// The position of the selection of the contest at a position with the name, if there is one. No two selections of one
+    /// contest have one name.
+    pub fn find_selection(&self, contest: usize, name: &SelectionName) -> Option<usize>
+        ensures { FindsSelection (view self.now) contest name.now result }
+    {
+        place_of_name(&self.names, contest, name)
     }
 }

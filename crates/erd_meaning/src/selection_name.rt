@@ -2,6 +2,7 @@ ghost use Rattle.std.specs.Prelude.{◌≡◌, IfOk};
 ghost use Rattle.erd_meaning.specs.SelectionNames.{name_cmp};
 
 use crate::key::{Key, copied};
+use crate::shared_key::SharedKey;
 use erd_tables::{Class, Text, type_text};
 use std::alloc::{AllocError, Global};
 use std::cmp::Ordering;
@@ -14,12 +15,12 @@ use std::marker::Model;
 /// none before a value for the order, the label and the identifier. Equal names are one name.
 #[derive(Debug, Drop)]
 pub struct SelectionName {
-    class: Class,
-    keys: Vec<Key>,
-    write_in: bool,
-    order: Option<i128>,
-    label: Option<Text>,
-    identifier: Option<Key>,
+    pub(crate) class: Class,
+    pub(crate) keys: Vec<SharedKey>,
+    pub(crate) write_in: bool,
+    pub(crate) order: Option<i128>,
+    pub(crate) label: Option<Text>,
+    pub(crate) identifier: Option<Key>,
 }
 
 impl Model for SelectionName {
@@ -38,7 +39,7 @@ impl Model for SelectionName {
 }
 
 impl SelectionName {
-    /// An equal name of its own.
+    /// An equal name of its own. It shares the keys of candidates or parties.
     pub fn try_clone(&self, alloc: Global) -> Result<SelectionName, AllocError>
         ensures { IfOk result (λ name. name ≡ self.now) }
     {
@@ -56,12 +57,12 @@ impl SelectionName {
     }
 }
 
-fn copied_keys(alloc: Global, keys: &[Key]) -> Result<Vec<Key>, AllocError>
+fn copied_keys(alloc: Global, keys: &[SharedKey]) -> Result<Vec<SharedKey>, AllocError>
     ensures { IfOk result (λ copies. copies.items ≡ keys.now) }
 {
     let mut copies = Vec::with_capacity(alloc, keys.len())?;
     for key in keys {
-        copies.push(key.try_clone(alloc)?)?;
+        copies.push(key.try_clone()?)?;
     }
     Ok(copies)
 }
