@@ -26,6 +26,11 @@ abbrev pub AtEach : (List ℕ → Type 0) → List (List ℕ) → Type 0
 AtEach P [] = ⊤
 AtEach P (n ∷ ns) = P n × AtEach P ns
 
+infixr 4 ◌also◌
+-- what holds at a name, and what holds at the names after it
+abbrev pub ◌also◌ : {A B : Type 0} → A → B → A × B
+a also b = (a, b)
+
 -- what holds at each of some names and at every other one holds at all
 by_names : (P : List ℕ → Type 0) (names : List (List ℕ)) (name : List ℕ) → AtEach P names → (list_any (bytes_eq name) names ≡ false → P name) → P name
 by_names P [] name each other = other refl

@@ -29,13 +29,23 @@ use Rattle.erd_canon.specs.Bare.{units, election, scope, is_bare}
 use Rattle.erd_canon.specs.Naming.{with_member, unit_id, position_of, named_unit, named_units, named}
 use Rattle.erd_canon.specs.Bare as bare
 use Rattle.erd_canon.proofs.BareKeys.{word_is, sole_entry, widened, find_object, key_named_is}
-use Rattle.erd_canon.proofs.BareRecords.{Typed, same_meant, nothing_meant, same_object}
+use Rattle.erd_canon.proofs.BareRecords.{Typed, ◌also◌, same_meant, nothing_meant, same_object}
 use Rattle.erd_canon.proofs.Fitting.{absent}
 use Rattle.erd_canon.proofs.Named.{units-named, scope-named, owner-named, status_is, is_bare-named}
 use Rattle.erd_canon.proofs.NamedUnits.{are_units, fits-named_unit}
 use Rattle.erd_canon.proofs.Placing.{get-with_member_other, get-with_member, fits-with_member}
 use Rattle.erd_canon.proofs.Standing.{Bare, bare_parts, present_member}
 use Rattle.erd_canon.proofs.Texts.{other_text}
+
+-- ---- members beside one that is put in
+
+-- they mean the same, where values of their kind say nothing of a report
+kept_meant : (t u : Data) (place : List ℕ) (new d : Data) (k : MemberKind) (name : List ℕ) → bytes_eq name place ≡ false
+    → ((v : Data) → plain_value u k v ≡ plain_value t k v)
+    → option_map a_plain (option_and_then (plain_value u k) (get name (with_member place new d))) ≡ option_map a_plain (option_and_then (plain_value t k) (get name d))
+kept_meant t u place new d k name other alike =
+    same_meant (plain_value u k) (plain_value t k) (get name (with_member place new d)) (get name d)
+    (get-with_member_other name place new d (other_text name place other)) alike
 
 -- ---- the report
 
@@ -51,19 +61,12 @@ report_same : (t u : Data) → fits (want.ObjectOf class.ElectionReport) t ≡ t
 report_same t u ft fu =
     let silent = λ (k : MemberKind) (name : List ℕ) (no : (r v : Data) → plain_value r k v ≡ None).
     nothing_meant (plain_value u k) (plain_value t k) (get name u) (get name t) (no u) (no t) in
-    same_object u t u t role.Report class.ElectionReport report_typed fu ft (
-      silent kind.ClassText (codes "@type") (λ r v. refl),
-      (
-        silent kind.Elections (codes "Election") (λ r v. refl),
-        (
-          silent (kind.Keyed family.Unit) (codes "GpUnit") (λ r v. refl),
-          (
-            same_meant (plain_value u kind.Word) (plain_value t kind.Word) (get (codes "Status") u) (get (codes "Status") t) (status_same t u ft fu) (λ v. refl),
-            (refl, (refl, (refl, (refl, (refl, (refl, (refl, tt))))))),
-          ),
-        ),
-      ),
-    )
+    same_object u t u t role.Report class.ElectionReport report_typed fu ft
+    (silent kind.ClassText (codes "@type") (λ r v. refl)
+    also silent kind.Elections (codes "Election") (λ r v. refl)
+    also silent (kind.Keyed family.Unit) (codes "GpUnit") (λ r v. refl)
+    also same_meant (plain_value u kind.Word) (plain_value t kind.Word) (get (codes "Status") u) (get (codes "Status") t) (status_same t u ft fu) (λ v. refl)
+    also refl also refl also refl also refl also refl also refl also refl also tt)
 
 -- ---- the election
 
@@ -85,28 +88,17 @@ scope_meant t u b id same =
 election_same : (t u : Data) → Bare t → (id : List ℕ) → key_named u family.Unit id ≡ key_named t family.Unit (scope t)
     → object_record u role.Election (with_member (codes "ElectionScopeId") (string id) (election t)) ≡ object_record t role.Election (election t)
 election_same t u b id same =
-    let e = election t in
     let new = with_member (codes "ElectionScopeId") (string id) (election t) in
-    let kept = λ (k : MemberKind) (name : List ℕ) (other : bytes_eq name (codes "ElectionScopeId") ≡ false) (alike : (v : Data) → plain_value u k v ≡ plain_value t k v).
-    same_meant (plain_value u k) (plain_value t k) (get name new) (get name e)
-    (get-with_member_other name (codes "ElectionScopeId") (string id) e (other_text name (codes "ElectionScopeId") other)) alike in
-    same_object u t new e role.Election class.Election election_typed
-    (fits-with_member class.Election (codes "ElectionScopeId") (string id) (election t) refl b.fit_election) b.fit_election (
-      kept kind.ClassText (codes "@type") refl (λ v. refl),
-      (
-        scope_meant t u b id same,
-        (
-          kept kind.Word (codes "EndDate") refl (λ v. refl),
-          (
-            kept kind.Label (codes "Name") refl (λ v. refl),
-            (
-              kept kind.Word (codes "StartDate") refl (λ v. refl),
-              (kept kind.Word (codes "Type") refl (λ v. refl), tt),
-            ),
-          ),
-        ),
-      ),
-    )
+    let kept = kept_meant t u (codes "ElectionScopeId") (string id) (election t) in
+    same_object u t new (election t) role.Election class.Election election_typed
+    (fits-with_member class.Election (codes "ElectionScopeId") (string id) (election t) refl b.fit_election) b.fit_election
+    (kept kind.ClassText (codes "@type") refl (λ v. refl)
+    also scope_meant t u b id same
+    also kept kind.Word (codes "EndDate") refl (λ v. refl)
+    also kept kind.Label (codes "Name") refl (λ v. refl)
+    also kept kind.Word (codes "StartDate") refl (λ v. refl)
+    also kept kind.Word (codes "Type") refl (λ v. refl)
+    also tt)
 
 election_entries : (t : Data) → Bare t → entries_at (codes "Election") t ≡ election t ∷ []
 election_entries t b =
@@ -132,19 +124,13 @@ unit_same : (t u : Data) (i : ℕ) (d : Data) → fits (want.ObjectOf class.Repo
     → object_record u (role.OfFamily family.Unit) (named_unit i d) ≡ object_record t (role.OfFamily family.Unit) d
 unit_same t u i d fd =
     let new = named_unit i d in
-    let kept = λ (k : MemberKind) (name : List ℕ) (other : bytes_eq name (codes "@id") ≡ false) (alike : (v : Data) → plain_value u k v ≡ plain_value t k v).
-    same_meant (plain_value u k) (plain_value t k) (get name new) (get name d)
-    (get-with_member_other name (codes "@id") (string (unit_id i)) d (other_text name (codes "@id") other)) alike in
-    same_object u t new d (role.OfFamily family.Unit) class.ReportingUnit unit_typed (fits-named_unit i d fd) fd (
-      nothing_meant (plain_value u kind.Identity) (plain_value t kind.Identity) (get (codes "@id") new) (get (codes "@id") d) (λ v. refl) (λ v. refl),
-      (
-        kept kind.ClassText (codes "@type") refl (λ v. refl),
-        (
-          kept kind.Identifiers (codes "ExternalIdentifier") refl (λ v. refl),
-          (kept kind.Word (codes "Type") refl (λ v. refl), tt),
-        ),
-      ),
-    )
+    let kept = kept_meant t u (codes "@id") (string (unit_id i)) d in
+    same_object u t new d (role.OfFamily family.Unit) class.ReportingUnit unit_typed (fits-named_unit i d fd) fd
+    (nothing_meant (plain_value u kind.Identity) (plain_value t kind.Identity) (get (codes "@id") new) (get (codes "@id") d) (λ v. refl) (λ v. refl)
+    also kept kind.ClassText (codes "@type") refl (λ v. refl)
+    also kept kind.Identifiers (codes "ExternalIdentifier") refl (λ v. refl)
+    also kept kind.Word (codes "Type") refl (λ v. refl)
+    also tt)
 
 abbrev is_of_key : Key → Data → Bool
 is_of_key k d = is_eq (option_cmp key_cmp (key_of d) (Some k))

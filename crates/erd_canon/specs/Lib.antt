@@ -6,6 +6,7 @@ pub mod EngineTexts
 pub mod Wants
 pub mod Bare
 pub mod BareMeaning
-pub mod BareBytes
+pub mod Written
+pub mod Refused
 pub mod Naming
 pub mod Run

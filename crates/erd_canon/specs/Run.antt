@@ -1,16 +1,40 @@
 -- What a run does that ends with an outcome.
-use Rattle.std.specs.Prelude.{◌≡◌, ◌≤◌, ℕ, List, [], length, codes, Option}
+use Rattle.std.specs.Prelude.{◌≡◌, ◌≤◌, ℕ, List, [], ◌∷◌, length, map, codes, Option}
 use Rattle.std.specs.Io.KnownBytes.{Appends, Consumes, IsAtEnd}
+use Rattle.erd_tables.specs.Faults.{fault_line}
+use Rattle.erd_tables.specs.declared.fault.Fault.{Fault}
 use Rattle.erd_canon.specs.declared.outcome.Outcome.{Outcome}
 use Rattle.erd_canon.specs.declared.outcome.Outcome.TheVariants.{Good, Bad, NotJson}
 use Rattle.erd_canon.specs.Bytes.{IsNotJson}
-use Rattle.erd_canon.specs.BareBytes.{IsWritten, IsNotBare}
+use Rattle.erd_canon.specs.EngineTexts.{IsRefusedReport, text_of_lines}
+use Rattle.erd_canon.specs.Refused.{IsSomeReport}
+use Rattle.erd_canon.specs.Written.{IsWritten}
 
--- what goes to the one writer and to the other for given bytes, and the outcome
+-- the bytes have faults, and the text has one line for each
+abbrev pub IsToldFaults : List ℕ → List ℕ → Type 0
+IsToldFaults bytes text = (faults : List Fault) × IsRefusedReport bytes faults × (text ≡ text_of_lines (map fault_line faults))
+
+-- the bytes are no JSON, and the text says so
+abbrev pub IsToldNotJson : List ℕ → List ℕ → Type 0
+IsToldNotJson bytes text = IsNotJson bytes × (text ≡ text_of_lines (codes "not JSON" ∷ []))
+
+-- what checking writes for given bytes, and the outcome
+abbrev pub IsChecked : List ℕ → Outcome → List ℕ → Type 0
+IsChecked bytes Good out = IsSomeReport bytes × (out ≡ text_of_lines (codes "accepted" ∷ []))
+IsChecked bytes Bad out = IsToldFaults bytes out
+IsChecked bytes NotJson out = IsToldNotJson bytes out
+
+-- what canonicalising writes to the one writer and to the other for given bytes, and the outcome
 abbrev pub IsAnswered : List ℕ → Outcome → List ℕ → List ℕ → Type 0
 IsAnswered bytes Good out err = IsWritten bytes out × (err ≡ [])
-IsAnswered bytes Bad out err = IsNotBare bytes × (out ≡ []) × (err ≡ codes "not yet\n")
-IsAnswered bytes NotJson out err = IsNotJson bytes × (out ≡ []) × (err ≡ codes "not JSON\n")
+IsAnswered bytes Bad out err = IsToldFaults bytes err × (out ≡ [])
+IsAnswered bytes NotJson out err = IsToldNotJson bytes err × (out ≡ [])
+
+-- where the writer tells its bytes: what checking writes for the bytes was written, and nothing else
+pub record IsCheckWritten (bytes : List ℕ) (outcome : Outcome) (before after : Option (List ℕ)) : Type 0 where
+  pub text : List ℕ
+  pub checked : IsChecked bytes outcome text
+  pub wrote : Appends before after text
 
 -- where the writers tell their bytes: what is answered for the bytes was written, and nothing else
 pub record IsAnswerWritten (bytes : List ℕ) (outcome : Outcome) (out_before out_after err_before err_after : Option (List ℕ)) : Type 0 where
@@ -20,11 +44,22 @@ pub record IsAnswerWritten (bytes : List ℕ) (outcome : Outcome) (out_before ou
   pub wrote_out : Appends out_before out_after out_text
   pub wrote_err : Appends err_before err_after err_text
 
+-- where the reader tells its bytes: they were read to their end, and are no more than the limit
+pub record IsReadWhole (limit : ℕ) (before after : Option (List ℕ)) (input : List ℕ) : Type 0 where
+  pub came : Consumes before after input
+  pub ended : IsAtEnd after
+  pub in_limit : length input ≤ limit
+
+-- where the devices tell their bytes: the reader was read to its end and held no more than the limit, and what checking
+-- writes for its bytes was written, and nothing else
+pub record IsWholeCheck (limit : ℕ) (outcome : Outcome) (before after out_before out_after : Option (List ℕ)) : Type 0 where
+  pub input : List ℕ
+  pub whole : IsReadWhole limit before after input
+  pub written : IsCheckWritten input outcome out_before out_after
+
 -- where the devices tell their bytes: the reader was read to its end and held no more than the limit, and what is
 -- answered for its bytes was written, and nothing else
 pub record IsWholeRun (limit : ℕ) (outcome : Outcome) (before after out_before out_after err_before err_after : Option (List ℕ)) : Type 0 where
   pub input : List ℕ
-  pub came : Consumes before after input
-  pub ended : IsAtEnd after
-  pub in_limit : length input ≤ limit
+  pub whole : IsReadWhole limit before after input
   pub written : IsAnswerWritten input outcome out_before out_after err_before err_after

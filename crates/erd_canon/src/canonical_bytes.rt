@@ -1,67 +1,59 @@
-ghost use Rattle.std.specs.Prelude.{◌≡◌, ◌↔◌, ◌≤◌, IfOk, Err};
-ghost use Rattle.serde_json.specs.Errors.{IsMemory};
-ghost use Rattle.serde_json.specs.Data.{depth};
-ghost use Rattle.serde_json.specs.Read.{max_depth};
+ghost use Rattle.std.specs.Prelude.{◌≡◌, IfOk, IfErr, IfSome};
 ghost use Rattle.serde_json.specs.View.{view};
+ghost use Rattle.erd_check.specs.Trees.{IsShallow};
+ghost use Rattle.erd_meaning.specs.Accepted.{IsAccepted};
 ghost use Rattle.erd_canon.specs.Bare.{IsBare};
-ghost use Rattle.erd_canon.specs.Bytes.{IsNotJson};
-ghost use Rattle.erd_canon.specs.BareBytes.{IsWrittenFor, IsWritten, IsNotBare};
+ghost use Rattle.erd_canon.specs.Refused.{RefusedAs};
+ghost use Rattle.erd_canon.specs.Written.{IsWrittenFor, IsWritten};
 
+use crate::acceptance::{accepted, tree_of};
 use crate::bare::is_bare_report;
 use crate::naming::named_tree;
-use serde_json::{Error, Value};
+use crate::refusal::Refusal;
+use erd_check::CheckError;
+use serde_json::Value;
 use std::alloc::{AllocError, Global};
 
-/// Why no canonical bytes are answered.
-#[derive(Clone, Copy, Debug, PartialEq, Eq)]
-pub enum Refusal {
-    /// The bytes are not JSON as `serde_json` reads it: UTF-8, and nested at most 127 deep.
-    NotJson,
-    /// The bytes are JSON, and not a report of the plain kind that is judged so far.
-    NotYet,
-    /// Memory was refused.
-    Memory,
-}
-
-/// The canonical bytes of a report, as the text of its canonical tree without blanks.
+/// The bytes of an accepted report that means what the given one means, as a text without blanks; or why the given bytes
+/// are refused.
 ///
-/// So far a report is judged only if it has units with one identifier each, one election, and nothing else;
-/// the units keep their order.
+/// So far the report is written as it came, but for the order of its members, the spelling of its texts and numbers, and
+/// blanks. Only a report that has units with one identifier each, one election, and nothing else, gets the envelope and the
+/// `@id` names of the canonical form.
 pub fn canonical(alloc: Global, bytes: &[u8]) -> Result<Vec<u8>, Refusal>
     ensures ok { IfOk result (λ text. IsWritten bytes.now text.items) }
-    ensures not_json { result ≡ Err Refusal.NotJson → IsNotJson bytes.now }
-    ensures not_yet { result ≡ Err Refusal.NotYet → IsNotBare bytes.now }
+    ensures refused { IfErr result (RefusedAs bytes.now) }
 {
-    let report = match Value::from_slice(alloc, bytes) {
-        Ok(report) => report,
-        Err(error) => return Err(refusal_of(&error)),
-    };
-    if !is_bare_report(&report) {
-        return Err(Refusal::NotYet);
-    }
-    match written(alloc, &report) {
-        Ok(text) => Ok(text),
-        Err(_) => Err(Refusal::Memory),
-    }
+    let tree = tree_of(alloc, bytes)?;
+    let report = accepted(alloc, &tree)?;
+    let text = written(alloc, report.tree())?;
+    Ok(text)
 }
 
-fn refusal_of(error: &Error) -> Refusal
-    ensures memory { (result ≡ Refusal.Memory) ↔ IsMemory error.now }
-    ensures not_json { (result ≡ Refusal.NotJson) ↔ (¬ IsMemory error.now) }
-{
-    if error.is_memory() {
-        Refusal::Memory
-    } else {
-        Refusal::NotJson
-    }
-}
-
-// The compact text of the tree that is written for a bare report.
+// The text that is written for an accepted report. It is replaced by the text of the canonical form.
 fn written(alloc: Global, report: &Value) -> Result<Vec<u8>, AllocError>
-    requires bare { IsBare (view report.now) }
-    requires nests { depth (view report.now) ≤ max_depth }
+    requires accepted { IsAccepted (view report.now) }
+    requires nests { IsShallow (view report.now) }
     ensures { IfOk result (λ text. IsWrittenFor (view report.now) text.items) }
 {
+    if is_bare_report(report) {
+        if let Some(text) = written_bare(alloc, report)? {
+            return Ok(text);
+        }
+    }
+    report.to_vec(alloc)
+}
+
+// The text of the tree that is named for a bare report, if that is accepted. So it is; it is not proved but checked.
+fn written_bare(alloc: Global, report: &Value) -> Result<Option<Vec<u8>>, AllocError>
+    requires bare { IsBare (view report.now) }
+    requires nests { IsShallow (view report.now) }
+    ensures { IfOk result (λ text. IfSome text (λ bytes. IsWrittenFor (view report.now) bytes.items)) }
+{
     let tree = named_tree(alloc, report)?;
-    tree.to_vec(alloc)
+    match accepted(alloc, &tree) {
+        Ok(_) => Ok(Some(tree.to_vec(alloc)?)),
+        Err(CheckError::Faults(_)) => Ok(None),
+        Err(CheckError::Memory) => Err(AllocError),
+    }
 }

@@ -1,22 +1,30 @@
-//! The canonical bytes of a report, and the engine that reads a report and writes them.
+//! The canonical bytes of a report, and the engines that read a report and write its faults or these bytes.
 #![tactic(auto)]
 
+mod acceptance;
 mod bare;
 mod canonical_bytes;
+mod checking;
+mod fault_lines;
 mod naming;
 mod outcome;
 mod read_from;
+mod refusal;
 mod run;
 mod sink;
 mod source;
 mod tally;
 mod tree;
 mod want;
+mod write_and_flush;
 mod write_to;
 
-pub use canonical_bytes::{Refusal, canonical};
+pub use acceptance::check_bytes;
+pub use canonical_bytes::canonical;
+pub use checking::run_check;
 pub use outcome::{Outcome, RunFault};
 pub use read_from::ReadFrom;
+pub use refusal::Refusal;
 pub use run::run_canon;
 pub use sink::Sink;
 pub use source::{Failed, MOST_BYTES, Source};

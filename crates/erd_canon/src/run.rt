@@ -1,18 +1,20 @@
-ghost use Rattle.std.specs.Prelude.{◌≡◌, ◌≢◌, ◌↔◌, ◌⊎◌, ◌+◌, ◌^◌, ◌<◌, ◌≤◌, false, true, Err, IfErr, IfOk, OnOk, OnErr, IsErrOf};
-ghost use Rattle.std.specs.Io.KnownBytes.{Appends};
+ghost use Rattle.std.specs.Prelude.{◌≡◌, ◌≢◌, ◌↔◌, ◌⊎◌, ◌+◌, ◌^◌, ◌<◌, ◌≤◌, false, true, Err, IfErr, IfOk, OnOk, IsErrOf};
 ghost use Rattle.erd_canon.specs.Reading.{Exceeds};
 ghost use Rattle.erd_canon.specs.Run.{IsAnswerWritten, IsWholeRun};
 
-use crate::canonical_bytes::{Refusal, canonical};
+use crate::canonical_bytes::canonical;
+use crate::fault_lines::fault_lines;
 use crate::outcome::{Outcome, RunFault};
-use crate::sink::{Sink, write_out};
+use crate::refusal::Refusal;
+use crate::sink::Sink;
 use crate::source::{MOST_BYTES, Source, read_all};
+use crate::write_and_flush::write_both;
 use std::alloc::Global;
 
 /// Reads a report to its end, judges it, writes its canonical bytes to `out`, and flushes `out` and then `err`.
 ///
-/// Of a report that is not accepted nothing goes to `out`, and a line that says so goes to `err`. A reader
-/// holds at most 67,108,864 bytes. The devices must not have failed yet; after a failure nothing more is read,
+/// Of a report that is not accepted nothing goes to `out`, and one line for each fault goes to `err`; of bytes that are no
+/// JSON, the line `not JSON`. Each line is ended by one line feed. A reader holds at most 67,108,864 bytes. The devices must not have failed yet; after a failure nothing more is read,
 /// written or flushed.
 pub fn run_canon<S: Source, O: Sink, E: Sink>(
     alloc: Global,
@@ -80,45 +82,11 @@ fn write_answer<O: Sink, E: Sink>(
 {
     match canonical(alloc, bytes) {
         Ok(text) => write_both(out, err, Outcome::Good, text.as_slice(), &[]),
+        Err(Refusal::Faults(faults)) => match fault_lines(alloc, &faults) {
+            Ok(lines) => write_both(out, err, Outcome::Bad, &[], lines.as_slice()),
+            Err(_) => Err(RunFault::Memory),
+        },
         Err(Refusal::NotJson) => write_both(out, err, Outcome::NotJson, &[], b"not JSON\n"),
-        Err(Refusal::NotYet) => write_both(out, err, Outcome::Bad, &[], b"not yet\n"),
         Err(Refusal::Memory) => Err(RunFault::Memory),
     }
-}
-
-// Writes to both, then flushes both, and gives the outcome.
-fn write_both<O: Sink, E: Sink>(
-    out: &mut O,
-    err: &mut E,
-    outcome: Outcome,
-    out_text: &[u8],
-    err_text: &[u8],
-) -> Result<Outcome, RunFault>
-    requires out_works { O.has_failed out.old ≡ false }
-    requires err_works { E.has_failed err.old ≡ false }
-    ensures outcome { IfOk result (λ answer. answer ≡ outcome) }
-    ensures fault { IfErr result (λ fault. fault ≡ RunFault.Write) }
-    ensures wrote_out { OnOk result (Appends (O.contents out.old) (O.contents out.new) out_text.now) }
-    ensures wrote_err { OnOk result (Appends (E.contents err.old) (E.contents err.new) err_text.now) }
-    ensures flushed { OnOk result ((O.is_flushed out.new ≡ true) × (E.is_flushed err.new ≡ true)) }
-    ensures works { OnOk result ((O.has_failed out.new ≡ false) × (E.has_failed err.new ≡ false)) }
-    ensures failed { OnErr result ((O.has_failed out.new ≡ true) ⊎ (E.has_failed err.new ≡ true)) }
-    ensures out_first { O.has_failed out.new ≡ true → O.flushes out.new ≡ O.flushes out.old → err.new ≡ err.old }
-    ensures writes_first { E.has_failed err.new ≡ true → E.flushes err.new ≡ E.flushes err.old
-        → O.flushes out.new ≡ O.flushes out.old }
-    ensures flush_order { (E.flushes err.new ≡ E.flushes err.old) ⊎ (O.is_flushed out.new ≡ true) }
-{
-    if write_out(out, out_text).is_err() {
-        return Err(RunFault::Write);
-    }
-    if write_out(err, err_text).is_err() {
-        return Err(RunFault::Write);
-    }
-    if out.flush().is_err() {
-        return Err(RunFault::Write);
-    }
-    if err.flush().is_err() {
-        return Err(RunFault::Write);
-    }
-    Ok(outcome)
 }
