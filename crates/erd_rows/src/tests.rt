@@ -1,3 +1,4 @@
+mod acceptance;
 mod devices;
 mod edits;
 mod identity;

@@ -1,5 +1,7 @@
 //! Lists of faults as lines, and what is told of reports.
 use crate::tests::edits::edited;
+use crate::writers::PageWriter;
+use erd_canon::{Outcome, ReadFrom, WriteTo, run_check};
 use erd_check::{CheckError, faults, same_json, shape};
 use erd_meaning::resolve;
 use erd_tables::FaultList;
@@ -39,8 +41,33 @@ pub fn all_hold(alloc: Global, cases: &[Case]) -> Result<(), Fail> {
     Ok(())
 }
 
-// What is told of a report: `accepted`, or its fault lines.
+// What checking the bytes of a report writes, which is what is told of it layer by layer.
 pub fn check_lines(alloc: Global, report: &str) -> Result<String, Fail> {
+    let told = layer_lines(alloc, report)?;
+    let (outcome, written) = checked(alloc, report.as_bytes())?;
+    let wanted = if told.as_str() == ACCEPTED {
+        Outcome::Good
+    } else {
+        Outcome::Bad
+    };
+    if outcome != wanted || written.as_str() != told.as_str() {
+        let text = format!(in alloc; "by its bytes: {written}")?;
+        return Err(Fail::from(text));
+    }
+    Ok(written)
+}
+
+// What checking answers for the bytes, and what it writes.
+pub fn checked(alloc: Global, bytes: &[u8]) -> Result<(Outcome, String), Fail> {
+    let mut reader = ReadFrom::of(bytes);
+    let mut out = WriteTo::of(PageWriter::empty());
+    let outcome = run_check(alloc, &mut reader, &mut out)?;
+    let text = str::from_utf8(out.writer.text())?;
+    Ok((outcome, String::from_str(alloc, text)?))
+}
+
+// What is told of a report: `accepted`, or its fault lines.
+fn layer_lines(alloc: Global, report: &str) -> Result<String, Fail> {
     let shape = shape_lines(alloc, report)?;
     if shape.is_empty() {
         resolve_lines(alloc, report)

@@ -1,7 +1,7 @@
 //! References from each family to another, and the names of selections beside them.
 use crate::tests::edits::{edited, spelled};
 use crate::tests::lines::check_lines;
-use crate::tests::names::{Ranked, names_are};
+use crate::tests::names::{OWN, names_are};
 use crate::vectors::{SMALL_BALLOT, SMALL_BALLOT_CANONICAL};
 use erd_check::shape;
 use erd_meaning::{Report, resolve};
@@ -9,9 +9,6 @@ use erd_tables::Family;
 use serde_json::Value;
 use std::alloc::Global;
 use std::test::Fail;
-
-// The names of the small ballot's own selections.
-const OWN: Ranked<'static> = &[(0, 3), (0, 4), (0, 2), (1, 1), (1, 0)];
 
 // The small ballot with each `from` replaced.
 fn with_all(alloc: Global, edits: &[(&str, &str)]) -> Result<String, Fail> {

@@ -10,6 +10,10 @@ use std::test::Fail;
 // For each selection the position of its contest, and the rank of its name among all: equal names have one rank.
 pub type Ranked<'a> = &'a [(usize, usize)];
 
+// The names of the small ballot's own selections: classes by their names, then the keys as words, and of labels a text before
+// translations.
+pub const OWN: Ranked<'static> = &[(0, 3), (0, 4), (0, 2), (1, 1), (1, 0)];
+
 // The report is accepted, and its selections have these contests and names of these ranks.
 pub fn names_are(alloc: Global, report: &str, ranked: Ranked) -> Result<(), Fail> {
     let told = check_lines(alloc, report)?;

@@ -2,6 +2,7 @@
 use crate::tests::edits::edited;
 use crate::tests::lines::{ACCEPTED, Case, all_hold, check_lines};
 use crate::vectors::{ONE_UNIT, SMALL_BALLOT};
+use erd_canon::canonical;
 use std::test::Fail;
 
 const SELECTION_IDS: &str = r#""OrderedContestSelectionIds":["a10","a9","a11"]"#;
@@ -146,12 +147,13 @@ fn mutual_composition(rt: HostRuntime) -> Result<(), Fail> {
         let report = edited(alloc, ONE_UNIT, "\"GpUnit\":[{", to.as_str())?;
         let found = check_lines(alloc, report.as_str())?;
         assert_eq!(rt; found.as_str(), ACCEPTED);
+        canonical(alloc, report.as_bytes())?;
     }
     Ok(())
 }
 
 // Of four faults, one in each phase, each is told where no earlier phase has one.
-const OF_EACH_PHASE: &[Case] = &[
+pub const OF_EACH_PHASE: &[Case] = &[
     (
         SMALL_BALLOT,
         r#"{"@id":"a11","#,

@@ -1,7 +1,7 @@
 //! Names of selections: which are one, and how they are ordered.
 use crate::tests::edits::{edited, spelled};
 use crate::tests::lines::check_lines;
-use crate::tests::names::{Ranked, names_are};
+use crate::tests::names::{OWN, names_are};
 use crate::vectors::{SMALL_BALLOT, SMALL_BALLOT_CANONICAL};
 use std::alloc::Global;
 use std::test::Fail;
@@ -49,9 +49,6 @@ fn answers_have(alloc: Global, texts: &[&str], wanted: &str) -> Result<(), Fail>
     }
     Ok(())
 }
-
-// The small ballot's own selections: classes by their names, then the keys as words; a text before a translated label.
-const OWN: Ranked<'static> = &[(0, 3), (0, 4), (0, 2), (1, 1), (1, 0)];
 
 #[test]
 fn small_ballot(rt: HostRuntime) -> Result<(), Fail> {
