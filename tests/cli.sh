@@ -43,8 +43,41 @@ expect 'through pipes' 0 "$canonical" ''
 status=$?
 expect 'a slow pipe' 0 "$canonical" ''
 
+run examples/small-ballot.canonical.json
+expect 'canonical output with contests fed back' 0 examples/small-ballot.canonical.json ''
+
 run examples/small-ballot.json
-expect 'a report that is not judged yet' 1 "$work/empty" $'not yet\n'
+cp "$work/out" "$work/ballot"
+expect 'a small ballot' 0 "$work/ballot" ''
+run "$work/ballot"
+expect 'its output fed back' 0 "$work/ballot" ''
+
+# Fault lines go to standard error: of the shape, and of later phases.
+sed 's/pre-election/certified/; s/"VotesAllowed":1/"VotesAllowed":1.5/' examples/small-ballot.json > "$work/shape"
+run "$work/shape"
+expect 'two faults of the shape' 1 "$work/empty" \
+    $'/Election/0/Contest/0/VotesAllowed: not a whole number\n/Status: not pre-election\n'
+
+sed 's/"Value":"U2"/"Value":"U1"/' examples/small-ballot.json > "$work/twins"
+run "$work/twins"
+expect 'two units with one key' 1 "$work/empty" $'/GpUnit/1: identifier used twice\n'
+
+sed 's/"PersonId":"a16"/"PersonId":"a16","PartyId":"a16"/; s/"BallotName":"Bo"/"BallotName":"Bo","PartyId":"x9"/' \
+    examples/small-ballot.json > "$work/references"
+run "$work/references"
+expect 'two faults of references' 1 "$work/empty" \
+    $'/Election/0/Candidate/1/PartyId: reference to another family\n/Election/0/Candidate/2/PartyId: unresolved reference\n'
+
+line='{"@id":"a15","@type":"ElectionResults.CandidateSelection","IsWriteIn":true}'
+sed "s/\"IsWriteIn\":true}/&,$line/" examples/small-ballot.json > "$work/lines"
+run "$work/lines"
+expect 'two write-in lines with one name' 1 "$work/empty" \
+    $'/Election/0/Contest/0/ContestSelection/3: selection name used twice\n'
+
+"$erd" < "$work/lines" > "$work/out" 2> /dev/full
+status=$?
+: > "$work/err"
+expect 'fault lines on a full device' 3 "$work/empty" ''
 
 run "$work/empty"
 expect 'no bytes' 2 "$work/empty" $'not JSON\n'
@@ -109,7 +142,7 @@ expect 'a word that is no text' 3 "$work/empty" $'only the filter\n'
 why=''
 cmp -s "$one" crates/erd/stdin || why+='crates/erd/stdin differs; '
 cmp -s "$canonical" crates/erd/stdout || why+='crates/erd/stdout differs; '
-for file in one-unit.json one-unit.canonical.json small-ballot.json; do
+for file in one-unit.json one-unit.canonical.json small-ballot.json small-ballot.canonical.json; do
     sed 's/\\/\\\\/g; s/"/\\"/g' "examples/$file" > "$work/literal"
     grep -qFf "$work/literal" crates/erd_rows/src/vectors.rt || why+="$file is not in erd_rows; "
 done

@@ -68,11 +68,19 @@ one_test() {
 
 : > "$work/empty"
 program 'a report with one unit' examples/one-unit.json 0 examples/one-unit.canonical.json ''
-program 'a report that is not judged yet' examples/small-ballot.json 1 "$work/empty" $'not yet\n'
+program 'a small ballot' examples/small-ballot.canonical.json 0 examples/small-ballot.canonical.json ''
+sed 's/"Value":"U2"/"Value":"U1"/' examples/small-ballot.json > "$work/twins"
+program 'a refused report' "$work/twins" 1 "$work/empty" $'/GpUnit/1: identifier used twice\n'
 program 'no JSON' tests/refuse.c 2 "$work/empty" $'not JSON\n'
 one_test tests::refused::refused_canonical
 one_test tests::refused::refused_run
 one_test tests::refused::refused_shape
+one_test tests::refused::refused_check_of_faults
+one_test tests::refused::refused_check_of_accepted
 one_test tests::refused::refused_resolve
+one_test tests::refused::refused_references
+one_test tests::refused::refused_twin_write_ins
+one_test tests::refused::refused_ordered_write_ins
+one_test tests::refused::refused_identified_write_ins
 
 counts

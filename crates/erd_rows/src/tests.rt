@@ -1,9 +1,13 @@
+mod acceptance;
 mod devices;
 mod edits;
 mod identity;
 mod lines;
+mod links;
+mod names;
 mod places;
 mod references;
 mod refused;
 mod reports;
+mod selections;
 mod shape;

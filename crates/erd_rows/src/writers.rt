@@ -81,6 +81,11 @@ impl PageWriter {
         }
     }
 
+    /// What it was given.
+    pub fn text(&self) -> &[u8] {
+        self.page.get(..self.len).unwrap_or(&[])
+    }
+
     /// Whether it was given exactly these bytes.
     pub fn holds(&self, bytes: &[u8]) -> bool {
         self.len == bytes.len() && self.page.starts_with(bytes)

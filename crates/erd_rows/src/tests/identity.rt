@@ -1,6 +1,6 @@
 //! Keys and `@id` texts: what is told of them, and what is found by them.
 use crate::tests::edits::edited;
-use crate::tests::lines::resolve_lines;
+use crate::tests::lines::{ACCEPTED, check_lines};
 use crate::vectors::{ONE_UNIT, SMALL_BALLOT};
 use erd_check::shape;
 use erd_meaning::{Key, Report, resolve};
@@ -25,7 +25,7 @@ fn unit(alloc: Global, id: &str, members: &str) -> Result<String, Fail> {
     )?)
 }
 
-// The report of one unit, after units with these members in their identifiers, has these fault lines.
+// The report of one unit, after units with these members in their identifiers, is judged so.
 fn units_have(alloc: Global, units: &[(&str, &str)], wanted: &str) -> Result<(), Fail> {
     let mut added = String::from_str(alloc, "\"GpUnit\":[")?;
     for (id, members) in units {
@@ -33,7 +33,7 @@ fn units_have(alloc: Global, units: &[(&str, &str)], wanted: &str) -> Result<(),
         added.push_str(text.as_str())?;
     }
     let report = edited(alloc, ONE_UNIT, "\"GpUnit\":[", added.as_str())?;
-    let found = resolve_lines(alloc, report.as_str())?;
+    let found = check_lines(alloc, report.as_str())?;
     if found.as_str() == wanted {
         Ok(())
     } else {
@@ -95,8 +95,8 @@ fn twin_unit_key(rt: HostRuntime) -> Result<(), Fail> {
         "{{\"Party\":[{{\"@id\":\"p\",\"@type\":\"ElectionResults.Party\",\"Name\":\"B\",\"ExternalIdentifier\":[{entry}]}}],"
     )?;
     let report = edited(alloc, ONE_UNIT, "{", party.as_str())?;
-    let found = resolve_lines(alloc, report.as_str())?;
-    assert_eq!(rt; found.as_str(), "");
+    let found = check_lines(alloc, report.as_str())?;
+    assert_eq!(rt; found.as_str(), ACCEPTED);
     Ok(())
 }
 
@@ -104,14 +104,14 @@ fn twin_unit_key(rt: HostRuntime) -> Result<(), Fail> {
 fn no_identifier_and_double_id(rt: HostRuntime) -> Result<(), Fail> {
     let alloc = rt.alloc();
     let without = edited(alloc, ONE_UNIT, IDENTIFIERS, "[]")?;
-    let found = resolve_lines(alloc, without.as_str())?;
+    let found = check_lines(alloc, without.as_str())?;
     assert_eq!(rt; found.as_str(), "/GpUnit/0: no external identifier\n");
     let entry = identifier(alloc, r#""Type":"local-level","Value":"P1""#)?;
     let party = format!(in alloc;
         "{{\"Party\":[{{\"@id\":\"u7\",\"@type\":\"ElectionResults.Party\",\"Name\":\"B\",\"ExternalIdentifier\":[{entry}]}}],"
     )?;
     let report = edited(alloc, ONE_UNIT, "{", party.as_str())?;
-    let found = resolve_lines(alloc, report.as_str())?;
+    let found = check_lines(alloc, report.as_str())?;
     assert_eq!(rt; found.as_str(), "/Party/0/@id: @id used twice\n");
     // An object without a key and with the `@id` of an earlier one; the empty text is an `@id` too.
     units_have(
@@ -128,7 +128,7 @@ fn no_identifier_and_double_id(rt: HostRuntime) -> Result<(), Fail> {
         "\"GpUnit\":[",
         "\"Office\":[{\"@id\":\"u7\",\"@type\":\"ElectionResults.Office\",\"Name\":\"O\"}],\"GpUnit\":[",
     )?;
-    let found = resolve_lines(alloc, twice.as_str())?;
+    let found = check_lines(alloc, twice.as_str())?;
     assert_eq!(rt;
         found.as_str(),
         "/GpUnit/0: no external identifier\n/Office/0: no external identifier\n/Office/0/@id: @id used twice\n"
@@ -163,7 +163,7 @@ fn one_id_in_two_families(rt: HostRuntime) -> Result<(), Fail> {
         ),
     ] {
         let report = edited(alloc, SMALL_BALLOT, from, to)?;
-        let found = resolve_lines(alloc, report.as_str())?;
+        let found = check_lines(alloc, report.as_str())?;
         assert_eq!(rt; found.as_str(), wanted);
     }
     Ok(())

@@ -1,11 +1,16 @@
-//! Lists of faults as lines.
+//! Lists of faults as lines, and what is told of reports.
 use crate::tests::edits::edited;
+use crate::writers::PageWriter;
+use erd_canon::{Outcome, ReadFrom, WriteTo, run_check};
 use erd_check::{CheckError, faults, same_json, shape};
 use erd_meaning::resolve;
 use erd_tables::FaultList;
 use serde_json::Value;
 use std::alloc::{AllocError, Global};
 use std::test::Fail;
+
+// What is told of an accepted report.
+pub const ACCEPTED: &str = "accepted\n";
 
 // The lines of a list of faults, each with its line end.
 pub fn lines(alloc: Global, faults: &FaultList) -> Result<String, AllocError> {
@@ -20,14 +25,14 @@ pub fn lines(alloc: Global, faults: &FaultList) -> Result<String, AllocError> {
     Ok(text)
 }
 
-// A report, an edit of it, and its fault lines.
+// A report, an edit of it, and what is told of the edited report.
 pub type Case = (&'static str, &'static str, &'static str, &'static str);
 
-// Each edited report has these fault lines.
+// Each edited report is judged so.
 pub fn all_hold(alloc: Global, cases: &[Case]) -> Result<(), Fail> {
     for (report, from, to, wanted) in cases {
         let report = edited(alloc, report, from, to)?;
-        let found = shape_lines(alloc, report.as_str())?;
+        let found = check_lines(alloc, report.as_str())?;
         if found.as_str() != *wanted {
             let text = format!(in alloc; "with {to}: {found}")?;
             return Err(Fail::from(text));
@@ -36,7 +41,42 @@ pub fn all_hold(alloc: Global, cases: &[Case]) -> Result<(), Fail> {
     Ok(())
 }
 
-// The fault lines of a report, by `faults` and by `shape`.
+// What checking the bytes of a report writes, which is what is told of it layer by layer.
+pub fn check_lines(alloc: Global, report: &str) -> Result<String, Fail> {
+    let told = layer_lines(alloc, report)?;
+    let (outcome, written) = checked(alloc, report.as_bytes())?;
+    let wanted = if told.as_str() == ACCEPTED {
+        Outcome::Good
+    } else {
+        Outcome::Bad
+    };
+    if outcome != wanted || written.as_str() != told.as_str() {
+        let text = format!(in alloc; "by its bytes: {written}")?;
+        return Err(Fail::from(text));
+    }
+    Ok(written)
+}
+
+// What checking answers for the bytes, and what it writes.
+pub fn checked(alloc: Global, bytes: &[u8]) -> Result<(Outcome, String), Fail> {
+    let mut reader = ReadFrom::of(bytes);
+    let mut out = WriteTo::of(PageWriter::empty());
+    let outcome = run_check(alloc, &mut reader, &mut out)?;
+    let text = str::from_utf8(out.writer.text())?;
+    Ok((outcome, String::from_str(alloc, text)?))
+}
+
+// What is told of a report: `accepted`, or its fault lines.
+fn layer_lines(alloc: Global, report: &str) -> Result<String, Fail> {
+    let shape = shape_lines(alloc, report)?;
+    if shape.is_empty() {
+        resolve_lines(alloc, report)
+    } else {
+        Ok(shape)
+    }
+}
+
+// The fault lines of the shape of a report, by `faults` and by `shape`.
 pub fn shape_lines(alloc: Global, report: &str) -> Result<String, Fail> {
     let tree = Value::from_str(alloc, report)?;
     let found = faults(alloc, &tree)?;
@@ -57,14 +97,14 @@ pub fn shape_lines(alloc: Global, report: &str) -> Result<String, Fail> {
     Ok(found)
 }
 
-// The fault lines of a report whose shape has no fault.
-pub fn resolve_lines(alloc: Global, report: &str) -> Result<String, Fail> {
+// What is told of a report whose shape has no fault.
+fn resolve_lines(alloc: Global, report: &str) -> Result<String, Fail> {
     let tree = Value::from_str(alloc, report)?;
     let Ok(shaped) = shape(alloc, &tree) else {
         return Err(Fail::from("a fault of the shape"));
     };
     match resolve(alloc, shaped) {
-        Ok(_) => Ok(String::new(alloc)),
+        Ok(_) => Ok(String::from_str(alloc, ACCEPTED)?),
         Err(CheckError::Faults(faults)) => Ok(lines(alloc, &faults)?),
         Err(CheckError::Memory) => Err(Fail::from("no memory")),
     }

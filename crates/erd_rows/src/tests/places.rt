@@ -1,6 +1,5 @@
-//! Places and their pointers, deep values, and equality.
-use crate::tests::edits::edited;
-use crate::tests::lines::{all_hold, shape_lines};
+//! Places and their pointers, and equality.
+use crate::tests::lines::all_hold;
 use crate::vectors::ONE_UNIT;
 use erd_check::same_json;
 use erd_tables::{Fault, Place, Reason, Step, Text, pointer};
@@ -81,24 +80,6 @@ fn equal_as_json(rt: HostRuntime) -> Result<(), Fail> {
         let other = Value::from_str(alloc, right)?;
         assert_eq!(rt; same_json(&one, &other), wanted, "{left} and {right}");
         assert_eq!(rt; same_json(&other, &one), wanted, "{right} and {left}");
-    }
-    Ok(())
-}
-
-// A report may be nested as deep as `serde_json` reads: 127 arrays and objects.
-#[test]
-fn deepest_nesting(rt: HostRuntime) -> Result<(), Fail> {
-    let alloc = rt.alloc();
-    for (arrays, is_read) in [(126, true), (127, false)] {
-        let open = "[".repeat(alloc, arrays)?;
-        let close = "]".repeat(alloc, arrays)?;
-        let member = format!(in alloc; "{{\"Depth\":{open}{close},")?;
-        let report = edited(alloc, ONE_UNIT, "{", member.as_str())?;
-        assert_eq!(rt; Value::from_str(alloc, report.as_str()).is_ok(), is_read);
-        if is_read {
-            let found = shape_lines(alloc, report.as_str())?;
-            assert_eq!(rt; found.as_str(), "");
-        }
     }
     Ok(())
 }

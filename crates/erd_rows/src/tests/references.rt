@@ -1,11 +1,11 @@
 //! What is told of references.
 use crate::tests::edits::edited;
-use crate::tests::lines::resolve_lines;
+use crate::tests::lines::{ACCEPTED, Case, all_hold, check_lines};
 use crate::vectors::{ONE_UNIT, SMALL_BALLOT};
+use erd_canon::canonical;
 use std::test::Fail;
 
-const ENTRIES: &str =
-    "/Election/0/BallotStyle/0/OrderedContent/0/OrderedContent/0/OrderedContestSelectionIds";
+const SELECTION_IDS: &str = r#""OrderedContestSelectionIds":["a10","a9","a11"]"#;
 
 #[test]
 fn wrong_and_unresolved_reference(rt: HostRuntime) -> Result<(), Fail> {
@@ -22,7 +22,7 @@ fn wrong_and_unresolved_reference(rt: HostRuntime) -> Result<(), Fail> {
         r#""BallotName":"Bo""#,
         r#""BallotName":"Bo","PartyId":"x9""#,
     )?;
-    let found = resolve_lines(alloc, report.as_str())?;
+    let found = check_lines(alloc, report.as_str())?;
     assert_eq!(rt;
         found.as_str(),
         "/Election/0/Candidate/1/PartyId: reference to another family\n/Election/0/Candidate/2/PartyId: unresolved reference\n"
@@ -30,83 +30,165 @@ fn wrong_and_unresolved_reference(rt: HostRuntime) -> Result<(), Fail> {
     Ok(())
 }
 
+// A reference that is written twice and names nothing has both faults at each later copy.
 #[test]
-fn references_of_the_small_ballot(rt: HostRuntime) -> Result<(), Fail> {
-    let alloc = rt.alloc();
-    let list = r#""OrderedContestSelectionIds":["a10","a9","a11"]"#;
-    for (from, to, wanted) in [
-        ("a2", "a2", ""),
-        (
-            r#""GpUnitIds":["a2"]"#,
-            r#""GpUnitIds":["a2","a2"]"#,
-            "/Election/0/BallotStyle/0/GpUnitIds/1: repeated\n",
-        ),
-        // A reference that is written twice and names nothing has both faults at each later copy.
-        (
+fn repeated_and_unresolved(rt: HostRuntime) -> Result<(), Fail> {
+    all_hold(
+        rt.alloc(),
+        &[(
+            SMALL_BALLOT,
             r#""GpUnitIds":["a2"]"#,
             r#""GpUnitIds":["x","x"]"#,
             "/Election/0/BallotStyle/0/GpUnitIds/0: unresolved reference\n/Election/0/BallotStyle/0/GpUnitIds/1: repeated\n/Election/0/BallotStyle/0/GpUnitIds/1: unresolved reference\n",
-        ),
-        // An unresolved contest tells only itself.
-        (
+        )],
+    )
+}
+
+// The selections of an unknown contest are judged no further.
+#[test]
+fn unknown_contest_alone(rt: HostRuntime) -> Result<(), Fail> {
+    all_hold(
+        rt.alloc(),
+        &[(
+            SMALL_BALLOT,
             r#""ContestId":"a8""#,
             r#""ContestId":"x9""#,
             "/Election/0/BallotStyle/0/OrderedContent/0/OrderedContent/0/ContestId: unresolved reference\n",
-        ),
-        // The two lists may say a thing twice, and say nothing.
-        (list, r#""OrderedContestSelectionIds":["a9","a9"]"#, ""),
-        (list, r#""OrderedContestSelectionIds":[]"#, ""),
-        // Each fault of an earlier phase hides those of references.
-        (
-            r#""@id":"a6","#,
-            r#""@id":"a5","PartyId":"x","#,
-            "/Election/0/Candidate/2/@id: @id used twice\n",
-        ),
-    ] {
-        let report = edited(alloc, SMALL_BALLOT, from, to)?;
-        let found = resolve_lines(alloc, report.as_str())?;
-        assert_eq!(rt; found.as_str(), wanted);
-    }
-    Ok(())
+        )],
+    )
+}
+
+#[test]
+fn candidate_among_selections(rt: HostRuntime) -> Result<(), Fail> {
+    all_hold(
+        rt.alloc(),
+        &[(
+            SMALL_BALLOT,
+            SELECTION_IDS,
+            r#""OrderedContestSelectionIds":["a5"]"#,
+            "/Election/0/BallotStyle/0/OrderedContent/0/OrderedContent/0/OrderedContestSelectionIds/0: reference to another family\n",
+        )],
+    )
+}
+
+// The list of a contest's selections may say a thing twice, and say nothing.
+#[test]
+fn repeated_and_empty_selection_ids(rt: HostRuntime) -> Result<(), Fail> {
+    all_hold(
+        rt.alloc(),
+        &[
+            (
+                SMALL_BALLOT,
+                SELECTION_IDS,
+                r#""OrderedContestSelectionIds":["a9","a9"]"#,
+                ACCEPTED,
+            ),
+            (
+                SMALL_BALLOT,
+                SELECTION_IDS,
+                r#""OrderedContestSelectionIds":[]"#,
+                ACCEPTED,
+            ),
+        ],
+    )
 }
 
 #[test]
 fn selection_of_other_contest(rt: HostRuntime) -> Result<(), Fail> {
+    all_hold(
+        rt.alloc(),
+        &[
+            (
+                SMALL_BALLOT,
+                SELECTION_IDS,
+                r#""OrderedContestSelectionIds":["a13","a9","a11"]"#,
+                "/Election/0/BallotStyle/0/OrderedContent/0/OrderedContent/0/OrderedContestSelectionIds/0: selection of another contest\n",
+            ),
+            // Each entry is judged, and one that is repeated too.
+            (
+                SMALL_BALLOT,
+                SELECTION_IDS,
+                r#""OrderedContestSelectionIds":["a9","x","a14","a14"]"#,
+                "/Election/0/BallotStyle/0/OrderedContent/0/OrderedContent/0/OrderedContestSelectionIds/1: unresolved reference\n/Election/0/BallotStyle/0/OrderedContent/0/OrderedContent/0/OrderedContestSelectionIds/2: selection of another contest\n/Election/0/BallotStyle/0/OrderedContent/0/OrderedContent/0/OrderedContestSelectionIds/3: selection of another contest\n",
+            ),
+            // What names no contest has no selections of its own, and an entry can still be astray.
+            (
+                SMALL_BALLOT,
+                r#""ContestId":"a8","OrderedContestSelectionIds":["a10","a9","a11"]"#,
+                r#""ContestId":"a4","OrderedContestSelectionIds":["a13","a8"]"#,
+                "/Election/0/BallotStyle/0/OrderedContent/0/OrderedContent/0/ContestId: reference to another family\n/Election/0/BallotStyle/0/OrderedContent/0/OrderedContent/0/OrderedContestSelectionIds/1: reference to another family\n",
+            ),
+        ],
+    )
+}
+
+// A unit among persons, and nobody.
+#[test]
+fn authority_ids(rt: HostRuntime) -> Result<(), Fail> {
+    all_hold(
+        rt.alloc(),
+        &[(
+            ONE_UNIT,
+            r#""@id":"u7","#,
+            r#""@id":"u7","AuthorityIds":["u7","x"],"#,
+            "/GpUnit/0/AuthorityIds/0: reference to another family\n/GpUnit/0/AuthorityIds/1: unresolved reference\n",
+        )],
+    )
+}
+
+// Each of two units composes the other; or the first one itself.
+#[test]
+fn mutual_composition(rt: HostRuntime) -> Result<(), Fail> {
     let alloc = rt.alloc();
-    for (entries, words) in [
-        (r#"["a13","a9","a11"]"#, "selection of another contest"),
-        (r#"["a5"]"#, "reference to another family"),
-        (r#"["x"]"#, "unresolved reference"),
-    ] {
-        let list = format!(in alloc; "\"OrderedContestSelectionIds\":{entries}")?;
-        let report = edited(
-            alloc,
-            SMALL_BALLOT,
-            r#""OrderedContestSelectionIds":["a10","a9","a11"]"#,
-            list.as_str(),
+    for composed in ["u8", "u7"] {
+        let to = format!(in alloc;
+            "\"GpUnit\":[{{\"@id\":\"u8\",\"@type\":\"ElectionResults.ReportingUnit\",\"Type\":\"county\",\"ExternalIdentifier\":[{{\"@type\":\"ElectionResults.ExternalIdentifier\",\"Type\":\"local-level\",\"Value\":\"U2\"}}],\"ComposingGpUnitIds\":[\"u7\"]}},{{\"ComposingGpUnitIds\":[\"{composed}\"],"
         )?;
-        let found = resolve_lines(alloc, report.as_str())?;
-        let wanted = format!(in alloc; "{ENTRIES}/0: {words}\n")?;
-        assert_eq!(rt; found.as_str(), wanted.as_str());
+        let report = edited(alloc, ONE_UNIT, "\"GpUnit\":[{", to.as_str())?;
+        let found = check_lines(alloc, report.as_str())?;
+        assert_eq!(rt; found.as_str(), ACCEPTED);
+        canonical(alloc, report.as_bytes())?;
     }
     Ok(())
 }
 
-// A unit among persons, and nobody; a unit may compose itself.
+// Of four faults, one in each phase, each is told where no earlier phase has one.
+pub const OF_EACH_PHASE: &[Case] = &[
+    (
+        SMALL_BALLOT,
+        r#"{"@id":"a11","#,
+        r#"{"@id":"a15","@type":"ElectionResults.CandidateSelection","IsWriteIn":true},{"@id":"a11","#,
+        "/Election/0/Contest/0/ContestSelection/3: selection name used twice\n",
+    ),
+    (
+        SMALL_BALLOT,
+        r#""PartyId":"a3""#,
+        r#""PartyId":"x""#,
+        "/Election/0/Candidate/0/PartyId: unresolved reference\n",
+    ),
+    (
+        SMALL_BALLOT,
+        r#""@id":"a6""#,
+        r#""@id":"a5""#,
+        "/Election/0/Candidate/2/@id: @id used twice\n",
+    ),
+    (
+        SMALL_BALLOT,
+        "pre-election",
+        "certified",
+        "/Status: not pre-election\n",
+    ),
+];
+
 #[test]
-fn authority_ids(rt: HostRuntime) -> Result<(), Fail> {
+fn first_phase_alone(rt: HostRuntime) -> Result<(), Fail> {
     let alloc = rt.alloc();
-    for (member, wanted) in [
-        (
-            r#""AuthorityIds":["u7","x"]"#,
-            "/GpUnit/0/AuthorityIds/0: reference to another family\n/GpUnit/0/AuthorityIds/1: unresolved reference\n",
-        ),
-        (r#""ComposingGpUnitIds":["u7"]"#, ""),
-    ] {
-        let with_member = format!(in alloc; "\"@id\":\"u7\",{member},")?;
-        let report = edited(alloc, ONE_UNIT, r#""@id":"u7","#, with_member.as_str())?;
-        let found = resolve_lines(alloc, report.as_str())?;
-        assert_eq!(rt; found.as_str(), wanted);
+    all_hold(alloc, OF_EACH_PHASE)?;
+    let mut report = String::from_str(alloc, SMALL_BALLOT)?;
+    for (_, from, to, wanted) in OF_EACH_PHASE {
+        report = edited(alloc, report.as_str(), from, to)?;
+        let found = check_lines(alloc, report.as_str())?;
+        assert_eq!(rt; found.as_str(), *wanted);
     }
     Ok(())
 }

@@ -1,7 +1,7 @@
-//! What is answered for reports.
+//! The canonical bytes of reports, and the words of faults.
 use crate::tests::edits::edited;
-use crate::vectors::{ONE_UNIT, ONE_UNIT_CANONICAL, SMALL_BALLOT};
-use erd_canon::{Outcome, Refusal, RunFault, canonical};
+use crate::vectors::{ONE_UNIT, ONE_UNIT_CANONICAL, SMALL_BALLOT_CANONICAL};
+use erd_canon::{RunFault, canonical};
 use std::test::Fail;
 
 const SECOND_UNIT: &str =
@@ -16,15 +16,11 @@ fn one_unit(rt: HostRuntime) -> Result<(), Fail> {
 
 #[test]
 fn canonical_of_canonical(rt: HostRuntime) -> Result<(), Fail> {
-    let text = canonical(rt.alloc(), ONE_UNIT_CANONICAL.as_bytes())?;
-    assert!(rt; text.as_slice() == ONE_UNIT_CANONICAL.as_bytes());
+    for report in [ONE_UNIT_CANONICAL, SMALL_BALLOT_CANONICAL] {
+        let text = canonical(rt.alloc(), report.as_bytes())?;
+        assert!(rt; text.as_slice() == report.as_bytes());
+    }
     Ok(())
-}
-
-#[test]
-fn small_ballot_not_yet(rt: HostRuntime) {
-    let refusal = canonical(rt.alloc(), SMALL_BALLOT.as_bytes()).err();
-    assert_eq!(rt; refusal, Some(Refusal::NotYet));
 }
 
 // Units are named by their positions, and the scope follows its unit.
@@ -64,39 +60,6 @@ fn envelope(rt: HostRuntime) -> Result<(), Fail> {
             "with {member}"
         );
     }
-    Ok(())
-}
-
-#[test]
-fn edits_not_yet(rt: HostRuntime) -> Result<(), Fail> {
-    let same_id = format!(in rt.alloc(); "\"GpUnit\":[{{\"@id\":\"u7\",{SECOND_UNIT}")?;
-    for (from, to) in [
-        ("\"pre-election\"", "\"certified\""),
-        ("\"Status\"", "\"Notes\":\"n\",\"Status\""),
-        ("\"Status\"", "\"SequenceStart\":1.5,\"Status\""),
-        ("\"Status\":\"pre-election\",", ""),
-        ("\"ElectionScopeId\":\"u7\"", "\"ElectionScopeId\":\"u8\""),
-        ("\"Type\":\"county\"", "\"Type\":7"),
-        ("\"Value\":\"U1\"", "\"Value\":\"U1\",\"OtherType\":\"\""),
-        ("\"Name\":\"Test\"", "\"Name\":null"),
-        ("ElectionResults.ReportingUnit", "ElectionResults.GpUnit"),
-        ("\"GpUnit\":[", same_id.as_str()),
-    ] {
-        let report = edited(rt.alloc(), ONE_UNIT, from, to)?;
-        let refusal = canonical(rt.alloc(), report.as_bytes()).err();
-        assert_eq!(rt; refusal, Some(Refusal::NotYet), "with {to}");
-    }
-    Ok(())
-}
-
-#[test]
-fn not_json(rt: HostRuntime) -> Result<(), Fail> {
-    let (_, short) = ONE_UNIT.as_bytes().split_last().ok_or("no bytes")?;
-    for bytes in [b"".as_slice(), short, b"\xff"] {
-        let refusal = canonical(rt.alloc(), bytes).err();
-        assert_eq!(rt; refusal, Some(Refusal::NotJson));
-    }
-    assert_eq!(rt; Outcome::NotJson.status(), 2);
     Ok(())
 }
 

@@ -1,5 +1,6 @@
 //! Faults of the shape, by their lines.
-use crate::tests::lines::{all_hold, shape_lines};
+use crate::tests::edits::edited;
+use crate::tests::lines::{ACCEPTED, all_hold, check_lines, shape_lines};
 use crate::vectors::{
     ONE_UNIT, SMALL_BALLOT, SMALL_BALLOT_CANONICAL, THREE_SHAPE_FAULT_LINES, THREE_SHAPE_FAULTS,
 };
@@ -17,16 +18,16 @@ fn accepted_shapes(rt: HostRuntime) -> Result<(), Fail> {
     all_hold(
         rt.alloc(),
         &[
-            (ONE_UNIT, "U1", "U1", ""),
-            (SMALL_BALLOT, "U1", "U1", ""),
-            (SMALL_BALLOT_CANONICAL, "U1", "U1", ""),
+            (ONE_UNIT, "U1", "U1", ACCEPTED),
+            (SMALL_BALLOT, "U1", "U1", ACCEPTED),
+            (SMALL_BALLOT_CANONICAL, "U1", "U1", ACCEPTED),
         ],
     )
 }
 
 #[test]
 fn three_shape_faults(rt: HostRuntime) -> Result<(), Fail> {
-    let found = shape_lines(rt.alloc(), THREE_SHAPE_FAULTS)?;
+    let found = check_lines(rt.alloc(), THREE_SHAPE_FAULTS)?;
     assert_eq!(rt; found.as_str(), THREE_SHAPE_FAULT_LINES);
     Ok(())
 }
@@ -41,7 +42,7 @@ fn root_kinds(rt: HostRuntime) -> Result<(), Fail> {
             ": missing member Election\n: missing member Status\n",
         ),
     ] {
-        let found = shape_lines(rt.alloc(), report)?;
+        let found = check_lines(rt.alloc(), report)?;
         assert_eq!(rt; found.as_str(), wanted);
     }
     Ok(())
@@ -77,7 +78,7 @@ fn status_and_election_count(rt: HostRuntime) -> Result<(), Fail> {
     let none = format!(in alloc; "{before}\"Election\":[]}}")?;
     let two = format!(in alloc; "{before}\"Election\":[{election},{election}]}}")?;
     for report in [none.as_str(), two.as_str()] {
-        let found = shape_lines(alloc, report)?;
+        let found = check_lines(alloc, report)?;
         assert_eq!(rt; found.as_str(), "/Election: wrong number of elections\n");
     }
     Ok(())
@@ -94,12 +95,11 @@ fn empty_and_repeated(rt: HostRuntime) -> Result<(), Fail> {
                 r#""GpUnitIds":[]"#,
                 "/Election/0/BallotStyle/0/GpUnitIds: empty array\n",
             ),
-            // A repeated reference is told with the references, where each has its target.
             (
                 SMALL_BALLOT,
                 r#""GpUnitIds":["a2"]"#,
                 r#""GpUnitIds":["a2","a2"]"#,
-                "",
+                "/Election/0/BallotStyle/0/GpUnitIds/1: repeated\n",
             ),
             (
                 ONE_UNIT,
@@ -139,6 +139,21 @@ fn empty_and_repeated(rt: HostRuntime) -> Result<(), Fail> {
     )
 }
 
+// A repeated reference is no fault of the shape: it is told with the references, where each has its target.
+#[test]
+fn repeated_reference_has_its_shape(rt: HostRuntime) -> Result<(), Fail> {
+    let alloc = rt.alloc();
+    let report = edited(
+        alloc,
+        SMALL_BALLOT,
+        r#""GpUnitIds":["a2"]"#,
+        r#""GpUnitIds":["a2","a2"]"#,
+    )?;
+    let found = shape_lines(alloc, report.as_str())?;
+    assert_eq!(rt; found.as_str(), "");
+    Ok(())
+}
+
 #[test]
 fn required_members(rt: HostRuntime) -> Result<(), Fail> {
     all_hold(
@@ -176,7 +191,7 @@ fn outside_members(rt: HostRuntime) -> Result<(), Fail> {
                 SMALL_BALLOT,
                 r#""@id":"a9","#,
                 r#""@id":"a9","VoteCounts":[],"#,
-                "",
+                ACCEPTED,
             ),
             (
                 SMALL_BALLOT,
@@ -194,7 +209,7 @@ fn outside_members(rt: HostRuntime) -> Result<(), Fail> {
                 SMALL_BALLOT,
                 r#""@id":"a8","#,
                 r#""@id":"a8","OtherCounts":[],"#,
-                "",
+                ACCEPTED,
             ),
             (
                 SMALL_BALLOT,
@@ -207,7 +222,7 @@ fn outside_members(rt: HostRuntime) -> Result<(), Fail> {
                 SMALL_BALLOT,
                 r#""@id":"a9","#,
                 r#""@id":"a9","OtherCounts":[{}],"#,
-                "",
+                ACCEPTED,
             ),
             // Nothing is sought inside.
             (
@@ -250,7 +265,7 @@ fn identity_where_none_belongs(rt: HostRuntime) -> Result<(), Fail> {
                 r#"{"FooId":{"a":1.5},"#,
                 "/FooId: unknown reference\n",
             ),
-            (ONE_UNIT, "{", r#"{"fooid":"u7","Idle":"u7","#, ""),
+            (ONE_UNIT, "{", r#"{"fooid":"u7","Idle":"u7","#, ACCEPTED),
             (
                 ONE_UNIT,
                 "{",
@@ -282,7 +297,7 @@ fn whole_numbers(rt: HostRuntime) -> Result<(), Fail> {
                 SMALL_BALLOT,
                 r#""VotesAllowed":1"#,
                 r#""VotesAllowed":-1"#,
-                "",
+                ACCEPTED,
             ),
             // Inside carried values, however deep.
             (
@@ -340,7 +355,7 @@ fn carried_members(rt: HostRuntime) -> Result<(), Fail> {
                 ONE_UNIT,
                 r#""@id":"u7","#,
                 r#""@id":"u7","Text":[],"ContestSelection":["a","a"],"#,
-                "",
+                ACCEPTED,
             ),
             (
                 ONE_UNIT,

@@ -1,0 +1,198 @@
+//! Bytes are refused alike, whoever is asked: `run_check`, `check_bytes`, `canonical` and `run_canon`.
+use crate::tests::edits::edited;
+use crate::tests::lines::{ACCEPTED, checked, lines};
+use crate::tests::references::OF_EACH_PHASE;
+use crate::vectors::{
+    ONE_UNIT, ONE_UNIT_CANONICAL, SMALL_BALLOT, SMALL_BALLOT_CANONICAL, THREE_SHAPE_FAULT_LINES,
+    THREE_SHAPE_FAULTS, TWIN_UNITS,
+};
+use erd_canon::{Outcome, ReadFrom, Refusal, WriteTo, canonical, check_bytes, run_canon};
+use std::alloc::Global;
+use std::test::Fail;
+
+const NOT_JSON: &str = "not JSON\n";
+
+// What is told of a refusal.
+fn refusal_lines(alloc: Global, refusal: Refusal) -> Result<String, Fail> {
+    match refusal {
+        Refusal::NotJson => Ok(String::from_str(alloc, NOT_JSON)?),
+        Refusal::Faults(faults) => Ok(lines(alloc, &faults)?),
+        Refusal::Memory => Err(Fail::from("no memory")),
+    }
+}
+
+fn told_by_check_bytes(alloc: Global, bytes: &[u8]) -> Result<String, Fail> {
+    match check_bytes(alloc, bytes) {
+        Ok(()) => Ok(String::from_str(alloc, ACCEPTED)?),
+        Err(refusal) => refusal_lines(alloc, refusal),
+    }
+}
+
+// What is written for an accepted report is accepted.
+fn told_by_canonical(alloc: Global, bytes: &[u8]) -> Result<String, Fail> {
+    match canonical(alloc, bytes) {
+        Ok(text) => told_by_check_bytes(alloc, text.as_slice()),
+        Err(refusal) => refusal_lines(alloc, refusal),
+    }
+}
+
+// Nothing is written to the first writer but for an accepted report, and then nothing to the second one.
+fn told_by_run_canon(alloc: Global, bytes: &[u8], wanted: Outcome) -> Result<String, Fail> {
+    let mut reader = ReadFrom::of(bytes);
+    let mut out = WriteTo::of(Vec::new(alloc));
+    let mut err = WriteTo::of(Vec::new(alloc));
+    let outcome = run_canon(alloc, &mut reader, &mut out, &mut err)?;
+    if outcome != wanted {
+        return Err(Fail::from("another outcome"));
+    }
+    if out.writer.is_empty() != (outcome != Outcome::Good) {
+        return Err(Fail::from("something is written, or nothing"));
+    }
+    if outcome == Outcome::Good && err.writer.is_empty() {
+        return Ok(String::from_str(alloc, ACCEPTED)?);
+    }
+    let text = str::from_utf8(err.writer.as_slice())?;
+    Ok(String::from_str(alloc, text)?)
+}
+
+// This is told of the bytes, whoever is asked.
+fn alike(alloc: Global, bytes: &[u8], wanted: &str) -> Result<(), Fail> {
+    let outcome = if wanted == ACCEPTED {
+        Outcome::Good
+    } else if wanted == NOT_JSON {
+        Outcome::NotJson
+    } else {
+        Outcome::Bad
+    };
+    let (found, text) = checked(alloc, bytes)?;
+    if found != outcome || text.as_str() != wanted {
+        return Err(Fail::from(text));
+    }
+    let text = told_by_check_bytes(alloc, bytes)?;
+    if text.as_str() != wanted {
+        return Err(Fail::from(text));
+    }
+    let text = told_by_canonical(alloc, bytes)?;
+    if text.as_str() != wanted {
+        return Err(Fail::from(text));
+    }
+    let text = told_by_run_canon(alloc, bytes, outcome)?;
+    if text.as_str() == wanted {
+        Ok(())
+    } else {
+        Err(Fail::from(text))
+    }
+}
+
+#[test]
+fn not_json(rt: HostRuntime) -> Result<(), Fail> {
+    let (_, short) = ONE_UNIT.as_bytes().split_last().ok_or("no bytes")?;
+    for bytes in [b"".as_slice(), short, b"\xff"] {
+        alike(rt.alloc(), bytes, NOT_JSON)?;
+    }
+    assert_eq!(rt; Outcome::NotJson.status(), 2);
+    Ok(())
+}
+
+// A report may be nested as deep as `serde_json` reads: 127 arrays and objects.
+#[test]
+fn deepest_nesting(rt: HostRuntime) -> Result<(), Fail> {
+    let alloc = rt.alloc();
+    for (arrays, wanted) in [(126, ACCEPTED), (127, NOT_JSON)] {
+        let open = "[".repeat(alloc, arrays)?;
+        let close = "]".repeat(alloc, arrays)?;
+        let member = format!(in alloc; "{{\"Depth\":{open}{close},")?;
+        let report = edited(alloc, ONE_UNIT, "{", member.as_str())?;
+        alike(alloc, report.as_bytes(), wanted)?;
+    }
+    Ok(())
+}
+
+#[test]
+fn accepted_reports(rt: HostRuntime) -> Result<(), Fail> {
+    for report in [
+        ONE_UNIT,
+        ONE_UNIT_CANONICAL,
+        SMALL_BALLOT,
+        SMALL_BALLOT_CANONICAL,
+    ] {
+        alike(rt.alloc(), report.as_bytes(), ACCEPTED)?;
+    }
+    assert_eq!(rt; Outcome::Good.status(), 0);
+    Ok(())
+}
+
+#[test]
+fn refused_reports(rt: HostRuntime) -> Result<(), Fail> {
+    let alloc = rt.alloc();
+    for (report, wanted) in [
+        (THREE_SHAPE_FAULTS, THREE_SHAPE_FAULT_LINES),
+        (TWIN_UNITS, "/GpUnit/1: identifier used twice\n"),
+    ] {
+        alike(alloc, report.as_bytes(), wanted)?;
+    }
+    for (report, from, to, wanted) in OF_EACH_PHASE {
+        let report = edited(alloc, report, from, to)?;
+        alike(alloc, report.as_bytes(), wanted)?;
+    }
+    assert_eq!(rt; Outcome::Bad.status(), 1);
+    Ok(())
+}
+
+// The report of one unit, edited once.
+#[test]
+fn edits_of_one_unit(rt: HostRuntime) -> Result<(), Fail> {
+    for (from, to, wanted) in [
+        (
+            "\"pre-election\"",
+            "\"certified\"",
+            "/Status: not pre-election\n",
+        ),
+        ("\"Status\"", "\"Notes\":\"n\",\"Status\"", ACCEPTED),
+        (
+            "\"Status\"",
+            "\"SequenceStart\":1.5,\"Status\"",
+            "/SequenceStart: not a whole number\n",
+        ),
+        (
+            "\"Status\":\"pre-election\",",
+            "",
+            ": missing member Status\n",
+        ),
+        (
+            "\"ElectionScopeId\":\"u7\"",
+            "\"ElectionScopeId\":\"u8\"",
+            "/Election/0/ElectionScopeId: unresolved reference\n",
+        ),
+        (
+            "\"Type\":\"county\"",
+            "\"Type\":7",
+            "/GpUnit/0/Type: wrong kind\n",
+        ),
+        (
+            "\"Value\":\"U1\"",
+            "\"Value\":\"U1\",\"OtherType\":\"\"",
+            ACCEPTED,
+        ),
+        (
+            "\"Name\":\"Test\"",
+            "\"Name\":null",
+            "/Election/0/Name: wrong kind\n",
+        ),
+        (
+            "ElectionResults.ReportingUnit",
+            "ElectionResults.GpUnit",
+            "/GpUnit/0/@type: wrong class\n",
+        ),
+        // A unit without a name of its own.
+        (
+            "\"@id\":\"u7\",\"@type\"",
+            "\"@type\"",
+            "/Election/0/ElectionScopeId: unresolved reference\n",
+        ),
+    ] {
+        let report = edited(rt.alloc(), ONE_UNIT, from, to)?;
+        alike(rt.alloc(), report.as_bytes(), wanted)?;
+    }
+    Ok(())
+}
