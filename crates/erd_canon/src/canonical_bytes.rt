@@ -65,7 +65,7 @@ fn written_bare(alloc: Global, report: &Value) -> Result<Option<Vec<u8>>, AllocE
 {
     let tree = named_tree(alloc, report)?;
     match accepted(alloc, &tree) {
-        Ok(_) => Ok(Some(as_it_came(alloc, &tree)?)),
+        Ok(report) => Ok(Some(as_it_came(alloc, report.tree())?)),
         Err(CheckError::Faults(_)) => Ok(None),
         Err(CheckError::Memory) => Err(AllocError),
     }

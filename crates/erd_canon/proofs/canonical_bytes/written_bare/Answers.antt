@@ -12,10 +12,12 @@ accepted-requires c = record {
 
 pub as_it_came-requires-clause-nests : goal.as_it_came-requires-clause-nests
 as_it_came-requires-clause-nests c =
-    named_shallow (view c.args.report.now) (view c.in_ok-tree.tree) c.requires.bare c.requires.nests c.in_ok-tree.ensures.tree
+    named_shallow (view c.args.report.now) (view c.tree.result.now) c.requires.bare c.requires.nests
+    (ap view (c.tree.ensures.tree ∙ c.in-Ok.ensures.tree) ∙ c.in_ok-tree.ensures.tree)
 
 pub returns-in-Ok : goal.returns-in-Ok
 returns-in-Ok c =
     let t = view c.args.report.now in
-    written_for_other t (view c.in_ok-tree.tree) c.in_ok-as_it_came-in-Ok.field-0.items
-    (ap meaning c.in_ok-tree.ensures.tree ∙ meaning_of_named t c.requires.bare c.in_ok-tree.ensures.count) c.in_ok-as_it_came-in-Ok.ensures
+    let same = ap view (c.tree.ensures.tree ∙ c.in-Ok.ensures.tree) ∙ c.in_ok-tree.ensures.tree in
+    written_for_other t (view c.tree.result.now) c.in_ok-as_it_came-in-Ok.field-0.items
+    (ap meaning same ∙ meaning_of_named t c.requires.bare c.in_ok-tree.ensures.count) c.in_ok-as_it_came-in-Ok.ensures
