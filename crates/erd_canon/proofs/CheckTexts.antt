@@ -1,5 +1,5 @@
 -- What checking writes is what it is to write.
-use Rattle.std.proofs.Common.{◌≡◌, ℕ, List, [], ◌∷◌, map, codes, inl, inr, refl}
+use Rattle.std.proofs.Common.{ℕ, List, [], ◌∷◌, map, codes, inl, inr, refl}
 use Rattle.erd_tables.specs.Faults.{fault_line}
 use Rattle.erd_canon.specs.EngineTexts.{IsCheckText}
 use Rattle.erd_canon.specs.Run.{IsChecked}
