@@ -23,3 +23,4 @@ pub mod CanonicalReports
 pub mod EqualTrees
 mod StableSorts
 pub mod StableOrders
+pub mod MovedPairs
