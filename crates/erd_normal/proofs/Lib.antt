@@ -24,3 +24,4 @@ pub mod EqualTrees
 mod StableSorts
 pub mod StableOrders
 mod NormalTreeExamples
+pub mod MovedPairs

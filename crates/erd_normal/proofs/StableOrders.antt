@@ -10,11 +10,11 @@ use Rattle.erd_normal.specs.StableOrder.{IsStablySorted, pairs_of}
 
 module _ {K T : Type 0} (cmp : K → K → Ordering) where
   -- no key of a list is less than this one
-  abbrev NoneBelow : K → List (K × T) → Type 0
+  abbrev pub NoneBelow : K → List (K × T) → Type 0
   NoneBelow k xs = AllByRecursion (λ y. is_lt (cmp y.0 k) ≡ false) xs
 
   -- no pair has a key that is less than an earlier one
-  abbrev Rises : List (K × T) → Type 0
+  abbrev pub Rises : List (K × T) → Type 0
   Rises [] = Unit {0}
   Rises (x ∷ xs) = NoneBelow x.0 xs × Rises xs
 
@@ -32,13 +32,17 @@ module _ {K T : Type 0} (cmp : K → K → Ordering) where
   rises (x ∷ xs) h = (none_below x xs (λ k low. h 0 (suc k) x (omega arith) (omega arith)), rises xs (λ i j d le low. h (suc i) (suc j) d (omega arith) (omega arith)))
 
   -- the same pairs of each key, in the same order
-  abbrev AreAlike : List (K × T) → List (K × T) → Type 0
+  abbrev pub AreAlike : List (K × T) → List (K × T) → Type 0
   AreAlike xs ys = (k : K) → pairs_of cmp k xs ≡ pairs_of cmp k ys
+
+  -- at most one pair of each key
+  abbrev pub AreKeysApart : List (K × T) → Type 0
+  AreKeysApart xs = (k : K) → length (pairs_of cmp k xs) ≤ 1
 
   -- ---- one pair at a time
 
   -- a first pair stands in the list of its key alone
-  of_front : (x : K × T) (xs : List (K × T)) (k : K) (b : Bool) → is_eq (cmp x.0 k) ≡ b → pairs_of cmp k (x ∷ xs) ≡ (if b then x ∷ pairs_of cmp k xs else pairs_of cmp k xs)
+  pub of_front : (x : K × T) (xs : List (K × T)) (k : K) (b : Bool) → is_eq (cmp x.0 k) ≡ b → pairs_of cmp k (x ∷ xs) ≡ (if b then x ∷ pairs_of cmp k xs else pairs_of cmp k xs)
   of_front x xs k b is = ap (λ b. if b then x ∷ pairs_of cmp k xs else pairs_of cmp k xs) is
 
   same_rest : (x y : K × T) (xs ys : List (K × T)) (k : K) → x ≡ y → pairs_of cmp k (x ∷ xs) ≡ pairs_of cmp k (y ∷ ys) → pairs_of cmp k xs ≡ pairs_of cmp k ys
@@ -62,10 +66,10 @@ module _ {K : Type 0} (cmp : K → K → Ordering) (total : IsTotalOrder cmp) wh
   not_equal a b less = ap is_eq (total.antisymm b a ∙ ap ordering_reverse less)
 
 module _ {K T : Type 0} (cmp : K → K → Ordering) (total : IsTotalOrder cmp) where
-  rises_by_key : (xs : List (K × T)) → IsSortedByKey (λ pair. pair.0) cmp xs → Rises cmp xs
+  pub rises_by_key : (xs : List (K × T)) → IsSortedByKey (λ pair. pair.0) cmp xs → Rises cmp xs
   rises_by_key xs sorted = rises cmp xs (sorted_far (λ x y. is_lt (cmp x.0 y.0)) (ranks_by total (λ (pair : K × T). pair.0)) xs sorted)
 
-  own : (x : K × T) (xs : List (K × T)) → pairs_of cmp x.0 (x ∷ xs) ≡ x ∷ pairs_of cmp x.0 xs
+  pub own : (x : K × T) (xs : List (K × T)) → pairs_of cmp x.0 (x ∷ xs) ≡ x ∷ pairs_of cmp x.0 xs
   own x xs = of_front cmp x xs x.0 true (ap is_eq (tied_itself total x.0))
 
   -- a key below all has no pairs
@@ -88,7 +92,7 @@ module _ {K T : Type 0} (cmp : K → K → Ordering) (total : IsTotalOrder cmp) 
   first_pairs x y xs ys up down same Equal is =
       let e : x ∷ pairs_of cmp x.0 xs ≡ y ∷ pairs_of cmp x.0 ys = sym (own x xs) ∙ same x.0 ∙ of_front cmp y ys x.0 true (ap is_eq (tied_back total x.0 y.0 is)) in cc
 
-  one_rising : (xs ys : List (K × T)) → Rises cmp xs → Rises cmp ys → AreAlike cmp xs ys → xs ≡ ys
+  pub one_rising : (xs ys : List (K × T)) → Rises cmp xs → Rises cmp ys → AreAlike cmp xs ys → xs ≡ ys
   one_rising [] [] up down same = refl
   one_rising [] (y ∷ ys) up down same = let e : [] ≡ y ∷ pairs_of cmp y.0 ys = same y.0 ∙ own y ys in absurd (cc e)
   one_rising (x ∷ xs) [] up down same = let e : x ∷ pairs_of cmp x.0 xs ≡ [] = sym (own x xs) ∙ same x.0 in absurd (cc e)
@@ -103,17 +107,13 @@ module _ {K T : Type 0} (cmp : K → K → Ordering) (total : IsTotalOrder cmp) 
 
   -- ---- keys that differ
 
-  -- at most one pair of each key
-  abbrev pub AreKeysApart : List (K × T) → Type 0
-  AreKeysApart xs = (k : K) → length (pairs_of cmp k xs) ≤ 1
-
   none_equal : (k l : K) → cmp l k ≡ Equal → (xs : List (K × T)) → AllByRecursion (λ m. eq_by_cmp cmp l m ≡ false) (map (λ pair. pair.0) xs) → pairs_of cmp k xs ≡ []
   none_equal k l is [] h = refl
   none_equal k l is (x ∷ xs) h =
       let apart : is_eq (cmp x.0 k) ≡ false = ap is_eq (sym (alike_right total l k x.0 is)) ∙ sym ((eq_by_cmp_equiv total).symm l x.0) ∙ h.0 in
       of_front cmp x xs k false apart ∙ none_equal k l is xs h.1
 
-  pub apart_if_distinct : (xs : List (K × T)) → IsDistinct (eq_by_cmp cmp) (map (λ pair. pair.0) xs) → AreKeysApart xs
+  pub apart_if_distinct : (xs : List (K × T)) → IsDistinct (eq_by_cmp cmp) (map (λ pair. pair.0) xs) → AreKeysApart cmp xs
   apart_if_distinct [] h k = omega arith
   apart_if_distinct (x ∷ xs) h k = at (is_eq (cmp x.0 k)) refl (apart_if_distinct xs (IsDistinct-tail (eq_by_cmp cmp) x.0 (map (λ pair. pair.0) xs) h) k)
     where
@@ -123,7 +123,7 @@ module _ {K T : Type 0} (cmp : K → K → Ordering) (total : IsTotalOrder cmp) 
           let one : pairs_of cmp k (x ∷ xs) ≡ x ∷ [] = of_front cmp x xs k true is ∙ ap (λ ys. x ∷ ys) none in omega (arith, ap length one)
       at false is rest = omega (arith, ap length (of_front cmp x xs k false is))
 
-  apart_behind : (x : K × T) (xs : List (K × T)) → AreKeysApart (x ∷ xs) → AreKeysApart xs
+  apart_behind : (x : K × T) (xs : List (K × T)) → AreKeysApart cmp (x ∷ xs) → AreKeysApart cmp xs
   apart_behind x xs h k = at (is_eq (cmp x.0 k)) refl (h k)
     where
       at : (b : Bool) → is_eq (cmp x.0 k) ≡ b → length (pairs_of cmp k (x ∷ xs)) ≤ 1 → length (pairs_of cmp k xs) ≤ 1
@@ -134,7 +134,7 @@ module _ {K T : Type 0} (cmp : K → K → Ordering) (total : IsTotalOrder cmp) 
   nothing [] h = refl
   nothing (x ∷ xs) h = absurd (omega arith)
 
-  alone : (x : K × T) (xs : List (K × T)) → AreKeysApart (x ∷ xs) → pairs_of cmp x.0 xs ≡ []
+  alone : (x : K × T) (xs : List (K × T)) → AreKeysApart cmp (x ∷ xs) → pairs_of cmp x.0 xs ≡ []
   alone x xs h = let one = h x.0 in nothing (pairs_of cmp x.0 xs) (omega (arith, ap length (own x xs), one))
 
   all_above : (k : K) (xs : List (K × T)) → NoneBelow cmp k xs → pairs_of cmp k xs ≡ [] → AllByRecursion (λ l. cmp k l ≡ Less) (map (λ pair. pair.0) xs)
@@ -146,11 +146,11 @@ module _ {K T : Type 0} (cmp : K → K → Ordering) (total : IsTotalOrder cmp) 
       at Equal is rest = let e : x ∷ pairs_of cmp k xs ≡ [] = sym (of_front cmp x xs k true (ap is_eq is)) ∙ none in absurd (cc e)
       at Greater is rest = (total.antisymm k x.0 ∙ ap ordering_reverse is, rest (sym (of_front cmp x xs k false (ap is_eq is)) ∙ none))
 
-  strictly : (xs : List (K × T)) → Rises cmp xs → AreKeysApart xs → IsStrictlySortedBy cmp (map (λ pair. pair.0) xs)
+  strictly : (xs : List (K × T)) → Rises cmp xs → AreKeysApart cmp xs → IsStrictlySortedBy cmp (map (λ pair. pair.0) xs)
   unfolding IsStrictlySortedBy
   strictly [] up apart = tt
   strictly (x ∷ xs) up apart = (all_above x.0 xs up.0 (alone x xs apart), strictly xs up.1 (apart_behind x xs apart))
 
   -- a stable sorting rises strictly where no two keys are equal
-  pub rises_strictly : (old new : List (K × T)) → IsStablySorted cmp old new → AreKeysApart old → IsStrictlySortedBy cmp (map (λ pair. pair.0) new)
+  pub rises_strictly : (old new : List (K × T)) → IsStablySorted cmp old new → AreKeysApart cmp old → IsStrictlySortedBy cmp (map (λ pair. pair.0) new)
   rises_strictly old new h apart = strictly new (rises_by_key new h.never_falls) (λ k. subst (λ pairs. length pairs ≤ 1) (sym (h.same k)) (apart k))

@@ -6,9 +6,9 @@ ghost use Rattle.std.specs.declared.cmp.Ordering.TheVariants.{Equal};
 use erd_meaning::{Key, SelectionName};
 use std::cmp::Ordering;
 
-/// What the entries of a set are ordered by. Of any two values one is less than the other, the other is less, or the two
-/// are equal; whatever is less than something lesser is less too; and values that are equal in this order are the very
-/// same value, so that the order of a set leaves nothing open.
+/// What the entries of a set are ordered by. The order is total: of two values one is less or they are equal, asking the
+/// other way round turns the answer, and what is less than a lesser value is less. Values that are equal in this order are
+/// one value as contracts see it, so that nothing of them is left without an order.
 pub trait SetOrder {
     // What `order` answers.
     ghost cmp: { Self → Self → Ordering };

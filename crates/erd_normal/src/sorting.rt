@@ -4,7 +4,8 @@ ghost use Rattle.erd_normal.specs.StableOrder.{IsStablySorted};
 use crate::set_order::SetOrder;
 use std::alloc::{AllocError, Global};
 
-/// The pairs in the order of their keys, those of equal keys as they were given.
+/// The pairs in the order of their keys, those of equal keys as they were given. Where memory is refused the pairs are
+/// dropped.
 pub fn in_order<K: SetOrder + Drop, T: Drop>(
     alloc: Global,
     pairs: Vec<(K, T)>,
