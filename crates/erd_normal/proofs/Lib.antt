@@ -21,4 +21,6 @@ pub mod BallotMeaningExamples
 pub mod Lists
 pub mod CanonicalReports
 pub mod EqualTrees
+pub mod NormalMembers
+pub mod PutMembers
 mod NormalTreeExamples
