@@ -23,4 +23,7 @@ pub mod CanonicalReports
 pub mod EqualTrees
 pub mod NormalMembers
 pub mod PutMembers
+pub mod NormalEnvelope
+pub mod BuiltLists
+pub mod NormalTrees
 mod NormalTreeExamples

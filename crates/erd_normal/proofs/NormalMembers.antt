@@ -121,6 +121,9 @@ module _ (t : Data) (c : Option Class) where
   pub get_normal_node : (name : List ℕ) (ms : Members) → AreMembers ms → get_member name (normal_node_members t c ms) ≡ option_and_then (node_value name) (get_member name ms)
   get_normal_node name ms rise = ap (get_member name) (normal_node_members_each ms) ∙ get_each node_value name ms rise
 
+  pub normal_node_members-before : (k : List ℕ) (ms : Members) → AreMembers ms → IsBeforeFirst k ms → IsBeforeFirst k (normal_node_members t c ms)
+  normal_node_members-before k ms rise below = rw (normal_node_members_each ms) (before_each node_value k ms rise below)
+
   pub normal_node_members-trees : (ms : Members) → AreMembers ms
       → ((name : List ℕ) (d v : Data) → get_member name ms ≡ Some d → IsTree d → node_value name d ≡ Some v → IsTree v) → AreMembers (normal_node_members t c ms)
   normal_node_members-trees ms rise each = rw (normal_node_members_each ms) (trees_of_each node_value ms rise each)
