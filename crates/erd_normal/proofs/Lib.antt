@@ -26,4 +26,6 @@ pub mod PutMembers
 pub mod NormalEnvelope
 pub mod BuiltLists
 pub mod NormalTrees
+pub mod AskedMembers
+pub mod NormalDepths
 mod NormalTreeExamples
