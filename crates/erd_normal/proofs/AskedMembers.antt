@@ -39,7 +39,7 @@ asked_as_kind t kind.Word r d w = tt
 asked_as_kind t k r d w = (r, w)
 
 -- `@type` is in no class's rows
-kind_of_type : (c : Class) → kind_of_member c (codes "@type") ≡ kind.ClassText
+pub kind_of_type : (c : Class) → kind_of_member c (codes "@type") ≡ kind.ClassText
 kind_of_type class.ElectionReport = refl
 kind_of_type c = refl
 

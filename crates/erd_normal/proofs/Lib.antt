@@ -28,4 +28,6 @@ pub mod BuiltLists
 pub mod NormalTrees
 pub mod AskedMembers
 pub mod NormalDepths
+pub mod NormalGets
+pub mod NormalReports
 mod NormalTreeExamples
