@@ -23,5 +23,14 @@ pub mod CanonicalReports
 pub mod EqualTrees
 mod StableSorts
 pub mod StableOrders
+pub mod NormalMembers
+pub mod PutMembers
+pub mod NormalEnvelope
+pub mod BuiltLists
+pub mod NormalTrees
+pub mod AskedMembers
+pub mod NormalDepths
+pub mod NormalGets
+pub mod NormalReports
 mod NormalTreeExamples
 pub mod MovedPairs

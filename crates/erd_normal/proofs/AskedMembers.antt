@@ -1,0 +1,116 @@
+-- What is asked of a value that stands in an object of a known class, by the kind of its member.
+use Rattle.std.proofs.Common.{◌≡◌, ℕ, zero, suc, List, Option, Some, None, Bool, true, false, ◌&&◌, codes, refl, sym, ap, ◌∙◌, subst}
+use Rattle.std.specs.Bool.{⊤}
+use Rattle.std.specs.List.{AllByRecursion}
+use Rattle.std.specs.Str.{bytes_eq}
+use Rattle.serde_json.specs.Data.{Data, array, object, Items, no_items, item, Members}
+use Rattle.serde_json.specs.Find.{get_item, get_member}
+use Rattle.erd_tables.specs.Classes.{role_of_class}
+use Rattle.erd_tables.specs.Table.{is_required, kind_of_member}
+use Rattle.erd_tables.specs.declared.class.Class.{Class}
+use Rattle.erd_tables.specs.declared.class.Class.TheVariants as class
+use Rattle.erd_tables.specs.declared.class.Role.{Role}
+use Rattle.erd_tables.specs.declared.class.Role.TheVariants as role
+use Rattle.erd_tables.specs.declared.member.MemberKind.{MemberKind}
+use Rattle.erd_tables.specs.declared.member.MemberKind.TheVariants as kind
+use Rattle.erd_tables.specs.declared.place.Step.TheVariants.{At}
+use Rattle.erd_check.specs.Faults.{NoneOf, ShapeFault}
+use Rattle.erd_check.specs.Trees.{list_of_items}
+use Rattle.erd_check.specs.Wants.{asked, class_of_object, entry_want, is_compared_set, is_report_class, want_of_kind}
+use Rattle.erd_check.specs.declared.want.Want.{Want}
+use Rattle.erd_check.specs.declared.want.Want.TheVariants.{Member}
+use Rattle.erd_check.proofs.Entries.{array_from}
+use Rattle.erd_check.proofs.Exact.{both_true, text_exact}
+use Rattle.erd_check.proofs.ObjectsAt.{ObjectAt}
+use Rattle.erd_check.proofs.Shapes.{Classed, Within, Within-step, classed, lacks_none, member_within, of_label, wanted_within}
+use Rattle.erd_check.proofs.TableKinds.{want_unless_status}
+
+-- ---- members
+
+-- it is asked at some place what a member of this kind asks; of `@type` and of texts nothing is said
+abbrev pub AskedAs : Data → MemberKind → Data → Type 0
+AskedAs t kind.ClassText d = ⊤
+AskedAs t kind.Word d = ⊤
+AskedAs t k d = (r : Bool) × Within t (asked (want_of_kind k r) d)
+
+asked_as_kind : (t : Data) (k : MemberKind) (r : Bool) (d : Data) → Within t (asked (want_of_kind k r) d) → AskedAs t k d
+asked_as_kind t kind.ClassText r d w = tt
+asked_as_kind t kind.Word r d w = tt
+asked_as_kind t k r d w = (r, w)
+
+-- `@type` is in no class's rows
+pub kind_of_type : (c : Class) → kind_of_member c (codes "@type") ≡ kind.ClassText
+kind_of_type class.ElectionReport = refl
+kind_of_type c = refl
+
+status_kind : (c : Class) → is_report_class c ≡ true → kind_of_member c (codes "Status") ≡ kind.Word
+status_kind class.ElectionReport e = refl
+status_kind c e = cc
+
+asked_as_other : (t : Data) → NoneOf (ShapeFault t) → (w : Want) (q : Role) (c : Class) (ms : Members) → ObjectAt t w q c ms → (name : List ℕ) (v : Data) → get_member name ms ≡ Some v
+    → bytes_eq name (codes "@type") ≡ false → AskedAs t (kind_of_member c name) v
+asked_as_other t clean w q c ms o name v found other = at (is_report_class c && bytes_eq name (codes "Status")) refl
+  where
+    at : (b : Bool) → (is_report_class c && bytes_eq name (codes "Status")) ≡ b → AskedAs t (kind_of_member c name) v
+    at true is =
+        let both = both_true (is_report_class c) (bytes_eq name (codes "Status")) is in
+        let word : kind_of_member c name ≡ kind.Word = ap (kind_of_member c) (text_exact name (codes "Status") both.1) ∙ status_kind c both.0 in
+        subst (λ k. AskedAs t k v) (sym word) tt
+    at false is =
+        asked_as_kind t (kind_of_member c name) (is_required c name) v
+        (subst (λ x. Within t (asked x v)) (want_unless_status c name is) (member_within t clean w q ms c name v o.asks o.among other o.inside found))
+
+-- what is asked of a member that stands
+pub asked_as : (t : Data) → NoneOf (ShapeFault t) → (w : Want) (q : Role) (c : Class) (ms : Members) → ObjectAt t w q c ms → (name : List ℕ) (v : Data) → get_member name ms ≡ Some v
+    → AskedAs t (kind_of_member c name) v
+asked_as t clean w q c ms o name v found = at (bytes_eq name (codes "@type")) refl
+  where
+    at : (b : Bool) → bytes_eq name (codes "@type") ≡ b → AskedAs t (kind_of_member c name) v
+    at true is =
+        let typed : kind_of_member c name ≡ kind.ClassText = ap (kind_of_member c) (text_exact name (codes "@type") is) ∙ kind_of_type c in
+        subst (λ k. AskedAs t k v) (sym typed) tt
+    at false is = asked_as_other t clean w q c ms o name v found is
+
+-- ---- labels
+
+label_class : (c : Class) → role_of_class c ≡ role.Label → c ≡ class.InternationalizedText
+label_class class.InternationalizedText e = refl
+label_class c e = cc
+
+-- a label that is an object has an array of translations
+pub label_texts : (t : Data) → NoneOf (ShapeFault t) → (r : Bool) (ms : Members) → Within t (asked (Member kind.Label r) (object ms))
+    → (texts : Items) × (get_member (codes "Text") ms ≡ Some (array texts)) × Within t (asked (Member kind.Languages true) (array texts))
+label_texts t clean r ms w = at (get_member (codes "Text") ms) refl
+  where
+    cl : Classed role.Label (object ms)
+    cl = classed t clean (Member kind.Label r) role.Label (object ms) of_label refl w
+
+    is : cl.class ≡ class.InternationalizedText
+    is = label_class cl.class cl.role
+
+    among : class_of_object role.Label (object ms) ≡ Some class.InternationalizedText
+    among = cl.among ∙ ap Some is
+
+    at : (o : Option Data) → get_member (codes "Text") ms ≡ o
+        → (texts : Items) × (get_member (codes "Text") ms ≡ Some (array texts)) × Within t (asked (Member kind.Languages true) (array texts))
+    at None e = absurd (lacks_none t clean (asked (Member kind.Label r) (object ms)) (codes "Text") w (rw (cl.text, is) refl) e)
+    at (Some v) e =
+        let inside : Within t (asked (Member kind.Languages true) v) = member_within t clean (Member kind.Label r) role.Label ms class.InternationalizedText (codes "Text") v of_label among refl w e in
+        let ds = array_from v (wanted_within t clean (asked (Member kind.Languages true) v) inside) in
+        (ds.0, e ∙ ap Some ds.1, subst (λ x. Within t (asked (Member kind.Languages true) x)) ds.1 inside)
+
+-- ---- entries
+
+-- what holds of each entry by its position holds of all
+pub all_items : (P : Data → Type 0) (ds : Items) → ((i : ℕ) (d : Data) → get_item i ds ≡ Some d → P d) → AllByRecursion P (list_of_items ds)
+all_items P no_items each = tt
+all_items P (item d ds) each = (each zero d refl, all_items P ds (λ i. each (suc i)))
+
+-- what is asked of an entry of an array whose entries are not compared with one another
+pub entry_asked : (t : Data) (w v : Want) (ds : Items) → entry_want w ≡ Some v → is_compared_set w ≡ false → Within t (asked w (array ds))
+    → (i : ℕ) (d : Data) → get_item i ds ≡ Some d → Within t (asked v d)
+entry_asked t w v ds want apart inside i d found = Within-step t (asked w (array ds)) (asked v d) (At i) inside (rw (want, apart, found) refl)
+
+pub entries_asked : (t : Data) (w v : Want) (ds : Items) → entry_want w ≡ Some v → is_compared_set w ≡ false → Within t (asked w (array ds))
+    → AllByRecursion (λ d. Within t (asked v d)) (list_of_items ds)
+entries_asked t w v ds want apart inside = all_items (λ d. Within t (asked v d)) ds (entry_asked t w v ds want apart inside)

@@ -1,0 +1,79 @@
+-- Lists that are put in order and built entry by entry, and the arrays of them.
+use Rattle.std.proofs.Common.{◌≡◌, ◌≤◌, ℕ, List, [], ◌∷◌, map, Bool, true, false, if◌then◌else◌, is_lt, Ordering, Option, Some, None, subst, arith}
+use Rattle.std.specs.Bool.{⊤}
+use Rattle.std.specs.List.{AllByRecursion}
+use Rattle.serde_json.specs.Data.{Data, array, Items, no_items, item, items_depth, depth}
+use Rattle.serde_json.specs.View.{items_of}
+use Rattle.erd_check.specs.Trees.{IsTree, AreTrees, entries_of, list_of_items}
+use Rattle.erd_check.specs.Faults.{is_empty_array}
+use Rattle.erd_meaning.specs.SelectionNames.{with_inserted, rising_list}
+use Rattle.erd_normal.specs.NormalTree.{array_of, unless_no_entry}
+
+-- ---- any lists
+
+-- what holds of a value, if there is one
+abbrev pub IfSome : {A : Type 0} → (A → Type 0) → Option A → Type 0
+IfSome P None = ⊤
+IfSome P (Some x) = P x
+
+pub if_some_is : {A : Type 0} (P : A → Type 0) (o : Option A) (x : A) → IfSome P o → o ≡ Some x → P x
+if_some_is P None x h e = cc
+if_some_is P (Some y) x h e = let same : y ≡ x = cc in subst P same h
+
+all_inserted : {A : Type 0} (P : A → Type 0) (cmp : A → A → Ordering) (x : A) (ys : List A) → P x → AllByRecursion P ys → AllByRecursion P (with_inserted cmp x ys)
+all_inserted P cmp x [] h all = (h, tt)
+all_inserted P cmp x (y ∷ ys) h all = at (is_lt (cmp y x)) (all_inserted P cmp x ys h all.1)
+  where
+    at : (b : Bool) → AllByRecursion P (with_inserted cmp x ys) → AllByRecursion P (if b then y ∷ with_inserted cmp x ys else x ∷ (y ∷ ys))
+    at true later = (all.0, later)
+    at false later = (h, all)
+
+-- the entries of a list put in order are its entries
+pub all_rising : {A : Type 0} (P : A → Type 0) (cmp : A → A → Ordering) (xs : List A) → AllByRecursion P xs → AllByRecursion P (rising_list cmp xs)
+all_rising P cmp [] all = tt
+all_rising P cmp (x ∷ xs) all = all_inserted P cmp x (rising_list cmp xs) all.0 (all_rising P cmp xs all.1)
+
+pub all_map : {A : Type 0} {B : Type 0} (P : A → Type 0) (Q : B → Type 0) (f : A → B) (xs : List A) → ((x : A) → P x → Q (f x)) → AllByRecursion P xs → AllByRecursion Q (map f xs)
+all_map P Q f [] each all = tt
+all_map P Q f (x ∷ xs) each all = (each x all.0, all_map P Q f xs each all.1)
+
+pub all_of : {A : Type 0} (P : A → Type 0) (xs : List A) → ((x : A) → P x) → AllByRecursion P xs
+all_of P [] each = tt
+all_of P (x ∷ xs) each = (each x, all_of P xs each)
+
+-- ---- arrays
+
+pub trees_listed : (ds : Items) → AreTrees ds → AllByRecursion IsTree (list_of_items ds)
+trees_listed no_items trees = tt
+trees_listed (item d ds) trees = (trees.0, trees_listed ds trees.1)
+
+pub entries_of-trees : (d : Data) → IsTree d → AllByRecursion IsTree (entries_of d)
+entries_of-trees (array ds) tree = trees_listed ds tree
+entries_of-trees d tree = tt
+
+items_of-trees : (ds : List Data) → AllByRecursion IsTree ds → AreTrees (items_of ds)
+items_of-trees [] all = tt
+items_of-trees (d ∷ ds) all = (all.0, items_of-trees ds all.1)
+
+pub array_of-tree : (ds : List Data) → AllByRecursion IsTree ds → IsTree (array_of ds)
+array_of-tree ds all = items_of-trees ds all
+
+-- each entry is nested no deeper than all of them
+pub listed_depth : (ds : Items) (n : ℕ) → items_depth ds ≤ n → AllByRecursion (λ d. depth d ≤ n) (list_of_items ds)
+listed_depth no_items n low = tt
+listed_depth (item d ds) n low = (omega arith, listed_depth ds n (omega arith))
+
+pub items_of-depth : (ds : List Data) (n : ℕ) → AllByRecursion (λ d. depth d ≤ n) ds → items_depth (items_of ds) ≤ n
+items_of-depth [] n all = omega arith
+items_of-depth (d ∷ ds) n all =
+    let here : depth d ≤ n = all.0 in
+    let later : items_depth (items_of ds) ≤ n = items_of-depth ds n all.1 in
+    omega arith
+
+-- a value that stands unless there is no entry
+pub unless_no_entry-holds : (P : Data → Type 0) (d v : Data) → P v → IfSome P (unless_no_entry d v)
+unless_no_entry-holds P d v h = at (is_empty_array d)
+  where
+    at : (b : Bool) → IfSome P (if b then None else Some v)
+    at true = tt
+    at false = h

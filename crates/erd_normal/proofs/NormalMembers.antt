@@ -1,0 +1,133 @@
+-- The members that are built from those of an object: under each name what is built of the value there.
+use Rattle.std.proofs.Common.{◌≡◌, ◌≤◌, ℕ, max, List, Ordering, Less, Equal, Greater, Option, Some, None, option_and_then, option_map, refl, sym, ap, ◌∙◌, arith}
+use Rattle.std.proofs.lemmas.Cmp.{nat_list_cmp_total}
+use Rattle.std.proofs.lemmas.Map.Lookups.{exact_bytes}
+use Rattle.std.specs.Option.{option_map_or}
+use Rattle.std.specs.Ordering.{match_ordering}
+use Rattle.serde_json.specs.Data.{Data, Members, no_members, member, depth, members_depth}
+use Rattle.serde_json.specs.Find.{get_member}
+use Rattle.erd_tables.specs.Table.{kind_of_member}
+use Rattle.erd_tables.specs.Texts.{text_cmp}
+use Rattle.erd_tables.specs.declared.class.Class.{Class}
+use Rattle.erd_tables.specs.declared.member.MemberKind.{MemberKind}
+use Rattle.erd_check.specs.Trees.{IsTree, AreMembers, IsBeforeFirst}
+use Rattle.erd_check.proofs.Members.{get_member-before, get_member-first}
+use Rattle.erd_normal.specs.NormalTree.{normal_members, normal_node_members, normal_node_value, normal_content}
+
+-- ---- of any value by name
+
+-- what stands among the later members stands among all
+pub stands_still : (k q : List ℕ) (d v : Data) (ms : Members) → AreMembers (member k d ms) → get_member q ms ≡ Some v → get_member q (member k d ms) ≡ Some v
+stands_still k q d v ms rise e = at (text_cmp q k) refl
+  where
+    at : (o : Ordering) → text_cmp q k ≡ o → get_member q (member k d ms) ≡ Some v
+    at Less is = rw is e
+    at Equal is = let h : None ≡ Some v = sym (get_member-before k ms rise.2 rise.0) ∙ ap (λ x. get_member x ms) (sym (exact_bytes q k is)) ∙ e in cc
+    at Greater is = rw is e
+
+-- the members for which there is a value
+abbrev each_member : (List ℕ → Data → Option Data) → Members → Members
+each_member value no_members = no_members
+each_member value (member k d ms) = option_map_or (λ v. member k v (each_member value ms)) (value k d) (each_member value ms)
+
+get_each_at : (value : List ℕ → Data → Option Data) (name l : List ℕ) (d : Data) (ms rest : Members) (o : Ordering) (r : Option Data) → text_cmp name l ≡ o → value l d ≡ r
+    → AreMembers (member l d ms) → get_member name rest ≡ option_and_then (value name) (get_member name ms)
+    → get_member name (option_map_or (λ v. member l v rest) r rest) ≡ option_and_then (value name) (match_ordering o (get_member name ms) (Some d) (get_member name ms))
+get_each_at value name l d ms rest Less None is given rise later = later
+get_each_at value name l d ms rest Less (Some v) is given rise later = rw is later
+get_each_at value name l d ms rest Equal None is given rise later =
+    let same : name ≡ l = exact_bytes name l is in
+    let none : get_member name ms ≡ None = ap (λ x. get_member x ms) same ∙ get_member-before l ms rise.2 rise.0 in
+    later ∙ ap (option_and_then (value name)) none ∙ sym (ap (λ x. value x d) same ∙ given)
+get_each_at value name l d ms rest Equal (Some v) is given rise later =
+    let same : name ≡ l = exact_bytes name l is in
+    rw is (sym (ap (λ x. value x d) same ∙ given))
+get_each_at value name l d ms rest Greater None is given rise later = later
+get_each_at value name l d ms rest Greater (Some v) is given rise later = rw is later
+
+get_each : (value : List ℕ → Data → Option Data) (name : List ℕ) (ms : Members) → AreMembers ms → get_member name (each_member value ms) ≡ option_and_then (value name) (get_member name ms)
+get_each value name no_members rise = refl
+get_each value name (member l d ms) rise =
+    get_each_at value name l d ms (each_member value ms) (text_cmp name l) (value l d) refl refl rise (get_each value name ms rise.2)
+
+before_rest : (k l : List ℕ) (ms : Members) → text_cmp k l ≡ Less → IsBeforeFirst l ms → IsBeforeFirst k ms
+before_rest k l no_members low below = tt
+before_rest k l (member m e ms) low below = nat_list_cmp_total.trans k l m low below
+
+before_each : (value : List ℕ → Data → Option Data) (k : List ℕ) (ms : Members) → AreMembers ms → IsBeforeFirst k ms → IsBeforeFirst k (each_member value ms)
+before_each value k no_members rise below = tt
+before_each value k (member l d ms) rise below = at (value l d) (before_each value k ms rise.2 (before_rest k l ms below rise.0))
+  where
+    at : (r : Option Data) → IsBeforeFirst k (each_member value ms) → IsBeforeFirst k (option_map_or (λ v. member l v (each_member value ms)) r (each_member value ms))
+    at None h = h
+    at (Some v) h = below
+
+trees_of_each : (value : List ℕ → Data → Option Data) (ms : Members) → AreMembers ms
+    → ((name : List ℕ) (d v : Data) → get_member name ms ≡ Some d → IsTree d → value name d ≡ Some v → IsTree v) → AreMembers (each_member value ms)
+trees_of_each value no_members rise each = tt
+trees_of_each value (member l d ms) rise each =
+    at (value l d) refl (trees_of_each value ms rise.2 (λ name e v found. each name e v (stands_still l name d e ms rise found)))
+  where
+    at : (r : Option Data) → value l d ≡ r → AreMembers (each_member value ms) → AreMembers (option_map_or (λ v. member l v (each_member value ms)) r (each_member value ms))
+    at None given h = h
+    at (Some v) given h = (before_each value l ms rise.2 rise.0, each l d v (get_member-first l d ms) rise.1 given, h)
+
+depth_of_each : (value : List ℕ → Data → Option Data) (ms : Members) → AreMembers ms
+    → ((name : List ℕ) (d v : Data) → get_member name ms ≡ Some d → value name d ≡ Some v → depth v ≤ depth d) → members_depth (each_member value ms) ≤ members_depth ms
+depth_of_each value no_members rise each = omega arith
+depth_of_each value (member l d ms) rise each =
+    at (value l d) refl (depth_of_each value ms rise.2 (λ name e v found. each name e v (stands_still l name d e ms rise found)))
+  where
+    at : (r : Option Data) → value l d ≡ r → members_depth (each_member value ms) ≤ members_depth ms
+        → members_depth (option_map_or (λ v. member l v (each_member value ms)) r (each_member value ms)) ≤ max (depth d) (members_depth ms)
+    at None given h = omega arith
+    at (Some v) given h = let low : depth v ≤ depth d = each l d v (get_member-first l d ms) given in omega arith
+
+-- ---- of an object of a class
+
+module _ (value_of : List ℕ → MemberKind → Data → Option Data) (c : Class) where
+  -- the value by the name alone
+  abbrev value_in_class : List ℕ → Data → Option Data
+  value_in_class name d = value_of name (kind_of_member c name) d
+
+  normal_members_each : (ms : Members) → normal_members value_of c ms ≡ each_member value_in_class ms
+  normal_members_each no_members = refl
+  normal_members_each (member k d ms) = rw (normal_members_each ms) refl
+
+  pub get_normal : (name : List ℕ) (ms : Members) → AreMembers ms → get_member name (normal_members value_of c ms) ≡ option_and_then (value_of name (kind_of_member c name)) (get_member name ms)
+  get_normal name ms rise = ap (get_member name) (normal_members_each ms) ∙ get_each value_in_class name ms rise
+
+  -- each value that is given for a member that stands is a tree
+  pub normal_members-trees : (ms : Members) → AreMembers ms
+      → ((name : List ℕ) (d v : Data) → get_member name ms ≡ Some d → IsTree d → value_of name (kind_of_member c name) d ≡ Some v → IsTree v) → AreMembers (normal_members value_of c ms)
+  normal_members-trees ms rise each = rw (normal_members_each ms) (trees_of_each value_in_class ms rise each)
+
+  -- each value that is given for a member that stands is nested no deeper
+  pub normal_members-depth : (ms : Members) → AreMembers ms
+      → ((name : List ℕ) (d v : Data) → get_member name ms ≡ Some d → value_of name (kind_of_member c name) d ≡ Some v → depth v ≤ depth d) → members_depth (normal_members value_of c ms) ≤ members_depth ms
+  normal_members-depth ms rise each = rw (normal_members_each ms) (depth_of_each value_in_class ms rise each)
+
+-- ---- of a contest or a header
+
+module _ (t : Data) (c : Option Class) where
+  -- the value by the name alone, with what is built of it as a list of contests and headers
+  abbrev pub node_value : List ℕ → Data → Option Data
+  node_value name d = normal_node_value t (option_map (λ c. kind_of_member c name) c) d (normal_content t d)
+
+  normal_node_members_each : (ms : Members) → normal_node_members t c ms ≡ each_member node_value ms
+  normal_node_members_each no_members = refl
+  normal_node_members_each (member k d ms) = rw (normal_node_members_each ms) refl
+
+  pub get_normal_node : (name : List ℕ) (ms : Members) → AreMembers ms → get_member name (normal_node_members t c ms) ≡ option_and_then (node_value name) (get_member name ms)
+  get_normal_node name ms rise = ap (get_member name) (normal_node_members_each ms) ∙ get_each node_value name ms rise
+
+  pub normal_node_members-before : (k : List ℕ) (ms : Members) → AreMembers ms → IsBeforeFirst k ms → IsBeforeFirst k (normal_node_members t c ms)
+  normal_node_members-before k ms rise below = rw (normal_node_members_each ms) (before_each node_value k ms rise below)
+
+  pub normal_node_members-trees : (ms : Members) → AreMembers ms
+      → ((name : List ℕ) (d v : Data) → get_member name ms ≡ Some d → IsTree d → node_value name d ≡ Some v → IsTree v) → AreMembers (normal_node_members t c ms)
+  normal_node_members-trees ms rise each = rw (normal_node_members_each ms) (trees_of_each node_value ms rise each)
+
+  pub normal_node_members-depth : (ms : Members) → AreMembers ms
+      → ((name : List ℕ) (d v : Data) → get_member name ms ≡ Some d → node_value name d ≡ Some v → depth v ≤ depth d) → members_depth (normal_node_members t c ms) ≤ members_depth ms
+  normal_node_members-depth ms rise each = rw (normal_node_members_each ms) (depth_of_each node_value ms rise each)
