@@ -22,3 +22,5 @@ pub mod Lists
 pub mod CanonicalReports
 pub mod EqualTrees
 mod NormalTreeExamples
+pub mod RisingSets
+pub mod RisingOrders
