@@ -24,3 +24,4 @@ pub mod EqualTrees
 mod NormalTreeExamples
 pub mod RisingSets
 pub mod RisingOrders
+pub mod RisingRanks
