@@ -25,3 +25,4 @@ mod NormalTreeExamples
 pub mod RisingSets
 pub mod RisingOrders
 pub mod RisingRanks
+pub mod RisingMeanings
