@@ -26,3 +26,4 @@ pub mod RisingSets
 pub mod RisingOrders
 pub mod RisingRanks
 pub mod RisingMeanings
+pub mod DistinctEntries
