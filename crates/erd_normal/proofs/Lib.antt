@@ -34,3 +34,8 @@ pub mod NormalGets
 pub mod NormalReports
 mod NormalTreeExamples
 pub mod MovedPairs
+pub mod RisingSets
+pub mod RisingOrders
+pub mod RisingRanks
+pub mod RisingMeanings
+pub mod DistinctEntries

@@ -1,0 +1,87 @@
+-- Lists in which no two entries compare as equal, from what is known of their positions, and of arrays that are sets.
+use Rattle.std.proofs.Common.{◌≡◌, ◌<◌, ℕ, zero, suc, inl, inr, List, [], ◌∷◌, map, take, Bool, true, false, true≢false, Some, Ordering, Equal, slice_get, refl, sym, ap, ◌∙◌, subst, arith}
+use Rattle.std.specs.Cmp.{Equal-is}
+use Rattle.std.specs.List.{IsDistinct}
+use Rattle.std.specs.Ordering.{eq_by_cmp}
+use Rattle.serde_json.specs.Data.{Data, Items, no_items, item}
+use Rattle.serde_json.specs.Find.{get_item}
+use Rattle.erd_check.specs.Trees.{is_same_json, list_of_items}
+use Rattle.erd_check.specs.Wants.{is_repeated}
+use Rattle.erd_check.proofs.Order.{In, In-all, In-map_from, all_from_In, any_at}
+
+-- where an entry of a list stands
+pub place_of : {A : Type 0} (x : A) (xs : List A) → In x xs → (i : ℕ) × (slice_get xs i ≡ Some x)
+place_of x [] h = absurd h
+place_of x (y ∷ ys) (inl e) = (0, ap Some e)
+place_of x (y ∷ ys) (inr h) = let p = place_of x ys h in (suc p.0, p.1)
+
+-- entries at two places pass no test
+pub distinct_from_places : {A : Type 0} (test : A → A → Bool) (xs : List A)
+    → ((i j : ℕ) (x y : A) → i < j → slice_get xs i ≡ Some x → slice_get xs j ≡ Some y → test x y ≡ false) → IsDistinct test xs
+unfolding IsDistinct
+distinct_from_places test [] h = tt
+distinct_from_places test (x ∷ xs) h = (
+  all_from_In (λ y. test x y ≡ false) xs (λ y i. let p = place_of y xs i in h 0 (suc p.0) x y (omega arith) refl p.1),
+  distinct_from_places test xs (λ i j y z l. h (suc i) (suc j) y z (omega arith)),
+)
+
+false_unless : (b : Bool) → (b ≡ true → ⊥) → b ≡ false
+false_unless true h = absurd (h refl)
+false_unless false h = refl
+
+-- entries that pass stand at one place
+pub distinct_from_one_place : {A : Type 0} (test : A → A → Bool) (xs : List A)
+    → ((i j : ℕ) (x y : A) → slice_get xs i ≡ Some x → slice_get xs j ≡ Some y → test x y ≡ true → i ≡ j) → IsDistinct test xs
+distinct_from_one_place test xs h =
+    distinct_from_places test xs (λ i j x y l a b. false_unless (test x y) (λ e. let same : i ≡ j = h i j x y a b e in omega arith))
+
+-- entries with one part stand at one place
+pub distinct_by_cmp : {A : Type 0} (cmp : A → A → Ordering) (xs : List A)
+    → ((i j : ℕ) (x y : A) → slice_get xs i ≡ Some x → slice_get xs j ≡ Some y → cmp x y ≡ Equal → i ≡ j) → IsDistinct (eq_by_cmp cmp) xs
+distinct_by_cmp cmp xs h = distinct_from_one_place (eq_by_cmp cmp) xs (λ i j x y a b e. h i j x y a b ((Equal-is (cmp x y)).0 e))
+
+-- the values of a map
+pub distinct_map : {A B : Type 0} (f : A → B) (test : B → B → Bool) (xs : List A) → IsDistinct (λ x y. test (f x) (f y)) xs → IsDistinct test (map f xs)
+unfolding IsDistinct
+distinct_map f test [] h = tt
+distinct_map f test (x ∷ xs) h = (
+  all_from_In (λ y. test (f x) y ≡ false) (map f xs) (λ y i.
+      let from = In-map_from f xs y i in
+      subst (λ z. test (f x) z ≡ false) from.is (In-all (λ z. test (f x) (f z) ≡ false) from.from xs h.0 from.inside)),
+  distinct_map f test xs h.1,
+)
+
+-- another test that passes less
+pub distinct_less : {A : Type 0} (test test' : A → A → Bool) (xs : List A) → ((x y : A) → In x xs → In y xs → test' x y ≡ true → test x y ≡ true) → IsDistinct test xs → IsDistinct test' xs
+unfolding IsDistinct
+distinct_less test test' [] less h = tt
+distinct_less test test' (x ∷ xs) less h = (
+  all_from_In (λ y. test' x y ≡ false) xs (λ y i.
+      false_unless (test' x y) (λ e. true≢false (sym (less x y (inl refl) (inr i) e) ∙ In-all (λ y. test x y ≡ false) y xs h.0 i))),
+  distinct_less test test' xs (λ y z i j. less y z (inr i) (inr j)) h.1,
+)
+
+-- ---- sets
+
+in_taken : {A : Type 0} (xs : List A) (i j : ℕ) (x : A) → i < j → slice_get xs i ≡ Some x → In x (take j xs)
+in_taken [] i j x l e = cc
+in_taken (y ∷ xs) i zero x l e = absurd (omega arith)
+in_taken (y ∷ xs) zero (suc j) x l e = let same : y ≡ x = cc in inl same
+in_taken (y ∷ xs) (suc i) (suc j) x l e = inr (in_taken xs i j x (omega arith) e)
+
+get_item-slice : (ds : Items) (i : ℕ) (d : Data) → slice_get (list_of_items ds) i ≡ Some d → get_item i ds ≡ Some d
+get_item-slice no_items i d e = cc
+get_item-slice (item v ds) zero d e = e
+get_item-slice (item v ds) (suc i) d e = get_item-slice ds i d e
+
+-- no entry is equal to an earlier one
+pub unrepeated_distinct : (ds : Items) → ((i : ℕ) (d : Data) → get_item i ds ≡ Some d → is_repeated ds i d ≡ false) → IsDistinct (λ d e. is_same_json e d) (list_of_items ds)
+unrepeated_distinct ds each = distinct_from_places (λ d e. is_same_json e d) (list_of_items ds) (λ i j d e l a b.
+    false_unless (is_same_json e d) (λ same.
+    true≢false (sym (any_at (is_same_json e) d (take j (list_of_items ds)) (in_taken (list_of_items ds) i j d l a) same) ∙ each j e (get_item-slice ds j e b))))
+
+-- nor compares as equal, where those that do are equal
+pub unrepeated_by_cmp : (cmp : Data → Data → Ordering) (ds : Items) → ((i : ℕ) (d : Data) → get_item i ds ≡ Some d → is_repeated ds i d ≡ false)
+    → ((d e : Data) → In d (list_of_items ds) → In e (list_of_items ds) → cmp d e ≡ Equal → is_same_json e d ≡ true) → IsDistinct (eq_by_cmp cmp) (list_of_items ds)
+unrepeated_by_cmp cmp ds each equal =
+    distinct_less (λ d e. is_same_json e d) (eq_by_cmp cmp) (list_of_items ds) (λ d e i j h. equal d e i j ((Equal-is (cmp d e)).0 h)) (unrepeated_distinct ds each)
