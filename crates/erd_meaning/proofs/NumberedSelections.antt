@@ -1,5 +1,5 @@
 -- The selections of a report with the numbers of their contests: they rise by place, and a number names one contest.
-use Rattle.std.proofs.Common.{◌≡◌, ◌+◌, ℕ, zero, suc, inl, inr, List, [], ◌∷◌, ◌++◌, map, codes, Ordering, Less, Option, Some, refl, sym, ap, ap₂, ◌∙◌, subst, arith}
+use Rattle.std.proofs.Common.{◌≡◌, ◌+◌, ℕ, suc, inl, inr, List, [], ◌∷◌, ◌++◌, map, Ordering, Less, Some, refl, sym, ap, ap₂, ◌∙◌, subst, arith}
 use Rattle.std.specs.List.{enumerate_from, flat_map, slice_get}
 use Rattle.std.specs.List.Sorted.{IsStrictlySortedBy}
 use Rattle.std.proofs.lemmas.List.{map-append}
@@ -8,7 +8,7 @@ use Rattle.serde_json.specs.Data.{Data}
 use Rattle.erd_tables.specs.declared.class.Family.TheVariants.{Selection}
 use Rattle.erd_check.proofs.FaultsAsked.{In-flat_map_from}
 use Rattle.erd_check.proofs.Order.{In, In-all, In-flat_map, In-map, In-map_from, all_from_In}
-use Rattle.erd_meaning.specs.Objects.{Placed, contests, numbered_selections, numbered_selections_of, objects, selections_of}
+use Rattle.erd_meaning.specs.Objects.{Placed, contests, numbered_selections, numbered_selections_of, selections_of}
 use Rattle.erd_meaning.specs.ObjectWalk.{Located, located, located_one}
 use Rattle.erd_meaning.proofs.NamesTold.{Numbered, in_places}
 use Rattle.erd_meaning.proofs.ObjectFamilies.{located-append}

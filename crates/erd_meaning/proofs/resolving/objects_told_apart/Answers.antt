@@ -1,4 +1,4 @@
-use Rattle.std.proofs.Common.{arith, ◌≡◌, [], length, ap, ◌∙◌, sym}
+use Rattle.std.proofs.Common.{◌≡◌, [], length, ap, ◌∙◌, sym}
 use Rattle.std.specs.Prelude.{◌≢◌}
 use Rattle.serde_json.specs.View.{view}
 use Rattle.erd_meaning.specs.declared.object_walk.ObjectWalk.{ObjectWalk}
