@@ -1,5 +1,5 @@
 -- The report of one unit as bytes: it is accepted, these are its canonical bytes, and the engines write these texts.
-use Rattle.std.proofs.Common.{◌≡◌, List, ℕ, [], codes, None, inl, inr, refl, sym}
+use Rattle.std.proofs.Common.{[], codes, None, inl, inr, refl, sym}
 use Rattle.std.specs.Fmt.{digits}
 use Rattle.serde_json.proofs.OnLiterals.{serde_json_on_literals}
 use Rattle.erd_check.proofs.Reports.{one_unit, tree_of}

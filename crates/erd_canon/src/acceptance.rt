@@ -1,5 +1,6 @@
-ghost use Rattle.std.specs.Prelude.{◌≡◌, IfOk, IfErr, OnOk};
+ghost use Rattle.std.specs.Prelude.{◌≡◌, false, IfOk, IfErr, OnOk};
 ghost use Rattle.serde_json.specs.View.{view};
+ghost use Rattle.serde_json.specs.Written.{has_float};
 ghost use Rattle.erd_check.specs.Refusals.{RefusedFor};
 ghost use Rattle.erd_check.specs.Trees.{IsShallow};
 ghost use Rattle.erd_meaning.specs.Accepted.{IsAccepted, IsFault};
@@ -48,8 +49,11 @@ pub(crate) fn accepted<'a>(alloc: Global, tree: &'a Value) -> Result<Report<'a>,
     requires nests { IsShallow (view tree.now) }
     ensures tree { IfOk result (λ report. report ≡ tree.now) }
     ensures accepted { IfOk result (λ _. IsAccepted (view tree.now)) }
+    ensures whole { IfOk result (λ _. has_float (view tree.now) ≡ false) }
     ensures refused { IfErr result (RefusedFor (IsFault (view tree.now))) }
 {
     let shaped = shape(alloc, tree)?;
+    // What is shaped has no fraction in it.
+    let _ = shaped.tree();
     resolve(alloc, shaped)
 }

@@ -1,5 +1,6 @@
-ghost use Rattle.std.specs.Prelude.{◌≡◌, IfOk, IfErr, IfSome};
+ghost use Rattle.std.specs.Prelude.{◌≡◌, false, IfOk, IfErr, IfSome};
 ghost use Rattle.serde_json.specs.View.{view};
+ghost use Rattle.serde_json.specs.Written.{has_float};
 ghost use Rattle.erd_check.specs.Trees.{IsShallow};
 ghost use Rattle.erd_meaning.specs.Accepted.{IsAccepted};
 ghost use Rattle.erd_canon.specs.Bare.{IsBare};
@@ -20,6 +21,7 @@ use std::alloc::{AllocError, Global};
 /// So far the report is written as it came, but for the order of its members, the spelling of its texts and numbers, and
 /// blanks. Only a report that has units with one identifier each, one election, and nothing else, gets the envelope and the
 /// `@id` names of the canonical form.
+#[tactic(auto, using(crate::proofs::Refusing::refused_tree))]
 pub fn canonical(alloc: Global, bytes: &[u8]) -> Result<Vec<u8>, Refusal>
     ensures ok { IfOk result (λ text. IsWritten bytes.now text.items) }
     ensures refused { IfErr result (RefusedAs bytes.now) }
@@ -33,6 +35,7 @@ pub fn canonical(alloc: Global, bytes: &[u8]) -> Result<Vec<u8>, Refusal>
 // The text that is written for an accepted report. It is replaced by the text of the canonical form.
 fn written(alloc: Global, report: &Value) -> Result<Vec<u8>, AllocError>
     requires accepted { IsAccepted (view report.now) }
+    requires whole { has_float (view report.now) ≡ false }
     requires nests { IsShallow (view report.now) }
     ensures { IfOk result (λ text. IsWrittenFor (view report.now) text.items) }
 {
@@ -41,6 +44,16 @@ fn written(alloc: Global, report: &Value) -> Result<Vec<u8>, AllocError>
             return Ok(text);
         }
     }
+    as_it_came(alloc, report)
+}
+
+// The text of an accepted report as it is.
+fn as_it_came(alloc: Global, report: &Value) -> Result<Vec<u8>, AllocError>
+    requires accepted { IsAccepted (view report.now) }
+    requires whole { has_float (view report.now) ≡ false }
+    requires nests { IsShallow (view report.now) }
+    ensures { IfOk result (λ text. IsWrittenFor (view report.now) text.items) }
+{
     report.to_vec(alloc)
 }
 
@@ -52,7 +65,7 @@ fn written_bare(alloc: Global, report: &Value) -> Result<Option<Vec<u8>>, AllocE
 {
     let tree = named_tree(alloc, report)?;
     match accepted(alloc, &tree) {
-        Ok(_) => Ok(Some(tree.to_vec(alloc)?)),
+        Ok(_) => Ok(Some(as_it_came(alloc, &tree)?)),
         Err(CheckError::Faults(_)) => Ok(None),
         Err(CheckError::Memory) => Err(AllocError),
     }
