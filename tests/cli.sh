@@ -52,6 +52,20 @@ expect 'a small ballot' 0 "$work/ballot" ''
 run "$work/ballot"
 expect 'its output fed back' 0 "$work/ballot" ''
 
+# A hundred selections name one candidate whose key is a million bytes long: the key is held once.
+value=$(head -c 1000000 /dev/zero | tr '\0' k)
+selections=''
+for i in {1..100}; do
+    selections+="{\"@id\":\"s$i\",\"@type\":\"ElectionResults.CandidateSelection\",\"CandidateIds\":[\"a5\"],\"SequenceOrder\":$i},"
+done
+ballot=$(cat examples/small-ballot.json)
+ballot=${ballot/'"Value":"K1"'/"\"Value\":\"$value\""}
+printf '%s' "${ballot/'"ContestSelection":['/"\"ContestSelection\":[$selections"}" > "$work/shared"
+(ulimit -v 60000 && "$erd" < "$work/shared" > "$work/out" 2> "$work/err")
+status=$?
+cp "$work/out" "$work/wanted_out"
+expect 'a long key that many selections name' 0 "$work/wanted_out" ''
+
 # Fault lines go to standard error: of the shape, and of later phases.
 sed 's/pre-election/certified/; s/"VotesAllowed":1/"VotesAllowed":1.5/' examples/small-ballot.json > "$work/shape"
 run "$work/shape"
