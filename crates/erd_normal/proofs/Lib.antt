@@ -30,4 +30,7 @@ pub mod AskedMembers
 pub mod NormalDepths
 pub mod NormalGets
 pub mod NormalReports
+pub mod NormalEntries
+pub mod NormalObjects
+pub mod LeastKeys
 mod NormalTreeExamples
