@@ -33,4 +33,5 @@ pub mod NormalReports
 pub mod NormalEntries
 pub mod NormalObjects
 pub mod LeastKeys
+pub mod RisingLists
 mod NormalTreeExamples
