@@ -34,4 +34,5 @@ pub mod NormalEntries
 pub mod NormalObjects
 pub mod LeastKeys
 pub mod RisingLists
+pub mod NormalKeys
 mod NormalTreeExamples

@@ -55,7 +55,7 @@ rising_has cmp (y ∷ ys) x h =
 
 -- ---- how many pass a test
 
-counted : {A : Type 0} (p : A → Bool) (x : A) (ys : List A) → length (filter p (x ∷ ys)) ≡ cond (p x) (suc (length (filter p ys))) (length (filter p ys))
+pub counted : {A : Type 0} (p : A → Bool) (x : A) (ys : List A) → length (filter p (x ∷ ys)) ≡ cond (p x) (suc (length (filter p ys))) (length (filter p ys))
 counted p x ys = at (p x) refl
   where
     at : (b : Bool) → p x ≡ b → length (filter p (x ∷ ys)) ≡ cond b (suc (length (filter p ys))) (length (filter p ys))
