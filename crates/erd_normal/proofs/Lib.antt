@@ -35,4 +35,5 @@ pub mod NormalObjects
 pub mod LeastKeys
 pub mod RisingLists
 pub mod NormalKeys
+pub mod CanonicalIds
 mod NormalTreeExamples
