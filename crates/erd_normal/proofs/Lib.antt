@@ -36,4 +36,5 @@ pub mod LeastKeys
 pub mod RisingLists
 pub mod NormalKeys
 pub mod CanonicalIds
+pub mod NormalSelections
 mod NormalTreeExamples

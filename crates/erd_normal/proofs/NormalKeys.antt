@@ -49,7 +49,7 @@ same_key (Some k) None e = cc
 same_key (Some k) (Some l) e = ap Some (key_cmp_exact k l e)
 
 -- how many of the values of some others pass a test
-count_map : {A : Type 0} {B : Type 0} (p : B → Bool) (f : A → B) (xs : List A) → length (filter p (map f xs)) ≡ length (filter (λ x. p (f x)) xs)
+pub count_map : {A : Type 0} {B : Type 0} (p : B → Bool) (f : A → B) (xs : List A) → length (filter p (map f xs)) ≡ length (filter (λ x. p (f x)) xs)
 count_map p f [] = refl
 count_map p f (x ∷ xs) = counted p (f x) (map f xs) ∙ ap (λ n. cond (p (f x)) (suc n) n) (count_map p f xs) ∙ sym (counted (λ x. p (f x)) x xs)
 
@@ -58,7 +58,7 @@ abbrev pub IsClassed : Family → Data → Type 0
 IsClassed f d = (c : Class) × (class_of_object (role.OfFamily f) d ≡ Some c) × IsTree d
 
 module _ (t : Data) (accepted : IsAccepted t) (tree : IsTree t) (f : Family) where
-  object_classed : (o : Placed) → Has (objects f t) o → IsClassed f o.value
+  pub object_classed : (o : Placed) → Has (objects f t) o → IsClassed f o.value
   object_classed o h =
       let w : Within t (asked (Object (role.OfFamily f)) o.value) = record { place = o.place; is = stands t accepted f o h } in
       let i : ObjectIn t (role.OfFamily f) o.value = object_in t (no_shape_fault t accepted) (role.OfFamily f) o.value w in
@@ -116,17 +116,23 @@ module _ (t : Data) (accepted : IsAccepted t) (tree : IsTree t) (f : Family) whe
         subst (IsStrictlySortedBy (option_cmp key_cmp)) (sym same)
         (sorted_map key_of (option_cmp key_cmp) (rising_list by_key (values_of f t)) (sorted_rising by_key by_key_total (values_of f t) keys_untied))
 
-    rank_is : (i : ℕ) (d : Data) → slice_get (rising_list by_key (values_of f t)) i ≡ Some d → rank_of t f (key_of d) ≡ i
+    pub rank_is : (i : ℕ) (d : Data) → slice_get (rising_list by_key (values_of f t)) i ≡ Some d → rank_of t f (key_of d) ≡ i
     rank_is i d is =
         sym (count_map (λ e. is_lt (by_key e d)) (λ o. o.value) (objects f t)) ∙ rank_rising by_key by_key_total (values_of f t) i d keys_untied is
 
-    -- each object of the family has the canonical `@id` of its position
-    pub ids_by_rank : (i : ℕ) (o : Placed) → slice_get (objects f (normal_tree t)) i ≡ Some o → id_of o.value ≡ canonical_id f i
-    ids_by_rank i o at =
+    -- the object at a position of the report that is built is built of the one that stands there once they are in order
+    pub built_at : (i : ℕ) (o : Placed) → slice_get (objects f (normal_tree t)) i ≡ Some o
+        → (d : Data) × (slice_get (rising_list by_key (values_of f t)) i ≡ Some d) × (normal_object t f d ≡ o.value)
+    built_at i o at =
         let ds : List Data = rising_list by_key (values_of f t) in
         let value : slice_get (values_of f (normal_tree t)) i ≡ Some o.value = slice_get-map (λ o. o.value) (objects f (normal_tree t)) i ∙ ap (option_map (λ o. o.value)) at in
         let there : option_map (normal_object t f) (slice_get ds i) ≡ Some o.value =
         sym (slice_get-map (normal_object t f) ds i) ∙ ap (λ xs. slice_get xs i) (sym (objects_built t (no_shape_fault t accepted) tree f keyed)) ∙ value in
-        let d = option_map-Some (normal_object t f) (slice_get ds i) o.value there in
-        let k : IsClassed f d.0 = all_at (IsClassed f) ds i d.0 rising_classed d.1 in
+        option_map-Some (normal_object t f) (slice_get ds i) o.value there
+
+    -- each object of the family has the canonical `@id` of its position
+    pub ids_by_rank : (i : ℕ) (o : Placed) → slice_get (objects f (normal_tree t)) i ≡ Some o → id_of o.value ≡ canonical_id f i
+    ids_by_rank i o at =
+        let d = built_at i o at in
+        let k : IsClassed f d.0 = all_at (IsClassed f) (rising_list by_key (values_of f t)) i d.0 rising_classed d.1 in
         ap id_of (sym d.2) ∙ id_of_object t f k.0 d.0 k.2 k.1 ∙ ap (canonical_id f) (rank_is i d.0 d.1)
