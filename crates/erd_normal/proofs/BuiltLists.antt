@@ -20,7 +20,7 @@ pub if_some_is : {A : Type 0} (P : A → Type 0) (o : Option A) (x : A) → IfSo
 if_some_is P None x h e = cc
 if_some_is P (Some y) x h e = let same : y ≡ x = cc in subst P same h
 
-all_inserted : {A : Type 0} (P : A → Type 0) (cmp : A → A → Ordering) (x : A) (ys : List A) → P x → AllByRecursion P ys → AllByRecursion P (with_inserted cmp x ys)
+pub all_inserted : {A : Type 0} (P : A → Type 0) (cmp : A → A → Ordering) (x : A) (ys : List A) → P x → AllByRecursion P ys → AllByRecursion P (with_inserted cmp x ys)
 all_inserted P cmp x [] h all = (h, tt)
 all_inserted P cmp x (y ∷ ys) h all = at (is_lt (cmp y x)) (all_inserted P cmp x ys h all.1)
   where

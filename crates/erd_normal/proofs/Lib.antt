@@ -32,6 +32,13 @@ pub mod AskedMembers
 pub mod NormalDepths
 pub mod NormalGets
 pub mod NormalReports
+pub mod NormalEntries
+pub mod NormalObjects
+pub mod LeastKeys
+pub mod RisingLists
+pub mod NormalKeys
+pub mod CanonicalIds
+pub mod NormalSelections
 mod NormalTreeExamples
 pub mod MovedPairs
 pub mod RisingSets
