@@ -27,3 +27,4 @@ pub mod RisingOrders
 pub mod RisingRanks
 pub mod RisingMeanings
 pub mod DistinctEntries
+pub mod DistinctObjects
