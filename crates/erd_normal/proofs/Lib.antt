@@ -28,3 +28,4 @@ pub mod RisingRanks
 pub mod RisingMeanings
 pub mod DistinctEntries
 pub mod DistinctObjects
+pub mod DistinctSets
