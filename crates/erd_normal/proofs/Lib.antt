@@ -29,3 +29,5 @@ pub mod RisingMeanings
 pub mod DistinctEntries
 pub mod DistinctObjects
 pub mod DistinctSets
+pub mod WrittenStrings
+pub mod CompactTexts
