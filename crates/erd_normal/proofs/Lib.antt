@@ -31,3 +31,5 @@ pub mod DistinctObjects
 pub mod DistinctSets
 pub mod WrittenStrings
 pub mod CompactTexts
+pub mod FittingNumbers
+pub mod RisingReports
