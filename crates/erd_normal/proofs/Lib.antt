@@ -46,3 +46,9 @@ pub mod RisingOrders
 pub mod RisingRanks
 pub mod RisingMeanings
 pub mod DistinctEntries
+pub mod DistinctObjects
+pub mod DistinctSets
+pub mod WrittenStrings
+pub mod CompactTexts
+pub mod FittingNumbers
+pub mod RisingReports
