@@ -37,4 +37,5 @@ pub mod RisingLists
 pub mod NormalKeys
 pub mod CanonicalIds
 pub mod NormalSelections
+pub mod NormalOwners
 mod NormalTreeExamples

@@ -35,7 +35,7 @@ use Rattle.erd_normal.proofs.Selections.{has_name}
 
 -- ---- lists
 
-has_at : {A : Type 0} (xs : List A) (i : ℕ) (x : A) → slice_get xs i ≡ Some x → Has xs x
+pub has_at : {A : Type 0} (xs : List A) (i : ℕ) (x : A) → slice_get xs i ≡ Some x → Has xs x
 has_at [] i x is = absurd (cc is)
 has_at (y ∷ ys) zero x is = let same : y ≡ x = cc in subst (Has (y ∷ ys)) same here
 has_at (y ∷ ys) (suc i) x is = later (has_at ys i x is)
