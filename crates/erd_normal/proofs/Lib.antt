@@ -38,4 +38,5 @@ pub mod NormalKeys
 pub mod CanonicalIds
 pub mod NormalSelections
 pub mod NormalOwners
+pub mod SortedAgain
 mod NormalTreeExamples
