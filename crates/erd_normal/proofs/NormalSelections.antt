@@ -136,4 +136,4 @@ module _ (t : Data) (accepted : IsAccepted t) (tree : IsTree t) where
 
   -- the objects and selections of the report that is built have canonical ids
   pub has_canonical_ids : HasCanonicalIds (normal_tree t)
-  has_canonical_ids = record { families = λ f i o keyed at. ids_by_rank t accepted tree f keyed i o at; selections = selection_ids; }
+  has_canonical_ids = record { families = λ f i o keyed at. ids_by_rank t accepted tree f keyed i o at; selections = selection_ids }
