@@ -39,6 +39,8 @@ pub mod RisingLists
 pub mod NormalKeys
 pub mod CanonicalIds
 pub mod NormalSelections
+pub mod NormalOwners
+pub mod SortedAgain
 mod NormalTreeExamples
 pub mod MovedPairs
 pub mod RisingSets

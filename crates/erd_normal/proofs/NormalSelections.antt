@@ -35,7 +35,7 @@ use Rattle.erd_normal.proofs.Selections.{has_name}
 
 -- ---- lists
 
-has_at : {A : Type 0} (xs : List A) (i : ℕ) (x : A) → slice_get xs i ≡ Some x → Has xs x
+pub has_at : {A : Type 0} (xs : List A) (i : ℕ) (x : A) → slice_get xs i ≡ Some x → Has xs x
 has_at [] i x is = absurd (cc is)
 has_at (y ∷ ys) zero x is = let same : y ≡ x = cc in subst (Has (y ∷ ys)) same here
 has_at (y ∷ ys) (suc i) x is = later (has_at ys i x is)
@@ -136,4 +136,4 @@ module _ (t : Data) (accepted : IsAccepted t) (tree : IsTree t) where
 
   -- the objects and selections of the report that is built have canonical ids
   pub has_canonical_ids : HasCanonicalIds (normal_tree t)
-  has_canonical_ids = record { families = λ f i o keyed at. ids_by_rank t accepted tree f keyed i o at; selections = selection_ids; }
+  has_canonical_ids = record { families = λ f i o keyed at. ids_by_rank t accepted tree f keyed i o at; selections = selection_ids }

@@ -104,9 +104,10 @@ none_tied cmp x (y ∷ ys) apart = (apart zero y refl, none_tied cmp x ys (λ j.
 pub untied_by_position : {A : Type 0} (cmp : A → A → Ordering) (xs : List A)
     → ((i j : ℕ) (x y : A) → slice_get xs i ≡ Some x → slice_get xs j ≡ Some y → cmp x y ≡ Equal → i ≡ j) → AreUntied cmp xs
 untied_by_position cmp [] one = tt
-untied_by_position cmp (x ∷ xs) one =
-    (none_tied cmp x xs (λ j y at tied. let same : 0 ≡ suc j = one zero (suc j) x y refl at tied in absurd (omega arith)),
-    untied_by_position cmp xs (λ i j y z here there tied. let same : suc i ≡ suc j = one (suc i) (suc j) y z here there tied in omega arith))
+untied_by_position cmp (x ∷ xs) one = (
+  none_tied cmp x xs (λ j y at tied. let same : 0 ≡ suc j = one zero (suc j) x y refl at tied in absurd (omega arith)),
+  untied_by_position cmp xs (λ i j y z here there tied. let same : suc i ≡ suc j = one (suc i) (suc j) y z here there tied in omega arith),
+)
 
 pub sorted_map : {A : Type 0} {B : Type 0} (f : A → B) (cmp : B → B → Ordering) (xs : List A) → IsStrictlySortedBy (λ a b. cmp (f a) (f b)) xs → IsStrictlySortedBy cmp (map f xs)
 unfolding IsStrictlySortedBy

@@ -1,0 +1,102 @@
+-- A reference that is built names what is built of the object that the reference names, in a report whose objects a word counts.
+use Rattle.std.proofs.Common.{◌≡◌, ◌<◌, ◌+◌, ◌^◌, ℕ, zero, suc, List, [], ◌∷◌, ◌++◌, map, length, Bool, true, false, if◌then◌else◌, is_lt, Ordering, Some, option_map, option_and_then, unwrap_or, decimal, slice_get, refl, sym, ap, ◌∙◌, subst, arith, ⊎_elim}
+use Rattle.std.proofs.lemmas.Option.{slice_get-map}
+use Rattle.serde_json.specs.Data.{Data}
+use Rattle.erd_tables.specs.declared.class.Family.{Family}
+use Rattle.erd_check.specs.Trees.{IsTree}
+use Rattle.erd_check.proofs.Rising.{Has, Has-cases, here, later}
+use Rattle.erd_meaning.specs.Accepted.{IsAccepted}
+use Rattle.erd_meaning.specs.Keys.{has_keys, key_of}
+use Rattle.erd_meaning.specs.Objects.{Placed, has_id, id_of, objects, owner}
+use Rattle.erd_meaning.specs.SelectionNames.{key_named, rising_list, with_inserted}
+use Rattle.erd_meaning.proofs.Phases.{no_shape_fault}
+use Rattle.erd_meaning.proofs.References.{find-any, option_map-Some}
+use Rattle.erd_meaning.proofs.Sets.{any-has}
+use Rattle.erd_meaning.proofs.Standing.{has_id-Some, has_id-from, owned_by}
+use Rattle.erd_normal.specs.Canonical.{canonical_id, id_prefix}
+use Rattle.erd_normal.specs.NormalTree.{by_key, id_of_key, normal_id, normal_object, normal_tree}
+use Rattle.erd_normal.proofs.CanonicalIds.{canonical_id_exact}
+use Rattle.erd_normal.proofs.LeastKeys.{key_of_object}
+use Rattle.erd_normal.proofs.NormalKeys.{IsClassed, ids_by_rank, rank_is, values_classed}
+use Rattle.erd_normal.proofs.NormalObjects.{objects_built, values_of}
+use Rattle.erd_normal.proofs.NormalSelections.{has_at}
+use Rattle.erd_normal.proofs.RisingLists.{rising_has}
+use Rattle.erd_check.proofs.Rising.{all-Has}
+
+-- ---- lists
+
+position_of : {A : Type 0} (xs : List A) (x : A) → Has xs x → (i : ℕ) × (slice_get xs i ≡ Some x)
+position_of [] x h = elim h [ ]
+position_of (y ∷ ys) x h = ⊎_elim (λ same. (zero, ap Some same)) (λ k. let r = position_of ys x k in (suc r.0, r.1)) (Has-cases y x ys h)
+
+position_low : {A : Type 0} (xs : List A) (i : ℕ) (x : A) → slice_get xs i ≡ Some x → i < length xs
+position_low [] i x is = absurd (cc is)
+position_low (y ∷ ys) zero x is = omega arith
+position_low (y ∷ ys) (suc i) x is = let low : i < length ys = position_low ys i x is in omega arith
+
+has_mapped : {A B : Type 0} (f : A → B) (xs : List A) (x : A) → Has xs x → Has (map f xs) (f x)
+has_mapped f xs x (here {xs = ys}) = here
+has_mapped f xs x (later {y = y} {xs = ys} h) = later (has_mapped f ys x h)
+
+as_long : {A B : Type 0} (f : A → B) (xs : List A) → length (map f xs) ≡ length xs
+as_long f [] = refl
+as_long f (x ∷ xs) = ap suc (as_long f xs)
+
+length_inserted : {A : Type 0} (cmp : A → A → Ordering) (x : A) (ys : List A) → length (with_inserted cmp x ys) ≡ suc (length ys)
+length_inserted cmp x [] = refl
+length_inserted {A} cmp x (y ∷ ys) = at (is_lt (cmp y x)) (length_inserted cmp x ys)
+  where
+    at : (b : Bool) → length (with_inserted cmp x ys) ≡ suc (length ys) → length (if b then y ∷ with_inserted cmp x ys else x ∷ (y ∷ ys)) ≡ suc (suc (length ys))
+    at true h = ap suc h
+    at false h = refl
+
+pub length_rising : {A : Type 0} (cmp : A → A → Ordering) (xs : List A) → length (rising_list cmp xs) ≡ length xs
+length_rising cmp [] = refl
+length_rising cmp (x ∷ xs) = length_inserted cmp x (rising_list cmp xs) ∙ ap suc (length_rising cmp xs)
+
+-- ---- owners
+
+module _ (t : Data) (accepted : IsAccepted t) (tree : IsTree t) (f : Family) (keyed : has_keys f ≡ true) (few : length (objects f t) < 2 ^ 64) where
+  pub as_many : length (objects f (normal_tree t)) ≡ length (objects f t)
+  as_many =
+      sym (as_long (λ o. o.value) (objects f (normal_tree t))) ∙ ap length (objects_built t (no_shape_fault t accepted) tree f keyed)
+      ∙ as_long (normal_object t f) (rising_list by_key (values_of f t)) ∙ length_rising by_key (values_of f t) ∙ as_long (λ o. o.value) (objects f t)
+
+  low : (i : ℕ) (o : Placed) → slice_get (objects f (normal_tree t)) i ≡ Some o → i + 1 < 2 ^ 64
+  low i o at =
+      let below : i < length (objects f (normal_tree t)) = position_low (objects f (normal_tree t)) i o at in
+      omega (arith, as_many)
+
+  -- the object at a position is the one that has the `@id` of the position
+  owner_at_position : (i : ℕ) (o : Placed) (s : List ℕ) → slice_get (objects f (normal_tree t)) i ≡ Some o → canonical_id f i ≡ Some s → owner (normal_tree t) f s ≡ Some o.value
+  owner_at_position i o s at is =
+      let own : id_of o.value ≡ Some s = ids_by_rank t accepted tree f keyed i o at ∙ is in
+      let x = find-any (λ o. has_id s o.value) (objects f (normal_tree t)) (any-has (λ o. has_id s o.value) (objects f (normal_tree t)) o (has_at (objects f (normal_tree t)) i o at) (has_id-from s o.value own)) in
+      let j = position_of (objects f (normal_tree t)) x.0 x.3 in
+      let its : canonical_id f j.0 ≡ Some s = sym (ids_by_rank t accepted tree f keyed j.0 x.0 j.1) ∙ has_id-Some s x.0.value x.2 in
+      let same : i ≡ j.0 = (canonical_id_exact f f i j.0 s (low i o at) (low j.0 x.0 j.1) is its).1 in
+      let one : Some x.0 ≡ Some o = sym j.1 ∙ ap (slice_get (objects f (normal_tree t))) (sym same) ∙ at in
+      ap (option_map (λ o. o.value)) (x.1 ∙ one)
+
+  -- a reference that is built names what is built of the object
+  pub owner_built : (letters id : List ℕ) (d : Data) → id_prefix f ≡ Some letters → owner t f id ≡ Some d → owner (normal_tree t) f (normal_id t f id) ≡ Some (normal_object t f d)
+  owner_built letters id d prefix owned =
+      let o = owned_by t f id d owned in
+      let stands_in : Has (values_of f t) d = subst (Has (values_of f t)) o.2 (has_mapped (λ (x : Placed). x.value) (objects f t) o.0 o.1) in
+      let i = position_of (rising_list by_key (values_of f t)) d (rising_has by_key (values_of f t) d stands_in) in
+      let text : canonical_id f i.0 ≡ Some (letters ++ decimal (i.0 + 1)) = ap (option_map (λ x. x ++ decimal (i.0 + 1))) prefix in
+      let named : id_of_key t f (key_named t f id) ≡ Some (letters ++ decimal (i.0 + 1)) =
+      ap (λ x. id_of_key t f (option_and_then key_of x)) owned ∙ ap (canonical_id f) (rank_is t accepted tree f keyed i.0 d i.1) ∙ text in
+      let at_built : slice_get (values_of f (normal_tree t)) i.0 ≡ Some (normal_object t f d) =
+      ap (λ xs. slice_get xs i.0) (objects_built t (no_shape_fault t accepted) tree f keyed)
+      ∙ slice_get-map (normal_object t f) (rising_list by_key (values_of f t)) i.0 ∙ ap (option_map (normal_object t f)) i.1 in
+      let p = option_map-Some (λ (x : Placed). x.value) (slice_get (objects f (normal_tree t)) i.0) (normal_object t f d) (sym (slice_get-map (λ o. o.value) (objects f (normal_tree t)) i.0) ∙ at_built) in
+      ap (λ x. owner (normal_tree t) f (unwrap_or x [])) named ∙ owner_at_position i.0 p.0 (letters ++ decimal (i.0 + 1)) p.1 text ∙ ap Some p.2
+
+  -- and so has the key of the object
+  pub key_named_built : (letters id : List ℕ) (d : Data) → id_prefix f ≡ Some letters → owner t f id ≡ Some d → key_named (normal_tree t) f (normal_id t f id) ≡ key_named t f id
+  key_named_built letters id d prefix owned =
+      let o = owned_by t f id d owned in
+      let stands_in : Has (values_of f t) d = subst (Has (values_of f t)) o.2 (has_mapped (λ (x : Placed). x.value) (objects f t) o.0 o.1) in
+      let k : IsClassed f d = all-Has (IsClassed f) (values_of f t) d (values_classed t accepted tree f) stands_in in
+      ap (option_and_then key_of) (owner_built letters id d prefix owned) ∙ key_of_object t f k.0 d k.2 k.1 ∙ sym (ap (option_and_then key_of) owned)
