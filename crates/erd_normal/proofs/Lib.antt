@@ -33,3 +33,4 @@ pub mod WrittenStrings
 pub mod CompactTexts
 pub mod FittingNumbers
 pub mod RisingReports
+pub mod RisingAgain
