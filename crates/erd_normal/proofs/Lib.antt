@@ -34,3 +34,4 @@ pub mod CompactTexts
 pub mod FittingNumbers
 pub mod RisingReports
 pub mod RisingAgain
+pub mod RisingLabels
