@@ -54,3 +54,5 @@ pub mod WrittenStrings
 pub mod CompactTexts
 pub mod FittingNumbers
 pub mod RisingReports
+pub mod RisingAgain
+pub mod RisingLabels

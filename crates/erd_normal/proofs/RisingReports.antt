@@ -1,5 +1,5 @@
 -- The sets of an accepted report in rising order: they rise strictly, and positions are ranks.
-use Rattle.std.proofs.Common.{◌≡◌, ℕ, map, Bool, true, codes, Some, slice_get, refl, sym, ◌∙◌}
+use Rattle.std.proofs.Common.{◌≡◌, ℕ, map, Bool, true, codes, Some, slice_get, refl, sym, ap, ap₂, ◌∙◌}
 use Rattle.std.specs.Cmp.{IsTotalOrder}
 use Rattle.std.specs.Cmp.Lexicographic.{options_total}
 use Rattle.std.specs.List.Sorted.{IsStrictlySortedBy}
@@ -21,7 +21,8 @@ use Rattle.erd_meaning.specs.Keys.{entries_at, has_keys, key_cmp, key_of}
 use Rattle.erd_meaning.specs.Objects.{Placed, objects}
 use Rattle.erd_meaning.specs.Orders.{compact_cmp_total, key_cmp_total, name_cmp_total}
 use Rattle.erd_meaning.specs.SelectionNames.{compact_cmp, key_named, name_cmp, name_of, rising_list}
-use Rattle.erd_normal.specs.NormalTree.{by_key, by_name, rank_of, rank_of_name, reference_cmp, text_of}
+use Rattle.erd_normal.specs.Canonical.{canonical_id, canonical_selection_id}
+use Rattle.erd_normal.specs.NormalTree.{by_key, by_name, id_of_key, id_of_selection, rank_of, rank_of_name, reference_cmp, text_of}
 use Rattle.erd_normal.proofs.CompactTexts.{ItemsHaveFittingNumbers, compact_exact}
 use Rattle.erd_normal.proofs.DistinctObjects.{selection_values_distinct, values_distinct}
 use Rattle.erd_normal.proofs.DistinctSets.{json_values_distinct, references_distinct}
@@ -52,6 +53,10 @@ object_ranks t accepted f i d keyed e =
     sym (rank_map (λ (o : Placed). o.value) key_of (option_cmp key_cmp) (key_of d) (objects f t))
     ∙ rank_by_at key_of (option_cmp key_cmp) (options_total key_cmp_total) (map (λ o. o.value) (objects f t)) i d (values_distinct t accepted f keyed) e
 
+-- the `@id` of the object at a position
+pub object_ids : (t : Data) → IsAccepted t → (f : Family) (i : ℕ) (d : Data) → has_keys f ≡ true → slice_get (rising_list by_key (map (λ o. o.value) (objects f t))) i ≡ Some d → id_of_key t f (key_of d) ≡ canonical_id f i
+object_ids t accepted f i d keyed e = ap (canonical_id f) (object_ranks t accepted f i d keyed e)
+
 -- ---- selections of a contest
 
 module _ (t : Data) (accepted : IsAccepted t) (contest : Placed) (stands : Has (objects family.Contest t) contest) where
@@ -65,6 +70,11 @@ module _ (t : Data) (accepted : IsAccepted t) (contest : Placed) (stands : Has (
       → rank_of_name t (entries_at (codes "ContestSelection") contest.value) (name_of t d) ≡ i
   selection_ranks i d e =
       rank_by_at (name_of t) (option_cmp name_cmp) (options_total name_cmp_total) (entries_at (codes "ContestSelection") contest.value) i d (selection_values_distinct t accepted contest stands) e
+
+  -- the `@id` of the selection at a position, in the contest at a position
+  pub selection_ids : (i j : ℕ) (d : Data) → slice_get (rising_list by_key (map (λ o. o.value) (objects family.Contest t))) i ≡ Some contest.value
+      → slice_get (rising_list (by_name t) (entries_at (codes "ContestSelection") contest.value)) j ≡ Some d → id_of_selection t contest.value d ≡ canonical_selection_id i j
+  selection_ids i j d e g = ap₂ canonical_selection_id (object_ranks t accepted family.Contest i contest.value refl e) (selection_ranks j d g)
 
 -- ---- sets of references
 
