@@ -1,9 +1,10 @@
 -- What stands in a value whose numbers fit has numbers that fit.
-use Rattle.std.proofs.Common.{◌≡◌, ℕ, zero, suc, List, [], ◌∷◌, Option, Some, None, option_and_then, option_map, inl, inr, ◌&&◌, ◌∙◌, Ordering, Less, Equal, Greater, refl, ap, subst, sym}
+use Rattle.std.proofs.Common.{◌≡◌, Bool, true, false, ◌||◌, ℕ, zero, suc, List, [], ◌∷◌, Option, Some, None, option_and_then, option_map, inl, inr, ◌&&◌, ◌∙◌, Ordering, Less, Equal, Greater, refl, ap, subst, sym}
 use Rattle.std.specs.Cmp.Lexicographic.{slice_cmp}
-use Rattle.std.specs.Ordering.{nat_cmp}
-use Rattle.serde_json.specs.Data.{Data, array, object, Items, no_items, item, Members, no_members, member}
-use Rattle.serde_json.specs.Find.{get_item, get_member}
+use Rattle.std.specs.Ordering.{match_ordering, nat_cmp}
+use Rattle.serde_json.specs.Data.{Num, unsigned, negative, float, Data, null, boolean, number, string, array, object, put, Items, no_items, item, Members, no_members, member}
+use Rattle.serde_json.specs.Find.{get_item, get_member, is_float}
+use Rattle.serde_json.specs.Written.{has_float, items_have_float, members_have_float}
 use Rattle.erd_tables.specs.declared.class.Role.TheVariants as role
 use Rattle.erd_tables.specs.declared.place.Step.{Step}
 use Rattle.erd_tables.specs.declared.place.Step.TheVariants.{At, Name}
@@ -13,7 +14,7 @@ use Rattle.erd_check.specs.Trees.{list_of_items}
 use Rattle.erd_check.specs.Wants.{Asked, asked, asked_from, asked_inside, entry_want, is_compared_set, is_repeated, scope_inside, want_of_name}
 use Rattle.erd_check.proofs.Order.{In}
 use Rattle.erd_check.proofs.Shapes.{Within}
-use Rattle.erd_normal.proofs.CompactTexts.{HasFittingNumbers, ItemsHaveFittingNumbers, MembersHaveFittingNumbers}
+use Rattle.erd_normal.proofs.CompactTexts.{IsFittingNumber, HasFittingNumbers, ItemsHaveFittingNumbers, MembersHaveFittingNumbers}
 
 pub get_item-fitting : (i : ℕ) (v : Data) (ds : Items) → ItemsHaveFittingNumbers ds → get_item i ds ≡ Some v → HasFittingNumbers v
 get_item-fitting i v no_items h e = cc
@@ -58,3 +59,42 @@ asked_from-fitting b (s ∷ p) a fits e = at (asked_inside b.want b.value s) ref
 -- what is asked of in a report
 pub within-fitting : (t : Data) (a : Asked) → HasFittingNumbers t → Within t a → HasFittingNumbers a.value
 within-fitting t a fits w = asked_from-fitting (asked (Object role.Report) t) w.place a fits w.is
+
+-- ---- values whose numbers fit have no float
+
+neither : (a b : Bool) → a ≡ false → b ≡ false → a || b ≡ false
+neither true b e g = cc
+neither false b e g = g
+
+number-no_float : (n : Num) → IsFittingNumber n → is_float n ≡ false
+number-no_float (unsigned n) h = refl
+number-no_float (negative z) h = refl
+number-no_float (float x) h = absurd h
+
+mutual
+  pub fitting-no_float : (d : Data) → HasFittingNumbers d → has_float d ≡ false
+  fitting-no_float null h = refl
+  fitting-no_float (boolean b) h = refl
+  fitting-no_float (number n) h = number-no_float n h
+  fitting-no_float (string s) h = refl
+  fitting-no_float (array ds) h = items_fitting-no_float ds h
+  fitting-no_float (object ms) h = members_fitting-no_float ms h
+
+  items_fitting-no_float : (ds : Items) → ItemsHaveFittingNumbers ds → items_have_float ds ≡ false
+  items_fitting-no_float no_items h = refl
+  items_fitting-no_float (item d ds) h = neither (has_float d) (items_have_float ds) (fitting-no_float d h.0) (items_fitting-no_float ds h.1)
+
+  members_fitting-no_float : (ms : Members) → MembersHaveFittingNumbers ms → members_have_float ms ≡ false
+  members_fitting-no_float no_members h = refl
+  members_fitting-no_float (member k d ms) h = neither (has_float d) (members_have_float ms) (fitting-no_float d h.0) (members_fitting-no_float ms h.1)
+
+-- ---- members put in place
+
+pub put-fitting : (k : List ℕ) (d : Data) (ms : Members) → HasFittingNumbers d → MembersHaveFittingNumbers ms → MembersHaveFittingNumbers (put k d ms)
+put-fitting k d no_members fits h = (fits, tt)
+put-fitting k d (member l e ms) fits h = at (slice_cmp nat_cmp k l) (put-fitting k d ms fits h.1)
+  where
+    at : (o : Ordering) → MembersHaveFittingNumbers (put k d ms) → MembersHaveFittingNumbers (match_ordering o (member k d (member l e ms)) (member l d ms) (member l e (put k d ms)))
+    at Less more = (fits, h)
+    at Equal more = (fits, h.1)
+    at Greater more = (h.0, more)
