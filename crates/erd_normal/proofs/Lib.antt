@@ -41,6 +41,8 @@ pub mod CanonicalIds
 pub mod NormalSelections
 pub mod NormalOwners
 pub mod SortedAgain
+pub mod Bounds
+pub mod NormalNames
 mod NormalTreeExamples
 pub mod MovedPairs
 pub mod RisingSets
