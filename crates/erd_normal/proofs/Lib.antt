@@ -43,6 +43,10 @@ pub mod NormalOwners
 pub mod SortedAgain
 pub mod Bounds
 pub mod NormalNames
+pub mod SelectionTexts
+pub mod FoundInParts
+pub mod Positions
+pub mod SelectionIds
 mod NormalTreeExamples
 pub mod MovedPairs
 pub mod RisingSets
