@@ -47,6 +47,7 @@ pub mod SelectionTexts
 pub mod FoundInParts
 pub mod Positions
 pub mod SelectionIds
+pub mod NormalIdentity
 mod NormalTreeExamples
 pub mod MovedPairs
 pub mod RisingSets

@@ -34,10 +34,10 @@ use Rattle.erd_normal.proofs.SelectionTexts.{canonical_selection_id_exact}
 -- ---- what stands in the report that is built
 
 -- the selections of a contest, without their places
-abbrev selection_values : Placed → List Data
+abbrev pub selection_values : Placed → List Data
 selection_values contest = entries_at (codes "ContestSelection") contest.value
 
-listed : (contest : Placed) → map (λ o. o.value) (selections_of contest) ≡ selection_values contest
+pub listed : (contest : Placed) → map (λ o. o.value) (selections_of contest) ≡ selection_values contest
 listed contest = values-placed_entries (codes "ContestSelection") contest
 
 counted : (contest : Placed) → length (selections_of contest) ≡ length (selection_values contest)
@@ -64,7 +64,7 @@ module _ (t : Data) (accepted : IsAccepted t) (tree : IsTree t) where
 
   module _ (contest p : Placed) (of_report : Has (objects family.Contest t) contest) (is : normal_object t family.Contest contest.value ≡ p.value) where
     -- the selections of a contest that is built
-    selections_there : selection_values p ≡ map (normal_selection t contest.value) (rising_list (by_name t) (selection_values contest))
+    pub selections_there : selection_values p ≡ map (normal_selection t contest.value) (rising_list (by_name t) (selection_values contest))
     selections_there =
         let k : IsClassed family.Contest contest.value = object_classed t accepted tree family.Contest contest of_report in
         ap (entries_at (codes "ContestSelection")) (sym is) ∙ selections_built t k.0 contest.value k.2 k.1
