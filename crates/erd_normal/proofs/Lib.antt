@@ -48,6 +48,7 @@ pub mod FoundInParts
 pub mod Positions
 pub mod SelectionIds
 pub mod NormalIdentity
+pub mod NormalSelectionNames
 mod NormalTreeExamples
 pub mod MovedPairs
 pub mod RisingSets

@@ -29,7 +29,7 @@ use Rattle.erd_normal.proofs.Positions.{position_low, position_of, same_in_some}
 use Rattle.erd_normal.proofs.RisingLists.{all_at}
 use Rattle.erd_normal.proofs.SelectionIds.{object_from, one_selection}
 
-never_before_itself : (o : Placed) → IsBefore o o → ⊥
+pub never_before_itself : (o : Placed) → IsBefore o o → ⊥
 never_before_itself o before = let h : Equal ≡ Less = sym (tied_itself place_cmp_total o.place) ∙ before in cc
 
 -- the objects of one family or the other
