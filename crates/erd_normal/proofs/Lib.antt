@@ -49,6 +49,7 @@ pub mod Positions
 pub mod SelectionIds
 pub mod NormalIdentity
 pub mod NormalSelectionNames
+pub mod ContestSelections
 mod NormalTreeExamples
 pub mod MovedPairs
 pub mod RisingSets
