@@ -39,3 +39,4 @@ pub mod RisingOrders
 pub mod RisingRanks
 pub mod RisingMeanings
 pub mod DistinctEntries
+pub mod CleanValues
