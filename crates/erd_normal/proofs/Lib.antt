@@ -40,3 +40,4 @@ pub mod RisingRanks
 pub mod RisingMeanings
 pub mod DistinctEntries
 pub mod CleanValues
+pub mod CleanSets
