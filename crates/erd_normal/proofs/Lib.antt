@@ -41,3 +41,4 @@ pub mod RisingMeanings
 pub mod DistinctEntries
 pub mod CleanValues
 pub mod CleanSets
+pub mod CleanMembers
