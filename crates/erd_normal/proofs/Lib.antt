@@ -42,3 +42,5 @@ pub mod DistinctEntries
 pub mod CleanValues
 pub mod CleanSets
 pub mod CleanMembers
+pub mod BuiltFrom
+pub mod CleanContents
