@@ -44,3 +44,4 @@ pub mod CleanSets
 pub mod CleanMembers
 pub mod BuiltFrom
 pub mod CleanContents
+pub mod CleanFamilies
