@@ -44,7 +44,7 @@ required_named name (n ∷ ns) wanted = at (bytes_eq name n) refl (required_name
     at false is h = or_true (bytes_eq n name) (list_any (λ r. bytes_eq r name) ns) (h (rw is at wanted))
 
 -- what holds of all names holds of one
-required_is : (P : List ℕ → Bool) (name : List ℕ) (names : List (List ℕ)) → list_all P names ≡ true → list_any (bytes_eq name) names ≡ true → P name ≡ true
+pub required_is : (P : List ℕ → Bool) (name : List ℕ) (names : List (List ℕ)) → list_all P names ≡ true → list_any (bytes_eq name) names ≡ true → P name ≡ true
 required_is P name [] all wanted = cc
 required_is P name (n ∷ ns) all wanted = at (bytes_eq name n) refl (required_is P name ns both.1)
   where

@@ -45,3 +45,4 @@ pub mod CleanMembers
 pub mod BuiltFrom
 pub mod CleanContents
 pub mod CleanFamilies
+pub mod CleanReports
