@@ -1,5 +1,5 @@
 -- The members of an object that is built come from members of the object that it is built of, and required ones are never dropped.
-use Rattle.std.proofs.Common.{◌≡◌, ℕ, List, [], ◌∷◌, Option, Some, None, option_and_then, Bool, true, false, not, ◌&&◌, ◌||◌, if◌then◌else◌, codes, refl, sym, ap, ◌∙◌, subst, true≢false}
+use Rattle.std.proofs.Common.{◌≡◌, ℕ, List, [], ◌∷◌, Option, Some, None, option_and_then, Bool, true, false, not, ◌&&◌, codes, refl, sym, ap, ◌∙◌, subst}
 use Rattle.std.specs.Bool.{⊤}
 use Rattle.std.specs.List.{list_all, list_any}
 use Rattle.std.specs.Str.{bytes_eq}
@@ -16,7 +16,7 @@ use Rattle.erd_check.specs.Faults.{is_empty_array, names_wanted, NoneOf, ShapeFa
 use Rattle.erd_check.specs.Trees.{IsTree}
 use Rattle.erd_check.specs.Wants.{asked, class_of_object, is_report_class, member_want, scope_inside, want_of_kind}
 use Rattle.erd_check.specs.declared.want.Want.{Want}
-use Rattle.erd_check.specs.declared.want.Want.TheVariants.{Member, Object}
+use Rattle.erd_check.specs.declared.want.Want.TheVariants.{Member}
 use Rattle.erd_check.proofs.Clean.{IsClean}
 use Rattle.erd_check.proofs.Exact.{both_true, text_exact, text_itself}
 use Rattle.erd_check.proofs.ObjectsAt.{ObjectAt}
@@ -24,7 +24,7 @@ use Rattle.erd_check.proofs.Order.{or_true}
 use Rattle.erd_check.proofs.Shapes.{AsksObject, Within, faultless, lacks_none, member_within, of_label, of_role}
 use Rattle.erd_check.proofs.TableKinds.{want_by_kind, want_unless_status}
 use Rattle.erd_check.proofs.Whole.{not_true}
-use Rattle.erd_normal.specs.NormalTree.{normal_value, unless_no_entry}
+use Rattle.erd_normal.specs.NormalTree.{normal_value}
 use Rattle.erd_normal.proofs.CleanMembers.{normal_value-clean}
 use Rattle.erd_normal.proofs.CleanValues.{clean_object, clean_within}
 

@@ -1,10 +1,8 @@
 -- The order of a ballot that is built has no fault of the shape, at every depth of headers.
-use Rattle.std.proofs.Common.{◌≡◌, ℕ, zero, suc, List, Ordering, Less, Equal, Greater, [], Option, Some, None, option_and_then, Bool, true, false, codes, refl, sym, ap, ◌∙◌, subst}
-use Rattle.std.specs.List.{list_any}
-use Rattle.std.specs.Str.{bytes_eq}
+use Rattle.std.proofs.Common.{◌≡◌, ℕ, zero, suc, List, Ordering, Less, Equal, Greater, [], Some, None, Bool, true, false, refl, sym, ap, ◌∙◌, subst}
 use Rattle.serde_json.specs.Data.{Data, null, boolean, number, string, array, object, Items, no_items, item, Members, no_members, member}
 use Rattle.serde_json.specs.Find.{get_item, get_member}
-use Rattle.erd_tables.specs.Table.{kind_of_member, required_names}
+use Rattle.erd_tables.specs.Table.{kind_of_member}
 use Rattle.erd_tables.specs.Texts.{text_cmp}
 use Rattle.erd_tables.specs.declared.class.Class.{Class}
 use Rattle.erd_tables.specs.declared.class.Role.{Role}

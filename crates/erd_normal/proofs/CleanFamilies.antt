@@ -1,12 +1,12 @@
 -- The selections and the objects of families that are built have no fault of the shape.
 use Rattle.std.proofs.Common.{◌≡◌, ℕ, List, map, length, Option, Some, None, option_and_then, option_map, Bool, true, false, codes, refl, sym, ap, ◌∙◌, subst}
-use Rattle.std.specs.List.{AllByRecursion, list_any}
+use Rattle.std.specs.List.{AllByRecursion}
 use Rattle.std.specs.Str.{bytes_eq}
 use Rattle.std.proofs.lemmas.List.{length-map}
 use Rattle.serde_json.specs.Data.{Data, string, array, Members}
 use Rattle.serde_json.specs.Find.{get, get_member}
 use Rattle.erd_tables.specs.Classes.{role_of_class}
-use Rattle.erd_tables.specs.Table.{is_required, kind_of_member, required_names}
+use Rattle.erd_tables.specs.Table.{is_required, kind_of_member}
 use Rattle.erd_tables.specs.declared.class.Class.{Class}
 use Rattle.erd_tables.specs.declared.class.Family.{Family}
 use Rattle.erd_tables.specs.declared.class.Family.TheVariants as family
@@ -21,9 +21,8 @@ use Rattle.erd_check.specs.Wants.{asked, class_of_object, entry_want, is_compare
 use Rattle.erd_check.specs.declared.want.Want.{Want}
 use Rattle.erd_check.specs.declared.want.Want.TheVariants.{Member, Object}
 use Rattle.erd_check.proofs.Clean.{IsClean}
-use Rattle.erd_check.proofs.Entries.{array_from}
 use Rattle.erd_check.proofs.Exact.{text_exact}
-use Rattle.erd_check.proofs.ObjectsAt.{ObjectAt, ObjectIn, object_in}
+use Rattle.erd_check.proofs.ObjectsAt.{ObjectIn, object_in}
 use Rattle.erd_check.proofs.Shapes.{Within, wanted_within, within-tree}
 use Rattle.erd_check.proofs.TableKinds.{want_by_kind}
 use Rattle.erd_meaning.specs.Keys.{key_of}

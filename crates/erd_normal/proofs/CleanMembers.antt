@@ -1,9 +1,9 @@
 -- The values that are built for members without objects have no fault of the shape: labels, references, sets, and what stays as it is.
-use Rattle.std.proofs.Common.{◌≡◌, ℕ, List, [], map, length, Ordering, Option, Some, None, option_and_then, Bool, true, false, ◌&&◌, codes, refl, sym, ap, ◌∙◌, subst}
+use Rattle.std.proofs.Common.{◌≡◌, ℕ, List, map, length, Some, None, option_and_then, Bool, true, false, ◌&&◌, codes, refl, sym, ap, ◌∙◌, subst}
 use Rattle.std.specs.List.{list_any}
 use Rattle.std.specs.Str.{bytes_eq}
 use Rattle.std.proofs.lemmas.List.{length-map}
-use Rattle.serde_json.specs.Data.{Data, string, array, object, Items, Members}
+use Rattle.serde_json.specs.Data.{Data, array, object, Items}
 use Rattle.serde_json.specs.Find.{as_str, get, get_member}
 use Rattle.erd_tables.specs.Classes.{class_in_role, role_of_class}
 use Rattle.erd_tables.specs.Table.{required_names}
@@ -19,15 +19,13 @@ use Rattle.erd_tables.specs.declared.member.MemberKind.TheVariants as kind
 use Rattle.erd_check.specs.Faults.{is_empty_array, is_shape_fault, NoneOf, ShapeFault}
 use Rattle.erd_check.specs.Trees.{IsTree, entries_of, list_of_items}
 use Rattle.erd_check.specs.Wants.{asked, class_of_object, member_want, want_of_kind}
-use Rattle.erd_check.specs.declared.want.Want.{Want}
 use Rattle.erd_check.specs.declared.want.Want.TheVariants.{Member, Object, Reference}
 use Rattle.erd_check.proofs.Clean.{IsClean}
 use Rattle.erd_check.proofs.Entries.{array_from}
 use Rattle.erd_check.proofs.Exact.{text_exact}
 use Rattle.erd_check.proofs.Shapes.{Classed, Within, classed, faultless, member_within, of_label, wanted_within}
-use Rattle.erd_meaning.specs.Keys.{entries_at}
 use Rattle.erd_meaning.specs.SelectionNames.{compact_cmp, rising_list, with_rising_text}
-use Rattle.erd_normal.specs.NormalTree.{array_of, normal_id, normal_reference, normal_selection_reference, normal_value, reference_cmp, text_of, unless_no_entry}
+use Rattle.erd_normal.specs.NormalTree.{array_of, normal_id, normal_reference, normal_selection_reference, normal_value, reference_cmp, text_of}
 use Rattle.erd_normal.proofs.AskedMembers.{label_texts}
 use Rattle.erd_normal.proofs.CleanSets.{as_empty, clean_references, clean_rising_set, given_unless}
 use Rattle.erd_normal.proofs.CleanValues.{clean_object, clean_reference, clean_within}

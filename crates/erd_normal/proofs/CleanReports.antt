@@ -1,9 +1,9 @@
 -- The report that is built of an accepted one has no fault of the shape.
-use Rattle.std.proofs.Common.{◌≡◌, ℕ, List, [], ◌∷◌, map, length, Option, Some, None, option_and_then, is_some, Bool, true, false, not, ◌==◌, if◌then◌else◌, codes, refl, sym, ap, ◌∙◌, subst}
-use Rattle.std.specs.List.{AllByRecursion, list_all, list_any}
+use Rattle.std.proofs.Common.{◌≡◌, ℕ, List, [], ◌∷◌, map, length, Some, None, option_and_then, is_some, Bool, true, false, not, ◌==◌, if◌then◌else◌, codes, refl, sym, ap, ◌∙◌, subst}
+use Rattle.std.specs.List.{AllByRecursion, list_any}
 use Rattle.std.specs.Str.{bytes_eq}
 use Rattle.serde_json.specs.Data.{Data, string, number, unsigned, array, object, Members}
-use Rattle.serde_json.specs.Find.{as_str, get, get_member}
+use Rattle.serde_json.specs.Find.{as_str, get}
 use Rattle.erd_tables.specs.Classes.{class_in_role}
 use Rattle.erd_tables.specs.Rows.{Row, envelope_rows}
 use Rattle.erd_tables.specs.Table.{is_envelope_name, kind_in_rows, kind_of_member, required_names}

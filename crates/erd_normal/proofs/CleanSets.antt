@@ -1,8 +1,7 @@
 -- Arrays that are put in order, or built of references, have no fault of the shape: no entry of a set repeats an earlier one.
-use Rattle.std.proofs.Common.{◌≡◌, inl, inr, ℕ, zero, suc, List, [], ◌∷◌, map, length, take, Ordering, Option, Some, None, Bool, true, false, not, ◌&&◌, ◌||◌, ◌==◌, cond, if◌then◌else◌, is_lt, refl, sym, ap, ◌∙◌, subst, true≢false}
+use Rattle.std.proofs.Common.{◌≡◌, inl, inr, ℕ, zero, suc, List, [], ◌∷◌, map, length, take, Ordering, Some, None, Bool, true, false, not, ◌&&◌, ◌==◌, cond, if◌then◌else◌, is_lt, refl, sym, ap, ◌∙◌, subst, true≢false}
 use Rattle.std.specs.Bool.{⊤}
 use Rattle.std.specs.List.{AllByRecursion, IsDistinct, list_any}
-use Rattle.std.proofs.lemmas.List.{length-map}
 use Rattle.serde_json.specs.Data.{Data, string, array, Items}
 use Rattle.serde_json.specs.Find.{get_item}
 use Rattle.serde_json.specs.View.{items_of}
@@ -12,7 +11,7 @@ use Rattle.erd_tables.specs.declared.fault.Reason.TheVariants as reason
 use Rattle.erd_tables.specs.declared.place.Step.TheVariants.{At}
 use Rattle.erd_check.specs.Faults.{is_array, is_empty_array, is_reference, is_shape_fault, NoneOf, ShapeFault}
 use Rattle.erd_check.specs.Trees.{IsTree, entries_of, is_same_json, list_of_items}
-use Rattle.erd_check.specs.Wants.{Asked, asked, entry_want, is_compared_set, is_repeated}
+use Rattle.erd_check.specs.Wants.{asked, entry_want, is_compared_set, is_repeated}
 use Rattle.erd_check.specs.declared.want.Want.{Want}
 use Rattle.erd_check.specs.declared.want.Want.TheVariants.{Reference}
 use Rattle.erd_check.proofs.Clean.{IsClean}
@@ -26,7 +25,7 @@ use Rattle.erd_normal.proofs.AskedMembers.{all_items}
 use Rattle.erd_normal.proofs.BuiltLists.{all_map, all_of, all_rising, trees_listed}
 use Rattle.erd_normal.proofs.CleanValues.{clean_array, clean_reference, clean_within, entry_holds}
 use Rattle.erd_normal.proofs.DistinctEntries.{unrepeated_distinct}
-use Rattle.erd_normal.proofs.RisingSets.{In-inserted, In-rising, length-rising}
+use Rattle.erd_normal.proofs.RisingSets.{In-inserted, In-rising}
 
 -- ---- lists no two entries of which pass a test
 

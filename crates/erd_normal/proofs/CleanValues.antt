@@ -1,5 +1,5 @@
 -- Values without a fault of the shape: those that stand in a report that has none, texts, arrays, and objects by their members.
-use Rattle.std.proofs.Common.{◌≡◌, ◌⊎◌, inl, inr, ℕ, zero, suc, List, [], ◌∷◌, Option, Some, None, option_and_then, Bool, true, false, ◌&&◌, if◌then◌else◌, is_none, codes, refl, sym, ap, ◌∙◌, subst, true≢false}
+use Rattle.std.proofs.Common.{◌≡◌, ◌⊎◌, inl, inr, ℕ, zero, suc, List, [], ◌∷◌, Option, Some, None, option_and_then, Bool, true, false, ◌&&◌, if◌then◌else◌, is_none, codes, refl, sym, ap, ◌∙◌, subst}
 use Rattle.std.specs.List.{AllByRecursion, list_any}
 use Rattle.std.specs.Str.{bytes_eq}
 use Rattle.serde_json.specs.Data.{Data, string, array, object, Items, Members}
@@ -22,8 +22,7 @@ use Rattle.erd_check.specs.declared.want.Want.{Want}
 use Rattle.erd_check.specs.declared.want.Want.TheVariants.{Object, ClassText, Reference, Member}
 use Rattle.erd_check.proofs.Clean.{IsClean, clean_by_steps, clean_report}
 use Rattle.erd_check.proofs.Exact.{text_exact}
-use Rattle.erd_check.proofs.Shapes.{AsksObject, Within, false_unless, of_label, of_role}
-use Rattle.erd_normal.proofs.NormalGets.{class_of_object-object}
+use Rattle.erd_check.proofs.Shapes.{AsksObject, Within, of_label, of_role}
 
 -- ---- of a report
 
