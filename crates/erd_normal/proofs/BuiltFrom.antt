@@ -1,5 +1,5 @@
 -- The members of an object that is built come from members of the object that it is built of, and required ones are never dropped.
-use Rattle.std.proofs.Common.{◌≡◌, ℕ, List, [], ◌∷◌, Option, Some, None, option_and_then, Bool, true, false, not, ◌&&◌, codes, refl, sym, ap, ◌∙◌, subst}
+use Rattle.std.proofs.Common.{◌≡◌, ◌⊎◌, inl, inr, ℕ, List, [], ◌∷◌, Option, Some, None, option_and_then, Bool, true, false, not, ◌&&◌, codes, refl, sym, ap, ◌∙◌, subst}
 use Rattle.std.specs.Bool.{⊤}
 use Rattle.std.specs.List.{list_all, list_any}
 use Rattle.std.specs.Str.{bytes_eq}
@@ -12,11 +12,13 @@ use Rattle.erd_tables.specs.declared.class.Role.{Role}
 use Rattle.erd_tables.specs.declared.fault.Reason.TheVariants as reason
 use Rattle.erd_tables.specs.declared.member.MemberKind.{MemberKind}
 use Rattle.erd_tables.specs.declared.member.MemberKind.TheVariants as kind
+use Rattle.erd_tables.specs.declared.place.Step.{Step}
+use Rattle.erd_tables.specs.declared.place.Step.TheVariants.{Name}
 use Rattle.erd_check.specs.Faults.{is_empty_array, names_wanted, NoneOf, ShapeFault}
 use Rattle.erd_check.specs.Trees.{IsTree}
-use Rattle.erd_check.specs.Wants.{asked, class_of_object, is_report_class, member_want, scope_inside, want_of_kind}
+use Rattle.erd_check.specs.Wants.{Asked, asked, asked_inside, class_of_object, is_report_class, member_want, scope_inside, want_of_kind}
 use Rattle.erd_check.specs.declared.want.Want.{Want}
-use Rattle.erd_check.specs.declared.want.Want.TheVariants.{Member}
+use Rattle.erd_check.specs.declared.want.Want.TheVariants.{Member, Object}
 use Rattle.erd_check.proofs.Clean.{IsClean}
 use Rattle.erd_check.proofs.Exact.{both_true, text_exact, text_itself}
 use Rattle.erd_check.proofs.ObjectsAt.{ObjectAt}
@@ -26,7 +28,7 @@ use Rattle.erd_check.proofs.TableKinds.{want_by_kind, want_unless_status}
 use Rattle.erd_check.proofs.Whole.{not_true}
 use Rattle.erd_normal.specs.NormalTree.{normal_value}
 use Rattle.erd_normal.proofs.CleanMembers.{normal_value-clean}
-use Rattle.erd_normal.proofs.CleanValues.{clean_object, clean_within}
+use Rattle.erd_normal.proofs.CleanValues.{MemberAsked, TypeAsked, asked_in_object, clean_object, clean_within}
 
 -- what gives the value of a member, by its name and kind
 abbrev pub Builder : Type 0
@@ -103,6 +105,29 @@ pub record BuildsClean (t : Data) (value_of : Builder) : Type 0 where
   pub built : (name : List ℕ) (k : MemberKind) (required : Bool) (d v : Data) → Within t (asked (want_of_kind k required) d) → value_of name k d ≡ Some v → IsClean (asked (want_of_kind k required) v)
   pub word : (name : List ℕ) (d v : Data) → value_of name kind.Word d ≡ Some v → d ≡ v
 
+-- an object that is built: it keeps its class, and has under each name that is not special what is built of the value there
+pub record BuiltObject (t : Data) (value_of : Builder) (special : List ℕ → Bool) (r : Role) (c : Class) (ms : Members) (d : Data) : Type 0 where
+  pub at : ObjectAt t (Object r) r c ms
+  pub among : class_of_object r d ≡ Some c
+  pub gets : (name : List ℕ) → special name ≡ false → get name d ≡ option_and_then (value_of name (kind_of_member c name)) (get_member name ms)
+
+-- a member that does not come from the object's: `@id` and the envelope
+pub record SpecialAsked (special : List ℕ → Bool) (c : Class) (d : Data) (s : Step) (b : Asked) : Type 0 where
+  pub name : List ℕ
+  pub named : special name ≡ true
+  pub found : Data
+  pub stands : get name d ≡ Some found
+  pub step : s ≡ Name name
+  pub is : b ≡ asked (member_want c name) found
+
+-- a member that comes from one of the object's
+pub record BuiltAsked (t : Data) (value_of : Builder) (c : Class) (ms : Members) (s : Step) (b : Asked) : Type 0 where
+  pub name : List ℕ
+  pub found : Data
+  pub origin : BuiltFrom t value_of c ms name found
+  pub step : s ≡ Name name
+  pub is : b ≡ asked (member_want c name) found
+
 names_of_object : (w : Want) (r : Role) (c : Class) (ms : Members) → AsksObject w r → class_of_object r (object ms) ≡ Some c → names_wanted (scope_inside w (object ms)) ≡ required_names c
 names_of_object w r c ms of_role among = rw among refl
 names_of_object w r c ms of_label among = rw among refl
@@ -163,28 +188,52 @@ module _ (t : Data) (clean : NoneOf (ShapeFault t)) where
           let inside = member_within t clean w r ms c name d o.asks o.among (required_other c name wanted).0 o.inside is in
           keeps d (filled c name d (required_named name (required_names c) wanted) inside (kind_of_member c name) refl) e
 
-  -- an object that is built from one of the report: under each name that is not special, what is built of the value there
-  pub clean_built : (value_of : Builder) (special : List ℕ → Bool) (w : Want) (r : Role) (c : Class) (ms : Members) (d : Data) → ObjectAt t w r c ms → class_of_object r d ≡ Some c
-      → ((name : List ℕ) → special name ≡ false → get name d ≡ option_and_then (value_of name (kind_of_member c name)) (get_member name ms))
+  -- what is asked one step inside an object that is built: its `@type`, a special member, or what is built of a member
+  pub inside_built : (value_of : Builder) (special : List ℕ → Bool) (r : Role) (c : Class) (ms : Members) (d : Data) → BuiltObject t value_of special r c ms d → (s : Step) (b : Asked)
+      → asked_inside (Object r) d s ≡ Some b → TypeAsked r d s b ⊎ (SpecialAsked special c d s b ⊎ BuiltAsked t value_of c ms s b)
+  inside_built value_of special r c ms d o s b e = elim (asked_in_object (Object r) r c d s b of_role o.among e) [
+    | inl type ↦ inl type
+    | inr m ↦ inr (at m (special m.name) refl)
+  ]
+    where
+      at : (m : MemberAsked c d s b) (is : Bool) → special m.name ≡ is → SpecialAsked special c d s b ⊎ BuiltAsked t value_of c ms s b
+      at m true is = inl (record { name = m.name; named = is; found = m.found; stands = m.stands; step = m.step; is = m.is })
+      at m false is =
+          inr (record {
+            name = m.name;
+            found = m.found;
+            origin = built_from value_of (Object r) r c ms o.at m.name m.found m.other (sym (o.gets m.name is) ∙ m.stands);
+            step = m.step;
+            is = m.is;
+          })
+
+  -- a required member is there
+  pub has_required : (value_of : Builder) (special : List ℕ → Bool) (r : Role) (c : Class) (ms : Members) (d : Data) → BuiltObject t value_of special r c ms d
+      → ((name : List ℕ) → list_any (bytes_eq name) (required_names c) ≡ true → special name ≡ false)
+      → ((name : List ℕ) (v : Data) → list_any (bytes_eq name) (required_names c) ≡ true → is_kept (kind_of_member c name) ≡ true → IsFilled (kind_of_member c name) v
+      → value_of name (kind_of_member c name) v ≡ None → ⊥)
+      → (name : List ℕ) → list_any (bytes_eq name) (required_names c) ≡ true → get name d ≡ None → ⊥
+  has_required value_of special r c ms d o required keeps name wanted none =
+      member_kept value_of (Object r) r c ms o.at name wanted (λ v full e. keeps name v wanted (required_kind c name wanted) full e)
+      (sym (o.gets name (required name wanted)) ∙ none)
+
+  -- an object that is built has no fault, if its special members and what is built of members have none, and required ones are kept
+  pub clean_built : (value_of : Builder) (special : List ℕ → Bool) (r : Role) (c : Class) (ms : Members) (d : Data) → BuiltObject t value_of special r c ms d
       → ((name : List ℕ) (v : Data) → special name ≡ true → get name d ≡ Some v → IsClean (asked (member_want c name) v))
       → ((name : List ℕ) (v : Data) → BuiltFrom t value_of c ms name v → IsClean (asked (member_want c name) v))
       → ((name : List ℕ) → list_any (bytes_eq name) (required_names c) ≡ true → special name ≡ false)
       → ((name : List ℕ) (v : Data) → list_any (bytes_eq name) (required_names c) ≡ true → is_kept (kind_of_member c name) ≡ true → IsFilled (kind_of_member c name) v
       → value_of name (kind_of_member c name) v ≡ None → ⊥)
-      → IsClean (asked w d)
-  clean_built value_of special w r c ms d o among gets specials built required keeps = clean_object w r c d o.asks among has each
+      → IsClean (asked (Object r) d)
+  clean_built value_of special r c ms d o specials built required keeps =
+      clean_object (Object r) r c d of_role o.among (has_required value_of special r c ms d o required keeps) each
     where
-      has : (name : List ℕ) → list_any (bytes_eq name) (required_names c) ≡ true → get name d ≡ None → ⊥
-      has name wanted none =
-          member_kept value_of w r c ms o name wanted (λ v full e. keeps name v wanted (required_kind c name wanted) full e)
-          (sym (gets name (required name wanted)) ∙ none)
-
       each : (name : List ℕ) (v : Data) → bytes_eq name (codes "@type") ≡ false → get name d ≡ Some v → IsClean (asked (member_want c name) v)
       each name v other found = at (special name) refl
         where
           at : (b : Bool) → special name ≡ b → IsClean (asked (member_want c name) v)
           at true is = specials name v is found
-          at false is = built name v (built_from value_of w r c ms o name v other (sym (gets name is) ∙ found))
+          at false is = built name v (built_from value_of (Object r) r c ms o.at name v other (sym (o.gets name is) ∙ found))
 
 pub normal_value-kept : (t : Data) (k : MemberKind) (d : Data) → is_kept k ≡ true → IsFilled k d → normal_value t k d ≡ None → ⊥
 normal_value-kept t kind.Label d kept full e = cc

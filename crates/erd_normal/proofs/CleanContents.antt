@@ -5,7 +5,6 @@ use Rattle.serde_json.specs.Find.{get_item, get_member}
 use Rattle.erd_tables.specs.Table.{kind_of_member}
 use Rattle.erd_tables.specs.Texts.{text_cmp}
 use Rattle.erd_tables.specs.declared.class.Class.{Class}
-use Rattle.erd_tables.specs.declared.class.Role.{Role}
 use Rattle.erd_tables.specs.declared.class.Role.TheVariants as role
 use Rattle.erd_tables.specs.declared.fault.Reason.{Reason}
 use Rattle.erd_tables.specs.declared.fault.Reason.TheVariants as reason
@@ -16,23 +15,19 @@ use Rattle.erd_check.specs.Trees.{IsTree}
 use Rattle.erd_check.specs.Wants.{asked, member_want, want_of_kind}
 use Rattle.erd_check.specs.declared.want.Want.TheVariants.{Member, Object}
 use Rattle.erd_check.proofs.Clean.{IsClean}
-use Rattle.erd_check.proofs.ObjectsAt.{ObjectAt, ObjectIn, object_in}
-use Rattle.erd_check.proofs.Shapes.{Within, within-tree}
+use Rattle.erd_check.proofs.ObjectsAt.{ObjectAt}
+use Rattle.erd_check.proofs.Shapes.{Within}
 use Rattle.erd_normal.specs.NormalTree.{normal_content, normal_node, normal_node_value, normal_nodes}
 use Rattle.erd_normal.proofs.AskedMembers.{entry_asked}
-use Rattle.erd_normal.proofs.BuiltFrom.{Builder, BuiltFrom, IsFilled, clean_built, is_kept, member_clean, normal_value-kept}
+use Rattle.erd_normal.proofs.BuiltFrom.{BuiltFrom, IsFilled, clean_built, is_kept, member_clean, normal_value-kept}
 use Rattle.erd_normal.proofs.CleanMembers.{normal_value-clean}
 use Rattle.erd_normal.proofs.CleanSets.{given_unless}
 use Rattle.erd_normal.proofs.CleanValues.{clean_array, clean_within}
-use Rattle.erd_normal.proofs.NormalGets.{class_of_built_node, get_node}
+use Rattle.erd_normal.proofs.BuiltObjects.{built_node, no_name, node_builder, object_here}
 
 content_local : (required : Bool) (ds : Items) (r : Reason) → is_shape_fault (asked (Member kind.Content required) (array ds)) r ≡ false
 content_local required ds reason.WrongKind = refl
 content_local required ds r = refl
-
--- the value of a member of a contest or a header
-abbrev pub node_builder : Data → Builder
-node_builder t name k d = normal_node_value t (Some k) d (normal_content t d)
 
 node_kept : (t : Data) (k : MemberKind) (d inside : Data) → is_kept k ≡ true → IsFilled k d → normal_node_value t (Some k) d inside ≡ None → ⊥
 node_kept t kind.Content d inside kept full e = cc
@@ -42,14 +37,6 @@ node_word : (t : Data) (k : MemberKind) (d inside v : Data) → k ≡ kind.Word 
 node_word t k d inside v is e = let x : Some d ≡ Some v = ap (λ q. normal_node_value t (Some q) d inside) (sym is) ∙ e in let same : d ≡ v = cc in same
 
 module _ (t : Data) (clean : NoneOf (ShapeFault t)) (tree : IsTree t) where
-  -- an object that is asked for, by its own members
-  pub object_here : (r : Role) (ms : Members) → Within t (asked (Object r) (object ms)) → (c : Class) × ObjectAt t (Object r) r c ms
-  object_here r ms w =
-      let o : ObjectIn t r (object ms) = object_in t clean r (object ms) w in
-      let is : object ms ≡ object o.ms = o.is_object in
-      let same : o.ms ≡ ms = cc in
-      (o.class, subst (ObjectAt t (Object r) r o.class) same o.at)
-
   -- the list of contests and headers that is built of a value has no fault where the value has none
   abbrev IsContent : Data → Type 0
   IsContent d = (required : Bool) → Within t (asked (Member kind.Content required) d) → IsClean (asked (Member kind.Content required) (normal_content t d))
@@ -64,18 +51,14 @@ module _ (t : Data) (clean : NoneOf (ShapeFault t)) (tree : IsTree t) where
   node_with : (ms : Members) → Within t (asked (Object role.Content) (object ms)) → ((name : List ℕ) (d : Data) → get_member name ms ≡ Some d → IsContent d)
       → IsClean (asked (Object role.Content) (normal_node t (object ms)))
   node_with ms w contents =
-      clean_built t clean (node_builder t) (λ name. false) (Object role.Content) role.Content c ms (normal_node t (object ms)) o (class_of_built_node t c (object ms) trees o.among)
-      (λ name is. get_node t c name (object ms) trees o.among) (λ name v is found. cc) built (λ name wanted. refl)
+      clean_built t clean (node_builder t) no_name role.Content c ms (normal_node t (object ms)) (built_node t clean tree c ms o) (λ name v is found. cc) built (λ name wanted. refl)
       (λ name v wanted kept full e. node_kept t (kind_of_member c name) v (normal_content t v) kept full e)
     where
       c : Class
-      c = (object_here role.Content ms w).0
+      c = (object_here t clean tree role.Content ms w).0
 
       o : ObjectAt t (Object role.Content) role.Content c ms
-      o = (object_here role.Content ms w).1
-
-      trees : IsTree (object ms)
-      trees = within-tree t (asked (Object role.Content) (object ms)) tree w
+      o = (object_here t clean tree role.Content ms w).1
 
       built : (name : List ℕ) (v : Data) → BuiltFrom t (node_builder t) c ms name v → IsClean (asked (member_want c name) v)
       built name v b =

@@ -1,10 +1,9 @@
 -- The selections and the objects of families that are built have no fault of the shape.
-use Rattle.std.proofs.Common.{◌≡◌, ℕ, List, map, length, Option, Some, None, option_and_then, option_map, Bool, true, false, codes, refl, sym, ap, ◌∙◌, subst}
+use Rattle.std.proofs.Common.{◌≡◌, ℕ, List, map, length, Some, None, Bool, true, false, codes, refl, sym, ap, ◌∙◌, subst}
 use Rattle.std.specs.List.{AllByRecursion}
 use Rattle.std.specs.Str.{bytes_eq}
 use Rattle.std.proofs.lemmas.List.{length-map}
-use Rattle.serde_json.specs.Data.{Data, string, array, Members}
-use Rattle.serde_json.specs.Find.{get, get_member}
+use Rattle.serde_json.specs.Data.{Data, string, array}
 use Rattle.erd_tables.specs.Classes.{role_of_class}
 use Rattle.erd_tables.specs.Table.{is_required, kind_of_member}
 use Rattle.erd_tables.specs.declared.class.Class.{Class}
@@ -17,25 +16,25 @@ use Rattle.erd_tables.specs.declared.member.MemberKind.{MemberKind}
 use Rattle.erd_tables.specs.declared.member.MemberKind.TheVariants as kind
 use Rattle.erd_check.specs.Faults.{is_array, is_shape_fault, NoneOf, ShapeFault}
 use Rattle.erd_check.specs.Trees.{IsTree, entries_of, list_of_items}
-use Rattle.erd_check.specs.Wants.{asked, class_of_object, entry_want, is_compared_set, member_want, want_of_kind}
+use Rattle.erd_check.specs.Wants.{asked, entry_want, is_compared_set, member_want, want_of_kind}
 use Rattle.erd_check.specs.declared.want.Want.{Want}
 use Rattle.erd_check.specs.declared.want.Want.TheVariants.{Member, Object}
 use Rattle.erd_check.proofs.Clean.{IsClean}
 use Rattle.erd_check.proofs.Exact.{text_exact}
 use Rattle.erd_check.proofs.ObjectsAt.{ObjectIn, object_in}
-use Rattle.erd_check.proofs.Shapes.{Within, wanted_within, within-tree}
+use Rattle.erd_check.proofs.Shapes.{Within, wanted_within}
 use Rattle.erd_check.proofs.TableKinds.{want_by_kind}
-use Rattle.erd_meaning.specs.Keys.{key_of}
 use Rattle.erd_meaning.specs.SelectionNames.{rising_list, selection_role}
-use Rattle.erd_normal.specs.NormalTree.{array_of, by_key, by_name, id_of_key, id_of_selection, normal_content, normal_object, normal_object_value, normal_objects, normal_selection, normal_value}
+use Rattle.erd_normal.specs.NormalTree.{array_of, by_key, by_name, id_of_selection, normal_content, normal_object, normal_object_value, normal_objects, normal_selection}
 use Rattle.erd_normal.proofs.AskedMembers.{entries_asked}
-use Rattle.erd_normal.proofs.BuiltFrom.{Builder, BuildsClean, IsFilled, clean_built, is_kept, member_of_builder, normal_value-builds, normal_value-kept, required_other}
+use Rattle.erd_normal.proofs.BuiltFrom.{BuildsClean, IsFilled, clean_built, is_kept, member_of_builder, normal_value-builds, normal_value-kept, required_other}
 use Rattle.erd_normal.proofs.BuiltLists.{all_map, all_rising}
 use Rattle.erd_normal.proofs.CleanContents.{content_clean}
 use Rattle.erd_normal.proofs.CleanMembers.{normal_value-clean}
 use Rattle.erd_normal.proofs.CleanSets.{clean_list, given_unless}
 use Rattle.erd_normal.proofs.CleanValues.{clean_identity}
-use Rattle.erd_normal.proofs.NormalGets.{class_of_built, class_of_built_selection, get_object, get_object-id, get_selection, get_selection-id, kind_of_family_id}
+use Rattle.erd_normal.proofs.NormalGets.{kind_of_family_id}
+use Rattle.erd_normal.proofs.BuiltObjects.{built_object, built_selection, is_id, object_builder, object_id, plain_builder, selection_id}
 
 keyed_local : (f : Family) (required : Bool) (es : List Data) (r : Reason) → is_shape_fault (asked (Member (kind.Keyed f) required) (array_of es)) r ≡ false
 keyed_local f required es reason.WrongKind = refl
@@ -47,18 +46,6 @@ id_clean c f is id name v named same =
     let want : member_want c name ≡ Member kind.Identity (is_required c (codes "@id")) =
     ap (member_want c) (text_exact name (codes "@id") named) ∙ want_by_kind c (codes "@id") kind.Identity (kind_of_family_id c f is) refl in
     subst (λ w. IsClean (asked w v)) (sym want) (subst (λ x. IsClean (asked (Member kind.Identity (is_required c (codes "@id"))) x)) (sym same) (clean_identity (is_required c (codes "@id")) id))
-
-text_there : (id : Option (List ℕ)) (v : Data) → option_map string id ≡ Some v → (text : List ℕ) × (v ≡ string text)
-text_there None v e = cc
-text_there (Some id) v e = let same : v ≡ string id = cc in (id, same)
-
--- the value of a member of a selection
-abbrev pub plain_builder : Data → Builder
-plain_builder t name k d = normal_value t k d
-
--- the value of a member of an object of a family
-abbrev pub object_builder : Data → Data → Builder
-object_builder t o name k d = normal_object_value t o k d
 
 object_value_kept : (t o : Data) (k : MemberKind) (d : Data) → is_kept k ≡ true → IsFilled k d → normal_object_value t o k d ≡ None → ⊥
 object_value_kept t o (kind.Keyed f) d kept full e = cc
@@ -81,34 +68,11 @@ module _ (t : Data) (clean : NoneOf (ShapeFault t)) (tree : IsTree t) where
 
   pub selection_clean : (contest d : Data) → Within t (asked (Object selection_role) d) → IsClean (asked (Object selection_role) (normal_selection t contest d))
   selection_clean contest d w =
-      clean_built t clean (plain_builder t) (λ name. bytes_eq name (codes "@id")) (Object selection_role) selection_role c ms (normal_selection t contest d) o.at
-      (class_of_built_selection t contest c d trees among) gets ids (member_of_builder t clean (plain_builder t) (normal_value-builds t clean tree) c ms)
-      (λ name wanted. (required_other c name wanted).1) (λ name v wanted kept full e. normal_value-kept t (kind_of_member c name) v kept full e)
-    where
-      o : ObjectIn t selection_role d
-      o = object_in t clean selection_role d w
-
-      c : Class
-      c = o.class
-
-      ms : Members
-      ms = o.ms
-
-      trees : IsTree d
-      trees = within-tree t (asked (Object selection_role) d) tree w
-
-      among : class_of_object selection_role d ≡ Some c
-      among = ap (class_of_object selection_role) o.is_object ∙ o.at.among
-
-      gets : (name : List ℕ) → bytes_eq name (codes "@id") ≡ false → get name (normal_selection t contest d) ≡ option_and_then (plain_builder t name (kind_of_member c name)) (get_member name ms)
-      gets name other = get_selection t contest c d trees among name other ∙ ap (λ x. option_and_then (plain_builder t name (kind_of_member c name)) (get name x)) o.is_object
-
-      ids : (name : List ℕ) (v : Data) → bytes_eq name (codes "@id") ≡ true → get name (normal_selection t contest d) ≡ Some v → IsClean (asked (member_want c name) v)
-      ids name v named found =
-          let x : Some (string (id_of_selection t contest d)) ≡ Some v =
-          sym (get_selection-id t contest c d trees among) ∙ ap (λ n. get n (normal_selection t contest d)) (sym (text_exact name (codes "@id") named)) ∙ found in
-          let same : v ≡ string (id_of_selection t contest d) = cc in
-          id_clean c family.Selection o.role (id_of_selection t contest d) name v named same
+      let o : ObjectIn t selection_role d = object_in t clean selection_role d w in
+      clean_built t clean (plain_builder t) is_id selection_role o.class o.ms (normal_selection t contest d) (built_selection t clean tree contest d o)
+      (λ name v named found. id_clean o.class family.Selection o.role (id_of_selection t contest d) name v named (selection_id t clean tree contest d o name v named found))
+      (member_of_builder t clean (plain_builder t) (normal_value-builds t clean tree) o.class o.ms) (λ name wanted. (required_other o.class name wanted).1)
+      (λ name v wanted kept full e. normal_value-kept t (kind_of_member o.class name) v kept full e)
 
   selections_clean : (contest : Data) (required : Bool) (d : Data) → Within t (asked (Member (kind.Keyed family.Selection) required) d)
       → IsClean (asked (Member (kind.Keyed family.Selection) required) (array_of (map (normal_selection t contest) (rising_list (by_name t) (entries_of d)))))
@@ -135,32 +99,11 @@ module _ (t : Data) (clean : NoneOf (ShapeFault t)) (tree : IsTree t) where
 
   pub object_clean : (f : Family) (d : Data) → Within t (asked (Object (role.OfFamily f)) d) → IsClean (asked (Object (role.OfFamily f)) (normal_object t f d))
   object_clean f d w =
-      clean_built t clean (object_builder t d) (λ name. bytes_eq name (codes "@id")) (Object (role.OfFamily f)) (role.OfFamily f) c ms (normal_object t f d) o.at
-      (class_of_built t f c d trees among) gets ids (member_of_builder t clean (object_builder t d) (object_builds d) c ms)
-      (λ name wanted. (required_other c name wanted).1) (λ name v wanted kept full e. object_value_kept t d (kind_of_member c name) v kept full e)
-    where
-      o : ObjectIn t (role.OfFamily f) d
-      o = object_in t clean (role.OfFamily f) d w
-
-      c : Class
-      c = o.class
-
-      ms : Members
-      ms = o.ms
-
-      trees : IsTree d
-      trees = within-tree t (asked (Object (role.OfFamily f)) d) tree w
-
-      among : class_of_object (role.OfFamily f) d ≡ Some c
-      among = ap (class_of_object (role.OfFamily f)) o.is_object ∙ o.at.among
-
-      gets : (name : List ℕ) → bytes_eq name (codes "@id") ≡ false → get name (normal_object t f d) ≡ option_and_then (object_builder t d name (kind_of_member c name)) (get_member name ms)
-      gets name other = get_object t f c d trees among name other ∙ ap (λ x. option_and_then (object_builder t d name (kind_of_member c name)) (get name x)) o.is_object
-
-      ids : (name : List ℕ) (v : Data) → bytes_eq name (codes "@id") ≡ true → get name (normal_object t f d) ≡ Some v → IsClean (asked (member_want c name) v)
-      ids name v named found =
-          let text = text_there (id_of_key t f (key_of d)) v (sym (get_object-id t f c d trees among) ∙ ap (λ n. get n (normal_object t f d)) (sym (text_exact name (codes "@id") named)) ∙ found) in
-          id_clean c f o.role text.0 name v named text.1
+      let o : ObjectIn t (role.OfFamily f) d = object_in t clean (role.OfFamily f) d w in
+      clean_built t clean (object_builder t d) is_id (role.OfFamily f) o.class o.ms (normal_object t f d) (built_object t clean tree f d o)
+      (λ name v named found. let text = object_id t clean tree f d o name v named found in id_clean o.class f o.role text.0 name v named text.2)
+      (member_of_builder t clean (object_builder t d) (object_builds d) o.class o.ms) (λ name wanted. (required_other o.class name wanted).1)
+      (λ name v wanted kept full e. object_value_kept t d (kind_of_member o.class name) v kept full e)
 
   -- the array of the objects of a family
   pub objects_clean : (f : Family) (required : Bool) (d : Data) → Within t (asked (Member (kind.Keyed f) required) d) → IsClean (asked (Member (kind.Keyed f) required) (normal_objects t f (entries_of d)))

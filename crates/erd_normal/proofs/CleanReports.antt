@@ -1,10 +1,9 @@
 -- The report that is built of an accepted one has no fault of the shape.
-use Rattle.std.proofs.Common.{◌≡◌, ℕ, List, [], ◌∷◌, map, length, Some, None, option_and_then, is_some, Bool, true, false, not, ◌==◌, if◌then◌else◌, codes, refl, sym, ap, ◌∙◌, subst}
+use Rattle.std.proofs.Common.{◌≡◌, ℕ, List, [], ◌∷◌, map, length, Some, None, is_some, Bool, true, false, not, ◌==◌, if◌then◌else◌, codes, refl, sym, ap, ◌∙◌, subst}
 use Rattle.std.specs.List.{AllByRecursion, list_any}
 use Rattle.std.specs.Str.{bytes_eq}
 use Rattle.serde_json.specs.Data.{Data, string, number, unsigned, array, object, Members}
-use Rattle.serde_json.specs.Find.{as_str, get}
-use Rattle.erd_tables.specs.Classes.{class_in_role}
+use Rattle.serde_json.specs.Find.{get}
 use Rattle.erd_tables.specs.Rows.{Row, envelope_rows}
 use Rattle.erd_tables.specs.Table.{is_envelope_name, kind_in_rows, kind_of_member, required_names}
 use Rattle.erd_tables.specs.declared.class.Class.TheVariants as class
@@ -16,25 +15,25 @@ use Rattle.erd_tables.specs.declared.member.MemberKind.TheVariants as kind
 use Rattle.erd_tables.specs.declared.place.Step.{Step}
 use Rattle.erd_check.specs.Faults.{has_not_one_entry, is_array, is_shape_fault, NoneOf, ShapeFault}
 use Rattle.erd_check.specs.Trees.{IsTree, entries_of}
-use Rattle.erd_check.specs.Wants.{Asked, asked, asked_inside, class_of_object, member_want, want_of_kind}
+use Rattle.erd_check.specs.Wants.{Asked, asked, asked_inside, member_want, want_of_kind}
 use Rattle.erd_check.specs.declared.want.Want.TheVariants.{Member, Object}
 use Rattle.erd_check.proofs.Clean.{IsClean, clean_by_steps, clean_report}
 use Rattle.erd_check.proofs.Exact.{text_exact}
 use Rattle.erd_check.proofs.ObjectsAt.{ObjectAt, election_class, object_at}
-use Rattle.erd_check.proofs.Shapes.{Within, faultless, wanted_within, within-tree}
+use Rattle.erd_check.proofs.Shapes.{Within, faultless, wanted_within}
 use Rattle.erd_check.proofs.Whole.{not_true}
 use Rattle.erd_meaning.proofs.Lists.{list_of_items-items_of}
 use Rattle.erd_meaning.proofs.Phases.{no_shape_fault}
 use Rattle.erd_meaning.proofs.Skeleton.{Skeleton, skeleton_of_shape}
 use Rattle.erd_meaning.specs.Accepted.{IsAccepted}
 use Rattle.erd_normal.specs.NormalTree.{array_of, normal_election, normal_election_value, normal_objects, normal_report_value, normal_tree, normal_value}
-use Rattle.erd_normal.proofs.BuiltFrom.{Builder, BuildsClean, IsFilled, clean_built, is_kept, member_of_builder, normal_value-kept, required_is}
+use Rattle.erd_normal.proofs.BuiltFrom.{BuildsClean, IsFilled, clean_built, is_kept, member_of_builder, normal_value-kept, required_is}
 use Rattle.erd_normal.proofs.CleanFamilies.{clean_built_list, objects_clean}
 use Rattle.erd_normal.proofs.CleanMembers.{normal_value-clean}
 use Rattle.erd_normal.proofs.CleanSets.{given_unless}
 use Rattle.erd_normal.proofs.CleanValues.{clean_word}
-use Rattle.erd_normal.proofs.NormalGets.{get_election, get_election-type}
-use Rattle.erd_normal.proofs.NormalReports.{class_of_built_report, get_report, has_canonical_envelope}
+use Rattle.erd_normal.proofs.BuiltObjects.{built_election, built_report, election_builder, no_name}
+use Rattle.erd_normal.proofs.NormalReports.{has_canonical_envelope}
 
 -- ---- values
 
@@ -72,10 +71,6 @@ required_inside name wanted = not_true (is_envelope_name name) (required_is (λ 
 
 -- ---- builders
 
--- the value of a member of the election
-abbrev pub election_builder : Data → Builder
-election_builder t name k d = normal_election_value t k d
-
 election_value_kept : (t : Data) (k : MemberKind) (d : Data) → is_kept k ≡ true → IsFilled k d → normal_election_value t k d ≡ None → ⊥
 election_value_kept t (kind.Keyed f) d kept full e = cc
 election_value_kept t k d kept full e = normal_value-kept t k d kept full e
@@ -109,25 +104,10 @@ module _ (t : Data) (clean : NoneOf (ShapeFault t)) (tree : IsTree t) where
 
   pub election_clean : (d : Data) → Within t (asked (Object role.Election) d) → IsClean (asked (Object role.Election) (normal_election t d))
   election_clean d w =
-      clean_built t clean (election_builder t) (λ name. false) (Object role.Election) role.Election class.Election ms (normal_election t d) o.2 kept
-      (λ name other. get_election t d trees among name ∙ ap (λ x. option_and_then (election_builder t name (kind_of_member class.Election name)) (get name x)) o.1)
-      (λ name v is found. cc) (member_of_builder t clean (election_builder t) election_builds class.Election ms) (λ name wanted. refl)
+      let o : (ms : Members) × (d ≡ object ms) × ObjectAt t (Object role.Election) role.Election class.Election ms = object_at t clean role.Election class.Election election_class d w in
+      clean_built t clean (election_builder t) no_name role.Election class.Election o.0 (normal_election t d) (built_election t clean tree o.0 d o.1 o.2)
+      (λ name v is found. cc) (member_of_builder t clean (election_builder t) election_builds class.Election o.0) (λ name wanted. refl)
       (λ name v wanted kept full e. election_value_kept t (kind_of_member class.Election name) v kept full e)
-    where
-      o : (ms : Members) × (d ≡ object ms) × ObjectAt t (Object role.Election) role.Election class.Election ms
-      o = object_at t clean role.Election class.Election election_class d w
-
-      ms : Members
-      ms = o.0
-
-      trees : IsTree d
-      trees = within-tree t (asked (Object role.Election) d) tree w
-
-      among : class_of_object role.Election d ≡ Some class.Election
-      among = ap (class_of_object role.Election) o.1 ∙ o.2.among
-
-      kept : class_of_object role.Election (normal_election t d) ≡ Some class.Election
-      kept = ap (λ x. option_and_then (class_in_role role.Election) (option_and_then as_str x)) (get_election-type t d trees among) ∙ among
 
   elections_clean : (required : Bool) (d : Data) → Within t (asked (Member kind.Elections required) d) → IsClean (asked (Member kind.Elections required) (array_of (map (normal_election t) (entries_of d))))
   elections_clean required d w =
@@ -206,13 +186,10 @@ module _ (t : Data) (clean : NoneOf (ShapeFault t)) (tree : IsTree t) where
 
   report_clean : IsClean (asked (Object role.Report) (normal_tree t))
   report_clean =
-      clean_built t clean (normal_report_value t) is_envelope_name (Object role.Report) role.Report class.ElectionReport s.ms (normal_tree t) s.report (class_of_built_report t clean tree)
-      (λ name other. get_report t clean tree name other ∙ ap (λ x. option_and_then (normal_report_value t name (kind_of_member class.ElectionReport name)) (get name x)) s.is_object)
+      let s : Skeleton t = skeleton_of_shape t clean in
+      clean_built t clean (normal_report_value t) is_envelope_name role.Report class.ElectionReport s.ms (normal_tree t) (built_report t clean tree s)
       envelope_clean (member_of_builder t clean (normal_report_value t) report_builds class.ElectionReport s.ms) required_inside
       (λ name v wanted kept full e. report_value_kept t name (kind_of_member class.ElectionReport name) v (required_inside name wanted) kept full e)
-    where
-      s : Skeleton t
-      s = skeleton_of_shape t clean
 
   -- what is built of a report whose shape has no fault has none
   pub no_shape_fault_of_built : NoneOf (ShapeFault (normal_tree t))

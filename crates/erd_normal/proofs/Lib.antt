@@ -43,6 +43,7 @@ pub mod CleanValues
 pub mod CleanSets
 pub mod CleanMembers
 pub mod BuiltFrom
+pub mod BuiltObjects
 pub mod CleanContents
 pub mod CleanFamilies
 pub mod CleanReports
