@@ -47,3 +47,4 @@ pub mod BuiltObjects
 pub mod CleanContents
 pub mod CleanFamilies
 pub mod CleanReports
+pub mod ThroughoutValues
