@@ -11,7 +11,7 @@ use Rattle.erd_tables.specs.declared.fault.Reason.TheVariants as reason
 use Rattle.erd_tables.specs.declared.place.Step.TheVariants.{At}
 use Rattle.erd_check.specs.Faults.{is_array, is_empty_array, is_reference, is_shape_fault, NoneOf, ShapeFault}
 use Rattle.erd_check.specs.Trees.{IsTree, entries_of, is_same_json, list_of_items}
-use Rattle.erd_check.specs.Wants.{asked, entry_want, is_compared_set, is_repeated}
+use Rattle.erd_check.specs.Wants.{Asked, asked, entry_want, is_compared_set, is_repeated}
 use Rattle.erd_check.specs.declared.want.Want.{Want}
 use Rattle.erd_check.specs.declared.want.Want.TheVariants.{Reference}
 use Rattle.erd_check.proofs.Clean.{IsClean}
@@ -141,24 +141,33 @@ module _ (t : Data) (clean : NoneOf (ShapeFault t)) (tree : IsTree t) where
           let x : true ≡ false = sym (ap not other) ∙ e in cc
       at false is h = (is, subst (λ b. Within t (record { want = v; value = d; repeated = b })) is h)
 
-  -- the entries of a set in order
+  -- a set in order: no entry is equal to another
+  pub rising_unlike : (w v : Want) (cmp : Data → Data → Ordering) (ds : Items) → entry_want w ≡ Some v → is_compared_set w ≡ true → is_reference v ≡ false → Within t (asked w (array ds))
+      → AreUnlike (rising_list cmp (list_of_items ds))
+  rising_unlike w v cmp ds want set other inside =
+      unlike-rising cmp (list_of_items ds) (trees_listed ds (within-tree t (asked w (array ds)) tree inside))
+      (unrepeated_distinct ds (λ i d found. (set_entry w v ds want set other inside i d found).0))
+
+  -- and each is asked for in the report
+  pub rising_within : (w v : Want) (cmp : Data → Data → Ordering) (ds : Items) → entry_want w ≡ Some v → is_compared_set w ≡ true → is_reference v ≡ false → Within t (asked w (array ds))
+      → AllByRecursion (λ e. Within t (asked v e)) (rising_list cmp (list_of_items ds))
+  rising_within w v cmp ds want set other inside =
+      all_rising (λ e. Within t (asked v e)) cmp (list_of_items ds) (all_items (λ e. Within t (asked v e)) ds (λ i d found. (set_entry w v ds want set other inside i d found).1))
+
+  -- what is asked of an entry of a set in order
+  pub rising_entry : (w v : Want) (cmp : Data → Data → Ordering) (ds : Items) → entry_want w ≡ Some v → is_compared_set w ≡ true → is_reference v ≡ false → Within t (asked w (array ds))
+      → (P : Asked → Type 0) → ((e : Data) → Within t (asked v e) → P (asked v e))
+      → (i : ℕ) (d : Data) → get_item i (items_of (rising_list cmp (list_of_items ds))) ≡ Some d
+      → P (record { want = v; value = d; repeated = is_compared_set w && is_repeated (items_of (rising_list cmp (list_of_items ds))) i d })
+  rising_entry w v cmp ds want set other inside P each i d found =
+      let es : List Data = rising_list cmp (list_of_items ds) in
+      subst (λ b. P (record { want = v; value = d; repeated = b }))
+      (sym (ap (λ b. b && is_repeated (items_of es) i d) set ∙ unlike_unrepeated es i d (rising_unlike w v cmp ds want set other inside) found))
+      (each d (entry_holds (λ e. Within t (asked v e)) es i d (rising_within w v cmp ds want set other inside) found))
+
+  -- a set in order has no fault
   pub clean_rising_set : (w v : Want) (cmp : Data → Data → Ordering) (ds : Items) → entry_want w ≡ Some v → is_compared_set w ≡ true → is_reference v ≡ false → Within t (asked w (array ds))
       → ((r : Reason) → is_shape_fault (asked w (array_of (rising_list cmp (list_of_items ds)))) r ≡ false) → IsClean (asked w (array_of (rising_list cmp (list_of_items ds))))
-  clean_rising_set w v cmp ds want set other inside local = clean_array w v (items_of es) want local each
-    where
-      es : List Data
-      es = rising_list cmp (list_of_items ds)
-
-      unlike : AreUnlike es
-      unlike =
-          unlike-rising cmp (list_of_items ds) (trees_listed ds (within-tree t (asked w (array ds)) tree inside))
-          (unrepeated_distinct ds (λ i d found. (set_entry w v ds want set other inside i d found).0))
-
-      all : AllByRecursion (λ e. IsClean (asked v e)) es
-      all = all_rising (λ e. IsClean (asked v e)) cmp (list_of_items ds) (all_items (λ e. IsClean (asked v e)) ds (λ i d found. clean_within t clean (asked v d) (set_entry w v ds want set other inside i d found).1))
-
-      each : (i : ℕ) (d : Data) → get_item i (items_of es) ≡ Some d → IsClean (record { want = v; value = d; repeated = is_compared_set w && is_repeated (items_of es) i d })
-      each i d found =
-          subst (λ b. IsClean (record { want = v; value = d; repeated = b }))
-          (sym (ap (λ b. b && is_repeated (items_of es) i d) set ∙ unlike_unrepeated es i d unlike found))
-          (entry_holds (λ e. IsClean (asked v e)) es i d all found)
+  clean_rising_set w v cmp ds want set other inside local =
+      clean_array w v (items_of (rising_list cmp (list_of_items ds))) want local
+      (rising_entry w v cmp ds want set other inside IsClean (λ e within. clean_within t clean (asked v e) within))

@@ -48,3 +48,4 @@ pub mod CleanContents
 pub mod CleanFamilies
 pub mod CleanReports
 pub mod ThroughoutValues
+pub mod ThroughoutMembers

@@ -114,16 +114,16 @@ apart_classes r class.ExternalIdentifier h e = inl refl
 apart_classes r class.LanguageString h e = inr refl
 apart_classes r c h e = let x : is_apart_role (role_of_class c) ≡ true = ap is_apart_role e ∙ h in cc
 
-identifier_member : (name : List ℕ) (required : Bool) → bytes_eq name (codes "@type") ≡ false → is_apart (member_want class.ExternalIdentifier name) ≡ true
-identifier_member name required other = apart_by_kind (kind_of_member class.ExternalIdentifier name) _ (kind_of_class is_apart_kind class.ExternalIdentifier name other refl refl refl refl)
+identifier_member : (name : List ℕ) → bytes_eq name (codes "@type") ≡ false → is_apart (member_want class.ExternalIdentifier name) ≡ true
+identifier_member name other = apart_by_kind (kind_of_member class.ExternalIdentifier name) _ (kind_of_class is_apart_kind class.ExternalIdentifier name other refl refl refl refl)
 
-language_member : (name : List ℕ) (required : Bool) → bytes_eq name (codes "@type") ≡ false → is_apart (member_want class.LanguageString name) ≡ true
-language_member name required other = apart_by_kind (kind_of_member class.LanguageString name) _ (kind_of_class is_apart_kind class.LanguageString name other refl refl refl refl)
+language_member : (name : List ℕ) → bytes_eq name (codes "@type") ≡ false → is_apart (member_want class.LanguageString name) ≡ true
+language_member name other = apart_by_kind (kind_of_member class.LanguageString name) _ (kind_of_class is_apart_kind class.LanguageString name other refl refl refl refl)
 
 apart_member : (r : Role) (c : Class) (name : List ℕ) → is_apart_role r ≡ true → role_of_class c ≡ r → bytes_eq name (codes "@type") ≡ false → is_apart (member_want c name) ≡ true
 apart_member r c name h e other = elim (apart_classes r c h e) [
-  | inl is ↦ subst (λ x. is_apart (member_want x name) ≡ true) (sym is) (identifier_member name false other)
-  | inr is ↦ subst (λ x. is_apart (member_want x name) ≡ true) (sym is) (language_member name false other)
+  | inl is ↦ subst (λ x. is_apart (member_want x name) ≡ true) (sym is) (identifier_member name other)
+  | inr is ↦ subst (λ x. is_apart (member_want x name) ≡ true) (sym is) (language_member name other)
 ]
 
 -- what holds of the want of a member or an entry that is asked for
