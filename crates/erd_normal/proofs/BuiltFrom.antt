@@ -18,7 +18,7 @@ use Rattle.erd_check.specs.Faults.{is_empty_array, names_wanted, NoneOf, ShapeFa
 use Rattle.erd_check.specs.Trees.{IsTree}
 use Rattle.erd_check.specs.Wants.{Asked, asked, asked_inside, class_of_object, is_report_class, member_want, scope_inside, want_of_kind}
 use Rattle.erd_check.specs.declared.want.Want.{Want}
-use Rattle.erd_check.specs.declared.want.Want.TheVariants.{Member, Object}
+use Rattle.erd_check.specs.declared.want.Want.TheVariants.{Member, Object, Status}
 use Rattle.erd_check.proofs.Clean.{IsClean}
 use Rattle.erd_check.proofs.Exact.{both_true, text_exact, text_itself}
 use Rattle.erd_check.proofs.ObjectsAt.{ObjectAt}
@@ -145,20 +145,28 @@ module _ (t : Data) (clean : NoneOf (ShapeFault t)) where
       at None is e = cc
       at (Some d) is e = record { from = d; stands = is; inside = member_within t clean w r ms c name d o.asks o.among other o.inside is; given = e }
 
+  -- what holds of what is built of the value where that value stands holds of the member, if texts stay
+  pub member_holds : (Q : Asked → Type 0) → ((d : Data) → Within t (asked Status d) → Q (asked Status d))
+      → (value_of : Builder) (c : Class) (ms : Members) (name : List ℕ) (v : Data) → (b : BuiltFrom t value_of c ms name v)
+      → ((required : Bool) → Within t (asked (want_of_kind (kind_of_member c name) required) b.from) → Q (asked (want_of_kind (kind_of_member c name) required) v))
+      → (kind_of_member c name ≡ kind.Word → b.from ≡ v) → Q (asked (member_want c name) v)
+  member_holds Q status value_of c ms name v b built word = at (is_report_class c && bytes_eq name (codes "Status")) refl
+    where
+      at : (apart : Bool) → (is_report_class c && bytes_eq name (codes "Status")) ≡ apart → Q (asked (member_want c name) v)
+      at true is =
+          let both = both_true (is_report_class c) (bytes_eq name (codes "Status")) is in
+          let kept : kind_of_member c name ≡ kind.Word = ap (kind_of_member c) (text_exact name (codes "Status") both.1) ∙ status_word c both.0 in
+          let want : member_want c name ≡ Status = rw is refl in
+          subst (λ w. Q (asked w v)) (sym want) (subst (λ x. Q (asked Status x)) (word kept) (status b.from (subst (λ w. Within t (asked w b.from)) want b.inside)))
+      at false is =
+          let want : member_want c name ≡ want_of_kind (kind_of_member c name) (is_required c name) = want_unless_status c name is in
+          subst (λ w. Q (asked w v)) (sym want) (built (is_required c name) (subst (λ w. Within t (asked w b.from)) want b.inside))
+
   -- it has no fault, if what is built of the value has none where that value stands, and texts stay
   pub member_clean : (value_of : Builder) (c : Class) (ms : Members) (name : List ℕ) (v : Data) → (b : BuiltFrom t value_of c ms name v)
       → ((required : Bool) → Within t (asked (want_of_kind (kind_of_member c name) required) b.from) → IsClean (asked (want_of_kind (kind_of_member c name) required) v))
       → (kind_of_member c name ≡ kind.Word → b.from ≡ v) → IsClean (asked (member_want c name) v)
-  member_clean value_of c ms name v b built word = at (is_report_class c && bytes_eq name (codes "Status")) refl
-    where
-      at : (status : Bool) → (is_report_class c && bytes_eq name (codes "Status")) ≡ status → IsClean (asked (member_want c name) v)
-      at true is =
-          let both = both_true (is_report_class c) (bytes_eq name (codes "Status")) is in
-          let kept : kind_of_member c name ≡ kind.Word = ap (kind_of_member c) (text_exact name (codes "Status") both.1) ∙ status_word c both.0 in
-          subst (λ x. IsClean (asked (member_want c name) x)) (word kept) (clean_within t clean (asked (member_want c name) b.from) b.inside)
-      at false is =
-          let want : member_want c name ≡ want_of_kind (kind_of_member c name) (is_required c name) = want_unless_status c name is in
-          subst (λ w. IsClean (asked w v)) (sym want) (built (is_required c name) (subst (λ w. Within t (asked w b.from)) want b.inside))
+  member_clean = member_holds IsClean (λ d w. clean_within t clean (asked Status d) w)
 
   -- the same for a builder whose values have no fault
   pub member_of_builder : (value_of : Builder) → BuildsClean t value_of → (c : Class) (ms : Members) (name : List ℕ) (v : Data) → BuiltFrom t value_of c ms name v → IsClean (asked (member_want c name) v)

@@ -49,3 +49,4 @@ pub mod CleanFamilies
 pub mod CleanReports
 pub mod ThroughoutValues
 pub mod ThroughoutMembers
+pub mod FamilyNames
