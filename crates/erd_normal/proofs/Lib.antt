@@ -65,3 +65,14 @@ pub mod FittingNumbers
 pub mod RisingReports
 pub mod RisingAgain
 pub mod RisingLabels
+pub mod CleanValues
+pub mod CleanSets
+pub mod CleanMembers
+pub mod BuiltFrom
+pub mod BuiltObjects
+pub mod CleanContents
+pub mod CleanFamilies
+pub mod CleanReports
+pub mod ThroughoutValues
+pub mod ThroughoutMembers
+pub mod FamilyNames
