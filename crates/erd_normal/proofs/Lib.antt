@@ -56,3 +56,4 @@ pub mod FittingNumbers
 pub mod RisingReports
 pub mod RisingAgain
 pub mod RisingLabels
+pub mod MeantValues
