@@ -57,3 +57,6 @@ pub mod RisingReports
 pub mod RisingAgain
 pub mod RisingLabels
 pub mod MeantValues
+pub mod MeantContents
+pub mod MeantKinds
+pub mod FoundBuilt
