@@ -60,3 +60,4 @@ pub mod MeantValues
 pub mod MeantContents
 pub mod MeantKinds
 pub mod FoundBuilt
+pub mod MeantObjects
