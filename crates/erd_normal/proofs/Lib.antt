@@ -61,3 +61,4 @@ pub mod MeantContents
 pub mod MeantKinds
 pub mod FoundBuilt
 pub mod MeantObjects
+pub mod MeantReports
