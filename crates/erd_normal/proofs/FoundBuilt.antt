@@ -1,5 +1,5 @@
 -- What is found among values that are built of others and put in order is built of what is found among the others, if no two of these pass the test.
-use Rattle.std.proofs.Common.{◌≡◌, List, [], ◌∷◌, map, find, Bool, true, false, cond, if◌then◌else◌, is_lt, Ordering, Equal, Option, Some, None, option_and_then, option_map, refl, sym, ap, ◌∙◌}
+use Rattle.std.proofs.Common.{◌≡◌, List, [], ◌∷◌, map, find, Bool, true, false, cond, if◌then◌else◌, is_lt, Ordering, Equal, Option, Some, option_and_then, option_map, refl, ap, ◌∙◌}
 use Rattle.std.specs.Bool.{⊤}
 use Rattle.std.specs.List.{AllByRecursion}
 use Rattle.erd_check.proofs.Shapes.{false_unless}

@@ -4,7 +4,6 @@ use Rattle.std.proofs.Common.{◌≡◌, ◌<◌, ◌^◌, ℕ, zero, suc, List,
 use Rattle.std.proofs.lemmas.Map.Text.{is_eq-slice_cmp}
 use Rattle.std.specs.List.{AllByRecursion}
 use Rattle.std.specs.Ordering.{match_ordering}
-use Rattle.std.specs.Str.{bytes_eq}
 use Rattle.serde_json.specs.Data.{Data, null, boolean, number, string, array, object, Items, no_items, item, Members, no_members, member}
 use Rattle.serde_json.specs.Find.{as_str, get, get_item, get_member}
 use Rattle.erd_tables.specs.Classes.{role_of_class, text_of_class}
@@ -18,7 +17,7 @@ use Rattle.erd_tables.specs.declared.class.Role.TheVariants as role
 use Rattle.erd_tables.specs.declared.member.MemberKind.{MemberKind}
 use Rattle.erd_tables.specs.declared.member.MemberKind.TheVariants as kind
 use Rattle.erd_check.specs.Faults.{is_array, is_object}
-use Rattle.erd_check.specs.Trees.{IsTree, entries_of, list_of_items}
+use Rattle.erd_check.specs.Trees.{IsTree, entries_of}
 use Rattle.erd_check.specs.Wants.{asked}
 use Rattle.erd_check.specs.declared.want.Want.TheVariants.{Member, Object, Reference}
 use Rattle.erd_check.proofs.Entries.{entries_in, string_from_text}
@@ -27,13 +26,13 @@ use Rattle.erd_check.proofs.Shapes.{Within, lacks_none, member_within, of_role, 
 use Rattle.erd_meaning.specs.Accepted.{IsAccepted}
 use Rattle.erd_meaning.specs.Keys.{entries_at, text_at}
 use Rattle.erd_meaning.specs.declared.key.Key.{Key}
-use Rattle.erd_meaning.specs.Meaning.{Content, JsonMap, Node, a_contest, a_content, a_header, first_node, no_content}
+use Rattle.erd_meaning.specs.Meaning.{Content, JsonMap, a_contest, a_content, a_header, first_node, no_content}
 use Rattle.erd_meaning.specs.NameParts.{NameParts}
 use Rattle.erd_meaning.specs.Objects.{objects}
-use Rattle.erd_meaning.specs.Records.{carried_members, class_of_node, contest_node, content_inside, content_of, header_node, if_carried, is_header_class, node_of, nodes_of, plain_value, unless_empty}
+use Rattle.erd_meaning.specs.Records.{carried_members, class_of_node, contest_node, content_inside, content_of, header_node, if_carried, node_of, nodes_of, plain_value}
 use Rattle.erd_meaning.specs.SelectionNames.{key_named, name_named}
 use Rattle.erd_meaning.proofs.Phases.{no_shape_fault}
-use Rattle.erd_normal.specs.NormalTree.{normal_content, normal_id, normal_node, normal_node_members, normal_node_value, normal_nodes, normal_reference, normal_selection_reference, normal_tree, text_of, unless_no_entry}
+use Rattle.erd_normal.specs.NormalTree.{normal_content, normal_node, normal_node_members, normal_node_value, normal_nodes, normal_reference, normal_selection_reference, normal_tree, text_of, unless_no_entry}
 use Rattle.erd_normal.proofs.AskedMembers.{all_items, entry_asked}
 use Rattle.erd_normal.proofs.MeantValues.{filled_array, is_referred, reference_meant}
 use Rattle.erd_normal.proofs.NormalEntries.{entries_built}

@@ -19,7 +19,7 @@ use Rattle.erd_tables.specs.declared.class.Role.TheVariants as role
 use Rattle.erd_tables.specs.declared.member.MemberKind.{MemberKind}
 use Rattle.erd_tables.specs.declared.member.MemberKind.TheVariants as kind
 use Rattle.erd_check.specs.Faults.{NoneOf, ShapeFault, is_array}
-use Rattle.erd_check.specs.Trees.{IsTree, entries_of, list_of_items}
+use Rattle.erd_check.specs.Trees.{IsTree, entries_of}
 use Rattle.erd_check.specs.Wants.{asked, class_of_object}
 use Rattle.erd_check.specs.declared.want.Want.TheVariants.{Member, Object, Reference}
 use Rattle.erd_check.proofs.Entries.{entries_in}
@@ -29,7 +29,7 @@ use Rattle.erd_check.proofs.Rising.{Has, all-Has}
 use Rattle.erd_check.proofs.Shapes.{Within, wanted_within, within-tree}
 use Rattle.erd_meaning.specs.Accepted.{IsAccepted}
 use Rattle.erd_meaning.specs.Keys.{entries_at}
-use Rattle.erd_meaning.specs.Meaning.{MemberValue, PlainValue, Record, SelectionRecord, a_plain, a_selection_map}
+use Rattle.erd_meaning.specs.Meaning.{PlainValue, Record, a_plain, a_selection_map}
 use Rattle.erd_meaning.specs.NameParts.{NameParts}
 use Rattle.erd_meaning.specs.Objects.{Placed, objects}
 use Rattle.erd_meaning.specs.Orders.{name_cmp_total}
@@ -43,7 +43,7 @@ use Rattle.erd_normal.proofs.AskedMembers.{AskedAs, asked_as, entries_asked}
 use Rattle.erd_normal.proofs.FoundBuilt.{IsKept, found_in_order}
 use Rattle.erd_normal.proofs.MeantContents.{content_value_meant}
 use Rattle.erd_normal.proofs.MeantKinds.{is_selections, kind_is_flat, kind_refers_well, selection_class_flat, selections_family, selections_kind, selections_name}
-use Rattle.erd_normal.proofs.MeantValues.{arranged_meant, is_flat, nothing_of, refers_well, value_meant}
+use Rattle.erd_normal.proofs.MeantValues.{arranged_meant, nothing_of, refers_well, value_meant}
 use Rattle.erd_normal.proofs.NormalGets.{class_of_built, class_of_built_selection, get_object, get_selection, kind_of_family_id}
 use Rattle.erd_normal.proofs.NormalOwners.{length_rising}
 use Rattle.erd_normal.proofs.NormalSelections.{names_untied}

@@ -1,6 +1,6 @@
 -- The report that is built means what the report means.
 use mathlib.Core.Path.{fun_ext}
-use Rattle.std.proofs.Common.{◌≡◌, ℕ, List, [], ◌∷◌, map, find, slice_get, Bool, true, false, if◌then◌else◌, Equal, Option, Some, None, option_and_then, option_map, codes, refl, sym, ap, ap₂, ◌∙◌}
+use Rattle.std.proofs.Common.{◌≡◌, ℕ, List, find, slice_get, Bool, true, false, if◌then◌else◌, Equal, Option, Some, None, option_and_then, refl, sym, ap, ap₂, ◌∙◌}
 use Rattle.std.proofs.lemmas.Cmp.{tied_itself}
 use Rattle.std.specs.Cmp.Lexicographic.{options_total}
 use Rattle.std.specs.List.{AllByRecursion}
@@ -10,7 +10,6 @@ use Rattle.serde_json.specs.Data.{Data, object}
 use Rattle.serde_json.specs.Find.{as_str, get}
 use Rattle.erd_tables.specs.Classes.{class_in_role}
 use Rattle.erd_tables.specs.Table.{is_envelope_name, kind_of_member}
-use Rattle.erd_tables.specs.declared.class.Class.{Class}
 use Rattle.erd_tables.specs.declared.class.Class.TheVariants as class
 use Rattle.erd_tables.specs.declared.class.Family.{Family}
 use Rattle.erd_tables.specs.declared.class.Family.TheVariants as family
@@ -19,7 +18,7 @@ use Rattle.erd_tables.specs.declared.member.MemberKind.{MemberKind}
 use Rattle.erd_tables.specs.declared.member.MemberKind.TheVariants as kind
 use Rattle.erd_check.specs.Faults.{NoneOf, ShapeFault}
 use Rattle.erd_check.specs.Trees.{IsTree}
-use Rattle.erd_check.specs.Wants.{asked, class_of_object}
+use Rattle.erd_check.specs.Wants.{asked}
 use Rattle.erd_check.specs.declared.want.Want.TheVariants.{Object}
 use Rattle.erd_check.proofs.Rising.{Has}
 use Rattle.erd_check.proofs.Shapes.{within-tree}
@@ -55,7 +54,7 @@ keys_tied k x y h l =
     ap₂ (option_cmp key_cmp) (options_exact key_cmp equal_keys (key_of x) (Some k) h) (options_exact key_cmp equal_keys (key_of y) (Some k) l)
     ∙ tied_itself (options_total key_cmp_total) (Some k)
 
--- what the record of a member says is said of it by itself
+-- a meaning of its three parts
 abbrev made_meaning : Option ObjectRecord → Option ObjectRecord → (Family → Key → Option ObjectRecord) → Meaning
 made_meaning r e os = record { report = r; election = e; objects = os }
 
@@ -112,7 +111,6 @@ module _ (t : Data) (facts : Facts t) where
 
   election_member : (name : List ℕ) → member_of_class (normal_tree t) (normal_election t the_one) class.Election name ≡ member_of_class t the_one class.Election name
   election_member name =
-      let k : MemberKind = kind_of_member class.Election name in
       let flat : is_flat (kind_of_member class.Election name) ≡ true = kind_is_flat class.Election name refl in
       plain_members t (normal_tree t) (kind_of_member class.Election name) (get name the_one) (get name (normal_election t the_one))
       (plain_member t the_one class.Election name) (plain_member (normal_tree t) (normal_election t the_one) class.Election name)

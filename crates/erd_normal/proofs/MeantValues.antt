@@ -1,8 +1,8 @@
 -- What is built of a value means in the report that is built what the value means, but for the order of a ballot.
-use Rattle.std.proofs.Common.{◌≡◌, ◌<◌, ◌^◌, ℕ, zero, suc, List, [], ◌∷◌, map, filter_map, length, Bool, true, false, Option, Some, None, is_some, option_and_then, refl, sym, ap, ap₂, ◌∙◌, subst, arith}
+use Rattle.std.proofs.Common.{◌≡◌, ◌<◌, ◌^◌, ℕ, suc, List, [], ◌∷◌, map, filter_map, length, Bool, true, false, Option, Some, None, is_some, option_and_then, refl, sym, ap, ap₂, ◌∙◌, subst, arith}
 use Rattle.std.specs.List.{AllByRecursion, cons_option}
 use Rattle.serde_json.specs.Data.{Data, array, Items, no_items, item}
-use Rattle.serde_json.specs.Find.{as_str, get_item}
+use Rattle.serde_json.specs.Find.{as_str}
 use Rattle.erd_tables.specs.declared.class.Family.{Family}
 use Rattle.erd_tables.specs.declared.class.Family.TheVariants as family
 use Rattle.erd_tables.specs.declared.member.MemberKind.{MemberKind}
@@ -12,7 +12,7 @@ use Rattle.erd_check.specs.Faults.{is_array, is_empty_array}
 use Rattle.erd_check.specs.Trees.{IsTree, entries_of, list_of_items}
 use Rattle.erd_check.specs.Wants.{asked, is_repeated}
 use Rattle.erd_check.specs.declared.want.Want.TheVariants.{Member, Reference}
-use Rattle.erd_check.proofs.Entries.{array_from, string_from_text}
+use Rattle.erd_check.proofs.Entries.{string_from_text}
 use Rattle.erd_check.proofs.Shapes.{Within, Within-step, wanted_within}
 use Rattle.erd_meaning.specs.Accepted.{IsAccepted}
 use Rattle.erd_meaning.specs.Keys.{has_keys, key_of}
