@@ -41,6 +41,15 @@ pub mod CanonicalIds
 pub mod NormalSelections
 pub mod NormalOwners
 pub mod SortedAgain
+pub mod Bounds
+pub mod NormalNames
+pub mod SelectionTexts
+pub mod FoundInParts
+pub mod Positions
+pub mod SelectionIds
+pub mod NormalIdentity
+pub mod NormalSelectionNames
+pub mod ContestSelections
 mod NormalTreeExamples
 pub mod MovedPairs
 pub mod RisingSets

@@ -1,0 +1,49 @@
+-- What is found in lists that are put together is found in the first of them that has it.
+use Rattle.std.proofs.Common.{◌≡◌, ℕ, List, [], ◌∷◌, flat_map, find, Bool, true, false, Option, Some, None, refl, sym, ◌∙◌}
+use Rattle.std.proofs.lemmas.List.Folds.{find-append}
+use Rattle.std.specs.Option.{option_map_or, option_or}
+use Rattle.serde_json.specs.Data.{Data}
+use Rattle.erd_tables.specs.declared.class.Family.TheVariants as family
+use Rattle.erd_check.proofs.Rising.{Has}
+use Rattle.erd_meaning.specs.Objects.{Placed, contests, has_id, objects, owner, selections_of}
+use Rattle.erd_meaning.proofs.References.{find-Some, option_map-Some}
+use Rattle.erd_normal.specs.NormalTree.{contest_with, selection_with}
+
+module _ {A B : Type 0} (test : B → Bool) (f : A → List B) where
+  -- a list has what passes
+  abbrev has_one : A → Bool
+  has_one x = option_map_or (λ y. true) (find test (f x)) false
+
+  found_in : (xs : List A) (y : B) → find test (flat_map f xs) ≡ Some y → (x : A) × (find has_one xs ≡ Some x) × (find test (f x) ≡ Some y)
+  found_in [] y e = cc
+  found_in (x ∷ xs) y e = at (find test (f x)) refl (sym (find-append test (f x) (flat_map f xs)) ∙ e) (found_in xs y)
+    where
+      at : (o : Option B) → find test (f x) ≡ o → option_or (find test (f x)) (find test (flat_map f xs)) ≡ Some y
+          → (find test (flat_map f xs) ≡ Some y → (z : A) × (find has_one xs ≡ Some z) × (find test (f z) ≡ Some y))
+          → (z : A) × (find has_one (x ∷ xs) ≡ Some z) × (find test (f z) ≡ Some y)
+      at None is found more = let r = more (rw is at found) in (r.0, rw is r.1, r.2)
+      at (Some z) is found more = let h : Some z ≡ Some y = rw is at found in (x, rw is refl, is ∙ h)
+
+-- the contest and the selection that the owner of an `@id` is
+pub record FoundSelection (t : Data) (id : List ℕ) (d : Data) : Type 0 where
+  pub contest : Placed
+  pub selection : Placed
+  pub contest_is : contest_with t id ≡ Some contest
+  pub selection_is : selection_with id contest ≡ Some selection
+  pub value : selection.value ≡ d
+  pub of_report : Has (objects family.Contest t) contest
+  pub of_contest : Has (selections_of contest) selection
+
+pub owner_found : (t : Data) (id : List ℕ) (d : Data) → owner t family.Selection id ≡ Some d → FoundSelection t id d
+owner_found t id d e =
+    let o = option_map-Some (λ (o : Placed). o.value) (find (λ o. has_id id o.value) (objects family.Selection t)) d e in
+    let x = found_in (λ (o : Placed). has_id id o.value) selections_of (contests t) o.0 o.1 in
+    record {
+      contest = x.0;
+      selection = o.0;
+      contest_is = x.1;
+      selection_is = x.2;
+      value = o.2;
+      of_report = (find-Some (has_one (λ (o : Placed). has_id id o.value) selections_of) (contests t) x.0 x.1).0;
+      of_contest = (find-Some (λ (o : Placed). has_id id o.value) (selections_of x.0) o.0 x.2).0;
+    }
