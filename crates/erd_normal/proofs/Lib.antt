@@ -76,3 +76,9 @@ pub mod CleanReports
 pub mod ThroughoutValues
 pub mod ThroughoutMembers
 pub mod FamilyNames
+pub mod MeantValues
+pub mod MeantContents
+pub mod MeantKinds
+pub mod FoundBuilt
+pub mod MeantObjects
+pub mod MeantReports
