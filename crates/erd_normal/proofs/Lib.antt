@@ -71,3 +71,4 @@ pub mod MeantKinds
 pub mod FoundBuilt
 pub mod MeantObjects
 pub mod MeantReports
+pub mod NormalMeaning
