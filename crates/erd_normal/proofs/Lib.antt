@@ -82,3 +82,4 @@ pub mod MeantKinds
 pub mod FoundBuilt
 pub mod MeantObjects
 pub mod MeantReports
+pub mod NormalMeaning

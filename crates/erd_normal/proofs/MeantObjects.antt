@@ -1,6 +1,6 @@
 -- What is built of a selection and of an object of a family has the record of the object.
 use mathlib.Core.Path.{fun_ext}
-use Rattle.std.proofs.Common.{◌≡◌, ◌<◌, ◌^◌, ℕ, suc, List, [], ◌∷◌, map, length, Bool, true, false, if◌then◌else◌, Equal, Option, Some, None, option_and_then, option_map, codes, refl, sym, ap, ap₂, ◌∙◌, subst}
+use Rattle.std.proofs.Common.{◌≡◌, ◌<◌, ◌^◌, ℕ, List, map, length, Bool, true, false, if◌then◌else◌, Equal, Option, Some, None, option_and_then, option_map, codes, refl, sym, ap, ap₂, ◌∙◌, subst}
 use Rattle.std.proofs.lemmas.Cmp.{tied_itself}
 use Rattle.std.specs.Cmp.Lexicographic.{options_total}
 use Rattle.std.specs.List.{AllByRecursion}
@@ -43,7 +43,7 @@ use Rattle.erd_normal.proofs.AskedMembers.{AskedAs, asked_as, entries_asked}
 use Rattle.erd_normal.proofs.FoundBuilt.{IsKept, found_in_order}
 use Rattle.erd_normal.proofs.MeantContents.{content_value_meant}
 use Rattle.erd_normal.proofs.MeantKinds.{is_selections, kind_is_flat, kind_refers_well, selection_class_flat, selections_family, selections_kind, selections_name}
-use Rattle.erd_normal.proofs.MeantValues.{arranged_meant, nothing_of, refers_well, value_meant}
+use Rattle.erd_normal.proofs.MeantValues.{arranged_meant, as_long, nothing_of, refers_well, value_meant}
 use Rattle.erd_normal.proofs.NormalGets.{class_of_built, class_of_built_selection, get_object, get_selection, kind_of_family_id}
 use Rattle.erd_normal.proofs.NormalOwners.{length_rising}
 use Rattle.erd_normal.proofs.NormalSelections.{names_untied}
@@ -141,10 +141,6 @@ named_tied : (t : Data) (name : NameParts) (x y : Data) → is_named t name x �
 named_tied t name x y h k =
     ap₂ (option_cmp name_cmp) (options_exact name_cmp equal_names (name_of t x) (Some name) h) (options_exact name_cmp equal_names (name_of t y) (Some name) k)
     ∙ tied_itself (options_total name_cmp_total) (Some name)
-
-as_long : {A B : Type 0} (f : A → B) (xs : List A) → length (map f xs) ≡ length xs
-as_long f [] = refl
-as_long f (x ∷ xs) = ap suc (as_long f xs)
 
 -- what is known of the references of a report and of what is built of them
 pub record Facts (t : Data) : Type 0 where

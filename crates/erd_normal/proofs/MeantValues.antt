@@ -70,7 +70,7 @@ kept_map : {A B : Type 0} (g h : A → Option B) (n : A → A) (xs : List A) →
 kept_map g h n [] all = refl
 kept_map g h n (x ∷ xs) all = ap₂ cons_option all.0 (kept_map g h n xs all.1)
 
-as_long : {A B : Type 0} (f : A → B) (xs : List A) → length (map f xs) ≡ length xs
+pub as_long : {A B : Type 0} (f : A → B) (xs : List A) → length (map f xs) ≡ length xs
 as_long f [] = refl
 as_long f (x ∷ xs) = ap suc (as_long f xs)
 
