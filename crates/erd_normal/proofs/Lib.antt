@@ -39,3 +39,5 @@ pub mod RisingOrders
 pub mod RisingRanks
 pub mod RisingMeanings
 pub mod DistinctEntries
+pub mod BuiltMembers
+pub mod ContentParts
