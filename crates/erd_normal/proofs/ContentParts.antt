@@ -1,6 +1,5 @@
 -- The entries of a list of contests and headers, one by one.
 use Rattle.std.proofs.Common.{◌≡◌, ℕ, zero, suc, ◌+◌, ◌<◌, List, [], ◌∷◌, ◌++◌, map, length, take, get_or, Bool, true, false, ◌||◌, Some, refl, sym, ap, ap₂, ◌∙◌, subst, arith}
-use Rattle.std.proofs.lemmas.List.{map-append, take_more}
 use Rattle.serde_json.specs.Data.{Data, array}
 use Rattle.serde_json.specs.View.{items_of, items_view, view}
 use Rattle.serde_json.specs.Written.{has_float, items_have_float}
@@ -30,14 +29,6 @@ nodes_from_map t (v ∷ vs) = rw (nodes_from_map t vs) refl
 
 pub content_from_map : (t : Data) (built vs : List Value) → map view built ≡ map (λ v. normal_node t (view v)) vs → array (items_view built) ≡ normal_content t (array (items_view vs))
 content_from_map t built vs each = ap (λ ds. array (items_of ds)) each ∙ ap array (nodes_from_map t vs)
-
--- one entry more
-pub one_more : (t : Data) (built vs : List Value) (i : ℕ) (v x : Value) → i < length vs → v ≡ get_or vs i v → view x ≡ normal_node t (view v)
-    → map view built ≡ map (λ w. normal_node t (view w)) (take i vs) → map view (built ++ x ∷ []) ≡ map (λ w. normal_node t (view w)) (take (i + 1) vs)
-one_more t built vs i v x low here new earlier =
-    map-append view built (x ∷ [])
-    ∙ (ap₂ (λ ds d. ds ++ d ∷ []) earlier (new ∙ ap (λ w. normal_node t (view w)) here)
-    ∙ sym (ap (map (λ w. normal_node t (view w))) (take_more vs i v low) ∙ map-append (λ w. normal_node t (view w)) (take i vs) (get_or vs i v ∷ [])))
 
 -- a member that is no list of contests and headers
 pub other_node_value : (t : Data) (k : MemberKind) (d inside : Data) → (k ≡ kind.Content → ⊥) → normal_node_value t (Some k) d inside ≡ normal_value t k d

@@ -41,3 +41,6 @@ pub mod RisingMeanings
 pub mod DistinctEntries
 pub mod BuiltMembers
 pub mod ContentParts
+pub mod StableRising
+pub mod WholeEntries
+pub mod BuiltEntries

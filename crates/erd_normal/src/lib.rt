@@ -3,9 +3,11 @@
 
 mod compact_text;
 mod content;
+mod label;
 mod laws;
 mod member_rule;
 mod members;
+mod rising;
 mod set_order;
 mod shape;
 mod sorting;

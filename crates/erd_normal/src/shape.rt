@@ -1,7 +1,9 @@
-ghost use Rattle.std.specs.Prelude.{◌≡◌};
+ghost use Rattle.std.specs.Prelude.{◌≡◌, map};
 ghost use Rattle.serde_json.specs.View.{view};
 ghost use Rattle.erd_check.specs.Faults.{is_empty_array};
+ghost use Rattle.erd_check.specs.Trees.{entries_of};
 ghost use Rattle.erd_check.specs.Wants.{class_of_object};
+ghost use Rattle.erd_meaning.specs.Keys.{entries_at};
 
 use erd_tables::{Class, Role, class_in};
 use serde_json::Value;
@@ -22,5 +24,25 @@ pub(crate) fn is_empty_array(value: &Value) -> bool
     match value.as_array() {
         Some(items) => items.is_empty(),
         None => false,
+    }
+}
+
+/// The entries of an array, and none of any other value.
+pub(crate) fn entries_of(value: &Value) -> &[Value]
+    ensures { map view result.now ≡ entries_of (view value.now) }
+{
+    match value {
+        Value::Array(items) => items.as_slice(),
+        _ => &[],
+    }
+}
+
+/// The entries of the array that is a member, none where there is no such array.
+pub(crate) fn entries<'a>(value: &'a Value, name: &str) -> &'a [Value]
+    ensures { map view result.now ≡ entries_at name.now (view value.now) }
+{
+    match value.get(name) {
+        Some(array) => entries_of(array),
+        None => &[],
     }
 }

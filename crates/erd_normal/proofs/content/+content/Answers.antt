@@ -6,8 +6,9 @@ use Rattle.serde_json.proofs.Views.{Entry, view-Array, view-Object}
 use Rattle.erd_tables.specs.Table.{kind_of_member}
 use Rattle.erd_normal.specs.Building.{put_each}
 use Rattle.erd_normal.specs.NormalTree.{normal_content, normal_node, normal_node_value}
+use Rattle.erd_normal.proofs.BuiltEntries.{one_more}
 use Rattle.erd_normal.proofs.BuiltMembers.{put_all_of, put_one, whole_first, whole_rest}
-use Rattle.erd_normal.proofs.ContentParts.{content_from_map, one_more, other_node_value, whole_item}
+use Rattle.erd_normal.proofs.ContentParts.{content_from_map, other_node_value, whole_item}
 use Rattle.erd_normal.proofs.NormalMembers.{node_value, normal_node_members_each}
 use Rattle.erd_normal.proofs.content.+content.Goals as goal
 
@@ -22,7 +23,7 @@ content-returns-in_ok-nodes-in-Array g t c whole =
 pub nodes-loop-item-preserved : goal.nodes-loop-item-preserved
 nodes-loop-item-preserved g t c whole =
     ap (map view) c.in_ok-push.ensures.items
-    ∙ one_more (g.V.ValueRule.report c.args.values.now) c.loop-item.built.items c.deref-item-items.result.now c.loop-item.item-index c.item-item.result c.in_ok-node.field-0
+    ∙ one_more view (λ v. normal_node (g.V.ValueRule.report c.args.values.now) (view v)) c.loop-item.built.items c.deref-item-items.result.now c.loop-item.item-index c.item-item.result c.in_ok-node.field-0
     c.loop-item-test.true
     c.item-item.is
     (c.in_ok-node.ensures (whole_item c.deref-item-items.result.now c.loop-item.item-index c.item-item.result whole c.loop-item-test.true c.item-item.is))
