@@ -83,3 +83,8 @@ pub mod FoundBuilt
 pub mod MeantObjects
 pub mod MeantReports
 pub mod NormalMeaning
+pub mod BuiltMembers
+pub mod ContentParts
+pub mod StableRising
+pub mod WholeEntries
+pub mod BuiltEntries

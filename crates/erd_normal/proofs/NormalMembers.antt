@@ -26,7 +26,7 @@ stands_still k q d v ms rise e = at (text_cmp q k) refl
     at Greater is = rw is e
 
 -- the members for which there is a value
-abbrev each_member : (List ℕ → Data → Option Data) → Members → Members
+abbrev pub each_member : (List ℕ → Data → Option Data) → Members → Members
 each_member value no_members = no_members
 each_member value (member k d ms) = option_map_or (λ v. member k v (each_member value ms)) (value k d) (each_member value ms)
 
@@ -87,10 +87,10 @@ depth_of_each value (member l d ms) rise each =
 
 module _ (value_of : List ℕ → MemberKind → Data → Option Data) (c : Class) where
   -- the value by the name alone
-  abbrev value_in_class : List ℕ → Data → Option Data
+  abbrev pub value_in_class : List ℕ → Data → Option Data
   value_in_class name d = value_of name (kind_of_member c name) d
 
-  normal_members_each : (ms : Members) → normal_members value_of c ms ≡ each_member value_in_class ms
+  pub normal_members_each : (ms : Members) → normal_members value_of c ms ≡ each_member value_in_class ms
   normal_members_each no_members = refl
   normal_members_each (member k d ms) = rw (normal_members_each ms) refl
 
@@ -114,7 +114,7 @@ module _ (t : Data) (c : Option Class) where
   abbrev pub node_value : List ℕ → Data → Option Data
   node_value name d = normal_node_value t (option_map (λ c. kind_of_member c name) c) d (normal_content t d)
 
-  normal_node_members_each : (ms : Members) → normal_node_members t c ms ≡ each_member node_value ms
+  pub normal_node_members_each : (ms : Members) → normal_node_members t c ms ≡ each_member node_value ms
   normal_node_members_each no_members = refl
   normal_node_members_each (member k d ms) = rw (normal_node_members_each ms) refl
 

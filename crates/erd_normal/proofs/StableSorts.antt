@@ -36,7 +36,7 @@ module _ {K T : Type 0} (cmp : K → K → Ordering) (total : IsTotalOrder cmp) 
   is_of k pair = is_eq (cmp pair.0 k)
 
   -- the pairs of a key are those that tie with one of them
-  tie_by_key : (k : K) (x : K × T) → is_eq (cmp x.0 k) ≡ true → (y : K × T) → is_eq (cmp y.0 k) ≡ ties is_below x y
+  pub tie_by_key : (k : K) (x : K × T) → is_eq (cmp x.0 k) ≡ true → (y : K × T) → is_eq (cmp y.0 k) ≡ ties is_below x y
   tie_by_key k x e y =
       ap is_eq (sym (alike_right total x.0 k y.0 ((Equal-is (cmp x.0 k)).0 e)))
       ∙ sym (level (cmp x.0 y.0) (cmp y.0 x.0) (total.antisymm y.0 x.0))

@@ -2,9 +2,16 @@
 #![tactic(auto)]
 
 mod compact_text;
+mod content;
+mod label;
 mod laws;
+mod member_rule;
+mod members;
+mod rising;
 mod set_order;
+mod shape;
 mod sorting;
+mod value_rule;
 
 pub use compact_text::CompactText;
 pub use laws::{canonical_is_unique, names_agree, objects_agree, references_agree};

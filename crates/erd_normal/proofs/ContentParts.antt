@@ -1,0 +1,36 @@
+-- The entries of a list of contests and headers, one by one.
+use Rattle.std.proofs.Common.{◌≡◌, ℕ, zero, suc, ◌+◌, ◌<◌, List, [], ◌∷◌, ◌++◌, map, length, take, get_or, Bool, true, false, ◌||◌, Some, refl, sym, ap, ap₂, ◌∙◌, subst, arith}
+use Rattle.serde_json.specs.Data.{Data, array}
+use Rattle.serde_json.specs.View.{items_of, items_view, view}
+use Rattle.serde_json.specs.Written.{has_float, items_have_float}
+use Rattle.serde_json.specs.declared.value.Value.{Value}
+use Rattle.erd_tables.specs.declared.member.MemberKind.{MemberKind}
+use Rattle.erd_tables.specs.declared.member.MemberKind.TheVariants as kind
+use Rattle.erd_normal.specs.NormalTree.{normal_content, normal_node, normal_node_value, normal_nodes, normal_value}
+
+first_whole : (a b : Bool) → a || b ≡ false → a ≡ false
+first_whole true b e = e
+first_whole false b e = refl
+
+rest_whole : (a b : Bool) → a || b ≡ false → b ≡ false
+rest_whole true b e = cc
+rest_whole false b e = e
+
+-- an entry of an array that is whole
+pub whole_item : (vs : List Value) (i : ℕ) (v : Value) → items_have_float (items_view vs) ≡ false → i < length vs → v ≡ get_or vs i v → has_float (view v) ≡ false
+whole_item [] i v h low e = absurd (omega arith)
+whole_item (w ∷ vs) zero v h low e = subst (λ u. has_float (view u) ≡ false) (sym e) (first_whole (has_float (view w)) (items_have_float (items_view vs)) h)
+whole_item (w ∷ vs) (suc i) v h low e = whole_item vs i v (rest_whole (has_float (view w)) (items_have_float (items_view vs)) h) (omega arith) e
+
+-- what each entry becomes is what all become
+pub nodes_from_map : (t : Data) (vs : List Value) → items_of (map (λ v. normal_node t (view v)) vs) ≡ normal_nodes t (items_view vs)
+nodes_from_map t [] = refl
+nodes_from_map t (v ∷ vs) = rw (nodes_from_map t vs) refl
+
+pub content_from_map : (t : Data) (built vs : List Value) → map view built ≡ map (λ v. normal_node t (view v)) vs → array (items_view built) ≡ normal_content t (array (items_view vs))
+content_from_map t built vs each = ap (λ ds. array (items_of ds)) each ∙ ap array (nodes_from_map t vs)
+
+-- a member that is no list of contests and headers
+pub other_node_value : (t : Data) (k : MemberKind) (d inside : Data) → (k ≡ kind.Content → ⊥) → normal_node_value t (Some k) d inside ≡ normal_value t k d
+other_node_value t kind.Content d inside other = absurd (other refl)
+other_node_value t k d inside other = refl

@@ -1,0 +1,34 @@
+-- The entries of an array that has no fraction have none.
+use Rattle.std.proofs.Common.{◌≡◌, ℕ, List, [], false, map, Option, Some, None, refl, ap, ◌∙◌}
+use Rattle.std.specs.Option.{option_map_or}
+use Rattle.serde_json.specs.Data.{Data, array, Items, no_items, item}
+use Rattle.serde_json.specs.Find.{get}
+use Rattle.serde_json.specs.View.{items_of, items_view, view}
+use Rattle.serde_json.specs.Written.{has_float, items_have_float}
+use Rattle.serde_json.specs.declared.value.Value.{Value}
+use Rattle.erd_check.specs.Trees.{entries_of, list_of_items}
+use Rattle.erd_meaning.proofs.WholeParts.{whole_get}
+use Rattle.erd_meaning.specs.Keys.{entries_at}
+
+listed_items : (ds : Items) → items_of (list_of_items ds) ≡ ds
+listed_items no_items = refl
+listed_items (item d ds) = ap (item d) (listed_items ds)
+
+whole_entries : (d : Data) → has_float d ≡ false → items_have_float (items_of (entries_of d)) ≡ false
+whole_entries (array ds) h = ap items_have_float (listed_items ds) ∙ h
+whole_entries d h = refl
+
+-- the entries of an array
+pub whole_list : (d : Data) (vs : List Value) → has_float d ≡ false → map view vs ≡ entries_of d → items_have_float (items_view vs) ≡ false
+whole_list d vs h is = ap (λ ds. items_have_float (items_of ds)) is ∙ whole_entries d h
+
+whole_entries_at : (name : List ℕ) (d : Data) → has_float d ≡ false → items_have_float (items_of (entries_at name d)) ≡ false
+whole_entries_at name d h = at (get name d) refl
+  where
+    at : (o : Option Data) → get name d ≡ o → items_have_float (items_of (option_map_or entries_of o [])) ≡ false
+    at None e = refl
+    at (Some v) e = whole_entries v (whole_get name d v h e)
+
+-- the entries of an array that is a member
+pub whole_list_at : (name : List ℕ) (d : Data) (vs : List Value) → has_float d ≡ false → map view vs ≡ entries_at name d → items_have_float (items_view vs) ≡ false
+whole_list_at name d vs h is = ap (λ ds. items_have_float (items_of ds)) is ∙ whole_entries_at name d h
