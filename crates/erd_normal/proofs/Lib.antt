@@ -50,3 +50,4 @@ pub mod CleanReports
 pub mod ThroughoutValues
 pub mod ThroughoutMembers
 pub mod FamilyNames
+pub mod ThroughoutObjects
