@@ -51,3 +51,4 @@ pub mod ThroughoutValues
 pub mod ThroughoutMembers
 pub mod FamilyNames
 pub mod ThroughoutObjects
+pub mod ThroughoutReports
