@@ -88,3 +88,5 @@ pub mod ContentParts
 pub mod StableRising
 pub mod WholeEntries
 pub mod BuiltEntries
+pub mod ThroughoutObjects
+pub mod ThroughoutReports
