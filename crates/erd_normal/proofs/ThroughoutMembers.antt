@@ -59,8 +59,9 @@ pub record HoldsOfMembers (t : Data) (P : Asked → Type 0) : Type 0 where
       → P (asked (Member kind.Ordered required) (array_of (map (normal_selection_reference t) (entries_of d))))
   pub ordered_entry : (e : Data) → Within t (asked (Reference family.Selection) e) → P (asked (Reference family.Selection) (normal_selection_reference t e))
 
--- a kind of member that holds no objects
+-- a kind of member, but for `@type`, that holds no objects
 abbrev pub is_plain_kind : MemberKind → Bool
+is_plain_kind kind.ClassText = false
 is_plain_kind (kind.Keyed f) = false
 is_plain_kind kind.Elections = false
 is_plain_kind kind.Content = false
@@ -215,6 +216,7 @@ module _ (t : Data) (clean : NoneOf (ShapeFault t)) (tree : IsTree t) (P : Asked
   throughout_value (kind.Keyed f) required d v plain w given = cc
   throughout_value kind.Elections required d v plain w given = cc
   throughout_value kind.Content required d v plain w given = cc
+  throughout_value kind.ClassText required d v plain w given = cc
   throughout_value k required d v plain w given =
       let same : d ≡ v = cc in
       subst (λ x. Throughout P (asked (want_of_kind k required) x)) same (throughout_kept t P holds.kept (asked (want_of_kind k required) d) w refl)

@@ -78,7 +78,6 @@ throughout_list P w v es want apart here all =
 
 -- a member of this kind stays as it is, with all that is inside it
 abbrev pub is_apart_kind : MemberKind → Bool
-is_apart_kind kind.ClassText = true
 is_apart_kind kind.Identity = true
 is_apart_kind kind.Word = true
 is_apart_kind kind.Flag = true
@@ -86,7 +85,6 @@ is_apart_kind kind.Whole = true
 is_apart_kind kind.StrangeReference = true
 is_apart_kind kind.StrangeIdentity = true
 is_apart_kind kind.Carried = true
-is_apart_kind kind.Outside = true
 is_apart_kind k = false
 
 -- so do external identifiers and translations
@@ -101,6 +99,7 @@ is_apart (Object r) = is_apart_role r
 is_apart (ClassText r) = true
 is_apart (Reference f) = false
 is_apart Status = true
+is_apart (Member kind.Carried required) = false
 is_apart (Member k required) = is_apart_kind k
 is_apart Carried = true
 
