@@ -52,3 +52,4 @@ pub mod ThroughoutMembers
 pub mod FamilyNames
 pub mod ThroughoutObjects
 pub mod ThroughoutReports
+pub mod NoEmptyArrays

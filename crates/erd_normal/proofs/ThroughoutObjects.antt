@@ -1,5 +1,5 @@
 -- What holds of all that is asked inside the order of a ballot, a selection and an object of a family that are built.
-use Rattle.std.proofs.Common.{◌≡◌, ◌⊎◌, inl, inr, ℕ, zero, suc, List, map, Ordering, Less, Equal, Greater, Option, Some, None, Bool, true, false, codes, refl, sym, ap, ◌∙◌, subst}
+use Rattle.std.proofs.Common.{◌≡◌, inl, inr, ℕ, zero, suc, List, map, Ordering, Less, Equal, Greater, Some, Bool, true, false, codes, refl, sym, ap, ◌∙◌, subst}
 use Rattle.std.specs.List.{AllByRecursion, list_all}
 use Rattle.std.specs.Str.{bytes_eq}
 use Rattle.serde_json.specs.Data.{Data, string, array, object, Items, no_items, item, Members, no_members, member}
@@ -27,10 +27,10 @@ use Rattle.erd_check.proofs.Shapes.{Within, wanted_within}
 use Rattle.erd_check.proofs.TableKinds.{kind_of_class, want_by_kind}
 use Rattle.erd_meaning.specs.SelectionNames.{rising_list, selection_role}
 use Rattle.erd_normal.specs.NormalTree.{array_of, by_key, by_name, id_of_selection, normal_content, normal_node, normal_node_value, normal_nodes, normal_object, normal_object_value, normal_objects, normal_selection, normal_value}
-use Rattle.erd_normal.proofs.AskedMembers.{entries_asked, entry_asked, kind_of_type}
+use Rattle.erd_normal.proofs.AskedMembers.{entries_asked, entry_asked}
 use Rattle.erd_normal.proofs.BuiltFrom.{Builder, BuiltFrom, BuiltObject, inside_built, member_holds}
 use Rattle.erd_normal.proofs.BuiltLists.{all_map, all_rising}
-use Rattle.erd_normal.proofs.BuiltObjects.{built_node, built_object, built_selection, is_id, no_name, node_builder, object_builder, object_here, object_id, plain_builder, selection_id}
+use Rattle.erd_normal.proofs.BuiltObjects.{built_node, built_object, built_selection, is_id, no_name, node_builder, object_builder, object_id, plain_builder, selection_id}
 use Rattle.erd_normal.proofs.CleanSets.{given_unless}
 use Rattle.erd_normal.proofs.FamilyNames.{contest_of_selections, family_name, keyed_name}
 use Rattle.erd_normal.proofs.NormalGets.{kind_of_family_id}

@@ -1,7 +1,7 @@
 -- What holds of all that is asked in the report that is built: it is enough that it holds of each part that is built, by the value that it is built of.
-use Rattle.std.proofs.Common.{◌≡◌, ℕ, List, [], ◌∷◌, map, Option, Some, None, Bool, true, false, if◌then◌else◌, codes, refl, sym, ap, ◌∙◌, subst}
+use Rattle.std.proofs.Common.{◌≡◌, ℕ, List, [], ◌∷◌, map, Some, None, Bool, true, false, if◌then◌else◌, codes, refl, sym, ap, ◌∙◌, subst}
 use Rattle.std.specs.List.{AllByRecursion}
-use Rattle.serde_json.specs.Data.{Data, string, number, unsigned, array, object, Items, no_items, item, Members}
+use Rattle.serde_json.specs.Data.{Data, string, number, unsigned, array, object, no_items, item}
 use Rattle.serde_json.specs.Find.{get, get_member}
 use Rattle.erd_tables.specs.Rows.{envelope_rows}
 use Rattle.erd_tables.specs.Table.{is_envelope_name, kind_of_member}
@@ -15,7 +15,7 @@ use Rattle.erd_check.specs.Faults.{is_empty_array, NoneOf, ShapeFault}
 use Rattle.erd_check.specs.Trees.{IsTree, entries_of}
 use Rattle.erd_check.specs.Wants.{Asked, asked, asked_at, asked_inside, member_want, want_of_kind}
 use Rattle.erd_check.specs.declared.want.Want.TheVariants.{Member, Object}
-use Rattle.erd_check.proofs.Shapes.{Within, Within-root, wanted_within}
+use Rattle.erd_check.proofs.Shapes.{Within}
 use Rattle.erd_check.proofs.TableKinds.{kind_of_class}
 use Rattle.erd_meaning.proofs.Skeleton.{Skeleton, skeleton_of_shape}
 use Rattle.erd_meaning.specs.Objects.{objects}
@@ -27,7 +27,7 @@ use Rattle.erd_normal.proofs.CleanSets.{given_unless}
 use Rattle.erd_normal.proofs.FamilyNames.{election_objects_are, elections_name, family_name, keyed_name, report_objects}
 use Rattle.erd_normal.proofs.NormalReports.{has_canonical_envelope}
 use Rattle.erd_normal.proofs.ThroughoutMembers.{HoldsOfMembers, is_plain_kind, throughout_value}
-use Rattle.erd_normal.proofs.ThroughoutObjects.{HoldsOfObjects, throughout_built_list, throughout_object, throughout_objects, throughout_status}
+use Rattle.erd_normal.proofs.ThroughoutObjects.{HoldsOfObjects, throughout_object, throughout_objects, throughout_status}
 use Rattle.erd_normal.proofs.ThroughoutValues.{Throughout, throughout_by_steps, throughout_list, throughout_text}
 
 -- what has to hold for what is built of a report, each part by the value that it is built of
