@@ -41,7 +41,7 @@ elections_local : (required : Bool) (es : List Data) → has_not_one_entry (arra
 elections_local required es one reason.ElectionCount = one
 elections_local required es one r = refl
 
-as_one : (d : Data) (es : List Data) → is_array d ≡ true → length es ≡ length (entries_of d) → has_not_one_entry (array_of es) ≡ has_not_one_entry d
+pub as_one : (d : Data) (es : List Data) → is_array d ≡ true → length es ≡ length (entries_of d) → has_not_one_entry (array_of es) ≡ has_not_one_entry d
 as_one (array ds) es is same = ap (λ n. not (n == 1)) (ap length (list_of_items-items_of es) ∙ same)
 as_one _ es is same = cc
 

@@ -90,3 +90,4 @@ pub mod WholeEntries
 pub mod BuiltEntries
 pub mod ThroughoutObjects
 pub mod ThroughoutReports
+pub mod NoEmptyArrays

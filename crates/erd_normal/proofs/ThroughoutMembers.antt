@@ -1,9 +1,8 @@
 -- What holds of all that is asked inside what is built of a member without objects.
-use Rattle.std.proofs.Common.{◌≡◌, ◌⊎◌, inl, inr, ℕ, List, [], ◌∷◌, map, Option, Some, None, option_and_then, Bool, true, false, ◌&&◌, codes, refl, sym, ap, ◌∙◌, subst}
-use Rattle.std.specs.Bool.{⊤}
+use Rattle.std.proofs.Common.{◌≡◌, inl, inr, ℕ, List, [], ◌∷◌, map, Some, option_and_then, Bool, true, false, codes, refl, sym, ap, ◌∙◌, subst}
 use Rattle.std.specs.List.{AllByRecursion}
 use Rattle.std.specs.Str.{bytes_eq}
-use Rattle.serde_json.specs.Data.{Data, string, array, object, Items, Members}
+use Rattle.serde_json.specs.Data.{Data, string, array, object, Items}
 use Rattle.serde_json.specs.Find.{as_str, get, get_item, get_member}
 use Rattle.serde_json.specs.View.{items_of}
 use Rattle.erd_tables.specs.Classes.{class_in_role, role_of_class}
@@ -17,10 +16,9 @@ use Rattle.erd_tables.specs.declared.class.Role.TheVariants as role
 use Rattle.erd_tables.specs.declared.fault.Reason.TheVariants as reason
 use Rattle.erd_tables.specs.declared.member.MemberKind.{MemberKind}
 use Rattle.erd_tables.specs.declared.member.MemberKind.TheVariants as kind
-use Rattle.erd_tables.specs.declared.place.Step.{Step}
 use Rattle.erd_check.specs.Faults.{is_empty_array, NoneOf, ShapeFault}
 use Rattle.erd_check.specs.Trees.{IsTree, entries_of, list_of_items}
-use Rattle.erd_check.specs.Wants.{Asked, asked, asked_inside, class_of_object, is_repeated, member_want, want_of_kind}
+use Rattle.erd_check.specs.Wants.{Asked, asked, class_of_object, is_repeated, member_want, want_of_kind}
 use Rattle.erd_check.specs.declared.want.Want.TheVariants.{Object, ClassText, Reference, Member}
 use Rattle.erd_check.proofs.Entries.{array_from}
 use Rattle.erd_check.proofs.Exact.{text_exact}
@@ -31,7 +29,7 @@ use Rattle.erd_normal.specs.NormalTree.{array_of, normal_id, normal_reference, n
 use Rattle.erd_normal.proofs.AskedMembers.{entries_asked, label_texts}
 use Rattle.erd_normal.proofs.BuiltLists.{all_map}
 use Rattle.erd_normal.proofs.CleanSets.{given_unless, rising_entry}
-use Rattle.erd_normal.proofs.CleanValues.{MemberAsked, TypeAsked, asked_in_object, entry_holds}
+use Rattle.erd_normal.proofs.CleanValues.{asked_in_object, entry_holds}
 use Rattle.erd_normal.proofs.NormalGets.{get_label-other, get_label-text}
 use Rattle.erd_normal.proofs.ThroughoutValues.{Throughout, apart_by_kind, is_apart, is_apart_kind, throughout_array, throughout_by_steps, throughout_kept, throughout_list, throughout_text}
 
@@ -59,8 +57,9 @@ pub record HoldsOfMembers (t : Data) (P : Asked → Type 0) : Type 0 where
       → P (asked (Member kind.Ordered required) (array_of (map (normal_selection_reference t) (entries_of d))))
   pub ordered_entry : (e : Data) → Within t (asked (Reference family.Selection) e) → P (asked (Reference family.Selection) (normal_selection_reference t e))
 
--- a kind of member that holds no objects
+-- a kind of member, but for `@type`, that holds no objects
 abbrev pub is_plain_kind : MemberKind → Bool
+is_plain_kind kind.ClassText = false
 is_plain_kind (kind.Keyed f) = false
 is_plain_kind kind.Elections = false
 is_plain_kind kind.Content = false
@@ -215,6 +214,7 @@ module _ (t : Data) (clean : NoneOf (ShapeFault t)) (tree : IsTree t) (P : Asked
   throughout_value (kind.Keyed f) required d v plain w given = cc
   throughout_value kind.Elections required d v plain w given = cc
   throughout_value kind.Content required d v plain w given = cc
+  throughout_value kind.ClassText required d v plain w given = cc
   throughout_value k required d v plain w given =
       let same : d ≡ v = cc in
       subst (λ x. Throughout P (asked (want_of_kind k required) x)) same (throughout_kept t P holds.kept (asked (want_of_kind k required) d) w refl)

@@ -1,5 +1,5 @@
 -- What holds of all that is asked inside the order of a ballot, a selection and an object of a family that are built.
-use Rattle.std.proofs.Common.{◌≡◌, ◌⊎◌, inl, inr, ℕ, zero, suc, List, map, Ordering, Less, Equal, Greater, Option, Some, None, Bool, true, false, codes, refl, sym, ap, ◌∙◌, subst}
+use Rattle.std.proofs.Common.{◌≡◌, inl, inr, ℕ, zero, suc, List, map, Ordering, Less, Equal, Greater, Some, Bool, true, false, codes, refl, sym, ap, ◌∙◌, subst}
 use Rattle.std.specs.List.{AllByRecursion, list_all}
 use Rattle.std.specs.Str.{bytes_eq}
 use Rattle.serde_json.specs.Data.{Data, string, array, object, Items, no_items, item, Members, no_members, member}
@@ -27,10 +27,10 @@ use Rattle.erd_check.proofs.Shapes.{Within, wanted_within}
 use Rattle.erd_check.proofs.TableKinds.{kind_of_class, want_by_kind}
 use Rattle.erd_meaning.specs.SelectionNames.{rising_list, selection_role}
 use Rattle.erd_normal.specs.NormalTree.{array_of, by_key, by_name, id_of_selection, normal_content, normal_node, normal_node_value, normal_nodes, normal_object, normal_object_value, normal_objects, normal_selection, normal_value}
-use Rattle.erd_normal.proofs.AskedMembers.{entries_asked, entry_asked, kind_of_type}
+use Rattle.erd_normal.proofs.AskedMembers.{entries_asked, entry_asked}
 use Rattle.erd_normal.proofs.BuiltFrom.{Builder, BuiltFrom, BuiltObject, inside_built, member_holds}
 use Rattle.erd_normal.proofs.BuiltLists.{all_map, all_rising}
-use Rattle.erd_normal.proofs.BuiltObjects.{built_node, built_object, built_selection, is_id, no_name, node_builder, object_builder, object_here, object_id, plain_builder, selection_id}
+use Rattle.erd_normal.proofs.BuiltObjects.{built_node, built_object, built_selection, is_id, no_name, node_builder, object_builder, object_id, plain_builder, selection_id}
 use Rattle.erd_normal.proofs.CleanSets.{given_unless}
 use Rattle.erd_normal.proofs.FamilyNames.{contest_of_selections, family_name, keyed_name}
 use Rattle.erd_normal.proofs.NormalGets.{kind_of_family_id}
@@ -51,46 +51,39 @@ pub record HoldsOfObjects (t : Data) (P : Asked → Type 0) : Type 0 where
 
 -- ---- the kinds of members
 
--- what holds of the kinds in a class's rows, and of the others, holds of each kind
-pub each_kind : (Q : MemberKind → Bool) (c : Class) (name : List ℕ) → list_all (λ m. Q m.kind) (rows_of_class c) ≡ true → Q kind.ClassText ≡ true → Q (kind_of_identity c) ≡ true
-    → Q kind.StrangeReference ≡ true → Q kind.Carried ≡ true → Q (kind_of_member c name) ≡ true
-each_kind Q c name rows type id reference carried = at (bytes_eq name (codes "@type")) refl
-  where
-    at : (b : Bool) → bytes_eq name (codes "@type") ≡ b → Q (kind_of_member c name) ≡ true
-    at true is = ap Q (ap (kind_of_member c) (text_exact name (codes "@type") is) ∙ kind_of_type c) ∙ type
-    at false is = kind_of_class Q c name is rows id reference carried
-
 -- a member of a contest or a header of a ballot
 abbrev is_node_kind : MemberKind → Bool
+is_node_kind kind.ClassText = false
 is_node_kind (kind.Keyed f) = false
 is_node_kind kind.Elections = false
 is_node_kind k = true
 
 -- a member of an object of a family
 abbrev is_object_kind : MemberKind → Bool
+is_object_kind kind.ClassText = false
 is_object_kind (kind.Keyed family.Selection) = true
 is_object_kind (kind.Keyed f) = false
 is_object_kind kind.Elections = false
 is_object_kind k = true
 
-selection_kind : (c : Class) (name : List ℕ) → role_of_class c ≡ selection_role → is_plain_kind (kind_of_member c name) ≡ true
-selection_kind class.CandidateSelection name r = each_kind is_plain_kind class.CandidateSelection name refl refl refl refl refl
-selection_kind class.BallotMeasureSelection name r = each_kind is_plain_kind class.BallotMeasureSelection name refl refl refl refl refl
-selection_kind class.PartySelection name r = each_kind is_plain_kind class.PartySelection name refl refl refl refl refl
-selection_kind c name r = cc
+selection_kind : (c : Class) (name : List ℕ) → bytes_eq name (codes "@type") ≡ false → role_of_class c ≡ selection_role → is_plain_kind (kind_of_member c name) ≡ true
+selection_kind class.CandidateSelection name other r = kind_of_class is_plain_kind class.CandidateSelection name other refl refl refl refl
+selection_kind class.BallotMeasureSelection name other r = kind_of_class is_plain_kind class.BallotMeasureSelection name other refl refl refl refl
+selection_kind class.PartySelection name other r = kind_of_class is_plain_kind class.PartySelection name other refl refl refl refl
+selection_kind c name other r = cc
 
-node_kind : (c : Class) (name : List ℕ) → role_of_class c ≡ role.Content → is_node_kind (kind_of_member c name) ≡ true
-node_kind class.OrderedContest name r = each_kind is_node_kind class.OrderedContest name refl refl refl refl refl
-node_kind class.OrderedHeader name r = each_kind is_node_kind class.OrderedHeader name refl refl refl refl refl
-node_kind c name r = cc
+node_kind : (c : Class) (name : List ℕ) → bytes_eq name (codes "@type") ≡ false → role_of_class c ≡ role.Content → is_node_kind (kind_of_member c name) ≡ true
+node_kind class.OrderedContest name other r = kind_of_class is_node_kind class.OrderedContest name other refl refl refl refl
+node_kind class.OrderedHeader name other r = kind_of_class is_node_kind class.OrderedHeader name other refl refl refl refl
+node_kind c name other r = cc
 
 object_rows : (c : Class) (f : Family) → role_of_class c ≡ role.OfFamily f → (list_all (λ m. is_object_kind m.kind) (rows_of_class c) ≡ true) × (is_object_kind (kind_of_identity c) ≡ true)
 object_rows class.ElectionReport f r = cc
 object_rows class.Election f r = cc
 object_rows c f r = (refl, refl)
 
-object_kind : (c : Class) (f : Family) (name : List ℕ) → role_of_class c ≡ role.OfFamily f → is_object_kind (kind_of_member c name) ≡ true
-object_kind c f name r = let rows = object_rows c f r in each_kind is_object_kind c name rows.0 refl rows.1 refl refl
+object_kind : (c : Class) (f : Family) (name : List ℕ) → bytes_eq name (codes "@type") ≡ false → role_of_class c ≡ role.OfFamily f → is_object_kind (kind_of_member c name) ≡ true
+object_kind c f name other r = let rows = object_rows c f r in kind_of_class is_object_kind c name other rows.0 rows.1 refl refl
 
 node_word : (t : Data) (k : MemberKind) (d inside v : Data) → k ≡ kind.Word → normal_node_value t (Some k) d inside ≡ Some v → d ≡ v
 node_word t k d inside v is e = let x : Some d ≡ Some v = ap (λ q. normal_node_value t (Some q) d inside) (sym is) ∙ e in let same : d ≡ v = cc in same
@@ -162,7 +155,7 @@ module _ (t : Data) (clean : NoneOf (ShapeFault t)) (tree : IsTree t) (P : Asked
       built : (name : List ℕ) (v : Data) → BuiltFrom t (node_builder t) o.class ms name v → Throughout P (asked (member_want o.class name) v)
       built name v b =
           member_holds t clean (Throughout P) (throughout_status t clean tree P holds.members) (node_builder t) o.class ms name v b
-          (λ required inside. node_member (kind_of_member o.class name) required b.from v (node_kind o.class name o.role) (contents name b.from b.stands) inside b.given)
+          (λ required inside. node_member (kind_of_member o.class name) required b.from v (node_kind o.class name b.other o.role) (contents name b.from b.stands) inside b.given)
           (λ word. node_word t (kind_of_member o.class name) b.from (normal_content t b.from) v word b.given)
 
   content_at : (name k : List ℕ) (e d : Data) (ms : Members) → get_member name (member k e ms) ≡ Some d → IsContent e → (get_member name ms ≡ Some d → IsContent d) → IsContent d
@@ -210,7 +203,7 @@ module _ (t : Data) (clean : NoneOf (ShapeFault t)) (tree : IsTree t) (P : Asked
       (λ name v named found. throughout_id o.class family.Selection o.role (id_of_selection t contest d) name v named (selection_id t clean tree contest d o name v named found))
       (λ name v b.
       member_holds t clean (Throughout P) (throughout_status t clean tree P holds.members) (plain_builder t) o.class o.ms name v b
-      (λ required inside. throughout_value t clean tree P holds.members (kind_of_member o.class name) required b.from v (selection_kind o.class name o.role) inside b.given)
+      (λ required inside. throughout_value t clean tree P holds.members (kind_of_member o.class name) required b.from v (selection_kind o.class name b.other o.role) inside b.given)
       (λ word. plain_word t (kind_of_member o.class name) b.from v word b.given))
 
   -- ---- objects of families
@@ -234,7 +227,7 @@ module _ (t : Data) (clean : NoneOf (ShapeFault t)) (tree : IsTree t) (P : Asked
       subst (λ x. Throughout P (asked (Member kind.Content required) x)) parts.1 (throughout_content d required parts.0 w)
   object_member o kind.Elections required d v is contest w given = cc
   object_member o (kind.Keyed f) required d v is contest w given = cc
-  object_member o k required d v is contest w given = throughout_value t clean tree P holds.members k required d v refl w given
+  object_member o k required d v is contest w given = throughout_value t clean tree P holds.members k required d v is w given
 
   -- an object with a member of selections is a contest
   of_contest : (f : Family) (d : Data) (o : ObjectIn t (role.OfFamily f) d) (name : List ℕ) (from : Data) → Within t (asked (Object (role.OfFamily f)) d) → get_member name o.ms ≡ Some from
@@ -252,7 +245,7 @@ module _ (t : Data) (clean : NoneOf (ShapeFault t)) (tree : IsTree t) (P : Asked
       (λ name v b.
       member_holds t clean (Throughout P) (throughout_status t clean tree P holds.members) (object_builder t d) o.class o.ms name v b
       (λ required inside.
-      object_member d (kind_of_member o.class name) required b.from v (object_kind o.class f name o.role) (of_contest f d o name b.from w b.stands) inside b.given)
+      object_member d (kind_of_member o.class name) required b.from v (object_kind o.class f name b.other o.role) (of_contest f d o name b.from w b.stands) inside b.given)
       (λ word. object_word t d (kind_of_member o.class name) b.from v word b.given))
 
   -- the array of the objects of a family

@@ -1,7 +1,7 @@
 -- What holds of all that is asked in the report that is built: it is enough that it holds of each part that is built, by the value that it is built of.
-use Rattle.std.proofs.Common.{◌≡◌, ℕ, List, [], ◌∷◌, map, Option, Some, None, Bool, true, false, if◌then◌else◌, codes, refl, sym, ap, ◌∙◌, subst}
+use Rattle.std.proofs.Common.{◌≡◌, ℕ, List, [], ◌∷◌, map, Some, None, Bool, true, false, if◌then◌else◌, codes, refl, sym, ap, ◌∙◌, subst}
 use Rattle.std.specs.List.{AllByRecursion}
-use Rattle.serde_json.specs.Data.{Data, string, number, unsigned, array, object, Items, no_items, item, Members}
+use Rattle.serde_json.specs.Data.{Data, string, number, unsigned, array, object, no_items, item}
 use Rattle.serde_json.specs.Find.{get, get_member}
 use Rattle.erd_tables.specs.Rows.{envelope_rows}
 use Rattle.erd_tables.specs.Table.{is_envelope_name, kind_of_member}
@@ -15,7 +15,8 @@ use Rattle.erd_check.specs.Faults.{is_empty_array, NoneOf, ShapeFault}
 use Rattle.erd_check.specs.Trees.{IsTree, entries_of}
 use Rattle.erd_check.specs.Wants.{Asked, asked, asked_at, asked_inside, member_want, want_of_kind}
 use Rattle.erd_check.specs.declared.want.Want.TheVariants.{Member, Object}
-use Rattle.erd_check.proofs.Shapes.{Within, Within-root, wanted_within}
+use Rattle.erd_check.proofs.Shapes.{Within}
+use Rattle.erd_check.proofs.TableKinds.{kind_of_class}
 use Rattle.erd_meaning.proofs.Skeleton.{Skeleton, skeleton_of_shape}
 use Rattle.erd_meaning.specs.Objects.{objects}
 use Rattle.erd_normal.specs.NormalTree.{array_of, normal_election, normal_election_value, normal_objects, normal_report_value, normal_tree, normal_value}
@@ -26,7 +27,7 @@ use Rattle.erd_normal.proofs.CleanSets.{given_unless}
 use Rattle.erd_normal.proofs.FamilyNames.{election_objects_are, elections_name, family_name, keyed_name, report_objects}
 use Rattle.erd_normal.proofs.NormalReports.{has_canonical_envelope}
 use Rattle.erd_normal.proofs.ThroughoutMembers.{HoldsOfMembers, is_plain_kind, throughout_value}
-use Rattle.erd_normal.proofs.ThroughoutObjects.{HoldsOfObjects, each_kind, throughout_built_list, throughout_object, throughout_objects, throughout_status}
+use Rattle.erd_normal.proofs.ThroughoutObjects.{HoldsOfObjects, throughout_object, throughout_objects, throughout_status}
 use Rattle.erd_normal.proofs.ThroughoutValues.{Throughout, throughout_by_steps, throughout_list, throughout_text}
 
 -- what has to hold for what is built of a report, each part by the value that it is built of
@@ -42,12 +43,14 @@ pub record HoldsOfBuilt (t : Data) (P : Asked → Type 0) : Type 0 where
 
 -- a member of the election
 abbrev is_election_kind : MemberKind → Bool
+is_election_kind kind.ClassText = false
 is_election_kind kind.Elections = false
 is_election_kind kind.Content = false
 is_election_kind k = true
 
 -- a member of the report
 abbrev is_report_kind : MemberKind → Bool
+is_report_kind kind.ClassText = false
 is_report_kind kind.Content = false
 is_report_kind k = true
 
@@ -77,7 +80,7 @@ module _ (t : Data) (clean : NoneOf (ShapeFault t)) (tree : IsTree t) (P : Asked
       subst (λ x. Throughout P (asked (Member (kind.Keyed f) required) x)) parts.1 (throughout_objects t clean tree P holds.parts f required d w (holds.keyed f required d w (all f refl) parts.0))
   election_member kind.Elections required d v is all w given = cc
   election_member kind.Content required d v is all w given = cc
-  election_member k required d v is all w given = throughout_value t clean tree P plain k required d v refl w given
+  election_member k required d v is all w given = throughout_value t clean tree P plain k required d v is w given
 
   throughout_election : Throughout P (asked (Object role.Election) (normal_election t (object s.es)))
   throughout_election =
@@ -93,7 +96,7 @@ module _ (t : Data) (clean : NoneOf (ShapeFault t)) (tree : IsTree t) (P : Asked
       built name v b =
           member_holds t clean (Throughout P) (throughout_status t clean tree P plain) (election_builder t) class.Election s.es name v b
           (λ required inside.
-          election_member (kind_of_member class.Election name) required b.from v (each_kind is_election_kind class.Election name refl refl refl refl refl) (family name b.from b.stands) inside b.given)
+          election_member (kind_of_member class.Election name) required b.from v (kind_of_class is_election_kind class.Election name b.other refl refl refl refl) (family name b.from b.stands) inside b.given)
           (λ word. election_word t (kind_of_member class.Election name) b.from v word b.given)
 
   -- the array of the one election
@@ -178,7 +181,7 @@ module _ (t : Data) (clean : NoneOf (ShapeFault t)) (tree : IsTree t) (P : Asked
       let same : array_of (map (normal_election t) (entries_of d)) ≡ v = cc in
       subst (λ x. Throughout P (asked (Member kind.Elections required) x)) same (throughout_elections required d (one refl) w)
   report_member name kind.Content required d v is all one w given = cc
-  report_member name k required d v is all one w given = other_member k required d v refl w (is_envelope_name name) given
+  report_member name k required d v is all one w given = other_member k required d v is w (is_envelope_name name) given
 
   throughout_report : Throughout P (asked (Object role.Report) (normal_tree t))
   throughout_report =
@@ -198,7 +201,7 @@ module _ (t : Data) (clean : NoneOf (ShapeFault t)) (tree : IsTree t) (P : Asked
       built name v b =
           member_holds t clean (Throughout P) (throughout_status t clean tree P plain) (normal_report_value t) class.ElectionReport s.ms name v b
           (λ required inside.
-          report_member name (kind_of_member class.ElectionReport name) required b.from v (each_kind is_report_kind class.ElectionReport name refl refl refl refl refl) (family name b.from b.stands)
+          report_member name (kind_of_member class.ElectionReport name) required b.from v (kind_of_class is_report_kind class.ElectionReport name b.other refl refl refl refl) (family name b.from b.stands)
           (one name b.from b.stands) inside b.given)
           (λ word. report_word t name (kind_of_member class.ElectionReport name) b.from v word b.given)
 
