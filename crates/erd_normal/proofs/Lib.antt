@@ -44,3 +44,7 @@ pub mod ContentParts
 pub mod StableRising
 pub mod WholeEntries
 pub mod BuiltEntries
+pub mod KeyPositions
+pub mod Numbered
+pub mod FamilyNumbers
+pub mod References
