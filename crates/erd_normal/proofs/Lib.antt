@@ -91,3 +91,7 @@ pub mod BuiltEntries
 pub mod ThroughoutObjects
 pub mod ThroughoutReports
 pub mod NoEmptyArrays
+pub mod KeyPositions
+pub mod Numbered
+pub mod FamilyNumbers
+pub mod References
