@@ -62,7 +62,7 @@ impl<'a> Triple<'a> {
 }
 
 /// The key of an object: the least of its identifiers, if it has any.
-pub(crate) fn key_of(alloc: Global, object: &Value) -> Result<Option<Key>, AllocError>
+pub fn key_of(alloc: Global, object: &Value) -> Result<Option<Key>, AllocError>
     ensures { IfOk result (λ key. key ≡ key_of (view object.now)) }
 {
     match entries(object, "ExternalIdentifier") {

@@ -1,7 +1,7 @@
 //! Keys, names, references and the meaning of a report.
 #![tactic(auto)]
 
-mod identifier;
+pub mod identifier;
 pub mod key;
 mod label;
 mod lookup;
@@ -18,6 +18,7 @@ mod selection_walk;
 mod shared_key;
 mod translation;
 
+pub use identifier::key_of;
 pub use key::Key;
 pub use report::Report;
 pub use resolving::resolve;
