@@ -90,3 +90,7 @@ pub mod WholeEntries
 pub mod BuiltEntries
 pub mod ThroughoutObjects
 pub mod ThroughoutReports
+pub mod KeyPositions
+pub mod Numbered
+pub mod FamilyNumbers
+pub mod References

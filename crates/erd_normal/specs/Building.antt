@@ -1,7 +1,15 @@
--- Members that are built one after another, in the order of the code.
-use Rattle.std.specs.Prelude.{ℕ, List, Option, Some, None}
+-- What is built one after another, in the order of the code.
+use Rattle.std.specs.Prelude.{◌≡◌, ℕ, ◌+◌, List, [], ◌∷◌, ◌++◌, Option, Some, None, decimal, slice_set}
+use Rattle.std.specs.List.{slice_get}
+use Rattle.std.specs.Option.{option_map_or}
 use Rattle.serde_json.specs.Data.{Data, Members, no_members, member, put}
 use Rattle.serde_json.specs.Written.{compact_text}
+use Rattle.erd_tables.specs.declared.class.Family.{Family}
+use Rattle.erd_meaning.specs.Keys.{key_of}
+use Rattle.erd_meaning.specs.Objects.{objects, Placed}
+use Rattle.erd_meaning.specs.declared.key.Key.{Key}
+use Rattle.erd_normal.specs.Canonical.{id_prefix}
+use Rattle.erd_normal.specs.NormalTree.{rank_of}
 
 -- the members with the value under the name, if there is a value
 abbrev pub put_if : List ℕ → Option Data → Members → Members
@@ -20,3 +28,23 @@ beside text d = (text, d)
 -- a value beside its compact text
 abbrev pub beside_text : Data → List ℕ × Data
 beside_text d = beside (compact_text d) d
+
+-- ---- numbers of objects
+
+-- the keys of objects and their positions, from position i on
+abbrev pub key_positions : ℕ → List Placed → List (Option Key × ℕ)
+key_positions i [] = []
+key_positions i (o ∷ os) = (key_of o.value, i) ∷ key_positions (i + 1) os
+
+-- numbers by position: each of the pairs puts its own at the position that it names, counted from r + 1 on
+abbrev pub numbered : {K : Type 0} → ℕ → List (K × ℕ) → List ℕ → List ℕ
+numbered r [] ns = ns
+numbered r (p ∷ ps) ns = numbered (r + 1) ps (slice_set ns p.1 (r + 1))
+
+-- each object of the family has its rank as its number, counted from 1
+abbrev pub AreNumbers : Data → Family → List ℕ → Type 0
+AreNumbers t f ns = (i : ℕ) (o : Placed) → slice_get (objects f t) i ≡ Some o → slice_get ns i ≡ Some (rank_of t f (key_of o.value) + 1)
+
+-- the `@id` text of the object of this number, and no text in a family whose objects have none
+abbrev pub numbered_id : Family → ℕ → List ℕ
+numbered_id f n = option_map_or (λ letters. letters ++ decimal n) (id_prefix f) []

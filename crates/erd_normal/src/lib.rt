@@ -3,14 +3,18 @@
 
 mod compact_text;
 mod content;
+mod identifiers;
 mod label;
 mod laws;
 mod member_rule;
 mod members;
+mod numbering;
+mod numbers;
 mod rising;
 mod set_order;
 mod shape;
 mod sorting;
+mod tables;
 mod value_rule;
 
 pub use compact_text::CompactText;

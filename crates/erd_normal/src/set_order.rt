@@ -53,3 +53,26 @@ impl SetOrder for SelectionName {
         self.cmp(other)
     }
 }
+
+impl SetOrder for Option<Key> {
+    ghost use Rattle.std.specs.Cmp.Lexicographic.{options_total};
+    ghost use Rattle.std.specs.Option.{option_cmp};
+    ghost use Rattle.erd_meaning.specs.Keys.{key_cmp};
+    ghost use Rattle.erd_meaning.specs.Orders.{key_cmp_total};
+    ghost use Rattle.erd_normal.specs.KeyOrders.{optional_key_exact};
+
+    ghost cmp = { option_cmp key_cmp };
+
+    ghost total = { options_total key_cmp_total };
+
+    ghost exact = { optional_key_exact };
+
+    fn order(&self, other: &Option<Key>) -> Ordering {
+        match (self, other) {
+            (None, None) => Ordering::Equal,
+            (None, Some(_)) => Ordering::Less,
+            (Some(_), None) => Ordering::Greater,
+            (Some(left), Some(right)) => left.cmp(right),
+        }
+    }
+}

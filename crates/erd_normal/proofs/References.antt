@@ -1,0 +1,111 @@
+-- What a reference names, by the number of the object that has the `@id`.
+use Rattle.std.proofs.Common.{◌≡◌, ◌==◌, ℕ, ◌+◌, List, [], ◌∷◌, ◌++◌, map, filter, length, Bool, true, false, true≢false, cond, Option, Some, None, option_and_then, option_map, unwrap_or, decimal, is_lt, slice_get, refl, sym, ap, ◌∙◌, subst, arith}
+use Rattle.std.specs.Option.{option_cmp, option_map_or}
+use Rattle.serde_json.specs.Data.{Data}
+use Rattle.erd_tables.specs.Classes.{family_number}
+use Rattle.erd_tables.specs.declared.class.Family.{Family}
+use Rattle.erd_tables.specs.declared.class.Family.TheVariants as family
+use Rattle.erd_check.proofs.Order.{In}
+use Rattle.erd_meaning.proofs.ObjectFamilies.{family_exact, itself}
+use Rattle.erd_meaning.proofs.OneObject.{in_at, ObjectIn, with_part}
+use Rattle.erd_meaning.proofs.Standing.{owned_by, owner_is}
+use Rattle.erd_meaning.specs.Accepted.{IsAccepted}
+use Rattle.erd_meaning.specs.Keys.{has_keys, key_cmp, key_of}
+use Rattle.erd_meaning.specs.Lookups.{FindsId, id_in}
+use Rattle.erd_meaning.specs.Objects.{id_of, objects, owner, Placed}
+use Rattle.erd_meaning.specs.SelectionNames.{key_named}
+use Rattle.erd_meaning.specs.declared.key.Key.{Key}
+use Rattle.erd_normal.proofs.DistinctEntries.{place_of}
+use Rattle.erd_normal.proofs.RisingSets.{has_from_In, In-from_has}
+use Rattle.erd_normal.specs.Building.{AreNumbers, numbered_id}
+use Rattle.erd_normal.specs.Canonical.{id_prefix}
+use Rattle.erd_normal.specs.NormalTree.{normal_id, rank_of}
+use Rattle.erd_normal.specs.Tables.{AreTables, number_in, table_of}
+use Rattle.erd_normal.specs.declared.tables.Tables.{Tables}
+
+-- the `@id` text of a rank
+numbered_rank : (f : Family) (n : ℕ) → numbered_id f (n + 1) ≡ unwrap_or (option_map (λ letters. letters ++ decimal (n + 1)) (id_prefix f)) []
+numbered_rank f n = at (id_prefix f)
+  where
+    at : (o : Option (List ℕ)) → option_map_or (λ letters. letters ++ decimal (n + 1)) o [] ≡ unwrap_or (option_map (λ letters. letters ++ decimal (n + 1)) o) []
+    at None = refl
+    at (Some letters) = refl
+
+-- no key is below none
+none_lesser : (os : List Placed) → length (filter (λ o. is_lt (option_cmp key_cmp (key_of o.value) None)) os) ≡ 0
+none_lesser [] = refl
+none_lesser (o ∷ os) = at (key_of o.value) (none_lesser os)
+  where
+    at : (k : Option Key) → length (filter (λ o. is_lt (option_cmp key_cmp (key_of o.value) None)) os) ≡ 0
+        → length (cond (is_lt (option_cmp key_cmp k None)) (o ∷ filter (λ o. is_lt (option_cmp key_cmp (key_of o.value) None)) os) (filter (λ o. is_lt (option_cmp key_cmp (key_of o.value) None)) os)) ≡ 0
+    at None e = e
+    at (Some k) e = e
+
+module _ (t : Data) (f : Family) (id : List ℕ) where
+  -- an object of the family has the `@id`
+  found_in : (n : Tables) (i : ℕ) → AreTables t n → has_keys f ≡ true → id_in f t i ≡ Some id → numbered_id f (number_in (table_of f n) i) ≡ normal_id t f id
+  found_in n i tables keyed here =
+      let hit = with_part (λ o. id_of o.value) f t i id here in
+      let o : ObjectIn f t i = hit.0 in
+      let is : id_of o.one.value ≡ Some id = hit.1 in
+      let key : key_named t f id ≡ key_of o.one.value = ap (option_and_then key_of) (owner_is t tables.accepted f o.one id (has_from_In o.one (objects f t) (in_at (objects f t) i o.one o.at)) is) in
+      ap (λ m. numbered_id f (unwrap_or m 1)) (tables.numbers f keyed i o.one o.at)
+      ∙ (numbered_rank f (rank_of t f (key_of o.one.value))
+      ∙ ap (λ k. unwrap_or (option_map (λ letters. letters ++ decimal (rank_of t f k + 1)) (id_prefix f)) []) (sym key))
+
+  -- no object of the family has it
+  unowned : ((i : ℕ) → id_in f t i ≡ Some id → ⊥) → owner t f id ≡ None
+  unowned none = at (owner t f id) refl
+    where
+      at : (o : Option Data) → owner t f id ≡ o → o ≡ None
+      at None e = refl
+      at (Some d) e =
+          let x = owned_by t f id d e in
+          let place = place_of x.0 (objects f t) (In-from_has x.0 (objects f t) x.1) in
+          absurd (none place.0 (ap (option_and_then (λ (o : Placed). id_of o.value)) place.1 ∙ (ap id_of x.2 ∙ x.3)))
+
+  unnamed : ((i : ℕ) → id_in f t i ≡ Some id → ⊥) → numbered_id f 1 ≡ normal_id t f id
+  unnamed none =
+      let key : key_named t f id ≡ None = ap (option_and_then key_of) (unowned none) in
+      let rank : rank_of t f (key_named t f id) ≡ 0 = ap (rank_of t f) key ∙ none_lesser (objects f t) in
+      numbered_rank f 0 ∙ ap (λ n. unwrap_or (option_map (λ letters. letters ++ decimal (n + 1)) (id_prefix f)) []) (sym rank)
+
+-- the family's object is found
+pub named_here : (t : Data) (f : Family) (id : List ℕ) (n : Tables) (g : Family) (i : ℕ) → AreTables t n → FindsId t id (Some (g, i)) → (family_number g == family_number f) ≡ true
+    → numbered_id f (number_in (table_of f n) i) ≡ normal_id t f id
+named_here t family.Selection id n g i tables finds same = refl
+named_here t f id n g i tables finds same =
+    let one : g ≡ f = family_exact g f same in
+    found_in t f id n i tables refl ((finds f i).0 (ap (λ h. Some (h, i)) one))
+
+-- an object of another family is found
+pub named_elsewhere : (t : Data) (f : Family) (id : List ℕ) (g : Family) (i : ℕ) → FindsId t id (Some (g, i)) → (family_number g == family_number f) ≡ false → numbered_id f 1 ≡ normal_id t f id
+named_elsewhere t f id g i finds other = unnamed t f id (λ j e.
+    let same : Some (g, i) ≡ Some (f, j) = (finds f j).1 e in
+    let one : g ≡ f = ap (λ o. option_map_or (λ (x : Family × ℕ). x.0) o g) same in
+    let equal : (family_number g == family_number f) ≡ true = subst (λ h. (family_number g == family_number h) ≡ true) one (itself (family_number g)) in
+    true≢false (sym equal ∙ other))
+
+-- no object is found
+pub named_nowhere : (t : Data) (f : Family) (id : List ℕ) → FindsId t id None → numbered_id f 1 ≡ normal_id t f id
+named_nowhere t f id finds = unnamed t f id (λ j e. let none : None ≡ Some (f, j) = (finds f j).1 e in cc)
+
+-- ---- the tables
+
+tables_by : (t : Data) (n : Tables) → AreNumbers t family.Unit n.units.items → AreNumbers t family.Party n.parties.items → AreNumbers t family.Person n.persons.items
+    → AreNumbers t family.Office n.offices.items → AreNumbers t family.Header n.headers.items → AreNumbers t family.Candidate n.candidates.items
+    → AreNumbers t family.Contest n.contests.items → AreNumbers t family.Style n.styles.items → (f : Family) → has_keys f ≡ true → AreNumbers t f (table_of f n)
+tables_by t n u p e o h c k s family.Unit keyed = u
+tables_by t n u p e o h c k s family.Party keyed = p
+tables_by t n u p e o h c k s family.Person keyed = e
+tables_by t n u p e o h c k s family.Office keyed = o
+tables_by t n u p e o h c k s family.Header keyed = h
+tables_by t n u p e o h c k s family.Candidate keyed = c
+tables_by t n u p e o h c k s family.Contest keyed = k
+tables_by t n u p e o h c k s family.Style keyed = s
+tables_by t n u p e o h c k s family.Selection keyed = absurd (cc)
+
+pub tables_made : (t : Data) (n : Tables) → IsAccepted t → AreNumbers t family.Unit n.units.items → AreNumbers t family.Party n.parties.items → AreNumbers t family.Person n.persons.items
+    → AreNumbers t family.Office n.offices.items → AreNumbers t family.Header n.headers.items → AreNumbers t family.Candidate n.candidates.items
+    → AreNumbers t family.Contest n.contests.items → AreNumbers t family.Style n.styles.items → AreTables t n
+tables_made t n accepted u p e o h c k s = record { accepted = accepted; numbers = tables_by t n u p e o h c k s }

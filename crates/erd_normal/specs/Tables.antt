@@ -1,0 +1,31 @@
+-- The numbers of all objects of a report, by family and position.
+use Rattle.std.specs.Prelude.{◌≡◌, ℕ, List, [], true, unwrap_or}
+use Rattle.std.specs.List.{slice_get}
+use Rattle.serde_json.specs.Data.{Data}
+use Rattle.erd_tables.specs.declared.class.Family.{Family}
+use Rattle.erd_tables.specs.declared.class.Family.TheVariants as family
+use Rattle.erd_meaning.specs.Accepted.{IsAccepted}
+use Rattle.erd_meaning.specs.Keys.{has_keys}
+use Rattle.erd_normal.specs.Building.{AreNumbers}
+use Rattle.erd_normal.specs.declared.tables.Tables.{Tables}
+
+-- the numbers of the objects of a family; selections have none here
+abbrev pub table_of : Family → Tables → List ℕ
+table_of family.Unit n = n.units.items
+table_of family.Party n = n.parties.items
+table_of family.Person n = n.persons.items
+table_of family.Office n = n.offices.items
+table_of family.Header n = n.headers.items
+table_of family.Candidate n = n.candidates.items
+table_of family.Contest n = n.contests.items
+table_of family.Style n = n.styles.items
+table_of family.Selection n = []
+
+-- the number at a position, and 1 where there is none
+abbrev pub number_in : List ℕ → ℕ → ℕ
+number_in ns i = unwrap_or (slice_get ns i) 1
+
+-- they are the numbers of the objects of the report, which is accepted
+pub record AreTables (t : Data) (n : Tables) : Type 0 where
+  pub accepted : IsAccepted t
+  pub numbers : (f : Family) → has_keys f ≡ true → AreNumbers t f (table_of f n)

@@ -1,0 +1,102 @@
+ghost use Rattle.std.specs.Prelude.{◌≡◌, ◌==◌, IfOk};
+ghost use Rattle.serde_json.specs.View.{view};
+ghost use Rattle.erd_tables.specs.Classes.{family_number};
+ghost use Rattle.erd_meaning.specs.Accepted.{IsAccepted};
+ghost use Rattle.erd_normal.specs.Building.{numbered_id};
+ghost use Rattle.erd_normal.specs.NormalTree.{normal_id, normal_reference, text_of};
+ghost use Rattle.erd_normal.specs.Tables.{AreTables, number_in, table_of};
+
+use crate::identifiers::id_text;
+use crate::numbers::family_numbers;
+use crate::tables::Tables;
+use erd_meaning::Report;
+use erd_tables::Family;
+use serde_json::Value;
+use std::alloc::{AllocError, Global};
+
+/// The numbers of the objects of a report: one sort for each family.
+pub(crate) fn tables_of(alloc: Global, report: &Report) -> Result<Tables, AllocError>
+    requires accepted { IsAccepted (view report.now) }
+    ensures { IfOk result (AreTables (view report.now)) }
+{
+    Ok(Tables {
+        units: family_numbers(alloc, report, Family::Unit)?,
+        parties: family_numbers(alloc, report, Family::Party)?,
+        persons: family_numbers(alloc, report, Family::Person)?,
+        offices: family_numbers(alloc, report, Family::Office)?,
+        headers: family_numbers(alloc, report, Family::Header)?,
+        candidates: family_numbers(alloc, report, Family::Candidate)?,
+        contests: family_numbers(alloc, report, Family::Contest)?,
+        styles: family_numbers(alloc, report, Family::Style)?,
+    })
+}
+
+fn table(tables: &Tables, family: Family) -> &[usize]
+    ensures { result.now ≡ table_of family tables.now }
+{
+    match family {
+        Family::Unit => tables.units.as_slice(),
+        Family::Party => tables.parties.as_slice(),
+        Family::Person => tables.persons.as_slice(),
+        Family::Office => tables.offices.as_slice(),
+        Family::Header => tables.headers.as_slice(),
+        Family::Candidate => tables.candidates.as_slice(),
+        Family::Contest => tables.contests.as_slice(),
+        Family::Style => tables.styles.as_slice(),
+        Family::Selection => &[],
+    }
+}
+
+fn number_at(numbers: &[usize], index: usize) -> usize
+    ensures { result ≡ number_in numbers.now index }
+{
+    match numbers.get(index) {
+        Some(number) => *number,
+        None => 1,
+    }
+}
+
+fn is_same(found: Family, family: Family) -> bool
+    ensures { result ≡ (family_number found == family_number family) }
+{
+    found == family
+}
+
+/// The text of a reference.
+fn text_of(value: &Value) -> &str
+    ensures { result.now ≡ text_of (view value.now) }
+{
+    value.as_str().unwrap_or("")
+}
+
+/// The number of the object of a family that has the `@id`, and 1 where none has it.
+pub(crate) fn number_of(report: &Report, tables: &Tables, family: Family, id: &str) -> usize
+    requires { AreTables (view report.now) tables.now }
+    ensures { numbered_id family result ≡ normal_id (view report.now) family id.now }
+{
+    match report.target(id) {
+        Some((found, index)) => {
+            if is_same(found, family) {
+                number_at(table(tables, family), index)
+            } else {
+                1
+            }
+        }
+        None => 1,
+    }
+}
+
+/// The reference to an object of a family that a value becomes.
+pub(crate) fn reference(
+    alloc: Global,
+    report: &Report,
+    tables: &Tables,
+    family: Family,
+    value: &Value,
+) -> Result<Value, AllocError>
+    requires { AreTables (view report.now) tables.now }
+    ensures { IfOk result (λ built. view built ≡ normal_reference (view report.now) family (view value.now)) }
+{
+    let number = number_of(report, tables, family, text_of(value));
+    Ok(Value::String(id_text(alloc, family, number)?))
+}
