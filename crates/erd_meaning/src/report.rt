@@ -1,4 +1,4 @@
-ghost use Rattle.std.specs.Prelude.{◌≡◌, false, [], ◌∷◌, length, map, option_map, slice_get};
+ghost use Rattle.std.specs.Prelude.{◌≡◌, false, [], ◌∷◌, length, map, option_map, slice_get, IfOk};
 ghost use Rattle.std.specs.Option.{option_copied};
 ghost use Rattle.serde_json.specs.View.{view};
 ghost use Rattle.serde_json.specs.Written.{has_float};
@@ -7,6 +7,7 @@ ghost use Rattle.erd_meaning.specs.Accepted.{IsAccepted};
 ghost use Rattle.erd_meaning.specs.Lookups.{FindsId, FindsKey, FindsSelection, key_in, selection_in};
 ghost use Rattle.erd_meaning.specs.Objects.{elections, objects};
 ghost use Rattle.erd_meaning.specs.Resolved.{IsResolved};
+ghost use Rattle.erd_meaning.specs.SelectionNames.{name_of};
 
 use crate::key::Key;
 use crate::lookup::{count_of, nth_of, place_of_id, place_of_key};
@@ -14,8 +15,10 @@ use crate::members::entries;
 use crate::named_selection::{NamedSelection, place_of_name};
 use crate::object::Object;
 use crate::selection_name::SelectionName;
+use crate::selection_naming::name_of_selection;
 use erd_tables::Family;
 use serde_json::Value;
+use std::alloc::{AllocError, Global};
 use std::marker::Model;
 
 /// A report that is accepted: it has no fault of the shape, its objects are told apart, its references name them, and no two
@@ -146,5 +149,17 @@ impl<'a> Report<'a> {
         ensures { FindsSelection (view self.now) contest name.now result }
     {
         place_of_name(&self.names, contest, name)
+    }
+
+    /// The name of a selection in this report, if it is of a class of selection.
+    pub fn name_of(
+        &self,
+        alloc: Global,
+        selection: &Value,
+    ) -> Result<Option<SelectionName>, AllocError>
+        requires whole { has_float (view selection.now) ≡ false }
+        ensures { IfOk result (λ name. name ≡ name_of (view self.now) (view selection.now)) }
+    {
+        name_of_selection(alloc, &self.objects, selection)
     }
 }
