@@ -95,6 +95,7 @@ IsFilled k d = ⊤
 
 -- the value that is built comes from a member of the object, of which this is asked in the report
 pub record BuiltFrom (t : Data) (value_of : Builder) (c : Class) (ms : Members) (name : List ℕ) (v : Data) : Type 0 where
+  pub other : bytes_eq name (codes "@type") ≡ false
   pub from : Data
   pub stands : get_member name ms ≡ Some from
   pub inside : Within t (asked (member_want c name) from)
@@ -143,7 +144,7 @@ module _ (t : Data) (clean : NoneOf (ShapeFault t)) where
     where
       at : (found : Option Data) → get_member name ms ≡ found → option_and_then (value_of name (kind_of_member c name)) found ≡ Some v → BuiltFrom t value_of c ms name v
       at None is e = cc
-      at (Some d) is e = record { from = d; stands = is; inside = member_within t clean w r ms c name d o.asks o.among other o.inside is; given = e }
+      at (Some d) is e = record { other = other; from = d; stands = is; inside = member_within t clean w r ms c name d o.asks o.among other o.inside is; given = e }
 
   -- what holds of what is built of the value where that value stands holds of the member, if texts stay
   pub member_holds : (Q : Asked → Type 0) → ((d : Data) → Within t (asked Status d) → Q (asked Status d))

@@ -41,7 +41,7 @@ elections_local : (required : Bool) (es : List Data) → has_not_one_entry (arra
 elections_local required es one reason.ElectionCount = one
 elections_local required es one r = refl
 
-as_one : (d : Data) (es : List Data) → is_array d ≡ true → length es ≡ length (entries_of d) → has_not_one_entry (array_of es) ≡ has_not_one_entry d
+pub as_one : (d : Data) (es : List Data) → is_array d ≡ true → length es ≡ length (entries_of d) → has_not_one_entry (array_of es) ≡ has_not_one_entry d
 as_one (array ds) es is same = ap (λ n. not (n == 1)) (ap length (list_of_items-items_of es) ∙ same)
 as_one _ es is same = cc
 
@@ -58,7 +58,7 @@ whole_clean required n = (clean_by_steps (asked (Member kind.Whole required) (nu
 -- ---- names of the envelope
 
 -- what holds of the name of each row holds of a name that a row has
-row_named : (P : List ℕ → Type 0) (rows : List Row) (name : List ℕ) → AllByRecursion (λ row. P row.name) rows → is_some (kind_in_rows rows name) ≡ true → P name
+pub row_named : (P : List ℕ → Type 0) (rows : List Row) (name : List ℕ) → AllByRecursion (λ row. P row.name) rows → is_some (kind_in_rows rows name) ≡ true → P name
 row_named P [] name all named = cc
 row_named P (row ∷ rows) name all named = at (bytes_eq name row.name) refl (row_named P rows name all.1)
   where

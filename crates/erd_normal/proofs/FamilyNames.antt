@@ -1,5 +1,5 @@
 -- The names of the members that hold objects: what stands there is the array of the objects of the family.
-use Rattle.std.proofs.Common.{◌≡◌, ℕ, List, Option, Some, None, map, Bool, true, false, codes, refl, sym, ap, ◌∙◌, subst}
+use Rattle.std.proofs.Common.{◌≡◌, ℕ, List, Some, map, Bool, true, false, codes, refl, sym, ap, ◌∙◌, subst}
 use Rattle.std.specs.List.{list_all}
 use Rattle.std.specs.Str.{bytes_eq}
 use Rattle.serde_json.specs.Data.{Data}

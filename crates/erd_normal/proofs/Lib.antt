@@ -82,3 +82,6 @@ pub mod MeantKinds
 pub mod FoundBuilt
 pub mod MeantObjects
 pub mod MeantReports
+pub mod ThroughoutObjects
+pub mod ThroughoutReports
+pub mod NoEmptyArrays

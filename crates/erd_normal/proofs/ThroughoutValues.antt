@@ -1,12 +1,12 @@
 -- What holds of all that is asked inside a value, and of all that is asked inside what is built of a value without objects.
-use Rattle.std.proofs.Common.{◌≡◌, ◌⊎◌, inl, inr, ℕ, zero, suc, List, [], ◌∷◌, map, Option, Some, None, option_and_then, option_map, Bool, true, false, ◌&&◌, ◌||◌, if◌then◌else◌, codes, refl, sym, ap, ◌∙◌, subst}
+use Rattle.std.proofs.Common.{◌≡◌, ◌⊎◌, inl, inr, ℕ, List, [], ◌∷◌, Option, Some, None, option_and_then, option_map, Bool, true, false, ◌&&◌, ◌||◌, if◌then◌else◌, codes, refl, sym, ap, ◌∙◌, subst}
 use Rattle.std.specs.List.{AllByRecursion}
 use Rattle.std.specs.Str.{bytes_eq}
 use Rattle.serde_json.specs.Data.{Data, string, array, object, Items, Members, no_members}
-use Rattle.serde_json.specs.Find.{get, get_item, get_member}
+use Rattle.serde_json.specs.Find.{get_item, get_member}
 use Rattle.serde_json.specs.View.{items_of}
 use Rattle.erd_tables.specs.Classes.{role_of_class}
-use Rattle.erd_tables.specs.Table.{is_reference_name, kind_of_identity, kind_of_member}
+use Rattle.erd_tables.specs.Table.{is_reference_name, kind_of_member}
 use Rattle.erd_tables.specs.declared.class.Class.{Class}
 use Rattle.erd_tables.specs.declared.class.Class.TheVariants as class
 use Rattle.erd_tables.specs.declared.class.Role.{Role}
@@ -15,12 +15,11 @@ use Rattle.erd_tables.specs.declared.member.MemberKind.{MemberKind}
 use Rattle.erd_tables.specs.declared.member.MemberKind.TheVariants as kind
 use Rattle.erd_tables.specs.declared.place.Step.{Step}
 use Rattle.erd_tables.specs.declared.place.Step.TheVariants.{Name, At}
-use Rattle.erd_check.specs.Faults.{NoneOf, ShapeFault}
 use Rattle.erd_check.specs.Wants.{Asked, asked, asked_from, asked_inside, asked_of_entry, asked_of_member, class_of_object, entry_want, is_compared_set, is_repeated, member_want, scope_inside, want_of_kind, want_of_name}
 use Rattle.erd_check.specs.declared.want.Want.{Want}
 use Rattle.erd_check.specs.declared.want.Want.TheVariants.{Object, ClassText, Reference, Status, Member, Carried}
 use Rattle.erd_check.proofs.Shapes.{Within, Within-step}
-use Rattle.erd_check.proofs.TableKinds.{kind_of_class, want_unless_status}
+use Rattle.erd_check.proofs.TableKinds.{kind_of_class}
 use Rattle.erd_normal.proofs.CleanValues.{entry_holds}
 use Rattle.erd_normal.proofs.NormalGets.{class_has_role}
 
@@ -78,7 +77,6 @@ throughout_list P w v es want apart here all =
 
 -- a member of this kind stays as it is, with all that is inside it
 abbrev pub is_apart_kind : MemberKind → Bool
-is_apart_kind kind.ClassText = true
 is_apart_kind kind.Identity = true
 is_apart_kind kind.Word = true
 is_apart_kind kind.Flag = true
@@ -86,7 +84,6 @@ is_apart_kind kind.Whole = true
 is_apart_kind kind.StrangeReference = true
 is_apart_kind kind.StrangeIdentity = true
 is_apart_kind kind.Carried = true
-is_apart_kind kind.Outside = true
 is_apart_kind k = false
 
 -- so do external identifiers and translations
@@ -101,6 +98,7 @@ is_apart (Object r) = is_apart_role r
 is_apart (ClassText r) = true
 is_apart (Reference f) = false
 is_apart Status = true
+is_apart (Member kind.Carried required) = false
 is_apart (Member k required) = is_apart_kind k
 is_apart Carried = true
 
