@@ -85,3 +85,8 @@ pub mod MeantReports
 pub mod ThroughoutObjects
 pub mod ThroughoutReports
 pub mod NoEmptyArrays
+pub mod SetsInOrder
+pub mod ReferencesBuilt
+pub mod ReferenceLists
+pub mod NoReferenceFaults
+pub mod NormalCanonical
