@@ -1,5 +1,5 @@
 -- The report that is built has no fault of references.
-use Rattle.std.proofs.Common.{◌≡◌, ℕ, zero, suc, List, [], ◌∷◌, ◌++◌, Option, Some, None, option_and_then, option_map, Bool, true, false, ◌&&◌, codes, true≢false, refl, sym, ap, ◌∙◌, subst}
+use Rattle.std.proofs.Common.{◌≡◌, ℕ, zero, suc, List, [], ◌∷◌, ◌++◌, Option, Some, None, option_and_then, option_map, Bool, true, false, ◌&&◌, true≢false, refl, sym, ap, ◌∙◌, subst}
 use Rattle.std.specs.List.{AllByRecursion}
 use Rattle.std.specs.Option.{option_map_or}
 use Rattle.std.specs.Prelude.{IsSomeAnd, IsTrue}
@@ -17,7 +17,7 @@ use Rattle.erd_tables.specs.declared.member.MemberKind.TheVariants as kind
 use Rattle.erd_tables.specs.declared.place.Step.{Step}
 use Rattle.erd_tables.specs.declared.place.Step.TheVariants.{Name, At}
 use Rattle.erd_check.specs.declared.want.Want.{Want}
-use Rattle.erd_check.specs.declared.want.Want.TheVariants.{Object, ClassText, Reference, Status, Member, Carried}
+use Rattle.erd_check.specs.declared.want.Want.TheVariants.{Object, Reference, Member, Carried}
 use Rattle.erd_check.specs.Faults.{NoneOf}
 use Rattle.erd_check.specs.Trees.{IsTree, entries_of, list_of_items}
 use Rattle.erd_check.specs.Wants.{Asked, asked, asked_at, asked_from, asked_inside, asked_of_member, class_of_object, entry_want, is_compared_set, is_repeated, member_want, scope_inside, want_of_name}
@@ -34,7 +34,7 @@ use Rattle.erd_normal.proofs.ReferencesBuilt.{references_sound}
 use Rattle.erd_normal.proofs.ThroughoutMembers.{HoldsOfMembers}
 use Rattle.erd_normal.proofs.ThroughoutObjects.{HoldsOfObjects}
 use Rattle.erd_normal.proofs.ThroughoutReports.{HoldsOfBuilt, holds_of_built}
-use Rattle.erd_normal.proofs.ThroughoutValues.{is_apart, is_apart_role}
+use Rattle.erd_normal.proofs.ThroughoutValues.{is_apart}
 
 -- ---- the lists of a report
 

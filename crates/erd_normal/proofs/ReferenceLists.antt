@@ -1,11 +1,9 @@
 -- Each entry of an object's list in the report that is built is a selection of the contest that the object names.
-use Rattle.std.proofs.Common.{◌≡◌, ℕ, zero, suc, List, [], ◌∷◌, ◌++◌, map, Option, Some, None, option_and_then, unwrap_or, is_some, Bool, true, false, not, ◌&&◌, codes, refl, sym, ap, ◌∙◌, subst}
+use Rattle.std.proofs.Common.{◌≡◌, ℕ, List, [], ◌∷◌, ◌++◌, map, Option, Some, None, option_and_then, unwrap_or, is_some, true, false, not, ◌&&◌, codes, refl, sym, ap, ◌∙◌, subst}
 use Rattle.std.specs.List.{AllByRecursion}
 use Rattle.std.specs.Option.{option_map_or}
-use Rattle.serde_json.specs.Data.{Data, string, array, object, Items, Members}
-use Rattle.serde_json.specs.Find.{as_str, get, get_item, get_member}
-use Rattle.erd_tables.specs.Table.{kind_of_member}
-use Rattle.erd_tables.specs.declared.class.Class.{Class}
+use Rattle.serde_json.specs.Data.{Data, array, object, Items, Members}
+use Rattle.serde_json.specs.Find.{as_str, get_item, get_member}
 use Rattle.erd_tables.specs.declared.class.Class.TheVariants as class
 use Rattle.erd_tables.specs.declared.class.Family.TheVariants as family
 use Rattle.erd_tables.specs.declared.class.Role.TheVariants as role
@@ -13,16 +11,15 @@ use Rattle.erd_tables.specs.declared.member.MemberKind.TheVariants as kind
 use Rattle.erd_tables.specs.declared.place.Step.{Step}
 use Rattle.erd_tables.specs.declared.place.Step.TheVariants.{Name, At}
 use Rattle.erd_check.specs.declared.want.Want.TheVariants.{Member, Object, Reference}
-use Rattle.erd_check.specs.Trees.{IsTree, entries_of, list_of_items}
+use Rattle.erd_check.specs.Trees.{IsTree, list_of_items}
 use Rattle.erd_check.specs.Wants.{Asked, asked, asked_at, asked_inside}
 use Rattle.erd_check.proofs.Entries.{array_from}
 use Rattle.erd_check.proofs.ObjectsAt.{ObjectIn, object_in}
-use Rattle.erd_check.proofs.Rising.{Has}
 use Rattle.erd_check.proofs.Shapes.{Within, Within-step, asked_at-steps, asked_inside_object, lacks_none, of_role, wanted_within, within-tree}
 use Rattle.erd_meaning.specs.Accepted.{IsAccepted}
 use Rattle.erd_meaning.specs.Keys.{entries_at, text_at}
-use Rattle.erd_meaning.specs.LaterFaults.{is_in_other_contest, is_other_selection, is_selection_in}
-use Rattle.erd_meaning.specs.Objects.{objects, owner}
+use Rattle.erd_meaning.specs.LaterFaults.{is_other_selection, is_selection_in}
+use Rattle.erd_meaning.specs.Objects.{owner}
 use Rattle.erd_meaning.specs.Records.{class_of_node}
 use Rattle.erd_meaning.proofs.Phases.{no_shape_fault}
 use Rattle.erd_meaning.proofs.References.{selected}
@@ -36,13 +33,11 @@ use Rattle.erd_normal.proofs.NormalEntries.{entries_built}
 use Rattle.erd_normal.proofs.NormalGets.{class_of_built_node, get_node}
 use Rattle.erd_normal.proofs.NormalNames.{Refers, reference_refers}
 use Rattle.erd_normal.proofs.NormalOwners.{owner_built}
+use Rattle.erd_normal.proofs.ReferencesBuilt.{and_no}
 
+-- the name of the list of an object of the class OrderedContest
 abbrev pub list_name : List ℕ
 list_name = codes "OrderedContestSelectionIds"
-
-and_no : (b : Bool) → b && false ≡ false
-and_no true = refl
-and_no false = refl
 
 -- the entries of the list of an object that names one contest are selections of it
 abbrev pub IsListSound : Data → Data → Type 0
@@ -82,9 +77,13 @@ module _ (t : Data) (accepted : IsAccepted t) (tree : IsTree t) (bounded : IsBou
         ap (owner u family.Contest) built_text
         ∙ owner_built t accepted tree family.Contest refl (bounded.few family.Contest) (codes "co") contest_named.2.0 contest_named.2.2.0 refl contest_named.2.2.1
 
-    -- a reference of the list names a selection of the contest
+    -- a reference names a selection of the contest
+    abbrev IsChosen : Data → Type 0
+    IsChosen e = Refers t family.Selection e × (is_selection_in contest_named.2.2.0 (text_of e) ≡ true)
+
+    -- so does each reference of the list
     entry_in : (i : ℕ) (ds : Items) (e : Data) → get_member list_name ms ≡ Some (array ds) → get_item i ds ≡ Some e
-        → Refers t family.Selection e × (is_selection_in contest_named.2.2.0 (text_of e) ≡ true)
+        → IsChosen e
     entry_in i ds e stands found =
         let list : Asked = asked (Member kind.Ordered false) (array ds) in
         let first : asked_inside (Object role.Content) (object ms) (Name list_name) ≡ Some list =
@@ -102,7 +101,7 @@ module _ (t : Data) (accepted : IsAccepted t) (tree : IsTree t) (bounded : IsBou
         (r, ap (λ x. is_selection_in contest_named.2.2.0 (text_of x)) r.1 ∙ chosen)
 
     -- what is built of it names a selection of the contest that is built
-    entry_sound : (e : Data) → Refers t family.Selection e × (is_selection_in contest_named.2.2.0 (text_of e) ≡ true)
+    entry_sound : (e : Data) → IsChosen e
         → is_other_selection u (normal_node t (object ms)) (Reference family.Selection) (normal_selection_reference t e) ≡ false
     entry_sound e h =
         let o = owned_by t family.Contest contest_named.2.0 contest_named.2.2.0 contest_named.2.2.1 in
@@ -114,10 +113,7 @@ module _ (t : Data) (accepted : IsAccepted t) (tree : IsTree t) (bounded : IsBou
         ap (λ x. is_some (owner u family.Selection id) && option_map_or (λ contest. not (is_selection_in contest id)) x false) built_contest
         ∙ ap (λ b. is_some (owner u family.Selection id) && not b) inside ∙ and_no (is_some (owner u family.Selection id))
 
-    abbrev IsChosen : Data → Type 0
-    IsChosen e = Refers t family.Selection e × (is_selection_in contest_named.2.2.0 (text_of e) ≡ true)
-
-    entries_sound : AllByRecursion (λ e. Refers t family.Selection e × (is_selection_in contest_named.2.2.0 (text_of e) ≡ true)) (entries_at list_name (object ms))
+    entries_sound : AllByRecursion IsChosen (entries_at list_name (object ms))
     entries_sound = at (get_member list_name ms) refl
       where
         at : (o : Option Data) → get_member list_name ms ≡ o → AllByRecursion IsChosen (entries_at list_name (object ms))
@@ -136,7 +132,7 @@ module _ (t : Data) (accepted : IsAccepted t) (tree : IsTree t) (bounded : IsBou
     list_sound_here : IsListSound u (normal_node t (object ms))
     list_sound_here =
         subst (AllByRecursion (λ e. is_other_selection u (normal_node t (object ms)) (Reference family.Selection) e ≡ false)) (sym list_built)
-        (all_map (λ e. Refers t family.Selection e × (is_selection_in contest_named.2.2.0 (text_of e) ≡ true))
+        (all_map IsChosen
         (λ e. is_other_selection u (normal_node t (object ms)) (Reference family.Selection) e ≡ false) (normal_selection_reference t) (entries_at list_name (object ms)) entry_sound entries_sound)
 
   -- the list of what is built of an object

@@ -1,15 +1,13 @@
 -- Each reference in the report that is built names an object of its family, and repeats none of its set.
-use Rattle.std.proofs.Common.{◌≡◌, ℕ, List, [], ◌∷◌, map, Ordering, Less, Equal, Option, Some, None, option_and_then, is_some, is_none, Bool, true, false, not, ◌&&◌, true≢false, refl, sym, ap, ap₂, ◌∙◌, subst}
+use Rattle.std.proofs.Common.{◌≡◌, ℕ, List, [], ◌∷◌, map, Less, Equal, Option, Some, is_some, is_none, Bool, true, false, not, ◌&&◌, refl, sym, ap, ◌∙◌, subst}
 use Rattle.std.proofs.lemmas.Cmp.{tied_itself}
-use Rattle.std.specs.Cmp.{IsTotalOrder}
 use Rattle.std.specs.Cmp.Lexicographic.{options_total}
-use Rattle.std.specs.List.{AllByRecursion, IsDistinct, list_any}
+use Rattle.std.specs.List.{AllByRecursion, IsDistinct}
 use Rattle.std.specs.List.Sorted.{IsStrictlySortedBy}
-use Rattle.std.specs.Option.{option_cmp, option_map_or}
-use Rattle.std.specs.Prelude.{IsSomeAnd, IsTrue}
+use Rattle.std.specs.Option.{option_cmp}
 use Rattle.std.specs.Str.{bytes_eq}
 use Rattle.serde_json.specs.Data.{Data, string, array}
-use Rattle.serde_json.specs.Find.{as_str, get_item}
+use Rattle.serde_json.specs.Find.{get_item}
 use Rattle.serde_json.specs.View.{items_of}
 use Rattle.erd_tables.specs.Classes.{families}
 use Rattle.erd_tables.specs.declared.class.Family.{Family}
@@ -28,7 +26,7 @@ use Rattle.erd_check.proofs.Exact.{text_exact}
 use Rattle.erd_check.proofs.Rising.{Has, here, later}
 use Rattle.erd_check.proofs.Shapes.{Within, false_unless, wanted_within}
 use Rattle.erd_meaning.specs.Accepted.{IsAccepted}
-use Rattle.erd_meaning.specs.Keys.{has_keys, key_cmp}
+use Rattle.erd_meaning.specs.Keys.{key_cmp}
 use Rattle.erd_meaning.specs.LaterFaults.{is_reference_fault}
 use Rattle.erd_meaning.specs.Objects.{is_owned, owner}
 use Rattle.erd_meaning.specs.Orders.{key_cmp_total}
@@ -36,7 +34,7 @@ use Rattle.erd_meaning.specs.SelectionNames.{key_named, rising_list}
 use Rattle.erd_meaning.specs.declared.key.Key.{Key}
 use Rattle.erd_meaning.proofs.Phases.{no_shape_fault}
 use Rattle.erd_meaning.proofs.Sets.{any-has}
-use Rattle.erd_normal.specs.Canonical.{id_prefix, keys_referred}
+use Rattle.erd_normal.specs.Canonical.{keys_referred}
 use Rattle.erd_normal.specs.NormalTree.{normal_id, normal_reference, normal_selection_reference, normal_tree, reference_cmp, text_of}
 use Rattle.erd_normal.proofs.Bounds.{IsBounded}
 use Rattle.erd_normal.proofs.BuiltLists.{all_map, all_rising}
@@ -57,7 +55,8 @@ use Rattle.erd_normal.proofs.ThroughoutValues.{is_apart}
 pub record IsSoundIn (u : Data) (a : Asked) : Type 0 where
   pub sound : (r : Reason) → is_reference_fault u a r ≡ false
 
-and_no : (b : Bool) → b && false ≡ false
+-- the second of two tests fails
+pub and_no : (b : Bool) → b && false ≡ false
 and_no true = refl
 and_no false = refl
 

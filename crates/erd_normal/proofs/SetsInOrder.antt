@@ -1,11 +1,10 @@
 -- Each set of the table rises in the report that is built.
-use Rattle.std.proofs.Common.{◌≡◌, ℕ, List, [], ◌∷◌, map, Option, Some, None, option_and_then, is_some, Bool, true, false, codes, refl, sym, ap, ap₂, ◌∙◌, subst}
+use Rattle.std.proofs.Common.{◌≡◌, ℕ, List, [], ◌∷◌, map, Option, Some, None, option_and_then, is_some, Bool, true, codes, refl, sym, ap, ap₂, ◌∙◌, subst}
 use Rattle.std.specs.List.{AllByRecursion}
 use Rattle.std.specs.List.Sorted.{IsStrictlySortedBy}
 use Rattle.std.specs.Option.{option_cmp, option_map_or}
 use Rattle.serde_json.specs.Data.{Data, array}
 use Rattle.serde_json.specs.Find.{as_str, get}
-use Rattle.serde_json.specs.View.{items_of}
 use Rattle.erd_tables.specs.declared.class.Family.{Family}
 use Rattle.erd_tables.specs.declared.class.Family.TheVariants as family
 use Rattle.erd_tables.specs.declared.class.Role.TheVariants as role
@@ -20,7 +19,7 @@ use Rattle.erd_check.proofs.Entries.{array_from}
 use Rattle.erd_check.proofs.Rising.{Has}
 use Rattle.erd_check.proofs.Shapes.{Within, wanted_within, within-tree}
 use Rattle.erd_meaning.specs.Accepted.{IsAccepted}
-use Rattle.erd_meaning.specs.Keys.{entries_at, has_keys, key_cmp, key_of}
+use Rattle.erd_meaning.specs.Keys.{entries_at, has_keys, key_cmp}
 use Rattle.erd_meaning.specs.Objects.{Placed, objects}
 use Rattle.erd_meaning.specs.SelectionNames.{compact_cmp, key_named, name_cmp, name_of, rising_list, selection_role}
 use Rattle.erd_meaning.proofs.Phases.{no_shape_fault}
