@@ -95,3 +95,8 @@ pub mod KeyPositions
 pub mod Numbered
 pub mod FamilyNumbers
 pub mod References
+pub mod SetsInOrder
+pub mod ReferencesBuilt
+pub mod ReferenceLists
+pub mod NoReferenceFaults
+pub mod NormalCanonical

@@ -93,9 +93,9 @@ module _ (t : Data) (clean : NoneOf (ShapeFault t)) (tree : IsTree t) where
     kept = kept_full;
     class_text = λ r text. full_value _ refl;
     label = λ required d w. full_value _ (label_full required d w);
-    one = λ f d w. full_value _ refl;
-    many = λ f required d w full. full_value _ (full_list d (normal_reference t f) (rising_list (reference_cmp t f)) (length-rising (reference_cmp t f)) (wanted_within t clean (asked (Member (kind.Many f) required) d) w) full);
-    many_entry = λ f required d w i e found. record { full = λ k h. cc };
+    one = λ f named d w. full_value _ refl;
+    many = λ f named required d w full. full_value _ (full_list d (normal_reference t f) (rising_list (reference_cmp t f)) (length-rising (reference_cmp t f)) (wanted_within t clean (asked (Member (kind.Many f) required) d) w) full);
+    many_entry = λ f named required d w i e found. record { full = λ k h. cc };
     identifiers = λ required d w full. full_value _ (as_empty d (rising_list compact_cmp (entries_of d)) (wanted_within t clean (asked (Member kind.Identifiers required) d) w) (length-rising compact_cmp (entries_of d)) ∙ full);
     languages = λ required d w full. full_value _ (as_empty d (rising_list compact_cmp (entries_of d)) (wanted_within t clean (asked (Member kind.Languages required) d) w) (length-rising compact_cmp (entries_of d)) ∙ full);
     ordered = λ required d w full. full_value _ (full_list d (normal_selection_reference t) (λ xs. xs) (λ xs. refl) (wanted_within t clean (asked (Member kind.Ordered required) d) w) full);
@@ -108,7 +108,7 @@ module _ (t : Data) (clean : NoneOf (ShapeFault t)) (tree : IsTree t) where
     identity = λ required id. full_value _ refl;
     content = λ required d w full. full_value _ (full_content t d full);
     node = λ d w. record { full = λ k e. cc };
-    selections = λ contest required d of stands w full. full_value _ (full_list d (normal_selection t contest) (rising_list (by_name t)) (length-rising (by_name t)) (wanted_within t clean (asked _ d) w) full);
+    selections = λ contest required d of stands w full. full_value _ (full_list d (normal_selection t contest.value) (rising_list (by_name t)) (length-rising (by_name t)) (wanted_within t clean (asked _ d) w) full);
     selection = λ contest d w. record { full = λ k e. cc };
     object = λ f d w. record { full = λ k e. cc };
   }
@@ -118,7 +118,7 @@ module _ (t : Data) (clean : NoneOf (ShapeFault t)) (tree : IsTree t) where
     parts = objects;
     word = λ required text. full_value _ refl;
     whole = λ required n. full_value _ refl;
-    keyed = λ f required d w all full. full_value _ (full_list d (normal_object t f) (rising_list by_key) (length-rising by_key) (wanted_within t clean (asked (Member (kind.Keyed f) required) d) w) full);
+    keyed = λ f keyed required d w all full. full_value _ (full_list d (normal_object t f) (rising_list by_key) (length-rising by_key) (wanted_within t clean (asked (Member (kind.Keyed f) required) d) w) full);
     elections = λ required d w.
         full_value _
         (full_one (array_of (map (normal_election t) (entries_of d)))

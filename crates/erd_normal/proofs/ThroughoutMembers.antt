@@ -1,5 +1,5 @@
 -- What holds of all that is asked inside what is built of a member without objects.
-use Rattle.std.proofs.Common.{◌≡◌, inl, inr, ℕ, List, [], ◌∷◌, map, Some, option_and_then, Bool, true, false, codes, refl, sym, ap, ◌∙◌, subst}
+use Rattle.std.proofs.Common.{◌≡◌, inl, inr, ℕ, List, [], ◌∷◌, map, Some, option_and_then, is_some, Bool, true, false, codes, refl, sym, ap, ◌∙◌, subst}
 use Rattle.std.specs.List.{AllByRecursion}
 use Rattle.std.specs.Str.{bytes_eq}
 use Rattle.serde_json.specs.Data.{Data, string, array, object, Items}
@@ -25,6 +25,7 @@ use Rattle.erd_check.proofs.Exact.{text_exact}
 use Rattle.erd_check.proofs.Shapes.{Classed, Within, classed, faultless, member_within, of_label, wanted_within}
 use Rattle.erd_check.proofs.TableKinds.{kind_of_unlisted_has}
 use Rattle.erd_meaning.specs.SelectionNames.{compact_cmp, rising_list, with_rising_text}
+use Rattle.erd_normal.specs.Canonical.{id_prefix}
 use Rattle.erd_normal.specs.NormalTree.{array_of, normal_id, normal_reference, normal_selection_reference, normal_value, reference_cmp, text_of}
 use Rattle.erd_normal.proofs.AskedMembers.{entries_asked, label_texts}
 use Rattle.erd_normal.proofs.BuiltLists.{all_map}
@@ -39,15 +40,19 @@ use Rattle.erd_normal.proofs.ThroughoutValues.{Throughout, apart_by_kind, is_apa
 abbrev pub built_references : Data → Family → Data → List Data
 built_references t f d = map (normal_reference t f) (rising_list (reference_cmp t f) (entries_of d))
 
+-- a family whose objects have `@id` texts by their ranks alone
+abbrev pub is_prefixed : Family → Bool
+is_prefixed f = is_some (id_prefix f)
+
 -- what has to hold for what is built of the members without objects, each by the value that it is built of
 pub record HoldsOfMembers (t : Data) (P : Asked → Type 0) : Type 0 where
   pub kept : (a : Asked) → Within t a → is_apart a.want ≡ true → P a
   pub class_text : (r : Role) (s : List ℕ) → P (asked (ClassText r) (string s))
   pub label : (required : Bool) (d : Data) → Within t (asked (Member kind.Label required) d) → P (asked (Member kind.Label required) (with_rising_text d))
-  pub one : (f : Family) (d : Data) → Within t (asked (Reference f) d) → P (asked (Reference f) (normal_reference t f d))
-  pub many : (f : Family) (required : Bool) (d : Data) → Within t (asked (Member (kind.Many f) required) d) → is_empty_array d ≡ false
+  pub one : (f : Family) → is_prefixed f ≡ true → (d : Data) → Within t (asked (Reference f) d) → P (asked (Reference f) (normal_reference t f d))
+  pub many : (f : Family) → is_prefixed f ≡ true → (required : Bool) (d : Data) → Within t (asked (Member (kind.Many f) required) d) → is_empty_array d ≡ false
       → P (asked (Member (kind.Many f) required) (array_of (built_references t f d)))
-  pub many_entry : (f : Family) (required : Bool) (d : Data) → Within t (asked (Member (kind.Many f) required) d) → (i : ℕ) (e : Data) → get_item i (items_of (built_references t f d)) ≡ Some e
+  pub many_entry : (f : Family) → is_prefixed f ≡ true → (required : Bool) (d : Data) → Within t (asked (Member (kind.Many f) required) d) → (i : ℕ) (e : Data) → get_item i (items_of (built_references t f d)) ≡ Some e
       → P (record { want = Reference f; value = e; repeated = is_repeated (items_of (built_references t f d)) i e })
   pub identifiers : (required : Bool) (d : Data) → Within t (asked (Member kind.Identifiers required) d) → is_empty_array d ≡ false
       → P (asked (Member kind.Identifiers required) (array_of (rising_list compact_cmp (entries_of d))))
@@ -57,9 +62,11 @@ pub record HoldsOfMembers (t : Data) (P : Asked → Type 0) : Type 0 where
       → P (asked (Member kind.Ordered required) (array_of (map (normal_selection_reference t) (entries_of d))))
   pub ordered_entry : (e : Data) → Within t (asked (Reference family.Selection) e) → P (asked (Reference family.Selection) (normal_selection_reference t e))
 
--- a kind of member, but for `@type`, that holds no objects
+-- a kind of member, but for `@type`, that holds no objects and refers to none by itself that has no prefix
 abbrev pub is_plain_kind : MemberKind → Bool
 is_plain_kind kind.ClassText = false
+is_plain_kind (kind.One f) = is_prefixed f
+is_plain_kind (kind.Many f) = is_prefixed f
 is_plain_kind (kind.Keyed f) = false
 is_plain_kind kind.Elections = false
 is_plain_kind kind.Content = false
@@ -91,13 +98,13 @@ module _ (t : Data) (clean : NoneOf (ShapeFault t)) (tree : IsTree t) (P : Asked
 
   -- ---- sets
 
-  references : (f : Family) (required : Bool) (d : Data) → is_empty_array d ≡ false → Within t (asked (Member (kind.Many f) required) d)
+  references : (f : Family) → is_prefixed f ≡ true → (required : Bool) (d : Data) → is_empty_array d ≡ false → Within t (asked (Member (kind.Many f) required) d)
       → Throughout P (asked (Member (kind.Many f) required) (array_of (built_references t f d)))
-  references f required d filled w =
-      throughout_array P (Member (kind.Many f) required) (Reference f) (items_of (built_references t f d)) refl (holds.many f required d w filled)
+  references f named required d filled w =
+      throughout_array P (Member (kind.Many f) required) (Reference f) (items_of (built_references t f d)) refl (holds.many f named required d w filled)
       (λ i e found.
       let text = entry_holds (λ x. (s : List ℕ) × (x ≡ string s)) (built_references t f d) i e (texts (rising_list (reference_cmp t f) (entries_of d))) found in
-      at i e text.0 text.1 (holds.many_entry f required d w i e found))
+      at i e text.0 text.1 (holds.many_entry f named required d w i e found))
     where
       texts : (ds : List Data) → AllByRecursion (λ x. (s : List ℕ) × (x ≡ string s)) (map (normal_reference t f) ds)
       texts [] = tt
@@ -196,10 +203,10 @@ module _ (t : Data) (clean : NoneOf (ShapeFault t)) (tree : IsTree t) (P : Asked
   throughout_value kind.Label required d v plain w given = let same : with_rising_text d ≡ v = cc in subst (λ x. Throughout P (asked (Member kind.Label required) x)) same (label required d w)
   throughout_value (kind.One f) required d v plain w given =
       let same : normal_reference t f d ≡ v = cc in
-      subst (λ x. Throughout P (asked (Reference f) x)) same (throughout_text P (Reference f) (normal_id t f (text_of d)) false (holds.one f d w))
+      subst (λ x. Throughout P (asked (Reference f) x)) same (throughout_text P (Reference f) (normal_id t f (text_of d)) false (holds.one f plain d w))
   throughout_value (kind.Many f) required d v plain w given =
       let parts = given_unless d (array_of (built_references t f d)) v given in
-      subst (λ x. Throughout P (asked (Member (kind.Many f) required) x)) parts.1 (references f required d parts.0 w)
+      subst (λ x. Throughout P (asked (Member (kind.Many f) required) x)) parts.1 (references f plain required d parts.0 w)
   throughout_value kind.Identifiers required d v plain w given =
       let parts = given_unless d (array_of (rising_list compact_cmp (entries_of d))) v given in
       subst (λ x. Throughout P (asked (Member kind.Identifiers required) x)) parts.1 (identifiers required d parts.0 w)

@@ -23,8 +23,10 @@ use Rattle.erd_check.specs.declared.want.Want.{Want}
 use Rattle.erd_check.specs.declared.want.Want.TheVariants.{Member, Object, Status}
 use Rattle.erd_check.proofs.Exact.{text_exact}
 use Rattle.erd_check.proofs.ObjectsAt.{ObjectAt, ObjectIn, object_in}
+use Rattle.erd_check.proofs.Rising.{Has, all-Has}
 use Rattle.erd_check.proofs.Shapes.{Within, wanted_within}
 use Rattle.erd_check.proofs.TableKinds.{kind_of_class, want_by_kind}
+use Rattle.erd_meaning.specs.Objects.{Placed, objects}
 use Rattle.erd_meaning.specs.SelectionNames.{rising_list, selection_role}
 use Rattle.erd_normal.specs.NormalTree.{array_of, by_key, by_name, id_of_selection, normal_content, normal_node, normal_node_value, normal_nodes, normal_object, normal_object_value, normal_objects, normal_selection, normal_value}
 use Rattle.erd_normal.proofs.AskedMembers.{entries_asked, entry_asked}
@@ -34,7 +36,9 @@ use Rattle.erd_normal.proofs.BuiltObjects.{built_node, built_object, built_selec
 use Rattle.erd_normal.proofs.CleanSets.{given_unless}
 use Rattle.erd_normal.proofs.FamilyNames.{contest_of_selections, family_name, keyed_name}
 use Rattle.erd_normal.proofs.NormalGets.{kind_of_family_id}
-use Rattle.erd_normal.proofs.ThroughoutMembers.{HoldsOfMembers, is_plain_kind, throughout_type, throughout_value}
+use Rattle.erd_normal.proofs.Positions.{map_has}
+use Rattle.erd_normal.proofs.RisingLists.{all_by_entry}
+use Rattle.erd_normal.proofs.ThroughoutMembers.{HoldsOfMembers, is_plain_kind, is_prefixed, throughout_type, throughout_value}
 use Rattle.erd_normal.proofs.ThroughoutValues.{Throughout, throughout_array, throughout_by_steps, throughout_kept, throughout_list, throughout_text}
 
 -- what has to hold for what is built of objects below the election and the report, each by the value that it is built of
@@ -43,9 +47,9 @@ pub record HoldsOfObjects (t : Data) (P : Asked → Type 0) : Type 0 where
   pub identity : (required : Bool) (id : List ℕ) → P (asked (Member kind.Identity required) (string id))
   pub content : (required : Bool) (d : Data) → Within t (asked (Member kind.Content required) d) → is_empty_array d ≡ false → P (asked (Member kind.Content required) (normal_content t d))
   pub node : (d : Data) → Within t (asked (Object role.Content) d) → P (asked (Object role.Content) (normal_node t d))
-  pub selections : (contest : Data) (required : Bool) (d : Data) → Within t (asked (Object (role.OfFamily family.Contest)) contest) → get (codes "ContestSelection") contest ≡ Some d
+  pub selections : (contest : Placed) (required : Bool) (d : Data) → Has (objects family.Contest t) contest → get (codes "ContestSelection") contest.value ≡ Some d
       → Within t (asked (Member (kind.Keyed family.Selection) required) d) → is_empty_array d ≡ false
-      → P (asked (Member (kind.Keyed family.Selection) required) (array_of (map (normal_selection t contest) (rising_list (by_name t) (entries_of d)))))
+      → P (asked (Member (kind.Keyed family.Selection) required) (array_of (map (normal_selection t contest.value) (rising_list (by_name t) (entries_of d)))))
   pub selection : (contest d : Data) → Within t (asked (Object selection_role) d) → P (asked (Object selection_role) (normal_selection t contest d))
   pub object : (f : Family) (d : Data) → Within t (asked (Object (role.OfFamily f)) d) → P (asked (Object (role.OfFamily f)) (normal_object t f d))
 
@@ -54,6 +58,8 @@ pub record HoldsOfObjects (t : Data) (P : Asked → Type 0) : Type 0 where
 -- a member of a contest or a header of a ballot
 abbrev is_node_kind : MemberKind → Bool
 is_node_kind kind.ClassText = false
+is_node_kind (kind.One f) = is_prefixed f
+is_node_kind (kind.Many f) = is_prefixed f
 is_node_kind (kind.Keyed f) = false
 is_node_kind kind.Elections = false
 is_node_kind k = true
@@ -61,6 +67,8 @@ is_node_kind k = true
 -- a member of an object of a family
 abbrev is_object_kind : MemberKind → Bool
 is_object_kind kind.ClassText = false
+is_object_kind (kind.One f) = is_prefixed f
+is_object_kind (kind.Many f) = is_prefixed f
 is_object_kind (kind.Keyed family.Selection) = true
 is_object_kind (kind.Keyed f) = false
 is_object_kind kind.Elections = false
@@ -116,12 +124,14 @@ module _ (t : Data) (clean : NoneOf (ShapeFault t)) (tree : IsTree t) (P : Asked
   -- an array of what is built of the entries of an array, after they are put in order
   pub throughout_built_list : (w v : Want) (d : Data) → is_array d ≡ true → entry_want w ≡ Some v → is_compared_set w ≡ false → Within t (asked w d)
       → (arrange : List Data → List Data) → ((Q : Data → Type 0) (xs : List Data) → AllByRecursion Q xs → AllByRecursion Q (arrange xs))
-      → (f : Data → Data) → ((e : Data) → Within t (asked v e) → Throughout P (asked v (f e))) → P (asked w (array_of (map f (arrange (entries_of d)))))
+      → (f : Data → Data) → ((e : Data) → Within t (asked v e) → Has (entries_of d) e → Throughout P (asked v (f e))) → P (asked w (array_of (map f (arrange (entries_of d)))))
       → Throughout P (asked w (array_of (map f (arrange (entries_of d)))))
   throughout_built_list w v (array ds) is want apart inside arrange keeps f each here =
       throughout_list P w v (map f (arrange (list_of_items ds))) want apart here
-      (all_map (λ e. Within t (asked v e)) (λ e. Throughout P (asked v e)) f (arrange (list_of_items ds)) each
-      (keeps (λ e. Within t (asked v e)) (list_of_items ds) (entries_asked t w v ds want apart inside)))
+      (all_map (λ e. Within t (asked v e) × Has (list_of_items ds) e) (λ e. Throughout P (asked v e)) f (arrange (list_of_items ds)) (λ e both. each e both.0 both.1)
+      (keeps (λ e. Within t (asked v e) × Has (list_of_items ds) e) (list_of_items ds)
+      (all_by_entry (λ e. Within t (asked v e) × Has (list_of_items ds) e) (list_of_items ds)
+      (λ e h. (all-Has (λ x. Within t (asked v x)) (list_of_items ds) e (entries_asked t w v ds want apart inside) h, h)))))
   throughout_built_list w v _ is want apart inside arrange keeps f each here = cc
 
 module _ (t : Data) (clean : NoneOf (ShapeFault t)) (tree : IsTree t) (P : Asked → Type 0) (holds : HoldsOfObjects t P) where
@@ -208,19 +218,19 @@ module _ (t : Data) (clean : NoneOf (ShapeFault t)) (tree : IsTree t) (P : Asked
 
   -- ---- objects of families
 
-  -- that the object is a contest, and the value its selections
-  abbrev IsOfContest : Data → Data → Type 0
-  IsOfContest contest d = Within t (asked (Object (role.OfFamily family.Contest)) contest) × (get (codes "ContestSelection") contest ≡ Some d)
+  -- that the object is a contest of the report, and the value its selections
+  abbrev IsOfContest : Placed → Data → Type 0
+  IsOfContest contest d = Has (objects family.Contest t) contest × (get (codes "ContestSelection") contest.value ≡ Some d)
 
-  object_member : (o : Data) (k : MemberKind) (required : Bool) (d v : Data) → is_object_kind k ≡ true → (k ≡ kind.Keyed family.Selection → IsOfContest o d) → Within t (asked (want_of_kind k required) d)
-      → normal_object_value t o k d ≡ Some v → Throughout P (asked (want_of_kind k required) v)
+  object_member : (o : Placed) (k : MemberKind) (required : Bool) (d v : Data) → is_object_kind k ≡ true → (k ≡ kind.Keyed family.Selection → IsOfContest o d) → Within t (asked (want_of_kind k required) d)
+      → normal_object_value t o.value k d ≡ Some v → Throughout P (asked (want_of_kind k required) v)
   object_member o (kind.Keyed family.Selection) required d v is contest w given =
       let es : List Data = rising_list (by_name t) (entries_of d) in
-      let parts = given_unless d (array_of (map (normal_selection t o) es)) v given in
+      let parts = given_unless d (array_of (map (normal_selection t o.value) es)) v given in
       subst (λ x. Throughout P (asked (Member (kind.Keyed family.Selection) required) x)) parts.1
       (throughout_built_list t clean tree P holds.members (Member (kind.Keyed family.Selection) required) (Object selection_role) d
       (wanted_within t clean (asked (Member (kind.Keyed family.Selection) required) d) w) refl refl w
-      (rising_list (by_name t)) (λ Q xs all. all_rising Q (by_name t) xs all) (normal_selection t o) (throughout_selection o)
+      (rising_list (by_name t)) (λ Q xs all. all_rising Q (by_name t) xs all) (normal_selection t o.value) (λ e within h. throughout_selection o.value e within)
       (holds.selections o required d (contest refl).0 (contest refl).1 w parts.0))
   object_member o kind.Content required d v is contest w given =
       let parts = given_unless d (normal_content t d) v given in
@@ -230,27 +240,35 @@ module _ (t : Data) (clean : NoneOf (ShapeFault t)) (tree : IsTree t) (P : Asked
   object_member o k required d v is contest w given = throughout_value t clean tree P holds.members k required d v is w given
 
   -- an object with a member of selections is a contest
-  of_contest : (f : Family) (d : Data) (o : ObjectIn t (role.OfFamily f) d) (name : List ℕ) (from : Data) → Within t (asked (Object (role.OfFamily f)) d) → get_member name o.ms ≡ Some from
+  of_contest : (f : Family) (d : Placed) (o : ObjectIn t (role.OfFamily f) d.value) (name : List ℕ) (from : Data) → Has (objects f t) d → get_member name o.ms ≡ Some from
       → kind_of_member o.class name ≡ kind.Keyed family.Selection → IsOfContest d from
-  of_contest f d o name from w stands is =
+  of_contest f d o name from h stands is =
       let named : name ≡ family_name family.Selection = keyed_name o.class name family.Selection is in
       let contest : f ≡ family.Contest = contest_of_selections o.class f o.role (ap (kind_of_member o.class) (sym named) ∙ is) in
-      (subst (λ g. Within t (asked (Object (role.OfFamily g)) d)) contest w, ap (get (codes "ContestSelection")) o.is_object ∙ ap (λ n. get_member n o.ms) (sym named) ∙ stands)
+      (subst (λ g. Has (objects g t) d) contest h, ap (get (codes "ContestSelection")) o.is_object ∙ ap (λ n. get_member n o.ms) (sym named) ∙ stands)
 
-  pub throughout_family_object : (f : Family) (d : Data) → Within t (asked (Object (role.OfFamily f)) d) → Throughout P (asked (Object (role.OfFamily f)) (normal_object t f d))
-  throughout_family_object f d w =
-      let o : ObjectIn t (role.OfFamily f) d = object_in t clean (role.OfFamily f) d w in
-      throughout_object t clean tree P holds.members (object_builder t d) is_id (role.OfFamily f) o.class o.ms (normal_object t f d) (built_object t clean tree f d o) (holds.object f d w)
-      (λ name v named found. let text = object_id t clean tree f d o name v named found in throughout_id o.class f o.role text.0 name v named text.2)
+  pub throughout_family_object : (f : Family) (d : Placed) → Has (objects f t) d → Within t (asked (Object (role.OfFamily f)) d.value)
+      → Throughout P (asked (Object (role.OfFamily f)) (normal_object t f d.value))
+  throughout_family_object f d h w =
+      let o : ObjectIn t (role.OfFamily f) d.value = object_in t clean (role.OfFamily f) d.value w in
+      throughout_object t clean tree P holds.members (object_builder t d.value) is_id (role.OfFamily f) o.class o.ms (normal_object t f d.value) (built_object t clean tree f d.value o)
+      (holds.object f d.value w)
+      (λ name v named found. let text = object_id t clean tree f d.value o name v named found in throughout_id o.class f o.role text.0 name v named text.2)
       (λ name v b.
-      member_holds t clean (Throughout P) (throughout_status t clean tree P holds.members) (object_builder t d) o.class o.ms name v b
+      member_holds t clean (Throughout P) (throughout_status t clean tree P holds.members) (object_builder t d.value) o.class o.ms name v b
       (λ required inside.
-      object_member d (kind_of_member o.class name) required b.from v (object_kind o.class f name b.other o.role) (of_contest f d o name b.from w b.stands) inside b.given)
-      (λ word. object_word t d (kind_of_member o.class name) b.from v word b.given))
+      object_member d (kind_of_member o.class name) required b.from v (object_kind o.class f name b.other o.role) (of_contest f d o name b.from h b.stands) inside b.given)
+      (λ word. object_word t d.value (kind_of_member o.class name) b.from v word b.given))
 
   -- the array of the objects of a family
-  pub throughout_objects : (f : Family) (required : Bool) (d : Data) → Within t (asked (Member (kind.Keyed f) required) d) → P (asked (Member (kind.Keyed f) required) (normal_objects t f (entries_of d)))
-      → Throughout P (asked (Member (kind.Keyed f) required) (normal_objects t f (entries_of d)))
-  throughout_objects f required d w here =
+  pub throughout_objects : (f : Family) (required : Bool) (d : Data) → map (λ o. o.value) (objects f t) ≡ entries_of d → Within t (asked (Member (kind.Keyed f) required) d)
+      → P (asked (Member (kind.Keyed f) required) (normal_objects t f (entries_of d))) → Throughout P (asked (Member (kind.Keyed f) required) (normal_objects t f (entries_of d)))
+  throughout_objects f required d all w here =
       throughout_built_list t clean tree P holds.members (Member (kind.Keyed f) required) (Object (role.OfFamily f)) d (wanted_within t clean (asked (Member (kind.Keyed f) required) d) w) refl refl w
-      (rising_list by_key) (λ Q xs all. all_rising Q by_key xs all) (normal_object t f) (throughout_family_object f) here
+      (rising_list by_key) (λ Q xs each. all_rising Q by_key xs each) (normal_object t f) one here
+    where
+      one : (e : Data) → Within t (asked (Object (role.OfFamily f)) e) → Has (entries_of d) e → Throughout P (asked (Object (role.OfFamily f)) (normal_object t f e))
+      one e within h =
+          let o = map_has (λ (x : Placed). x.value) (objects f t) e (subst (λ xs. Has xs e) (sym all) h) in
+          subst (λ x. Throughout P (asked (Object (role.OfFamily f)) (normal_object t f x))) o.2
+          (throughout_family_object f o.0 o.1 (subst (λ x. Within t (asked (Object (role.OfFamily f)) x)) (sym o.2) within))

@@ -18,6 +18,7 @@ use Rattle.erd_check.specs.declared.want.Want.TheVariants.{Member, Object}
 use Rattle.erd_check.proofs.Shapes.{Within}
 use Rattle.erd_check.proofs.TableKinds.{kind_of_class}
 use Rattle.erd_meaning.proofs.Skeleton.{Skeleton, skeleton_of_shape}
+use Rattle.erd_meaning.specs.Keys.{has_keys}
 use Rattle.erd_meaning.specs.Objects.{objects}
 use Rattle.erd_normal.specs.NormalTree.{array_of, normal_election, normal_election_value, normal_objects, normal_report_value, normal_tree, normal_value}
 use Rattle.erd_normal.proofs.BuiltFrom.{BuiltFrom, member_holds}
@@ -26,7 +27,7 @@ use Rattle.erd_normal.proofs.CleanReports.{row_named}
 use Rattle.erd_normal.proofs.CleanSets.{given_unless}
 use Rattle.erd_normal.proofs.FamilyNames.{election_objects_are, elections_name, family_name, keyed_name, report_objects}
 use Rattle.erd_normal.proofs.NormalReports.{has_canonical_envelope}
-use Rattle.erd_normal.proofs.ThroughoutMembers.{HoldsOfMembers, is_plain_kind, throughout_value}
+use Rattle.erd_normal.proofs.ThroughoutMembers.{HoldsOfMembers, is_plain_kind, is_prefixed, throughout_value}
 use Rattle.erd_normal.proofs.ThroughoutObjects.{HoldsOfObjects, throughout_object, throughout_objects, throughout_status}
 use Rattle.erd_normal.proofs.ThroughoutValues.{Throughout, throughout_by_steps, throughout_list, throughout_text}
 
@@ -35,7 +36,7 @@ pub record HoldsOfBuilt (t : Data) (P : Asked → Type 0) : Type 0 where
   pub parts : HoldsOfObjects t P
   pub word : (required : Bool) (s : List ℕ) → P (asked (Member kind.Word required) (string s))
   pub whole : (required : Bool) (n : ℕ) → P (asked (Member kind.Whole required) (number (unsigned n)))
-  pub keyed : (f : Family) (required : Bool) (d : Data) → Within t (asked (Member (kind.Keyed f) required) d) → map (λ o. o.value) (objects f t) ≡ entries_of d → is_empty_array d ≡ false
+  pub keyed : (f : Family) → has_keys f ≡ true → (required : Bool) (d : Data) → Within t (asked (Member (kind.Keyed f) required) d) → map (λ o. o.value) (objects f t) ≡ entries_of d → is_empty_array d ≡ false
       → P (asked (Member (kind.Keyed f) required) (normal_objects t f (entries_of d)))
   pub elections : (required : Bool) (d : Data) → Within t (asked (Member kind.Elections required) d) → P (asked (Member kind.Elections required) (array_of (map (normal_election t) (entries_of d))))
   pub election : (d : Data) → Within t (asked (Object role.Election) d) → P (asked (Object role.Election) (normal_election t d))
@@ -44,6 +45,9 @@ pub record HoldsOfBuilt (t : Data) (P : Asked → Type 0) : Type 0 where
 -- a member of the election
 abbrev is_election_kind : MemberKind → Bool
 is_election_kind kind.ClassText = false
+is_election_kind (kind.One f) = is_prefixed f
+is_election_kind (kind.Many f) = is_prefixed f
+is_election_kind (kind.Keyed f) = has_keys f
 is_election_kind kind.Elections = false
 is_election_kind kind.Content = false
 is_election_kind k = true
@@ -51,6 +55,9 @@ is_election_kind k = true
 -- a member of the report
 abbrev is_report_kind : MemberKind → Bool
 is_report_kind kind.ClassText = false
+is_report_kind (kind.One f) = is_prefixed f
+is_report_kind (kind.Many f) = is_prefixed f
+is_report_kind (kind.Keyed f) = has_keys f
 is_report_kind kind.Content = false
 is_report_kind k = true
 
@@ -77,7 +84,7 @@ module _ (t : Data) (clean : NoneOf (ShapeFault t)) (tree : IsTree t) (P : Asked
       → Within t (asked (want_of_kind k required) d) → normal_election_value t k d ≡ Some v → Throughout P (asked (want_of_kind k required) v)
   election_member (kind.Keyed f) required d v is all w given =
       let parts = given_unless d (normal_objects t f (entries_of d)) v given in
-      subst (λ x. Throughout P (asked (Member (kind.Keyed f) required) x)) parts.1 (throughout_objects t clean tree P holds.parts f required d w (holds.keyed f required d w (all f refl) parts.0))
+      subst (λ x. Throughout P (asked (Member (kind.Keyed f) required) x)) parts.1 (throughout_objects t clean tree P holds.parts f required d (all f refl) w (holds.keyed f is required d w (all f refl) parts.0))
   election_member kind.Elections required d v is all w given = cc
   election_member kind.Content required d v is all w given = cc
   election_member k required d v is all w given = throughout_value t clean tree P plain k required d v is w given
@@ -176,7 +183,7 @@ module _ (t : Data) (clean : NoneOf (ShapeFault t)) (tree : IsTree t) (P : Asked
       → Throughout P (asked (want_of_kind k required) v)
   report_member name (kind.Keyed f) required d v is all one w given =
       let parts = given_unless d (normal_objects t f (entries_of d)) v given in
-      subst (λ x. Throughout P (asked (Member (kind.Keyed f) required) x)) parts.1 (throughout_objects t clean tree P holds.parts f required d w (holds.keyed f required d w (all f refl) parts.0))
+      subst (λ x. Throughout P (asked (Member (kind.Keyed f) required) x)) parts.1 (throughout_objects t clean tree P holds.parts f required d (all f refl) w (holds.keyed f is required d w (all f refl) parts.0))
   report_member name kind.Elections required d v is all one w given =
       let same : array_of (map (normal_election t) (entries_of d)) ≡ v = cc in
       subst (λ x. Throughout P (asked (Member kind.Elections required) x)) same (throughout_elections required d (one refl) w)
