@@ -47,4 +47,4 @@ pub mod BuiltEntries
 pub mod KeyPositions
 pub mod Numbered
 pub mod FamilyNumbers
-pub mod References
+pub mod NumberedReferences
