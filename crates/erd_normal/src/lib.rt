@@ -3,6 +3,7 @@
 
 mod compact_text;
 mod content;
+mod envelope;
 mod identifiers;
 mod label;
 mod laws;
@@ -12,6 +13,7 @@ mod numbering;
 mod numbers;
 mod objects;
 mod references;
+mod report_values;
 mod rising;
 mod selection_rule;
 mod set_order;
