@@ -11,6 +11,7 @@ mod member_rule;
 mod members;
 mod numbering;
 mod numbers;
+mod object_rule;
 mod objects;
 mod references;
 mod report_values;

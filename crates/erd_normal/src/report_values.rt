@@ -1,8 +1,16 @@
+ghost use Rattle.std.specs.Prelude.{◌≡◌, false, map, option_map, IfOk};
+ghost use Rattle.serde_json.specs.View.{view};
+ghost use Rattle.serde_json.specs.Written.{has_float};
+ghost use Rattle.erd_check.specs.Trees.{entries_of};
+ghost use Rattle.erd_meaning.specs.SelectionNames.{rising_list};
+ghost use Rattle.erd_normal.specs.NormalTree.{array_of, by_name, normal_selection, unless_no_entry};
+
 use crate::member_rule::MemberRule;
 use crate::selection_rule::SelectionRule;
+use crate::shape::entries_of;
 use crate::tables::Tables;
 use crate::value_rule::ValueRule;
-use crate::values::value_of_kind;
+use crate::values::{unless_empty, value_of_kind};
 use erd_meaning::Report;
 use erd_tables::MemberKind;
 use serde_json::Value;
@@ -32,6 +40,25 @@ impl<'a, S: SelectionRule> Model for ReportValues<'a, S> {
     ghost view = { λ v. v.report.now };
 
     ghost invariant = { λ v. AreTables (data_of v.report.now) v.tables.now × (S.report v.selections.now ≡ data_of v.report.now) };
+}
+
+impl<'a, S: SelectionRule> ReportValues<'a, S> {
+    /// What the selections of a contest become; there is none for an empty array.
+    pub(crate) fn selections(
+        &self,
+        alloc: Global,
+        contest: &Value,
+        member: &Value,
+    ) -> Result<Option<Value>, AllocError>
+        ensures { IfOk result (λ built. has_float (view member.now) ≡ false → option_map view built
+            ≡ unless_no_entry (view member.now) (array_of (map (normal_selection (view self.now) (view contest.now))
+            (rising_list (by_name (view self.now)) (entries_of (view member.now)))))) }
+    {
+        let built = self
+            .selections
+            .selections(alloc, contest, entries_of(member))?;
+        Ok(unless_empty(member, built))
+    }
 }
 
 impl<'a, S: SelectionRule> ValueRule for ReportValues<'a, S> {

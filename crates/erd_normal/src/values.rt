@@ -51,7 +51,7 @@ pub(crate) fn value_of_kind<S: SelectionRule>(
 }
 
 /// The array of what the entries of a value became, unless the value is an array of no entries.
-fn unless_empty(value: &Value, built: Vec<Value>) -> Option<Value>
+pub(crate) fn unless_empty(value: &Value, built: Vec<Value>) -> Option<Value>
     ensures { option_map view result ≡ unless_no_entry (view value.now) (array_of (map view built.items)) }
 {
     if is_empty_array(value) {
