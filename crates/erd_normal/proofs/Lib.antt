@@ -100,3 +100,4 @@ pub mod ReferencesBuilt
 pub mod ReferenceLists
 pub mod NoReferenceFaults
 pub mod NormalCanonical
+pub mod NumberedReferences

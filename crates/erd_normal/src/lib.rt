@@ -3,6 +3,7 @@
 
 mod compact_text;
 mod content;
+mod envelope;
 mod identifiers;
 mod label;
 mod laws;
@@ -10,12 +11,18 @@ mod member_rule;
 mod members;
 mod numbering;
 mod numbers;
+mod object_rule;
+mod objects;
+mod references;
+mod report_values;
 mod rising;
+mod selection_rule;
 mod set_order;
 mod shape;
 mod sorting;
 mod tables;
 mod value_rule;
+mod values;
 
 pub use compact_text::CompactText;
 pub use laws::{canonical_is_unique, names_agree, objects_agree, references_agree};
