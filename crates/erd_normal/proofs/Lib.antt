@@ -101,3 +101,4 @@ pub mod ReferenceLists
 pub mod NoReferenceFaults
 pub mod NormalCanonical
 pub mod NumberedReferences
+pub mod NormalForms
