@@ -1,11 +1,10 @@
 -- What a reference names, by the number of the object that has the `@id`.
-use Rattle.std.proofs.Common.{◌≡◌, ◌==◌, ℕ, ◌+◌, List, [], ◌∷◌, ◌++◌, map, filter, length, Bool, true, false, true≢false, cond, Option, Some, None, option_and_then, option_map, unwrap_or, decimal, is_lt, slice_get, refl, sym, ap, ◌∙◌, subst, arith}
+use Rattle.std.proofs.Common.{◌≡◌, ◌==◌, ℕ, ◌+◌, List, [], ◌∷◌, ◌++◌, filter, length, true, false, true≢false, cond, Option, Some, None, option_and_then, option_map, unwrap_or, decimal, is_lt, slice_get, refl, sym, ap, ◌∙◌, subst}
 use Rattle.std.specs.Option.{option_cmp, option_map_or}
 use Rattle.serde_json.specs.Data.{Data}
 use Rattle.erd_tables.specs.Classes.{family_number}
 use Rattle.erd_tables.specs.declared.class.Family.{Family}
 use Rattle.erd_tables.specs.declared.class.Family.TheVariants as family
-use Rattle.erd_check.proofs.Order.{In}
 use Rattle.erd_meaning.proofs.ObjectFamilies.{family_exact, itself}
 use Rattle.erd_meaning.proofs.OneObject.{in_at, ObjectIn, with_part}
 use Rattle.erd_meaning.proofs.Standing.{owned_by, owner_is}

@@ -4,6 +4,7 @@
 mod compact_text;
 mod content;
 mod envelope;
+mod family_object;
 mod identifiers;
 mod label;
 mod laws;

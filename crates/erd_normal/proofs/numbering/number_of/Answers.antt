@@ -1,6 +1,5 @@
-use Rattle.std.proofs.Common.{ap, sym, subst, ◌∙◌}
+use Rattle.std.proofs.Common.{ap, sym, ◌∙◌}
 use Rattle.serde_json.specs.View.{view}
-use Rattle.erd_meaning.specs.Lookups.{FindsId}
 use Rattle.erd_normal.specs.Building.{numbered_id}
 use Rattle.erd_normal.specs.Tables.{number_in}
 use Rattle.erd_normal.proofs.NumberedReferences.{named_elsewhere, named_here, named_nowhere}

@@ -1,5 +1,4 @@
-use Rattle.std.proofs.Common.{◌≡◌, Option, inl, inr, map, option_map, ap, sym, ◌∙◌}
-use Rattle.serde_json.specs.Data.{Data}
+use Rattle.std.proofs.Common.{◌≡◌, inl, inr, map, option_map, ap, sym, ◌∙◌}
 use Rattle.serde_json.specs.View.{view}
 use Rattle.erd_check.specs.Trees.{entries_of}
 use Rattle.erd_meaning.specs.SelectionNames.{compact_cmp, rising_list}
