@@ -94,7 +94,6 @@ pub mod NoEmptyArrays
 pub mod KeyPositions
 pub mod Numbered
 pub mod FamilyNumbers
-pub mod References
 pub mod SetsInOrder
 pub mod ReferencesBuilt
 pub mod ReferenceLists
