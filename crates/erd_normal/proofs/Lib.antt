@@ -94,3 +94,4 @@ pub mod KeyPositions
 pub mod Numbered
 pub mod FamilyNumbers
 pub mod References
+pub mod PlacedTrees
