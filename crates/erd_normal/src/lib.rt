@@ -10,6 +10,7 @@ mod member_rule;
 mod members;
 mod numbering;
 mod numbers;
+mod objects;
 mod rising;
 mod set_order;
 mod shape;
