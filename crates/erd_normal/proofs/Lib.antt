@@ -95,3 +95,4 @@ pub mod Numbered
 pub mod FamilyNumbers
 pub mod References
 pub mod PlacedTrees
+pub mod PlacedEntries

@@ -21,7 +21,7 @@ rising_from_stable {K} {T} cmp total old new h =
     agree : (x : K × T) (zs : List (K × T)) → pairs_of cmp x.0 zs ≡ filter (ties (λ a b. is_lt (cmp a.0 b.0)) x) zs
     agree x zs = filter_agree (λ pair. is_eq (cmp pair.0 x.0)) (ties (λ a b. is_lt (cmp a.0 b.0)) x) (tie_by_key cmp total x.0 x (ap is_eq (tied_itself total x.0))) zs
 
-map_after : {X Y Z : Type 0} (f : X → Y) (g : Y → Z) (xs : List X) → map (λ x. g (f x)) xs ≡ map g (map f xs)
+pub map_after : {X Y Z : Type 0} (f : X → Y) (g : Y → Z) (xs : List X) → map (λ x. g (f x)) xs ≡ map g (map f xs)
 map_after f g [] = refl
 map_after f g (x ∷ xs) = ap (λ zs. g (f x) ∷ zs) (map_after f g xs)
 

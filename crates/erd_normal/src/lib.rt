@@ -3,6 +3,9 @@
 
 mod compact_text;
 mod content;
+mod contest_selections;
+mod election;
+mod family_objects;
 mod identifiers;
 mod label;
 mod laws;
@@ -11,6 +14,7 @@ mod members;
 mod numbering;
 mod numbers;
 mod objects;
+mod report_tree;
 mod rising;
 mod set_order;
 mod shape;

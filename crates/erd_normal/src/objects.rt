@@ -43,11 +43,7 @@ fn object_in_class<R: MemberRule>(
 }
 
 /// The object with this `@id`, if it has one.
-pub(crate) fn with_id(
-    alloc: Global,
-    id: Option<String>,
-    value: Value,
-) -> Result<Value, AllocError>
+pub(crate) fn with_id(alloc: Global, id: Option<String>, value: Value) -> Result<Value, AllocError>
     ensures { IfOk result (λ built. view built ≡ with_id (option_map string_bytes id) (view value)) }
 {
     match id {
