@@ -1,7 +1,6 @@
 -- The numbers of the objects of a family of an accepted report are their ranks, counted from 1.
-use Rattle.std.proofs.Common.{◌≡◌, ℕ, zero, suc, ◌+◌, ◌<◌, List, [], ◌∷◌, filter, length, Bool, true, false, cond, if◌then◌else◌, Option, Some, None, option_and_then, option_map, Ordering, Equal, is_lt, slice_get, replicate, refl, sym, ap, ◌∙◌, subst, arith}
+use Rattle.std.proofs.Common.{◌≡◌, ℕ, zero, suc, ◌+◌, List, [], ◌∷◌, filter, length, Bool, true, false, cond, if◌then◌else◌, Option, Some, None, option_and_then, Ordering, is_lt, slice_get, replicate, refl, sym, ap, ◌∙◌, arith}
 use Rattle.std.proofs.lemmas.Option.{slice_get_within}
-use Rattle.std.specs.Cmp.{IsTotalOrder}
 use Rattle.std.specs.Cmp.Lexicographic.{options_total}
 use Rattle.std.specs.List.{IsDistinct}
 use Rattle.std.specs.Option.{option_cmp}
@@ -21,12 +20,10 @@ use Rattle.erd_meaning.specs.declared.key.Key.{Key}
 use Rattle.erd_tables.specs.declared.class.Family.{Family}
 use Rattle.erd_normal.proofs.DistinctEntries.{distinct_by_cmp, place_of}
 use Rattle.erd_normal.proofs.Numbered.{number_of}
-use Rattle.erd_normal.proofs.RisingRanks.{rank_in}
 use Rattle.erd_normal.proofs.RisingSets.{has_from_In}
 use Rattle.erd_normal.proofs.StableRising.{by_first}
 use Rattle.erd_normal.specs.Building.{AreNumbers, key_positions, numbered}
 use Rattle.erd_normal.specs.KeyOrders.{optional_key_exact}
-use Rattle.erd_normal.specs.NormalTree.{rank_of}
 
 abbrev by_key_first : Option Key × ℕ → Option Key × ℕ → Ordering
 by_key_first = by_first (option_cmp key_cmp)

@@ -93,6 +93,6 @@ pub mod ThroughoutReports
 pub mod KeyPositions
 pub mod Numbered
 pub mod FamilyNumbers
-pub mod References
 pub mod PlacedTrees
 pub mod PlacedEntries
+pub mod NumberedReferences

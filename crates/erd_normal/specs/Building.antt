@@ -7,9 +7,10 @@ use Rattle.serde_json.specs.Written.{compact_text}
 use Rattle.erd_tables.specs.declared.class.Family.{Family}
 use Rattle.erd_meaning.specs.Keys.{key_of}
 use Rattle.erd_meaning.specs.Objects.{objects, Placed}
+use Rattle.erd_meaning.specs.SelectionNames.{key_named}
 use Rattle.erd_meaning.specs.declared.key.Key.{Key}
 use Rattle.erd_normal.specs.Canonical.{id_prefix}
-use Rattle.erd_normal.specs.NormalTree.{rank_of}
+use Rattle.erd_normal.specs.NormalTree.{rank_of, text_of}
 
 -- the members with the value under the name, if there is a value
 abbrev pub put_if : List ℕ → Option Data → Members → Members
@@ -48,3 +49,17 @@ AreNumbers t f ns = (i : ℕ) (o : Placed) → slice_get (objects f t) i ≡ Som
 -- the `@id` text of the object of this number, and no text in a family whose objects have none
 abbrev pub numbered_id : Family → ℕ → List ℕ
 numbered_id f n = option_map_or (λ letters. letters ++ decimal n) (id_prefix f) []
+
+-- ---- references
+
+-- a value beside a key
+abbrev pub beside_key : Option Key → Data → Option Key × Data
+beside_key key d = (key, d)
+
+-- a reference beside the key of the object of the family that it names
+abbrev pub beside_named : Data → Family → Data → Option Key × Data
+beside_named t f d = beside_key (key_named t f (text_of d)) d
+
+-- an object beside its key
+abbrev pub beside_own_key : Data → Option Key × Data
+beside_own_key d = beside_key (key_of d) d

@@ -4,7 +4,6 @@ use Rattle.std.specs.Option.{option_cmp}
 use Rattle.std.proofs.lemmas.Map.Lookups.{CmpEqualImpliesEq}
 use Rattle.erd_meaning.specs.Keys.{key_cmp}
 use Rattle.erd_meaning.specs.Orders.{key_cmp_exact}
-use Rattle.erd_meaning.specs.declared.key.Key.{Key}
 
 pub optional_key_exact : CmpEqualImpliesEq (option_cmp key_cmp)
 optional_key_exact None None e = refl

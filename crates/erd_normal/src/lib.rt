@@ -15,12 +15,16 @@ mod numbering;
 mod numbers;
 mod objects;
 mod report_tree;
+mod references;
+mod report_values;
 mod rising;
+mod selection_rule;
 mod set_order;
 mod shape;
 mod sorting;
 mod tables;
 mod value_rule;
+mod values;
 
 pub use compact_text::CompactText;
 pub use laws::{canonical_is_unique, names_agree, objects_agree, references_agree};

@@ -56,14 +56,15 @@ fn number_at(numbers: &[usize], index: usize) -> usize
     }
 }
 
-fn is_same(found: Family, family: Family) -> bool
+/// Whether two families are one.
+pub(crate) fn is_same(found: Family, family: Family) -> bool
     ensures { result ≡ (family_number found == family_number family) }
 {
     found == family
 }
 
 /// The text of a reference.
-fn text_of(value: &Value) -> &str
+pub(crate) fn text_of(value: &Value) -> &str
     ensures { result.now ≡ text_of (view value.now) }
 {
     value.as_str().unwrap_or("")

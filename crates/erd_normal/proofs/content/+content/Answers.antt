@@ -1,8 +1,8 @@
 use Rattle.std.proofs.Common.{◌≡◌, false, IfOk, Option, map, option_map, ap, sym, subst, ◌∙◌}
 use Rattle.serde_json.specs.Data.{Data}
-use Rattle.serde_json.specs.View.{items_view, members_view, view}
-use Rattle.serde_json.specs.Written.{has_float, items_have_float}
-use Rattle.serde_json.proofs.Views.{Entry, view-Array, view-Object}
+use Rattle.serde_json.specs.View.{members_view, view}
+use Rattle.serde_json.specs.Written.{has_float}
+use Rattle.serde_json.proofs.Views.{Entry, view-Array}
 use Rattle.erd_tables.specs.Table.{kind_of_member}
 use Rattle.erd_normal.specs.Building.{put_each}
 use Rattle.erd_normal.specs.NormalTree.{normal_content, normal_node, normal_node_value}

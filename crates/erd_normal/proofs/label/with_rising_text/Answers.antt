@@ -1,7 +1,6 @@
 use Rattle.std.proofs.Common.{◌≡◌, codes, ap, sym, ◌∙◌}
 use Rattle.serde_json.specs.Data.{array, object, put}
 use Rattle.serde_json.specs.View.{items_of, members_view, view}
-use Rattle.serde_json.specs.declared.value.Value.{Array}
 use Rattle.serde_json.proofs.Views.{view-Array, view-Object}
 use Rattle.erd_meaning.specs.Keys.{entries_at}
 use Rattle.erd_meaning.specs.SelectionNames.{compact_cmp, rising_list, with_rising_text}

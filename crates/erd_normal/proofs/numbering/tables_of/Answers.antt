@@ -1,5 +1,5 @@
 use Rattle.serde_json.specs.View.{view}
-use Rattle.erd_normal.proofs.References.{tables_made}
+use Rattle.erd_normal.proofs.NumberedReferences.{tables_made}
 use Rattle.erd_normal.proofs.numbering.tables_of.Goals as goal
 
 pub returns : goal.returns

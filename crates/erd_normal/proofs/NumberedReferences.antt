@@ -1,11 +1,10 @@
 -- What a reference names, by the number of the object that has the `@id`.
-use Rattle.std.proofs.Common.{◌≡◌, ◌==◌, ℕ, ◌+◌, List, [], ◌∷◌, ◌++◌, map, filter, length, Bool, true, false, true≢false, cond, Option, Some, None, option_and_then, option_map, unwrap_or, decimal, is_lt, slice_get, refl, sym, ap, ◌∙◌, subst, arith}
+use Rattle.std.proofs.Common.{◌≡◌, ◌==◌, ℕ, ◌+◌, List, [], ◌∷◌, ◌++◌, filter, length, true, false, true≢false, cond, Option, Some, None, option_and_then, option_map, unwrap_or, decimal, is_lt, slice_get, refl, sym, ap, ◌∙◌, subst}
 use Rattle.std.specs.Option.{option_cmp, option_map_or}
 use Rattle.serde_json.specs.Data.{Data}
 use Rattle.erd_tables.specs.Classes.{family_number}
 use Rattle.erd_tables.specs.declared.class.Family.{Family}
 use Rattle.erd_tables.specs.declared.class.Family.TheVariants as family
-use Rattle.erd_check.proofs.Order.{In}
 use Rattle.erd_meaning.proofs.ObjectFamilies.{family_exact, itself}
 use Rattle.erd_meaning.proofs.OneObject.{in_at, ObjectIn, with_part}
 use Rattle.erd_meaning.proofs.Standing.{owned_by, owner_is}
@@ -109,3 +108,28 @@ pub tables_made : (t : Data) (n : Tables) → IsAccepted t → AreNumbers t fami
     → AreNumbers t family.Office n.offices.items → AreNumbers t family.Header n.headers.items → AreNumbers t family.Candidate n.candidates.items
     → AreNumbers t family.Contest n.contests.items → AreNumbers t family.Style n.styles.items → AreTables t n
 tables_made t n accepted u p e o h c k s = record { accepted = accepted; numbers = tables_by t n u p e o h c k s }
+
+-- ---- keys
+
+-- the key of the object that is found in the family
+pub key_here : (t : Data) (f : Family) (id : List ℕ) (g : Family) (i : ℕ) → IsAccepted t → FindsId t id (Some (g, i)) → (family_number g == family_number f) ≡ true
+    → option_and_then key_of (option_map (λ o. o.value) (slice_get (objects f t) i)) ≡ key_named t f id
+key_here t f id g i accepted finds same =
+    let one : g ≡ f = family_exact g f same in
+    let here : id_in f t i ≡ Some id = (finds f i).0 (ap (λ h. Some (h, i)) one) in
+    let hit = with_part (λ o. id_of o.value) f t i id here in
+    let o : ObjectIn f t i = hit.0 in
+    ap (λ x. option_and_then key_of (option_map (λ o. o.value) x)) o.at
+    ∙ ap (option_and_then key_of) (sym (owner_is t accepted f o.one id (has_from_In o.one (objects f t) (in_at (objects f t) i o.one o.at)) hit.1))
+
+-- an object of another family is found
+pub key_elsewhere : (t : Data) (f : Family) (id : List ℕ) (g : Family) (i : ℕ) → FindsId t id (Some (g, i)) → (family_number g == family_number f) ≡ false → None ≡ key_named t f id
+key_elsewhere t f id g i finds other = sym (ap (option_and_then key_of) (unowned t f id (λ j e.
+    let same : Some (g, i) ≡ Some (f, j) = (finds f j).1 e in
+    let one : g ≡ f = ap (λ o. option_map_or (λ (x : Family × ℕ). x.0) o g) same in
+    let equal : (family_number g == family_number f) ≡ true = subst (λ h. (family_number g == family_number h) ≡ true) one (itself (family_number g)) in
+    true≢false (sym equal ∙ other))))
+
+-- no object is found
+pub key_nowhere : (t : Data) (f : Family) (id : List ℕ) → FindsId t id None → None ≡ key_named t f id
+key_nowhere t f id finds = sym (ap (option_and_then key_of) (unowned t f id (λ j e. let none : None ≡ Some (f, j) = (finds f j).1 e in cc)))
