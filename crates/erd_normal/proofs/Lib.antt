@@ -99,5 +99,7 @@ pub mod ReferencesBuilt
 pub mod ReferenceLists
 pub mod NoReferenceFaults
 pub mod NormalCanonical
+pub mod PlacedTrees
+pub mod PlacedEntries
 pub mod NumberedReferences
 pub mod NormalForms

@@ -3,8 +3,9 @@
 
 mod compact_text;
 mod content;
-mod envelope;
-mod family_object;
+mod contest_selections;
+mod election;
+mod family_objects;
 mod identifiers;
 mod label;
 mod laws;
@@ -12,8 +13,8 @@ mod member_rule;
 mod members;
 mod numbering;
 mod numbers;
-mod object_rule;
 mod objects;
+mod report_tree;
 mod references;
 mod report_values;
 mod rising;

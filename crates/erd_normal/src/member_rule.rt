@@ -21,6 +21,6 @@ pub(crate) trait MemberRule {
         kind: MemberKind,
         member: &Value,
     ) -> Result<Option<Value>, AllocError>
-        ensures { IfOk result (λ value. has_float (view member.now) ≡ false
-            → option_map view value ≡ value_of self.now name.now kind (view member.now)) };
+        requires whole { has_float (view member.now) ≡ false }
+        ensures { IfOk result (λ value. option_map view value ≡ value_of self.now name.now kind (view member.now)) };
 }

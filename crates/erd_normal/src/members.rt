@@ -17,8 +17,8 @@ pub(crate) fn members_by<R: MemberRule>(
     class: Class,
     members: &Map<String, Value>,
 ) -> Result<Map<String, Value>, AllocError>
-    ensures { IfOk result (λ built. members_have_float (members_view members.now.entries) ≡ false → members_view built.entries
-        ≡ normal_members (R.value_of rule.now) class (members_view members.now.entries)) }
+    requires whole { members_have_float (members_view members.now.entries) ≡ false }
+    ensures { IfOk result (λ built. members_view built.entries ≡ normal_members (R.value_of rule.now) class (members_view members.now.entries)) }
 {
     let mut built = Map::new(alloc);
     for (name, member) in members.iter() {

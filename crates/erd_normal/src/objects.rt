@@ -1,42 +1,40 @@
-ghost use Rattle.std.specs.Prelude.{◌≡◌, false, map, Some, string_bytes, IfOk};
+ghost use Rattle.std.specs.Prelude.{◌≡◌, false, Some, option_map, string_bytes, IfOk};
 ghost use Rattle.serde_json.specs.View.{view};
 ghost use Rattle.serde_json.specs.Written.{has_float};
-ghost use Rattle.erd_meaning.specs.SelectionNames.{rising_list};
-ghost use Rattle.erd_normal.specs.Building.{beside_key, beside_own_key};
-ghost use Rattle.erd_normal.specs.NormalTree.{by_key, normal_object_with, with_id};
+ghost use Rattle.erd_check.specs.Wants.{class_of_object};
+ghost use Rattle.erd_normal.specs.NormalTree.{normal_object_with, with_id};
 
 use crate::member_rule::MemberRule;
 use crate::members::members_by;
-use crate::sorting::in_order;
-use erd_meaning::{Key, key_of};
-use erd_tables::Class;
+use crate::shape::class_of_value;
+use erd_tables::{Class, Role};
 use serde_json::Value;
 use std::alloc::{AllocError, Global};
 
-/// An object of a class with what its members become, and a copy of any other value.
+/// The object that is built of an object with the role, its members by the rule.
 pub(crate) fn object_by<R: MemberRule>(
     alloc: Global,
     rule: &R,
-    class: Option<Class>,
+    role: Role,
     value: &Value,
 ) -> Result<Value, AllocError>
-    ensures { IfOk result (λ built. has_float (view value.now) ≡ false
-        → view built ≡ normal_object_with (R.value_of rule.now) class (view value.now)) }
+    requires whole { has_float (view value.now) ≡ false }
+    ensures { IfOk result (λ built. view built ≡ normal_object_with (R.value_of rule.now) (class_of_object role (view value.now)) (view value.now)) }
 {
-    match class {
-        Some(class) => object_in(alloc, rule, class, value),
+    match class_of_value(role, value) {
+        Some(class) => object_in_class(alloc, rule, class, value),
         None => value.clone(),
     }
 }
 
-fn object_in<R: MemberRule>(
+fn object_in_class<R: MemberRule>(
     alloc: Global,
     rule: &R,
     class: Class,
     value: &Value,
 ) -> Result<Value, AllocError>
-    ensures { IfOk result (λ built. has_float (view value.now) ≡ false
-        → view built ≡ normal_object_with (R.value_of rule.now) (Some class) (view value.now)) }
+    requires whole { has_float (view value.now) ≡ false }
+    ensures { IfOk result (λ built. view built ≡ normal_object_with (R.value_of rule.now) (Some class) (view value.now)) }
 {
     match value {
         Value::Object(members) => Ok(Value::Object(members_by(alloc, rule, class, members)?)),
@@ -44,41 +42,24 @@ fn object_in<R: MemberRule>(
     }
 }
 
-/// The object with this `@id`.
-pub(crate) fn with_id(alloc: Global, id: String, object: Value) -> Result<Value, AllocError>
-    ensures { IfOk result (λ named. view named ≡ with_id (Some (string_bytes id)) (view object)) }
+/// The object with this `@id`, if it has one.
+pub(crate) fn with_id(alloc: Global, id: Option<String>, value: Value) -> Result<Value, AllocError>
+    ensures { IfOk result (λ built. view built ≡ with_id (option_map string_bytes id) (view value)) }
 {
-    match object {
+    match id {
+        Some(id) => identified(alloc, id, value),
+        None => Ok(value),
+    }
+}
+
+fn identified(alloc: Global, id: String, value: Value) -> Result<Value, AllocError>
+    ensures { IfOk result (λ built. view built ≡ with_id (Some (string_bytes id)) (view value)) }
+{
+    match value {
         Value::Object(mut members) => {
             serde_json::put(&mut members, alloc, "@id", Value::String(id))?;
             Ok(Value::Object(members))
         }
         other => Ok(other),
     }
-}
-
-/// Objects in the order of their keys, each with its key.
-pub(crate) fn rising_objects<'a>(
-    alloc: Global,
-    values: &'a [Value],
-) -> Result<Vec<(Option<Key>, &'a Value)>, AllocError>
-    ensures { IfOk result (λ rising. map (λ p. view p.1.now) rising.items ≡ rising_list by_key (map view values.now)) }
-{
-    let pairs = keyed_values(alloc, values)?;
-    let sorted = in_order(alloc, pairs)?;
-    Ok(sorted)
-}
-
-fn keyed_values<'a>(
-    alloc: Global,
-    values: &'a [Value],
-) -> Result<Vec<(Option<Key>, &'a Value)>, AllocError>
-    ensures { IfOk result (λ pairs. map (λ p. beside_key p.0 (view p.1.now)) pairs.items
-        ≡ map (λ v. beside_own_key (view v)) values.now) }
-{
-    let mut pairs = Vec::with_capacity(alloc, values.len())?;
-    for value in values {
-        pairs.push((key_of(alloc, value)?, value))?;
-    }
-    Ok(pairs)
 }

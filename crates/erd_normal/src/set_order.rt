@@ -76,3 +76,26 @@ impl SetOrder for Option<Key> {
         }
     }
 }
+
+impl SetOrder for Option<SelectionName> {
+    ghost use Rattle.std.specs.Cmp.Lexicographic.{options_total};
+    ghost use Rattle.std.specs.Option.{option_cmp};
+    ghost use Rattle.erd_meaning.specs.Orders.{name_cmp_total};
+    ghost use Rattle.erd_meaning.specs.SelectionNames.{name_cmp};
+    ghost use Rattle.erd_normal.specs.NameOrders.{optional_name_exact};
+
+    ghost cmp = { option_cmp name_cmp };
+
+    ghost total = { options_total name_cmp_total };
+
+    ghost exact = { optional_name_exact };
+
+    fn order(&self, other: &Option<SelectionName>) -> Ordering {
+        match (self, other) {
+            (None, None) => Ordering::Equal,
+            (None, Some(_)) => Ordering::Less,
+            (Some(_), None) => Ordering::Greater,
+            (Some(left), Some(right)) => left.cmp(right),
+        }
+    }
+}

@@ -8,8 +8,7 @@ use Rattle.erd_normal.proofs.members.members_by.Given as goal
 
 abbrev pub invariant-loop-name : goal.invariant-loop-name
 invariant-loop-name g l = record {
-  built : members_have_float (members_view l.members.entries) ≡ false
-      → put_each (value_in_class (g.R.MemberRule.value_of l.rule) l.class) (members_view l.name-iterator) (members_view l.built.entries)
+  built : put_each (value_in_class (g.R.MemberRule.value_of l.rule) l.class) (members_view l.name-iterator) (members_view l.built.entries)
       ≡ put_each (value_in_class (g.R.MemberRule.value_of l.rule) l.class) (members_view l.members.entries) no_members;
-  whole : members_have_float (members_view l.members.entries) ≡ false → members_have_float (members_view l.name-iterator) ≡ false;
+  whole : members_have_float (members_view l.name-iterator) ≡ false;
 }

@@ -1,0 +1,90 @@
+-- The tree that is built for a report, with objects and selections numbered by their places among the sorted ones. It is no
+-- definition of the profile: that it is the tree of `NormalTree` for an accepted report is proved in `PlacedTrees`.
+use Rattle.std.specs.Prelude.{ℕ, ◌+◌, List, [], ◌∷◌, ◌++◌, if◌then◌else◌, Option, Some, None, option_map, map, codes, decimal}
+use Rattle.serde_json.specs.Data.{Data}
+use Rattle.erd_tables.specs.Table.{is_envelope_name}
+use Rattle.erd_tables.specs.declared.class.Family.{Family}
+use Rattle.erd_tables.specs.declared.class.Family.TheVariants as family
+use Rattle.erd_tables.specs.declared.class.Role.TheVariants as role
+use Rattle.erd_tables.specs.declared.member.MemberKind.{MemberKind}
+use Rattle.erd_tables.specs.declared.member.MemberKind.TheVariants as kind
+use Rattle.erd_check.specs.Trees.{entries_of}
+use Rattle.erd_check.specs.Wants.{class_of_object}
+use Rattle.erd_meaning.specs.Keys.{key_of}
+use Rattle.erd_meaning.specs.NameParts.{NameParts}
+use Rattle.erd_meaning.specs.SelectionNames.{rising_list, selection_role}
+use Rattle.erd_meaning.specs.declared.key.Key.{Key}
+use Rattle.erd_normal.specs.Canonical.{id_prefix}
+use Rattle.erd_normal.specs.NormalTree.{array_of, by_key, by_name, in_envelope, normal_content, normal_object_with, normal_value, unless_no_entry, with_id}
+
+-- what each becomes with its number, counted from n on
+abbrev pub map_from : {A B : Type 0} → (ℕ → A → B) → ℕ → List A → List B
+map_from f n [] = []
+map_from f n (x ∷ xs) = f n x ∷ map_from f (n + 1) xs
+
+-- ---- pairs that are sorted
+
+-- a value beside its key
+abbrev pub beside_own_key : Data → Option Key × Data
+beside_own_key d = (key_of d, d)
+
+-- a value beside a name
+abbrev pub beside_name : Option NameParts → Data → Option NameParts × Data
+beside_name name d = (name, d)
+
+-- ---- numbers
+
+-- the `@id` of the object of this number, if objects of the family have one
+abbrev pub id_numbered : Family → ℕ → Option (List ℕ)
+id_numbered f n = option_map (λ letters. letters ++ decimal n) (id_prefix f)
+
+-- the `@id` of a selection, by the number of its contest and its own
+abbrev pub selection_id_numbered : ℕ → ℕ → List ℕ
+selection_id_numbered n m = codes "cs" ++ (decimal n ++ (codes "-" ++ decimal m))
+
+-- ---- objects; selections are named in the report u, and references are those of t
+
+-- selection m of contest n
+abbrev pub placed_selection : Data → ℕ → ℕ → Data → Data
+placed_selection t n m d =
+    with_id (Some (selection_id_numbered n m)) (normal_object_with (λ name k v. normal_value t k v) (class_of_object selection_role d) d)
+
+-- the selections of contest n, in the order of their names
+abbrev pub placed_selections : Data → Data → ℕ → List Data → List Data
+placed_selections u t n ds = map_from (placed_selection t n) 1 (rising_list (by_name u) ds)
+
+-- a member of object n of a family; the object holds selections, if it is a contest
+abbrev pub placed_object_value : Data → Data → ℕ → MemberKind → Data → Option Data
+placed_object_value u t n (kind.Keyed family.Selection) d = unless_no_entry d (array_of (placed_selections u t n (entries_of d)))
+placed_object_value u t n kind.Content d = unless_no_entry d (normal_content t d)
+placed_object_value u t n k d = normal_value t k d
+
+-- object n of one of the first eight families
+abbrev pub placed_object : Data → Data → Family → ℕ → Data → Data
+placed_object u t f n d =
+    with_id (id_numbered f n) (normal_object_with (λ name k v. placed_object_value u t n k v) (class_of_object (role.OfFamily f) d) d)
+
+-- the objects of a family, in the order of their keys
+abbrev pub placed_objects : Data → Data → Family → List Data → List Data
+placed_objects u t f ds = map_from (placed_object u t f) 1 (rising_list by_key ds)
+
+-- ---- the election and the report
+
+-- a member of the election
+abbrev pub placed_election_value : Data → Data → MemberKind → Data → Option Data
+placed_election_value u t (kind.Keyed f) d = unless_no_entry d (array_of (placed_objects u t f (entries_of d)))
+placed_election_value u t k d = normal_value t k d
+
+-- the election
+abbrev pub placed_election : Data → Data → Data → Data
+placed_election u t d = normal_object_with (λ name k v. placed_election_value u t k v) (class_of_object role.Election d) d
+
+-- a member of the report
+abbrev pub placed_report_value : Data → Data → List ℕ → MemberKind → Data → Option Data
+placed_report_value u t name (kind.Keyed f) d = unless_no_entry d (array_of (placed_objects u t f (entries_of d)))
+placed_report_value u t name kind.Elections d = Some (array_of (map (placed_election u t) (entries_of d)))
+placed_report_value u t name k d = if is_envelope_name name then None else normal_value t k d
+
+-- the report
+abbrev pub placed_tree : Data → Data → Data
+placed_tree u t = in_envelope (normal_object_with (placed_report_value u t) (class_of_object role.Report u) u)
