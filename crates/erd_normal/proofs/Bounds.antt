@@ -6,10 +6,7 @@ use Rattle.erd_tables.specs.declared.class.Family.{Family}
 use Rattle.erd_tables.specs.declared.class.Family.TheVariants as family
 use Rattle.erd_check.proofs.Rising.{Has, here, later}
 use Rattle.erd_meaning.specs.Objects.{Placed, contests, objects, selections_of}
-
--- each family has few objects
-pub record IsBounded (t : Data) : Type 0 where
-  pub few : (f : Family) → length (objects f t) < 2 ^ 64
+use Rattle.erd_normal.specs.Tables.{IsBounded}
 
 -- one of the lists that are put together is no longer than the whole
 part_short : {A B : Type 0} (f : A → List B) (xs : List A) (x : A) → Has xs x → length (f x) ≤ length (flat_map f xs)

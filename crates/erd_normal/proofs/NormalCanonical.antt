@@ -5,7 +5,7 @@ use Rattle.erd_meaning.specs.Accepted.{IsAccepted}
 use Rattle.erd_meaning.proofs.Phases.{accepted_by_phases, no_shape_fault}
 use Rattle.erd_normal.specs.Canonical.{IsCanonical}
 use Rattle.erd_normal.specs.NormalTree.{normal_tree}
-use Rattle.erd_normal.proofs.Bounds.{IsBounded}
+use Rattle.erd_normal.specs.Tables.{IsBounded}
 use Rattle.erd_normal.proofs.CleanReports.{no_shape_fault_built}
 use Rattle.erd_normal.proofs.CompactTexts.{HasFittingNumbers}
 use Rattle.erd_normal.proofs.NoEmptyArrays.{no_empty_array_built}

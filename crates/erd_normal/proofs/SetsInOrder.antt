@@ -26,7 +26,7 @@ use Rattle.erd_meaning.proofs.Phases.{no_shape_fault}
 use Rattle.erd_normal.specs.Canonical.{AreSetsInOrder, RisesAs, id_prefix, keys_of, keys_referred, kind_wanted}
 use Rattle.erd_normal.specs.NormalTree.{array_of, by_key, by_name, normal_object, normal_objects, normal_reference, normal_selection, normal_tree, reference_cmp, text_of}
 use Rattle.erd_normal.proofs.AskedMembers.{entries_asked}
-use Rattle.erd_normal.proofs.Bounds.{IsBounded}
+use Rattle.erd_normal.specs.Tables.{IsBounded}
 use Rattle.erd_normal.proofs.BuiltLists.{all_rising}
 use Rattle.erd_normal.proofs.CompactTexts.{HasFittingNumbers}
 use Rattle.erd_normal.proofs.FittingNumbers.{within-fitting}

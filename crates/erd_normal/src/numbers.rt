@@ -1,4 +1,4 @@
-ghost use Rattle.std.specs.Prelude.{◌≡◌, true, length, replicate, IfOk};
+ghost use Rattle.std.specs.Prelude.{◌≡◌, ◌<◌, ◌^◌, true, length, replicate, IfOk, OnOk};
 ghost use Rattle.serde_json.specs.View.{view};
 ghost use Rattle.erd_meaning.specs.Accepted.{IsAccepted};
 ghost use Rattle.erd_meaning.specs.Keys.{has_keys};
@@ -18,7 +18,8 @@ pub(crate) fn family_numbers(
 ) -> Result<Vec<usize>, AllocError>
     requires accepted { IsAccepted (view report.now) }
     requires keyed { has_keys family ≡ true }
-    ensures { IfOk result (λ numbers. AreNumbers (view report.now) family numbers.items) }
+    ensures numbers { IfOk result (λ numbers. AreNumbers (view report.now) family numbers.items) }
+    ensures few { OnOk result (length (objects family (view report.now)) < 2 ^ 64) }
 {
     let keyed = keyed_positions(alloc, report, family)?;
     let sorted = in_order(alloc, keyed)?;

@@ -1,4 +1,5 @@
-/// The number of each object of the first eight families, by its position in its family.
+/// The number of each object, by its position in its family: its rank in its family, and for a selection its rank in its
+/// contest, counted from 1.
 #[derive(Drop)]
 pub(crate) struct Tables {
     pub(crate) units: Vec<usize>,
@@ -9,4 +10,5 @@ pub(crate) struct Tables {
     pub(crate) candidates: Vec<usize>,
     pub(crate) contests: Vec<usize>,
     pub(crate) styles: Vec<usize>,
+    pub(crate) selections: Vec<usize>,
 }

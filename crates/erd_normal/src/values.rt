@@ -5,10 +5,9 @@ ghost use Rattle.erd_normal.specs.NormalTree.{array_of, normal_selection_referen
 ghost use Rattle.erd_normal.specs.Tables.{AreTables};
 
 use crate::label::with_rising_text;
-use crate::numbering::reference;
+use crate::numbering::{reference, selection_reference};
 use crate::references::rising_references;
 use crate::rising::rising_values;
-use crate::selection_rule::SelectionRule;
 use crate::shape::{entries_of, is_empty_array};
 use crate::tables::Tables;
 use erd_meaning::Report;
@@ -17,16 +16,14 @@ use serde_json::Value;
 use std::alloc::{AllocError, Global};
 
 /// What the value of a member of this kind that holds no objects becomes; there is none for an empty set or list.
-pub(crate) fn value_of_kind<S: SelectionRule>(
+pub(crate) fn value_of_kind(
     alloc: Global,
     report: &Report,
     tables: &Tables,
-    selections: &S,
     kind: MemberKind,
     value: &Value,
 ) -> Result<Option<Value>, AllocError>
-    requires tables { AreTables (view report.now) tables.now }
-    requires same { S.report selections.now ≡ view report.now }
+    requires { AreTables (view report.now) tables.now }
     ensures { IfOk result (λ built. has_float (view value.now) ≡ false
         → option_map view built ≡ normal_value (view report.now) kind (view value.now)) }
 {
@@ -42,7 +39,7 @@ pub(crate) fn value_of_kind<S: SelectionRule>(
             Ok(unless_empty(value, built))
         }
         MemberKind::Ordered => {
-            let built = selection_references(alloc, selections, entries_of(value))?;
+            let built = selection_references(alloc, report, tables, entries_of(value))?;
             Ok(unless_empty(value, built))
         }
         MemberKind::Identity | MemberKind::Outside => Ok(None),
@@ -61,17 +58,19 @@ pub(crate) fn unless_empty(value: &Value, built: Vec<Value>) -> Option<Value>
     }
 }
 
-fn selection_references<S: SelectionRule>(
+fn selection_references(
     alloc: Global,
-    selections: &S,
+    report: &Report,
+    tables: &Tables,
     values: &[Value],
 ) -> Result<Vec<Value>, AllocError>
+    requires { AreTables (view report.now) tables.now }
     ensures { IfOk result (λ built. map view built.items
-        ≡ map (λ v. normal_selection_reference (S.report selections.now) (view v)) values.now) }
+        ≡ map (λ v. normal_selection_reference (view report.now) (view v)) values.now) }
 {
     let mut references = Vec::with_capacity(alloc, values.len())?;
     for value in values {
-        references.push(selections.selection_reference(alloc, value)?)?;
+        references.push(selection_reference(alloc, report, tables, value)?)?;
     }
     Ok(references)
 }
