@@ -31,7 +31,9 @@ returns-clause-unique c u u_tree form =
 pub returns-clause-depth : goal.returns-clause-depth
 returns-clause-depth c =
     let t = view c.args.report.now in
-    subst (λ d. IsNoDeeper d t) (sym c.in_ok-tree.ensures) (normal_tree-depth t (no_shape_fault t c.in_ok-tables.ensures.accepted))
+    let same : view c.tree-accepted.result.now ≡ t = ap view c.tree-accepted.ensures.tree in
+    subst (λ d. IsNoDeeper d t) (sym c.in_ok-tree.ensures)
+    (normal_tree-depth t (no_shape_fault t c.in_ok-tables.ensures.accepted) (subst IsTree same c.tree-accepted.ensures.is_tree))
 
 pub returns-clause-is_tree : goal.returns-clause-is_tree
 returns-clause-is_tree c =
