@@ -103,3 +103,4 @@ pub mod PlacedTrees
 pub mod PlacedEntries
 pub mod NumberedReferences
 pub mod NormalForms
+pub mod SelectionReferences
