@@ -104,3 +104,4 @@ pub mod PlacedEntries
 pub mod NumberedReferences
 pub mod NormalForms
 pub mod NormalFormsOnly
+pub mod SelectionReferences
