@@ -19,6 +19,7 @@ pub mod Whole
 pub mod Clean
 pub mod Fractions
 pub mod Numbers
+pub mod ReportNumbers
 pub mod ReportTrees
 mod AskedExamples
 mod FaultExamples
