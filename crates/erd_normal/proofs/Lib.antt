@@ -103,3 +103,6 @@ pub mod PlacedTrees
 pub mod PlacedEntries
 pub mod NumberedReferences
 pub mod NormalForms
+pub mod KeyPlaces
+pub mod NumberedParts
+pub mod SelectionPlaces
