@@ -26,7 +26,7 @@ use Rattle.erd_normal.proofs.NumberedParts.{in_part}
 use Rattle.erd_normal.proofs.RisingRanks.{rank_map}
 use Rattle.erd_normal.proofs.RisingSets.{has_from_In}
 use Rattle.erd_normal.specs.KeyRanks.{numbers_in_contest, numbers_in_election, numbers_in_report}
-use Rattle.erd_normal.specs.NormalTree.{by_name, rank_of_name}
+use Rattle.erd_normal.specs.NormalTree.{rank_of_name}
 use Rattle.erd_normal.specs.Tables.{AreSelectionNumbers}
 
 module _ (t : Data) where
