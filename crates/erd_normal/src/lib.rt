@@ -1,6 +1,7 @@
 //! The canonical form of a report.
 #![tactic(auto)]
 
+mod canonical_form;
 mod compact_text;
 mod content;
 mod contest_selections;
@@ -26,6 +27,7 @@ mod tables;
 mod value_rule;
 mod values;
 
+pub use canonical_form::normal_tree;
 pub use compact_text::CompactText;
 pub use laws::{canonical_is_unique, names_agree, objects_agree, references_agree};
 pub use set_order::SetOrder;
