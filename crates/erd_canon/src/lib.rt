@@ -2,11 +2,9 @@
 #![tactic(auto)]
 
 mod acceptance;
-mod bare;
 mod canonical_bytes;
 mod checking;
 mod fault_lines;
-mod naming;
 mod outcome;
 mod read_from;
 mod refusal;
@@ -14,8 +12,6 @@ mod run;
 mod sink;
 mod source;
 mod tally;
-mod tree;
-mod want;
 mod write_and_flush;
 mod write_to;
 
