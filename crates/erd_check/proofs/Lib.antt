@@ -20,6 +20,8 @@ pub mod Clean
 pub mod Fractions
 pub mod Numbers
 pub mod ReportTrees
+pub mod PutTrees
+pub mod ReadTrees
 mod AskedExamples
 mod FaultExamples
 pub mod WholeExamples
