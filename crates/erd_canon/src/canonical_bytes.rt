@@ -1,4 +1,5 @@
 ghost use Rattle.std.specs.Prelude.{◌≡◌, IfOk, IfErr};
+ghost use Rattle.erd_canon.specs.ByteLaws.{IsOwnForm, TellsMeanings};
 ghost use Rattle.erd_canon.specs.Bytes.{IsCanonicalBytes};
 ghost use Rattle.erd_canon.specs.Refused.{RefusedAs};
 
@@ -9,10 +10,13 @@ use std::alloc::Global;
 
 /// The canonical bytes of an accepted report; or why the given bytes are refused.
 ///
-/// They are the text without blanks of the one canonical report that means what the given one means.
+/// They are the text without blanks of the one canonical report that means what the given one means. So two reports have
+/// equal canonical bytes exactly if they mean the same, and canonical bytes are their own.
 #[tactic(auto, using(crate::proofs::Refusing::refused_tree))]
 pub fn canonical(alloc: Global, bytes: &[u8]) -> Result<Vec<u8>, Refusal>
     ensures ok { IfOk result (λ text. IsCanonicalBytes bytes.now text.items) }
+    ensures unique { IfOk result (λ text. TellsMeanings bytes.now text.items) }
+    ensures own { IfOk result (λ text. IsOwnForm text.items) }
     ensures refused { IfErr result (RefusedAs bytes.now) }
 {
     let tree = tree_of(alloc, bytes)?;
