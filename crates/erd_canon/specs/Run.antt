@@ -5,10 +5,9 @@ use Rattle.erd_tables.specs.Faults.{fault_line}
 use Rattle.erd_tables.specs.declared.fault.Fault.{Fault}
 use Rattle.erd_canon.specs.declared.outcome.Outcome.{Outcome}
 use Rattle.erd_canon.specs.declared.outcome.Outcome.TheVariants.{Good, Bad, NotJson}
-use Rattle.erd_canon.specs.Bytes.{IsNotJson}
+use Rattle.erd_canon.specs.Bytes.{IsNotJson, IsCanonicalBytes}
 use Rattle.erd_canon.specs.EngineTexts.{IsRefusedReport, text_of_lines}
 use Rattle.erd_canon.specs.Refused.{IsSomeReport}
-use Rattle.erd_canon.specs.Written.{IsWritten}
 
 -- the bytes have faults, and the text has one line for each
 abbrev pub IsToldFaults : List ℕ → List ℕ → Type 0
@@ -26,7 +25,7 @@ IsChecked bytes NotJson out = IsToldNotJson bytes out
 
 -- what canonicalising writes to the one writer and to the other for given bytes, and the outcome
 abbrev pub IsAnswered : List ℕ → Outcome → List ℕ → List ℕ → Type 0
-IsAnswered bytes Good out err = IsWritten bytes out × (err ≡ [])
+IsAnswered bytes Good out err = IsCanonicalBytes bytes out × (err ≡ [])
 IsAnswered bytes Bad out err = IsToldFaults bytes err × (out ≡ [])
 IsAnswered bytes NotJson out err = IsToldNotJson bytes err × (out ≡ [])
 

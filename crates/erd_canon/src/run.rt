@@ -13,9 +13,10 @@ use std::alloc::Global;
 
 /// Reads a report to its end, judges it, writes its canonical bytes to `out`, and flushes `out` and then `err`.
 ///
-/// Of a report that is not accepted nothing goes to `out`, and one line for each fault goes to `err`; of bytes that are no
-/// JSON, the line `not JSON`. Each line is ended by one line feed. A reader holds at most 67,108,864 bytes. The devices must not have failed yet; after a failure nothing more is read,
-/// written or flushed.
+/// The canonical bytes, as `canonical` gives them, go to `out` with no line end, and then nothing goes to `err`. Of a
+/// report that is not accepted nothing goes to `out`, and one line for each fault goes to `err`; of bytes that are no
+/// JSON, the line `not JSON`. Each line is ended by one line feed. A reader holds at most 67,108,864 bytes. The devices
+/// must not have failed yet; after a failure nothing more is read, written or flushed.
 pub fn run_canon<S: Source, O: Sink, E: Sink>(
     alloc: Global,
     reader: &mut S,
