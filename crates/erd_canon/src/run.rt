@@ -1,6 +1,6 @@
 ghost use Rattle.std.specs.Prelude.{◌≡◌, ◌≢◌, ◌↔◌, ◌⊎◌, ◌+◌, ◌^◌, ◌<◌, ◌≤◌, false, true, Err, IfErr, IfOk, OnOk, IsErrOf};
 ghost use Rattle.erd_canon.specs.Reading.{Exceeds};
-ghost use Rattle.erd_canon.specs.Run.{IsAnswerWritten, IsWholeRun};
+ghost use Rattle.erd_canon.specs.Run.{IsAnswerWritten, IsToldRun, IsWholeRun};
 
 use crate::canonical_bytes::canonical;
 use crate::fault_lines::fault_lines;
@@ -29,6 +29,8 @@ pub fn run_canon<S: Source, O: Sink, E: Sink>(
 
     // What an outcome says.
     ensures whole { IfOk result (λ outcome. IsWholeRun MOST_BYTES outcome (S.remaining reader.old) (S.remaining reader.new)
+        (O.contents out.old) (O.contents out.new) (E.contents err.old) (E.contents err.new)) }
+    ensures told { IfOk result (λ _. IsToldRun MOST_BYTES (S.remaining reader.old) (S.remaining reader.new)
         (O.contents out.old) (O.contents out.new) (E.contents err.old) (E.contents err.new)) }
     ensures flushed { OnOk result ((O.is_flushed out.new ≡ true) × (E.is_flushed err.new ≡ true)) }
 
