@@ -2,6 +2,7 @@
 #![tactic(auto)]
 
 mod carried;
+mod choice;
 mod content;
 pub mod difference;
 mod families;
