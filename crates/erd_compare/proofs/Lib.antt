@@ -4,3 +4,4 @@ pub mod FirstDifferenceExamples
 mod BallotDifferenceExamples
 pub mod WholeTrees
 pub mod JsonSets
+pub mod ChosenMembers
