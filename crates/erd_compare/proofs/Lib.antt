@@ -5,3 +5,4 @@ mod BallotDifferenceExamples
 pub mod WholeTrees
 pub mod JsonSets
 pub mod ChosenMembers
+pub mod Labels
