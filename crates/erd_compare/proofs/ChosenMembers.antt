@@ -36,6 +36,7 @@ found_later Equal name k c d chosen all is left rest =
     rest ∙ ap (λ b. cond b all None) not_taken ∙ sym (ap (λ b. cond b (Some d) None) not_taken)
 found_later Greater name k c d chosen all is left rest = rest
 
+-- nothing, whatever a test says
 nothing_either_way : (b : Bool) (o : Option Data) → o ≡ None → o ≡ cond b o None
 nothing_either_way true o e = refl
 nothing_either_way false o e = e
@@ -50,6 +51,7 @@ get_member-chosen name c (member k d ms) = at (takes_name c k) refl (get_member-
     at true is rest = found_first (text_cmp name k) name k c d (get_member name (chosen_members c ms)) (get_member name ms) refl is rest
     at false is rest = found_later (text_cmp name k) name k c d (get_member name (chosen_members c ms)) (get_member name ms) refl is rest
 
+-- a value has the members of its object
 get-members_in : (name : List ℕ) (d : Data) → get name d ≡ get_member name (members_in d)
 get-members_in name null = refl
 get-members_in name (boolean b) = refl
@@ -77,6 +79,7 @@ before_chosen k c (member l e ms) rise below = at (takes_name c l) (before_chose
     at true rest = below
     at false rest = rest
 
+-- chosen members are trees under rising names, where all members are
 chosen-rise : (c : Choice) (ms : Members) → AreMembers ms → AreMembers (chosen_members c ms)
 chosen-rise c no_members rise = tt
 chosen-rise c (member k d ms) rise = at (takes_name c k) (chosen-rise c ms rise.2)
@@ -85,6 +88,7 @@ chosen-rise c (member k d ms) rise = at (takes_name c k) (chosen-rise c ms rise.
     at true rest = (before_chosen k c ms rise.2 rise.0, rise.1, rest)
     at false rest = rest
 
+-- chosen members hold no fraction, where no member does
 chosen-whole : (c : Choice) (ms : Members) → members_have_float ms ≡ false → members_have_float (chosen_members c ms) ≡ false
 chosen-whole c no_members h = refl
 chosen-whole c (member k d ms) h = at (takes_name c k) (or_parts (has_float d) (members_have_float ms) h).0 (chosen-whole c ms (or_parts (has_float d) (members_have_float ms) h).1)
@@ -93,6 +97,7 @@ chosen-whole c (member k d ms) h = at (takes_name c k) (or_parts (has_float d) (
     at true first rest = or_from (has_float d) (members_have_float (chosen_members c ms)) first rest
     at false first rest = rest
 
+-- the members of a whole tree are trees under rising names
 members_in-rise : (d : Data) → IsWholeTree d → AreMembers (members_in d)
 members_in-rise null h = tt
 members_in-rise (boolean b) h = tt
@@ -101,6 +106,7 @@ members_in-rise (string s) h = tt
 members_in-rise (array ds) h = tt
 members_in-rise (object ms) h = h.is_tree
 
+-- the members of a whole tree hold no fraction
 members_in-whole : (d : Data) → IsWholeTree d → members_have_float (members_in d) ≡ false
 members_in-whole null h = refl
 members_in-whole (boolean b) h = refl
@@ -115,6 +121,7 @@ members_in-whole (object ms) h = h.whole
 abbrev by_name : Members → JsonMap
 by_name ms name = get_member name ms
 
+-- members under rising names are the same, one by one, exactly if they are the same under each name
 members-Decide : (ms ns : Members) → AreMembers ms → AreMembers ns → members_have_float ms ≡ false → Decides (are_same_members ms ns) (by_name ms) (by_name ns)
 members-Decide ms ns left right whole = (λ h. ap by_name (are_same_members_exact ms ns left right h), backward)
   where

@@ -12,10 +12,12 @@ use Rattle.erd_compare.specs.Comparing.{Decides}
 use Rattle.erd_compare.specs.declared.choice.Choice.TheVariants.{BesideText}
 use Rattle.erd_compare.proofs.JsonSets.{both_hold}
 
+-- the members beside the translations
 abbrev beside_in : Label → JsonMap
 beside_in (translated beside texts) = beside
 beside_in (untranslated text) = λ name. None
 
+-- the translations
 abbrev texts_in : Label → JsonSet
 texts_in (translated beside texts) = texts
 texts_in (untranslated text) = λ d. false
