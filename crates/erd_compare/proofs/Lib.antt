@@ -2,3 +2,7 @@ mod DifferenceExamples
 pub mod OrderExamples
 pub mod FirstDifferenceExamples
 mod BallotDifferenceExamples
+pub mod WholeTrees
+pub mod JsonSets
+pub mod ChosenMembers
+pub mod Labels

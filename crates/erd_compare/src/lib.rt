@@ -2,12 +2,14 @@
 #![tactic(auto)]
 
 mod carried;
+mod choice;
 mod content;
 pub mod difference;
 mod families;
 mod first;
 mod label;
 mod line;
+mod members;
 mod plain;
 mod record;
 mod references;
