@@ -2,3 +2,5 @@ mod DifferenceExamples
 pub mod OrderExamples
 pub mod FirstDifferenceExamples
 mod BallotDifferenceExamples
+pub mod ReferencedKeys
+pub mod ReferencedNames
