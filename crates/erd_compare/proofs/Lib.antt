@@ -4,3 +4,4 @@ pub mod FirstDifferenceExamples
 mod BallotDifferenceExamples
 pub mod ReferencedKeys
 pub mod ReferencedNames
+pub mod NamedKeySets
