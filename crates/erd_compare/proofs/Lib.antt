@@ -6,3 +6,6 @@ pub mod WholeTrees
 pub mod JsonSets
 pub mod ChosenMembers
 pub mod Labels
+pub mod ReferencedKeys
+pub mod ReferencedNames
+pub mod NamedKeySets
