@@ -5,3 +5,5 @@ mod BallotDifferenceExamples
 pub mod WholeTrees
 pub mod JsonSets
 pub mod ChosenMembers
+pub mod SameSelections
+pub mod FoundNames
