@@ -9,3 +9,5 @@ pub mod Labels
 pub mod ReferencedKeys
 pub mod ReferencedNames
 pub mod NamedKeySets
+pub mod SameSelections
+pub mod FoundNames
