@@ -6,3 +6,4 @@ pub mod WholeTrees
 pub mod JsonSets
 pub mod ChosenMembers
 pub mod Labels
+pub mod MemberValues
