@@ -7,3 +7,4 @@ pub mod JsonSets
 pub mod ChosenMembers
 pub mod Labels
 pub mod MemberValues
+pub mod LesserNames

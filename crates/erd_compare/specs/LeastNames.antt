@@ -1,6 +1,6 @@
 -- The least name at which two objects of one class differ, sought among the names of the one and of the other.
-use Rattle.std.specs.Prelude.{ℕ, ◌≡◌, ◌≢◌, List, Bool, true, false, Option, Some, None, option_and_then}
-use Rattle.std.specs.Ordering.{match_ordering}
+use Rattle.std.specs.Prelude.{ℕ, ◌≡◌, ◌≢◌, List, Bool, true, false, Option, Some, None, option_and_then, if◌then◌else◌}
+use Rattle.std.specs.Ordering.{is_lt}
 use Rattle.std.specs.declared.cmp.Ordering.TheVariants.{Less}
 use Rattle.serde_json.specs.Data.{Data}
 use Rattle.serde_json.specs.Find.{get}
@@ -52,4 +52,4 @@ TellsAmong m n d (Some name) = DifferAmong m n d name
 abbrev pub lesser_name : Option (List ℕ) → Option (List ℕ) → Option (List ℕ)
 lesser_name None other = other
 lesser_name (Some k) None = Some k
-lesser_name (Some k) (Some l) = match_ordering (text_cmp k l) (Some k) (Some k) (Some l)
+lesser_name (Some k) (Some l) = if is_lt (text_cmp l k) then Some l else Some k

@@ -105,8 +105,8 @@ fn lesser<'a>(one: Option<&'a str>, other: Option<&'a str>) -> Option<&'a str>
     ensures { option_map (λ s. s.now) result ≡ lesser_name (option_map (λ s. s.now) one.entry) (option_map (λ s. s.now) other.entry) }
 {
     match (one, other) {
-        (Some(first), Some(second)) if second < first => Some(second),
-        (None, second) => second,
-        (first, _) => first,
+        (Some(first), Some(second)) => Some(first.min(second)),
+        (Some(_), None) => one,
+        (None, _) => other,
     }
 }
