@@ -10,7 +10,7 @@ use Rattle.erd_meaning.specs.Meaning.{PlainValue, MemberValue, SelectionRecord, 
 use Rattle.erd_meaning.specs.NameParts.{NameParts}
 use Rattle.erd_meaning.specs.Records.{member_value, selection_map, unless_empty}
 use Rattle.erd_compare.specs.Comparing.{Decides, IsWholeTree}
-use Rattle.erd_compare.specs.LeastNames.{if_filled, is_selections, selections_of}
+use Rattle.erd_compare.specs.SelectionMembers.{if_filled, is_selections, selections_of}
 use Rattle.erd_compare.proofs.WholeTrees.{whole_tree-get}
 
 -- ---- selections

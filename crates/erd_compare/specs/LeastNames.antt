@@ -1,34 +1,13 @@
 -- The least name at which two objects of one class differ, sought among the names of the one and of the other.
-use Rattle.std.specs.Prelude.{ℕ, ◌≡◌, ◌≢◌, List, Bool, true, false, Option, Some, None, option_and_then, if◌then◌else◌}
+use Rattle.std.specs.Prelude.{ℕ, ◌≡◌, ◌≢◌, List, Option, Some, None, if◌then◌else◌}
 use Rattle.std.specs.Ordering.{is_lt}
 use Rattle.std.specs.declared.cmp.Ordering.TheVariants.{Less}
 use Rattle.serde_json.specs.Data.{Data}
 use Rattle.serde_json.specs.Find.{get}
-use Rattle.erd_check.specs.Trees.{entries_of}
 use Rattle.erd_tables.specs.Texts.{text_cmp}
 use Rattle.erd_tables.specs.declared.class.Class.{Class}
-use Rattle.erd_tables.specs.declared.class.Family.TheVariants as family
-use Rattle.erd_tables.specs.declared.member.MemberKind.{MemberKind}
-use Rattle.erd_tables.specs.declared.member.MemberKind.TheVariants as kind
-use Rattle.erd_meaning.specs.Meaning.{MemberValue, ObjectRecord, a_selection_map}
-use Rattle.erd_meaning.specs.Records.{member_of_class, selection_map, unless_empty}
-
--- ---- selections
-
--- whether members of this kind are selections
-abbrev pub is_selections : MemberKind → Bool
-is_selections (kind.Keyed family.Selection) = true
-is_selections k = false
-
--- a value, unless it is an empty array
-abbrev pub if_filled : Option Data → Option Data
-if_filled found = option_and_then (λ d. unless_empty d d) found
-
--- what the selections of a contest mean, where it has any
-abbrev pub selections_of : Data → Option Data → Option MemberValue
-selections_of t found = option_and_then (λ d. unless_empty (a_selection_map (selection_map t (entries_of d))) d) found
-
--- ---- members
+use Rattle.erd_meaning.specs.Meaning.{MemberValue, ObjectRecord}
+use Rattle.erd_meaning.specs.Records.{member_of_class}
 
 -- what an object means under each name
 abbrev pub MemberMap : Type 0

@@ -4,7 +4,7 @@ ghost use Rattle.serde_json.specs.View.{view};
 ghost use Rattle.erd_check.specs.Faults.{is_empty_array};
 ghost use Rattle.erd_meaning.specs.Records.{member_of_class};
 ghost use Rattle.erd_compare.specs.Comparing.{Decides, IsWholeTree};
-ghost use Rattle.erd_compare.specs.LeastNames.{if_filled, is_selections, selections_of};
+ghost use Rattle.erd_compare.specs.SelectionMembers.{if_filled, is_selections, selections_of};
 
 use crate::members::entries_of;
 use crate::plain::is_same_plain_member;

@@ -1,10 +1,8 @@
 -- The maps of the entries are the same.
-use Rattle.std.proofs.Common.{◌≡◌, Option, Some, map, sym, ap, ◌∙◌, subst, option_map, Bor}
+use Rattle.std.proofs.Common.{Option, sym, ap, ◌∙◌, option_map, Bor}
 use Rattle.serde_json.specs.Data.{Data}
-use Rattle.serde_json.specs.Find.{get}
 use Rattle.serde_json.specs.View.{view}
 use Rattle.serde_json.specs.declared.value.Value.{Value}
-use Rattle.erd_compare.specs.LeastNames.{if_filled}
 use Rattle.erd_compare.proofs.MemberValues.{selections-Decide, whole_tree-filled}
 use Rattle.erd_compare.proofs.WholeTrees.{whole_values-entries_of}
 use Rattle.erd_compare.proofs.member.is_same_selections.Goals as goal
