@@ -11,3 +11,5 @@ pub mod ReferencedNames
 pub mod NamedKeySets
 pub mod SameSelections
 pub mod FoundNames
+pub mod MemberValues
+pub mod LesserNames
