@@ -5,3 +5,6 @@ mod BallotDifferenceExamples
 pub mod WholeTrees
 pub mod JsonSets
 pub mod ChosenMembers
+pub mod FamilyTrees
+pub mod KeyedRecords
+pub mod LeastDifferences
