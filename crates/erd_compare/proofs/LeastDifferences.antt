@@ -1,5 +1,5 @@
 -- The least key at which two maps differ, as the keys are gone over.
-use Rattle.std.proofs.Common.{◌≡◌, ℕ, zero, suc, ◌+◌, ◌<◌, ◌⊎◌, inl, inr, ⊎_elim, List, [], ◌∷◌, length, Option, Some, None, cond, is_lt, option_and_then, Ordering, Less, Equal, Greater, true, refl, sym, ap, ◌∙◌, subst, arith}
+use Rattle.std.proofs.Common.{◌≡◌, ℕ, zero, suc, ◌+◌, ◌<◌, ◌≤◌, ◌⊎◌, inl, inr, ⊎_elim, List, [], ◌∷◌, length, Option, Some, None, cond, is_lt, option_and_then, Ordering, Less, Equal, Greater, true, refl, sym, ap, ◌∙◌, subst, arith}
 use Rattle.std.specs.Cmp.{IsTotalOrder}
 use Rattle.std.specs.List.{slice_get}
 use Rattle.std.specs.Ordering.{ordering_reverse}
@@ -112,3 +112,35 @@ any_key t u f k c e keyed = at (key_or_none t c f keyed k) (key_or_none u e f ke
     at (inl left) right = inl (inl left)
     at (inr none) (inl right) = inl (inr (right, none))
     at (inr none) (inr lacking) = inr (neither_record t u f k c e keyed none lacking)
+
+-- ---- the keys of the left report, one after another
+
+module _ (m n : Key → Option ObjectRecord) (t : Data) (f : Family) (i : ℕ) (one after : Option KeyedDifference) (told : TellsAmong m n (HasKeyAmong t f i) one) where
+  pub left_differs : (other lesser : KeyedDifference) → Some other.key.now ≡ key_in f t i → Differ (m other.key.now) (n other.key.now) other.how
+      → after ≡ Some lesser → lesser ≡ lesser_difference one other → TellsAmong m n (HasKeyAmong t f (i + 1)) after
+  left_differs other lesser at differ is made =
+      subst (TellsAmong m n (HasKeyAmong t f (i + 1))) (sym (is ∙ ap Some made))
+      (told_added m n (HasKeyAmong t f i) (HasKeyAmong t f (i + 1)) one other to told differ)
+    where
+      to : (k : Key) → HasKeyAmong t f (i + 1) k → HasKeyAmong t f i k ⊎ (other.key.now ≡ k)
+      to k h = ⊎_elim inl (λ e. let same : Some other.key.now ≡ Some k = at ∙ e in inr (cc)) (among_more t f i k h)
+
+  pub left_same : (key : Key) → Some key ≡ key_in f t i → m key ≡ n key → after ≡ one → TellsAmong m n (HasKeyAmong t f (i + 1)) after
+  left_same key at same is =
+      subst (TellsAmong m n (HasKeyAmong t f (i + 1))) (sym is) (told_of m n (HasKeyAmong t f i) (HasKeyAmong t f (i + 1)) one to told)
+    where
+      to : (k : Key) → HasKeyAmong t f (i + 1) k → HasKeyAmong t f i k ⊎ (m k ≡ n k)
+      to k h =
+          ⊎_elim inl (λ e.
+          let both : Some key ≡ Some k = at ∙ e in
+          let its : key ≡ k = cc in inr (subst (λ x. m x ≡ n x) its same)) (among_more t f i k h)
+
+  pub left_keyless : None ≡ key_in f t i → after ≡ one → TellsAmong m n (HasKeyAmong t f (i + 1)) after
+  left_keyless at is =
+      subst (TellsAmong m n (HasKeyAmong t f (i + 1))) (sym is) (told_of m n (HasKeyAmong t f i) (HasKeyAmong t f (i + 1)) one to told)
+    where
+      to : (k : Key) → HasKeyAmong t f (i + 1) k → HasKeyAmong t f i k ⊎ (m k ≡ n k)
+      to k h = ⊎_elim inl (λ e. let clash : None ≡ Some k = at ∙ e in absurd (cc)) (among_more t f i k h)
+
+  pub left_all : length (objects f t) ≤ i → TellsAmong m n (HasKey t f) one
+  left_all all = told_of m n (HasKeyAmong t f i) (HasKey t f) one (λ k h. let a = among_all t f k h in inl (a.0, omega (arith, a.1), a.2)) told
