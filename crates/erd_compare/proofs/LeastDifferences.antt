@@ -1,5 +1,5 @@
 -- The least key at which two maps differ, as the keys are gone over.
-use Rattle.std.proofs.Common.{◌≡◌, ℕ, zero, suc, ◌+◌, ◌<◌, ◌≤◌, ◌⊎◌, inl, inr, ⊎_elim, List, [], ◌∷◌, length, Option, Some, None, cond, is_lt, option_and_then, Ordering, Less, Equal, Greater, true, refl, sym, ap, ◌∙◌, subst, arith}
+use Rattle.std.proofs.Common.{◌≡◌, ℕ, zero, suc, ◌+◌, ◌<◌, ◌≤◌, ◌⊎◌, inl, inr, ⊎_elim, List, [], ◌∷◌, length, Option, Some, None, cond, is_lt, is_some, true, false, option_and_then, Ordering, Less, Equal, Greater, refl, sym, ap, ◌∙◌, subst, arith}
 use Rattle.std.specs.Cmp.{IsTotalOrder}
 use Rattle.std.specs.List.{slice_get}
 use Rattle.std.specs.Ordering.{ordering_reverse}
@@ -7,7 +7,7 @@ use Rattle.std.proofs.lemmas.Cmp.{tied_itself}
 use Rattle.serde_json.specs.Data.{Data}
 use Rattle.erd_tables.specs.declared.class.Family.{Family}
 use Rattle.erd_meaning.specs.Keys.{has_keys, key_cmp}
-use Rattle.erd_meaning.specs.Lookups.{key_in}
+use Rattle.erd_meaning.specs.Lookups.{FindsKey, key_in}
 use Rattle.erd_meaning.specs.Meaning.{ObjectRecord}
 use Rattle.erd_meaning.specs.Objects.{Placed, objects}
 use Rattle.erd_meaning.specs.ObjectWalk.{kept_key}
@@ -144,3 +144,48 @@ module _ (m n : Key → Option ObjectRecord) (t : Data) (f : Family) (i : ℕ) (
 
   pub left_all : length (objects f t) ≤ i → TellsAmong m n (HasKey t f) one
   left_all all = told_of m n (HasKeyAmong t f i) (HasKey t f) one (λ k h. let a = among_all t f k h in inl (a.0, omega (arith, a.1), a.2)) told
+
+-- ---- the keys of the right report that the left one lacks, one after another
+
+pub found_none : (t : Data) (f : Family) (k : Key) (found : Option ℕ) → FindsKey t f k found → is_some found ≡ false → HasKey t f k → ⊥
+found_none t f k None finds none h = let clash : None ≡ Some h.0 = (finds h.0).1 h.1 in cc
+found_none t f k (Some i) finds none h = cc
+
+pub found_some : (t : Data) (f : Family) (k : Key) (found : Option ℕ) → FindsKey t f k found → is_some found ≡ true → HasKey t f k
+found_some t f k None finds some = cc
+found_some t f k (Some i) finds some = (i, (finds i).0 refl)
+
+-- a key among one more object is among the others, or that object's
+alone_more : (t u : Data) (f : Family) (i : ℕ) (k : Key) → HasKeyAloneAmong t u f (i + 1) k → HasKeyAloneAmong t u f i k ⊎ (key_in f u i ≡ Some k)
+alone_more t u f i k h = ⊎_elim (λ a. inl (a, h.1)) inr (among_more u f i k h.0)
+
+module _ (m n : Key → Option ObjectRecord) (t u : Data) (f : Family) (i : ℕ) (one after : Option KeyedDifference) (told : TellsAmong m n (HasKeyAloneAmong t u f i) one) where
+  pub right_differs : (other lesser : KeyedDifference) → Some other.key.now ≡ key_in f u i → Differ (m other.key.now) (n other.key.now) other.how
+      → after ≡ Some lesser → lesser ≡ lesser_difference one other → TellsAmong m n (HasKeyAloneAmong t u f (i + 1)) after
+  right_differs other lesser at differ is made =
+      subst (TellsAmong m n (HasKeyAloneAmong t u f (i + 1))) (sym (is ∙ ap Some made))
+      (told_added m n (HasKeyAloneAmong t u f i) (HasKeyAloneAmong t u f (i + 1)) one other to told differ)
+    where
+      to : (k : Key) → HasKeyAloneAmong t u f (i + 1) k → HasKeyAloneAmong t u f i k ⊎ (other.key.now ≡ k)
+      to k h = ⊎_elim inl (λ e. let same : Some other.key.now ≡ Some k = at ∙ e in inr (cc)) (alone_more t u f i k h)
+
+  pub right_known : (key : Key) → Some key ≡ key_in f u i → HasKey t f key → after ≡ one → TellsAmong m n (HasKeyAloneAmong t u f (i + 1)) after
+  right_known key at known is =
+      subst (TellsAmong m n (HasKeyAloneAmong t u f (i + 1))) (sym is) (told_of m n (HasKeyAloneAmong t u f i) (HasKeyAloneAmong t u f (i + 1)) one to told)
+    where
+      to : (k : Key) → HasKeyAloneAmong t u f (i + 1) k → HasKeyAloneAmong t u f i k ⊎ (m k ≡ n k)
+      to k h =
+          ⊎_elim inl (λ e.
+          let both : Some key ≡ Some k = at ∙ e in
+          let its : key ≡ k = cc in absurd (h.1 (subst (HasKey t f) its known))) (alone_more t u f i k h)
+
+  pub right_keyless : None ≡ key_in f u i → after ≡ one → TellsAmong m n (HasKeyAloneAmong t u f (i + 1)) after
+  right_keyless at is =
+      subst (TellsAmong m n (HasKeyAloneAmong t u f (i + 1))) (sym is) (told_of m n (HasKeyAloneAmong t u f i) (HasKeyAloneAmong t u f (i + 1)) one to told)
+    where
+      to : (k : Key) → HasKeyAloneAmong t u f (i + 1) k → HasKeyAloneAmong t u f i k ⊎ (m k ≡ n k)
+      to k h = ⊎_elim inl (λ e. let clash : None ≡ Some k = at ∙ e in absurd (cc)) (alone_more t u f i k h)
+
+  pub right_all : length (objects f u) ≤ i → TellsAmong m n (HasKeyAlone t u f) one
+  right_all all =
+      told_of m n (HasKeyAloneAmong t u f i) (HasKeyAlone t u f) one (λ k h. let a = among_all u f k h.0 in inl ((a.0, omega (arith, a.1), a.2), h.1)) told
