@@ -189,3 +189,30 @@ module _ (m n : Key → Option ObjectRecord) (t u : Data) (f : Family) (i : ℕ)
   pub right_all : length (objects f u) ≤ i → TellsAmong m n (HasKeyAlone t u f) one
   right_all all =
       told_of m n (HasKeyAloneAmong t u f i) (HasKeyAlone t u f) one (λ k h. let a = among_all u f k h.0 in inl ((a.0, omega (arith, a.1), a.2), h.1)) told
+
+-- ---- the keys of both reports
+
+module _ (t u : Data) (f : Family) (c : IsComparable t) (e : IsComparable u) (keyed : has_keys f ≡ true) where
+  either_told : (A : Key → Type 0) → ((k : Key) → HasKeyAlone t u f k → A k ⊎ (records_of t f k ≡ records_of u f k)) → ((k : Key) → HasKey t f k → A k) → (k : Key) → A k ⊎ (records_of t f k ≡ records_of u f k)
+  either_told A right left k = at (any_key t u f k c e keyed)
+    where
+      at : (HasKey t f k ⊎ HasKeyAlone t u f k) ⊎ (records_of t f k ≡ records_of u f k) → A k ⊎ (records_of t f k ≡ records_of u f k)
+      at (inl (inl a)) = inl (left k a)
+      at (inl (inr b)) = right k b
+      at (inr same) = inr same
+
+  -- of the differences of both sides, the lesser is the least of all
+  pub both_sides : (one : Option KeyedDifference) (other lesser : KeyedDifference) → TellsAmong (records_of t f) (records_of u f) (HasKey t f) one
+      → DifferAmong (records_of t f) (records_of u f) (HasKeyAlone t u f) other.key.now other.how → lesser ≡ lesser_difference one other
+      → TellsAmong (records_of t f) (records_of u f) IsAnyKey (Some lesser)
+  both_sides one other lesser told differ made =
+      subst (λ d. TellsAmong (records_of t f) (records_of u f) IsAnyKey (Some d)) (sym made)
+      (told_of (records_of t f) (records_of u f) (λ k. HasKey t f k ⊎ HasKeyAlone t u f k) IsAnyKey (Some (lesser_difference one other))
+      (λ k any. either_told (λ k. HasKey t f k ⊎ HasKeyAlone t u f k) (λ k b. inl (inr b)) (λ k a. inl a) k)
+      (told_lesser (records_of t f) (records_of u f) (HasKey t f) (HasKeyAlone t u f) one other told differ))
+
+  -- where no key of the right report alone has a difference, the least of the left one is the least of all
+  pub one_side : (one : Option KeyedDifference) → TellsAmong (records_of t f) (records_of u f) (HasKey t f) one → TellsAmong (records_of t f) (records_of u f) (HasKeyAlone t u f) None
+      → TellsAmong (records_of t f) (records_of u f) IsAnyKey one
+  one_side one told none =
+      told_of (records_of t f) (records_of u f) (HasKey t f) IsAnyKey one (λ k any. either_told (HasKey t f) (λ k b. inr (none k b)) (λ k a. a) k) told

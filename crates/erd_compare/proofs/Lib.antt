@@ -8,3 +8,4 @@ pub mod ChosenMembers
 pub mod FamilyTrees
 pub mod KeyedRecords
 pub mod LeastDifferences
+pub mod PartsTold
