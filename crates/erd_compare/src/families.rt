@@ -26,12 +26,14 @@ pub(crate) fn part_difference(
     let other = right.tree();
     match family_of(part) {
         Some(family) => family_difference(alloc, left, right, part, family),
-        None if part == Part::Election => {
-            let one = left.election();
-            let other = right.election();
-            whole_difference(alloc, left, right, part, Role::Election, one, other)
-        }
-        None => whole_difference(alloc, left, right, part, Role::Report, one, other),
+        None => match part {
+            Part::Election => {
+                let one = left.election();
+                let other = right.election();
+                whole_difference(alloc, left, right, part, Role::Election, one, other)
+            }
+            _ => whole_difference(alloc, left, right, part, Role::Report, one, other),
+        },
     }
 }
 
