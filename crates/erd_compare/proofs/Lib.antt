@@ -9,3 +9,4 @@ pub mod FamilyTrees
 pub mod KeyedRecords
 pub mod LeastDifferences
 pub mod PartsTold
+pub mod PartsInOrder
