@@ -13,3 +13,8 @@ pub mod SameSelections
 pub mod FoundNames
 pub mod MemberValues
 pub mod LesserNames
+pub mod FamilyTrees
+pub mod KeyedRecords
+pub mod LeastDifferences
+pub mod PartsTold
+pub mod PartsInOrder
