@@ -8,7 +8,7 @@ use Rattle.serde_json.specs.Data.{Data}
 use Rattle.erd_tables.specs.declared.class.Family.{Family}
 use Rattle.erd_tables.specs.declared.class.Family.TheVariants as family
 use Rattle.erd_meaning.specs.Keys.{key_cmp}
-use Rattle.erd_meaning.specs.Meaning.{Meaning, ObjectRecord}
+use Rattle.erd_meaning.specs.Meaning.{Meaning}
 use Rattle.erd_meaning.specs.Records.{meaning, records_of}
 use Rattle.erd_meaning.specs.declared.key.Key.{Key}
 use Rattle.erd_meaning.proofs.OneObject.{which_first}

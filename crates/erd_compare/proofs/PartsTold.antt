@@ -1,5 +1,5 @@
 -- What is told of a family, of the report or of the election is told of its part.
-use Rattle.std.proofs.Common.{◌≡◌, true, false, List, [], ◌∷◌, map, Option, Some, None, option_and_then, Less, refl, sym, ap, ◌∙◌, subst}
+use Rattle.std.proofs.Common.{◌≡◌, false, List, [], ◌∷◌, map, Option, Some, None, option_and_then, Less, refl, sym, ap, ◌∙◌, subst}
 use Rattle.std.specs.List.{slice_get}
 use Rattle.std.specs.Option.{option_cmp}
 use Rattle.serde_json.specs.Data.{Data}
@@ -10,7 +10,7 @@ use Rattle.erd_tables.specs.declared.class.Family.{Family}
 use Rattle.erd_tables.specs.declared.class.Role.TheVariants as role
 use Rattle.erd_check.specs.Trees.{IsTree}
 use Rattle.erd_meaning.specs.Accepted.{IsAccepted}
-use Rattle.erd_meaning.specs.Keys.{has_keys, key_cmp}
+use Rattle.erd_meaning.specs.Keys.{key_cmp}
 use Rattle.erd_meaning.specs.Meaning.{Meaning, ObjectRecord}
 use Rattle.erd_meaning.specs.Objects.{Placed, elections}
 use Rattle.erd_meaning.specs.Records.{meaning, object_record}
@@ -51,11 +51,11 @@ keyed_told m n p f e None h = λ k. keyed_at p f e m k ∙ (equal_keyed m n f h 
 keyed_told m n p f e (Some d) h = record {
   its_part = h.its_part;
   differ =
-    differ_along (record_at m p d.key) (record_at n p d.key) (m.objects f h.key) (n.objects f h.key) d.how (ap (record_at m p) h.its_key ∙ keyed_at p f e m (Some h.key))
-    (ap (record_at n p) h.its_key ∙ keyed_at p f e n (Some h.key)) h.at.differ;
+      differ_along (record_at m p d.key) (record_at n p d.key) (m.objects f h.key) (n.objects f h.key) d.how (ap (record_at m p) h.its_key ∙ keyed_at p f e m (Some h.key))
+      (ap (record_at n p) h.its_key ∙ keyed_at p f e n (Some h.key)) h.at.differ;
   least = λ k less.
-    keyed_at p f e m k
-    ∙ (least_keyed m n f h.key h.at.least k (subst (λ x. option_cmp key_cmp k x ≡ Less) h.its_key less) ∙ sym (keyed_at p f e n k));
+      keyed_at p f e m k
+      ∙ (least_keyed m n f h.key h.at.least k (subst (λ x. option_cmp key_cmp k x ≡ Less) h.its_key less) ∙ sym (keyed_at p f e n k));
 }
 
 -- ---- the report and the election
