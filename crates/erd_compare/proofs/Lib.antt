@@ -4,3 +4,5 @@ pub mod FirstDifferenceExamples
 mod BallotDifferenceExamples
 pub mod WholeTrees
 pub mod JsonSets
+pub mod ReferencedKeys
+pub mod ReferencedNames
