@@ -19,6 +19,7 @@ pub mod Whole
 pub mod Clean
 pub mod Fractions
 pub mod Numbers
+pub mod ReportNumbers
 pub mod ReportTrees
 pub mod PutTrees
 pub mod ReadTrees

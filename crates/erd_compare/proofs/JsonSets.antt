@@ -13,14 +13,24 @@ use Rattle.erd_compare.proofs.WholeTrees.{AreWholeTrees, whole_tree-exact, whole
 
 -- ---- tests
 
+-- tests that hold of the same are the same
 same_tests : (a b : Bool) → (a ≡ true → b ≡ true) → (b ≡ true → a ≡ true) → a ≡ b
 same_tests true b to from = sym (to refl)
 same_tests false true to from = from refl
 same_tests false false to from = refl
 
+-- two tests that hold
 pub both_hold : (a b : Bool) → a ≡ true → b ≡ true → a && b ≡ true
 both_hold true b e f = f
 both_hold false b e f = absurd (true≢false (sym e))
+
+-- the answer of two tests, of which the second is made only if the first holds
+pub second_answer : (a b r s : Bool) → r ≡ a → s ≡ b → r ≡ true → a && b ≡ s
+second_answer a b r s first second holds = ap (λ x. x && b) (sym first ∙ holds) ∙ sym second
+
+-- the same, where the first does not hold
+pub first_answer : (a b r : Bool) → r ≡ a → r ≡ false → a && b ≡ r
+first_answer a b r first fails = ap (λ x. x && b) (sym first ∙ fails) ∙ sym fails
 
 -- a test that holds of each entry holds of all
 all_hold : (test : Data → Bool) (ds : List Data) → ((d : Data) → Has ds d → test d ≡ true) → list_all test ds ≡ true

@@ -4,9 +4,12 @@ pub mod FirstDifferenceExamples
 mod BallotDifferenceExamples
 pub mod WholeTrees
 pub mod JsonSets
+pub mod ChosenMembers
+pub mod Labels
 pub mod ReferencedKeys
 pub mod ReferencedNames
-pub mod SameContents
-pub mod StepByStep
+pub mod NamedKeySets
 pub mod EqualOptions
+pub mod StepByStep
+pub mod SameContents
 pub mod NodeParts

@@ -1,5 +1,5 @@
 -- What a reference names is the object that is found by its `@id`, if it is of the family that is asked for.
-use Rattle.std.proofs.Common.{◌≡◌, ◌==◌, ℕ, suc, List, [], ◌∷◌, cond, true, false, true≢false, Option, Some, None, option_and_then, option_map, find, zero, refl, sym, ap, ◌∙◌, subst}
+use Rattle.std.proofs.Common.{◌≡◌, ◌==◌, ℕ, suc, List, [], ◌∷◌, cond, true, false, true≢false, Option, Some, None, option_and_then, option_map, zero, refl, sym, ap, ◌∙◌, subst}
 use Rattle.std.proofs.lemmas.Option.{some_pair_parts}
 use Rattle.std.specs.List.{slice_get}
 use Rattle.serde_json.specs.Data.{Data}
@@ -16,7 +16,6 @@ use Rattle.erd_meaning.specs.Lookups.{FindsId, id_in, key_in}
 use Rattle.erd_meaning.specs.Objects.{Placed, has_id, id_of, objects, owner_at}
 use Rattle.erd_meaning.specs.ObjectWalk.{kept_key}
 use Rattle.erd_meaning.specs.SelectionNames.{key_named}
-use Rattle.erd_meaning.specs.declared.key.Key.{Key}
 
 -- ---- positions in lists
 

@@ -10,7 +10,7 @@ use Rattle.erd_tables.specs.declared.class.Family.TheVariants as family
 use Rattle.erd_meaning.proofs.NamesTold.{Numbered}
 use Rattle.erd_meaning.specs.Lookups.{FindsId, selection_in}
 use Rattle.erd_meaning.specs.NameParts.{NameParts}
-use Rattle.erd_meaning.specs.Objects.{Placed, contests, numbered_selections, numbered_selections_of, objects, owner_at, selections_of}
+use Rattle.erd_meaning.specs.Objects.{Placed, contests, numbered_selections, numbered_selections_of, objects, selections_of}
 use Rattle.erd_meaning.specs.SelectionNames.{name_named, name_of}
 use Rattle.erd_compare.proofs.ReferencedKeys.{owner_elsewhere, owner_here, owner_nowhere}
 

@@ -19,12 +19,14 @@ use Rattle.erd_compare.specs.Comparing.{Decides, IsWholeTree}
 abbrev pub AreWholeTrees : List Data → Type 0
 AreWholeTrees ds = AllByRecursion IsWholeTree ds
 
+-- two tests of which none holds
 neither : (a b : Bool) → a || b ≡ false → (a ≡ false) × (b ≡ false)
 neither true b e = cc
 neither false b e = (refl, e)
 
 -- ---- members
 
+-- a member of a tree is one
 get-tree : (name : List ℕ) (d v : Data) → IsTree d → get name d ≡ Some v → IsTree v
 get-tree name null v h e = cc
 get-tree name (boolean b) v h e = cc
@@ -39,6 +41,7 @@ whole_tree-get name d v h e = record { is_tree = get-tree name d v h.is_tree e; 
 
 -- ---- entries
 
+-- the items of an array
 whole_trees-items : (ds : Items) → AreTrees ds → items_have_float ds ≡ false → AreWholeTrees (list_of_items ds)
 whole_trees-items no_items trees h = tt
 whole_trees-items (item d ds) trees h =
@@ -88,20 +91,24 @@ whole_value-index (w ∷ vs) (suc i) v h low e = whole_value-index vs i v h.1 (o
 
 -- ---- equality
 
+-- a truth value is equal to itself
 flag_itself : (b : Bool) → same_flag b b ≡ true
 flag_itself true = refl
 flag_itself false = refl
 
+-- a whole number is equal to itself
 number_itself : (n : Num) → is_float n ≡ false → same_number n n ≡ true
 number_itself (unsigned n) h = (Decides-int_eq (pos n) (pos n)).1 refl
 number_itself (negative z) h = (Decides-int_eq z z).1 refl
 number_itself (float x) h = cc
 
+-- two tests that hold
 both : (a b : Bool) → a ≡ true → b ≡ true → a && b ≡ true
 both true b e f = f
 both false b e f = cc
 
 mutual
+  -- a value that holds no fraction is equal to itself
   itself : (d : Data) → has_float d ≡ false → is_same_json d d ≡ true
   itself null h = refl
   itself (boolean b) h = flag_itself b
@@ -110,6 +117,7 @@ mutual
   itself (array ds) h = items_themselves ds h
   itself (object ms) h = members_themselves ms h
 
+  -- items that hold no fraction are equal to themselves
   items_themselves : (ds : Items) → items_have_float ds ≡ false → are_same_items ds ds ≡ true
   items_themselves no_items h = refl
   items_themselves (item d ds) h =

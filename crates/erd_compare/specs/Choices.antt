@@ -5,6 +5,9 @@ use Rattle.serde_json.specs.Data.{Data, object, Members, no_members, member}
 use Rattle.erd_tables.specs.Table.{kind_of_member}
 use Rattle.erd_tables.specs.declared.member.MemberKind.{MemberKind}
 use Rattle.erd_tables.specs.declared.member.MemberKind.TheVariants as kind
+use Rattle.erd_meaning.specs.Keys.{entries_at}
+use Rattle.erd_meaning.specs.Meaning.{Label, translated}
+use Rattle.erd_meaning.specs.Records.{beside_text, json_set}
 use Rattle.erd_compare.specs.declared.choice.Choice.{Choice}
 use Rattle.erd_compare.specs.declared.choice.Choice.TheVariants.{BesideText, Carried}
 
@@ -32,3 +35,7 @@ members_in d = no_members
 -- the chosen members of an object, and none of any other value
 abbrev pub chosen_in : Choice → Data → Members
 chosen_in choice d = chosen_members choice (members_in d)
+
+-- what a label means that is an object
+abbrev pub translated_label : Data → Label
+translated_label d = translated (beside_text d) (json_set (entries_at (codes "Text") d))

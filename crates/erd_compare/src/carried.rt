@@ -2,6 +2,7 @@ ghost use Rattle.serde_json.specs.View.{view};
 ghost use Rattle.erd_meaning.specs.Records.{carried_members};
 ghost use Rattle.erd_compare.specs.Comparing.{Decides, IsWholeTree};
 
+use crate::choice::{Choice, is_same_choice};
 use erd_tables::Class;
 use serde_json::Value;
 
@@ -16,5 +17,10 @@ pub(crate) fn is_same_carried(
     requires other { IsWholeTree (view other.now) }
     ensures { Decides result (carried_members one_class (view one.now)) (carried_members other_class (view other.now)) }
 {
-    false
+    is_same_choice(
+        Choice::Carried(one_class),
+        one,
+        Choice::Carried(other_class),
+        other,
+    )
 }

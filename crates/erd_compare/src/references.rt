@@ -1,4 +1,4 @@
-ghost use Rattle.std.specs.Prelude.{◌≡◌, ◌==◌, true, map, option_and_then, option_map};
+ghost use Rattle.std.specs.Prelude.{◌≡◌, ◌==◌, true, Some, map, option_and_then, option_map};
 ghost use Rattle.std.specs.List.{list_all};
 ghost use Rattle.std.specs.Option.{option_copied};
 ghost use Rattle.serde_json.specs.Find.{as_str};
@@ -117,9 +117,16 @@ fn is_key_among(report: &Report, family: Family, values: &[Value], key: &Key) ->
     ensures { result ≡ key_set (keys_named (view report.now) family (map view values.now)) key.now }
 {
     for value in values {
-        if key_named(report, family, value) == Some(key) {
+        if is_key(key_named(report, family, value), key) {
             return true;
         }
     }
     false
+}
+
+/// Whether what is named has the key.
+fn is_key(named: Option<&Key>, key: &Key) -> bool
+    ensures { Decides result (option_copied named.entry) (Some key.now) }
+{
+    named == Some(key)
 }

@@ -105,3 +105,6 @@ pub mod NumberedReferences
 pub mod NormalForms
 pub mod NormalFormsOnly
 pub mod SelectionReferences
+pub mod KeyPlaces
+pub mod NumberedParts
+pub mod SelectionPlaces

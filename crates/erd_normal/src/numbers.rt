@@ -48,7 +48,7 @@ fn keyed_positions(
 }
 
 /// The places of pairs, counted from 1, at the positions that they name.
-fn numbers_by(alloc: Global, sorted: &[(Option<Key>, usize)]) -> Result<Vec<usize>, AllocError>
+pub(crate) fn numbers_by<K>(alloc: Global, sorted: &[(K, usize)]) -> Result<Vec<usize>, AllocError>
     ensures { IfOk result (λ numbers. numbers.items ≡ numbered 0 sorted.now (replicate (length sorted.now) 0)) }
 {
     let mut numbers = vec![in alloc; 0; sorted.len()]?;

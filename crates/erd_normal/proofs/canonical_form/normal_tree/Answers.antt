@@ -6,7 +6,7 @@ use Rattle.erd_check.specs.Trees.{IsNoDeeper, IsTree}
 use Rattle.erd_meaning.proofs.Phases.{no_shape_fault}
 use Rattle.erd_normal.specs.Canonical.{IsCanonicalFormOf}
 use Rattle.erd_normal.specs.NormalTree.{normal_tree}
-use Rattle.erd_normal.proofs.CompactTexts.{HasFittingNumbers}
+use Rattle.erd_check.specs.Numbers.{HasFittingNumbers}
 use Rattle.erd_normal.proofs.NormalDepths.{normal_tree-depth}
 use Rattle.erd_normal.proofs.NormalFormsOnly.{form_built, only_form_built, whole_built}
 use Rattle.erd_normal.proofs.NormalTrees.{normal_tree-tree}
