@@ -13,3 +13,4 @@ pub mod EqualOptions
 pub mod StepByStep
 pub mod SameContents
 pub mod NodeParts
+pub mod KeyedKinds

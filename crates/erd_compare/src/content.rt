@@ -59,8 +59,9 @@ fn is_same_node(left: &Report, right: &Report, one: &Value, other: &Value) -> bo
 {
     match (is_header(one), is_header(other)) {
         (true, true) => is_same_header(left, right, one, other),
+        (true, false) => false,
+        (false, true) => false,
         (false, false) => is_same_contest(left, right, one, other),
-        _ => false,
     }
 }
 

@@ -1,7 +1,4 @@
-use Rattle.std.proofs.Common.{refl, ap}
 use Rattle.serde_json.specs.View.{view}
-use Rattle.erd_meaning.specs.Records.{json_set}
-use Rattle.erd_compare.proofs.EqualOptions.{decides_as}
 use Rattle.erd_compare.proofs.WholeTrees.{whole_values-entries_of}
 use Rattle.erd_compare.proofs.plain.is_same_array.Goals as goal
 
