@@ -18,3 +18,8 @@ pub mod KeyedRecords
 pub mod LeastDifferences
 pub mod PartsTold
 pub mod PartsInOrder
+pub mod EqualOptions
+pub mod StepByStep
+pub mod SameContents
+pub mod NodeParts
+pub mod KeyedKinds
