@@ -17,6 +17,16 @@ expect() {
     said "$1" "$why"
 }
 
+# expect_other NAME FILE: the last run wrote a text, and not that of the file
+expect_other() {
+    local why=''
+    [ "$status" -eq 0 ] || why+="status $status, not 0; "
+    [ -s "$work/out" ] || why+='nothing on standard output; '
+    cmp -s "$work/out" "$2" && why+='the same standard output; '
+    [ -s "$work/err" ] && why+="standard error '$(head -c 200 "$work/err")'; "
+    said "$1" "$why"
+}
+
 # run FILE [WORD ..]: the program on the file
 run() {
     local input=$1
@@ -51,6 +61,31 @@ cp "$work/out" "$work/ballot"
 expect 'a small ballot' 0 "$work/ballot" ''
 run "$work/ballot"
 expect 'its output fed back' 0 "$work/ballot" ''
+
+# Two vendors define the ballots of one county, with other names, orders, escapes and envelopes.
+county=examples/county.canonical.json
+run examples/county.vendor-a.json
+expect 'a county by one vendor' 0 "$county" ''
+run examples/county.vendor-b.json
+expect 'the same county by another' 0 "$county" ''
+run "$county"
+expect 'the canonical county fed back' 0 "$county" ''
+
+# One name on the ballots is another; the rest stands as it was.
+rename='s/Ingrith Sablewood/Ingrith Sablewode/'
+sed "$rename" "$county" > "$work/renamed_canonical"
+for vendor in a b; do
+    sed "$rename" "examples/county.vendor-$vendor.json" > "$work/renamed"
+    run "$work/renamed"
+    expect_other "vendor $vendor with another candidate's name" "$county"
+    expect "vendor $vendor with that name in its place" 0 "$work/renamed_canonical" ''
+done
+
+# On the ballots of one style two teams change their places.
+sed 's/"sel-0101", "sel-0103", "sel-0102"/"sel-0103", "sel-0101", "sel-0102"/' \
+    examples/county.vendor-a.json > "$work/reordered"
+run "$work/reordered"
+expect_other 'another order on the ballots of one style' "$county"
 
 # A hundred selections name one candidate whose key is a million bytes long: the key is held once.
 value=$(head -c 1000000 /dev/zero | tr '\0' k)

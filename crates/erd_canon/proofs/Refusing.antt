@@ -20,7 +20,8 @@ refused_shape t (Faults faults) (all, some) =
     (first_refused (ShapeFault t) (OrElse (IdentityFault t) (OrElse (ReferenceFault t) (SelectionFault t))) faults all some, some)
 refused_shape t Memory h = tt
 
-one_tree : (b : List ℕ) (t u : Data) → IsTreeOf b t → IsTreeOf b u → t ≡ u
+-- bytes are no two trees
+pub one_tree : (b : List ℕ) (t u : Data) → IsTreeOf b t → IsTreeOf b u → t ≡ u
 one_tree b t u (utf8, is) (also, was) = let both : Some t ≡ Some u = sym is ∙ was in cc
 
 -- bytes with a fault are no accepted report

@@ -3,10 +3,5 @@ pub mod Reading
 pub mod Bytes
 pub mod ByteLaws
 pub mod EngineTexts
-pub mod Wants
-pub mod Bare
-pub mod BareMeaning
-pub mod Written
 pub mod Refused
-pub mod Naming
 pub mod Run

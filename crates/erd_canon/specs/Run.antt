@@ -5,10 +5,9 @@ use Rattle.erd_tables.specs.Faults.{fault_line}
 use Rattle.erd_tables.specs.declared.fault.Fault.{Fault}
 use Rattle.erd_canon.specs.declared.outcome.Outcome.{Outcome}
 use Rattle.erd_canon.specs.declared.outcome.Outcome.TheVariants.{Good, Bad, NotJson}
-use Rattle.erd_canon.specs.Bytes.{IsNotJson}
-use Rattle.erd_canon.specs.EngineTexts.{IsRefusedReport, text_of_lines}
+use Rattle.erd_canon.specs.Bytes.{IsNotJson, IsCanonicalBytes}
+use Rattle.erd_canon.specs.EngineTexts.{IsCanonicalErrors, IsCanonicalOutput, IsCheckText, IsRefusedReport, text_of_lines}
 use Rattle.erd_canon.specs.Refused.{IsSomeReport}
-use Rattle.erd_canon.specs.Written.{IsWritten}
 
 -- the bytes have faults, and the text has one line for each
 abbrev pub IsToldFaults : List ℕ → List ℕ → Type 0
@@ -26,7 +25,7 @@ IsChecked bytes NotJson out = IsToldNotJson bytes out
 
 -- what canonicalising writes to the one writer and to the other for given bytes, and the outcome
 abbrev pub IsAnswered : List ℕ → Outcome → List ℕ → List ℕ → Type 0
-IsAnswered bytes Good out err = IsWritten bytes out × (err ≡ [])
+IsAnswered bytes Good out err = IsCanonicalBytes bytes out × (err ≡ [])
 IsAnswered bytes Bad out err = IsToldFaults bytes err × (out ≡ [])
 IsAnswered bytes NotJson out err = IsToldNotJson bytes err × (out ≡ [])
 
@@ -63,3 +62,24 @@ pub record IsWholeRun (limit : ℕ) (outcome : Outcome) (before after out_before
   pub input : List ℕ
   pub whole : IsReadWhole limit before after input
   pub written : IsAnswerWritten input outcome out_before out_after err_before err_after
+
+-- where the devices tell their bytes: the reader was read to its end and held no more than the limit, and written was a text
+-- that checking is to write for its bytes, and nothing else
+pub record IsToldCheck (limit : ℕ) (before after out_before out_after : Option (List ℕ)) : Type 0 where
+  pub input : List ℕ
+  pub text : List ℕ
+  pub whole : IsReadWhole limit before after input
+  pub is_text : IsCheckText input text
+  pub wrote : Appends out_before out_after text
+
+-- where the devices tell their bytes: the reader was read to its end and held no more than the limit, and written were texts
+-- that canonicalising is to write for its bytes to the one writer and to the other, and nothing else
+pub record IsToldRun (limit : ℕ) (before after out_before out_after err_before err_after : Option (List ℕ)) : Type 0 where
+  pub input : List ℕ
+  pub out_text : List ℕ
+  pub err_text : List ℕ
+  pub whole : IsReadWhole limit before after input
+  pub output : IsCanonicalOutput input out_text
+  pub errors : IsCanonicalErrors input err_text
+  pub wrote_out : Appends out_before out_after out_text
+  pub wrote_err : Appends err_before err_after err_text

@@ -1,6 +1,6 @@
 ghost use Rattle.std.specs.Prelude.{◌≡◌, ◌≢◌, ◌↔◌, ◌⊎◌, ◌+◌, ◌^◌, ◌<◌, ◌≤◌, false, true, Err, IfErr, IfOk, OnOk, IsErrOf};
 ghost use Rattle.erd_canon.specs.Reading.{Exceeds};
-ghost use Rattle.erd_canon.specs.Run.{IsCheckWritten, IsWholeCheck};
+ghost use Rattle.erd_canon.specs.Run.{IsCheckWritten, IsToldCheck, IsWholeCheck};
 
 use crate::acceptance::check_bytes;
 use crate::fault_lines::fault_lines;
@@ -26,6 +26,8 @@ pub fn run_check<S: Source, O: Sink>(
 
     // What an outcome says.
     ensures whole { IfOk result (λ outcome. IsWholeCheck MOST_BYTES outcome (S.remaining reader.old) (S.remaining reader.new)
+        (O.contents out.old) (O.contents out.new)) }
+    ensures told { IfOk result (λ _. IsToldCheck MOST_BYTES (S.remaining reader.old) (S.remaining reader.new)
         (O.contents out.old) (O.contents out.new)) }
     ensures flushed { OnOk result (O.is_flushed out.new ≡ true) }
 

@@ -2,11 +2,10 @@
 #![tactic(auto)]
 
 mod acceptance;
-mod bare;
 mod canonical_bytes;
 mod checking;
 mod fault_lines;
-mod naming;
+mod laws;
 mod outcome;
 mod read_from;
 mod refusal;
@@ -14,14 +13,13 @@ mod run;
 mod sink;
 mod source;
 mod tally;
-mod tree;
-mod want;
 mod write_and_flush;
 mod write_to;
 
 pub use acceptance::check_bytes;
 pub use canonical_bytes::canonical;
 pub use checking::run_check;
+pub use laws::{is_its_own_form, one_form_for_one_meaning};
 pub use outcome::{Outcome, RunFault};
 pub use read_from::ReadFrom;
 pub use refusal::Refusal;

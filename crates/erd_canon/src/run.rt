@@ -1,6 +1,6 @@
 ghost use Rattle.std.specs.Prelude.{◌≡◌, ◌≢◌, ◌↔◌, ◌⊎◌, ◌+◌, ◌^◌, ◌<◌, ◌≤◌, false, true, Err, IfErr, IfOk, OnOk, IsErrOf};
 ghost use Rattle.erd_canon.specs.Reading.{Exceeds};
-ghost use Rattle.erd_canon.specs.Run.{IsAnswerWritten, IsWholeRun};
+ghost use Rattle.erd_canon.specs.Run.{IsAnswerWritten, IsToldRun, IsWholeRun};
 
 use crate::canonical_bytes::canonical;
 use crate::fault_lines::fault_lines;
@@ -13,9 +13,10 @@ use std::alloc::Global;
 
 /// Reads a report to its end, judges it, writes its canonical bytes to `out`, and flushes `out` and then `err`.
 ///
-/// Of a report that is not accepted nothing goes to `out`, and one line for each fault goes to `err`; of bytes that are no
-/// JSON, the line `not JSON`. Each line is ended by one line feed. A reader holds at most 67,108,864 bytes. The devices must not have failed yet; after a failure nothing more is read,
-/// written or flushed.
+/// The canonical bytes, as `canonical` gives them, go to `out` with no line end, and then nothing goes to `err`. Of a
+/// report that is not accepted nothing goes to `out`, and one line for each fault goes to `err`; of bytes that are no
+/// JSON, the line `not JSON`. Each line is ended by one line feed. A reader holds at most 67,108,864 bytes. The devices
+/// must not have failed yet; after a failure nothing more is read, written or flushed.
 pub fn run_canon<S: Source, O: Sink, E: Sink>(
     alloc: Global,
     reader: &mut S,
@@ -28,6 +29,8 @@ pub fn run_canon<S: Source, O: Sink, E: Sink>(
 
     // What an outcome says.
     ensures whole { IfOk result (λ outcome. IsWholeRun MOST_BYTES outcome (S.remaining reader.old) (S.remaining reader.new)
+        (O.contents out.old) (O.contents out.new) (E.contents err.old) (E.contents err.new)) }
+    ensures told { IfOk result (λ _. IsToldRun MOST_BYTES (S.remaining reader.old) (S.remaining reader.new)
         (O.contents out.old) (O.contents out.new) (E.contents err.old) (E.contents err.new)) }
     ensures flushed { OnOk result ((O.is_flushed out.new ≡ true) × (E.is_flushed err.new ≡ true)) }
 

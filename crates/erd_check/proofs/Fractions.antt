@@ -130,7 +130,7 @@ sought_entry w v e = cc
 
 -- ---- one value
 
-number_whole : (w : Want) (repeated : Bool) (n : Num) → is_sought w ≡ true → IsRight w repeated (number n) → is_float n ≡ false
+pub number_whole : (w : Want) (repeated : Bool) (n : Num) → is_sought w ≡ true → IsRight w repeated (number n) → is_float n ≡ false
 number_whole (Member kind.Whole required) repeated n s h = h.none reason.NotWhole
 number_whole Carried repeated n s h = h.none reason.NotWhole
 number_whole (Member kind.Outside required) repeated n s h = let x : true ≡ false = h.none reason.OutsideProfile in cc

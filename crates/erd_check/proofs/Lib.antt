@@ -19,7 +19,10 @@ pub mod Whole
 pub mod Clean
 pub mod Fractions
 pub mod Numbers
+pub mod ReportNumbers
 pub mod ReportTrees
+pub mod PutTrees
+pub mod ReadTrees
 mod AskedExamples
 mod FaultExamples
 pub mod WholeExamples

@@ -17,7 +17,7 @@ use Rattle.erd_tables.specs.declared.fault.Fault.{Fault}
 use Rattle.erd_check.specs.Faults.{NoneOf, ShapeFault}
 use Rattle.erd_check.specs.Shapes.{IsShaped}
 use Rattle.erd_check.specs.Trees.{is_same_json, AreMembers, AreTrees, IsBeforeFirst, IsTree}
-use Rattle.erd_check.specs.Walk.{faults_at, faults_of, item_faults, member_faults, names, reasons, AreItemsInOrder, AreMembersInOrder, IsInOrder}
+use Rattle.erd_check.specs.Walk.{faults_at, faults_of, item_faults, member_faults, names, reasons, AreItemsInOrder, AreMembersInOrder, HasNumbersInRange, IsInOrder}
 use Rattle.erd_check.specs.Wants.{entry_want, is_compared_set, scope_inside, want_of_name}
 use Rattle.erd_check.specs.declared.want.Scope.{Scope}
 use Rattle.erd_check.specs.declared.want.Want.{Want}
@@ -26,6 +26,7 @@ use Rattle.erd_check.proofs.FaultLists.{no_fault_from_empty}
 use Rattle.erd_check.proofs.FaultsInside.{walk_finds_all}
 use Rattle.erd_check.proofs.Fractions.{array_empty, empty_left, empty_right, is_sought, no_fault_in, no_fraction, object_sought, own_faults, sought_entry, AllSought, IsRight, Sought}
 use Rattle.erd_check.proofs.Numbers.{has_numbers, HasNumbers, HaveNumbers, MembersHaveNumbers}
+use Rattle.erd_check.proofs.ReportNumbers.{fitting_report}
 
 before_first : (k : List ℕ) (ms : Members) → IsStrictlySortedBy text_cmp (k ∷ names ms) → IsBeforeFirst k ms
 unfolding IsStrictlySortedBy
@@ -82,7 +83,7 @@ pub tree_of_report : (v : Value) → IsInOrder (Object Report) (view v) → None
 tree_of_report v order none =
     tree_at [] (Object Report) false (view v) refl (no_fault_in (view v) (faults_at [] (Object Report) false (view v)) (walk_finds_all (Object Report) (view v) order) none) order (has_numbers v)
 
-pub shaped_by : (v : Value) (faults : List Fault) → ListsAll (ShapeFault (view v)) faults → IsInOrder (Object Report) (view v) → length faults ≡ 0 → IsShaped v
-shaped_by v faults all order empty =
+pub shaped_by : (v : Value) (faults : List Fault) → ListsAll (ShapeFault (view v)) faults → IsInOrder (Object Report) (view v) → HasNumbersInRange (Object Report) (view v) → length faults ≡ 0 → IsShaped v
+shaped_by v faults all order range empty =
     let none = no_fault_from_empty (view v) faults all empty in
-    record { faultless = none; is_tree = tree_of_report v order none; whole = no_fraction (view v) order none }
+    record { faultless = none; is_tree = tree_of_report v order none; whole = no_fraction (view v) order none; fits = fitting_report (view v) order range none }

@@ -1,4 +1,5 @@
 pub mod Trees
+pub mod Numbers
 pub mod Wants
 pub mod Faults
 pub mod Refusals

@@ -4,14 +4,16 @@ use Rattle.serde_json.specs.View.{view}
 use Rattle.serde_json.specs.Written.{has_float}
 use Rattle.serde_json.specs.declared.value.Value.{Value}
 use Rattle.erd_check.specs.Faults.{ShapeFault, NoneOf}
+use Rattle.erd_check.specs.Numbers.{HasFittingNumbers}
 use Rattle.erd_check.specs.Trees.{IsTree}
 
 -- the value has no fault of the shape
 abbrev pub IsFaultless : Value → Type 0
 IsFaultless tree = NoneOf (ShapeFault (view tree))
 
--- a report without a fault of the shape: the names of each object in it rise, and each number in it is whole
+-- a report without a fault of the shape: the names of each object in it rise, and each number in it is whole and fits 64 bits
 pub record IsShaped (tree : Value) : Type 0 where
   pub faultless : IsFaultless tree
   pub is_tree : IsTree (view tree)
   pub whole : has_float (view tree) ≡ false
+  pub fits : HasFittingNumbers (view tree)

@@ -1,6 +1,6 @@
 -- The faults of a value in the order in which a walk over it meets them, as a list. It is no definition of the profile:
 -- that the list is that of the faults of the shape is proved in `FaultsInside`.
-use Rattle.std.specs.Prelude.{ℕ, List, [], ◌∷◌, ◌++◌, Bool, false, ◌&&◌, map, filter, length, IfSome, ⊤}
+use Rattle.std.specs.Prelude.{ℕ, List, [], ◌∷◌, ◌++◌, Bool, false, ◌&&◌, map, filter, length, IfSome, IsTrue, ⊤}
 use Rattle.std.specs.List.{list_any}
 use Rattle.std.specs.List.Sorted.{IsStrictlySortedBy}
 use Rattle.std.specs.Option.{option_map_or}
@@ -11,9 +11,10 @@ use Rattle.erd_tables.specs.declared.place.Step.TheVariants.{Name, At}
 use Rattle.erd_tables.specs.declared.fault.Reason.{Reason}
 use Rattle.erd_tables.specs.declared.fault.Reason.TheVariants.{WrongKind, MissingMember, WrongClassText, NotWhole, OutsideProfile, UnknownReference, CarriedIdentity, NotPreElection, ElectionCount, EmptyArray, Repeated}
 use Rattle.erd_tables.specs.declared.fault.Fault.{Fault}
+use Rattle.erd_check.specs.Numbers.{IsInRange}
 use Rattle.erd_check.specs.Trees.{is_same_json}
 use Rattle.erd_check.specs.Wants.{Asked, scope_inside, want_of_name, entry_want, is_compared_set}
-use Rattle.erd_check.specs.Faults.{is_shape_fault, names_wanted, lacks}
+use Rattle.erd_check.specs.Faults.{is_shape_fault, names_wanted, lacks, wants_whole}
 use Rattle.erd_check.specs.Paths.{fault_at}
 use Rattle.erd_check.specs.declared.want.Want.{Want}
 use Rattle.erd_check.specs.declared.want.Scope.{Scope}
@@ -85,3 +86,25 @@ abbrev mutual
   pub AreMembersInOrder : Scope → Members → Type 0
   AreMembersInOrder s no_members = ⊤
   AreMembersInOrder s (member k d ms) = IfSome (want_of_name s k) (λ v. IsInOrder v d) × AreMembersInOrder s ms
+
+-- where a whole number is asked for, one that is there fits 64 bits
+abbrev pub IsAskedInRange : Want → Data → Type 0
+IsAskedInRange w d = IsTrue (wants_whole w) → IsInRange d
+
+-- the whole numbers that are asked for and walked fit 64 bits
+abbrev mutual
+  pub HasNumbersInRange : Want → Data → Type 0
+  HasNumbersInRange w null = ⊤
+  HasNumbersInRange w (boolean b) = ⊤
+  HasNumbersInRange w (number n) = IsAskedInRange w (number n)
+  HasNumbersInRange w (string s) = ⊤
+  HasNumbersInRange w (array ds) = IfSome (entry_want w) (λ v. ItemsHaveNumbersInRange v ds)
+  HasNumbersInRange w (object ms) = MembersHaveNumbersInRange (scope_inside w (object ms)) ms
+
+  pub ItemsHaveNumbersInRange : Want → Items → Type 0
+  ItemsHaveNumbersInRange w no_items = ⊤
+  ItemsHaveNumbersInRange w (item d ds) = HasNumbersInRange w d × ItemsHaveNumbersInRange w ds
+
+  pub MembersHaveNumbersInRange : Scope → Members → Type 0
+  MembersHaveNumbersInRange s no_members = ⊤
+  MembersHaveNumbersInRange s (member k d ms) = IfSome (want_of_name s k) (λ v. HasNumbersInRange v d) × MembersHaveNumbersInRange s ms

@@ -1,15 +1,17 @@
-ghost use Rattle.std.specs.Prelude.{◌≡◌, ◌++◌, map, IfOk};
+ghost use Rattle.std.specs.Prelude.{◌≡◌, ◌++◌, map, not, IfOk, IsTrue};
 ghost use Rattle.std.specs.Option.{option_to_list};
-ghost use Rattle.serde_json.specs.View.{view};
+ghost use Rattle.serde_json.specs.Find.{is_float};
+ghost use Rattle.serde_json.specs.View.{view, number_view};
 ghost use Rattle.erd_check.specs.Faults.{has_kind, has_wanted_kind, names_wanted, is_not_whole, is_empty_array, has_not_one_entry, is_reference, lacks};
-ghost use Rattle.erd_check.specs.Walk.{other_reasons, missing, reasons, faults_of};
+ghost use Rattle.erd_check.specs.Numbers.{IsFittingNumber, IsInRange};
+ghost use Rattle.erd_check.specs.Walk.{IsAskedInRange, other_reasons, missing, reasons, faults_of};
 ghost use Rattle.erd_check.specs.Wants.{scope_inside};
 ghost use Rattle.erd_check.specs.Paths.{steps_of};
 
 use crate::path::{Path, push_fault};
 use crate::want::{Scope, Want};
 use erd_tables::{Fault, MemberKind, Reason, Text, class_in, required};
-use serde_json::Value;
+use serde_json::{Number, Value};
 use std::alloc::{AllocError, Global};
 
 /// Adds the faults of one value, and none of what is inside it.
@@ -23,8 +25,9 @@ pub fn judge(
     faults: &mut Vec<Fault>,
 ) -> Result<(), AllocError>
     requires { scope ≡ scope_inside want (view value.now) }
-    ensures { IfOk result (λ _. faults.new.items
+    ensures added { IfOk result (λ _. faults.new.items
         ≡ faults.old.items ++ faults_of (steps_of path.now) (reasons want is_repeated (view value.now))) }
+    ensures in_range { IfOk result (λ _. IsAskedInRange want (view value.now)) }
 {
     if !fits(want, value) {
         push_fault(alloc, path, Reason::WrongKind, faults)?;
@@ -113,7 +116,8 @@ fn names_needed(scope: Scope) -> &'static [&'static str]
 }
 
 fn other_reason(want: Want, value: &Value) -> Option<Reason>
-    ensures { option_to_list result ≡ other_reasons want (view value.now) }
+    ensures value { option_to_list result ≡ other_reasons want (view value.now) }
+    ensures in_range { IsAskedInRange want (view value.now) }
 {
     match want {
         Want::Object(_) | Want::Reference(_) => None,
@@ -132,7 +136,8 @@ fn other_reason(want: Want, value: &Value) -> Option<Reason>
 }
 
 fn member_reason(kind: MemberKind, is_required: bool, value: &Value) -> Option<Reason>
-    ensures { option_to_list result ≡ other_reasons (Want.Member kind is_required) (view value.now) }
+    ensures value { option_to_list result ≡ other_reasons (Want.Member kind is_required) (view value.now) }
+    ensures in_range { IsAskedInRange (Want.Member kind is_required) (view value.now) }
 {
     match kind {
         MemberKind::Whole if is_float(value) => Some(Reason::NotWhole),
@@ -148,12 +153,21 @@ fn member_reason(kind: MemberKind, is_required: bool, value: &Value) -> Option<R
 }
 
 fn is_float(value: &Value) -> bool
-    ensures { result ≡ is_not_whole (view value.now) }
+    ensures value { result ≡ is_not_whole (view value.now) }
+    ensures in_range { IsInRange (view value.now) }
 {
     match value.as_number() {
-        Some(number) => number.is_f64(),
+        Some(number) => !is_whole(number),
         None => false,
     }
+}
+
+/// Whether a number is whole. If it is, it fits 64 bits.
+fn is_whole(number: &Number) -> bool
+    ensures value { result ≡ not (is_float (number_view number.now)) }
+    ensures fits { IsTrue result → IsFittingNumber (number_view number.now) }
+{
+    number.as_u64().is_some() || number.as_i64().is_some()
 }
 
 #[tactic(auto, using(crate::proofs::Lists::count_of_view))]

@@ -3,7 +3,7 @@ ghost use Rattle.serde_json.specs.View.{view};
 ghost use Rattle.erd_tables.specs.Faults.{ListsAll};
 ghost use Rattle.erd_check.specs.Faults.{ShapeFault};
 ghost use Rattle.erd_check.specs.Trees.{IsShallow};
-ghost use Rattle.erd_check.specs.Walk.{IsInOrder};
+ghost use Rattle.erd_check.specs.Walk.{HasNumbersInRange, IsInOrder};
 ghost use Rattle.erd_check.specs.declared.want.Want.TheVariants.{Object};
 ghost use Rattle.erd_tables.specs.declared.class.Role.TheVariants.{Report};
 
@@ -25,10 +25,12 @@ pub fn faults(alloc: Global, tree: &Value) -> Result<FaultList, AllocError>
     walked_faults(alloc, tree)
 }
 
-/// The same faults; the walk has seen that the names of each object that is asked for rise.
+/// The same faults; the walk has seen that the names of each object that is asked for rise, and
+/// that the whole numbers that are asked for fit 64 bits.
 pub(crate) fn walked_faults(alloc: Global, tree: &Value) -> Result<FaultList, AllocError>
     ensures all { IfOk result (ListsAll (ShapeFault (view tree.now))) }
     ensures in_order { IfOk result (λ _. IsInOrder (Object Report) (view tree.now)) }
+    ensures in_range { IfOk result (λ _. HasNumbersInRange (Object Report) (view tree.now)) }
 {
     let mut found = Vec::new(alloc);
     walk(

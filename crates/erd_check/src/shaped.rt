@@ -2,6 +2,7 @@ ghost use Rattle.std.specs.Prelude.{◌≡◌, false, IfOk, IfErr};
 ghost use Rattle.serde_json.specs.View.{view};
 ghost use Rattle.serde_json.specs.Written.{has_float};
 ghost use Rattle.erd_check.specs.Faults.{ShapeFault};
+ghost use Rattle.erd_check.specs.Numbers.{HasFittingNumbers};
 ghost use Rattle.erd_check.specs.Refusals.{RefusedFor};
 ghost use Rattle.erd_check.specs.Shapes.{IsFaultless};
 ghost use Rattle.erd_check.specs.Trees.{IsShallow, IsTree};
@@ -35,12 +36,13 @@ impl<'a> Model for Shaped<'a> {
 
 impl<'a> Shaped<'a> {
     /// The report that was handed in. It has no fault of the shape; so the names of each object in it rise, and each
-    /// number in it is whole.
+    /// number in it is whole and fits 64 bits.
     pub fn tree(&self) -> &'a Value
         ensures tree { result.now ≡ self.now }
         ensures faultless { IsFaultless result.now }
         ensures is_tree { IsTree (view result.now) }
         ensures whole { has_float (view result.now) ≡ false }
+        ensures fits { HasFittingNumbers (view result.now) }
     {
         self.tree
     }

@@ -3,7 +3,7 @@ ghost use Rattle.std.specs.List.Sorted.{IsStrictlySortedBy};
 ghost use Rattle.serde_json.specs.View.{view, items_view, members_view};
 ghost use Rattle.erd_tables.specs.Texts.{text_cmp};
 ghost use Rattle.erd_check.specs.Paths.{steps_of};
-ghost use Rattle.erd_check.specs.Walk.{names, faults_at, item_faults, member_faults, IsInOrder, AreItemsInOrder, AreMembersInOrder};
+ghost use Rattle.erd_check.specs.Walk.{names, faults_at, item_faults, member_faults, IsInOrder, AreItemsInOrder, AreMembersInOrder, HasNumbersInRange, ItemsHaveNumbersInRange, MembersHaveNumbersInRange};
 
 use crate::equality::is_among;
 use crate::judge::judge;
@@ -26,6 +26,7 @@ pub fn walk(
     ensures added { IfOk result (λ _. faults.new.items
         ≡ faults.old.items ++ faults_at (steps_of path.now) want is_repeated (view value.now)) }
     ensures in_order { IfOk result (λ _. IsInOrder want (view value.now)) }
+    ensures in_range { IfOk result (λ _. HasNumbersInRange want (view value.now)) }
 {
     let scope = scope_of(want, value);
     judge(alloc, want, scope, value, is_repeated, path, faults)?;
@@ -51,6 +52,7 @@ fn walk_items(
     ensures added { IfOk result (λ _. faults.new.items
         ≡ faults.old.items ++ item_faults (steps_of path.now) want is_set [] (items_view items.now.items)) }
     ensures in_order { IfOk result (λ _. AreItemsInOrder want (items_view items.now.items)) }
+    ensures in_range { IfOk result (λ _. ItemsHaveNumbersInRange want (items_view items.now.items)) }
 {
     for (index, item) in items.iter().enumerate() {
         let is_repeated = is_set && is_among(item, &items[..index]);
@@ -71,6 +73,7 @@ fn walk_members(
     ensures added { IfOk result (λ _. faults.new.items
         ≡ faults.old.items ++ member_faults (steps_of path.now) scope (members_view members.now.entries)) }
     ensures in_order { IfOk result (λ _. AreMembersInOrder scope (members_view members.now.entries)) }
+    ensures in_range { IfOk result (λ _. MembersHaveNumbersInRange scope (members_view members.now.entries)) }
     ensures sorted { IfOk result (λ _. IsStrictlySortedBy text_cmp (names (members_view members.now.entries))) }
 {
     for (name, member) in members.iter() {

@@ -6,6 +6,7 @@ use Rattle.serde_json.specs.View.{view}
 use Rattle.serde_json.specs.Written.{has_float}
 use Rattle.serde_json.specs.declared.value.Value.{Value}
 use Rattle.erd_check.specs.Faults.{NoneOf}
+use Rattle.erd_check.specs.Numbers.{HasFittingNumbers}
 use Rattle.erd_check.specs.Shapes.{IsFaultless}
 use Rattle.erd_check.specs.Trees.{IsTree}
 use Rattle.erd_meaning.specs.LaterFaults.{IdentityFault, ReferenceFault, SelectionFault}
@@ -37,6 +38,7 @@ pub record IsResolved (tree : Value) (objects : List Object) (names : List Named
   pub faultless : IsFaultless tree
   pub is_tree : IsTree (view tree)
   pub whole : has_float (view tree) ≡ false
+  pub fits : HasFittingNumbers (view tree)
   pub identified : IsIdentified tree
   pub referred : IsReferred tree
   pub told_apart : IsToldApart tree

@@ -2,6 +2,7 @@ ghost use Rattle.std.specs.Prelude.{◌≡◌, false, [], ◌∷◌, length, map
 ghost use Rattle.std.specs.Option.{option_copied};
 ghost use Rattle.serde_json.specs.View.{view};
 ghost use Rattle.serde_json.specs.Written.{has_float};
+ghost use Rattle.erd_check.specs.Numbers.{HasFittingNumbers};
 ghost use Rattle.erd_check.specs.Trees.{IsTree};
 ghost use Rattle.erd_meaning.specs.Accepted.{IsAccepted};
 ghost use Rattle.erd_meaning.specs.Lookups.{FindsId, FindsKey, FindsSelection, key_in, selection_in};
@@ -64,12 +65,14 @@ impl<'a> Report<'a> {
         }
     }
 
-    /// The report that was handed in. It is accepted; the names of each object in it rise, and each number in it is whole.
+    /// The report that was handed in. It is accepted; the names of each object in it rise, and each number in it is whole and
+    /// fits 64 bits.
     pub fn tree(&self) -> &'a Value
         ensures tree { result.now ≡ self.now }
         ensures accepted { IsAccepted (view result.now) }
         ensures is_tree { IsTree (view result.now) }
         ensures whole { has_float (view result.now) ≡ false }
+        ensures fits { HasFittingNumbers (view result.now) }
     {
         self.tree
     }

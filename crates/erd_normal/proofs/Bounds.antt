@@ -2,7 +2,6 @@
 use Rattle.std.proofs.Common.{◌<◌, ◌≤◌, ◌^◌, List, flat_map, length, arith}
 use Rattle.std.proofs.Math.ListN.{length-append}
 use Rattle.serde_json.specs.Data.{Data}
-use Rattle.erd_tables.specs.declared.class.Family.{Family}
 use Rattle.erd_tables.specs.declared.class.Family.TheVariants as family
 use Rattle.erd_check.proofs.Rising.{Has, here, later}
 use Rattle.erd_meaning.specs.Objects.{Placed, contests, objects, selections_of}

@@ -1,6 +1,5 @@
 -- Compact texts tell values apart that hold whole numbers alone, of the size that `serde_json` reads.
 use Rattle.std.proofs.Common.{◌≡◌, ◌<◌, ◌≤◌, ◌^◌, ◌++◌, ◌==◌, ◌&&◌, ℕ, suc, pos, negsuc, length, get_or, List, [], ◌∷◌, Bool, true, false, true≢false, not, cond, nat_lt, decimal, Some, refl, sym, ap, ap₂, ◌∙◌, arith, append_assoc, lt-ltb}
-use Rattle.std.specs.Prelude.{⊤}
 use Rattle.std.specs.List.{AllByRecursion}
 use Rattle.std.proofs.lemmas.Bool.{and_from, eqb-false}
 use Rattle.std.proofs.lemmas.Fmt.{decimal_is_IsNumeral, decimal_nonempty}
@@ -9,34 +8,10 @@ use Rattle.serde_json.specs.Data.{Num, unsigned, negative, float, Data, null, bo
 use Rattle.serde_json.specs.Read.{number_of}
 use Rattle.serde_json.specs.Written.{comma_if, compact_text, items_text, members_text, number_text}
 use Rattle.serde_json.proofs.Numbers.{number_of-decimal, number_of-negative}
+use Rattle.erd_check.specs.Numbers.{IsFittingNumber, HasFittingNumbers, ItemsHaveFittingNumbers, MembersHaveFittingNumbers}
 use Rattle.erd_normal.proofs.WrittenStrings.{string_exact}
 
--- ---- numbers that fit
-
--- a number fits 64 bits: without a sign, or below zero
-abbrev pub IsFittingNumber : Num → Type 0
-IsFittingNumber (unsigned n) = n < 2 ^ 64
-IsFittingNumber (negative (pos n)) = ⊥
-IsFittingNumber (negative (negsuc n)) = n < 2 ^ 63
-IsFittingNumber (float x) = ⊥
-
--- each number of a value is whole and fits 64 bits
-abbrev mutual
-  pub HasFittingNumbers : Data → Type 0
-  HasFittingNumbers null = ⊤
-  HasFittingNumbers (boolean b) = ⊤
-  HasFittingNumbers (number n) = IsFittingNumber n
-  HasFittingNumbers (string s) = ⊤
-  HasFittingNumbers (array ds) = ItemsHaveFittingNumbers ds
-  HasFittingNumbers (object ms) = MembersHaveFittingNumbers ms
-
-  pub ItemsHaveFittingNumbers : Items → Type 0
-  ItemsHaveFittingNumbers no_items = ⊤
-  ItemsHaveFittingNumbers (item d ds) = HasFittingNumbers d × ItemsHaveFittingNumbers ds
-
-  pub MembersHaveFittingNumbers : Members → Type 0
-  MembersHaveFittingNumbers no_members = ⊤
-  MembersHaveFittingNumbers (member k d ms) = HasFittingNumbers d × MembersHaveFittingNumbers ms
+-- ---- the texts of numbers
 
 -- the text of a number reads as it
 number_read : (n : Num) → IsFittingNumber n → number_of (number_text n) ≡ Some n

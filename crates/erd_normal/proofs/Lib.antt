@@ -103,3 +103,8 @@ pub mod PlacedTrees
 pub mod PlacedEntries
 pub mod NumberedReferences
 pub mod NormalForms
+pub mod NormalFormsOnly
+pub mod SelectionReferences
+pub mod KeyPlaces
+pub mod NumberedParts
+pub mod SelectionPlaces

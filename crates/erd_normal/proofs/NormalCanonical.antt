@@ -1,5 +1,6 @@
 -- The report that is built of an accepted one is accepted, and canonical.
 use Rattle.serde_json.specs.Data.{Data}
+use Rattle.erd_check.specs.Numbers.{HasFittingNumbers}
 use Rattle.erd_check.specs.Trees.{IsTree}
 use Rattle.erd_meaning.specs.Accepted.{IsAccepted}
 use Rattle.erd_meaning.proofs.Phases.{accepted_by_phases, no_shape_fault}
@@ -7,7 +8,6 @@ use Rattle.erd_normal.specs.Canonical.{IsCanonical}
 use Rattle.erd_normal.specs.NormalTree.{normal_tree}
 use Rattle.erd_normal.specs.Tables.{IsBounded}
 use Rattle.erd_normal.proofs.CleanReports.{no_shape_fault_built}
-use Rattle.erd_normal.proofs.CompactTexts.{HasFittingNumbers}
 use Rattle.erd_normal.proofs.NoEmptyArrays.{no_empty_array_built}
 use Rattle.erd_normal.proofs.NoReferenceFaults.{no_reference_fault_built}
 use Rattle.erd_normal.proofs.NormalIdentity.{no_identity_fault_built}

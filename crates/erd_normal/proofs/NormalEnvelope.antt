@@ -8,8 +8,9 @@ use Rattle.serde_json.proofs.Views.{get_member-put}
 use Rattle.erd_tables.specs.Table.{is_envelope_name}
 use Rattle.erd_check.specs.Trees.{IsTree, AreMembers}
 use Rattle.erd_check.proofs.Exact.{both_true, text_exact}
+use Rattle.erd_check.proofs.PutTrees.{put-trees}
 use Rattle.erd_normal.specs.NormalTree.{with_envelope}
-use Rattle.erd_normal.proofs.PutMembers.{put_elsewhere, put-trees, put-depth}
+use Rattle.erd_normal.proofs.PutMembers.{put_elsewhere, put-depth}
 
 -- ---- several values put at their names
 

@@ -1,11 +1,11 @@
 -- The tree that is built for an accepted report is its canonical form.
 use Rattle.serde_json.specs.Data.{Data}
+use Rattle.erd_check.specs.Numbers.{HasFittingNumbers}
 use Rattle.erd_check.specs.Trees.{IsTree}
 use Rattle.erd_meaning.specs.Accepted.{IsAccepted}
 use Rattle.erd_normal.specs.Canonical.{IsCanonicalFormOf}
 use Rattle.erd_normal.specs.NormalTree.{normal_tree}
 use Rattle.erd_normal.specs.Tables.{IsBounded}
-use Rattle.erd_normal.proofs.CompactTexts.{HasFittingNumbers}
 use Rattle.erd_normal.proofs.NormalCanonical.{normal_is_canonical}
 use Rattle.erd_normal.proofs.NormalMeaning.{same_meaning_built}
 

@@ -14,6 +14,7 @@ use Rattle.erd_tables.specs.declared.member.MemberKind.TheVariants as kind
 use Rattle.erd_check.specs.Trees.{IsTree, AreTrees, AreMembers, IsBeforeFirst, entries_of}
 use Rattle.erd_check.specs.Wants.{class_of_object}
 use Rattle.erd_check.proofs.Members.{get_member-tree}
+use Rattle.erd_check.proofs.PutTrees.{put-trees}
 use Rattle.erd_meaning.specs.Keys.{entries_at, key_of}
 use Rattle.erd_meaning.specs.Records.{class_of_node}
 use Rattle.erd_meaning.specs.SelectionNames.{compact_cmp, rising_list, selection_role, with_rising_text}
@@ -21,7 +22,6 @@ use Rattle.erd_normal.specs.NormalTree.{array_of, by_key, by_name, id_of_key, id
 use Rattle.erd_normal.proofs.BuiltLists.{IfSome, if_some_is, all_rising, all_map, array_of-tree, entries_of-trees, unless_no_entry-holds}
 use Rattle.erd_normal.proofs.NormalEnvelope.{with_envelope-trees}
 use Rattle.erd_normal.proofs.NormalMembers.{normal_members-trees, normal_node_members-before}
-use Rattle.erd_normal.proofs.PutMembers.{put-trees}
 
 -- ---- members
 

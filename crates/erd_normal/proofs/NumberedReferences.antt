@@ -1,5 +1,5 @@
 -- What a reference names, by the number of the object that has the `@id`.
-use Rattle.std.proofs.Common.{◌≡◌, ◌==◌, ℕ, ◌+◌, List, [], ◌∷◌, ◌++◌, filter, length, true, false, true≢false, cond, Option, Some, None, option_and_then, option_map, unwrap_or, decimal, is_lt, slice_get, refl, sym, ap, ◌∙◌, subst}
+use Rattle.std.proofs.Common.{◌≡◌, ◌==◌, ◌<◌, ◌^◌, ℕ, ◌+◌, List, [], ◌∷◌, ◌++◌, filter, length, true, false, true≢false, cond, Option, Some, None, option_and_then, option_map, unwrap_or, decimal, is_lt, slice_get, refl, sym, ap, ◌∙◌, subst}
 use Rattle.std.specs.Option.{option_cmp, option_map_or}
 use Rattle.serde_json.specs.Data.{Data}
 use Rattle.erd_tables.specs.Classes.{family_number}
@@ -19,7 +19,7 @@ use Rattle.erd_normal.proofs.RisingSets.{has_from_In, In-from_has}
 use Rattle.erd_normal.specs.Building.{AreNumbers, numbered_id}
 use Rattle.erd_normal.specs.Canonical.{id_prefix}
 use Rattle.erd_normal.specs.NormalTree.{normal_id, rank_of}
-use Rattle.erd_normal.specs.Tables.{AreTables, number_in, table_of}
+use Rattle.erd_normal.specs.Tables.{AreSelectionNumbers, AreTables, number_in, table_of}
 use Rattle.erd_normal.specs.declared.tables.Tables.{Tables}
 
 -- the `@id` text of a rank
@@ -104,10 +104,35 @@ tables_by t n u p e o h c k s family.Contest keyed = k
 tables_by t n u p e o h c k s family.Style keyed = s
 tables_by t n u p e o h c k s family.Selection keyed = absurd (cc)
 
-pub tables_made : (t : Data) (n : Tables) → IsAccepted t → AreNumbers t family.Unit n.units.items → AreNumbers t family.Party n.parties.items → AreNumbers t family.Person n.persons.items
-    → AreNumbers t family.Office n.offices.items → AreNumbers t family.Header n.headers.items → AreNumbers t family.Candidate n.candidates.items
-    → AreNumbers t family.Contest n.contests.items → AreNumbers t family.Style n.styles.items → AreTables t n
-tables_made t n accepted u p e o h c k s = record { accepted = accepted; numbers = tables_by t n u p e o h c k s }
+bounded_by : (t : Data) → length (objects family.Unit t) < 2 ^ 64 → length (objects family.Party t) < 2 ^ 64 → length (objects family.Person t) < 2 ^ 64
+    → length (objects family.Office t) < 2 ^ 64 → length (objects family.Header t) < 2 ^ 64 → length (objects family.Candidate t) < 2 ^ 64
+    → length (objects family.Contest t) < 2 ^ 64 → length (objects family.Style t) < 2 ^ 64 → length (objects family.Selection t) < 2 ^ 64
+    → (f : Family) → length (objects f t) < 2 ^ 64
+bounded_by t u p e o h c k s l family.Unit = u
+bounded_by t u p e o h c k s l family.Party = p
+bounded_by t u p e o h c k s l family.Person = e
+bounded_by t u p e o h c k s l family.Office = o
+bounded_by t u p e o h c k s l family.Header = h
+bounded_by t u p e o h c k s l family.Candidate = c
+bounded_by t u p e o h c k s l family.Contest = k
+bounded_by t u p e o h c k s l family.Style = s
+bounded_by t u p e o h c k s l family.Selection = l
+
+-- the numbers of a family, which has few objects
+pub record AreFew (t : Data) (f : Family) (ns : List ℕ) : Type 0 where
+  pub numbers : AreNumbers t f ns
+  pub few : length (objects f t) < 2 ^ 64
+
+pub tables_made : (t : Data) (n : Tables) → IsAccepted t → AreFew t family.Unit n.units.items → AreFew t family.Party n.parties.items → AreFew t family.Person n.persons.items
+    → AreFew t family.Office n.offices.items → AreFew t family.Header n.headers.items → AreFew t family.Candidate n.candidates.items
+    → AreFew t family.Contest n.contests.items → AreFew t family.Style n.styles.items → AreSelectionNumbers t n.selections.items → length (objects family.Selection t) < 2 ^ 64
+    → AreTables t n
+tables_made t n accepted u p e o h c k s selections few = record {
+  accepted = accepted;
+  bounded = record { few = bounded_by t u.few p.few e.few o.few h.few c.few k.few s.few few };
+  numbers = tables_by t n u.numbers p.numbers e.numbers o.numbers h.numbers c.numbers k.numbers s.numbers;
+  selections = selections;
+}
 
 -- ---- keys
 

@@ -11,6 +11,7 @@ use Rattle.erd_tables.specs.declared.class.Family.TheVariants as family
 use Rattle.erd_tables.specs.declared.class.Role.TheVariants as role
 use Rattle.erd_tables.specs.declared.member.MemberKind.TheVariants as kind
 use Rattle.erd_check.specs.declared.want.Want.TheVariants.{Member}
+use Rattle.erd_check.specs.Numbers.{ItemsHaveFittingNumbers}
 use Rattle.erd_check.specs.Trees.{AreTrees, list_of_items}
 use Rattle.erd_check.specs.Wants.{asked}
 use Rattle.erd_check.proofs.Order.{sorted_map}
@@ -23,7 +24,7 @@ use Rattle.erd_meaning.specs.Orders.{compact_cmp_total, key_cmp_total, name_cmp_
 use Rattle.erd_meaning.specs.SelectionNames.{compact_cmp, key_named, name_cmp, name_of, rising_list}
 use Rattle.erd_normal.specs.Canonical.{canonical_id, canonical_selection_id}
 use Rattle.erd_normal.specs.NormalTree.{by_key, by_name, id_of_key, id_of_selection, rank_of, rank_of_name, reference_cmp, text_of}
-use Rattle.erd_normal.proofs.CompactTexts.{ItemsHaveFittingNumbers, compact_exact}
+use Rattle.erd_normal.proofs.CompactTexts.{compact_exact}
 use Rattle.erd_normal.proofs.DistinctObjects.{selection_values_distinct, values_distinct}
 use Rattle.erd_normal.proofs.DistinctSets.{json_values_distinct, references_distinct}
 use Rattle.erd_normal.proofs.FittingNumbers.{entry-fitting}

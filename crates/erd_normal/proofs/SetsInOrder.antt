@@ -13,6 +13,7 @@ use Rattle.erd_tables.specs.declared.member.MemberKind.TheVariants as kind
 use Rattle.erd_check.specs.declared.want.Want.{Want}
 use Rattle.erd_check.specs.declared.want.Want.TheVariants.{Member, Object}
 use Rattle.erd_check.specs.Faults.{is_array}
+use Rattle.erd_check.specs.Numbers.{HasFittingNumbers}
 use Rattle.erd_check.specs.Trees.{IsTree, entries_of, list_of_items}
 use Rattle.erd_check.specs.Wants.{Asked, asked}
 use Rattle.erd_check.proofs.Entries.{array_from}
@@ -28,7 +29,6 @@ use Rattle.erd_normal.specs.NormalTree.{array_of, by_key, by_name, normal_object
 use Rattle.erd_normal.proofs.AskedMembers.{entries_asked}
 use Rattle.erd_normal.specs.Tables.{IsBounded}
 use Rattle.erd_normal.proofs.BuiltLists.{all_rising}
-use Rattle.erd_normal.proofs.CompactTexts.{HasFittingNumbers}
 use Rattle.erd_normal.proofs.FittingNumbers.{within-fitting}
 use Rattle.erd_normal.proofs.LeastKeys.{key_of_object}
 use Rattle.erd_normal.proofs.NormalEntries.{listed_again}

@@ -27,5 +27,6 @@ pub fn normal_tree(alloc: Global, report: &Report) -> Result<Value, AllocError>
     let _accepted = report.tree();
     let tables = tables_of(alloc, report)?;
     let values = ReportValues::of(report, &tables);
-    report_tree(alloc, &values, report)
+    let tree = report_tree(alloc, &values, report)?;
+    Ok(tree)
 }

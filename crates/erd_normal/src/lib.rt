@@ -20,6 +20,7 @@ mod report_tree;
 mod report_values;
 mod rising;
 mod selection_numbers;
+mod selection_references;
 mod set_order;
 mod shape;
 mod sorting;

@@ -3,7 +3,7 @@ ghost use Rattle.serde_json.specs.View.{view};
 ghost use Rattle.erd_tables.specs.Classes.{family_number};
 ghost use Rattle.erd_meaning.specs.Accepted.{IsAccepted};
 ghost use Rattle.erd_normal.specs.Building.{numbered_id};
-ghost use Rattle.erd_normal.specs.NormalTree.{normal_id, normal_reference, normal_selection_reference, text_of};
+ghost use Rattle.erd_normal.specs.NormalTree.{normal_id, normal_reference, text_of};
 ghost use Rattle.erd_normal.specs.Tables.{AreTables, number_in, table_of};
 
 use crate::identifiers::id_text;
@@ -49,7 +49,8 @@ fn table(tables: &Tables, family: Family) -> &[usize]
     }
 }
 
-fn number_at(numbers: &[usize], index: usize) -> usize
+/// The number at a position, and 1 where there is none.
+pub(crate) fn number_at(numbers: &[usize], index: usize) -> usize
     ensures { result ≡ number_in numbers.now index }
 {
     match numbers.get(index) {
@@ -102,17 +103,4 @@ pub(crate) fn reference(
 {
     let number = number_of(report, tables, family, text_of(value));
     Ok(Value::String(id_text(alloc, family, number)?))
-}
-
-/// The reference to a selection that a value becomes.
-pub(crate) fn selection_reference(
-    alloc: Global,
-    report: &Report,
-    tables: &Tables,
-    value: &Value,
-) -> Result<Value, AllocError>
-    requires { AreTables (view report.now) tables.now }
-    ensures { IfOk result (λ built. view built ≡ normal_selection_reference (view report.now) (view value.now)) }
-{
-    Err(AllocError)
 }

@@ -33,10 +33,12 @@ fn keyed_positions(
     report: &Report,
     family: Family,
 ) -> Result<Vec<(Option<Key>, usize)>, AllocError>
-    ensures { IfOk result (λ pairs. pairs.items ≡ key_positions 0 (objects family (view report.now))) }
+    ensures pairs { IfOk result (λ pairs. pairs.items ≡ key_positions 0 (objects family (view report.now))) }
+    ensures few { OnOk result (length (objects family (view report.now)) < 2 ^ 64) }
 {
     let mut pairs = Vec::new(alloc);
-    for index in 0..report.count(family) {
+    let count = report.count(family);
+    for index in 0..count {
         match report.object(family, index) {
             Some(object) => pairs.push((key_of(alloc, object)?, index))?,
             None => {}
@@ -46,7 +48,7 @@ fn keyed_positions(
 }
 
 /// The places of pairs, counted from 1, at the positions that they name.
-fn numbers_by(alloc: Global, sorted: &[(Option<Key>, usize)]) -> Result<Vec<usize>, AllocError>
+pub(crate) fn numbers_by<K>(alloc: Global, sorted: &[(K, usize)]) -> Result<Vec<usize>, AllocError>
     ensures { IfOk result (λ numbers. numbers.items ≡ numbered 0 sorted.now (replicate (length sorted.now) 0)) }
 {
     let mut numbers = vec![in alloc; 0; sorted.len()]?;

@@ -5,9 +5,10 @@ ghost use Rattle.erd_normal.specs.NormalTree.{array_of, normal_selection_referen
 ghost use Rattle.erd_normal.specs.Tables.{AreTables};
 
 use crate::label::with_rising_text;
-use crate::numbering::{reference, selection_reference};
+use crate::numbering::reference;
 use crate::references::rising_references;
 use crate::rising::rising_values;
+use crate::selection_references::selection_reference;
 use crate::shape::{entries_of, is_empty_array};
 use crate::tables::Tables;
 use erd_meaning::Report;

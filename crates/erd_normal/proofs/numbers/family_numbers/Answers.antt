@@ -11,9 +11,9 @@ use Rattle.erd_normal.proofs.FamilyNumbers.{family_number}
 use Rattle.erd_normal.proofs.StableRising.{by_first, rising_from_stable}
 use Rattle.erd_normal.proofs.numbers.family_numbers.Goals as goal
 
-pub returns : goal.returns
-returns c =
+pub returns-clause-numbers : goal.returns-clause-numbers
+returns-clause-numbers c =
     family_number (view c.args.report.now) c.requires.accepted c.args.family c.requires.keyed c.in_ok-sorted.sorted.items c.in_ok-numbers.numbers.items
     (rising_from_stable (option_cmp key_cmp) (options_total key_cmp_total) c.in_ok-keyed.keyed.items c.in_ok-sorted.sorted.items c.in_ok-sorted.ensures
-    ∙ ap (rising_list (by_first (option_cmp key_cmp))) c.in_ok-keyed.ensures)
+    ∙ ap (rising_list (by_first (option_cmp key_cmp))) c.in_ok-keyed.ensures.pairs)
     (c.in_ok-numbers.ensures ∙ ap (λ ps. numbered 0 ps (replicate (length ps) 0)) c.deref.ensures.value)

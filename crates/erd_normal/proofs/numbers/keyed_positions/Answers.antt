@@ -7,8 +7,8 @@ use Rattle.erd_normal.proofs.KeyPositions.{positions_all, positions_none, positi
 use Rattle.erd_normal.proofs.numbers.keyed_positions.Goals as goal
 use Rattle.erd_normal.proofs.numbers.keyed_positions.Goals.{in-Some+in_ok-key_of-in-Some+in_ok-push-in-Some, in-None}
 
-pub returns : goal.returns
-returns c =
+pub returns-clause-pairs : goal.returns-clause-pairs
+returns-clause-pairs c =
     let os = objects c.args.family (view c.args.report.now) in
     let all : c.loop-index.index ≡ length os = omega arith in
     positions_all os c.loop-index.pairs.items (key_positions 0 os) (subst (λ i. c.loop-index.pairs.items ++ key_positions i (drop i os) ≡ key_positions 0 os) all c.loop-index.invariant)

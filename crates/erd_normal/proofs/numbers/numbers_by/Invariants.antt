@@ -3,4 +3,4 @@ use Rattle.erd_normal.specs.Building.{numbered}
 use Rattle.erd_normal.proofs.numbers.numbers_by.Given as goal
 
 abbrev pub invariant-loop-rank : goal.invariant-loop-rank
-invariant-loop-rank l = numbered l.rank (drop l.rank l.sorted) l.numbers.items ≡ numbered 0 l.sorted l.initial.numbers.items
+invariant-loop-rank g l = numbered l.rank (drop l.rank l.sorted) l.numbers.items ≡ numbered 0 l.sorted l.initial.numbers.items

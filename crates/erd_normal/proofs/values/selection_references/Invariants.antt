@@ -4,5 +4,4 @@ use Rattle.erd_normal.specs.NormalTree.{normal_selection_reference}
 use Rattle.erd_normal.proofs.values.selection_references.Given as goal
 
 abbrev pub invariant-loop-value : goal.invariant-loop-value
-invariant-loop-value g l =
-    map view l.references.items ≡ map (λ v. normal_selection_reference (g.S.SelectionRule.report l.selections) (view v)) (take l.value-index l.values)
+invariant-loop-value l = map view l.references.items ≡ map (λ v. normal_selection_reference (view l.report) (view v)) (take l.value-index l.values)

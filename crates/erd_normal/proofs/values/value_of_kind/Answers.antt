@@ -8,7 +8,7 @@ use Rattle.erd_normal.specs.NormalTree.{array_of, normal_selection_reference, no
 use Rattle.erd_normal.proofs.values.value_of_kind.Goals as goal
 
 pub returns-in_ok-built-in-Identifiers : goal.returns-in_ok-built-in-Identifiers
-returns-in_ok-built-in-Identifiers g c whole =
+returns-in_ok-built-in-Identifiers c whole =
     let t = view c.args.report.now in
     let d = view c.args.value.now in
     let entries = c.entries_of-in-Identifiers.ensures in
@@ -22,14 +22,12 @@ returns-in_ok-built-in-Identifiers g c whole =
     ]
 
 pub returns-in_ok-built-in-Ordered : goal.returns-in_ok-built-in-Ordered
-returns-in_ok-built-in-Ordered g c whole =
+returns-in_ok-built-in-Ordered c whole =
     let t = view c.args.report.now in
     let d = view c.args.value.now in
-    let own = g.S.SelectionRule.report c.args.selections.now in
     c.unless_empty-in-Ordered.ensures
     ∙ (ap (λ ds. unless_no_entry d (array_of ds))
     (c.in_ok-built-in-Ordered.ensures
-    ∙ (map_after view (normal_selection_reference own) c.entries_of-in-Ordered.result.now
-    ∙ (ap (map (normal_selection_reference own)) c.entries_of-in-Ordered.ensures
-    ∙ ap (λ r. map (normal_selection_reference r) (entries_of d)) c.requires.same)))
+    ∙ (map_after view (normal_selection_reference t) c.entries_of-in-Ordered.result.now
+    ∙ ap (map (normal_selection_reference t)) c.entries_of-in-Ordered.ensures))
     ∙ sym (ap (λ k. normal_value t k d) c.in-Ordered.is))

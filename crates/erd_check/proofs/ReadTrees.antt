@@ -1,0 +1,85 @@
+-- What is read from a text is a tree: members go in by `put`, and a number is kept as negative only below zero.
+use Rattle.std.proofs.Common.{◌≡◌, ◌^◌, ℕ, zero, suc, pos, negsuc, neg_ℤ, List, Bool, true, false, ◌&&◌, if◌then◌else◌, Option, Some, None, option_map, option_and_then, subst}
+use Rattle.std.specs.Prelude.{IfSome, nat_lt, nat_le, ◌==◌, slice_index, drop}
+use Rattle.std.specs.Float.{binary64, float_is_finite}
+use Rattle.std.specs.Float.Numeral.{Parts, minus, scan_numeral, numeral_digits, nearest_float}
+use Rattle.json.specs.Json as json
+use Rattle.json.specs.Lex.{tokens}
+use Rattle.serde_json.specs.Data.{Num, unsigned, negative, float, Data, number, array, object, item, Members, no_members, put}
+use Rattle.serde_json.specs.Read.{float_of, number_from, number_of, is_integer, of_json, of_items, of_members, max_depth, read}
+use Rattle.erd_check.specs.Trees.{IsNumber, IsTree, AreTrees, AreMembers}
+use Rattle.erd_check.proofs.PutTrees.{put-trees}
+
+-- ---- options
+
+-- one of two answers, each of which keeps what holds of a value
+either_holds : {A : Type 0} (P : A → Type 0) (test : Bool) (x y : Option A) → IfSome x P → IfSome y P → IfSome (if test then x else y) P
+either_holds P true x y p q = p
+either_holds P false x y p q = q
+
+-- a value under a function
+mapped_holds : {A B : Type 0} (P : A → Type 0) (Q : B → Type 0) (f : A → B) (o : Option A) → ((a : A) → P a → Q (f a)) → IfSome o P → IfSome (option_map f o) Q
+mapped_holds P Q f None each h = tt
+mapped_holds P Q f (Some a) each h = each a h
+
+-- what follows a value
+then_holds : {A B : Type 0} (P : A → Type 0) (Q : B → Type 0) (f : A → Option B) (o : Option A) → ((a : A) → P a → IfSome (f a) Q) → IfSome o P → IfSome (option_and_then f o) Q
+then_holds P Q f None each h = tt
+then_holds P Q f (Some a) each h = each a h
+
+-- ---- numbers
+
+-- a number that is read as a float
+float_of-number : (sign : Bool) (p : Parts) → IfSome (float_of sign p) IsNumber
+float_of-number sign p = either_holds IsNumber (float_is_finite (nearest_float binary64 sign p)) (Some (float (nearest_float binary64 sign p))) None tt tt
+
+-- a whole number with a minus is kept as negative only where it is not zero, so below zero
+signed-number : (n : ℕ) (whole fits : Bool) (o : Option Num) → IfSome o IsNumber
+    → IfSome (if whole && nat_lt 0 n && fits then Some (negative (neg_ℤ (pos n))) else o) IsNumber
+signed-number zero true fits o h = h
+signed-number zero false fits o h = h
+signed-number (suc n) whole fits o h = either_holds IsNumber (whole && nat_lt 0 (suc n) && fits) (Some (negative (negsuc n))) o tt h
+
+-- a numeral behind its sign
+number_from-number : (sign : Bool) (p : Parts) → IfSome (number_from sign p) IsNumber
+number_from-number true p = signed-number (numeral_digits p) (is_integer p) (nat_le (numeral_digits p) (2 ^ 63)) (float_of true p) (float_of-number true p)
+number_from-number false p = either_holds IsNumber (is_integer p && nat_lt (numeral_digits p) (2 ^ 64)) (Some (unsigned (numeral_digits p))) (float_of false p) tt (float_of-number false p)
+
+-- a numeral
+number_of-number : (s : List ℕ) → IfSome (number_of s) IsNumber
+unfolding number_of
+number_of-number s =
+    either_holds IsNumber (slice_index s 0 == minus) (number_from true (scan_numeral (drop 1 s))) (number_from false (scan_numeral s)) (number_from-number true (scan_numeral (drop 1 s))) (number_from-number false (scan_numeral s))
+
+-- ---- values
+
+mutual
+  -- a value, from what the grammar reads
+  of_json-tree : (j : json.Json) → IfSome (of_json j) IsTree
+  of_json-tree json.null = tt
+  of_json-tree (json.boolean b) = tt
+  of_json-tree (json.number s) = mapped_holds IsNumber IsTree number (number_of s) (λ n h. h) (number_of-number s)
+  of_json-tree (json.string s) = tt
+  of_json-tree (json.array js) = mapped_holds AreTrees IsTree array (of_items js) (λ ds trees. trees) (of_items-trees js)
+  of_json-tree (json.object ms) = mapped_holds AreMembers IsTree object (of_members ms no_members) (λ found rise. rise) (of_members-trees ms no_members tt)
+
+  -- the entries of an array
+  of_items-trees : (js : json.Items) → IfSome (of_items js) AreTrees
+  of_items-trees json.no_items = tt
+  of_items-trees (json.item j js) =
+      then_holds IsTree AreTrees (λ d. option_map (item d) (of_items js)) (of_json j) (λ d tree. mapped_holds AreTrees AreTrees (item d) (of_items js) (λ ds trees. (tree, trees)) (of_items-trees js)) (of_json-tree j)
+
+  -- the members of an object, which go in among those found before them
+  of_members-trees : (ms : json.Members) (found : Members) → AreMembers found → IfSome (of_members ms found) AreMembers
+  of_members-trees json.no_members found rise = rise
+  of_members-trees (json.member k j ms) found rise =
+      then_holds IsTree AreMembers (λ d. of_members ms (put k d found)) (of_json j) (λ d tree. of_members-trees ms (put k d found) (put-trees k d found rise tree)) (of_json-tree j)
+
+-- the value of what the grammar reads, if it reads anything
+read-tree : (j : Option json.Json) → IfSome (option_and_then of_json j) IsTree
+read-tree None = tt
+read-tree (Some j) = of_json-tree j
+
+-- what is read from a text is a tree
+pub read_is_tree : (b : List ℕ) (t : Data) → read b ≡ Some t → IsTree t
+read_is_tree b t is = subst (λ o. IfSome o IsTree) is (read-tree (option_and_then (λ p. json.if_last p.0 p.1) (json.value max_depth (tokens b))))

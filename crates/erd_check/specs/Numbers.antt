@@ -1,0 +1,34 @@
+-- Whole numbers that fit 64 bits.
+use Rattle.std.specs.Prelude.{◌≡◌, ◌<◌, ◌^◌, pos, negsuc, false, ⊤}
+use Rattle.serde_json.specs.Data.{Num, unsigned, negative, float, Data, null, boolean, number, string, array, object, Items, no_items, item, Members, no_members, member}
+use Rattle.serde_json.specs.Find.{is_float}
+
+-- a number fits 64 bits: without a sign, or below zero
+abbrev pub IsFittingNumber : Num → Type 0
+IsFittingNumber (unsigned n) = n < 2 ^ 64
+IsFittingNumber (negative (pos n)) = ⊥
+IsFittingNumber (negative (negsuc n)) = n < 2 ^ 63
+IsFittingNumber (float x) = ⊥
+
+-- each number of a value is whole and fits 64 bits
+abbrev mutual
+  pub HasFittingNumbers : Data → Type 0
+  HasFittingNumbers null = ⊤
+  HasFittingNumbers (boolean b) = ⊤
+  HasFittingNumbers (number n) = IsFittingNumber n
+  HasFittingNumbers (string s) = ⊤
+  HasFittingNumbers (array ds) = ItemsHaveFittingNumbers ds
+  HasFittingNumbers (object ms) = MembersHaveFittingNumbers ms
+
+  pub ItemsHaveFittingNumbers : Items → Type 0
+  ItemsHaveFittingNumbers no_items = ⊤
+  ItemsHaveFittingNumbers (item d ds) = HasFittingNumbers d × ItemsHaveFittingNumbers ds
+
+  pub MembersHaveFittingNumbers : Members → Type 0
+  MembersHaveFittingNumbers no_members = ⊤
+  MembersHaveFittingNumbers (member k d ms) = HasFittingNumbers d × MembersHaveFittingNumbers ms
+
+-- if a value is a whole number, it fits 64 bits
+abbrev pub IsInRange : Data → Type 0
+IsInRange (number n) = is_float n ≡ false → IsFittingNumber n
+IsInRange d = ⊤

@@ -1,0 +1,38 @@
+-- The places of keys among the sorted ones, by the positions of the keys, and so the numbers of selections in the order of the code.
+use Rattle.std.specs.Prelude.{ℕ, ◌+◌, List, [], ◌∷◌, length, map, codes, replicate}
+use Rattle.std.specs.List.{flat_map}
+use Rattle.std.specs.Option.{option_cmp}
+use Rattle.std.specs.declared.cmp.Ordering.{Ordering}
+use Rattle.serde_json.specs.Data.{Data}
+use Rattle.erd_meaning.specs.Keys.{entries_at}
+use Rattle.erd_meaning.specs.SelectionNames.{name_cmp, name_of, rising_list}
+use Rattle.erd_normal.specs.Building.{numbered}
+
+-- keys and their positions, from position i on
+abbrev pub positioned : {K : Type 0} → ℕ → List K → List (K × ℕ)
+positioned i [] = []
+positioned i (k ∷ ks) = (k, i) ∷ positioned (i + 1) ks
+
+-- the places of pairs, counted from 1, at the positions that they name
+abbrev pub places_by : {K : Type 0} → List (K × ℕ) → List ℕ
+places_by ps = numbered 0 ps (replicate (length ps) 0)
+
+-- the place of each key among the sorted ones
+abbrev pub places_of : {K : Type 0} → (K → K → Ordering) → List K → List ℕ
+places_of cmp ks = places_by (rising_list (λ p q. cmp p.0 q.0) (positioned 0 ks))
+
+-- the numbers of selections, which are those of a contest
+abbrev pub numbers_of_selections : Data → List Data → List ℕ
+numbers_of_selections t ds = places_of (option_cmp name_cmp) (map (name_of t) ds)
+
+-- the numbers of the selections of a contest
+abbrev pub numbers_in_contest : Data → Data → List ℕ
+numbers_in_contest t contest = numbers_of_selections t (entries_at (codes "ContestSelection") contest)
+
+-- those of an election, contest by contest
+abbrev pub numbers_in_election : Data → Data → List ℕ
+numbers_in_election t election = flat_map (numbers_in_contest t) (entries_at (codes "Contest") election)
+
+-- those of a report
+abbrev pub numbers_in_report : Data → List ℕ
+numbers_in_report t = flat_map (numbers_in_election t) (entries_at (codes "Election") t)
