@@ -1,23 +1,16 @@
 //! Calls of the layers below the engines: each succeeds where memory is there.
 use crate::tests::forms::canonical_text;
+use crate::tests::identity::key;
 use crate::vectors::{EVERY_MEMBER, ONE_UNIT, OTHER_VENDOR, SMALL_BALLOT, SMALL_BALLOT_CANONICAL};
 use erd_canon::{Outcome, ReadFrom, WriteTo, check_bytes, run_canon};
 use erd_check::shape;
 use erd_meaning::{Key, Report, key_of, resolve};
 use erd_normal::{CompactText, SetOrder, in_order, normal_tree};
-use erd_tables::{Family, Text};
+use erd_tables::Family;
 use serde_json::Value;
 use std::alloc::Global;
 use std::cmp::Ordering;
 use std::test::Fail;
-
-// The key of these three texts.
-fn key(alloc: Global, kind: &str, other: &str, value: &str) -> Result<Key, Fail> {
-    let kind = Text::of(String::from_str(alloc, kind)?);
-    let other = Text::of(String::from_str(alloc, other)?);
-    let value = Text::of(String::from_str(alloc, value)?);
-    Ok(Key { kind, other, value })
-}
 
 // The pairs with these keys are given in this order, and then have these numbers.
 fn keys_become(alloc: Global, keys: &[(&str, &str, &str)], wanted: &[usize]) -> Result<(), Fail> {
