@@ -57,10 +57,7 @@ run examples/small-ballot.canonical.json
 expect 'canonical output with contests fed back' 0 examples/small-ballot.canonical.json ''
 
 run examples/small-ballot.json
-cp "$work/out" "$work/ballot"
-expect 'a small ballot' 0 "$work/ballot" ''
-run "$work/ballot"
-expect 'its output fed back' 0 "$work/ballot" ''
+expect 'a small ballot' 0 examples/small-ballot.canonical.json ''
 
 # Two vendors define the ballots of one county, with other names, orders, escapes and envelopes.
 county=examples/county.canonical.json

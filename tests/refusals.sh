@@ -68,7 +68,7 @@ one_test() {
 
 : > "$work/empty"
 program 'a report with one unit' examples/one-unit.json 0 examples/one-unit.canonical.json ''
-program 'a small ballot' examples/small-ballot.canonical.json 0 examples/small-ballot.canonical.json ''
+program 'a small ballot' examples/small-ballot.json 0 examples/small-ballot.canonical.json ''
 sed 's/"Value":"U2"/"Value":"U1"/' examples/small-ballot.json > "$work/twins"
 program 'a refused report' "$work/twins" 1 "$work/empty" $'/GpUnit/1: identifier used twice\n'
 program 'no JSON' tests/refuse.c 2 "$work/empty" $'not JSON\n'

@@ -1,6 +1,11 @@
 mod acceptance;
+mod calls;
+mod canonical;
+mod canonical_differences;
+mod canonical_orders;
 mod devices;
 mod edits;
+mod forms;
 mod identity;
 mod lines;
 mod links;
@@ -8,6 +13,5 @@ mod names;
 mod places;
 mod references;
 mod refused;
-mod reports;
 mod selections;
 mod shape;

@@ -5,6 +5,7 @@ use crate::writers::{FailingWriter, FullWriter, PageWriter};
 use erd_canon::{
     MOST_BYTES, Outcome, ReadFrom, RunFault, Sink, Source, WriteTo, run_canon, run_check,
 };
+use std::test::Fail;
 
 #[test]
 fn largest_input(rt: HostRuntime) {
@@ -161,4 +162,20 @@ fn other_writers_of_check_fail(rt: HostRuntime) {
     let flush = run_check(rt.alloc(), &mut reader, &mut out);
     assert!(rt; flush == Err(RunFault::Write));
     assert_eq!(rt; out.writer.taken, 9);
+}
+
+// The derived text of a fault is its words.
+#[test]
+fn words(rt: HostRuntime) -> Result<(), Fail> {
+    for (fault, words) in [
+        (RunFault::TooLong, "too long"),
+        (RunFault::Read, "read failed"),
+        (RunFault::Write, "write failed"),
+        (RunFault::Memory, "no memory"),
+    ] {
+        let text = fault.to_string(rt.alloc())?;
+        assert_eq!(rt; text.as_str(), words);
+        assert_eq!(rt; fault.words(), words);
+    }
+    Ok(())
 }

@@ -2,10 +2,24 @@
 use std::alloc::{AllocError, Global};
 use std::test::Fail;
 
+// A text, and what stands in its place.
+pub type Edit = (&'static str, &'static str);
+
 // The text with the first `from` replaced.
 pub fn edited(alloc: Global, text: &str, from: &str, to: &str) -> Result<String, Fail> {
     let (before, after) = text.split_once(from).ok_or("no such text")?;
     Ok(format!(in alloc; "{before}{to}{after}")?)
+}
+
+// The text with the first `from` of each edit replaced, one after another. The edits are spelled.
+pub fn with_edits(alloc: Global, text: &str, edits: &[(&str, &str)]) -> Result<String, Fail> {
+    let mut whole = String::from_str(alloc, text)?;
+    for (from, to) in edits {
+        let from = spelled(alloc, from)?;
+        let to = spelled(alloc, to)?;
+        whole = edited(alloc, whole.as_str(), from.as_str(), to.as_str())?;
+    }
+    Ok(whole)
 }
 
 // The text with the first `from` replaced, if it is there and memory is found.

@@ -41,7 +41,8 @@ fn units_have(alloc: Global, units: &[(&str, &str)], wanted: &str) -> Result<(),
     }
 }
 
-fn key(alloc: Global, kind: &str, other: &str, value: &str) -> Result<Key, Fail> {
+// The key of these three texts.
+pub fn key(alloc: Global, kind: &str, other: &str, value: &str) -> Result<Key, Fail> {
     let kind = Text::of(String::from_str(alloc, kind)?);
     let other = Text::of(String::from_str(alloc, other)?);
     let value = Text::of(String::from_str(alloc, value)?);

@@ -1,5 +1,5 @@
 //! References from each family to another, and the names of selections beside them.
-use crate::tests::edits::{edited, spelled};
+use crate::tests::edits::with_edits;
 use crate::tests::lines::check_lines;
 use crate::tests::names::{OWN, names_are};
 use crate::vectors::{SMALL_BALLOT, SMALL_BALLOT_CANONICAL};
@@ -10,14 +10,9 @@ use serde_json::Value;
 use std::alloc::Global;
 use std::test::Fail;
 
-// The small ballot with each `from` replaced.
+// The small ballot with these edits.
 fn with_all(alloc: Global, edits: &[(&str, &str)]) -> Result<String, Fail> {
-    let mut report = String::from_str(alloc, SMALL_BALLOT)?;
-    for (from, to) in edits {
-        let to = spelled(alloc, to)?;
-        report = edited(alloc, report.as_str(), from, to.as_str())?;
-    }
-    Ok(report)
+    with_edits(alloc, SMALL_BALLOT, edits)
 }
 
 // The small ballot with these edits is judged so.
