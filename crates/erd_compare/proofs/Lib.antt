@@ -9,3 +9,7 @@ pub mod Labels
 pub mod ReferencedKeys
 pub mod ReferencedNames
 pub mod NamedKeySets
+pub mod EqualOptions
+pub mod StepByStep
+pub mod SameContents
+pub mod NodeParts

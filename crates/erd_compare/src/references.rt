@@ -52,7 +52,7 @@ fn selection_name<'a>(report: &'a Report, index: usize) -> Option<&'a SelectionN
 }
 
 /// Whether two families are one.
-fn is_same_family(found: Family, family: Family) -> bool
+pub(crate) fn is_same_family(found: Family, family: Family) -> bool
     ensures { result ≡ (family_number found == family_number family) }
 {
     found == family
