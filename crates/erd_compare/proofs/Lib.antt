@@ -13,3 +13,5 @@ pub mod EqualOptions
 pub mod StepByStep
 pub mod SameContents
 pub mod NodeParts
+pub mod SameSelections
+pub mod FoundNames
