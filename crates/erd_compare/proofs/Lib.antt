@@ -15,3 +15,5 @@ pub mod SameContents
 pub mod NodeParts
 pub mod SameSelections
 pub mod FoundNames
+pub mod MemberValues
+pub mod LesserNames

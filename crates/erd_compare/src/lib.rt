@@ -9,6 +9,7 @@ mod families;
 mod first;
 mod label;
 mod line;
+mod member;
 mod members;
 mod plain;
 mod record;
