@@ -17,3 +17,7 @@ pub mod SameSelections
 pub mod FoundNames
 pub mod MemberValues
 pub mod LesserNames
+pub mod FamilyTrees
+pub mod KeyedRecords
+pub mod LeastDifferences
+pub mod PartsTold
