@@ -5,7 +5,7 @@ use Rattle.serde_json.specs.Data.{Data}
 use Rattle.erd_tables.specs.declared.class.Family.{Family}
 use Rattle.erd_tables.specs.declared.class.Family.TheVariants as family
 use Rattle.erd_tables.specs.declared.place.Step.{Step}
-use Rattle.erd_tables.specs.declared.place.Step.TheVariants.{At, Name}
+use Rattle.erd_tables.specs.declared.place.Step.TheVariants.{Name}
 use Rattle.erd_check.proofs.Rising.{Has, all-Has}
 use Rattle.erd_meaning.specs.Keys.{entries_at}
 use Rattle.erd_meaning.specs.Objects.{Placed, contests, elections, objects, placed_entries, placed_from, report_of}

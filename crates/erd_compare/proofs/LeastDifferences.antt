@@ -1,6 +1,5 @@
 -- The least key at which two maps differ, as the keys are gone over.
 use Rattle.std.proofs.Common.{◌≡◌, ℕ, zero, suc, ◌+◌, ◌<◌, ◌≤◌, ◌⊎◌, inl, inr, ⊎_elim, List, [], ◌∷◌, length, Option, Some, None, cond, is_lt, is_some, true, false, option_and_then, Ordering, Less, Equal, Greater, refl, sym, ap, ◌∙◌, subst, arith}
-use Rattle.std.specs.Cmp.{IsTotalOrder}
 use Rattle.std.specs.List.{slice_get}
 use Rattle.std.specs.Ordering.{ordering_reverse}
 use Rattle.std.proofs.lemmas.Cmp.{tied_itself}
@@ -14,10 +13,8 @@ use Rattle.erd_meaning.specs.ObjectWalk.{kept_key}
 use Rattle.erd_meaning.specs.Orders.{key_cmp_exact, key_cmp_total}
 use Rattle.erd_meaning.specs.Records.{records_of}
 use Rattle.erd_meaning.specs.declared.key.Key.{Key}
-use Rattle.erd_compare.specs.Comparing.{DifferAtKey}
 use Rattle.erd_compare.specs.Differences.{Differ}
 use Rattle.erd_compare.specs.KeyedDifferences.{DifferAmong, HasKey, HasKeyAlone, HasKeyAloneAmong, HasKeyAmong, IsAnyKey, IsComparable, TellsAmong, lesser_difference}
-use Rattle.erd_compare.specs.declared.difference.How.{How}
 use Rattle.erd_compare.specs.declared.families.KeyedDifference.{KeyedDifference}
 use Rattle.erd_compare.proofs.KeyedRecords.{key_or_none, neither_record}
 

@@ -21,3 +21,4 @@ pub mod FamilyTrees
 pub mod KeyedRecords
 pub mod LeastDifferences
 pub mod PartsTold
+pub mod PartsInOrder

@@ -26,12 +26,14 @@ pub(crate) fn part_difference(
     let other = right.tree();
     match family_of(part) {
         Some(family) => family_difference(alloc, left, right, part, family),
-        None if part == Part::Election => {
-            let one = left.election();
-            let other = right.election();
-            whole_difference(alloc, left, right, part, Role::Election, one, other)
-        }
-        None => whole_difference(alloc, left, right, part, Role::Report, one, other),
+        None => match part {
+            Part::Election => {
+                let one = left.election();
+                let other = right.election();
+                whole_difference(alloc, left, right, part, Role::Election, one, other)
+            }
+            _ => whole_difference(alloc, left, right, part, Role::Report, one, other),
+        },
     }
 }
 
@@ -175,10 +177,7 @@ fn least_of_right<'a>(
 }
 
 /// The one with the lesser key.
-fn lesser<'a>(
-    least: Option<KeyedDifference<'a>>,
-    other: KeyedDifference<'a>,
-) -> KeyedDifference<'a>
+fn lesser<'a>(least: Option<KeyedDifference<'a>>, other: KeyedDifference<'a>) -> KeyedDifference<'a>
     ensures { result ≡ lesser_difference least.entry other.entry }
 {
     let Some(least) = least else {
@@ -206,13 +205,13 @@ fn difference_at(
     requires its_key { key_in family (view left.now) index ≡ Some key.now }
     ensures { IfOk result (TellsHow (records_of (view left.now) family key.now) (records_of (view right.now) family key.now)) }
 {
+    // a position that has a key has an object
     let Some(one) = left.object(family, index) else {
         return Ok(None);
     };
+    let role = Role::OfFamily(family);
     match object_of(right, family, key) {
-        Some(other) => {
-            object_difference(alloc, left, right, Role::OfFamily(family), one, other)
-        }
+        Some(other) => object_difference(alloc, left, right, role, one, other),
         None => Ok(Some(How::OnlyLeft)),
     }
 }

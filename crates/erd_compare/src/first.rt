@@ -8,6 +8,20 @@ use crate::families::part_difference;
 use erd_meaning::Report;
 use std::alloc::{AllocError, Global};
 
+/// The parts in the order in which they are compared.
+const PARTS: [Part; 10] = [
+    Part::Report,
+    Part::Unit,
+    Part::Party,
+    Part::Person,
+    Part::Office,
+    Part::Header,
+    Part::Election,
+    Part::Candidate,
+    Part::Contest,
+    Part::Style,
+];
+
 /// The first difference of what two reports mean, and none exactly if they mean the same: at the least part, there at the
 /// least key; a different class before any member, else the least name of a member that differs. Reports differ in a contest's
 /// selections at its member `ContestSelection`, in a ballot's order at its member `OrderedContent`.
@@ -21,5 +35,10 @@ pub fn first_difference(
 ) -> Result<Option<Difference>, AllocError>
     ensures { IfOk result (IsDifference (meaning (view left.now)) (meaning (view right.now))) }
 {
-    Err(AllocError)
+    for part in PARTS {
+        if let Some(difference) = part_difference(alloc, left, right, part)? {
+            return Ok(Some(difference));
+        }
+    }
+    Ok(None)
 }

@@ -1,4 +1,4 @@
-use Rattle.std.proofs.Common.{◌≡◌, Option, Some, None, sym, ◌∙◌}
+use Rattle.std.proofs.Common.{◌≡◌, Some, sym, ◌∙◌}
 use Rattle.std.specs.Prelude.{IfOk}
 use Rattle.serde_json.specs.View.{view}
 use Rattle.erd_meaning.specs.Records.{object_with_key}

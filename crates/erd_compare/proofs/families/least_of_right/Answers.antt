@@ -1,4 +1,4 @@
-use Rattle.std.proofs.Common.{◌≡◌, Option, Some, None, not, sym, ap, ◌∙◌, arith}
+use Rattle.std.proofs.Common.{not, sym, ap, ◌∙◌, arith}
 use Rattle.serde_json.specs.View.{view}
 use Rattle.erd_meaning.specs.Records.{records_of}
 use Rattle.erd_compare.specs.declared.difference.How.TheVariants.{OnlyRight}

@@ -12,4 +12,4 @@ returns-in-Some c =
 pub returns-in-None : goal.returns-in-None
 returns-in-None c =
     sym (object_absent (view c.args.report.now) c.requires.comparable c.args.family c.requires.keyed c.args.key.now (λ h.
-        let found : c.find.result ≡ Some h.0 = (c.find.ensures h.0).1 h.1 in let clash : None ≡ Some h.0 = sym c.in-None.is ∙ found in cc))
+    let found : c.find.result ≡ Some h.0 = (c.find.ensures h.0).1 h.1 in let clash : None ≡ Some h.0 = sym c.in-None.is ∙ found in cc))
