@@ -1,5 +1,5 @@
 -- Optional values that are compared by a test which decides equality.
-use Rattle.std.proofs.Common.{◌≡◌, Bool, true, false, true≢false, Option, Some, None, option_map, is_eq, refl, sym, ap, subst, ◌∙◌}
+use Rattle.std.proofs.Common.{◌≡◌, Bool, true, true≢false, Option, Some, None, option_map, is_eq, refl, sym, ap, subst, ◌∙◌}
 use Rattle.std.proofs.lemmas.Cmp.{tied_itself}
 use Rattle.std.specs.Option.{option_eq}
 use Rattle.std.specs.Ordering.{eq_by_cmp}

@@ -22,3 +22,4 @@ pub mod KeyedRecords
 pub mod LeastDifferences
 pub mod PartsTold
 pub mod PartsInOrder
+pub mod KeyedKinds

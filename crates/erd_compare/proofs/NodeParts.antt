@@ -1,13 +1,12 @@
 -- What a node of a ballot's order is, by its class, and what stands inside it.
-use Rattle.std.proofs.Common.{◌≡◌, ◌<◌, ◌≤◌, ℕ, zero, suc, max, List, [], ◌∷◌, length, get_or, Option, Some, None, Ordering, Less, Equal, Greater, is_eq, Bool, true, false, cond, codes, refl, sym, ap, ◌∙◌, subst, arith}
+use Rattle.std.proofs.Common.{◌≡◌, ◌<◌, ◌≤◌, ℕ, zero, suc, List, [], ◌∷◌, length, get_or, Option, Some, None, Ordering, Less, Equal, Greater, is_eq, Bool, true, false, codes, refl, sym, ap, ◌∙◌, arith}
 use Rattle.std.proofs.lemmas.Map.Text.{is_eq-slice_cmp}
-use Rattle.serde_json.specs.Data.{Data, null, boolean, number, string, array, object, Items, no_items, item, Members, no_members, member, depth, items_depth, members_depth}
+use Rattle.serde_json.specs.Data.{Data, object, Members, no_members, member, depth, items_depth, members_depth}
 use Rattle.serde_json.specs.Find.{get, get_member}
 use Rattle.serde_json.specs.View.{items_view, view}
 use Rattle.serde_json.specs.declared.value.Value.{Value}
 use Rattle.erd_tables.specs.Texts.{text_cmp}
 use Rattle.erd_check.proofs.Members.{get_member-depth}
-use Rattle.erd_check.specs.Trees.{entries_of}
 use Rattle.erd_meaning.specs.Meaning.{Content, no_content}
 use Rattle.erd_meaning.specs.Records.{class_of_node, content_inside, content_of, contest_node, header_node, is_header_class, node_of}
 use Rattle.erd_compare.specs.Comparing.{Decides}

@@ -1,10 +1,10 @@
 -- When two orders of a ballot are the same: node by node, and each node part by part.
-use Rattle.std.proofs.Common.{◌≡◌, ◌==◌, length, suc, arith, List, [], ◌∷◌, map, Bool, true, false, ◌&&◌, Option, Some, None, option_and_then, refl, sym, ap, ap₂, ◌∙◌, true≢false}
+use Rattle.std.proofs.Common.{◌≡◌, ◌==◌, length, suc, arith, List, [], ◌∷◌, map, Bool, true, false, Option, refl, sym, ap, ap₂, ◌∙◌, true≢false}
 use Rattle.std.proofs.lemmas.Bool.Decides.{Decides-eqb}
 use Rattle.std.proofs.lemmas.Simd.{map-map}
-use Rattle.serde_json.specs.Data.{Data, null, boolean, number, string, array, object, Items, no_items, item}
+use Rattle.serde_json.specs.Data.{Data, array, Items, no_items, item}
 use Rattle.serde_json.specs.View.{view}
-use Rattle.serde_json.specs.declared.value.Value.{Value, Array}
+use Rattle.serde_json.specs.declared.value.Value.{Value}
 use Rattle.erd_check.specs.Trees.{entries_of, list_of_items}
 use Rattle.erd_meaning.specs.Meaning.{JsonMap, Content, no_content, first_node, Node, a_contest, a_header}
 use Rattle.erd_meaning.specs.NameParts.{NameParts}

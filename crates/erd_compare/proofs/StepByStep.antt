@@ -1,5 +1,5 @@
 -- Two lists that are compared one entry after another: what is left of them is the same exactly if they are.
-use Rattle.std.proofs.Common.{◌≡◌, ◌<◌, ◌+◌, ℕ, suc, List, [], ◌∷◌, map, drop, length, get_or, Bool, true, false, true≢false, add-one, refl, sym, ap, ap₂, ◌∙◌}
+use Rattle.std.proofs.Common.{◌≡◌, ◌<◌, ◌+◌, ℕ, List, [], ◌∷◌, map, drop, length, get_or, true, false, true≢false, add-one, refl, sym, ap, ap₂, ◌∙◌}
 use Rattle.std.proofs.Math.Seq.{drop-cons}
 use Rattle.erd_compare.specs.Comparing.{Decides}
 

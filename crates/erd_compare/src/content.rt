@@ -3,8 +3,7 @@ ghost use Rattle.std.specs.List.{AllByRecursion};
 ghost use Rattle.std.specs.Option.{option_copied};
 ghost use Rattle.serde_json.specs.Find.{as_str};
 ghost use Rattle.serde_json.specs.View.{view};
-ghost use Rattle.erd_check.specs.Trees.{entries_of};
-ghost use Rattle.erd_meaning.specs.Keys.{has_keys, entries_at, text_at};
+ghost use Rattle.erd_meaning.specs.Keys.{has_keys, text_at};
 ghost use Rattle.erd_meaning.specs.Meaning.{no_content};
 ghost use Rattle.erd_meaning.specs.Records.{carried_members, content_of, node_of, contest_node, header_node, class_of_node, is_header_class};
 ghost use Rattle.erd_meaning.specs.SelectionNames.{key_named, name_named};
@@ -12,6 +11,7 @@ ghost use Rattle.erd_compare.specs.Comparing.{Decides, IsWholeTree};
 ghost use Rattle.erd_compare.specs.ContentParts.{content_within};
 
 use crate::carried::is_same_carried;
+use crate::members::{entries, entries_of};
 use crate::references::{is_same_family, name_named};
 use erd_meaning::{Key, Report};
 use erd_tables::{Class, Family, Role, class_in};
@@ -59,8 +59,9 @@ fn is_same_node(left: &Report, right: &Report, one: &Value, other: &Value) -> bo
 {
     match (is_header(one), is_header(other)) {
         (true, true) => is_same_header(left, right, one, other),
+        (true, false) => false,
+        (false, true) => false,
         (false, false) => is_same_contest(left, right, one, other),
-        _ => false,
     }
 }
 
@@ -195,24 +196,4 @@ fn text<'a>(value: &'a Value, name: &str) -> &'a str
     ensures { result.now ≡ text_at name.now (view value.now) }
 {
     value.get(name).and_then(Value::as_str).unwrap_or("")
-}
-
-/// The entries of the array that is a member, none where there is no such array.
-fn entries<'a>(value: &'a Value, name: &str) -> &'a [Value]
-    ensures { map view result.now ≡ entries_at name.now (view value.now) }
-{
-    match value.get(name) {
-        Some(array) => entries_of(array),
-        None => &[],
-    }
-}
-
-/// The entries of an array, and none of any other value.
-fn entries_of(value: &Value) -> &[Value]
-    ensures { map view result.now ≡ entries_of (view value.now) }
-{
-    match value {
-        Value::Array(items) => items.as_slice(),
-        _ => &[],
-    }
 }

@@ -1,8 +1,7 @@
-use Rattle.std.proofs.Common.{◌≡◌, ◌<◌, ◌≤◌, ◌+◌, ◌*◌, ℕ, suc, List, [], ◌∷◌, map, length, get_or, arith, rules, true, false, true≢false, refl, codes, sym, ap, subst, ◌∙◌}
+use Rattle.std.proofs.Common.{◌≡◌, ◌<◌, ◌≤◌, ◌+◌, ◌*◌, ℕ, suc, List, [], ◌∷◌, map, length, get_or, arith, rules, true≢false, refl, codes, sym, ap, subst, ◌∙◌}
 use Rattle.std.specs.List.{AllByRecursion}
 use Rattle.std.specs.Slice.Iter.{iter_rest}
 use Rattle.serde_json.specs.Data.{depth, items_depth}
-use Rattle.serde_json.specs.Find.{get}
 use Rattle.serde_json.specs.View.{items_view, view}
 use Rattle.serde_json.specs.declared.value.Value.{Value, the_lemmas}
 use Rattle.serde_json.proofs.Views.{view-Array}
@@ -102,14 +101,14 @@ is_same_node-returns-in-false-false t c =
     decides_as refl (sym (node_contest (view c.args.left.now) (view c.args.one.now) (sym c.in-false-false.ensures))) (sym (node_contest (view c.args.right.now) (view c.args.other.now) (sym c.in-false-false.ensures')))
     c.is_same_contest.ensures
 
-pub is_same_node-returns-in_default : goal.is_same_node-returns-in_default
-is_same_node-returns-in_default t c =
-    decides_as refl (sym (node_header (view c.args.left.now) (view c.args.one.now) (sym c.in_default.ensures))) (sym (node_contest (view c.args.right.now) (view c.args.other.now) (sym c.in_default.ensures')))
+pub is_same_node-returns-in-true-false : goal.is_same_node-returns-in-true-false
+is_same_node-returns-in-true-false t c =
+    decides_as refl (sym (node_header (view c.args.left.now) (view c.args.one.now) (sym c.in-true-false.ensures))) (sym (node_contest (view c.args.right.now) (view c.args.other.now) (sym c.in-true-false.ensures')))
     header-contest
 
-pub is_same_node-returns-in_default-2 : goal.is_same_node-returns-in_default-2
-is_same_node-returns-in_default-2 t c =
-    decides_as refl (sym (node_contest (view c.args.left.now) (view c.args.one.now) (sym c.in_default.ensures))) (sym (node_header (view c.args.right.now) (view c.args.other.now) (sym c.in_default.ensures')))
+pub is_same_node-returns-in-false-true : goal.is_same_node-returns-in-false-true
+is_same_node-returns-in-false-true t c =
+    decides_as refl (sym (node_contest (view c.args.left.now) (view c.args.one.now) (sym c.in-false-true.ensures))) (sym (node_header (view c.args.right.now) (view c.args.other.now) (sym c.in-false-true.ensures')))
     contest-header
 
 pub is_same_within-is_same_content-requires : goal.is_same_within-is_same_content-requires

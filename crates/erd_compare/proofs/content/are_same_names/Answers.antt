@@ -1,4 +1,4 @@
-use Rattle.std.proofs.Common.{◌≡◌, List, Bool, false, Option, map, option_and_then, sym, ◌∙◌}
+use Rattle.std.proofs.Common.{Option, map, option_and_then, sym, ◌∙◌}
 use Rattle.std.specs.Slice.Iter.{iter_rest}
 use Rattle.serde_json.specs.Data.{Data}
 use Rattle.serde_json.specs.Find.{as_str}
