@@ -31,6 +31,7 @@ first-differs m n k d ms rise h = record {
   least = λ j v e low. let none : get_member j (member k d ms) ≡ None = get_member-before j (member k d ms) rise low in cc;
 }
 
+-- maps that agree at the first name agree at each name, if they do so at those of the rest
 agree-rest : (m n : MemberMap) (k : List ℕ) (d : Data) (ms : Members) (j : List ℕ) (v : Data) → m k ≡ n k → get_member j (member k d ms) ≡ Some v → (get_member j ms ≡ Some v → m j ≡ n j) → m j ≡ n j
 agree-rest m n k d ms j v same e rest = at (text_cmp j k) refl
   where

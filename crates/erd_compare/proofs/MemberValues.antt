@@ -15,6 +15,7 @@ use Rattle.erd_compare.proofs.WholeTrees.{whole_tree-get}
 
 -- ---- selections
 
+-- the map that a member is, and an empty one of any other
 abbrev map_in : Option MemberValue → NameParts → Option SelectionRecord
 map_in (Some (a_selection_map m)) = m
 map_in found = λ name. None
@@ -58,6 +59,7 @@ selections-Decide (Ok answer) t u d e found other ds es left right of_d of_e h =
 
 -- ---- other members
 
+-- what a member means that it does by itself is determined by that
 plain-Decides : (answer : Bool) (p q : Option PlainValue) → Decides answer p q → Decides answer (option_map a_plain p) (option_map a_plain q)
 plain-Decides answer p q h = (λ is. ap (option_map a_plain) (h.0 is), λ same. h.1 (inner p q same))
   where

@@ -7,6 +7,7 @@ use Rattle.erd_compare.proofs.MemberValues.{selections-Decide, whole_tree-filled
 use Rattle.erd_compare.proofs.WholeTrees.{whole_values-entries_of}
 use Rattle.erd_compare.proofs.member.is_same_selections.Goals as goal
 
+-- a value that was found, as its data
 abbrev seen : Option (Bor Value) → Option Data
 seen found = option_map (λ v. view v.now) found
 

@@ -7,6 +7,7 @@ use Rattle.erd_compare.specs.declared.difference.How.TheVariants.{Member}
 use Rattle.erd_compare.proofs.LesserNames.{least-told}
 use Rattle.erd_compare.proofs.record.member_difference.Goals as goal
 
+-- a name that was found, as its bytes
 abbrev seen : Option (Bor (List ℕ)) → Option (List ℕ)
 seen found = option_map (λ s. s.now) found
 
