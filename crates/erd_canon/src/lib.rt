@@ -1,15 +1,18 @@
-//! The canonical bytes of a report, and the engines that read a report and write its faults or these bytes.
+//! The canonical bytes of a report, and the engines that read a report and write its faults or these bytes, or compare two.
 #![tactic(auto)]
 
 mod acceptance;
 mod canonical_bytes;
 mod checking;
+mod comparing;
 mod fault_lines;
 mod laws;
 mod outcome;
 mod read_from;
 mod refusal;
 mod run;
+mod run_two;
+mod side;
 mod sink;
 mod source;
 mod tally;
@@ -19,11 +22,14 @@ mod write_to;
 pub use acceptance::check_bytes;
 pub use canonical_bytes::canonical;
 pub use checking::run_check;
+pub use comparing::compare_bytes;
 pub use laws::{is_its_own_form, one_form_for_one_meaning};
 pub use outcome::{Outcome, RunFault};
 pub use read_from::ReadFrom;
 pub use refusal::Refusal;
 pub use run::run_canon;
+pub use run_two::run_compare;
+pub use side::Side;
 pub use sink::Sink;
 pub use source::{Failed, MOST_BYTES, Source};
 pub use write_to::WriteTo;
