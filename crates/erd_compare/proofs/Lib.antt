@@ -9,10 +9,6 @@ pub mod Labels
 pub mod ReferencedKeys
 pub mod ReferencedNames
 pub mod NamedKeySets
-pub mod EqualOptions
-pub mod StepByStep
-pub mod SameContents
-pub mod NodeParts
 pub mod SameSelections
 pub mod FoundNames
 pub mod MemberValues
@@ -22,4 +18,8 @@ pub mod KeyedRecords
 pub mod LeastDifferences
 pub mod PartsTold
 pub mod PartsInOrder
+pub mod EqualOptions
+pub mod StepByStep
+pub mod SameContents
+pub mod NodeParts
 pub mod KeyedKinds
