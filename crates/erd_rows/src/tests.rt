@@ -17,5 +17,6 @@ mod names;
 mod places;
 mod references;
 mod refused;
+mod refused_comparisons;
 mod selections;
 mod shape;
