@@ -188,7 +188,10 @@ fn text_or_translation(rt: HostRuntime) -> Result<(), Fail> {
                 &[TRANSLATED],
                 &[
                     TRANSLATED,
-                    (r#"%InternationalizedText""#, r#"%InternationalizedText","Note":1"#),
+                    (
+                        r#"%InternationalizedText""#,
+                        r#"%InternationalizedText","Note":1"#,
+                    ),
                 ],
                 NAME,
             ),
@@ -262,11 +265,17 @@ fn selections(rt: HostRuntime) -> Result<(), Fail> {
                 SELECTIONS,
             ),
             (
-                &[(r#""IsWriteIn":true"#, r#""IsWriteIn":true,"SequenceOrder":0"#)],
+                &[(
+                    r#""IsWriteIn":true"#,
+                    r#""IsWriteIn":true,"SequenceOrder":0"#,
+                )],
                 SELECTIONS,
             ),
             (
-                &[(r#""IsWriteIn":true"#, r#""IsWriteIn":true,"CandidateIds":[]"#)],
+                &[(
+                    r#""IsWriteIn":true"#,
+                    r#""IsWriteIn":true,"CandidateIds":[]"#,
+                )],
                 SAME,
             ),
             // One selection less.

@@ -130,7 +130,6 @@ fn each_family_has_one_more(rt: HostRuntime) -> Result<(), Fail> {
     )
 }
 
-
 // The candidates of the keys K3 and K1 exchanged.
 const EXCHANGED: Edit = (
     r#"{"@id":"a7","@type":"%Candidate","ExternalIdentifier":[{"@type":"%ExternalIdentifier","Type":"local-level","Value":"K3"}],"BallotName":"Cy","PartyId":"a3"},{"@id":"a5","@type":"%Candidate","ExternalIdentifier":[{"@type":"%ExternalIdentifier","Type":"local-level","Value":"K1"}],"BallotName":"Ann","PersonId":"a16"}"#,

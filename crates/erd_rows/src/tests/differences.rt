@@ -164,10 +164,7 @@ fn report_election_and_class(rt: HostRuntime) -> Result<(), Fail> {
         rt.alloc(),
         SMALL_BALLOT,
         &[
-            (
-                &[("{", r#"{"IsTest":true,"#)],
-                r#"report: member "IsTest""#,
-            ),
+            (&[("{", r#"{"IsTest":true,"#)], r#"report: member "IsTest""#),
             (
                 &[(r#""Name":"Test""#, r#""Name":"Other""#)],
                 r#"election: member "Name""#,
@@ -222,13 +219,7 @@ fn not_json(rt: HostRuntime) -> Result<(), Fail> {
 #[test]
 fn right_is_not_json(rt: HostRuntime) -> Result<(), Fail> {
     let left = ONE_UNIT.as_bytes();
-    writes(
-        rt.alloc(),
-        left,
-        b"",
-        Outcome::NotJson,
-        "right: not JSON",
-    )
+    writes(rt.alloc(), left, b"", Outcome::NotJson, "right: not JSON")
 }
 
 // Where both reports are refused, the left one is told.
