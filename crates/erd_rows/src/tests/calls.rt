@@ -1,4 +1,7 @@
 //! Calls of the layers below the engines: each succeeds where memory is there.
+ghost use Rattle.serde_json.specs.View.{view};
+ghost use Rattle.erd_check.specs.Trees.{IsShallow};
+
 use crate::tests::forms::canonical_text;
 use crate::tests::identity::key;
 use crate::vectors::{EVERY_MEMBER, ONE_UNIT, OTHER_VENDOR, SMALL_BALLOT, SMALL_BALLOT_CANONICAL};
@@ -98,7 +101,9 @@ fn compact_texts_in_order(rt: HostRuntime) -> Result<(), Fail> {
 }
 
 // The report of the tree, which is accepted.
-fn accepted<'a>(alloc: Global, tree: &'a Value) -> Result<Report<'a>, Fail> {
+fn accepted<'a>(alloc: Global, tree: &'a Value) -> Result<Report<'a>, Fail>
+    requires nests { IsShallow (view tree.now) }
+{
     let Ok(shaped) = shape(alloc, tree) else {
         return Err(Fail::from("a fault of the shape"));
     };
