@@ -82,5 +82,8 @@ one_test tests::refused::refused_references
 one_test tests::refused::refused_twin_write_ins
 one_test tests::refused::refused_ordered_write_ins
 one_test tests::refused::refused_identified_write_ins
+one_test tests::refused_lines::refused_comparison
+one_test tests::refused_lines::refused_usage
+one_test tests::refused_lines::refused_help
 
 counts

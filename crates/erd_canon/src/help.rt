@@ -25,7 +25,7 @@ Example:
   erd < report.json > canonical.json";
 
 /// What `check` is for.
-pub const CHECK: &str = "Tells whether a report is accepted, or all its faults";
+pub const CHECK: &str = "Tells whether a report is accepted, and its faults if not";
 
 /// What `check` reads, writes and answers.
 pub const CHECK_AT_LENGTH: &str =

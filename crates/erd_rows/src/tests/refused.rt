@@ -15,14 +15,14 @@ use std::alloc::Global;
 
 // What came of a call.
 #[derive(Clone, Copy, PartialEq, Eq)]
-enum Answer {
+pub enum Answer {
     Right,
     WantsMemory,
     Wrong,
 }
 
 // At most one request is refused, so one of two calls answers rightly, and the other so or with want of memory.
-fn is_pair(first: Answer, second: Answer) -> bool {
+pub fn is_pair(first: Answer, second: Answer) -> bool {
     match (first, second) {
         (Answer::Wrong, _) | (_, Answer::Wrong) => false,
         (Answer::WantsMemory, Answer::WantsMemory) => false,
