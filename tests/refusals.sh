@@ -82,6 +82,11 @@ one_test tests::refused::refused_references
 one_test tests::refused::refused_twin_write_ins
 one_test tests::refused::refused_ordered_write_ins
 one_test tests::refused::refused_identified_write_ins
+one_test tests::refused_comparisons::refused_difference
+one_test tests::refused_comparisons::refused_compare_bytes
+one_test tests::refused_comparisons::refused_compare
+one_test tests::refused_comparisons::refused_compare_of_two_vendors
+one_test tests::refused_comparisons::refused_compare_of_faults
 one_test tests::refused_lines::refused_comparison
 one_test tests::refused_lines::refused_usage
 one_test tests::refused_lines::refused_help

@@ -1,10 +1,10 @@
 -- What the engines write for bytes that are no JSON, and for the JSON `null`, which has one fault.
-use Rattle.std.proofs.Common.{◌≡◌, ℕ, zero, suc, List, [], ◌∷◌, codes, refl, subst, lit<, inl, inr}
+use Rattle.std.proofs.Common.{◌≡◌, ℕ, zero, suc, List, [], ◌∷◌, None, codes, refl, subst, lit<, inl, inr}
 use Rattle.std.proofs.lemmas.Option.{none-some}
 use native.Mathlib.Omega.{arith}
 use Rattle.std.specs.List.{Contains}
 use Rattle.std.specs.List.Sorted.{IsStrictlySortedBy}
-use Rattle.serde_json.specs.Data.{null}
+use Rattle.serde_json.specs.Data.{Data, null}
 use Rattle.serde_json.proofs.OnLiterals.{serde_json_on_literals}
 use Rattle.erd_tables.specs.Faults.{fault_cmp}
 use Rattle.erd_tables.specs.declared.fault.Fault.{Fault}
@@ -13,8 +13,10 @@ use Rattle.erd_tables.specs.declared.fault.Reason.TheVariants as reason
 use Rattle.erd_tables.specs.declared.place.Step.{Step}
 use Rattle.erd_check.specs.Faults.{ShapeFault}
 use Rattle.erd_meaning.specs.Accepted.{IsFault}
-use Rattle.erd_canon.specs.Bytes.{IsNotJson}
+use Rattle.erd_canon.specs.Bytes.{IsAcceptedReport, IsNotJson}
 use Rattle.erd_canon.specs.EngineTexts.{IsRefusal, IsRefusedReport, IsCheckText, IsCanonicalOutput, IsCanonicalErrors, IsCompareText}
+use Rattle.erd_canon.specs.Run.{IsCompared}
+use Rattle.erd_canon.specs.declared.outcome.Outcome.TheVariants.{Good, Bad, NotJson}
 
 -- ---- no bytes are no JSON
 
@@ -37,6 +39,18 @@ canonical_output = inr ((λ t accepted. no_bytes t accepted.read), refl)
 -- the left report is judged first, whatever the right one is
 compared : (right : List ℕ) → IsCompareText [] right (codes "left: not JSON\n")
 compared right = inl (codes "not JSON" ∷ [], not_json, refl)
+
+compared_so : (right : List ℕ) → IsCompared [] right NotJson (codes "left: not JSON\n")
+compared_so right = inl (no_bytes, refl)
+
+-- the right report is judged where the left one is accepted
+compared_right : (left : List ℕ) (t : Data) → IsAcceptedReport left t → IsCompared left [] NotJson (codes "right: not JSON\n")
+compared_right left t accepted = inr (inl ((t, accepted), (no_bytes, refl)))
+
+-- an accepted report means the same as itself
+compared_same : (b : List ℕ) (t : Data) → IsAcceptedReport b t → IsCompared b b Good (codes "same\n")
+compared_same b t accepted =
+    inr (inr (None, record { left_tree = t; right_tree = t; left_accepted = accepted; right_accepted = accepted; difference = refl }, refl, refl))
 
 -- ---- `null` is of a wrong kind, and nothing else is at fault
 
@@ -90,3 +104,7 @@ null_refused = record {
 null_checked : IsCheckText (codes "null") (codes ": wrong kind\n")
 unfolding root_kind
 null_checked = inr (codes ": wrong kind" ∷ [], inr (root_kind ∷ [], null_refused, refl), refl)
+
+null_compared : (right : List ℕ) → IsCompared (codes "null") right Bad (codes "left: : wrong kind\n")
+unfolding root_kind
+null_compared right = inl (root_kind ∷ [], null_refused, refl)

@@ -7,6 +7,8 @@ use Rattle.erd_canon.specs.Bytes.{IsNotJson, IsAcceptedReport}
 use Rattle.erd_canon.specs.EngineTexts.{IsRefusedReport}
 use Rattle.erd_canon.specs.declared.refusal.Refusal.{Refusal}
 use Rattle.erd_canon.specs.declared.refusal.Refusal.TheVariants.{NotJson, Faults, Memory}
+use Rattle.erd_canon.specs.declared.side.Side.{Side}
+use Rattle.erd_canon.specs.declared.side.Side.TheVariants as side
 
 -- the bytes are some accepted report
 abbrev pub IsSomeReport : List ℕ → Type 0
@@ -22,3 +24,9 @@ RefusedAs bytes Memory = ⊤
 abbrev pub refusal_for : CheckError → Refusal
 refusal_for (check.Faults faults) = Faults faults
 refusal_for check.Memory = Memory
+
+-- the left bytes are refused so; or they are an accepted report, and the right ones are refused so; of want of memory nothing is said
+abbrev pub RefusedSide : List ℕ → List ℕ → Side → Type 0
+RefusedSide left right (side.Left refusal) = RefusedAs left refusal
+RefusedSide left right (side.Right refusal) = IsSomeReport left × RefusedAs right refusal
+RefusedSide left right side.Memory = ⊤

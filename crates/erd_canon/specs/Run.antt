@@ -1,13 +1,16 @@
 -- What a run does that ends with an outcome.
-use Rattle.std.specs.Prelude.{◌≡◌, ◌≤◌, ℕ, List, [], ◌∷◌, length, map, codes, Option}
+use Rattle.std.specs.Prelude.{◌≡◌, ◌≤◌, ◌⊎◌, ℕ, List, [], ◌∷◌, length, map, codes, Option, Some, None}
 use Rattle.std.specs.Io.KnownBytes.{Appends, Consumes, IsAtEnd}
 use Rattle.erd_tables.specs.Faults.{fault_line}
 use Rattle.erd_tables.specs.declared.fault.Fault.{Fault}
+use Rattle.erd_compare.specs.declared.difference.Difference.{Difference}
 use Rattle.erd_canon.specs.declared.outcome.Outcome.{Outcome}
 use Rattle.erd_canon.specs.declared.outcome.Outcome.TheVariants.{Good, Bad, NotJson}
 use Rattle.erd_canon.specs.Bytes.{IsNotJson, IsCanonicalBytes}
-use Rattle.erd_canon.specs.EngineTexts.{IsCanonicalErrors, IsCanonicalOutput, IsCheckText, IsRefusedReport, text_of_lines}
+use Rattle.erd_canon.specs.EngineTexts.{IsCanonicalErrors, IsCanonicalOutput, IsCheckText, IsCompareText, IsComparison, IsRefusedReport, comparison_line, lines_of_side, text_of_lines}
 use Rattle.erd_canon.specs.Refused.{IsSomeReport}
+use Rattle.erd_canon.specs.declared.refusal.Refusal.{Refusal}
+use Rattle.erd_canon.specs.declared.refusal.Refusal.TheVariants as refusal
 
 -- the bytes have faults, and the text has one line for each
 abbrev pub IsToldFaults : List ℕ → List ℕ → Type 0
@@ -29,6 +32,36 @@ IsAnswered bytes Good out err = IsCanonicalBytes bytes out × (err ≡ [])
 IsAnswered bytes Bad out err = IsToldFaults bytes err × (out ≡ [])
 IsAnswered bytes NotJson out err = IsToldNotJson bytes err × (out ≡ [])
 
+-- the lines that tell of one of two reports why it is refused, and the outcome
+abbrev pub IsSideRefused : List ℕ → List ℕ → Outcome → List ℕ → Type 0
+IsSideRefused side bytes Good out = ⊥
+IsSideRefused side bytes Bad out = (faults : List Fault) × IsRefusedReport bytes faults × (out ≡ text_of_lines (lines_of_side side (map fault_line faults)))
+IsSideRefused side bytes NotJson out = IsNotJson bytes × (out ≡ text_of_lines (lines_of_side side (codes "not JSON" ∷ [])))
+
+-- the outcome of a comparison of two accepted reports
+abbrev pub comparison_outcome : Option Difference → Outcome
+comparison_outcome None = Good
+comparison_outcome (Some d) = Bad
+
+-- what comparing writes for the bytes of two reports, and the outcome
+abbrev pub IsCompared : List ℕ → List ℕ → Outcome → List ℕ → Type 0
+IsCompared left right outcome out =
+    IsSideRefused (codes "left: ") left outcome out
+    ⊎ ((IsSomeReport left × IsSideRefused (codes "right: ") right outcome out)
+    ⊎ ((found : Option Difference) × IsComparison left right found × (outcome ≡ comparison_outcome found) × (out ≡ text_of_lines (comparison_line found ∷ []))))
+
+-- what is written of a refusal on one side, and the outcome; for want of memory nothing is written
+abbrev pub TellsRefusal : List ℕ → Refusal → Outcome → List ℕ → Type 0
+TellsRefusal side (refusal.Faults faults) Bad out = out ≡ text_of_lines (lines_of_side side (map fault_line faults))
+TellsRefusal side refusal.NotJson NotJson out = out ≡ text_of_lines (lines_of_side side (codes "not JSON" ∷ []))
+TellsRefusal side refused outcome out = ⊥
+
+-- where the writer tells its bytes: what is written of a refusal on one side was written, and nothing else
+pub record IsRefusalWritten (side : List ℕ) (refused : Refusal) (outcome : Outcome) (before after : Option (List ℕ)) : Type 0 where
+  pub text : List ℕ
+  pub tells : TellsRefusal side refused outcome text
+  pub wrote : Appends before after text
+
 -- where the writer tells its bytes: what checking writes for the bytes was written, and nothing else
 pub record IsCheckWritten (bytes : List ℕ) (outcome : Outcome) (before after : Option (List ℕ)) : Type 0 where
   pub text : List ℕ
@@ -42,6 +75,12 @@ pub record IsAnswerWritten (bytes : List ℕ) (outcome : Outcome) (out_before ou
   pub answered : IsAnswered bytes outcome out_text err_text
   pub wrote_out : Appends out_before out_after out_text
   pub wrote_err : Appends err_before err_after err_text
+
+-- where the writer tells its bytes: what comparing writes for the bytes of two reports was written, and nothing else
+pub record IsCompareWritten (left right : List ℕ) (outcome : Outcome) (before after : Option (List ℕ)) : Type 0 where
+  pub text : List ℕ
+  pub compared : IsCompared left right outcome text
+  pub wrote : Appends before after text
 
 -- where the reader tells its bytes: they were read to their end, and are no more than the limit
 pub record IsReadWhole (limit : ℕ) (before after : Option (List ℕ)) (input : List ℕ) : Type 0 where
@@ -63,6 +102,15 @@ pub record IsWholeRun (limit : ℕ) (outcome : Outcome) (before after out_before
   pub whole : IsReadWhole limit before after input
   pub written : IsAnswerWritten input outcome out_before out_after err_before err_after
 
+-- where the devices tell their bytes: each of two readers was read to its end and held no more than the limit, and what
+-- comparing writes for their bytes was written, and nothing else
+pub record IsWholeCompare (limit : ℕ) (outcome : Outcome) (left_before left_after right_before right_after out_before out_after : Option (List ℕ)) : Type 0 where
+  pub left : List ℕ
+  pub right : List ℕ
+  pub left_whole : IsReadWhole limit left_before left_after left
+  pub right_whole : IsReadWhole limit right_before right_after right
+  pub written : IsCompareWritten left right outcome out_before out_after
+
 -- where the devices tell their bytes: the reader was read to its end and held no more than the limit, and written was a text
 -- that checking is to write for its bytes, and nothing else
 pub record IsToldCheck (limit : ℕ) (before after out_before out_after : Option (List ℕ)) : Type 0 where
@@ -83,3 +131,14 @@ pub record IsToldRun (limit : ℕ) (before after out_before out_after err_before
   pub errors : IsCanonicalErrors input err_text
   pub wrote_out : Appends out_before out_after out_text
   pub wrote_err : Appends err_before err_after err_text
+
+-- where the devices tell their bytes: each of two readers was read to its end and held no more than the limit, and written was
+-- a text that comparing is to write for their bytes, and nothing else
+pub record IsToldCompare (limit : ℕ) (left_before left_after right_before right_after out_before out_after : Option (List ℕ)) : Type 0 where
+  pub left : List ℕ
+  pub right : List ℕ
+  pub text : List ℕ
+  pub left_whole : IsReadWhole limit left_before left_after left
+  pub right_whole : IsReadWhole limit right_before right_after right
+  pub is_text : IsCompareText left right text
+  pub wrote : Appends out_before out_after text

@@ -5,7 +5,7 @@ use Rattle.erd_canon.specs.declared.outcome.Outcome.TheVariants.{Good, Bad, NotJ
 use Rattle.erd_canon.specs.declared.outcome.RunFault.{RunFault}
 use Rattle.erd_canon.specs.declared.outcome.RunFault.TheVariants.{TooLong, Read, Write, Memory}
 
--- accepted, faults or a difference, not JSON
+-- accepted or the same, faults or a difference, not JSON
 abbrev pub outcome_status : Outcome → ℕ
 outcome_status Good = 0
 outcome_status Bad = 1

@@ -6,9 +6,9 @@ use thiserror::Error;
 /// What a run answers of what it read.
 #[derive(Clone, Copy, Debug, PartialEq, Eq)]
 pub enum Outcome {
-    /// The report is accepted.
+    /// The report is accepted; or two reports are, and mean the same.
     Good,
-    /// The bytes are JSON, and no accepted report.
+    /// The bytes are JSON, and no accepted report; or two reports are accepted, and differ.
     Bad,
     /// The bytes are not JSON.
     NotJson,

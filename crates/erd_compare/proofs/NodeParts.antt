@@ -1,0 +1,78 @@
+-- What a node of a ballot's order is, by its class, and what stands inside it.
+use Rattle.std.proofs.Common.{◌≡◌, ◌<◌, ◌≤◌, ℕ, zero, suc, List, [], ◌∷◌, length, get_or, Option, Some, None, Ordering, Less, Equal, Greater, is_eq, Bool, true, false, codes, refl, sym, ap, ◌∙◌, arith}
+use Rattle.std.proofs.lemmas.Map.Text.{is_eq-slice_cmp}
+use Rattle.serde_json.specs.Data.{Data, object, Members, no_members, member, depth, items_depth, members_depth}
+use Rattle.serde_json.specs.Find.{get, get_member}
+use Rattle.serde_json.specs.View.{items_view, view}
+use Rattle.serde_json.specs.declared.value.Value.{Value}
+use Rattle.erd_tables.specs.Texts.{text_cmp}
+use Rattle.erd_check.proofs.Members.{get_member-depth}
+use Rattle.erd_meaning.specs.Meaning.{Content, no_content}
+use Rattle.erd_meaning.specs.Records.{class_of_node, content_inside, content_of, contest_node, header_node, is_header_class, node_of}
+use Rattle.erd_compare.specs.Comparing.{Decides}
+use Rattle.erd_compare.specs.ContentParts.{content_within}
+
+-- ---- what stands inside
+
+-- the content of a member that may be absent
+content_at : Data → Option Data → Content
+content_at t None = no_content
+content_at t (Some v) = content_of t v
+
+-- what stands inside is that of the member
+inside_get : (t : Data) (ms : Members) → content_inside t ms ≡ content_at t (get_member (codes "OrderedContent") ms)
+unfolding content_at
+inside_get t no_members = refl
+inside_get t (member k d ms) = at (text_cmp (codes "OrderedContent") k) refl (inside_get t ms)
+  where
+    at : (o : Ordering) → text_cmp (codes "OrderedContent") k ≡ o → content_inside t ms ≡ content_at t (get_member (codes "OrderedContent") ms)
+        → content_inside t (member k d ms) ≡ content_at t (get_member (codes "OrderedContent") (member k d ms))
+    at Less is h = rw (is, sym (is_eq-slice_cmp (codes "OrderedContent") k) ∙ ap is_eq is) h
+    at Equal is h = rw (is, sym (is_eq-slice_cmp (codes "OrderedContent") k) ∙ ap is_eq is)
+    at Greater is h = rw (is, sym (is_eq-slice_cmp (codes "OrderedContent") k) ∙ ap is_eq is) h
+
+within_get : (t d : Data) → content_within t d ≡ content_at t (get (codes "OrderedContent") d)
+unfolding content_at
+within_get t (object ms) = inside_get t ms
+within_get t d = refl
+
+-- where there is such a member
+pub within_some : (t d v : Data) → get (codes "OrderedContent") d ≡ Some v → content_within t d ≡ content_of t v
+unfolding content_at
+within_some t d v e = within_get t d ∙ ap (content_at t) e
+
+-- and where there is none
+pub within_none : (t d : Data) → get (codes "OrderedContent") d ≡ None → content_within t d ≡ no_content
+unfolding content_at
+within_none t d e = within_get t d ∙ ap (content_at t) e
+
+-- ---- headers and contests
+
+-- a node whose class is that of a header
+pub node_header : (t d : Data) → is_header_class (class_of_node d) ≡ true → node_of t d ≡ header_node t d (content_within t d)
+node_header t (object ms) e = rw e
+node_header t d e = cc
+
+-- and one of any other class
+pub node_contest : (t d : Data) → is_header_class (class_of_node d) ≡ false → node_of t d ≡ contest_node t d
+node_contest t (object ms) e = rw e
+node_contest t d e = refl
+
+-- ---- depths
+
+-- a member is not as deep as its object
+pub get_depth : (name : List ℕ) (d v : Data) → get name d ≡ Some v → suc (depth v) ≤ depth d
+get_depth name (object ms) v e = let h : depth v ≤ members_depth ms = get_member-depth name v ms e in omega arith
+get_depth name d v e = cc
+
+-- an entry is no deeper than all
+pub entry_depth : (vs : List Value) (i : ℕ) (v : Value) → i < length vs → v ≡ get_or vs i v → depth (view v) ≤ items_depth (items_view vs)
+entry_depth [] i v low e = absurd (omega arith)
+entry_depth (w ∷ vs) zero v low e = let h : depth (view v) ≡ depth (view w) = ap (λ (u : Value). depth (view u)) e in omega arith
+entry_depth (w ∷ vs) (suc i) v low e = let h : depth (view v) ≤ items_depth (items_view vs) = entry_depth vs i v (omega arith) e in omega arith
+
+-- ---- answers
+
+-- an answer about two values is one about them in the other order
+pub decides_swap : {A : Type 0} {p : Bool} {a b : A} → Decides p a b → Decides p b a
+decides_swap h = (λ e. sym (h.0 e), λ e. h.1 (sym e))

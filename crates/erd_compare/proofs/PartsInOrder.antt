@@ -1,0 +1,116 @@
+-- The first difference of two meanings, as the parts are gone over in their order.
+use Rattle.std.proofs.Common.{◌≡◌, ℕ, zero, suc, ◌+◌, ◌<◌, ◌≤◌, ◌⊎◌, inl, inr, List, [], ◌∷◌, length, get_or, Option, Some, None, Ordering, Less, Equal, Greater, refl, sym, ap, ◌∙◌, subst, arith}
+use Rattle.std.specs.Cmp.{nat_cmp_is}
+use Rattle.std.specs.Option.{option_cmp}
+use Rattle.std.specs.Ordering.{nat_cmp, ordering_then}
+use Rattle.std.specs.Prelude.{⊤}
+use Rattle.serde_json.specs.Data.{Data}
+use Rattle.erd_tables.specs.declared.class.Family.{Family}
+use Rattle.erd_tables.specs.declared.class.Family.TheVariants as family
+use Rattle.erd_meaning.specs.Keys.{key_cmp}
+use Rattle.erd_meaning.specs.Meaning.{Meaning}
+use Rattle.erd_meaning.specs.Records.{meaning, records_of}
+use Rattle.erd_meaning.specs.declared.key.Key.{Key}
+use Rattle.erd_meaning.proofs.OneObject.{which_first}
+use Rattle.erd_meaning.proofs.WholeMeanings.{same_meaning}
+use Rattle.erd_compare.specs.Comparing.{DifferAtPart}
+use Rattle.erd_compare.specs.Differences.{Differ, IsFirstDifference, part_cmp, part_number, record_at}
+use Rattle.erd_compare.specs.declared.difference.Difference.{Difference}
+use Rattle.erd_compare.specs.declared.difference.Part.{Part}
+use Rattle.erd_compare.specs.declared.difference.Part.TheVariants as part
+
+-- ---- the parts
+
+abbrev parts : List Part
+parts = part.Report ∷ part.Unit ∷ part.Party ∷ part.Person ∷ part.Office ∷ part.Header ∷ part.Election ∷ part.Candidate ∷ part.Contest ∷ part.Style ∷ []
+
+-- the part at a position
+abbrev pub part_at : ℕ → Part
+part_at i = get_or parts i part.Report
+
+-- the numbers of these parts count up
+abbrev AreCounted : ℕ → List Part → Type 0
+AreCounted n [] = ⊤
+AreCounted n (p ∷ ps) = (part_number p ≡ n) × AreCounted (n + 1) ps
+
+counted_at : (n : ℕ) (ps : List Part) (i : ℕ) (p : Part) → AreCounted n ps → i < length ps → part_number (get_or ps i p) ≡ n + i
+counted_at n [] i p h low = absurd (omega arith)
+counted_at n (q ∷ ps) zero p h low = let count : n ≡ n + 0 = omega arith in h.0 ∙ count
+counted_at n (q ∷ ps) (suc i) p h low =
+    let rest : part_number (get_or ps i p) ≡ (n + 1) + i = counted_at (n + 1) ps i p h.1 (omega arith) in let count : (n + 1) + i ≡ n + suc i = omega arith in rest ∙ count
+
+number_at : (i : ℕ) → i < 10 → part_number (part_at i) ≡ i
+number_at i low =
+    let is : part_number (part_at i) ≡ 0 + i = counted_at 0 parts i part.Report (refl, (refl, (refl, (refl, (refl, (refl, (refl, (refl, (refl, (refl, tt)))))))))) low in
+    let count : 0 + i ≡ i = omega arith in is ∙ count
+
+part_itself : (p : Part) → part_at (part_number p) ≡ p
+part_itself part.Report = refl
+part_itself p = refl
+
+numbered : (p : Part) (i : ℕ) → part_number p ≡ i → part_at i ≡ p
+numbered p i e = ap part_at (sym e) ∙ part_itself p
+
+pub number_low : (p : Part) → part_number p < 10
+number_low part.Report = omega arith
+number_low p = omega arith
+
+-- ---- going over them
+
+-- the meanings are equal at each of the first parts
+abbrev pub AreEqualBelow : Meaning → Meaning → ℕ → Type 0
+AreEqualBelow m n i = (p : Part) (k : Option Key) → part_number p < i → record_at m p k ≡ record_at n p k
+
+below_more : (j i : ℕ) → j < i + 1 → (j < i) ⊎ (j ≡ i)
+below_more j i low = grind arith
+
+-- one more part
+pub equal_more : (m n : Meaning) (i : ℕ) → AreEqualBelow m n i → ((k : Option Key) → record_at m (part_at i) k ≡ record_at n (part_at i) k) → AreEqualBelow m n (i + 1)
+equal_more m n i below here p k low = at (below_more (part_number p) i low)
+  where
+    at : (part_number p < i) ⊎ (part_number p ≡ i) → record_at m p k ≡ record_at n p k
+    at (inl less) = below p k less
+    at (inr same) = subst (λ q. record_at m q k ≡ record_at n q k) (numbered p i same) (here k)
+
+after_greater : (x y : ℕ) (o : Ordering) → y < x → ordering_then (nat_cmp x y) o ≡ Less → ⊥
+after_greater x y o low less = let clash : ordering_then Greater o ≡ Less = ap (λ c. ordering_then c o) (nat_cmp_is x y Greater low) ∙ less in cc
+
+after_equal : (x y : ℕ) (o : Ordering) → x ≡ y → ordering_then (nat_cmp x y) o ≡ Less → o ≡ Less
+after_equal x y o same less = ap (λ c. ordering_then c o) (nat_cmp_is x y Equal same) ∙ less
+
+-- the difference at the next part is the first
+pub first_told : (m n : Meaning) (i : ℕ) (d : Difference) → i < 10 → AreEqualBelow m n i → DifferAtPart m n (part_at i) d → IsFirstDifference m n d
+first_told m n i d low below h = record {
+  differ = subst (λ p. Differ (record_at m p d.key) (record_at n p d.key) d.how) (sym h.its_part) h.differ;
+  least = λ p k less. at p k less (which_first (part_number p) (part_number d.part));
+}
+  where
+    number : part_number d.part ≡ i
+    number = ap part_number h.its_part ∙ number_at i low
+
+    at : (p : Part) (k : Option Key) → part_cmp p k d.part d.key ≡ Less
+        → (part_number p ≡ part_number d.part) ⊎ ((part_number p < part_number d.part) ⊎ (part_number d.part < part_number p)) → record_at m p k ≡ record_at n p k
+    at p k less (inl same) =
+        subst (λ q. record_at m q k ≡ record_at n q k) (numbered p i (same ∙ number)) (h.least k (after_equal (part_number p) (part_number d.part) (option_cmp key_cmp k d.key) same less))
+    at p k less (inr (inl lower)) = below p k (subst (λ j. part_number p < j) number lower)
+    at p k less (inr (inr higher)) = absurd (after_greater (part_number p) (part_number d.part) (option_cmp key_cmp k d.key) higher less)
+
+-- ---- equal at every part
+
+equal_objects : (t u : Data) → ((p : Part) (k : Option Key) → record_at (meaning t) p k ≡ record_at (meaning u) p k) → (f : Family) (k : Key) → records_of t f k ≡ records_of u f k
+equal_objects t u all family.Unit k = all part.Unit (Some k)
+equal_objects t u all family.Party k = all part.Party (Some k)
+equal_objects t u all family.Person k = all part.Person (Some k)
+equal_objects t u all family.Office k = all part.Office (Some k)
+equal_objects t u all family.Header k = all part.Header (Some k)
+equal_objects t u all family.Candidate k = all part.Candidate (Some k)
+equal_objects t u all family.Contest k = all part.Contest (Some k)
+equal_objects t u all family.Style k = all part.Style (Some k)
+equal_objects t u all family.Selection k = refl
+
+-- reports that mean the same at every part mean the same
+pub equal_meanings : (t u : Data) (i : ℕ) → 10 ≤ i → AreEqualBelow (meaning t) (meaning u) i → meaning t ≡ meaning u
+equal_meanings t u i all below = same_meaning t u (at part.Report None) (at part.Election None) (equal_objects t u at)
+  where
+    at : (p : Part) (k : Option Key) → record_at (meaning t) p k ≡ record_at (meaning u) p k
+    at p k = below p k (omega (arith, number_low p))

@@ -1,0 +1,131 @@
+-- When two orders of a ballot are the same: node by node, and each node part by part.
+use Rattle.std.proofs.Common.{◌≡◌, ◌==◌, length, suc, arith, List, [], ◌∷◌, map, Bool, true, false, Option, refl, sym, ap, ap₂, ◌∙◌, true≢false}
+use Rattle.std.proofs.lemmas.Bool.Decides.{Decides-eqb}
+use Rattle.std.proofs.lemmas.Simd.{map-map}
+use Rattle.serde_json.specs.Data.{Data, array, Items, no_items, item}
+use Rattle.serde_json.specs.View.{view}
+use Rattle.serde_json.specs.declared.value.Value.{Value}
+use Rattle.erd_check.specs.Trees.{entries_of, list_of_items}
+use Rattle.erd_meaning.specs.Meaning.{JsonMap, Content, no_content, first_node, Node, a_contest, a_header}
+use Rattle.erd_meaning.specs.NameParts.{NameParts}
+use Rattle.erd_meaning.specs.Records.{content_of, node_of, nodes_of}
+use Rattle.erd_meaning.specs.declared.key.Key.{Key}
+use Rattle.erd_compare.specs.Comparing.{Decides}
+
+-- ---- content as a list of nodes
+
+first_same : (a b : Node) (x y : Content) → first_node a x ≡ first_node b y → (a ≡ b) × (x ≡ y)
+first_same a b x y e = let first : a ≡ b = cc in let rest : x ≡ y = cc in (first, rest)
+
+-- the nodes of an array, as a list
+abbrev pub nodes : Data → Items → List Node
+nodes t ds = map (node_of t) (list_of_items ds)
+
+-- contents with the same nodes are the same
+pub nodes-same : (t u : Data) (ds es : Items) → nodes t ds ≡ nodes u es → nodes_of t ds ≡ nodes_of u es
+nodes-same t u no_items no_items e = refl
+nodes-same t u no_items (item d es) e = cc
+nodes-same t u (item c ds) no_items e = cc
+nodes-same t u (item c ds) (item d es) e =
+    let first : node_of t c ≡ node_of u d = cc in
+    let rest : nodes t ds ≡ nodes u es = cc in
+    ap₂ first_node first (nodes-same t u ds es rest)
+
+-- and the other way round
+pub same-nodes : (t u : Data) (ds es : Items) → nodes_of t ds ≡ nodes_of u es → nodes t ds ≡ nodes u es
+same-nodes t u no_items no_items e = refl
+same-nodes t u no_items (item d es) e = cc
+same-nodes t u (item c ds) no_items e = cc
+same-nodes t u (item c ds) (item d es) e =
+    let both = first_same (node_of t c) (node_of u d) (nodes_of t ds) (nodes_of u es) e in
+    ap₂ ◌∷◌ both.0 (same-nodes t u ds es both.1)
+
+-- ---- nodes by their parts
+
+-- the key of a node
+abbrev node_key : Node → Option Key
+node_key (a_contest key names others) = key
+node_key (a_header key inside others) = key
+
+-- the names of the selections of a contest
+abbrev node_names : Node → List (Option NameParts)
+node_names (a_contest key names others) = names
+node_names (a_header key inside others) = []
+
+-- the content inside a header
+abbrev node_inside : Node → Content
+node_inside (a_contest key names others) = no_content
+node_inside (a_header key inside others) = inside
+
+-- the carried members of a node
+abbrev node_others : Node → JsonMap
+node_others (a_contest key names others) = others
+node_others (a_header key inside others) = others
+
+-- whether a node is a header
+abbrev is_header_node : Node → Bool
+is_header_node (a_contest key names others) = false
+is_header_node (a_header key inside others) = true
+
+-- contests are the same exactly if their parts are
+pub contest-Decides : (answer : Bool) (k l : Option Key) (xs ys : List (Option NameParts)) (m n : JsonMap)
+    → (answer ≡ true → (k ≡ l) × (m ≡ n) × (xs ≡ ys)) → (k ≡ l → m ≡ n → xs ≡ ys → answer ≡ true) → Decides answer (a_contest k xs m) (a_contest l ys n)
+contest-Decides answer k l xs ys m n to from = (
+  λ h. let parts = to h in ap (λ x. a_contest x xs m) parts.0 ∙ (ap (λ x. a_contest l x m) parts.2 ∙ ap (λ x. a_contest l ys x) parts.1),
+  λ same. from (ap node_key same) (ap node_others same) (ap node_names same),
+)
+
+-- headers are the same exactly if their parts are
+pub header-Decides : (answer : Bool) (k l : Option Key) (x y : Content) (m n : JsonMap)
+    → (answer ≡ true → (k ≡ l) × (m ≡ n) × (x ≡ y)) → (k ≡ l → m ≡ n → x ≡ y → answer ≡ true) → Decides answer (a_header k x m) (a_header l y n)
+header-Decides answer k l x y m n to from = (
+  λ h. let parts = to h in ap (λ z. a_header z x m) parts.0 ∙ (ap (λ z. a_header l z m) parts.2 ∙ ap (λ z. a_header l y z) parts.1),
+  λ same. from (ap node_key same) (ap node_others same) (ap node_inside same),
+)
+
+-- no contest is a header
+pub contest-header : {k l : Option Key} {xs : List (Option NameParts)} {y : Content} {m n : JsonMap} → Decides false (a_contest k xs m) (a_header l y n)
+contest-header = (λ h. absurd (true≢false (sym h)), λ same. ap is_header_node same)
+
+pub header-contest : {k l : Option Key} {x : Content} {ys : List (Option NameParts)} {m n : JsonMap} → Decides false (a_header k x m) (a_contest l ys n)
+header-contest = (λ h. absurd (true≢false (sym h)), λ same. sym (ap is_header_node same))
+
+-- ---- content of any value
+
+-- what the entries of a value are as content
+pub content_of-entries : (t d : Data) → (ds : Items) × (list_of_items ds ≡ entries_of d) × (content_of t d ≡ nodes_of t ds)
+content_of-entries t (array ds) = (ds, refl, refl)
+content_of-entries t d = (no_items, refl, refl)
+
+no_entries : (ds : Items) → list_of_items ds ≡ [] → ds ≡ no_items
+no_entries no_items e = refl
+no_entries (item d ds) e = cc
+
+more_than_none : (vs : List Value) → (suc (length vs) == 0) ≡ true → ⊥
+more_than_none vs e = let h : suc (length vs) ≡ 0 = (Decides-eqb (suc (length vs)) 0).0 e in absurd (omega arith)
+
+-- a value with no entries has no content
+pub none-Decides : (t d : Data) (vs : List Value) (answer : Bool) → map view vs ≡ entries_of d → answer ≡ (length vs == 0) → Decides answer no_content (content_of t d)
+none-Decides t d vs answer entries is = at (content_of-entries t d) vs refl
+  where
+    at : (ds : Items) × (list_of_items ds ≡ entries_of d) × (content_of t d ≡ nodes_of t ds) → (ws : List Value) → vs ≡ ws → Decides answer no_content (content_of t d)
+    at (no_items, e, f) [] g = (λ h. sym f, λ h. is ∙ ap (λ (ws : List Value). length ws == 0) g)
+    at (item c ds, e, f) [] g = let h : c ∷ list_of_items ds ≡ [] = e ∙ (sym entries ∙ ap (map view) g) in cc
+    at (no_items, e, f) (w ∷ ws) g = let h : [] ≡ view w ∷ map view ws = e ∙ (sym entries ∙ ap (map view) g) in cc
+    at (item c ds, e, f) (w ∷ ws) g = (λ h. absurd (more_than_none ws (sym (is ∙ ap (λ (ws : List Value). length ws == 0) g) ∙ h)), λ h. let j : no_content ≡ first_node (node_of t c) (nodes_of t ds) = h ∙ f in cc)
+
+-- contents are the same exactly if their entries are as nodes
+pub content-Decides : (t u d e : Data) (vs ws : List Value) (answer : Bool) → map view vs ≡ entries_of d → map view ws ≡ entries_of e
+    → Decides answer (map (λ v. node_of t (view v)) vs) (map (λ v. node_of u (view v)) ws) → Decides answer (content_of t d) (content_of u e)
+content-Decides t u d e vs ws answer one other same =
+    let left = content_of-entries t d in
+    let right = content_of-entries u e in
+    let ones : map (λ v. node_of t (view v)) vs ≡ nodes t left.0 = sym (map-map (node_of t) view vs) ∙ ap (map (node_of t)) (one ∙ sym left.1) in
+    let others : map (λ v. node_of u (view v)) ws ≡ nodes u right.0 = sym (map-map (node_of u) view ws) ∙ ap (map (node_of u)) (other ∙ sym right.1) in (
+      λ h. left.2 ∙ (nodes-same t u left.0 right.0 (sym ones ∙ (same.0 h ∙ others)) ∙ sym right.2),
+      λ h. same.1 (ones ∙ (same-nodes t u left.0 right.0 (sym left.2 ∙ (h ∙ right.2)) ∙ sym others)),
+    )
+
+-- a value with no entries has no content
+pub content_of-none : (t d : Data) → [] ≡ entries_of d → content_of t d ≡ no_content
+content_of-none t d none = let is = content_of-entries t d in is.2 ∙ ap (nodes_of t) (no_entries is.0 (is.1 ∙ sym none))

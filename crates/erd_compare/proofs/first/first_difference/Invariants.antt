@@ -1,0 +1,11 @@
+use Rattle.std.proofs.Common.{◌≡◌, ◌<◌, Option}
+use Rattle.serde_json.specs.View.{view}
+use Rattle.erd_meaning.specs.Records.{meaning}
+use Rattle.erd_meaning.specs.declared.key.Key.{Key}
+use Rattle.erd_compare.specs.Differences.{part_number, record_at}
+use Rattle.erd_compare.specs.declared.difference.Part.{Part}
+use Rattle.erd_compare.proofs.first.first_difference.Given as goal
+
+abbrev pub invariant-loop-part : goal.invariant-loop-part
+invariant-loop-part l =
+    (p : Part) (k : Option Key) → part_number p < l.part-index → record_at (meaning (view l.left)) p k ≡ record_at (meaning (view l.right)) p k

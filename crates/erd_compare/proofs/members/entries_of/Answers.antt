@@ -1,0 +1,11 @@
+use Rattle.std.proofs.Common.{sym, ap, ◌∙◌, map}
+use Rattle.serde_json.specs.View.{view}
+use Rattle.serde_json.proofs.Views.{view-Array}
+use Rattle.erd_check.specs.Trees.{entries_of}
+use Rattle.erd_meaning.proofs.Lists.{list_of_items-items_of}
+use Rattle.erd_compare.proofs.members.entries_of.Goals as goal
+
+pub returns-in-Array : goal.returns-in-Array
+returns-in-Array c =
+    ap (map view) c.as_slice.ensures.value ∙ sym (list_of_items-items_of (map view c.in-Array.items.items))
+    ∙ sym (ap entries_of (ap view c.in-Array.is ∙ view-Array c.in-Array.items))

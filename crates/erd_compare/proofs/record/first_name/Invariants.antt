@@ -1,0 +1,14 @@
+use Rattle.std.proofs.Common.{ℕ, List, Option}
+use Rattle.serde_json.specs.Data.{object}
+use Rattle.serde_json.specs.View.{view, members_view}
+use Rattle.erd_check.specs.Trees.{AreMembers}
+use Rattle.erd_meaning.specs.Records.{member_of_class}
+use Rattle.erd_compare.specs.LeastNames.{TellsAmong}
+use Rattle.erd_compare.proofs.record.first_name.Given as goal
+
+abbrev pub invariant-loop-name : goal.invariant-loop-name
+invariant-loop-name l = record {
+  rise : AreMembers (members_view l.name-iterator);
+  rest : (found : Option (List ℕ)) → TellsAmong (member_of_class (view l.left) (view l.one) l.class) (member_of_class (view l.right) (view l.other) l.class) (object (members_view l.name-iterator)) found
+      → TellsAmong (member_of_class (view l.left) (view l.one) l.class) (member_of_class (view l.right) (view l.other) l.class) (view l.named) found;
+}

@@ -1,0 +1,22 @@
+-- The selections of a contest, as a member of it.
+use Rattle.std.specs.Prelude.{Bool, true, false, Option, option_and_then}
+use Rattle.serde_json.specs.Data.{Data}
+use Rattle.erd_check.specs.Trees.{entries_of}
+use Rattle.erd_tables.specs.declared.class.Family.TheVariants as family
+use Rattle.erd_tables.specs.declared.member.MemberKind.{MemberKind}
+use Rattle.erd_tables.specs.declared.member.MemberKind.TheVariants as kind
+use Rattle.erd_meaning.specs.Meaning.{MemberValue, a_selection_map}
+use Rattle.erd_meaning.specs.Records.{selection_map, unless_empty}
+
+-- whether members of this kind are selections
+abbrev pub is_selections : MemberKind → Bool
+is_selections (kind.Keyed family.Selection) = true
+is_selections k = false
+
+-- a value, unless it is an empty array
+abbrev pub if_filled : Option Data → Option Data
+if_filled found = option_and_then (λ d. unless_empty d d) found
+
+-- what the selections of a contest mean, where it has any
+abbrev pub selections_of : Data → Option Data → Option MemberValue
+selections_of t found = option_and_then (λ d. unless_empty (a_selection_map (selection_map t (entries_of d))) d) found

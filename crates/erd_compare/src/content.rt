@@ -1,0 +1,199 @@
+ghost use Rattle.std.specs.Prelude.{◌≡◌, true, map, option_and_then};
+ghost use Rattle.std.specs.List.{AllByRecursion};
+ghost use Rattle.std.specs.Option.{option_copied};
+ghost use Rattle.serde_json.specs.Find.{as_str};
+ghost use Rattle.serde_json.specs.View.{view};
+ghost use Rattle.erd_meaning.specs.Keys.{has_keys, text_at};
+ghost use Rattle.erd_meaning.specs.Meaning.{no_content};
+ghost use Rattle.erd_meaning.specs.Records.{carried_members, content_of, node_of, contest_node, header_node, class_of_node, is_header_class};
+ghost use Rattle.erd_meaning.specs.SelectionNames.{key_named, name_named};
+ghost use Rattle.erd_compare.specs.Comparing.{Decides, IsWholeTree};
+ghost use Rattle.erd_compare.specs.ContentParts.{content_within};
+
+use crate::carried::is_same_carried;
+use crate::members::{entries, entries_of};
+use crate::references::{is_same_family, name_named};
+use erd_meaning::{Key, Report};
+use erd_tables::{Class, Family, Role, class_in};
+use serde_json::Value;
+
+/// Whether two lists of contests and headers are in one order, at every depth of headers.
+#[cycle(content)]
+pub(crate) fn is_same_content(left: &Report, right: &Report, one: &Value, other: &Value) -> bool
+    requires one { IsWholeTree (view one.now) }
+    requires other { IsWholeTree (view other.now) }
+    ensures { Decides result (content_of (view left.now) (view one.now)) (content_of (view right.now) (view other.now)) }
+{
+    match one {
+        Value::Array(ones) => are_same_nodes(left, right, ones, entries_of(other)),
+        _ => has_no_content(right, other),
+    }
+}
+
+/// Whether two lists have the same contests and headers, one after another.
+#[cycle(content)]
+fn are_same_nodes(left: &Report, right: &Report, ones: &Vec<Value>, others: &[Value]) -> bool
+    requires ones { AllByRecursion (λ v. IsWholeTree (view v)) ones.now.items }
+    requires others { AllByRecursion (λ v. IsWholeTree (view v)) others.now }
+    ensures { Decides result (map (λ v. node_of (view left.now) (view v)) ones.now.items)
+        (map (λ v. node_of (view right.now) (view v)) others.now) }
+{
+    let mut rest = others.iter();
+    for one in ones {
+        let Some(other) = rest.next() else {
+            return false;
+        };
+        if !is_same_node(left, right, one, other) {
+            return false;
+        }
+    }
+    rest.next().is_none()
+}
+
+/// Whether two contests or headers mean the same.
+#[cycle(content)]
+fn is_same_node(left: &Report, right: &Report, one: &Value, other: &Value) -> bool
+    requires one { IsWholeTree (view one.now) }
+    requires other { IsWholeTree (view other.now) }
+    ensures { Decides result (node_of (view left.now) (view one.now)) (node_of (view right.now) (view other.now)) }
+{
+    match (is_header(one), is_header(other)) {
+        (true, true) => is_same_header(left, right, one, other),
+        (true, false) => false,
+        (false, true) => false,
+        (false, false) => is_same_contest(left, right, one, other),
+    }
+}
+
+/// Whether two headers mean the same.
+#[cycle(content)]
+fn is_same_header(left: &Report, right: &Report, one: &Value, other: &Value) -> bool
+    requires one { IsWholeTree (view one.now) }
+    requires other { IsWholeTree (view other.now) }
+    ensures { Decides result (header_node (view left.now) (view one.now) (content_within (view left.now) (view one.now)))
+        (header_node (view right.now) (view other.now) (content_within (view right.now) (view other.now))) }
+{
+    is_same_owner(left, right, Family::Header, "HeaderId", one, other)
+        && is_same_rest(one, other)
+        && is_same_within(left, right, one, other)
+}
+
+/// Whether the contents inside two headers are in one order.
+#[cycle(content)]
+fn is_same_within(left: &Report, right: &Report, one: &Value, other: &Value) -> bool
+    requires one { IsWholeTree (view one.now) }
+    requires other { IsWholeTree (view other.now) }
+    ensures { Decides result (content_within (view left.now) (view one.now)) (content_within (view right.now) (view other.now)) }
+{
+    match (one.get("OrderedContent"), other.get("OrderedContent")) {
+        (Some(one), Some(other)) => is_same_content(left, right, one, other),
+        (Some(one), None) => has_no_content(left, one),
+        (None, Some(other)) => has_no_content(right, other),
+        (None, None) => true,
+    }
+}
+
+/// Whether a list of contests and headers is empty.
+fn has_no_content(report: &Report, value: &Value) -> bool
+    ensures { Decides result no_content (content_of (view report.now) (view value.now)) }
+{
+    entries_of(value).is_empty()
+}
+
+/// Whether two contests in the order of a ballot mean the same.
+fn is_same_contest(left: &Report, right: &Report, one: &Value, other: &Value) -> bool
+    requires one { IsWholeTree (view one.now) }
+    requires other { IsWholeTree (view other.now) }
+    ensures { Decides result (contest_node (view left.now) (view one.now)) (contest_node (view right.now) (view other.now)) }
+{
+    let name = "OrderedContestSelectionIds";
+    is_same_owner(left, right, Family::Contest, "ContestId", one, other)
+        && is_same_rest(one, other)
+        && are_same_names(left, right, entries(one, name), entries(other, name))
+}
+
+/// Whether two nodes of a ballot's order carry the same members.
+fn is_same_rest(one: &Value, other: &Value) -> bool
+    requires one { IsWholeTree (view one.now) }
+    requires other { IsWholeTree (view other.now) }
+    ensures { Decides result (carried_members (class_of_node (view one.now)) (view one.now))
+        (carried_members (class_of_node (view other.now)) (view other.now)) }
+{
+    is_same_carried(class_of_node(one), one, class_of_node(other), other)
+}
+
+/// Whether two lists of references name selections of the same names, one after another.
+fn are_same_names(left: &Report, right: &Report, ones: &[Value], others: &[Value]) -> bool
+    ensures { Decides result (map (λ v. option_and_then (name_named (view left.now)) (as_str (view v))) ones.now)
+        (map (λ v. option_and_then (name_named (view right.now)) (as_str (view v))) others.now) }
+{
+    let mut rest = others.iter();
+    for one in ones {
+        let Some(other) = rest.next() else {
+            return false;
+        };
+        if !is_same_name(left, right, one, other) {
+            return false;
+        }
+    }
+    rest.next().is_none()
+}
+
+/// Whether two references name selections of one name.
+fn is_same_name(left: &Report, right: &Report, one: &Value, other: &Value) -> bool
+    ensures { Decides result (option_and_then (name_named (view left.now)) (as_str (view one.now)))
+        (option_and_then (name_named (view right.now)) (as_str (view other.now))) }
+{
+    name_named(left, one) == name_named(right, other)
+}
+
+/// Whether the members of a name refer to objects of a family with one key.
+fn is_same_owner(
+    left: &Report,
+    right: &Report,
+    family: Family,
+    name: &str,
+    one: &Value,
+    other: &Value,
+) -> bool
+    requires keyed { has_keys family ≡ true }
+    ensures { Decides result (key_named (view left.now) family (text_at name.now (view one.now)))
+        (key_named (view right.now) family (text_at name.now (view other.now))) }
+{
+    key_with_id(left, family, text(one, name)) == key_with_id(right, family, text(other, name))
+}
+
+/// The key of the object of a family with the `@id`.
+fn key_with_id<'a>(report: &'a Report, family: Family, id: &str) -> Option<&'a Key>
+    requires keyed { has_keys family ≡ true }
+    ensures { option_copied result ≡ key_named (view report.now) family id.now }
+{
+    let (found, index) = report.target(id)?;
+    if is_same_family(found, family) {
+        report.key_at(family, index)
+    } else {
+        None
+    }
+}
+
+/// Whether a node of a ballot's order is a header.
+fn is_header(node: &Value) -> bool
+    ensures { result ≡ is_header_class (class_of_node (view node.now)) }
+{
+    matches!(class_of_node(node), Some(Class::OrderedHeader))
+}
+
+/// The class of a node of a ballot's order.
+fn class_of_node(node: &Value) -> Option<Class>
+    ensures { result ≡ class_of_node (view node.now) }
+{
+    let text = node.get("@type")?.as_str()?;
+    class_in(Role::Content, text)
+}
+
+/// The text of a member, or the empty text.
+fn text<'a>(value: &'a Value, name: &str) -> &'a str
+    ensures { result.now ≡ text_at name.now (view value.now) }
+{
+    value.get(name).and_then(Value::as_str).unwrap_or("")
+}

@@ -1,0 +1,44 @@
+ghost use Rattle.std.specs.Prelude.{IfOk};
+ghost use Rattle.serde_json.specs.View.{view};
+ghost use Rattle.erd_meaning.specs.Records.{meaning};
+ghost use Rattle.erd_compare.specs.Differences.{IsDifference};
+
+use crate::difference::{Difference, Part};
+use crate::families::part_difference;
+use erd_meaning::Report;
+use std::alloc::{AllocError, Global};
+
+/// The parts in the order in which they are compared.
+const PARTS: [Part; 10] = [
+    Part::Report,
+    Part::Unit,
+    Part::Party,
+    Part::Person,
+    Part::Office,
+    Part::Header,
+    Part::Election,
+    Part::Candidate,
+    Part::Contest,
+    Part::Style,
+];
+
+/// The first difference of what two reports mean, and none exactly if they mean the same: at the least part, there at the
+/// least key; a different class before any member, else the least name of a member that differs. Reports differ in a contest's
+/// selections at its member `ContestSelection`, in a ballot's order at its member `OrderedContent`.
+///
+/// Nothing is built to compare, and no record is copied: members are compared where they stand, references by the keys that
+/// they name. Each object is looked up by its key by going over the objects.
+pub fn first_difference(
+    alloc: Global,
+    left: &Report,
+    right: &Report,
+) -> Result<Option<Difference>, AllocError>
+    ensures { IfOk result (IsDifference (meaning (view left.now)) (meaning (view right.now))) }
+{
+    for part in PARTS {
+        if let Some(difference) = part_difference(alloc, left, right, part)? {
+            return Ok(Some(difference));
+        }
+    }
+    Ok(None)
+}

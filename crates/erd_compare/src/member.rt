@@ -1,0 +1,89 @@
+ghost use Rattle.std.specs.Prelude.{◌≡◌, option_map, IfOk};
+ghost use Rattle.serde_json.specs.Find.{get};
+ghost use Rattle.serde_json.specs.View.{view};
+ghost use Rattle.erd_check.specs.Faults.{is_empty_array};
+ghost use Rattle.erd_meaning.specs.Records.{member_of_class};
+ghost use Rattle.erd_compare.specs.Comparing.{Decides, IsWholeTree};
+ghost use Rattle.erd_compare.specs.SelectionMembers.{if_filled, is_selections, selections_of};
+
+use crate::members::entries_of;
+use crate::plain::is_same_plain_member;
+use crate::selections::is_same_selection_map;
+use erd_meaning::Report;
+use erd_tables::{Class, Family, MemberKind, member_kind};
+use serde_json::Value;
+use std::alloc::{AllocError, Global};
+
+/// Whether members of one name, of two objects of one class, mean the same.
+pub(crate) fn is_same_member(
+    alloc: Global,
+    left: &Report,
+    right: &Report,
+    class: Class,
+    name: &str,
+    one: &Value,
+    other: &Value,
+) -> Result<bool, AllocError>
+    requires one { IsWholeTree (view one.now) }
+    requires other { IsWholeTree (view other.now) }
+    ensures { IfOk result (λ answer. Decides answer (member_of_class (view left.now) (view one.now) class name.now)
+        (member_of_class (view right.now) (view other.now) class name.now)) }
+{
+    if is_selections(member_kind(class, name)) {
+        is_same_selections(alloc, left, right, name, one, other)
+    } else {
+        Ok(is_same_plain_member(left, right, class, name, one, other))
+    }
+}
+
+/// Whether members of this kind are selections.
+fn is_selections(kind: MemberKind) -> bool
+    ensures { result ≡ is_selections kind }
+{
+    matches!(kind, MemberKind::Keyed(Family::Selection))
+}
+
+/// Whether the selections of two contests mean the same. A contest with an empty array of them is as one with none.
+fn is_same_selections(
+    alloc: Global,
+    left: &Report,
+    right: &Report,
+    name: &str,
+    one: &Value,
+    other: &Value,
+) -> Result<bool, AllocError>
+    requires one { IsWholeTree (view one.now) }
+    requires other { IsWholeTree (view other.now) }
+    ensures { IfOk result (λ answer. Decides answer (selections_of (view left.now) (get name.now (view one.now)))
+        (selections_of (view right.now) (get name.now (view other.now)))) }
+{
+    match (filled(one, name), filled(other, name)) {
+        (Some(ones), Some(others)) => {
+            let (ones, others) = (entries_of(ones), entries_of(others));
+            is_same_selection_map(alloc, left, right, ones, others)
+        }
+        (None, None) => Ok(true),
+        _ => Ok(false),
+    }
+}
+
+/// The member of this name, unless it is an empty array.
+fn filled<'a>(value: &'a Value, name: &str) -> Option<&'a Value>
+    ensures { option_map (λ v. view v.now) result ≡ if_filled (get name.now (view value.now)) }
+{
+    match value.get(name) {
+        Some(member) if !is_empty_array(member) => Some(member),
+        _ => None,
+    }
+}
+
+/// Whether a value is an array of no entries.
+#[tactic(auto, using(erd_check::proofs::Lists::count_of_view))]
+fn is_empty_array(value: &Value) -> bool
+    ensures { result ≡ is_empty_array (view value.now) }
+{
+    match value.as_array() {
+        Some(items) => items.is_empty(),
+        None => false,
+    }
+}

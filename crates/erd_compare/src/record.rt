@@ -1,0 +1,112 @@
+ghost use Rattle.std.specs.Prelude.{◌≡◌, option_map, IfOk, Some};
+ghost use Rattle.serde_json.specs.View.{view};
+ghost use Rattle.erd_check.specs.Wants.{class_of_object};
+ghost use Rattle.erd_meaning.specs.Records.{member_of_class, object_record};
+ghost use Rattle.erd_compare.specs.Comparing.{IsWholeTree, TellsHow};
+ghost use Rattle.erd_compare.specs.LeastNames.{TellsAmong, lesser_name, record_of_class};
+
+use crate::difference::How;
+use crate::member::is_same_member;
+use erd_meaning::Report;
+use erd_tables::{Class, Role, Text, class_in};
+use serde_json::Value;
+use std::alloc::{AllocError, Global};
+
+/// How two objects with a role differ: another class before any member, else the least name of a member that differs.
+pub(crate) fn object_difference(
+    alloc: Global,
+    left: &Report,
+    right: &Report,
+    role: Role,
+    one: &Value,
+    other: &Value,
+) -> Result<Option<How>, AllocError>
+    requires one { IsWholeTree (view one.now) }
+    requires other { IsWholeTree (view other.now) }
+    ensures { IfOk result (TellsHow (object_record (view left.now) role (view one.now)) (object_record (view right.now) role (view other.now))) }
+{
+    match (class_of_value(role, one), class_of_value(role, other)) {
+        (None, None) => Ok(None),
+        (Some(_), None) => Ok(Some(How::OnlyLeft)),
+        (None, Some(_)) => Ok(Some(How::OnlyRight)),
+        (Some(class), Some(other_class)) => {
+            if class == other_class {
+                member_difference(alloc, left, right, class, one, other)
+            } else {
+                Ok(Some(How::OtherClass))
+            }
+        }
+    }
+}
+
+/// The class of an object, where its objects have the role.
+fn class_of_value(role: Role, value: &Value) -> Option<Class>
+    ensures { result ≡ class_of_object role (view value.now) }
+{
+    let text = value.get("@type")?.as_str()?;
+    class_in(role, text)
+}
+
+/// How two objects of one class differ: the least name of a member that differs.
+fn member_difference(
+    alloc: Global,
+    left: &Report,
+    right: &Report,
+    class: Class,
+    one: &Value,
+    other: &Value,
+) -> Result<Option<How>, AllocError>
+    requires one { IsWholeTree (view one.now) }
+    requires other { IsWholeTree (view other.now) }
+    ensures { IfOk result (TellsHow (Some (record_of_class (view left.now) class (view one.now)))
+        (Some (record_of_class (view right.now) class (view other.now)))) }
+{
+    let first = first_name(alloc, left, right, class, one, one, other)?;
+    let second = first_name(alloc, left, right, class, other, one, other)?;
+    match lesser(first, second) {
+        Some(name) => {
+            let name = String::from_str(alloc, name)?;
+            Ok(Some(How::Member(Text::of(name))))
+        }
+        None => Ok(None),
+    }
+}
+
+/// The first of the names of a value, in their order, at which the members of two objects of one class differ.
+fn first_name<'a>(
+    alloc: Global,
+    left: &Report,
+    right: &Report,
+    class: Class,
+    named: &'a Value,
+    one: &Value,
+    other: &Value,
+) -> Result<Option<&'a str>, AllocError>
+    requires named { IsWholeTree (view named.now) }
+    requires one { IsWholeTree (view one.now) }
+    requires other { IsWholeTree (view other.now) }
+    ensures { IfOk result (λ found. TellsAmong (member_of_class (view left.now) (view one.now) class)
+        (member_of_class (view right.now) (view other.now) class) (view named.now) (option_map (λ s. s.now) found)) }
+{
+    let Some(members) = named.as_object() else {
+        return Ok(None);
+    };
+    for (name, _) in members.iter() {
+        let name = name.as_str();
+        if !is_same_member(alloc, left, right, class, name, one, other)? {
+            return Ok(Some(name));
+        }
+    }
+    Ok(None)
+}
+
+/// The lesser of two names, where there are any.
+fn lesser<'a>(one: Option<&'a str>, other: Option<&'a str>) -> Option<&'a str>
+    ensures { option_map (λ s. s.now) result ≡ lesser_name (option_map (λ s. s.now) one.entry) (option_map (λ s. s.now) other.entry) }
+{
+    match (one, other) {
+        (Some(first), Some(second)) => Some(first.min(second)),
+        (Some(_), None) => one,
+        (None, _) => other,
+    }
+}

@@ -1,0 +1,201 @@
+ghost use Rattle.std.specs.Prelude.{◌≡◌, ◌↔◌, true, Some, map, find, option_map, IfOk, IfSome};
+ghost use Rattle.std.specs.List.{position, AllByRecursion};
+ghost use Rattle.std.specs.Option.{option_cmp};
+ghost use Rattle.std.specs.Ordering.{is_eq};
+ghost use Rattle.serde_json.specs.Find.{as_object};
+ghost use Rattle.serde_json.specs.View.{view};
+ghost use Rattle.erd_check.specs.Wants.{class_of_object};
+ghost use Rattle.erd_meaning.specs.Records.{plain_member, selection_map, selection_record};
+ghost use Rattle.erd_meaning.specs.SelectionNames.{name_cmp, name_of, selection_role};
+ghost use Rattle.erd_compare.specs.Comparing.{Decides, IsWholeTree};
+ghost use Rattle.erd_compare.specs.AgreeingSelections.{AgreeAtNames, AgreeAtOption, is_named};
+
+use crate::plain::is_same_plain_member;
+use erd_meaning::{Report, SelectionName};
+use erd_tables::{Class, Family, Role, class_in};
+use serde_json::Value;
+use std::alloc::{AllocError, Global};
+
+/// Whether two selections mean the same.
+pub(crate) fn is_same_selection(left: &Report, right: &Report, one: &Value, other: &Value) -> bool
+    requires one { IsWholeTree (view one.now) }
+    requires other { IsWholeTree (view other.now) }
+    ensures { Decides result (selection_record (view left.now) (view one.now)) (selection_record (view right.now) (view other.now)) }
+{
+    match (class_of_selection(one), class_of_selection(other)) {
+        (Some(class), Some(other_class)) => {
+            class == other_class && are_same_members(left, right, class, one, other)
+        }
+        (None, None) => true,
+        _ => false,
+    }
+}
+
+/// The class of a selection, if it is a class of selection.
+fn class_of_selection(selection: &Value) -> Option<Class>
+    ensures { result ≡ class_of_object selection_role (view selection.now) }
+{
+    let text = selection.get("@type")?.as_str()?;
+    class_in(Role::OfFamily(Family::Selection), text)
+}
+
+/// Whether two selections of one class mean the same by their members.
+fn are_same_members(left: &Report, right: &Report, class: Class, one: &Value, other: &Value) -> bool
+    requires one { IsWholeTree (view one.now) }
+    requires other { IsWholeTree (view other.now) }
+    ensures { Decides result (plain_member (view left.now) (view one.now) class) (plain_member (view right.now) (view other.now) class) }
+{
+    are_same_at_names(left, right, class, one, other, one)
+        && are_same_at_names(left, right, class, one, other, other)
+}
+
+/// Whether two selections of one class mean the same at the names of the members of a value.
+fn are_same_at_names(
+    left: &Report,
+    right: &Report,
+    class: Class,
+    one: &Value,
+    other: &Value,
+    named: &Value,
+) -> bool
+    requires one { IsWholeTree (view one.now) }
+    requires other { IsWholeTree (view other.now) }
+    ensures { (result ≡ true)
+        ↔ IfSome (as_object (view named.now))
+        (AgreeAtNames (plain_member (view left.now) (view one.now) class) (plain_member (view right.now) (view other.now) class)) }
+{
+    let Some(members) = named.as_object() else {
+        return true;
+    };
+    for (name, _) in members.iter() {
+        if !is_same_plain_member(left, right, class, name.as_str(), one, other) {
+            return false;
+        }
+    }
+    true
+}
+
+/// The selections of a contest, with the name of each in the report.
+#[derive(Drop)]
+struct NamedSelections<'a, 'b> {
+    report: &'a Report<'b>,
+    selections: &'a [Value],
+    names: Vec<Option<SelectionName>>,
+    ghost named: { names.items ≡ map (λ v. name_of (view report.now) (view v)) selections.now },
+}
+
+impl<'a, 'b> NamedSelections<'a, 'b> {
+    /// The selections of a contest of the report.
+    fn of(
+        alloc: Global,
+        report: &'a Report<'b>,
+        selections: &'a [Value],
+    ) -> Result<NamedSelections<'a, 'b>, AllocError>
+        requires { AllByRecursion (λ v. IsWholeTree (view v)) selections.now }
+        ensures report { IfOk result (λ named. named.report.now ≡ report.now) }
+        ensures selections { IfOk result (λ named. named.selections.now ≡ selections.now) }
+    {
+        let mut names = Vec::with_capacity(alloc, selections.len())?;
+        for selection in selections {
+            names.push(report.name_of(alloc, selection)?)?;
+        }
+        Ok(NamedSelections {
+            report,
+            selections,
+            names,
+        })
+    }
+
+    /// The first selection with the name.
+    fn find(&self, name: &SelectionName) -> Option<&'a Value>
+        requires { AllByRecursion (λ v. IsWholeTree (view v)) self.now.selections.now }
+        ensures found { option_map (λ v. view v.now) result ≡ find (λ d. is_named (view self.now.report.now) name.now d) (map view self.now.selections.now) }
+        ensures whole { IfSome result (λ v. IsWholeTree (view v.now)) }
+    {
+        let place = place_of_name(&self.names, name)?;
+        Some(&self.selections[place])
+    }
+}
+
+/// Where the name first stands among the names.
+fn place_of_name(names: &[Option<SelectionName>], name: &SelectionName) -> Option<usize>
+    ensures { result ≡ position (λ own. is_eq (option_cmp name_cmp own (Some name.now))) names.now }
+{
+    names.iter().position(|own| is_name(own, name))
+}
+
+/// Whether a selection is named so, if it has a name of its own.
+fn is_name(own: &Option<SelectionName>, name: &SelectionName) -> bool
+    ensures { result ≡ is_eq (option_cmp name_cmp own.now (Some name.now)) }
+{
+    match own {
+        Some(own) => own.cmp(name).is_eq(),
+        None => false,
+    }
+}
+
+/// Whether the selections with the name, of two contests, mean the same.
+fn is_same_at(one: &NamedSelections, other: &NamedSelections, name: &SelectionName) -> bool
+    requires one { AllByRecursion (λ v. IsWholeTree (view v)) one.now.selections.now }
+    requires other { AllByRecursion (λ v. IsWholeTree (view v)) other.now.selections.now }
+    ensures { Decides result (selection_map (view one.now.report.now) (map view one.now.selections.now) name.now)
+        (selection_map (view other.now.report.now) (map view other.now.selections.now) name.now) }
+{
+    match (one.find(name), other.find(name)) {
+        (Some(selection), Some(other_selection)) => {
+            is_same_selection(one.report, other.report, selection, other_selection)
+        }
+        (None, None) => true,
+        _ => false,
+    }
+}
+
+/// Whether the selections of two contests mean the same at each of the names.
+fn are_same_at(
+    one: &NamedSelections,
+    other: &NamedSelections,
+    names: &[Option<SelectionName>],
+) -> bool
+    requires one { AllByRecursion (λ v. IsWholeTree (view v)) one.now.selections.now }
+    requires other { AllByRecursion (λ v. IsWholeTree (view v)) other.now.selections.now }
+    ensures { (result ≡ true)
+        ↔ AllByRecursion (AgreeAtOption (selection_map (view one.now.report.now) (map view one.now.selections.now))
+        (selection_map (view other.now.report.now) (map view other.now.selections.now))) names.now }
+{
+    for name in names {
+        if let Some(name) = name {
+            if !is_same_at(one, other, name) {
+                return false;
+            }
+        }
+    }
+    true
+}
+
+/// Whether the selections of two contests mean the same at each name that one of them has.
+fn is_same_map(one: &NamedSelections, other: &NamedSelections) -> bool
+    requires one { AllByRecursion (λ v. IsWholeTree (view v)) one.now.selections.now }
+    requires other { AllByRecursion (λ v. IsWholeTree (view v)) other.now.selections.now }
+    ensures { Decides result (selection_map (view one.now.report.now) (map view one.now.selections.now))
+        (selection_map (view other.now.report.now) (map view other.now.selections.now)) }
+{
+    are_same_at(one, other, &one.names) && are_same_at(one, other, &other.names)
+}
+
+/// Whether the selections of two contests mean the same, each by its name.
+pub(crate) fn is_same_selection_map(
+    alloc: Global,
+    left: &Report,
+    right: &Report,
+    ones: &[Value],
+    others: &[Value],
+) -> Result<bool, AllocError>
+    requires ones { AllByRecursion (λ v. IsWholeTree (view v)) ones.now }
+    requires others { AllByRecursion (λ v. IsWholeTree (view v)) others.now }
+    ensures { IfOk result (λ answer. Decides answer (selection_map (view left.now) (map view ones.now))
+        (selection_map (view right.now) (map view others.now))) }
+{
+    let one = NamedSelections::of(alloc, left, ones)?;
+    let other = NamedSelections::of(alloc, right, others)?;
+    Ok(is_same_map(&one, &other))
+}
