@@ -144,6 +144,9 @@ expect 'the largest input' 0 "$canonical" ''
 printf ' ' >> "$work/large"
 run "$work/large"
 expect 'one byte more' 3 "$work/empty" $'too long\n'
+
+run "$one" check "$work/large"
+expect 'check of one byte more' 3 "$work/empty" $'too long\n'
 rm -f "$work/large"
 
 "$erd" < "$one" > /dev/full 2> "$work/err"
@@ -155,8 +158,11 @@ expect 'a full device' 3 "$work/empty" $'write failed\n'
 status=$?
 expect 'standard output closed' 3 "$work/empty" $'write failed\n'
 
-"$erd" < "$one" 2> "$work/err" | true
-status=${PIPESTATUS[0]}
+exec 3> >(true)
+wait $!
+"$erd" < "$one" >&3 2> "$work/err"
+status=$?
+exec 3>&-
 expect 'a pipe that nobody reads' 3 "$work/empty" $'write failed\n'
 
 "$erd" <&- > "$work/out" 2> "$work/err"
@@ -175,14 +181,111 @@ expect 'standard error closed, and not needed' 0 "$canonical" ''
 status=$?
 expect 'standard error closed, and needed' 3 "$work/empty" ''
 
-run "$one" check
-expect 'a word' 3 "$work/empty" $'only the filter\n'
+# The commands read files, and standard input is not read.
+lines_are() { printf '%s' "$1" > "$work/lines_wanted"; }
 
-run "$one" --help
-expect 'an option' 3 "$work/empty" $'only the filter\n'
+lines_are $'accepted\n'
+run "$work/empty" check "$one"
+expect 'check of an accepted report' 0 "$work/lines_wanted" ''
+
+"$erd" check "$one" <&- > "$work/out" 2> "$work/err"
+status=$?
+expect 'check with standard input closed' 0 "$work/lines_wanted" ''
+
+cp "$one" "$work/Wähler 1.json"
+run "$work/empty" check "$work/Wähler 1.json"
+expect 'a name with a blank and a letter beyond ASCII' 0 "$work/lines_wanted" ''
+
+cp "$one" "$work/-a"
+(cd "$work" && "$erd" check -- -a > out 2> err)
+status=$?
+expect 'a name that begins with a hyphen, after two hyphens' 0 "$work/lines_wanted" ''
+
+lines_are $'/Election/0/Contest/0/VotesAllowed: not a whole number\n/Status: not pre-election\n'
+run "$work/empty" check "$work/shape"
+expect 'check of two faults' 1 "$work/lines_wanted" ''
+
+lines_are $'not JSON\n'
+run "$one" check "$work/short"
+expect 'check of no JSON' 2 "$work/lines_wanted" ''
+
+run "$work/empty" canon examples/small-ballot.json
+expect 'canon of a small ballot' 0 examples/small-ballot.canonical.json ''
+
+run "$work/empty" canon "$work/twins"
+expect 'canon of two units with one key' 1 "$work/empty" $'/GpUnit/1: identifier used twice\n'
+
+run "$one" canon "$work/empty"
+expect 'canon of no JSON' 2 "$work/empty" $'not JSON\n'
+
+lines_are $'same\n'
+run "$work/empty" compare examples/county.vendor-a.json examples/county.vendor-b.json
+expect 'compare of one county by two vendors' 0 "$work/lines_wanted" ''
+
+run "$work/empty" compare "$one" "$one"
+expect 'compare of a file with itself' 0 "$work/lines_wanted" ''
+
+lines_are $'candidate ["local-level","","K3"]: only left\n'
+sed 's/"Value":"K3"/"Value":"K4"/' examples/small-ballot.json > "$work/other"
+run "$work/empty" compare examples/small-ballot.json "$work/other"
+expect 'compare of two ballots' 1 "$work/lines_wanted" ''
+
+lines_are $'candidate ["local-level","","K3"]: only right\n'
+run "$work/empty" compare "$work/other" examples/small-ballot.json
+expect 'compare of the same two, exchanged' 1 "$work/lines_wanted" ''
+
+lines_are $'left: /GpUnit/1: identifier used twice\n'
+run "$work/empty" compare "$work/twins" "$work/short"
+expect 'compare of two that are refused' 1 "$work/lines_wanted" ''
+
+lines_are $'right: not JSON\n'
+run "$work/empty" compare "$one" "$work/short"
+expect 'compare with no JSON on the right' 2 "$work/lines_wanted" ''
+
+for words in 'check nosuch' 'canon nosuch' "compare nosuch $one" "compare $one nosuch"; do
+    run "$one" $words
+    expect "cannot open: $words" 3 "$work/empty" $'cannot open\n'
+done
+
+run "$one" check examples
+expect 'check of a folder' 3 "$work/empty" $'read failed\n'
+
+run "$one" compare "$one" examples
+expect 'compare with a folder' 3 "$work/empty" $'read failed\n'
+
+"$erd" check "$one" > /dev/full 2> "$work/err"
+status=$?
+: > "$work/out"
+expect 'check on a full device' 3 "$work/empty" $'write failed\n'
+
+"$erd" --help > /dev/full 2> "$work/err"
+status=$?
+expect 'help on a full device' 3 "$work/empty" $'write failed\n'
+
+# tells NAME STATUS FULL EMPTY PART ..: the last run wrote to the one file, each of the parts, and nothing to the other
+tells() {
+    local name=$1 wanted=$2 full=$3 empty=$4 why='' part
+    shift 4
+    [ "$status" -eq "$wanted" ] || why+="status $status, not $wanted; "
+    [ -s "$empty" ] && why+="also '$(head -c 200 "$empty")'; "
+    for part in "$@"; do
+        grep -qF -- "$part" "$full" || why+="no $part; "
+    done
+    said "$name" "$why"
+}
+
+# Help goes to standard output, usage to standard error.
+for words in --help -h help 'help check' 'check --help' 'help canon' 'help compare'; do
+    run "$one" $words
+    tells "help: $words" 0 "$work/out" "$work/err" 'Usage: erd' 'Exit status:' 'Example:'
+done
+for words in nosuch check 'check a b' canon 'compare a' 'check -a' --version; do
+    run "$one" $words
+    tells "usage: $words" 3 "$work/err" "$work/out" 'error: ' 'Usage: erd'
+done
 
 run "$one" $'\xff'
-expect 'a word that is no text' 3 "$work/empty" $'only the filter\n'
+expect 'a word that is no text' 3 "$work/empty" $'the arguments are not text\n'
 
 # The vectors stand in three places.
 why=''
