@@ -17,6 +17,25 @@ expect() {
     said "$1" "$why"
 }
 
+# expect_text NAME STATUS OUT ERR: what the last run left, where OUT is the text itself
+expect_text() {
+    printf '%s' "$3" > "$work/wanted_text"
+    expect "$1" "$2" "$work/wanted_text" "$4"
+}
+
+# expect_part NAME STATUS WHERE PART ..: the last run wrote a text with these parts to out or err, and nothing to the other
+expect_part() {
+    local name=$1 wanted=$2 here=$3 there=err why='' part
+    [ "$here" = err ] && there=out
+    shift 3
+    [ "$status" -eq "$wanted" ] || why+="status $status, not $wanted; "
+    [ -s "$work/$there" ] && why+="$there has '$(head -c 200 "$work/$there")'; "
+    for part in "$@"; do
+        grep -qF -e "$part" "$work/$here" || why+="$here has no '$part'; "
+    done
+    said "$name" "$why"
+}
+
 # expect_other NAME FILE: the last run wrote a text, and not that of the file
 expect_other() {
     local why=''
@@ -35,9 +54,15 @@ run() {
     status=$?
 }
 
+# call WORD ..: the program with these words, and nothing on standard input
+call() {
+    run /dev/null "$@"
+}
+
 : > "$work/empty"
 one=examples/one-unit.json
 canonical=examples/one-unit.canonical.json
+small=examples/small-ballot.json
 
 run "$one"
 expect 'a report with one unit' 0 "$canonical" ''
@@ -140,13 +165,28 @@ size=$(wc -c < "$one")
 { cat "$one"; head -c $((67108864 - size)) /dev/zero | tr '\0' ' '; } > "$work/large"
 run "$work/large"
 expect 'the largest input' 0 "$canonical" ''
+call canon "$work/large"
+expect 'the largest file' 0 "$canonical" ''
+call check "$work/large"
+expect_text 'the largest file, checked' 0 $'accepted\n' ''
+call compare "$work/large" "$work/large"
+expect_text 'the largest file, compared with itself' 0 $'same\n' ''
 
 printf ' ' >> "$work/large"
 run "$work/large"
 expect 'one byte more' 3 "$work/empty" $'too long\n'
-
-run "$one" check "$work/large"
-expect 'check of one byte more' 3 "$work/empty" $'too long\n'
+call check "$work/large"
+expect 'one byte more in a file' 3 "$work/empty" $'too long\n'
+call canon "$work/large"
+expect 'one byte more in a file for its canonical form' 3 "$work/empty" $'too long\n'
+call compare "$work/large" "$one"
+expect 'one byte more on the left' 3 "$work/empty" $'too long\n'
+call compare "$one" "$work/large"
+expect 'one byte more on the right' 3 "$work/empty" $'too long\n'
+call compare "$work/large" examples
+expect 'one byte more on the left, and a folder on the right' 3 "$work/empty" $'too long\n'
+call compare examples "$work/large"
+expect 'a folder on the left, and one byte more on the right' 3 "$work/empty" $'read failed\n'
 rm -f "$work/large"
 
 "$erd" < "$one" > /dev/full 2> "$work/err"
@@ -181,111 +221,9 @@ expect 'standard error closed, and not needed' 0 "$canonical" ''
 status=$?
 expect 'standard error closed, and needed' 3 "$work/empty" ''
 
-# The commands read files, and standard input is not read.
-lines_are() { printf '%s' "$1" > "$work/lines_wanted"; }
-
-lines_are $'accepted\n'
-run "$work/empty" check "$one"
-expect 'check of an accepted report' 0 "$work/lines_wanted" ''
-
-"$erd" check "$one" <&- > "$work/out" 2> "$work/err"
-status=$?
-expect 'check with standard input closed' 0 "$work/lines_wanted" ''
-
-cp "$one" "$work/Wähler 1.json"
-run "$work/empty" check "$work/Wähler 1.json"
-expect 'a name with a blank and a letter beyond ASCII' 0 "$work/lines_wanted" ''
-
-cp "$one" "$work/-a"
-(cd "$work" && "$erd" check -- -a > out 2> err)
-status=$?
-expect 'a name that begins with a hyphen, after two hyphens' 0 "$work/lines_wanted" ''
-
-lines_are $'/Election/0/Contest/0/VotesAllowed: not a whole number\n/Status: not pre-election\n'
-run "$work/empty" check "$work/shape"
-expect 'check of two faults' 1 "$work/lines_wanted" ''
-
-lines_are $'not JSON\n'
-run "$one" check "$work/short"
-expect 'check of no JSON' 2 "$work/lines_wanted" ''
-
-run "$work/empty" canon examples/small-ballot.json
-expect 'canon of a small ballot' 0 examples/small-ballot.canonical.json ''
-
-run "$work/empty" canon "$work/twins"
-expect 'canon of two units with one key' 1 "$work/empty" $'/GpUnit/1: identifier used twice\n'
-
-run "$one" canon "$work/empty"
-expect 'canon of no JSON' 2 "$work/empty" $'not JSON\n'
-
-lines_are $'same\n'
-run "$work/empty" compare examples/county.vendor-a.json examples/county.vendor-b.json
-expect 'compare of one county by two vendors' 0 "$work/lines_wanted" ''
-
-run "$work/empty" compare "$one" "$one"
-expect 'compare of a file with itself' 0 "$work/lines_wanted" ''
-
-lines_are $'candidate ["local-level","","K3"]: only left\n'
-sed 's/"Value":"K3"/"Value":"K4"/' examples/small-ballot.json > "$work/other"
-run "$work/empty" compare examples/small-ballot.json "$work/other"
-expect 'compare of two ballots' 1 "$work/lines_wanted" ''
-
-lines_are $'candidate ["local-level","","K3"]: only right\n'
-run "$work/empty" compare "$work/other" examples/small-ballot.json
-expect 'compare of the same two, exchanged' 1 "$work/lines_wanted" ''
-
-lines_are $'left: /GpUnit/1: identifier used twice\n'
-run "$work/empty" compare "$work/twins" "$work/short"
-expect 'compare of two that are refused' 1 "$work/lines_wanted" ''
-
-lines_are $'right: not JSON\n'
-run "$work/empty" compare "$one" "$work/short"
-expect 'compare with no JSON on the right' 2 "$work/lines_wanted" ''
-
-for words in 'check nosuch' 'canon nosuch' "compare nosuch $one" "compare $one nosuch"; do
-    run "$one" $words
-    expect "cannot open: $words" 3 "$work/empty" $'cannot open\n'
-done
-
-run "$one" check examples
-expect 'check of a folder' 3 "$work/empty" $'read failed\n'
-
-run "$one" compare "$one" examples
-expect 'compare with a folder' 3 "$work/empty" $'read failed\n'
-
-"$erd" check "$one" > /dev/full 2> "$work/err"
-status=$?
-: > "$work/out"
-expect 'check on a full device' 3 "$work/empty" $'write failed\n'
-
-"$erd" --help > /dev/full 2> "$work/err"
-status=$?
-expect 'help on a full device' 3 "$work/empty" $'write failed\n'
-
-# tells NAME STATUS FULL EMPTY PART ..: the last run wrote to the one file, each of the parts, and nothing to the other
-tells() {
-    local name=$1 wanted=$2 full=$3 empty=$4 why='' part
-    shift 4
-    [ "$status" -eq "$wanted" ] || why+="status $status, not $wanted; "
-    [ -s "$empty" ] && why+="also '$(head -c 200 "$empty")'; "
-    for part in "$@"; do
-        grep -qF -- "$part" "$full" || why+="no $part; "
-    done
-    said "$name" "$why"
-}
-
-# Help goes to standard output, usage to standard error.
-for words in --help -h help 'help check' 'check --help' 'help canon' 'help compare'; do
-    run "$one" $words
-    tells "help: $words" 0 "$work/out" "$work/err" 'Usage: erd' 'Exit status:' 'Example:'
-done
-for words in nosuch check 'check a b' canon 'compare a' 'check -a' --version; do
-    run "$one" $words
-    tells "usage: $words" 3 "$work/err" "$work/out" 'error: ' 'Usage: erd'
-done
-
-run "$one" $'\xff'
-expect 'a word that is no text' 3 "$work/empty" $'the arguments are not text\n'
+. tests/cli_words.sh
+. tests/cli_files.sh
+. tests/cli_rows.sh
 
 # The vectors stand in three places.
 why=''
