@@ -17,6 +17,25 @@ expect() {
     said "$1" "$why"
 }
 
+# expect_text NAME STATUS OUT ERR: what the last run left, where OUT is the text itself
+expect_text() {
+    printf '%s' "$3" > "$work/wanted_text"
+    expect "$1" "$2" "$work/wanted_text" "$4"
+}
+
+# expect_part NAME STATUS WHERE PART ..: the last run wrote a text with these parts to out or err, and nothing to the other
+expect_part() {
+    local name=$1 wanted=$2 here=$3 there=err why='' part
+    [ "$here" = err ] && there=out
+    shift 3
+    [ "$status" -eq "$wanted" ] || why+="status $status, not $wanted; "
+    [ -s "$work/$there" ] && why+="$there has '$(head -c 200 "$work/$there")'; "
+    for part in "$@"; do
+        grep -qF -e "$part" "$work/$here" || why+="$here has no '$part'; "
+    done
+    said "$name" "$why"
+}
+
 # expect_other NAME FILE: the last run wrote a text, and not that of the file
 expect_other() {
     local why=''
@@ -35,9 +54,15 @@ run() {
     status=$?
 }
 
+# call WORD ..: the program with these words, and nothing on standard input
+call() {
+    run /dev/null "$@"
+}
+
 : > "$work/empty"
 one=examples/one-unit.json
 canonical=examples/one-unit.canonical.json
+small=examples/small-ballot.json
 
 run "$one"
 expect 'a report with one unit' 0 "$canonical" ''
@@ -140,10 +165,28 @@ size=$(wc -c < "$one")
 { cat "$one"; head -c $((67108864 - size)) /dev/zero | tr '\0' ' '; } > "$work/large"
 run "$work/large"
 expect 'the largest input' 0 "$canonical" ''
+call canon "$work/large"
+expect 'the largest file' 0 "$canonical" ''
+call check "$work/large"
+expect_text 'the largest file, checked' 0 $'accepted\n' ''
+call compare "$work/large" "$work/large"
+expect_text 'the largest file, compared with itself' 0 $'same\n' ''
 
 printf ' ' >> "$work/large"
 run "$work/large"
 expect 'one byte more' 3 "$work/empty" $'too long\n'
+call check "$work/large"
+expect 'one byte more in a file' 3 "$work/empty" $'too long\n'
+call canon "$work/large"
+expect 'one byte more in a file for its canonical form' 3 "$work/empty" $'too long\n'
+call compare "$work/large" "$one"
+expect 'one byte more on the left' 3 "$work/empty" $'too long\n'
+call compare "$one" "$work/large"
+expect 'one byte more on the right' 3 "$work/empty" $'too long\n'
+call compare "$work/large" examples
+expect 'one byte more on the left, and a folder on the right' 3 "$work/empty" $'too long\n'
+call compare examples "$work/large"
+expect 'a folder on the left, and one byte more on the right' 3 "$work/empty" $'read failed\n'
 rm -f "$work/large"
 
 "$erd" < "$one" > /dev/full 2> "$work/err"
@@ -155,8 +198,11 @@ expect 'a full device' 3 "$work/empty" $'write failed\n'
 status=$?
 expect 'standard output closed' 3 "$work/empty" $'write failed\n'
 
-"$erd" < "$one" 2> "$work/err" | true
-status=${PIPESTATUS[0]}
+exec 3> >(true)
+wait $!
+"$erd" < "$one" >&3 2> "$work/err"
+status=$?
+exec 3>&-
 expect 'a pipe that nobody reads' 3 "$work/empty" $'write failed\n'
 
 "$erd" <&- > "$work/out" 2> "$work/err"
@@ -175,14 +221,9 @@ expect 'standard error closed, and not needed' 0 "$canonical" ''
 status=$?
 expect 'standard error closed, and needed' 3 "$work/empty" ''
 
-run "$one" check
-expect 'a word' 3 "$work/empty" $'only the filter\n'
-
-run "$one" --help
-expect 'an option' 3 "$work/empty" $'only the filter\n'
-
-run "$one" $'\xff'
-expect 'a word that is no text' 3 "$work/empty" $'only the filter\n'
+. tests/cli_words.sh
+. tests/cli_files.sh
+. tests/cli_rows.sh
 
 # The vectors stand in three places.
 why=''

@@ -37,6 +37,7 @@ counted rt ci
 built make erd
 built bash -c 'cd crates/erd_rows && rt test'
 counted tests/cli.sh
+counted tests/man.sh
 counted tests/refusals.sh
 
 echo "$passed passed, $failed failed"

@@ -23,12 +23,13 @@ is_memory() {
     [ "$status" -eq 4 ] && [ ! -s "$work/out" ] && [ "$(cat "$work/err")" = 'no memory' ]
 }
 
-# program NAME INPUT STATUS OUT ERR
+# program NAME INPUT STATUS OUT ERR [WORD ..]
 program() {
     local name=$1 input=$2 wanted=$3 out=$4 err=$5 refusals=0 at
+    shift 5
     printf '%s' "$err" > "$work/wanted"
     for ((at = 1; at <= most; at++)); do
-        refusing "$at" ./erd < "$input" > "$work/out" 2> "$work/err"
+        refusing "$at" ./erd "$@" < "$input" > "$work/out" 2> "$work/err"
         status=$?
         local right=no
         [ "$status" -eq "$wanted" ] && cmp -s "$work/out" "$out" && cmp -s "$work/err" "$work/wanted" && right=yes
@@ -72,6 +73,11 @@ program 'a small ballot' examples/small-ballot.json 0 examples/small-ballot.cano
 sed 's/"Value":"U2"/"Value":"U1"/' examples/small-ballot.json > "$work/twins"
 program 'a refused report' "$work/twins" 1 "$work/empty" $'/GpUnit/1: identifier used twice\n'
 program 'no JSON' tests/refuse.c 2 "$work/empty" $'not JSON\n'
+printf 'accepted\n' > "$work/accepted"
+program 'a check' "$work/empty" 0 "$work/accepted" '' check examples/small-ballot.json
+program 'a file that is not there' "$work/empty" 3 "$work/empty" $'cannot open\n' canon nosuch
+printf 'same\n' > "$work/same"
+program 'a comparison' "$work/empty" 0 "$work/same" '' compare examples/one-unit.json examples/one-unit.json
 one_test tests::refused::refused_canonical
 one_test tests::refused::refused_run
 one_test tests::refused::refused_shape
@@ -87,5 +93,8 @@ one_test tests::refused_comparisons::refused_compare_bytes
 one_test tests::refused_comparisons::refused_compare
 one_test tests::refused_comparisons::refused_compare_of_two_vendors
 one_test tests::refused_comparisons::refused_compare_of_faults
+one_test tests::refused_lines::refused_comparison
+one_test tests::refused_lines::refused_usage
+one_test tests::refused_lines::refused_help
 
 counts

@@ -1,0 +1,44 @@
+-- How `clap` reads a word that is no flag, at a command with no subcommands.
+use Rattle.std.proofs.Common.{◌≡◌, ◌≢◌, ◌==◌, ◌&&◌, ℕ, Bool, List, [], ◌∷◌, None, false, true, refl, ap, ap₂}
+use Rattle.std.proofs.lemmas.Bool.{ne_eqb}
+use Rattle.std.specs.Str.{bytes_eq}
+use Rattle.clap.specs.Lexer.{long_of, short_of}
+use Rattle.clap.specs.Walk.{Held, Rule, Step, Text, Walk, after_step, arg_by_index, idle, to_positional, value, walked, word_met}
+use Rattle.clap.specs.Simple.{Shape}
+use Rattle.clap.specs.Takes.{step_passes, turn_passes, word_passes}
+
+-- the word is neither `--` nor a flag
+pub record IsPlainWord (word : Text) : Type 0 where
+  pub dashes : bytes_eq word (45 ∷ 45 ∷ []) ≡ false
+  pub long : long_of word ≡ None
+  pub short : short_of word ≡ None
+
+-- a word that begins with another byte than a hyphen
+pub plain_word : (first : ℕ) (rest : Text) → first ≢ 45 → IsPlainWord (first ∷ rest)
+plain_word first rest h =
+    let e : (first == 45) ≡ false = ne_eqb first 45 h in
+    record { dashes = rw e refl; long = rw e refl; short = rw e refl }
+
+-- the walk between two words, with no subcommand met
+abbrev pub at : Held → ℕ → Walk
+at h p = record { held = h; waiting = idle; position = p; is_trailing = false; stopped = None }
+
+-- such a word is a value
+pub plain_met : (c : List Rule) (p : ℕ) (word : Text) (h : Held) → IsPlainWord word → word_met c [] false idle p word h ≡ (h, value)
+plain_met c p word h plain = rw (plain.dashes, plain.long, plain.short) refl
+
+-- and it is taken
+pub plain_passes : (s : Shape) (word : Text) (h : Held) → IsPlainWord word → word_passes s [] false idle word h ≡ true
+plain_passes s word h plain = rw (plain.dashes, plain.long, plain.short) refl
+
+-- the walk goes on past it at the positional whose place it has
+pub walked_plain : (c : List Rule) (h : Held) (p : ℕ) (word : Text) → IsPlainWord word
+    → walked c [] (at h p) word ≡ to_positional c (arg_by_index c p) word (at h p) h
+unfolding walked
+walked_plain c h p word plain =
+    ap (λ (m : Held × Step). after_step c word (at h p) m.0 m.1) (plain_met c p word h plain)
+
+-- and the turn passes if the positional takes the word
+pub turn_plain : (s : Shape) (h : Held) (p : ℕ) (word : Text) → IsPlainWord word → turn_passes s [] (at h p) word ≡ step_passes s p h value
+turn_plain s h p word plain =
+    ap₂ (λ (b : Bool) (m : Held × Step). b && step_passes s p m.0 m.1) (plain_passes s word h plain) (plain_met s.rules p word h plain)

@@ -1,0 +1,66 @@
+#!/usr/bin/env bash
+# Holds the manual page, and the table of the README, against the built program: its subcommands with what they take,
+# and its exit statuses. One line a case.
+set -u
+cd "$(dirname "$0")/.." || exit 1
+erd=$PWD/erd
+page=docs/erd.1
+. tests/counting.sh
+
+# agree NAME PAGE PROGRAM: the page says what the program says, and something
+agree() {
+    local why=''
+    [ -n "$2" ] || why+='nothing is there; '
+    [ "$2" = "$3" ] || why+="'$2' is there, and the program has '$3'; "
+    said "$1" "$why"
+}
+
+# section NAME: the lines of a section of the page
+section() {
+    awk -v title=".SH $1" '/^\.SH /{ inside = $0 == title; next } inside' "$page"
+}
+
+# terms NAME: the terms of the lists in a section, one a line
+terms() {
+    section "$1" | awk 'is_term { print } { is_term = $0 == ".TP" }' | sed 's/^\.BI* //; s/"//g' | tr -s ' '
+}
+
+# under TITLE: the lines of the text on standard input that stand under a title, up to an empty line
+under() {
+    awk -v title="$1:" '$0 == title { inside = 1; next } inside && NF == 0 { exit } inside' | sed 's/^ *//' | tr -s ' '
+}
+
+names=$("$erd" --help | under Commands | cut -d ' ' -f 1)
+agree 'the subcommands of the page' "$(terms SUBCOMMANDS | cut -d ' ' -f 1)" "$names"
+
+for name in $names; do
+    [ "$name" = help ] && continue
+    usage=$("$erd" help "$name" | sed -n 's/^Usage: erd //p' | tr -d '<>')
+    agree "what $name takes" "$(terms SUBCOMMANDS | grep "^$name ")" "$usage"
+done
+
+statuses=$("$erd" --help | under 'Exit status')
+paged=$(section 'EXIT STATUS' | sed -n '/^\.B [0-9]/{ s/^\.B //; N; s/\n/ /; p; }')
+agree 'the statuses of the page' "$paged" "$statuses"
+
+numbers=$(cut -d ' ' -f 1 <<< "$statuses")
+for name in $names; do
+    [ "$name" = help ] && continue
+    agree "the statuses of $name" "$(cut -d ' ' -f 1 <<< "$paged")" \
+        "$("$erd" help "$name" | under 'Exit status' | cut -d ' ' -f 1)"
+done
+agree 'the statuses of the README' "$(sed -n 's/^| \([0-9]\) |.*/\1/p' README.md | sort -u)" "$numbers"
+
+# A status that no run has here is that of want of memory.
+met=$(
+    for file in examples/one-unit.json tests/man.sh tests/nosuch; do
+        "$erd" check "$file" > /dev/null 2>&1
+        echo $?
+    done
+    "$erd" compare examples/one-unit.json examples/small-ballot.json > /dev/null
+    echo $?
+    echo 4
+)
+agree 'the statuses of runs' "$numbers" "$(sort -u <<< "$met")"
+
+counts
