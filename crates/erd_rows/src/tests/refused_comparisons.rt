@@ -4,7 +4,7 @@ use crate::tests::refused::{Answer, is_pair};
 use crate::vectors::{OTHER_VENDOR, SMALL_BALLOT, THREE_SHAPE_FAULTS};
 use crate::writers::PageWriter;
 use erd_canon::{Outcome, ReadFrom, Refusal, RunFault, Side, WriteTo, compare_bytes, run_compare};
-use erd_check::{CheckError, shape};
+use erd_check::{CheckError, Shaped, shape};
 use erd_compare::{Difference, first_difference};
 use erd_meaning::{Report, resolve};
 use serde_json::Value;
@@ -30,21 +30,6 @@ fn told(alloc: Global, found: Option<&Difference>) -> Answer {
     }
 }
 
-// The report of a tree without faults.
-fn report_of(alloc: Global, tree: &Value) -> Result<Report<'_>, Answer> {
-    let error = match shape(alloc, tree) {
-        Ok(shaped) => match resolve(alloc, shaped) {
-            Ok(report) => return Ok(report),
-            Err(error) => error,
-        },
-        Err(error) => error,
-    };
-    match error {
-        CheckError::Faults(_) => Err(Answer::Wrong),
-        CheckError::Memory => Err(Answer::WantsMemory),
-    }
-}
-
 // The first difference of what two reports mean.
 fn meanings(alloc: Global, left: &Report, right: &Report) -> Answer {
     match first_difference(alloc, left, right) {
@@ -53,14 +38,36 @@ fn meanings(alloc: Global, left: &Report, right: &Report) -> Answer {
     }
 }
 
-// The first difference of two trees without faults, twice of the same reports.
-fn trees(alloc: Global, left: &Value, right: &Value) -> (Answer, Answer) {
-    match (report_of(alloc, left), report_of(alloc, right)) {
+// Faults are no answer to a request of memory.
+fn refusal(error: &CheckError) -> Answer {
+    match error {
+        CheckError::Faults(_) => Answer::Wrong,
+        CheckError::Memory => Answer::WantsMemory,
+    }
+}
+
+// The first difference of two reports without faults of their shape, twice of the same reports.
+fn shapes(alloc: Global, left: Shaped, right: Shaped) -> (Answer, Answer) {
+    match (resolve(alloc, left), resolve(alloc, right)) {
         (Ok(left), Ok(right)) => {
             let first = meanings(alloc, &left, &right);
             (first, meanings(alloc, &left, &right))
         }
-        (Err(answer), _) | (_, Err(answer)) => (answer, Answer::Right),
+        (Err(error), _) | (_, Err(error)) => (refusal(&error), Answer::Right),
+    }
+}
+
+// The first difference of two texts, twice of the same reports.
+fn texts(alloc: Global, left: &str, right: &str) -> (Answer, Answer) {
+    let Ok(left_tree) = Value::from_str(alloc, left) else {
+        return (Answer::WantsMemory, Answer::Right);
+    };
+    let Ok(right_tree) = Value::from_str(alloc, right) else {
+        return (Answer::WantsMemory, Answer::Right);
+    };
+    match (shape(alloc, &left_tree), shape(alloc, &right_tree)) {
+        (Ok(left), Ok(right)) => shapes(alloc, left, right),
+        (Err(error), _) | (_, Err(error)) => (refusal(&error), Answer::Right),
     }
 }
 
@@ -109,15 +116,11 @@ fn run_other_candidate(alloc: Global) -> Answer {
 #[test]
 fn refused_difference(rt: HostRuntime) {
     let alloc = rt.alloc();
-    let right = with_other_candidate(alloc);
-    if let Some(right) = right {
-        let left_tree = Value::from_str(alloc, SMALL_BALLOT);
-        let right_tree = Value::from_str(alloc, right.as_str());
-        if let (Ok(left), Ok(right)) = (left_tree, right_tree) {
-            let (first, second) = trees(alloc, &left, &right);
-            assert!(rt; is_pair(first, second));
-        }
-    }
+    let (first, second) = match with_other_candidate(alloc) {
+        Some(right) => texts(alloc, SMALL_BALLOT, right.as_str()),
+        None => (Answer::WantsMemory, Answer::Right),
+    };
+    assert!(rt; is_pair(first, second));
 }
 
 #[test]
