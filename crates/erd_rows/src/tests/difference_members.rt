@@ -1,5 +1,5 @@
 //! At which member two objects with one key first differ.
-use crate::tests::comparing::{SAME, all_tell, edits_tell};
+use crate::tests::comparing::{Comparison, SAME, all_tell, edits_tell};
 use crate::tests::edits::Edit;
 use crate::vectors::SMALL_BALLOT;
 use std::test::Fail;
@@ -101,59 +101,58 @@ fn other_class(rt: HostRuntime) -> Result<(), Fail> {
     )
 }
 
+// What a party carries, and what is told of it.
+const CARRIED: &[Comparison<'static>] = &[
+    (&[], &[(BLUE, r#""Name":"Blue","Note":null"#)], NOTE),
+    (&[], &[(BLUE, r#""Name":"Blue","Note":[]"#)], NOTE),
+    (&[], &[(BLUE, r#""Name":"Blue","Note":{}"#)], NOTE),
+    (&[], &[(BLUE, r#""Name":"Blue","Note":false"#)], NOTE),
+    (
+        &[(BLUE, r#""Name":"Blue","Note":null"#)],
+        &[(BLUE, r#""Name":"Blue","Note":false"#)],
+        NOTE,
+    ),
+    (
+        &[(BLUE, r#""Name":"Blue","Note":[]"#)],
+        &[(BLUE, r#""Name":"Blue","Note":{}"#)],
+        NOTE,
+    ),
+    (
+        &[(BLUE, r#""Name":"Blue","Note":{"a":null}"#)],
+        &[(BLUE, r#""Name":"Blue","Note":{}"#)],
+        NOTE,
+    ),
+    (
+        &[(BLUE, r#""Name":"Blue","Note":1"#)],
+        &[(BLUE, r#""Name":"Blue","Note":"1""#)],
+        NOTE,
+    ),
+    (
+        &[(BLUE, r#""Name":"Blue","Note":1"#)],
+        &[(BLUE, r#""Name":"Blue","Note":true"#)],
+        NOTE,
+    ),
+    (
+        &[(BLUE, r#""Name":"Blue","Note":18446744073709551615"#)],
+        &[(BLUE, r#""Name":"Blue","Note":18446744073709551614"#)],
+        NOTE,
+    ),
+    (
+        &[(BLUE, r#""Name":"Blue","Note":"\u0041""#)],
+        &[(BLUE, r#""Name":"Blue","Note":"A""#)],
+        SAME,
+    ),
+    (
+        &[(BLUE, r#""Name":"Blue","Text":["b","a"]"#)],
+        &[(BLUE, r#""Name":"Blue","Text":["a","b"]"#)],
+        r#"party ["local-level","","P1"]: member "Text""#,
+    ),
+];
+
 // A carried `null` is a member, and so is each other value; an absent one is none.
 #[test]
 fn null_and_absent(rt: HostRuntime) -> Result<(), Fail> {
-    all_tell(
-        rt.alloc(),
-        SMALL_BALLOT,
-        &[
-            (&[], &[(BLUE, r#""Name":"Blue","Note":null"#)], NOTE),
-            (&[], &[(BLUE, r#""Name":"Blue","Note":[]"#)], NOTE),
-            (&[], &[(BLUE, r#""Name":"Blue","Note":{}"#)], NOTE),
-            (&[], &[(BLUE, r#""Name":"Blue","Note":false"#)], NOTE),
-            (
-                &[(BLUE, r#""Name":"Blue","Note":null"#)],
-                &[(BLUE, r#""Name":"Blue","Note":false"#)],
-                NOTE,
-            ),
-            (
-                &[(BLUE, r#""Name":"Blue","Note":[]"#)],
-                &[(BLUE, r#""Name":"Blue","Note":{}"#)],
-                NOTE,
-            ),
-            (
-                &[(BLUE, r#""Name":"Blue","Note":{"a":null}"#)],
-                &[(BLUE, r#""Name":"Blue","Note":{}"#)],
-                NOTE,
-            ),
-            (
-                &[(BLUE, r#""Name":"Blue","Note":1"#)],
-                &[(BLUE, r#""Name":"Blue","Note":"1""#)],
-                NOTE,
-            ),
-            (
-                &[(BLUE, r#""Name":"Blue","Note":1"#)],
-                &[(BLUE, r#""Name":"Blue","Note":true"#)],
-                NOTE,
-            ),
-            (
-                &[(BLUE, r#""Name":"Blue","Note":18446744073709551615"#)],
-                &[(BLUE, r#""Name":"Blue","Note":18446744073709551614"#)],
-                NOTE,
-            ),
-            (
-                &[(BLUE, r#""Name":"Blue","Note":"\u0041""#)],
-                &[(BLUE, r#""Name":"Blue","Note":"A""#)],
-                SAME,
-            ),
-            (
-                &[(BLUE, r#""Name":"Blue","Text":["b","a"]"#)],
-                &[(BLUE, r#""Name":"Blue","Text":["a","b"]"#)],
-                r#"party ["local-level","","P1"]: member "Text""#,
-            ),
-        ],
-    )
+    all_tell(rt.alloc(), SMALL_BALLOT, CARRIED)
 }
 
 // Its name as one translation.

@@ -1,5 +1,5 @@
 //! Where two reports first differ: the least part, there the least key, and there the least name.
-use crate::tests::comparing::{SAME, all_tell, edits_tell, tells};
+use crate::tests::comparing::{Comparison, SAME, all_tell, edits_tell, tells};
 use crate::tests::edits::{Edit, with_edits};
 use crate::vectors::SMALL_BALLOT;
 use std::test::Fail;
@@ -143,21 +143,20 @@ const ANNA: Edit = (r#""BallotName":"Ann""#, r#""BallotName":"Anna""#);
 
 const FIRST_CANDIDATE: &str = r#"candidate ["local-level","","K1"]: member "BallotName""#;
 
+// Two candidates that differ, in each order.
+const OF_TWO_CANDIDATES: &[Comparison<'static>] = &[
+    (&[], &[EXCHANGED], SAME),
+    (&[], &[CYD, ANNA], FIRST_CANDIDATE),
+    (&[], &[EXCHANGED, CYD, ANNA], FIRST_CANDIDATE),
+    (&[EXCHANGED], &[CYD, ANNA], FIRST_CANDIDATE),
+    (&[EXCHANGED], &[EXCHANGED, CYD, ANNA], FIRST_CANDIDATE),
+    (&[CYD], &[ANNA], FIRST_CANDIDATE),
+];
+
 // Of two candidates that differ the one of the least key is told, whatever their order.
 #[test]
 fn least_key(rt: HostRuntime) -> Result<(), Fail> {
-    all_tell(
-        rt.alloc(),
-        SMALL_BALLOT,
-        &[
-            (&[], &[EXCHANGED], SAME),
-            (&[], &[CYD, ANNA], FIRST_CANDIDATE),
-            (&[], &[EXCHANGED, CYD, ANNA], FIRST_CANDIDATE),
-            (&[EXCHANGED], &[CYD, ANNA], FIRST_CANDIDATE),
-            (&[EXCHANGED], &[EXCHANGED, CYD, ANNA], FIRST_CANDIDATE),
-            (&[CYD], &[ANNA], FIRST_CANDIDATE),
-        ],
-    )
+    all_tell(rt.alloc(), SMALL_BALLOT, OF_TWO_CANDIDATES)
 }
 
 // The least key is told whether one report has it or both.

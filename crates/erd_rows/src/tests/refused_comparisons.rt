@@ -48,13 +48,16 @@ fn refusal(error: &CheckError) -> Answer {
 
 // The first difference of two reports without faults of their shape, twice of the same reports.
 fn shapes(alloc: Global, left: Shaped, right: Shaped) -> (Answer, Answer) {
-    match (resolve(alloc, left), resolve(alloc, right)) {
-        (Ok(left), Ok(right)) => {
-            let first = meanings(alloc, &left, &right);
-            (first, meanings(alloc, &left, &right))
-        }
-        (Err(error), _) | (_, Err(error)) => (refusal(&error), Answer::Right),
-    }
+    let left = match resolve(alloc, left) {
+        Ok(report) => report,
+        Err(error) => return (refusal(&error), Answer::Right),
+    };
+    let right = match resolve(alloc, right) {
+        Ok(report) => report,
+        Err(error) => return (refusal(&error), Answer::Right),
+    };
+    let first = meanings(alloc, &left, &right);
+    (first, meanings(alloc, &left, &right))
 }
 
 // The first difference of two texts, twice of the same reports.
@@ -65,9 +68,13 @@ fn texts(alloc: Global, left: &str, right: &str) -> (Answer, Answer) {
     let Ok(right_tree) = Value::from_str(alloc, right) else {
         return (Answer::WantsMemory, Answer::Right);
     };
-    match (shape(alloc, &left_tree), shape(alloc, &right_tree)) {
-        (Ok(left), Ok(right)) => shapes(alloc, left, right),
-        (Err(error), _) | (_, Err(error)) => (refusal(&error), Answer::Right),
+    let left = match shape(alloc, &left_tree) {
+        Ok(shaped) => shaped,
+        Err(error) => return (refusal(&error), Answer::Right),
+    };
+    match shape(alloc, &right_tree) {
+        Ok(right) => shapes(alloc, left, right),
+        Err(error) => (refusal(&error), Answer::Right),
     }
 }
 
