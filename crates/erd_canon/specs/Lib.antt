@@ -5,5 +5,5 @@ pub mod ByteLaws
 pub mod EngineTexts
 pub mod Refused
 pub mod Run
-pub mod Subcommands
 pub mod ExactLines
+pub mod code

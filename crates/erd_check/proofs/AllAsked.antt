@@ -9,8 +9,9 @@ use Rattle.serde_json.specs.Find.{get_member, get_item}
 use Rattle.erd_tables.specs.declared.class.Role.TheVariants.{Report}
 use Rattle.erd_tables.specs.declared.place.Step.{Step}
 use Rattle.erd_tables.specs.declared.place.Step.TheVariants.{Name, At}
-use Rattle.erd_check.specs.Trees.{is_same_json, list_of_items}
-use Rattle.erd_check.specs.Walk.{asked_with}
+use Rattle.erd_check.specs.Trees.{is_same_json}
+use Rattle.erd_check.specs.Values.{list_of_items}
+use Rattle.erd_check.specs.code.Walk.{asked_with}
 use Rattle.erd_check.specs.Wants.{Asked, scope_inside, want_of_name, entry_want, is_compared_set, asked_of_member, asked_of_entry, asked_from, asked_at}
 use Rattle.erd_check.specs.declared.want.Want.{Want}
 use Rattle.erd_check.specs.declared.want.Want.TheVariants.{Object}

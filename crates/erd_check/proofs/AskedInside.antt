@@ -14,8 +14,9 @@ use Rattle.erd_tables.proofs.PlaceOrder.{start_less, steps_less}
 use Rattle.erd_tables.specs.declared.class.Role.TheVariants.{Report}
 use Rattle.erd_tables.specs.declared.place.Step.{Step}
 use Rattle.erd_tables.specs.declared.place.Step.TheVariants.{Name, At}
-use Rattle.erd_check.specs.Trees.{is_same_json, list_of_items}
-use Rattle.erd_check.specs.Walk.{asked_with, names, IsInOrder, AreItemsInOrder, AreMembersInOrder}
+use Rattle.erd_check.specs.Trees.{is_same_json}
+use Rattle.erd_check.specs.Values.{list_of_items, names}
+use Rattle.erd_check.specs.code.Walk.{asked_with, IsInOrder, AreItemsInOrder, AreMembersInOrder}
 use Rattle.erd_check.specs.Wants.{Asked, scope_inside, want_of_name, entry_want, is_compared_set, asked_from, asked_at}
 use Rattle.erd_check.specs.declared.want.Want.{Want}
 use Rattle.erd_check.specs.declared.want.Want.TheVariants.{Object}

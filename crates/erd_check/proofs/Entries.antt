@@ -3,7 +3,8 @@ use Rattle.std.proofs.Common.{◌≡◌, ℕ, zero, suc, List, [], Option, Some,
 use Rattle.std.specs.Option.{option_map_or}
 use Rattle.serde_json.specs.Data.{Data, string, array, object, Items, no_items, item, Members}
 use Rattle.serde_json.specs.Find.{get_item}
-use Rattle.erd_check.specs.Trees.{list_of_items, entries_of, IsTree, AreTrees}
+use Rattle.erd_check.specs.Trees.{IsTree, AreTrees}
+use Rattle.erd_check.specs.Values.{list_of_items, entries_of}
 use Rattle.erd_check.specs.Faults.{is_array, is_object, is_text}
 use Rattle.erd_check.proofs.Rising.{Has, Has-cases}
 

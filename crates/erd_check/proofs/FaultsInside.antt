@@ -17,12 +17,13 @@ use Rattle.erd_tables.specs.declared.place.Step.{Step}
 use Rattle.erd_tables.specs.declared.place.Step.TheVariants.{Name, At}
 use Rattle.erd_tables.specs.declared.fault.Reason.{Reason}
 use Rattle.erd_tables.specs.declared.fault.Fault.{Fault}
-use Rattle.erd_check.specs.Trees.{is_same_json, list_of_items}
+use Rattle.erd_check.specs.Trees.{is_same_json}
+use Rattle.erd_check.specs.Values.{list_of_items, names}
 use Rattle.erd_check.specs.Wants.{Asked, scope_inside, want_of_name, entry_want, is_compared_set, asked_of_member, asked_of_entry, asked_from}
 use Rattle.erd_tables.specs.Faults.{reason_cmp, fault_cmp, ListsAll}
 use Rattle.erd_check.specs.Faults.{is_shape_fault}
-use Rattle.erd_check.specs.Paths.{fault_at}
-use Rattle.erd_check.specs.Walk.{asked_with, names, reasons, faults_of, faults_at, item_faults, member_faults, IsInOrder, AreItemsInOrder, AreMembersInOrder}
+use Rattle.erd_check.specs.code.Paths.{fault_at}
+use Rattle.erd_check.specs.code.Walk.{asked_with, reasons, faults_of, faults_at, item_faults, member_faults, IsInOrder, AreItemsInOrder, AreMembersInOrder}
 use Rattle.erd_check.specs.declared.want.Want.{Want}
 use Rattle.erd_check.specs.declared.want.Scope.{Scope}
 use Rattle.erd_check.proofs.Order.{In, In-append, In-append_left, In-append_right, In-map, In-map_from, sorted_append, sorted_map, In-from_contains, contains_from_In}

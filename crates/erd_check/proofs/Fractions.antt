@@ -27,8 +27,9 @@ use Rattle.erd_tables.specs.declared.member.MemberKind.TheVariants as kind
 use Rattle.erd_tables.specs.declared.place.Step.{Step}
 use Rattle.erd_tables.specs.declared.place.Step.TheVariants.{Name, At}
 use Rattle.erd_check.specs.Faults.{is_shape_fault, is_empty_array, names_wanted, NoneOf, ShapeFault}
-use Rattle.erd_check.specs.Trees.{is_same_json, list_of_items}
-use Rattle.erd_check.specs.Walk.{asked_with, faults_at, faults_of, item_faults, member_faults, reasons, IsInOrder}
+use Rattle.erd_check.specs.Trees.{is_same_json}
+use Rattle.erd_check.specs.Values.{list_of_items}
+use Rattle.erd_check.specs.code.Walk.{asked_with, faults_at, faults_of, item_faults, member_faults, reasons, IsInOrder}
 use Rattle.erd_check.specs.Wants.{class_of_object, entry_want, is_compared_set, is_report_class, member_want, carried_want, scope_inside, want_of_kind, want_of_name}
 use Rattle.erd_check.specs.declared.want.Scope.{Scope}
 use Rattle.erd_check.specs.declared.want.Scope.TheVariants as scope

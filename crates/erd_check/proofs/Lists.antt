@@ -3,12 +3,12 @@ use Rattle.std.proofs.Common.{◌≡◌, List, [], ◌∷◌, length, suc, Strin
 use Rattle.std.specs.List.{AllByRecursion}
 use Rattle.std.specs.List.Sorted.{IsStrictlySortedBy}
 use Rattle.std.specs.Map.{keys_of}
-use Rattle.serde_json.specs.View.{items_view, members_view}
+use Rattle.serde_json.specs.Data.{Data}
+use Rattle.serde_json.specs.View.{items_of, items_view, members_view}
 use Rattle.serde_json.proofs.Views.{Entry}
 use Rattle.serde_json.specs.declared.value.Value.{Value}
 use Rattle.erd_tables.specs.Texts.{text_cmp}
-use Rattle.erd_check.specs.Trees.{list_of_items}
-use Rattle.erd_check.specs.Walk.{names}
+use Rattle.erd_check.specs.Values.{list_of_items, names}
 
 pub count_of_view : (vs : List Value) → length (list_of_items (items_view vs)) ≡ length vs
 count_of_view [] = refl
@@ -24,3 +24,7 @@ pub names_sorted : (es : List Entry) → IsStrictlySortedBy string_cmp (keys_of 
 unfolding IsStrictlySortedBy
 names_sorted [] h = tt
 names_sorted (e ∷ es) h = (names_above e.0 es h.0, names_sorted es h.1)
+
+pub list_of_items-items_of : (ds : List Data) → list_of_items (items_of ds) ≡ ds
+list_of_items-items_of [] = refl
+list_of_items-items_of (d ∷ ds) = ap (λ es. d ∷ es) (list_of_items-items_of ds)

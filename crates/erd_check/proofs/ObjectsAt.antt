@@ -18,7 +18,7 @@ use Rattle.erd_check.specs.Wants.{asked, class_of_object}
 use Rattle.erd_check.specs.declared.want.Want.TheVariants.{Member, Object}
 use Rattle.erd_check.specs.Faults.{has_not_one_entry, NoneOf, ShapeFault}
 use Rattle.erd_check.proofs.Entries.{array_from}
-use Rattle.erd_check.specs.Trees.{list_of_items}
+use Rattle.erd_check.specs.Values.{list_of_items}
 use Rattle.erd_check.proofs.TableKinds.{want_by_kind}
 
 -- an object of a class, asked for at a place of a report

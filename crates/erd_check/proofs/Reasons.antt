@@ -14,7 +14,7 @@ use Rattle.erd_tables.specs.declared.fault.Reason.TheVariants.{WrongKind, Missin
 use Rattle.erd_tables.specs.Faults.{reason_number, reason_cmp}
 use Rattle.erd_check.specs.Faults.{is_shape_fault, names_wanted, lacks}
 use Rattle.erd_check.specs.Wants.{scope_inside}
-use Rattle.erd_check.specs.Walk.{asked_with, missing, other_reasons, reasons}
+use Rattle.erd_check.specs.code.Walk.{asked_with, missing, other_reasons, reasons}
 use Rattle.erd_check.specs.declared.want.Want.{Want}
 use Rattle.erd_check.specs.declared.want.Scope.{Scope}
 use Rattle.erd_check.specs.declared.want.Scope.TheVariants as scope

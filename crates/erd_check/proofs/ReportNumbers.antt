@@ -13,7 +13,7 @@ use Rattle.erd_tables.specs.declared.place.Step.TheVariants.{Name, At}
 use Rattle.erd_check.specs.Faults.{wants_whole, NoneOf, ShapeFault}
 use Rattle.erd_check.specs.Numbers.{HasFittingNumbers, IsFittingNumber, ItemsHaveFittingNumbers, MembersHaveFittingNumbers}
 use Rattle.erd_check.specs.Trees.{is_same_json}
-use Rattle.erd_check.specs.Walk.{faults_at, faults_of, item_faults, member_faults, reasons, HasNumbersInRange, IsInOrder, ItemsHaveNumbersInRange, MembersHaveNumbersInRange}
+use Rattle.erd_check.specs.code.Walk.{faults_at, faults_of, item_faults, member_faults, reasons, HasNumbersInRange, IsInOrder, ItemsHaveNumbersInRange, MembersHaveNumbersInRange}
 use Rattle.erd_check.specs.Wants.{entry_want, is_compared_set, scope_inside, want_of_name}
 use Rattle.erd_check.specs.declared.want.Scope.{Scope}
 use Rattle.erd_check.specs.declared.want.Want.{Want}

@@ -17,7 +17,8 @@ use Rattle.erd_tables.specs.declared.fault.Fault.{Fault}
 use Rattle.erd_check.specs.Faults.{NoneOf, ShapeFault}
 use Rattle.erd_check.specs.Shapes.{IsShaped}
 use Rattle.erd_check.specs.Trees.{is_same_json, AreMembers, AreTrees, IsBeforeFirst, IsTree}
-use Rattle.erd_check.specs.Walk.{faults_at, faults_of, item_faults, member_faults, names, reasons, AreItemsInOrder, AreMembersInOrder, HasNumbersInRange, IsInOrder}
+use Rattle.erd_check.specs.code.Walk.{faults_at, faults_of, item_faults, member_faults, reasons, AreItemsInOrder, AreMembersInOrder, HasNumbersInRange, IsInOrder}
+use Rattle.erd_check.specs.Values.{names}
 use Rattle.erd_check.specs.Wants.{entry_want, is_compared_set, scope_inside, want_of_name}
 use Rattle.erd_check.specs.declared.want.Scope.{Scope}
 use Rattle.erd_check.specs.declared.want.Want.{Want}

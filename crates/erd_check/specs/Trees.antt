@@ -50,15 +50,6 @@ IsShallow t = depth t ≤ max_depth
 abbrev pub IsNoDeeper : Data → Data → Type 0
 IsNoDeeper t u = depth t ≤ depth u
 
--- the entries of an array, as a list
-abbrev pub list_of_items : Items → List Data
-list_of_items no_items = []
-list_of_items (item d ds) = d ∷ list_of_items ds
-
--- the entries of an array, and none of any other value
-abbrev pub entries_of : Data → List Data
-entries_of d = option_map_or list_of_items (as_array d) []
-
 -- ---- equality as JSON
 
 -- equal truth values

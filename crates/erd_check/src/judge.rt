@@ -2,13 +2,14 @@ ghost use Rattle.std.specs.Prelude.{◌≡◌, ◌++◌, map, not, IfOk, IsTrue}
 ghost use Rattle.std.specs.Option.{option_to_list};
 ghost use Rattle.serde_json.specs.Find.{is_float};
 ghost use Rattle.serde_json.specs.View.{view, number_view};
-ghost use Rattle.erd_check.specs.Faults.{has_kind, has_wanted_kind, names_wanted, is_not_whole, is_empty_array, has_not_one_entry, is_reference, lacks};
+ghost use Rattle.erd_check.specs.Faults.{has_kind, has_wanted_kind, names_wanted, is_not_whole, has_not_one_entry, is_reference, lacks};
 ghost use Rattle.erd_check.specs.Numbers.{IsFittingNumber, IsInRange};
-ghost use Rattle.erd_check.specs.Walk.{IsAskedInRange, other_reasons, missing, reasons, faults_of};
+ghost use Rattle.erd_check.specs.code.Walk.{IsAskedInRange, other_reasons, missing, reasons, faults_of};
 ghost use Rattle.erd_check.specs.Wants.{scope_inside};
-ghost use Rattle.erd_check.specs.Paths.{steps_of};
+ghost use Rattle.erd_check.specs.code.Paths.{steps_of};
 
 use crate::path::{Path, push_fault};
+use crate::values::is_empty_array;
 use crate::want::{Scope, Want};
 use erd_tables::{Fault, MemberKind, Reason, Text, class_in, required};
 use serde_json::{Number, Value};
@@ -48,7 +49,7 @@ fn is_reference_wanted(want: Want) -> bool
     matches!(want, Want::Reference(_))
 }
 
-/// Whether a value is of the JSON kind that is asked_with for.
+/// Whether a value is of the JSON kind that is asked for.
 fn fits(want: Want, value: &Value) -> bool
     ensures { result ≡ has_wanted_kind want (view value.now) }
 {
@@ -141,11 +142,11 @@ fn member_reason(kind: MemberKind, is_required: bool, value: &Value) -> Option<R
 {
     match kind {
         MemberKind::Whole if is_float(value) => Some(Reason::NotWhole),
-        MemberKind::Outside if !has_no_entry(value) => Some(Reason::OutsideProfile),
+        MemberKind::Outside if !is_empty_array(value) => Some(Reason::OutsideProfile),
         MemberKind::StrangeReference => Some(Reason::UnknownReference),
         MemberKind::StrangeIdentity => Some(Reason::CarriedIdentity),
         MemberKind::Elections if has_other_count(value) => Some(Reason::ElectionCount),
-        MemberKind::Many(_) | MemberKind::Languages if is_required && has_no_entry(value) => {
+        MemberKind::Many(_) | MemberKind::Languages if is_required && is_empty_array(value) => {
             Some(Reason::EmptyArray)
         }
         _ => None,
@@ -168,16 +169,6 @@ fn is_whole(number: &Number) -> bool
     ensures fits { IsTrue result → IsFittingNumber (number_view number.now) }
 {
     number.as_u64().is_some() || number.as_i64().is_some()
-}
-
-#[tactic(auto, using(crate::proofs::Lists::count_of_view))]
-fn has_no_entry(value: &Value) -> bool
-    ensures { result ≡ is_empty_array (view value.now) }
-{
-    match value.as_array() {
-        Some(items) => items.is_empty(),
-        None => false,
-    }
 }
 
 /// Whether a value is an array of no entry or of several.

@@ -7,6 +7,7 @@ mod judge;
 pub mod path;
 mod shape_faults;
 mod shaped;
+pub mod values;
 mod walk;
 pub mod want;
 

@@ -1,5 +1,5 @@
 ghost use Rattle.std.specs.Prelude.{◌≡◌, [], ◌∷◌, ◌++◌, IfOk};
-ghost use Rattle.erd_check.specs.Paths.{steps_of, fault_at};
+ghost use Rattle.erd_check.specs.code.Paths.{steps_of, fault_at};
 
 use erd_tables::{Fault, Place, Reason, Step, Text};
 use std::alloc::{AllocError, Global};

@@ -3,7 +3,7 @@ ghost use Rattle.serde_json.specs.View.{view};
 ghost use Rattle.erd_tables.specs.Faults.{ListsAll};
 ghost use Rattle.erd_check.specs.Faults.{ShapeFault};
 ghost use Rattle.erd_check.specs.Trees.{IsShallow};
-ghost use Rattle.erd_check.specs.Walk.{HasNumbersInRange, IsInOrder};
+ghost use Rattle.erd_check.specs.code.Walk.{HasNumbersInRange, IsInOrder};
 ghost use Rattle.erd_check.specs.declared.want.Want.TheVariants.{Object};
 ghost use Rattle.erd_tables.specs.declared.class.Role.TheVariants.{Report};
 

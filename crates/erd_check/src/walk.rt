@@ -2,8 +2,9 @@ ghost use Rattle.std.specs.Prelude.{◌≡◌, ◌++◌, [], IfOk};
 ghost use Rattle.std.specs.List.Sorted.{IsStrictlySortedBy};
 ghost use Rattle.serde_json.specs.View.{view, items_view, members_view};
 ghost use Rattle.erd_tables.specs.Texts.{text_cmp};
-ghost use Rattle.erd_check.specs.Paths.{steps_of};
-ghost use Rattle.erd_check.specs.Walk.{names, faults_at, item_faults, member_faults, IsInOrder, AreItemsInOrder, AreMembersInOrder, HasNumbersInRange, ItemsHaveNumbersInRange, MembersHaveNumbersInRange};
+ghost use Rattle.erd_check.specs.code.Paths.{steps_of};
+ghost use Rattle.erd_check.specs.code.Walk.{faults_at, item_faults, member_faults, IsInOrder, AreItemsInOrder, AreMembersInOrder, HasNumbersInRange, ItemsHaveNumbersInRange, MembersHaveNumbersInRange};
+ghost use Rattle.erd_check.specs.Values.{names};
 
 use crate::equality::is_among;
 use crate::judge::judge;

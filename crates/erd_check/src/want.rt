@@ -1,8 +1,9 @@
 ghost use Rattle.std.specs.Prelude.{◌≡◌};
 ghost use Rattle.serde_json.specs.View.{view};
-ghost use Rattle.erd_check.specs.Wants.{class_of_object, scope_inside, want_of_name, member_want, carried_want, entry_want, is_compared_set};
+ghost use Rattle.erd_check.specs.Wants.{scope_inside, want_of_name, member_want, carried_want, entry_want, is_compared_set};
 
-use erd_tables::class::{Class, Family, Role, class_in};
+use crate::values::class_of_object;
+use erd_tables::class::{Class, Family, Role};
 use erd_tables::member::{MemberKind, is_reference_form, is_required_member, member_kind};
 use serde_json::Value;
 
@@ -42,21 +43,13 @@ pub fn scope_of(want: Want, value: &Value) -> Scope
         return Scope::Nothing;
     }
     match want {
-        Want::Object(role) => Scope::Members(role, class_of_value(role, value)),
+        Want::Object(role) => Scope::Members(role, class_of_object(role, value)),
         Want::Member(MemberKind::Label, _) => {
-            Scope::Members(Role::Label, class_of_value(Role::Label, value))
+            Scope::Members(Role::Label, class_of_object(Role::Label, value))
         }
         Want::Carried => Scope::Carried,
         _ => Scope::Nothing,
     }
-}
-
-/// The class of an object, where its objects have the role.
-fn class_of_value(role: Role, value: &Value) -> Option<Class>
-    ensures { result ≡ class_of_object role (view value.now) }
-{
-    let text = value.get("@type")?.as_str()?;
-    class_in(role, text)
 }
 
 /// What is asked of the member of this name.

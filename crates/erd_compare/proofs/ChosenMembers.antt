@@ -13,8 +13,8 @@ use Rattle.erd_check.specs.Trees.{AreMembers, IsBeforeFirst, are_same_members}
 use Rattle.erd_check.proofs.Exact.{are_same_members_exact}
 use Rattle.erd_check.proofs.Members.{members_unique}
 use Rattle.erd_meaning.specs.Meaning.{JsonMap}
-use Rattle.erd_compare.specs.Choices.{takes_name, chosen_members, chosen_in, members_in}
-use Rattle.erd_compare.specs.Comparing.{Decides, IsWholeTree}
+use Rattle.erd_compare.specs.code.Choices.{takes_name, chosen_members, chosen_in, members_in}
+use Rattle.erd_compare.specs.code.Comparing.{Decides, IsWholeTree}
 use Rattle.erd_compare.specs.declared.choice.Choice.{Choice}
 use Rattle.erd_compare.proofs.WholeTrees.{members_themselves}
 

@@ -7,7 +7,7 @@ use Rattle.erd_meaning.proofs.EqualNames.{equal_names}
 use Rattle.erd_meaning.specs.NameParts.{NameParts}
 use Rattle.erd_meaning.specs.Orders.{name_cmp_total}
 use Rattle.erd_meaning.specs.SelectionNames.{name_cmp}
-use Rattle.erd_compare.specs.Comparing.{Decides}
+use Rattle.erd_compare.specs.code.Comparing.{Decides}
 
 -- names that are equal in their order are equal
 pub names_decide : (m n : NameParts) → Decides (eq_by_cmp name_cmp m n) m n

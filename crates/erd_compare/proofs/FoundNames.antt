@@ -20,8 +20,8 @@ use Rattle.erd_meaning.specs.NameParts.{NameParts}
 use Rattle.erd_meaning.specs.Records.{plain_member, selection_map, selection_record}
 use Rattle.erd_tables.specs.declared.class.Class.{Class}
 use Rattle.erd_meaning.specs.SelectionNames.{name_cmp, name_in_class, name_of, selection_role}
-use Rattle.erd_compare.specs.AgreeingSelections.{AgreeAtOption, is_named}
-use Rattle.erd_compare.specs.Comparing.{Decides}
+use Rattle.erd_compare.specs.code.AgreeingSelections.{AgreeAtOption, is_named}
+use Rattle.erd_compare.specs.code.Comparing.{Decides}
 
 -- ---- by place
 

@@ -12,7 +12,7 @@ use Rattle.erd_tables.specs.declared.member.MemberKind.{MemberKind}
 use Rattle.erd_tables.specs.declared.member.MemberKind.TheVariants as kind
 use Rattle.erd_check.proofs.Exact.{both_true}
 use Rattle.erd_meaning.specs.Keys.{has_keys}
-use Rattle.erd_compare.specs.Comparing.{NamesKeys}
+use Rattle.erd_compare.specs.code.Comparing.{NamesKeys}
 
 -- whether references of a kind, if there are any, name objects with keys
 abbrev names_keys : MemberKind → Bool

@@ -16,11 +16,10 @@ use Rattle.erd_check.proofs.ObjectsAt.{ObjectIn, object_in}
 use Rattle.erd_check.proofs.Order.{any_at}
 use Rattle.erd_check.proofs.Rising.{Has, Has-cases}
 use Rattle.erd_check.proofs.Shapes.{Within}
-use Rattle.erd_meaning.specs.Keys.{has_keys, key_cmp, key_of}
+use Rattle.erd_meaning.specs.Keys.{has_keys, key_cmp, key_of, kept_key}
 use Rattle.erd_meaning.specs.Lookups.{key_in}
 use Rattle.erd_meaning.specs.Meaning.{ObjectRecord}
 use Rattle.erd_meaning.specs.Objects.{Placed, objects}
-use Rattle.erd_meaning.specs.ObjectWalk.{kept_key}
 use Rattle.erd_meaning.specs.Orders.{key_cmp_total}
 use Rattle.erd_meaning.specs.Records.{member_of_class, object_record, object_with_key, records_of}
 use Rattle.erd_meaning.specs.declared.key.Key.{Key}
@@ -30,9 +29,9 @@ use Rattle.erd_meaning.proofs.Phases.{no_identity_fault, no_shape_fault}
 use Rattle.erd_meaning.proofs.References.{find-Some, find-any, option_map-Some}
 use Rattle.erd_meaning.proofs.Standing.{stands}
 use Rattle.erd_meaning.proofs.WholeMeanings.{has_key}
-use Rattle.erd_compare.specs.Comparing.{IsWholeTree}
+use Rattle.erd_compare.specs.code.Comparing.{IsWholeTree}
 use Rattle.erd_compare.specs.Differences.{Differ}
-use Rattle.erd_compare.specs.KeyedDifferences.{HasKey, IsComparable}
+use Rattle.erd_compare.specs.code.KeyedDifferences.{HasKey, IsComparable}
 use Rattle.erd_compare.specs.declared.difference.How.TheVariants.{OnlyLeft, OnlyRight}
 use Rattle.erd_compare.proofs.FamilyTrees.{whole_object}
 

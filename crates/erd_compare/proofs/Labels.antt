@@ -4,11 +4,11 @@ use Rattle.std.specs.Str.{bytes_eq}
 use Rattle.serde_json.specs.Data.{Data}
 use Rattle.serde_json.specs.Find.{get}
 use Rattle.erd_check.proofs.Exact.{both_true}
-use Rattle.erd_meaning.specs.Keys.{entries_at}
+use Rattle.erd_check.specs.Values.{entries_at}
 use Rattle.erd_meaning.specs.Meaning.{JsonMap, JsonSet, Label, translated, untranslated}
 use Rattle.erd_meaning.specs.Records.{beside_text, json_set}
-use Rattle.erd_compare.specs.Choices.{takes_name, translated_label}
-use Rattle.erd_compare.specs.Comparing.{Decides}
+use Rattle.erd_compare.specs.code.Choices.{takes_name, translated_label}
+use Rattle.erd_compare.specs.code.Comparing.{Decides}
 use Rattle.erd_compare.specs.declared.choice.Choice.TheVariants.{BesideText}
 use Rattle.erd_compare.proofs.JsonSets.{both_hold}
 

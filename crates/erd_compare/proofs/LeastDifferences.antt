@@ -5,16 +5,15 @@ use Rattle.std.specs.Ordering.{ordering_reverse}
 use Rattle.std.proofs.lemmas.Cmp.{tied_itself}
 use Rattle.serde_json.specs.Data.{Data}
 use Rattle.erd_tables.specs.declared.class.Family.{Family}
-use Rattle.erd_meaning.specs.Keys.{has_keys, key_cmp}
+use Rattle.erd_meaning.specs.Keys.{has_keys, key_cmp, kept_key}
 use Rattle.erd_meaning.specs.Lookups.{FindsKey, key_in}
 use Rattle.erd_meaning.specs.Meaning.{ObjectRecord}
 use Rattle.erd_meaning.specs.Objects.{Placed, objects}
-use Rattle.erd_meaning.specs.ObjectWalk.{kept_key}
 use Rattle.erd_meaning.specs.Orders.{key_cmp_exact, key_cmp_total}
 use Rattle.erd_meaning.specs.Records.{records_of}
 use Rattle.erd_meaning.specs.declared.key.Key.{Key}
 use Rattle.erd_compare.specs.Differences.{Differ}
-use Rattle.erd_compare.specs.KeyedDifferences.{DifferAmong, HasKey, HasKeyAlone, HasKeyAloneAmong, HasKeyAmong, IsAnyKey, IsComparable, TellsAmong, lesser_difference}
+use Rattle.erd_compare.specs.code.KeyedDifferences.{DifferAmong, HasKey, HasKeyAlone, HasKeyAloneAmong, HasKeyAmong, IsAnyKey, IsComparable, TellsAmong, lesser_difference}
 use Rattle.erd_compare.specs.declared.families.KeyedDifference.{KeyedDifference}
 use Rattle.erd_compare.proofs.KeyedRecords.{key_or_none, neither_record}
 

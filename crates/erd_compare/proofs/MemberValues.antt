@@ -2,15 +2,15 @@
 use Rattle.std.proofs.Common.{◌≡◌, List, ℕ, Bool, true, false, Option, Some, None, Result, Ok, Err, IfOk, option_map, refl, sym, ap, ◌∙◌, subst}
 use Rattle.serde_json.specs.Data.{Data, null, boolean, number, string, array, object, no_items, item}
 use Rattle.serde_json.specs.Find.{get}
-use Rattle.erd_check.specs.Trees.{entries_of}
+use Rattle.erd_check.specs.Values.{entries_of}
 use Rattle.erd_tables.specs.declared.class.Family.TheVariants as family
 use Rattle.erd_tables.specs.declared.member.MemberKind.{MemberKind}
 use Rattle.erd_tables.specs.declared.member.MemberKind.TheVariants as kind
 use Rattle.erd_meaning.specs.Meaning.{PlainValue, MemberValue, SelectionRecord, a_plain, a_selection_map}
 use Rattle.erd_meaning.specs.NameParts.{NameParts}
 use Rattle.erd_meaning.specs.Records.{member_value, selection_map, unless_empty}
-use Rattle.erd_compare.specs.Comparing.{Decides, IsWholeTree}
-use Rattle.erd_compare.specs.SelectionMembers.{if_filled, is_selections, selections_of}
+use Rattle.erd_compare.specs.code.Comparing.{Decides, IsWholeTree}
+use Rattle.erd_compare.specs.code.SelectionMembers.{if_filled, is_selections, selections_of}
 use Rattle.erd_compare.proofs.WholeTrees.{whole_tree-get}
 
 -- ---- selections

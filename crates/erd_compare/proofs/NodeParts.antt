@@ -9,8 +9,8 @@ use Rattle.erd_tables.specs.Texts.{text_cmp}
 use Rattle.erd_check.proofs.Members.{get_member-depth}
 use Rattle.erd_meaning.specs.Meaning.{Content, no_content}
 use Rattle.erd_meaning.specs.Records.{class_of_node, content_inside, content_of, contest_node, header_node, is_header_class, node_of}
-use Rattle.erd_compare.specs.Comparing.{Decides}
-use Rattle.erd_compare.specs.ContentParts.{content_within}
+use Rattle.erd_compare.specs.code.Comparing.{Decides}
+use Rattle.erd_compare.specs.code.ContentParts.{content_within}
 
 -- ---- what stands inside
 

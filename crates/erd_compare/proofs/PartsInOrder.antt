@@ -13,7 +13,7 @@ use Rattle.erd_meaning.specs.Records.{meaning, records_of}
 use Rattle.erd_meaning.specs.declared.key.Key.{Key}
 use Rattle.erd_meaning.proofs.OneObject.{which_first}
 use Rattle.erd_meaning.proofs.WholeMeanings.{same_meaning}
-use Rattle.erd_compare.specs.Comparing.{DifferAtPart}
+use Rattle.erd_compare.specs.code.Comparing.{DifferAtPart}
 use Rattle.erd_compare.specs.Differences.{Differ, IsFirstDifference, part_cmp, part_number, record_at}
 use Rattle.erd_compare.specs.declared.difference.Difference.{Difference}
 use Rattle.erd_compare.specs.declared.difference.Part.{Part}

@@ -11,10 +11,9 @@ use Rattle.erd_meaning.proofs.OneObject.{with_part}
 use Rattle.erd_meaning.proofs.References.{find-any, find-Some}
 use Rattle.erd_meaning.proofs.Sets.{any-has}
 use Rattle.erd_meaning.proofs.Standing.{has_id-from, has_id-Some}
-use Rattle.erd_meaning.specs.Keys.{has_keys, key_of}
+use Rattle.erd_meaning.specs.Keys.{has_keys, key_of, kept_key}
 use Rattle.erd_meaning.specs.Lookups.{FindsId, id_in, key_in}
 use Rattle.erd_meaning.specs.Objects.{Placed, has_id, id_of, objects, owner_at}
-use Rattle.erd_meaning.specs.ObjectWalk.{kept_key}
 use Rattle.erd_meaning.specs.SelectionNames.{key_named}
 
 -- ---- positions in lists

@@ -5,12 +5,12 @@ use Rattle.std.proofs.lemmas.Simd.{map-map}
 use Rattle.serde_json.specs.Data.{Data, array, Items, no_items, item}
 use Rattle.serde_json.specs.View.{view}
 use Rattle.serde_json.specs.declared.value.Value.{Value}
-use Rattle.erd_check.specs.Trees.{entries_of, list_of_items}
+use Rattle.erd_check.specs.Values.{entries_of, list_of_items}
 use Rattle.erd_meaning.specs.Meaning.{JsonMap, Content, no_content, first_node, Node, a_contest, a_header}
 use Rattle.erd_meaning.specs.NameParts.{NameParts}
 use Rattle.erd_meaning.specs.Records.{content_of, node_of, nodes_of}
 use Rattle.erd_meaning.specs.declared.key.Key.{Key}
-use Rattle.erd_compare.specs.Comparing.{Decides}
+use Rattle.erd_compare.specs.code.Comparing.{Decides}
 
 -- ---- content as a list of nodes
 

@@ -10,13 +10,13 @@ use Rattle.serde_json.specs.Data.{Data, null, boolean, number, string, array, ob
 use Rattle.serde_json.specs.Find.{get, get_member, as_object}
 use Rattle.serde_json.specs.View.{members_view}
 use Rattle.serde_json.proofs.Views.{Entry}
-use Rattle.erd_check.specs.Walk.{names}
+use Rattle.erd_check.specs.Values.{names}
 use Rattle.erd_tables.specs.declared.class.Class.{Class}
 use Rattle.erd_meaning.proofs.WholeRecords.{absent_plain}
 use Rattle.erd_meaning.specs.Meaning.{PlainValue}
 use Rattle.erd_meaning.specs.Records.{plain_member}
-use Rattle.erd_compare.specs.AgreeingSelections.{AgreeAtNames}
-use Rattle.erd_compare.specs.Comparing.{Decides}
+use Rattle.erd_compare.specs.code.AgreeingSelections.{AgreeAtNames}
+use Rattle.erd_compare.specs.code.Comparing.{Decides}
 
 -- ---- names
 

@@ -8,12 +8,12 @@ use Rattle.serde_json.specs.Find.{get, is_float}
 use Rattle.serde_json.specs.View.{view}
 use Rattle.serde_json.specs.Written.{has_float, items_have_float, members_have_float}
 use Rattle.serde_json.specs.declared.value.Value.{Value}
-use Rattle.erd_check.specs.Trees.{IsTree, AreTrees, entries_of, list_of_items, is_same_json, are_same_items, are_same_members, same_flag, same_number}
+use Rattle.erd_check.specs.Trees.{IsTree, AreTrees, is_same_json, are_same_items, are_same_members, same_flag, same_number}
+use Rattle.erd_check.specs.Values.{entries_of, list_of_items, entries_at}
 use Rattle.erd_check.proofs.Exact.{is_same_exact, text_itself}
 use Rattle.erd_check.proofs.Members.{get_member-tree}
-use Rattle.erd_meaning.specs.Keys.{entries_at}
 use Rattle.erd_meaning.proofs.WholeParts.{whole_get}
-use Rattle.erd_compare.specs.Comparing.{Decides, IsWholeTree}
+use Rattle.erd_compare.specs.code.Comparing.{Decides, IsWholeTree}
 
 -- values that are whole trees
 abbrev pub AreWholeTrees : List Data → Type 0

@@ -1,6 +1,6 @@
 ghost use Rattle.serde_json.specs.View.{view};
 ghost use Rattle.erd_meaning.specs.Records.{carried_members};
-ghost use Rattle.erd_compare.specs.Comparing.{Decides, IsWholeTree};
+ghost use Rattle.erd_compare.specs.code.Comparing.{Decides, IsWholeTree};
 
 use crate::choice::{Choice, is_same_choice};
 use erd_tables::Class;

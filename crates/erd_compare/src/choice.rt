@@ -2,7 +2,7 @@ ghost use Rattle.std.specs.Prelude.{◌≡◌, MatchOption, string_bytes};
 ghost use Rattle.serde_json.specs.Data.{member, no_members};
 ghost use Rattle.serde_json.specs.View.{view, members_view};
 ghost use Rattle.erd_check.specs.Trees.{are_same_members};
-ghost use Rattle.erd_compare.specs.Choices.{takes_name, chosen_in, chosen_members};
+ghost use Rattle.erd_compare.specs.code.Choices.{takes_name, chosen_in, chosen_members};
 
 use erd_check::same_json;
 use erd_tables::{Class, MemberKind, member_kind};

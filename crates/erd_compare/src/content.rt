@@ -3,18 +3,19 @@ ghost use Rattle.std.specs.List.{AllByRecursion};
 ghost use Rattle.std.specs.Option.{option_copied};
 ghost use Rattle.serde_json.specs.Find.{as_str};
 ghost use Rattle.serde_json.specs.View.{view};
-ghost use Rattle.erd_meaning.specs.Keys.{has_keys, text_at};
+ghost use Rattle.erd_meaning.specs.Keys.{has_keys};
+ghost use Rattle.erd_check.specs.Values.{text_at};
 ghost use Rattle.erd_meaning.specs.Meaning.{no_content};
 ghost use Rattle.erd_meaning.specs.Records.{carried_members, content_of, node_of, contest_node, header_node, class_of_node, is_header_class};
 ghost use Rattle.erd_meaning.specs.SelectionNames.{key_named, name_named};
-ghost use Rattle.erd_compare.specs.Comparing.{Decides, IsWholeTree};
-ghost use Rattle.erd_compare.specs.ContentParts.{content_within};
+ghost use Rattle.erd_compare.specs.code.Comparing.{Decides, IsWholeTree};
+ghost use Rattle.erd_compare.specs.code.ContentParts.{content_within};
 
+use erd_check::values::{class_of_object, entries_at, entries_of, text_at};
 use crate::carried::is_same_carried;
-use crate::members::{entries, entries_of};
 use crate::references::{is_same_family, name_named};
 use erd_meaning::{Key, Report};
-use erd_tables::{Class, Family, Role, class_in};
+use erd_tables::{Class, Family, Role};
 use serde_json::Value;
 
 /// Whether two lists of contests and headers are in one order, at every depth of headers.
@@ -109,7 +110,7 @@ fn is_same_contest(left: &Report, right: &Report, one: &Value, other: &Value) ->
     let name = "OrderedContestSelectionIds";
     is_same_owner(left, right, Family::Contest, "ContestId", one, other)
         && is_same_rest(one, other)
-        && are_same_names(left, right, entries(one, name), entries(other, name))
+        && are_same_names(left, right, entries_at(one, name), entries_at(other, name))
 }
 
 /// Whether two nodes of a ballot's order carry the same members.
@@ -160,7 +161,7 @@ fn is_same_owner(
     ensures { Decides result (key_named (view left.now) family (text_at name.now (view one.now)))
         (key_named (view right.now) family (text_at name.now (view other.now))) }
 {
-    key_with_id(left, family, text(one, name)) == key_with_id(right, family, text(other, name))
+    key_with_id(left, family, text_at(one, name)) == key_with_id(right, family, text_at(other, name))
 }
 
 /// The key of the object of a family with the `@id`.
@@ -187,13 +188,6 @@ fn is_header(node: &Value) -> bool
 fn class_of_node(node: &Value) -> Option<Class>
     ensures { result ≡ class_of_node (view node.now) }
 {
-    let text = node.get("@type")?.as_str()?;
-    class_in(Role::Content, text)
+    class_of_object(Role::Content, node)
 }
 
-/// The text of a member, or the empty text.
-fn text<'a>(value: &'a Value, name: &str) -> &'a str
-    ensures { result.now ≡ text_at name.now (view value.now) }
-{
-    value.get(name).and_then(Value::as_str).unwrap_or("")
-}

@@ -3,8 +3,8 @@ ghost use Rattle.serde_json.specs.View.{view};
 ghost use Rattle.erd_meaning.specs.Keys.{has_keys};
 ghost use Rattle.erd_meaning.specs.Lookups.{key_in};
 ghost use Rattle.erd_meaning.specs.Records.{meaning, object_record, object_with_key, records_of};
-ghost use Rattle.erd_compare.specs.Comparing.{IsWholeTree, TellsHow, TellsPart};
-ghost use Rattle.erd_compare.specs.KeyedDifferences.{family_of_part, HasKey, HasKeyAlone, IsAnyKey, IsComparable, lesser_difference, TellsAmong, TellsKeyed, TellsWhole};
+ghost use Rattle.erd_compare.specs.code.Comparing.{IsWholeTree, TellsHow, TellsPart};
+ghost use Rattle.erd_compare.specs.code.KeyedDifferences.{family_of_part, HasKey, HasKeyAlone, IsAnyKey, IsComparable, lesser_difference, TellsAmong, TellsKeyed, TellsWhole};
 
 use crate::difference::{Difference, How, Part};
 use crate::record::object_difference;

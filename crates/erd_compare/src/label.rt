@@ -1,12 +1,10 @@
-ghost use Rattle.std.specs.Prelude.{◌≡◌, [], unwrap_or};
-ghost use Rattle.serde_json.specs.Find.{as_str};
 ghost use Rattle.serde_json.specs.View.{view};
 ghost use Rattle.erd_meaning.specs.Records.{label_of};
-ghost use Rattle.erd_compare.specs.Choices.{translated_label};
-ghost use Rattle.erd_compare.specs.Comparing.{Decides, IsWholeTree};
+ghost use Rattle.erd_compare.specs.code.Choices.{translated_label};
+ghost use Rattle.erd_compare.specs.code.Comparing.{Decides, IsWholeTree};
 
+use erd_check::values::{entries_at, text_of};
 use crate::choice::{Choice, is_same_choice};
-use crate::members::entries;
 use crate::sets::is_same_set;
 use serde_json::Value;
 
@@ -32,12 +30,6 @@ fn is_same_translated(one: &Value, other: &Value) -> bool
     ensures { Decides result (translated_label (view one.now)) (translated_label (view other.now)) }
 {
     is_same_choice(Choice::BesideText, one, Choice::BesideText, other)
-        && is_same_set(entries(one, "Text"), entries(other, "Text"))
+        && is_same_set(entries_at(one, "Text"), entries_at(other, "Text"))
 }
 
-/// The text of a label that is one, or the empty text.
-fn text_of(label: &Value) -> &str
-    ensures { result.now ≡ unwrap_or (as_str (view label.now)) [] }
-{
-    label.as_str().unwrap_or("")
-}

@@ -10,7 +10,6 @@ mod first;
 mod label;
 mod line;
 mod member;
-mod members;
 mod plain;
 mod record;
 mod references;

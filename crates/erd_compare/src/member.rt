@@ -1,12 +1,11 @@
 ghost use Rattle.std.specs.Prelude.{◌≡◌, option_map, IfOk};
 ghost use Rattle.serde_json.specs.Find.{get};
 ghost use Rattle.serde_json.specs.View.{view};
-ghost use Rattle.erd_check.specs.Faults.{is_empty_array};
 ghost use Rattle.erd_meaning.specs.Records.{member_of_class};
-ghost use Rattle.erd_compare.specs.Comparing.{Decides, IsWholeTree};
-ghost use Rattle.erd_compare.specs.SelectionMembers.{if_filled, is_selections, selections_of};
+ghost use Rattle.erd_compare.specs.code.Comparing.{Decides, IsWholeTree};
+ghost use Rattle.erd_compare.specs.code.SelectionMembers.{if_filled, is_selections, selections_of};
 
-use crate::members::entries_of;
+use erd_check::values::{entries_of, is_empty_array};
 use crate::plain::is_same_plain_member;
 use crate::selections::is_same_selection_map;
 use erd_meaning::Report;
@@ -77,13 +76,3 @@ fn filled<'a>(value: &'a Value, name: &str) -> Option<&'a Value>
     }
 }
 
-/// Whether a value is an array of no entries.
-#[tactic(auto, using(erd_check::proofs::Lists::count_of_view))]
-fn is_empty_array(value: &Value) -> bool
-    ensures { result ≡ is_empty_array (view value.now) }
-{
-    match value.as_array() {
-        Some(items) => items.is_empty(),
-        None => false,
-    }
-}

@@ -1,14 +1,13 @@
 ghost use Rattle.std.specs.Prelude.{◌≡◌};
 ghost use Rattle.serde_json.specs.View.{view};
-ghost use Rattle.erd_check.specs.Faults.{is_empty_array};
-ghost use Rattle.erd_check.specs.Trees.{entries_of};
+ghost use Rattle.erd_check.specs.Values.{entries_of};
 ghost use Rattle.erd_meaning.specs.Records.{is_in_envelope, json_set, plain_member, plain_value};
-ghost use Rattle.erd_compare.specs.Comparing.{Decides, IsWholeTree, NamesKeys};
-ghost use Rattle.erd_compare.specs.PlainParts.{means_nothing, meant_value};
+ghost use Rattle.erd_compare.specs.code.Comparing.{Decides, IsWholeTree, NamesKeys};
+ghost use Rattle.erd_compare.specs.code.PlainParts.{means_nothing, meant_value};
 
+use erd_check::values::{entries_of, is_empty_array};
 use crate::content::is_same_content;
 use crate::label::is_same_label;
-use crate::members::entries_of;
 use crate::references::{is_same_key_set, is_same_reference};
 use crate::sets::{is_same_set, is_same_value};
 use erd_meaning::Report;
@@ -85,17 +84,6 @@ fn means_nothing(kind: MemberKind, value: &Value) -> bool
         | MemberKind::Languages
         | MemberKind::Content => is_empty_array(value),
         _ => true,
-    }
-}
-
-/// Whether a value is an array of no entries.
-#[tactic(auto, using(erd_check::proofs::Lists::count_of_view))]
-fn is_empty_array(value: &Value) -> bool
-    ensures { result ≡ is_empty_array (view value.now) }
-{
-    match value.as_array() {
-        Some(items) => items.is_empty(),
-        None => false,
     }
 }
 

@@ -1,14 +1,14 @@
 ghost use Rattle.std.specs.Prelude.{◌≡◌, option_map, IfOk, Some};
 ghost use Rattle.serde_json.specs.View.{view};
-ghost use Rattle.erd_check.specs.Wants.{class_of_object};
 ghost use Rattle.erd_meaning.specs.Records.{member_of_class, object_record};
-ghost use Rattle.erd_compare.specs.Comparing.{IsWholeTree, TellsHow};
-ghost use Rattle.erd_compare.specs.LeastNames.{TellsAmong, lesser_name, record_of_class};
+ghost use Rattle.erd_compare.specs.code.Comparing.{IsWholeTree, TellsHow};
+ghost use Rattle.erd_compare.specs.code.LeastNames.{TellsAmong, lesser_name, record_of_class};
 
+use erd_check::values::class_of_object;
 use crate::difference::How;
 use crate::member::is_same_member;
 use erd_meaning::Report;
-use erd_tables::{Class, Role, Text, class_in};
+use erd_tables::{Class, Role, Text};
 use serde_json::Value;
 use std::alloc::{AllocError, Global};
 
@@ -25,7 +25,7 @@ pub(crate) fn object_difference(
     requires other { IsWholeTree (view other.now) }
     ensures { IfOk result (TellsHow (object_record (view left.now) role (view one.now)) (object_record (view right.now) role (view other.now))) }
 {
-    match (class_of_value(role, one), class_of_value(role, other)) {
+    match (class_of_object(role, one), class_of_object(role, other)) {
         (None, None) => Ok(None),
         (Some(_), None) => Ok(Some(How::OnlyLeft)),
         (None, Some(_)) => Ok(Some(How::OnlyRight)),
@@ -37,14 +37,6 @@ pub(crate) fn object_difference(
             }
         }
     }
-}
-
-/// The class of an object, where its objects have the role.
-fn class_of_value(role: Role, value: &Value) -> Option<Class>
-    ensures { result ≡ class_of_object role (view value.now) }
-{
-    let text = value.get("@type")?.as_str()?;
-    class_in(role, text)
 }
 
 /// How two objects of one class differ: the least name of a member that differs.

@@ -8,7 +8,7 @@ ghost use Rattle.erd_tables.specs.Classes.{family_number};
 ghost use Rattle.erd_meaning.specs.Lookups.{selection_in};
 ghost use Rattle.erd_meaning.specs.Records.{key_set};
 ghost use Rattle.erd_meaning.specs.SelectionNames.{key_named, keys_named, name_named};
-ghost use Rattle.erd_compare.specs.Comparing.{Decides};
+ghost use Rattle.erd_compare.specs.code.Comparing.{Decides};
 
 use erd_meaning::{Key, Report, SelectionName};
 use erd_tables::Family;

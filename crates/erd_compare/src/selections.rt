@@ -4,15 +4,15 @@ ghost use Rattle.std.specs.Option.{option_cmp};
 ghost use Rattle.std.specs.Ordering.{is_eq};
 ghost use Rattle.serde_json.specs.Find.{as_object};
 ghost use Rattle.serde_json.specs.View.{view};
-ghost use Rattle.erd_check.specs.Wants.{class_of_object};
 ghost use Rattle.erd_meaning.specs.Records.{plain_member, selection_map, selection_record};
-ghost use Rattle.erd_meaning.specs.SelectionNames.{name_cmp, name_of, selection_role};
-ghost use Rattle.erd_compare.specs.Comparing.{Decides, IsWholeTree};
-ghost use Rattle.erd_compare.specs.AgreeingSelections.{AgreeAtNames, AgreeAtOption, is_named};
+ghost use Rattle.erd_meaning.specs.SelectionNames.{name_cmp, name_of};
+ghost use Rattle.erd_compare.specs.code.Comparing.{Decides, IsWholeTree};
+ghost use Rattle.erd_compare.specs.code.AgreeingSelections.{AgreeAtNames, AgreeAtOption, is_named};
 
+use erd_check::values::class_of_object;
 use crate::plain::is_same_plain_member;
 use erd_meaning::{Report, SelectionName};
-use erd_tables::{Class, Family, Role, class_in};
+use erd_tables::{Class, Family, Role};
 use serde_json::Value;
 use std::alloc::{AllocError, Global};
 
@@ -22,21 +22,14 @@ pub(crate) fn is_same_selection(left: &Report, right: &Report, one: &Value, othe
     requires other { IsWholeTree (view other.now) }
     ensures { Decides result (selection_record (view left.now) (view one.now)) (selection_record (view right.now) (view other.now)) }
 {
-    match (class_of_selection(one), class_of_selection(other)) {
+    let role = Role::OfFamily(Family::Selection);
+    match (class_of_object(role, one), class_of_object(role, other)) {
         (Some(class), Some(other_class)) => {
             class == other_class && are_same_members(left, right, class, one, other)
         }
         (None, None) => true,
         _ => false,
     }
-}
-
-/// The class of a selection, if it is a class of selection.
-fn class_of_selection(selection: &Value) -> Option<Class>
-    ensures { result ≡ class_of_object selection_role (view selection.now) }
-{
-    let text = selection.get("@type")?.as_str()?;
-    class_in(Role::OfFamily(Family::Selection), text)
 }
 
 /// Whether two selections of one class mean the same by their members.

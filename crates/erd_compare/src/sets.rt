@@ -2,7 +2,7 @@ ghost use Rattle.std.specs.Prelude.{◌≡◌, map};
 ghost use Rattle.std.specs.List.{AllByRecursion, list_all};
 ghost use Rattle.serde_json.specs.View.{view};
 ghost use Rattle.erd_meaning.specs.Records.{json_set};
-ghost use Rattle.erd_compare.specs.Comparing.{Decides, IsWholeTree};
+ghost use Rattle.erd_compare.specs.code.Comparing.{Decides, IsWholeTree};
 
 use erd_check::{is_among, same_json};
 use serde_json::Value;

@@ -8,11 +8,12 @@ use Rattle.erd_tables.specs.declared.class.Class.TheVariants as class
 use Rattle.erd_tables.specs.declared.class.Family.{Family}
 use Rattle.erd_tables.specs.declared.class.Family.TheVariants as family
 use Rattle.erd_check.specs.Wants.{class_of_object}
-use Rattle.erd_meaning.specs.Keys.{entries_at, has_keys, key_cmp, key_of}
+use Rattle.erd_meaning.specs.Keys.{has_keys, key_cmp, key_of, kept_key}
+use Rattle.erd_check.specs.Values.{entries_at}
 use Rattle.erd_meaning.specs.Lookups.{is_of_family, is_named}
-use Rattle.erd_meaning.specs.NamesAmong.{class_name_among, key_among, keys_among, name_among, selection_keys_among}
+use Rattle.erd_meaning.specs.code.NamesAmong.{class_name_among, key_among, keys_among, name_among, selection_keys_among}
 use Rattle.erd_meaning.specs.Objects.{Placed, has_id, id_of, objects}
-use Rattle.erd_meaning.specs.ObjectWalk.{Kept, kept, kept_key, kept_objects}
+use Rattle.erd_meaning.specs.code.ObjectWalk.{Kept, kept, kept_objects}
 use Rattle.erd_meaning.specs.SelectionNames.{is_write_in, key_named, keys_named, keys_of_selection, label_of_selection, name_in_class, name_of, order_of_selection, rising_list, selection_role}
 use Rattle.erd_meaning.proofs.Lookups.{kept_of, those_kept}
 use Rattle.erd_meaning.proofs.ReferenceLookups.{find_both, named_same}

@@ -12,9 +12,9 @@ use Rattle.erd_tables.specs.Classes.{family_number}
 use Rattle.erd_check.proofs.Order.{In, In-filter, In-map_from}
 use Rattle.erd_check.proofs.Reasons.{and_true, both_true}
 use Rattle.erd_meaning.specs.Lookups.{FindsId, FindsKey, id_in, is_keyed, is_named, is_of_family, key_in, those_of}
-use Rattle.erd_meaning.specs.ObjectWalk.{Kept, same_id, same_key}
-use Rattle.erd_meaning.specs.Resolved.{IsResolved}
-use Rattle.erd_meaning.specs.Shown.{shown}
+use Rattle.erd_meaning.specs.code.ObjectWalk.{Kept, same_id, same_key}
+use Rattle.erd_meaning.specs.code.Resolved.{IsResolved}
+use Rattle.erd_meaning.specs.code.Shown.{shown}
 use Rattle.erd_meaning.specs.declared.key.Key.{Key}
 use Rattle.erd_meaning.specs.declared.named_selection.NamedSelection.{NamedSelection}
 use Rattle.erd_meaning.specs.declared.object.Object.{Object}

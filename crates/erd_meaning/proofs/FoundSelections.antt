@@ -7,9 +7,9 @@ use Rattle.serde_json.specs.declared.value.Value.{Value}
 use Rattle.erd_check.proofs.Order.{In-map_from}
 use Rattle.erd_meaning.specs.Lookups.{FindsSelection, selection_in}
 use Rattle.erd_meaning.specs.NameParts.{NameParts}
-use Rattle.erd_meaning.specs.Resolved.{IsResolved}
-use Rattle.erd_meaning.specs.SelectionWalk.{NumberedName, is_selection_named}
-use Rattle.erd_meaning.specs.Shown.{name_shown}
+use Rattle.erd_meaning.specs.code.Resolved.{IsResolved}
+use Rattle.erd_meaning.specs.code.SelectionWalk.{NumberedName, is_selection_named}
+use Rattle.erd_meaning.specs.code.Shown.{name_shown}
 use Rattle.erd_meaning.specs.declared.named_selection.NamedSelection.{NamedSelection}
 use Rattle.erd_meaning.specs.declared.object.Object.{Object}
 use Rattle.erd_meaning.proofs.NamesTold.{is_named_from, is_named_itself}

@@ -12,12 +12,12 @@ use Rattle.erd_tables.specs.declared.fault.Fault.{Fault}
 use Rattle.erd_tables.specs.declared.fault.Reason.{Reason}
 use Rattle.erd_tables.specs.declared.fault.Reason.TheVariants.{NoIdentifier, TwinIdentifier, DuplicateId}
 use Rattle.erd_tables.specs.declared.place.Step.{Step}
-use Rattle.erd_check.specs.Paths.{fault_at}
+use Rattle.erd_check.specs.code.Paths.{fault_at}
 use Rattle.erd_check.proofs.Order.{In, In-append, In-append_left, In-append_right, In-map, In-map_from, In-filter, In-filter_kept, In-from_contains, contains_from_In, any_at}
 use Rattle.erd_check.proofs.Reasons.{and_true, both_true}
-use Rattle.erd_meaning.specs.Keys.{has_keys, key_of}
+use Rattle.erd_meaning.specs.Keys.{has_keys, key_of, kept_key}
 use Rattle.erd_meaning.specs.LaterFaults.{IdentityFault, LacksIdentifier, RepeatsId, RepeatsKey}
-use Rattle.erd_meaning.specs.ObjectWalk.{Kept, Located, all_located, fault_if, faults_after, has_same_id, has_same_key, kept, kept_key, located_one, same_id, same_key}
+use Rattle.erd_meaning.specs.code.ObjectWalk.{Kept, Located, all_located, fault_if, faults_after, has_same_id, has_same_key, kept, located_one, same_id, same_key}
 use Rattle.erd_meaning.specs.Objects.{Placed, id_of, objects}
 use Rattle.erd_meaning.specs.declared.key.Key.{Key}
 use Rattle.erd_meaning.proofs.ObjectFamilies.{family_exact, is_of, itself, objects_met}

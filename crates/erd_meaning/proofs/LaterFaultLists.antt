@@ -18,7 +18,7 @@ use Rattle.erd_tables.specs.declared.fault.Reason.TheVariants.{Repeated, NoIdent
 use Rattle.erd_tables.specs.declared.place.Step.{Step}
 use Rattle.erd_tables.specs.declared.place.Step.TheVariants.{Name, At}
 use Rattle.erd_check.specs.Faults.{NoneOf}
-use Rattle.erd_check.specs.Paths.{fault_at}
+use Rattle.erd_check.specs.code.Paths.{fault_at}
 use Rattle.erd_check.specs.Wants.{Asked, asked_at}
 use Rattle.erd_check.proofs.AllAsked.{AskedPlace, all_asked, all_asked_complete}
 use Rattle.erd_check.proofs.Order.{In, In-append_left, In-append_right, In-map, In-filter_kept, In-flat_map, In-from_contains, any_at}

@@ -15,7 +15,6 @@ pub mod RefusedLists
 pub mod AcceptedExamples
 mod RefusedExamples
 pub mod WholeRecords
-pub mod Lists
 pub mod MetObjects
 pub mod ObjectPlaces
 pub mod ObjectFamilies

@@ -8,9 +8,9 @@ use Rattle.serde_json.specs.Data.{Data}
 use Rattle.erd_tables.specs.declared.class.Family.{Family}
 use Rattle.erd_meaning.specs.Lookups.{is_of_family, those_of}
 use Rattle.erd_meaning.specs.Objects.{Placed, objects}
-use Rattle.erd_meaning.specs.ObjectWalk.{Kept, Located, all_located, kept, kept_objects, located}
-use Rattle.erd_meaning.specs.Resolved.{IsResolved}
-use Rattle.erd_meaning.specs.Shown.{shown}
+use Rattle.erd_meaning.specs.code.ObjectWalk.{Kept, Located, all_located, kept, kept_objects, located}
+use Rattle.erd_meaning.specs.code.Resolved.{IsResolved}
+use Rattle.erd_meaning.specs.code.Shown.{shown}
 use Rattle.erd_meaning.specs.declared.named_selection.NamedSelection.{NamedSelection}
 use Rattle.erd_meaning.specs.declared.object.Object.{Object}
 use Rattle.erd_meaning.proofs.ObjectFamilies.{is_of, objects_met, pick}

@@ -8,7 +8,7 @@ use Rattle.erd_tables.specs.declared.place.Step.{Step}
 use Rattle.erd_tables.specs.declared.place.Step.TheVariants.{At}
 use Rattle.erd_tables.specs.declared.class.Family.TheVariants.{Contest, Selection}
 use Rattle.erd_meaning.specs.Objects.{Placed, placed_from, selections_of}
-use Rattle.erd_meaning.specs.ObjectWalk.{Located, Met, located, located_one, contest_located, met_one, met_all}
+use Rattle.erd_meaning.specs.code.ObjectWalk.{Located, Met, located, located_one, contest_located, met_one, met_all}
 
 pub met_all_append : (m : Met) (xs ys : List Located) → met_all m (xs ++ ys) ≡ met_all (met_all m xs) ys
 met_all_append m [] ys = refl

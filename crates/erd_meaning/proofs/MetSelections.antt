@@ -8,10 +8,10 @@ use Rattle.serde_json.specs.declared.value.Value.{Value}
 use Rattle.erd_tables.specs.declared.place.Step.{Step}
 use Rattle.erd_tables.specs.declared.place.Step.TheVariants.{At, Name}
 use Rattle.erd_check.specs.Faults.{NoneOf, ShapeFault}
-use Rattle.erd_meaning.specs.Keys.{entries_at}
+use Rattle.erd_check.specs.Values.{entries_at}
 use Rattle.erd_meaning.specs.NameParts.{NameParts}
 use Rattle.erd_meaning.specs.Objects.{Placed, contests, elections, numbered_selections, numbered_selections_of, placed_entries, placed_from}
-use Rattle.erd_meaning.specs.SelectionWalk.{NamesMet, named_all, named_one}
+use Rattle.erd_meaning.specs.code.SelectionWalk.{NamesMet, named_all, named_one}
 use Rattle.erd_meaning.proofs.Skeleton.{one_election}
 
 pub named_all_append : (name : Data → Option NameParts) (m : NamesMet) (xs ys : List (ℕ × Placed)) → named_all name m (xs ++ ys) ≡ named_all name (named_all name m xs) ys

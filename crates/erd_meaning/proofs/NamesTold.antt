@@ -10,15 +10,15 @@ use Rattle.erd_tables.specs.Faults.{fault_cmp}
 use Rattle.erd_tables.specs.Places.{place_cmp}
 use Rattle.erd_tables.specs.declared.fault.Fault.{Fault}
 use Rattle.erd_tables.specs.declared.fault.Reason.TheVariants.{TwinSelection}
-use Rattle.erd_check.specs.Paths.{fault_at}
+use Rattle.erd_check.specs.code.Paths.{fault_at}
 use Rattle.erd_check.proofs.Order.{In, In-append, In-append_left, In-append_right, In-all, any_at, sorted_append}
 use Rattle.erd_check.proofs.Reasons.{and_true, both_true}
 use Rattle.erd_meaning.specs.NameParts.{NameParts}
 use Rattle.erd_meaning.specs.Objects.{Placed}
-use Rattle.erd_meaning.specs.ObjectWalk.{fault_if}
+use Rattle.erd_meaning.specs.code.ObjectWalk.{fault_if}
 use Rattle.erd_meaning.specs.Orders.{name_cmp_exact, name_cmp_total}
 use Rattle.erd_meaning.specs.SelectionNames.{name_cmp}
-use Rattle.erd_meaning.specs.SelectionWalk.{NamesMet, NumberedName, is_selection_named, is_taken, named_all, named_one, with_name}
+use Rattle.erd_meaning.specs.code.SelectionWalk.{NamesMet, NumberedName, is_selection_named, is_taken, named_all, named_one, with_name}
 use Rattle.erd_meaning.proofs.IdentityFaults.{any_from, at_true, tied_from}
 use Rattle.erd_meaning.proofs.ObjectFamilies.{itself}
 use Rattle.erd_meaning.proofs.ToldFaults.{if_sorted, in_if, less_itself, turned}

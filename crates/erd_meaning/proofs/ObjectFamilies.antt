@@ -7,7 +7,7 @@ use Rattle.serde_json.specs.Data.{Data}
 use Rattle.erd_tables.specs.Classes.{families, family_number}
 use Rattle.erd_tables.specs.declared.class.Family.{Family}
 use Rattle.erd_tables.specs.declared.class.Family.TheVariants as family
-use Rattle.erd_meaning.specs.ObjectWalk.{Located, located, located_one, contest_located, election_located, shared_located, all_located}
+use Rattle.erd_meaning.specs.code.ObjectWalk.{Located, located, located_one, contest_located, election_located, shared_located, all_located}
 use Rattle.erd_meaning.specs.Objects.{Placed, elections, objects, placed_entries, report_of, selections_of}
 
 -- an object is of the family

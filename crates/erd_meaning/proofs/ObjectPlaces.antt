@@ -11,7 +11,7 @@ use Rattle.erd_tables.specs.declared.place.Step.{Step}
 use Rattle.erd_tables.specs.declared.place.Step.TheVariants.{Name, At}
 use Rattle.erd_tables.proofs.PlaceOrder.{steps_less}
 use Rattle.erd_check.proofs.Order.{In, In-append, Below, sorted_append}
-use Rattle.erd_meaning.specs.ObjectWalk.{Located, located, located_one, contest_located, election_located, shared_located, all_located}
+use Rattle.erd_meaning.specs.code.ObjectWalk.{Located, located, located_one, contest_located, election_located, shared_located, all_located}
 use Rattle.erd_meaning.specs.Objects.{Placed, placed_from, placed_entries, elections, selections_of, report_of}
 
 abbrev pub id_place : List Step → List Step

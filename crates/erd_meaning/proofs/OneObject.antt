@@ -13,7 +13,8 @@ use Rattle.erd_check.proofs.Order.{In, In-all, contains_from_In, sorted_filter}
 use Rattle.erd_meaning.specs.LaterFaults.{IdentityFault}
 use Rattle.erd_meaning.specs.Lookups.{id_in, key_in}
 use Rattle.erd_meaning.specs.Objects.{Placed, id_of, objects}
-use Rattle.erd_meaning.specs.ObjectWalk.{Located, all_located, kept_key, located, located_one}
+use Rattle.erd_meaning.specs.code.ObjectWalk.{Located, all_located, located, located_one}
+use Rattle.erd_meaning.specs.Keys.{kept_key}
 use Rattle.erd_meaning.specs.declared.key.Key.{Key}
 use Rattle.erd_meaning.proofs.IdentityFaults.{is_met, kept_keyed}
 use Rattle.erd_meaning.proofs.ObjectFamilies.{is_of, objects_met}

@@ -16,7 +16,7 @@ use Rattle.erd_tables.specs.declared.member.MemberKind.TheVariants as kind
 use Rattle.erd_tables.specs.declared.place.Step.{Step}
 use Rattle.erd_tables.specs.declared.place.Step.TheVariants.{Name, At}
 use Rattle.erd_check.proofs.Reports.{tree_of, small_ballot, small_ballot_canonical, with_report_member, with_unit_member}
-use Rattle.erd_check.specs.Trees.{entries_of}
+use Rattle.erd_check.specs.Values.{entries_of}
 use Rattle.erd_check.specs.Wants.{asked_at}
 use Rattle.erd_meaning.specs.Keys.{key_cmp}
 use Rattle.erd_meaning.specs.Meaning.{Label, Content, no_content, first_node, Node, a_contest, a_header, a_json, a_label, untranslated, a_key, a_key_set, MemberValue, a_plain, Record}

@@ -16,7 +16,7 @@ use Rattle.erd_tables.specs.declared.fault.Reason.TheVariants.{Repeated, Unresol
 use Rattle.erd_tables.specs.declared.place.Step.{Step}
 use Rattle.erd_tables.specs.declared.place.Step.TheVariants.{Name, At}
 use Rattle.erd_check.specs.Trees.{IsTree}
-use Rattle.erd_check.specs.Walk.{IsInOrder}
+use Rattle.erd_check.specs.code.Walk.{IsInOrder}
 use Rattle.erd_check.specs.Wants.{Asked, asked_at}
 use Rattle.erd_check.specs.declared.want.Want.TheVariants.{Object}
 use Rattle.erd_check.proofs.Deciding.{tree_in_order}

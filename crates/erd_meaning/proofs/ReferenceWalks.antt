@@ -16,9 +16,9 @@ use Rattle.erd_tables.specs.declared.fault.Reason.{Reason}
 use Rattle.erd_tables.specs.declared.fault.Reason.TheVariants.{Repeated, Unresolved, WrongFamily, SelectionOfOtherContest}
 use Rattle.erd_tables.specs.declared.place.Step.{Step}
 use Rattle.erd_tables.specs.declared.place.Step.TheVariants.{Name, At}
-use Rattle.erd_check.specs.Paths.{fault_at}
+use Rattle.erd_check.specs.code.Paths.{fault_at}
 use Rattle.erd_check.specs.Trees.{is_same_json}
-use Rattle.erd_check.specs.Walk.{asked_with, IsInOrder}
+use Rattle.erd_check.specs.code.Walk.{asked_with, IsInOrder}
 use Rattle.erd_check.specs.Wants.{Asked, asked_at, scope_inside, want_of_name, entry_want, is_compared_set}
 use Rattle.erd_check.specs.declared.want.Scope.{Scope}
 use Rattle.erd_check.specs.declared.want.Want.{Want}
@@ -26,11 +26,11 @@ use Rattle.erd_check.specs.declared.want.Want.TheVariants.{Object, Reference}
 use Rattle.erd_check.proofs.AllAsked.{AskedPlace, all_asked, all_asked_from, all_asked_items, all_asked_members}
 use Rattle.erd_check.proofs.AskedInside.{all_asked_sound}
 use Rattle.erd_check.proofs.Order.{In, In-append_left, In-append_right}
-use Rattle.erd_meaning.specs.Keys.{text_at}
+use Rattle.erd_check.specs.Values.{text_at}
 use Rattle.erd_meaning.specs.LaterFaults.{is_in_other_contest, is_other_selection, is_selection_in, ReferenceFault}
 use Rattle.erd_meaning.specs.Objects.{is_owned, owner}
-use Rattle.erd_meaning.specs.ObjectWalk.{fault_if, kept_objects}
-use Rattle.erd_meaning.specs.ReferenceWalk.{faults_here, id_faults, is_elsewhere, is_known, is_of_others, is_selection_family, references_at, references_of_items, references_of_members}
+use Rattle.erd_meaning.specs.code.ObjectWalk.{fault_if, kept_objects}
+use Rattle.erd_meaning.specs.code.ReferenceWalk.{faults_here, id_faults, is_elsewhere, is_known, is_of_others, is_selection_family, references_at, references_of_items, references_of_members}
 use Rattle.erd_meaning.proofs.LaterFaultLists.{has_reference_fault, object_place_of, reference_faults_of}
 use Rattle.erd_meaning.proofs.ReferenceFaultLists.{reference_reasons}
 use Rattle.erd_meaning.proofs.ReferenceLookups.{known_same, owner_same}

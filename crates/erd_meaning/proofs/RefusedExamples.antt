@@ -13,7 +13,7 @@ use Rattle.erd_tables.specs.declared.fault.Fault.{Fault}
 use Rattle.erd_tables.specs.declared.fault.Reason.TheVariants.{TwinIdentifier, Unresolved, WrongFamily, SelectionOfOtherContest, TwinSelection}
 use Rattle.erd_tables.specs.declared.place.Step.{Step}
 use Rattle.erd_tables.specs.declared.place.Step.TheVariants.{Name, At}
-use Rattle.erd_check.specs.Paths.{fault_at}
+use Rattle.erd_check.specs.code.Paths.{fault_at}
 use Rattle.erd_check.specs.Wants.{asked}
 use Rattle.erd_check.specs.declared.want.Want.TheVariants.{Object, Reference}
 use Rattle.erd_check.proofs.Deciding.{is_tree, faults_found, no_fault_listed}

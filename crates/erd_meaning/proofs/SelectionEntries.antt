@@ -22,7 +22,7 @@ use Rattle.erd_tables.specs.declared.member.MemberKind.TheVariants as kind
 use Rattle.erd_tables.specs.declared.place.Step.{Step}
 use Rattle.erd_tables.specs.declared.place.Step.TheVariants.{Name, At}
 use Rattle.erd_check.specs.Trees.{IsTree}
-use Rattle.erd_check.specs.Walk.{IsInOrder}
+use Rattle.erd_check.specs.code.Walk.{IsInOrder}
 use Rattle.erd_check.specs.Wants.{Asked, asked, asked_at, asked_from, asked_inside, asked_of_member, carried_want, entry_want, is_compared_set, is_repeated, is_report_class, member_want, scope_inside, want_of_kind, want_of_name}
 use Rattle.erd_check.specs.declared.want.Scope.{Scope}
 use Rattle.erd_check.specs.declared.want.Scope.TheVariants as scope

@@ -6,13 +6,13 @@ use Rattle.erd_tables.specs.declared.fault.Fault.{Fault}
 use Rattle.erd_tables.specs.declared.fault.Reason.{Reason}
 use Rattle.erd_tables.specs.declared.fault.Reason.TheVariants.{TwinSelection}
 use Rattle.erd_tables.specs.declared.place.Step.{Step}
-use Rattle.erd_check.specs.Paths.{fault_at}
+use Rattle.erd_check.specs.code.Paths.{fault_at}
 use Rattle.erd_check.proofs.Order.{In, In-from_contains, contains_from_In}
 use Rattle.erd_meaning.specs.LaterFaults.{IsBefore, RepeatsName, SelectionFault}
 use Rattle.erd_meaning.specs.NameParts.{NameParts}
 use Rattle.erd_meaning.specs.Objects.{contests, numbered_selections, selections_of}
 use Rattle.erd_meaning.specs.SelectionNames.{name_of}
-use Rattle.erd_meaning.specs.SelectionWalk.{NumberedName}
+use Rattle.erd_meaning.specs.code.SelectionWalk.{NumberedName}
 use Rattle.erd_meaning.proofs.NamesTold.{HasEarlier, Numbered, ToldTwin, names_rising, names_told, told_twin, twin_told}
 use Rattle.erd_meaning.proofs.NumberedSelections.{numbered_rising, of_its_contest, one_contest, with_number}
 

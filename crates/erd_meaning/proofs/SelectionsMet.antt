@@ -15,9 +15,9 @@ use Rattle.erd_meaning.specs.LaterFaults.{SelectionFault}
 use Rattle.erd_meaning.specs.Lookups.{selection_in}
 use Rattle.erd_meaning.specs.NameParts.{NameParts}
 use Rattle.erd_meaning.specs.Objects.{Placed, contests, numbered_selections, objects, selections_of}
-use Rattle.erd_meaning.specs.Resolved.{AreNames}
+use Rattle.erd_meaning.specs.code.Resolved.{AreNames}
 use Rattle.erd_meaning.specs.SelectionNames.{name_in_class, name_of, selection_role}
-use Rattle.erd_meaning.specs.SelectionWalk.{NumberedName}
+use Rattle.erd_meaning.specs.code.SelectionWalk.{NumberedName}
 use Rattle.erd_meaning.proofs.NamesTold.{Numbered, in_places, name_list}
 use Rattle.erd_meaning.proofs.NumberedSelections.{numbered_rising, of_its_contest}
 use Rattle.erd_meaning.proofs.OneObject.{in_at, sorted_at, which_first}

@@ -27,7 +27,7 @@ use Rattle.erd_check.proofs.Shapes.{Within, asked_inside_object, asked_at-step}
 use Rattle.erd_check.specs.Faults.{NoneOf, ShapeFault}
 use Rattle.erd_check.specs.Wants.{asked, asked_inside, asked_at}
 use Rattle.erd_check.proofs.Entries.{entries_in}
-use Rattle.erd_check.specs.Trees.{list_of_items}
+use Rattle.erd_check.specs.Values.{list_of_items, entries_at}
 use Rattle.erd_check.proofs.Exact.{text_exact, text_itself}
 use Rattle.erd_check.proofs.TableKinds.{want_by_kind}
 use Rattle.erd_meaning.specs.declared.key.Key.{Key}
@@ -37,7 +37,7 @@ use Rattle.erd_meaning.specs.LaterFaults.{IsBefore}
 use Rattle.erd_meaning.specs.Objects.{Placed, contests, elections, has_id, id_of, objects, owner, placed_entries, placed_from, report_of, selections_of}
 use Rattle.erd_meaning.proofs.Skeleton.{Skeleton, election_objects, skeleton_of_shape, the_election}
 use Rattle.erd_meaning.proofs.Sets.{any-has}
-use Rattle.erd_meaning.specs.Keys.{entries_at, key_of, has_keys}
+use Rattle.erd_meaning.specs.Keys.{key_of, has_keys}
 use Rattle.erd_meaning.specs.SelectionNames.{name_of}
 use Rattle.erd_meaning.specs.NameParts.{NameParts}
 use Rattle.erd_meaning.proofs.Phases.{no_shape_fault, no_identity_fault, no_selection_fault}

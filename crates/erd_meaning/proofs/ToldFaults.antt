@@ -8,10 +8,10 @@ use Rattle.erd_tables.specs.declared.fault.Fault.{Fault}
 use Rattle.erd_tables.specs.declared.fault.Reason.TheVariants.{NoIdentifier, TwinIdentifier, DuplicateId}
 use Rattle.erd_tables.specs.declared.place.Step.{Step}
 use Rattle.erd_tables.proofs.PlaceOrder.{place_cmp_total, place_same, start_less}
-use Rattle.erd_check.specs.Paths.{fault_at}
+use Rattle.erd_check.specs.code.Paths.{fault_at}
 use Rattle.erd_check.proofs.Order.{In, In-append, In-append_left, In-append_right, In-all, Below, sorted_append}
 use Rattle.erd_meaning.specs.Keys.{has_keys}
-use Rattle.erd_meaning.specs.ObjectWalk.{Kept, Located, Met, fault_if, faults_after, has_same_id, has_same_key, met_all, met_one}
+use Rattle.erd_meaning.specs.code.ObjectWalk.{Kept, Located, Met, fault_if, faults_after, has_same_id, has_same_key, met_all, met_one}
 use Rattle.erd_meaning.proofs.ObjectPlaces.{AreApart, apart, id_place}
 
 -- ---- the walk as lists

@@ -7,13 +7,13 @@ use Rattle.erd_check.specs.Faults.{NoneOf, ShapeFault}
 use Rattle.erd_check.proofs.FaultLists.{none_from_empty}
 use Rattle.erd_meaning.specs.LaterFaults.{SelectionFault}
 use Rattle.erd_meaning.specs.NameParts.{NameParts}
-use Rattle.erd_meaning.specs.NamesAmong.{name_among}
+use Rattle.erd_meaning.specs.code.NamesAmong.{name_among}
 use Rattle.erd_meaning.specs.Objects.{numbered_selections}
-use Rattle.erd_meaning.specs.ObjectWalk.{Kept, kept_objects}
-use Rattle.erd_meaning.specs.Resolved.{AreNames}
+use Rattle.erd_meaning.specs.code.ObjectWalk.{Kept, kept_objects}
+use Rattle.erd_meaning.specs.code.Resolved.{AreNames}
 use Rattle.erd_meaning.specs.SelectionNames.{name_of}
-use Rattle.erd_meaning.specs.SelectionWalk.{NamesMet, named_all}
-use Rattle.erd_meaning.specs.Shown.{name_shown, names_met}
+use Rattle.erd_meaning.specs.code.SelectionWalk.{NamesMet, named_all}
+use Rattle.erd_meaning.specs.code.Shown.{name_shown, names_met}
 use Rattle.erd_meaning.specs.declared.named_selection.NamedSelection.{NamedSelection}
 use Rattle.erd_meaning.specs.declared.selection_walk.SelectionWalk.{SelectionWalk}
 use Rattle.erd_meaning.proofs.AmongNames.{name_same}

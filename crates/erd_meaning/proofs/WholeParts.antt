@@ -9,8 +9,7 @@ use Rattle.serde_json.specs.Find.{get, get_member}
 use Rattle.serde_json.specs.View.{items_of, view}
 use Rattle.serde_json.specs.Written.{has_float, items_have_float, members_have_float}
 use Rattle.serde_json.specs.declared.value.Value.{Value}
-use Rattle.erd_check.specs.Trees.{entries_of, list_of_items}
-use Rattle.erd_meaning.specs.Keys.{entries_at}
+use Rattle.erd_check.specs.Values.{entries_of, list_of_items, entries_at}
 use Rattle.erd_meaning.specs.SelectionNames.{compact_cmp, rising_list, with_inserted, with_rising_text}
 
 -- values that have no fraction

@@ -8,7 +8,7 @@ use Rattle.serde_json.specs.Find.{get, as_str}
 use Rattle.erd_tables.specs.Texts.{text_cmp}
 use Rattle.erd_tables.specs.declared.class.Family.{Family}
 use Rattle.erd_tables.specs.declared.class.Family.TheVariants as family
-use Rattle.erd_check.specs.Trees.{entries_of}
+use Rattle.erd_check.specs.Values.{entries_at, text_at}
 use Rattle.erd_meaning.specs.declared.key.Key.{Key}
 
 -- whether the objects of a family are named by keys: those of the first eight families are; selections have names of
@@ -20,14 +20,6 @@ has_keys f = true
 -- keys are compared part by part (profile)
 abbrev pub key_cmp : Key → Key → Ordering
 key_cmp a b = ordering_then (text_cmp a.kind b.kind) (ordering_then (text_cmp a.other b.other) (text_cmp a.value b.value))
-
--- the text of a member, or the empty text
-abbrev pub text_at : List ℕ → Data → List ℕ
-text_at name d = unwrap_or (option_and_then as_str (get name d)) []
-
--- the entries of the array of a member, and none where it is absent
-abbrev pub entries_at : List ℕ → Data → List Data
-entries_at name d = option_map_or entries_of (get name d) []
 
 -- the triple of an identifier: `Type`, `OtherType` or the empty text, `Value` (class ExternalIdentifier)
 abbrev pub triple_of : Data → Key
@@ -50,3 +42,7 @@ least_key (k ∷ ks) = Some (least_key_of k ks)
 -- the key of an object: the least triple of its identifiers, if it has any (profile)
 abbrev pub key_of : Data → Option Key
 key_of d = least_key (map triple_of (entries_at (codes "ExternalIdentifier") d))
+
+-- the key of an object of a family, if its family has keys
+abbrev pub kept_key : Family → Data → Option Key
+kept_key f d = if has_keys f then key_of d else None

@@ -16,7 +16,8 @@ use Rattle.erd_check.specs.Faults.{is_reference}
 use Rattle.erd_check.specs.Wants.{Asked, asked_at}
 use Rattle.erd_check.specs.declared.want.Want.{Want}
 use Rattle.erd_check.specs.declared.want.Want.TheVariants.{Reference}
-use Rattle.erd_meaning.specs.Keys.{has_keys, key_of, entries_at, text_at}
+use Rattle.erd_meaning.specs.Keys.{has_keys, key_of}
+use Rattle.erd_check.specs.Values.{entries_at, text_at}
 use Rattle.erd_meaning.specs.NameParts.{NameParts}
 use Rattle.erd_meaning.specs.Objects.{Placed, selections_of, IsObject, id_of, has_id, owner, is_owned}
 use Rattle.erd_meaning.specs.SelectionNames.{name_of}

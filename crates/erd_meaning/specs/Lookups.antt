@@ -6,7 +6,8 @@ use Rattle.erd_tables.specs.Classes.{family_number}
 use Rattle.erd_tables.specs.declared.class.Family.{Family}
 use Rattle.erd_meaning.specs.NameParts.{NameParts}
 use Rattle.erd_meaning.specs.Objects.{id_of, numbered_selections, objects}
-use Rattle.erd_meaning.specs.ObjectWalk.{Kept, kept_key, same_id, same_key}
+use Rattle.erd_meaning.specs.code.ObjectWalk.{Kept, same_id, same_key}
+use Rattle.erd_meaning.specs.Keys.{kept_key}
 use Rattle.erd_meaning.specs.SelectionNames.{name_of}
 use Rattle.erd_meaning.specs.declared.key.Key.{Key}
 

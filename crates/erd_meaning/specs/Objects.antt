@@ -10,7 +10,7 @@ use Rattle.erd_tables.specs.declared.class.Family.{Family}
 use Rattle.erd_tables.specs.declared.class.Family.TheVariants as family
 use Rattle.erd_tables.specs.declared.place.Step.{Step}
 use Rattle.erd_tables.specs.declared.place.Step.TheVariants.{Name, At}
-use Rattle.erd_meaning.specs.Keys.{entries_at}
+use Rattle.erd_check.specs.Values.{entries_at}
 
 -- ---- where objects stand
 

@@ -15,9 +15,10 @@ use Rattle.erd_tables.specs.declared.class.Role.{Role}
 use Rattle.erd_tables.specs.declared.class.Role.TheVariants as role
 use Rattle.erd_tables.specs.declared.member.MemberKind.{MemberKind}
 use Rattle.erd_tables.specs.declared.member.MemberKind.TheVariants as kind
-use Rattle.erd_check.specs.Trees.{is_same_json, entries_of}
+use Rattle.erd_check.specs.Trees.{is_same_json}
+use Rattle.erd_check.specs.Values.{entries_of, entries_at, text_at}
 use Rattle.erd_check.specs.Wants.{class_of_object}
-use Rattle.erd_meaning.specs.Keys.{key_cmp, key_of, entries_at, text_at}
+use Rattle.erd_meaning.specs.Keys.{key_cmp, key_of}
 use Rattle.erd_meaning.specs.Meaning.{JsonMap, JsonSet, KeySet, Label, untranslated, translated, Content, no_content, first_node, Node, a_contest, a_header, PlainValue, a_json, a_label, a_json_set, a_key, a_key_set, a_content, Record, SelectionRecord, MemberValue, a_plain, a_selection_map, ObjectRecord, Meaning}
 use Rattle.erd_meaning.specs.NameParts.{NameParts}
 use Rattle.erd_meaning.specs.Objects.{objects, elections}

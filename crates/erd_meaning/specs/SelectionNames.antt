@@ -18,7 +18,8 @@ use Rattle.erd_tables.specs.declared.class.Family.TheVariants as family
 use Rattle.erd_tables.specs.declared.class.Role.{Role}
 use Rattle.erd_tables.specs.declared.class.Role.TheVariants as role
 use Rattle.erd_check.specs.Wants.{class_of_object}
-use Rattle.erd_meaning.specs.Keys.{key_cmp, key_of, entries_at}
+use Rattle.erd_meaning.specs.Keys.{key_cmp, key_of}
+use Rattle.erd_check.specs.Values.{entries_at}
 use Rattle.erd_meaning.specs.NameParts.{NameParts}
 use Rattle.erd_meaning.specs.Objects.{owner}
 use Rattle.erd_meaning.specs.declared.key.Key.{Key}

@@ -4,7 +4,7 @@ ghost use Rattle.serde_json.specs.View.{view};
 ghost use Rattle.erd_meaning.specs.Keys.{key_cmp, key_of, triple_of};
 
 use crate::key::Key;
-use crate::members::{entries, text};
+use erd_check::values::{entries_at, text_at};
 use erd_tables::Text;
 use serde_json::Value;
 use std::alloc::{AllocError, Global};
@@ -35,9 +35,9 @@ impl<'a> Triple<'a> {
         ensures { result ≡ triple_of (view identifier.now) }
     {
         Triple {
-            kind: text(identifier, "Type"),
-            other: text(identifier, "OtherType"),
-            value: text(identifier, "Value"),
+            kind: text_at(identifier, "Type"),
+            other: text_at(identifier, "OtherType"),
+            value: text_at(identifier, "Value"),
         }
     }
 
@@ -65,7 +65,7 @@ impl<'a> Triple<'a> {
 pub fn key_of(alloc: Global, object: &Value) -> Result<Option<Key>, AllocError>
     ensures { IfOk result (λ key. key ≡ key_of (view object.now)) }
 {
-    match entries(object, "ExternalIdentifier") {
+    match entries_at(object, "ExternalIdentifier") {
         [] => Ok(None),
         [first, rest @ ..] => {
             let mut least = Triple::of(first);

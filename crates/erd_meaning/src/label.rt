@@ -2,11 +2,11 @@ ghost use Rattle.std.specs.Prelude.{◌≡◌, false, map, codes, IfOk};
 ghost use Rattle.serde_json.specs.Data.{array, put};
 ghost use Rattle.serde_json.specs.View.{view, items_of, members_view};
 ghost use Rattle.serde_json.specs.Written.{compact_text, has_float};
-ghost use Rattle.erd_meaning.specs.Keys.{entries_at};
+ghost use Rattle.erd_check.specs.Values.{entries_at};
 ghost use Rattle.erd_meaning.specs.SelectionNames.{compact_cmp, rising_list, with_rising_text};
 
-use crate::members::entries;
 use crate::translation::Translation;
+use erd_check::values::entries_at;
 use erd_tables::Text;
 use serde_json::{Map, Value};
 use std::alloc::{AllocError, Global};
@@ -66,7 +66,7 @@ fn translations_of<'a>(alloc: Global, label: &'a Value) -> Result<Vec<Translatio
     ensures { IfOk result (λ translations. map view translations.items
         ≡ entries_at (codes "Text") (view label.now)) }
 {
-    let values = entries(label, "Text");
+    let values = entries_at(label, "Text");
     let mut translations = Vec::with_capacity(alloc, values.len())?;
     for value in values {
         translations.push(Translation::of(alloc, value)?)?;

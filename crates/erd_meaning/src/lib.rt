@@ -5,7 +5,6 @@ pub mod identifier;
 pub mod key;
 mod label;
 mod lookup;
-mod members;
 mod named_selection;
 mod object;
 mod object_walk;

@@ -3,9 +3,9 @@ ghost use Rattle.std.specs.List.{position};
 ghost use Rattle.std.specs.Option.{option_copied};
 ghost use Rattle.serde_json.specs.View.{view};
 ghost use Rattle.erd_meaning.specs.Lookups.{is_keyed, is_named, those_of};
-ghost use Rattle.erd_meaning.specs.ReferenceWalk.{is_known, owner_among};
-ghost use Rattle.erd_meaning.specs.NamesAmong.{key_among};
-ghost use Rattle.erd_meaning.specs.Shown.{shown};
+ghost use Rattle.erd_meaning.specs.code.ReferenceWalk.{is_known, owner_among};
+ghost use Rattle.erd_meaning.specs.code.NamesAmong.{key_among};
+ghost use Rattle.erd_meaning.specs.code.Shown.{shown};
 
 use crate::key::Key;
 use crate::object::Object;

@@ -1,7 +1,7 @@
 ghost use Rattle.std.specs.Prelude.{◌≡◌, map};
 ghost use Rattle.std.specs.List.{position};
-ghost use Rattle.erd_meaning.specs.SelectionWalk.{is_selection_named, is_taken};
-ghost use Rattle.erd_meaning.specs.Shown.{name_shown};
+ghost use Rattle.erd_meaning.specs.code.SelectionWalk.{is_selection_named, is_taken};
+ghost use Rattle.erd_meaning.specs.code.Shown.{name_shown};
 
 use crate::selection_name::SelectionName;
 

@@ -1,8 +1,8 @@
 ghost use Rattle.std.specs.Prelude.{◌≡◌};
 ghost use Rattle.std.specs.Option.{option_copied};
 ghost use Rattle.erd_meaning.specs.Lookups.{is_of_family, is_keyed, is_named};
-ghost use Rattle.erd_meaning.specs.ObjectWalk.{has_same_key, has_same_id};
-ghost use Rattle.erd_meaning.specs.Shown.{shown};
+ghost use Rattle.erd_meaning.specs.code.ObjectWalk.{has_same_key, has_same_id};
+ghost use Rattle.erd_meaning.specs.code.Shown.{shown};
 
 use crate::key::Key;
 use crate::shared_key::SharedKey;

@@ -1,17 +1,17 @@
 ghost use Rattle.std.specs.Prelude.{◌≡◌, ◌++◌, map, codes, flat_map, IfOk};
 ghost use Rattle.std.specs.List.{list_any};
 ghost use Rattle.serde_json.specs.View.{view};
-ghost use Rattle.erd_check.specs.Paths.{steps_of};
+ghost use Rattle.erd_check.specs.code.Paths.{steps_of};
 ghost use Rattle.erd_meaning.specs.Objects.{placed_entries};
-ghost use Rattle.erd_meaning.specs.ObjectWalk.{kept, faults_after, has_same_key, has_same_id, located, located_one, contest_located, election_located, all_located, met_one, met_all};
-ghost use Rattle.erd_meaning.specs.Shown.{shown, met_of, placed_at};
+ghost use Rattle.erd_meaning.specs.code.ObjectWalk.{kept, faults_after, has_same_key, has_same_id, located, located_one, contest_located, election_located, all_located, met_one, met_all};
+ghost use Rattle.erd_meaning.specs.code.Shown.{shown, met_of, placed_at};
 
 use crate::identifier::key_of;
 use crate::key::Key;
-use crate::members::entries;
 use crate::object::Object;
 use crate::shared_key::SharedKey;
 use erd_check::path::{Path, push_fault};
+use erd_check::values::entries_at;
 use erd_tables::{Family, Fault, Reason};
 use serde_json::Value;
 use std::alloc::{AllocError, Global};
@@ -52,7 +52,7 @@ fn meet_elections<'a>(
         (flat_map election_located (placed_entries (codes "Election") (placed_at path.now report.now)))) }
 {
     let elections = Path::Member(&*path, "Election");
-    for (index, election) in entries(report, "Election").iter().enumerate() {
+    for (index, election) in entries_at(report, "Election").iter().enumerate() {
         let election_path = Path::Entry(&elections, index);
         meet_election(alloc, election, &election_path, walk)?;
     }
@@ -85,7 +85,7 @@ fn meet_contests<'a>(
         (flat_map contest_located (placed_entries (codes "Contest") (placed_at path.now election.now)))) }
 {
     let contests = Path::Member(&*path, "Contest");
-    for (index, contest) in entries(election, "Contest").iter().enumerate() {
+    for (index, contest) in entries_at(election, "Contest").iter().enumerate() {
         let contest_path = Path::Entry(&contests, index);
         meet_object(alloc, Family::Contest, contest, &contest_path, walk)?;
         meet_entries(
@@ -112,7 +112,7 @@ fn meet_entries<'a>(
         ≡ met_all (met_of walk.old) (located family (placed_entries name.now (placed_at path.now owner.now)))) }
 {
     let array = Path::Member(&*path, name);
-    for (index, entry) in entries(owner, name).iter().enumerate() {
+    for (index, entry) in entries_at(owner, name).iter().enumerate() {
         let entry_path = Path::Entry(&array, index);
         meet_object(alloc, family, entry, &entry_path, walk)?;
     }

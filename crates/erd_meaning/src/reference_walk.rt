@@ -3,19 +3,20 @@ ghost use Rattle.std.specs.List.Sorted.{IsStrictlySortedBy};
 ghost use Rattle.serde_json.specs.View.{view, items_view, members_view};
 ghost use Rattle.erd_tables.specs.Faults.{ListsAll};
 ghost use Rattle.erd_tables.specs.Texts.{text_cmp};
-ghost use Rattle.erd_check.specs.Paths.{steps_of, fault_at};
-ghost use Rattle.erd_check.specs.Walk.{names, IsInOrder, AreItemsInOrder, AreMembersInOrder};
+ghost use Rattle.erd_check.specs.code.Paths.{steps_of, fault_at};
+ghost use Rattle.erd_check.specs.code.Walk.{IsInOrder, AreItemsInOrder, AreMembersInOrder};
+ghost use Rattle.erd_check.specs.Values.{names};
 ghost use Rattle.erd_meaning.specs.LaterFaults.{ReferenceFault, is_selection_in};
 ghost use Rattle.erd_meaning.specs.Objects.{has_id};
-ghost use Rattle.erd_meaning.specs.ObjectWalk.{fault_if, kept_objects};
-ghost use Rattle.erd_meaning.specs.ReferenceWalk.{is_of_others, is_elsewhere, id_faults, faults_here, references_at, references_of_items, references_of_members};
-ghost use Rattle.erd_meaning.specs.Shown.{shown};
+ghost use Rattle.erd_meaning.specs.code.ObjectWalk.{fault_if, kept_objects};
+ghost use Rattle.erd_meaning.specs.code.ReferenceWalk.{is_of_others, is_elsewhere, id_faults, faults_here, references_at, references_of_items, references_of_members};
+ghost use Rattle.erd_meaning.specs.code.Shown.{shown};
 
 use crate::lookup::{is_id_known, owner_of};
-use crate::members::{entries, text};
 use crate::object::Object;
 use erd_check::is_among;
 use erd_check::path::{Path, push_fault};
+use erd_check::values::{entries_at, text_at};
 use erd_check::want::{Scope, Want, is_set_wanted, scope_of, want_in, want_of_entry};
 use erd_tables::{Family, Fault, FaultList, Reason, Role};
 use serde_json::{Map, Value};
@@ -237,7 +238,7 @@ fn is_elsewhere(objects: &[Object], object: &Value, id: &str) -> bool
     if owner_of(objects, Family::Selection, id).is_none() {
         return false;
     }
-    match owner_of(objects, Family::Contest, text(object, "ContestId")) {
+    match owner_of(objects, Family::Contest, text_at(object, "ContestId")) {
         Some(contest) => !has_selection(contest, id),
         None => false,
     }
@@ -247,7 +248,7 @@ fn is_elsewhere(objects: &[Object], object: &Value, id: &str) -> bool
 fn has_selection(contest: &Value, id: &str) -> bool
     ensures { result ≡ is_selection_in (view contest.now) id.now }
 {
-    for selection in entries(contest, "ContestSelection") {
+    for selection in entries_at(contest, "ContestSelection") {
         if has_id(selection, id) {
             return true;
         }

@@ -7,16 +7,16 @@ ghost use Rattle.erd_check.specs.Trees.{IsTree};
 ghost use Rattle.erd_meaning.specs.Accepted.{IsAccepted};
 ghost use Rattle.erd_meaning.specs.Lookups.{FindsId, FindsKey, FindsSelection, key_in, selection_in};
 ghost use Rattle.erd_meaning.specs.Objects.{elections, objects};
-ghost use Rattle.erd_meaning.specs.Resolved.{IsResolved};
+ghost use Rattle.erd_meaning.specs.code.Resolved.{IsResolved};
 ghost use Rattle.erd_meaning.specs.SelectionNames.{name_of};
 
 use crate::key::Key;
 use crate::lookup::{count_of, nth_of, place_of_id, place_of_key};
-use crate::members::entries;
 use crate::named_selection::{NamedSelection, place_of_name};
 use crate::object::Object;
 use crate::selection_name::SelectionName;
 use crate::selection_naming::name_of_selection;
+use erd_check::values::entries_at;
 use erd_tables::Family;
 use serde_json::Value;
 use std::alloc::{AllocError, Global};
@@ -37,7 +37,7 @@ impl<'a> Model for Report<'a> {
     ghost use Rattle.std.specs.Coded.{codes};
     ghost use Rattle.serde_json.specs.contracts.value.Value as tree_value;
     ghost use Rattle.serde_json.specs.declared.value.Value.{Value as Tree};
-    ghost use Rattle.erd_meaning.specs.Resolved.{IsResolved};
+    ghost use Rattle.erd_meaning.specs.code.Resolved.{IsResolved};
 
     ghost Value = { Tree };
 
@@ -81,7 +81,7 @@ impl<'a> Report<'a> {
     pub fn election(&self) -> &'a Value
         ensures { map (λ o. o.value) (elections (view self.now)) ≡ view result.now ∷ [] }
     {
-        &entries(self.tree, "Election")[0]
+        &entries_at(self.tree, "Election")[0]
     }
 
     /// How many objects of the family there are. All are gone over.

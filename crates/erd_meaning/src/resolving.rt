@@ -6,9 +6,9 @@ ghost use Rattle.erd_check.specs.Refusals.{RefusedFor};
 ghost use Rattle.erd_check.specs.Shapes.{IsFaultless};
 ghost use Rattle.erd_meaning.specs.Accepted.{IsAccepted, IsFault};
 ghost use Rattle.erd_meaning.specs.LaterFaults.{IdentityFault, ReferenceFault, SelectionFault};
-ghost use Rattle.erd_meaning.specs.ObjectWalk.{kept_objects};
-ghost use Rattle.erd_meaning.specs.Resolved.{AreNames, IsIdentified, IsReferred, IsToldApart};
-ghost use Rattle.erd_meaning.specs.Shown.{name_shown, shown};
+ghost use Rattle.erd_meaning.specs.code.ObjectWalk.{kept_objects};
+ghost use Rattle.erd_meaning.specs.code.Resolved.{AreNames, IsIdentified, IsReferred, IsToldApart};
+ghost use Rattle.erd_meaning.specs.code.Shown.{name_shown, shown};
 
 use crate::named_selection::NamedSelection;
 use crate::object::Object;

@@ -153,7 +153,7 @@ impl Ord for SelectionName {
 }
 
 impl Hash for SelectionName {
-    ghost use Rattle.erd_meaning.specs.NameHashes.{name_writes};
+    ghost use Rattle.erd_meaning.specs.code.NameHashes.{name_writes};
     ghost use Rattle.erd_meaning.specs.Orders.{equal_names_alike};
 
     ghost hash_input = { name_writes };

@@ -3,20 +3,19 @@ ghost use Rattle.std.specs.Option.{option_copied};
 ghost use Rattle.serde_json.specs.Find.{as_str};
 ghost use Rattle.serde_json.specs.View.{view};
 ghost use Rattle.serde_json.specs.Written.{has_float};
-ghost use Rattle.erd_check.specs.Wants.{class_of_object};
 ghost use Rattle.erd_meaning.specs.Keys.{key_cmp};
-ghost use Rattle.erd_meaning.specs.NamesAmong.{key_among, keys_among, name_among, selection_keys_among};
-ghost use Rattle.erd_meaning.specs.SelectionNames.{is_write_in, label_of_selection, order_of_selection, rising_list, selection_role};
-ghost use Rattle.erd_meaning.specs.Shown.{shown};
+ghost use Rattle.erd_meaning.specs.code.NamesAmong.{key_among, keys_among, name_among, selection_keys_among};
+ghost use Rattle.erd_meaning.specs.SelectionNames.{is_write_in, label_of_selection, order_of_selection, rising_list};
+ghost use Rattle.erd_meaning.specs.code.Shown.{shown};
 
 use crate::identifier::key_of;
 use crate::label::label_text;
 use crate::lookup::key_among;
-use crate::members::entries;
 use crate::object::Object;
 use crate::selection_name::SelectionName;
 use crate::shared_key::SharedKey;
-use erd_tables::{Class, Family, Role, Text, class_in};
+use erd_check::values::{class_of_object, entries_at};
+use erd_tables::{Class, Family, Role, Text};
 use serde_json::{Number, Value};
 use std::alloc::{AllocError, Global};
 
@@ -29,7 +28,7 @@ pub(crate) fn name_of_selection(
     requires whole { has_float (view selection.now) ≡ false }
     ensures { IfOk result (λ name. name ≡ name_among (map shown objects.now) (view selection.now)) }
 {
-    let Some(class) = selection_class(selection) else {
+    let Some(class) = class_of_object(Role::OfFamily(Family::Selection), selection) else {
         return Ok(None);
     };
     let keys = selection_keys(alloc, objects, class, selection)?;
@@ -43,14 +42,6 @@ pub(crate) fn name_of_selection(
         label,
         identifier,
     }))
-}
-
-/// The class of a selection, if it is a class of selection.
-fn selection_class(selection: &Value) -> Option<Class>
-    ensures { result ≡ class_of_object selection_role (view selection.now) }
-{
-    let text = selection.get("@type")?.as_str()?;
-    class_in(Role::OfFamily(Family::Selection), text)
 }
 
 /// The keys of the candidates or the parties that a selection is for, in rising order.
@@ -87,11 +78,11 @@ fn named_keys(
 {
     match class {
         Class::CandidateSelection => {
-            let references = entries(selection, "CandidateIds");
+            let references = entries_at(selection, "CandidateIds");
             keys_among(alloc, objects, Family::Candidate, references)
         }
         Class::PartySelection => {
-            let references = entries(selection, "PartyIds");
+            let references = entries_at(selection, "PartyIds");
             keys_among(alloc, objects, Family::Party, references)
         }
         _ => Ok(Vec::new(alloc)),

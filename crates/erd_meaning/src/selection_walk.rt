@@ -1,19 +1,19 @@
 ghost use Rattle.std.specs.Prelude.{◌≡◌, false, map, IfOk};
 ghost use Rattle.serde_json.specs.View.{view};
 ghost use Rattle.serde_json.specs.Written.{has_float};
-ghost use Rattle.erd_check.specs.Paths.{steps_of};
+ghost use Rattle.erd_check.specs.code.Paths.{steps_of};
 ghost use Rattle.erd_check.specs.Shapes.{IsFaultless};
-ghost use Rattle.erd_meaning.specs.NamesAmong.{name_among};
+ghost use Rattle.erd_meaning.specs.code.NamesAmong.{name_among};
 ghost use Rattle.erd_meaning.specs.Objects.{numbered_selections, numbered_selections_of};
-ghost use Rattle.erd_meaning.specs.SelectionWalk.{named_all, named_one, with_name};
-ghost use Rattle.erd_meaning.specs.Shown.{names_met, placed_at, shown};
+ghost use Rattle.erd_meaning.specs.code.SelectionWalk.{named_all, named_one, with_name};
+ghost use Rattle.erd_meaning.specs.code.Shown.{names_met, placed_at, shown};
 
-use crate::members::entries;
 use crate::named_selection::{NamedSelection, is_taken};
 use crate::object::Object;
 use crate::selection_name::SelectionName;
 use crate::selection_naming::name_of_selection;
 use erd_check::path::{Path, push_fault};
+use erd_check::values::entries_at;
 use erd_tables::{Fault, Reason};
 use serde_json::Value;
 use std::alloc::{AllocError, Global};
@@ -37,11 +37,11 @@ pub(crate) fn meet_selections(
     ensures { IfOk result (λ _. names_met walk.new
         ≡ named_all (name_among (map shown objects.now)) (names_met walk.old) (numbered_selections (view report.now))) }
 {
-    let election = &entries(report, "Election")[0];
+    let election = &entries_at(report, "Election")[0];
     let elections = Path::Member(&Path::Root, "Election");
     let path = Path::Entry(&elections, 0);
     let contests = Path::Member(&path, "Contest");
-    for (index, contest) in entries(election, "Contest").iter().enumerate() {
+    for (index, contest) in entries_at(election, "Contest").iter().enumerate() {
         let contest_path = Path::Entry(&contests, index);
         meet_contest(alloc, objects, index, contest, &contest_path, walk)?;
     }
@@ -62,7 +62,7 @@ fn meet_contest(
         ≡ named_all (name_among (map shown objects.now)) (names_met walk.old) (numbered_selections_of (number, placed_at path.now contest.now))) }
 {
     let array = Path::Member(&*path, "ContestSelection");
-    for (index, selection) in entries(contest, "ContestSelection").iter().enumerate() {
+    for (index, selection) in entries_at(contest, "ContestSelection").iter().enumerate() {
         let selection_path = Path::Entry(&array, index);
         meet_selection(alloc, objects, number, selection, &selection_path, walk)?;
     }

@@ -104,7 +104,7 @@ impl Ord for SharedKey {
 }
 
 impl Hash for SharedKey {
-    ghost use Rattle.erd_meaning.specs.NameHashes.{key_writes};
+    ghost use Rattle.erd_meaning.specs.code.NameHashes.{key_writes};
     ghost use Rattle.erd_meaning.specs.Orders.{equal_keys_alike};
 
     ghost hash_input = { key_writes };

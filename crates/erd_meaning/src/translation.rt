@@ -21,7 +21,7 @@ impl<'a> Model for Translation<'a> {
     ghost use Rattle.std.specs.Coded.{codes};
     ghost use Rattle.serde_json.specs.contracts.value.Value as tree_value;
     ghost use Rattle.serde_json.specs.declared.value.Value.{Value as Tree};
-    ghost use Rattle.erd_meaning.specs.TranslationOrder.{tree_text};
+    ghost use Rattle.erd_meaning.specs.code.TranslationOrder.{tree_text};
 
     ghost Value = { Tree };
 
@@ -59,7 +59,7 @@ impl<'a> Translation<'a> {
 impl<'a> PartialEq for Translation<'a> {
     ghost use Rattle.std.specs.Cmp.{eq_by_cmp_equiv, partial_equiv_from_equiv};
     ghost use Rattle.std.specs.Ordering.{eq_by_cmp};
-    ghost use Rattle.erd_meaning.specs.TranslationOrder.{tree_cmp, tree_cmp_total};
+    ghost use Rattle.erd_meaning.specs.code.TranslationOrder.{tree_cmp, tree_cmp_total};
 
     ghost eq = { eq_by_cmp tree_cmp };
 
@@ -72,7 +72,7 @@ impl<'a> PartialEq for Translation<'a> {
 
 impl<'a> Eq for Translation<'a> {
     ghost use Rattle.std.specs.Cmp.{eq_by_cmp_equiv};
-    ghost use Rattle.erd_meaning.specs.TranslationOrder.{tree_cmp_total};
+    ghost use Rattle.erd_meaning.specs.code.TranslationOrder.{tree_cmp_total};
 
     ghost laws = { eq_by_cmp_equiv tree_cmp_total };
 }
@@ -80,7 +80,7 @@ impl<'a> Eq for Translation<'a> {
 impl<'a> PartialOrd for Translation<'a> {
     ghost use Rattle.std.specs.Cmp.{partial_order_from_total};
     ghost use Rattle.std.specs.Ordering.{as_partial_cmp};
-    ghost use Rattle.erd_meaning.specs.TranslationOrder.{tree_cmp, tree_cmp_total};
+    ghost use Rattle.erd_meaning.specs.code.TranslationOrder.{tree_cmp, tree_cmp_total};
 
     ghost partial_cmp = { as_partial_cmp tree_cmp };
 
@@ -93,7 +93,7 @@ impl<'a> PartialOrd for Translation<'a> {
 
 impl<'a> Ord for Translation<'a> {
     ghost use Rattle.std.proofs.Common.{refl};
-    ghost use Rattle.erd_meaning.specs.TranslationOrder.{tree_cmp, tree_cmp_total};
+    ghost use Rattle.erd_meaning.specs.code.TranslationOrder.{tree_cmp, tree_cmp_total};
 
     ghost cmp = { tree_cmp };
 

@@ -11,7 +11,8 @@ use Rattle.erd_tables.specs.declared.member.MemberKind.{MemberKind}
 use Rattle.erd_tables.specs.declared.place.Step.TheVariants.{At}
 use Rattle.erd_tables.specs.Classes.{role_of_class}
 use Rattle.erd_tables.specs.declared.member.MemberKind.TheVariants as kind
-use Rattle.erd_check.specs.Trees.{AreTrees, IsTree, is_same_json, list_of_items}
+use Rattle.erd_check.specs.Trees.{AreTrees, IsTree, is_same_json}
+use Rattle.erd_check.specs.Values.{list_of_items}
 use Rattle.erd_check.proofs.Rising.{Has}
 use Rattle.erd_check.specs.declared.want.Want.TheVariants.{Member, Object, Reference}
 use Rattle.erd_check.proofs.Shapes.{Within, Within-step, wanted_within, unrepeated}

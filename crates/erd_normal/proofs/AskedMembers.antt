@@ -15,7 +15,7 @@ use Rattle.erd_tables.specs.declared.member.MemberKind.{MemberKind}
 use Rattle.erd_tables.specs.declared.member.MemberKind.TheVariants as kind
 use Rattle.erd_tables.specs.declared.place.Step.TheVariants.{At}
 use Rattle.erd_check.specs.Faults.{NoneOf, ShapeFault}
-use Rattle.erd_check.specs.Trees.{list_of_items}
+use Rattle.erd_check.specs.Values.{list_of_items}
 use Rattle.erd_check.specs.Wants.{asked, class_of_object, entry_want, is_compared_set, is_report_class, want_of_kind}
 use Rattle.erd_check.specs.declared.want.Want.{Want}
 use Rattle.erd_check.specs.declared.want.Want.TheVariants.{Member}

@@ -26,7 +26,7 @@ use Rattle.erd_check.proofs.Order.{or_true}
 use Rattle.erd_check.proofs.Shapes.{AsksObject, Within, faultless, lacks_none, member_within, of_label, of_role}
 use Rattle.erd_check.proofs.TableKinds.{want_by_kind, want_unless_status}
 use Rattle.erd_check.proofs.Whole.{not_true}
-use Rattle.erd_normal.specs.NormalTree.{normal_value}
+use Rattle.erd_normal.specs.code.NormalTree.{normal_value}
 use Rattle.erd_normal.proofs.CleanMembers.{normal_value-clean}
 use Rattle.erd_normal.proofs.CleanValues.{MemberAsked, TypeAsked, asked_in_object, clean_object, clean_within}
 

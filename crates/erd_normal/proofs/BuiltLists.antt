@@ -4,10 +4,11 @@ use Rattle.std.specs.Bool.{⊤}
 use Rattle.std.specs.List.{AllByRecursion}
 use Rattle.serde_json.specs.Data.{Data, array, Items, no_items, item, items_depth, depth}
 use Rattle.serde_json.specs.View.{items_of}
-use Rattle.erd_check.specs.Trees.{IsTree, AreTrees, entries_of, list_of_items}
+use Rattle.erd_check.specs.Trees.{IsTree, AreTrees}
+use Rattle.erd_check.specs.Values.{entries_of, list_of_items}
 use Rattle.erd_check.specs.Faults.{is_empty_array}
 use Rattle.erd_meaning.specs.SelectionNames.{with_inserted, rising_list}
-use Rattle.erd_normal.specs.NormalTree.{array_of, unless_no_entry}
+use Rattle.erd_normal.specs.code.NormalTree.{array_of, unless_no_entry}
 
 -- ---- any lists
 

@@ -12,9 +12,9 @@ use Rattle.serde_json.specs.View.{members_view, view}
 use Rattle.serde_json.specs.Written.{has_float, members_have_float}
 use Rattle.serde_json.proofs.Views.{Entry}
 use Rattle.erd_tables.specs.Texts.{text_cmp}
-use Rattle.erd_check.specs.Walk.{names}
+use Rattle.erd_check.specs.Values.{names}
 use Rattle.erd_check.proofs.Lists.{names_sorted}
-use Rattle.erd_normal.specs.Building.{put_each, put_if}
+use Rattle.erd_normal.specs.code.Building.{put_each, put_if}
 use Rattle.erd_normal.proofs.NormalMembers.{each_member}
 
 -- ---- whole numbers

@@ -20,7 +20,7 @@ use Rattle.erd_check.proofs.Shapes.{Within, within-tree}
 use Rattle.erd_meaning.proofs.Skeleton.{Skeleton}
 use Rattle.erd_meaning.specs.Keys.{key_of}
 use Rattle.erd_meaning.specs.SelectionNames.{selection_role}
-use Rattle.erd_normal.specs.NormalTree.{id_of_key, id_of_selection, normal_content, normal_election, normal_election_value, normal_node, normal_node_value, normal_object, normal_object_value, normal_report_value, normal_selection, normal_tree, normal_value}
+use Rattle.erd_normal.specs.code.NormalTree.{id_of_key, id_of_selection, normal_content, normal_election, normal_election_value, normal_node, normal_node_value, normal_object, normal_object_value, normal_report_value, normal_selection, normal_tree, normal_value}
 use Rattle.erd_normal.proofs.BuiltFrom.{Builder, BuiltObject}
 use Rattle.erd_normal.proofs.NormalGets.{class_of_built, class_of_built_node, class_of_built_selection, get_election, get_election-type, get_node, get_object, get_object-id, get_selection, get_selection-id}
 use Rattle.erd_normal.proofs.NormalReports.{class_of_built_report, get_report}

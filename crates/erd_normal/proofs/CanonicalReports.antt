@@ -11,7 +11,8 @@ use Rattle.erd_tables.specs.declared.member.MemberKind.{MemberKind}
 use Rattle.erd_tables.specs.declared.member.MemberKind.TheVariants as kind
 use Rattle.erd_tables.specs.declared.place.Step.{Step}
 use Rattle.erd_check.specs.Faults.{is_empty_array}
-use Rattle.erd_check.specs.Trees.{IsNoDeeper, entries_of}
+use Rattle.erd_check.specs.Trees.{IsNoDeeper}
+use Rattle.erd_check.specs.Values.{entries_of}
 use Rattle.erd_check.specs.Wants.{Asked, asked_at}
 use Rattle.erd_check.proofs.AllAsked.{AskedPlace, all_asked, tested_at}
 use Rattle.erd_check.proofs.Deciding.{faults_found, is_tree, no_fault_listed}

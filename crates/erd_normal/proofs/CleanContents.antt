@@ -17,7 +17,7 @@ use Rattle.erd_check.specs.declared.want.Want.TheVariants.{Member, Object}
 use Rattle.erd_check.proofs.Clean.{IsClean}
 use Rattle.erd_check.proofs.ObjectsAt.{ObjectAt}
 use Rattle.erd_check.proofs.Shapes.{Within}
-use Rattle.erd_normal.specs.NormalTree.{normal_content, normal_node, normal_node_value, normal_nodes}
+use Rattle.erd_normal.specs.code.NormalTree.{normal_content, normal_node, normal_node_value, normal_nodes}
 use Rattle.erd_normal.proofs.AskedMembers.{entry_asked}
 use Rattle.erd_normal.proofs.BuiltFrom.{BuiltFrom, IsFilled, clean_built, is_kept, member_clean, normal_value-kept}
 use Rattle.erd_normal.proofs.CleanMembers.{normal_value-clean}

@@ -15,7 +15,8 @@ use Rattle.erd_tables.specs.declared.fault.Reason.TheVariants as reason
 use Rattle.erd_tables.specs.declared.member.MemberKind.{MemberKind}
 use Rattle.erd_tables.specs.declared.member.MemberKind.TheVariants as kind
 use Rattle.erd_check.specs.Faults.{is_array, is_shape_fault, NoneOf, ShapeFault}
-use Rattle.erd_check.specs.Trees.{IsTree, entries_of, list_of_items}
+use Rattle.erd_check.specs.Trees.{IsTree}
+use Rattle.erd_check.specs.Values.{entries_of, list_of_items}
 use Rattle.erd_check.specs.Wants.{asked, entry_want, is_compared_set, member_want, want_of_kind}
 use Rattle.erd_check.specs.declared.want.Want.{Want}
 use Rattle.erd_check.specs.declared.want.Want.TheVariants.{Member, Object}
@@ -25,7 +26,7 @@ use Rattle.erd_check.proofs.ObjectsAt.{ObjectIn, object_in}
 use Rattle.erd_check.proofs.Shapes.{Within, wanted_within}
 use Rattle.erd_check.proofs.TableKinds.{want_by_kind}
 use Rattle.erd_meaning.specs.SelectionNames.{rising_list, selection_role}
-use Rattle.erd_normal.specs.NormalTree.{array_of, by_key, by_name, id_of_selection, normal_content, normal_object, normal_object_value, normal_objects, normal_selection}
+use Rattle.erd_normal.specs.code.NormalTree.{array_of, by_key, by_name, id_of_selection, normal_content, normal_object, normal_object_value, normal_objects, normal_selection}
 use Rattle.erd_normal.proofs.AskedMembers.{entries_asked}
 use Rattle.erd_normal.proofs.BuiltFrom.{BuildsClean, IsFilled, clean_built, is_kept, member_of_builder, normal_value-builds, normal_value-kept, required_other}
 use Rattle.erd_normal.proofs.BuiltLists.{all_map, all_rising}

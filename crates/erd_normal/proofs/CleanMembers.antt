@@ -17,7 +17,8 @@ use Rattle.erd_tables.specs.declared.fault.Reason.TheVariants as reason
 use Rattle.erd_tables.specs.declared.member.MemberKind.{MemberKind}
 use Rattle.erd_tables.specs.declared.member.MemberKind.TheVariants as kind
 use Rattle.erd_check.specs.Faults.{is_empty_array, is_shape_fault, NoneOf, ShapeFault}
-use Rattle.erd_check.specs.Trees.{IsTree, entries_of, list_of_items}
+use Rattle.erd_check.specs.Trees.{IsTree}
+use Rattle.erd_check.specs.Values.{entries_of, list_of_items, text_of}
 use Rattle.erd_check.specs.Wants.{asked, class_of_object, member_want, want_of_kind}
 use Rattle.erd_check.specs.declared.want.Want.TheVariants.{Member, Object, Reference}
 use Rattle.erd_check.proofs.Clean.{IsClean}
@@ -25,7 +26,7 @@ use Rattle.erd_check.proofs.Entries.{array_from}
 use Rattle.erd_check.proofs.Exact.{text_exact}
 use Rattle.erd_check.proofs.Shapes.{Classed, Within, classed, faultless, member_within, of_label, wanted_within}
 use Rattle.erd_meaning.specs.SelectionNames.{compact_cmp, rising_list, with_rising_text}
-use Rattle.erd_normal.specs.NormalTree.{array_of, normal_id, normal_reference, normal_selection_reference, normal_value, reference_cmp, text_of}
+use Rattle.erd_normal.specs.code.NormalTree.{array_of, normal_id, normal_reference, normal_selection_reference, normal_value, reference_cmp}
 use Rattle.erd_normal.proofs.AskedMembers.{label_texts}
 use Rattle.erd_normal.proofs.CleanSets.{as_empty, clean_references, clean_rising_set, given_unless}
 use Rattle.erd_normal.proofs.CleanValues.{clean_object, clean_reference, clean_within}

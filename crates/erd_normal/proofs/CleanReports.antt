@@ -14,7 +14,8 @@ use Rattle.erd_tables.specs.declared.member.MemberKind.{MemberKind}
 use Rattle.erd_tables.specs.declared.member.MemberKind.TheVariants as kind
 use Rattle.erd_tables.specs.declared.place.Step.{Step}
 use Rattle.erd_check.specs.Faults.{has_not_one_entry, is_array, is_shape_fault, NoneOf, ShapeFault}
-use Rattle.erd_check.specs.Trees.{IsTree, entries_of}
+use Rattle.erd_check.specs.Trees.{IsTree}
+use Rattle.erd_check.specs.Values.{entries_of}
 use Rattle.erd_check.specs.Wants.{Asked, asked, asked_inside, member_want, want_of_kind}
 use Rattle.erd_check.specs.declared.want.Want.TheVariants.{Member, Object}
 use Rattle.erd_check.proofs.Clean.{IsClean, clean_by_steps, clean_report}
@@ -22,11 +23,11 @@ use Rattle.erd_check.proofs.Exact.{text_exact}
 use Rattle.erd_check.proofs.ObjectsAt.{ObjectAt, election_class, object_at}
 use Rattle.erd_check.proofs.Shapes.{Within, faultless, wanted_within}
 use Rattle.erd_check.proofs.Whole.{not_true}
-use Rattle.erd_meaning.proofs.Lists.{list_of_items-items_of}
+use Rattle.erd_check.proofs.Lists.{list_of_items-items_of}
 use Rattle.erd_meaning.proofs.Phases.{no_shape_fault}
 use Rattle.erd_meaning.proofs.Skeleton.{Skeleton, skeleton_of_shape}
 use Rattle.erd_meaning.specs.Accepted.{IsAccepted}
-use Rattle.erd_normal.specs.NormalTree.{array_of, normal_election, normal_election_value, normal_objects, normal_report_value, normal_tree, normal_value}
+use Rattle.erd_normal.specs.code.NormalTree.{array_of, normal_election, normal_election_value, normal_objects, normal_report_value, normal_tree, normal_value}
 use Rattle.erd_normal.proofs.BuiltFrom.{BuildsClean, IsFilled, clean_built, is_kept, member_of_builder, normal_value-kept, required_is}
 use Rattle.erd_normal.proofs.CleanFamilies.{clean_built_list, objects_clean}
 use Rattle.erd_normal.proofs.CleanMembers.{normal_value-clean}

@@ -10,7 +10,8 @@ use Rattle.erd_tables.specs.declared.fault.Reason.{Reason}
 use Rattle.erd_tables.specs.declared.fault.Reason.TheVariants as reason
 use Rattle.erd_tables.specs.declared.place.Step.TheVariants.{At}
 use Rattle.erd_check.specs.Faults.{is_array, is_empty_array, is_reference, is_shape_fault, NoneOf, ShapeFault}
-use Rattle.erd_check.specs.Trees.{IsTree, entries_of, is_same_json, list_of_items}
+use Rattle.erd_check.specs.Trees.{IsTree, is_same_json}
+use Rattle.erd_check.specs.Values.{entries_of, list_of_items}
 use Rattle.erd_check.specs.Wants.{Asked, asked, entry_want, is_compared_set, is_repeated}
 use Rattle.erd_check.specs.declared.want.Want.{Want}
 use Rattle.erd_check.specs.declared.want.Want.TheVariants.{Reference}
@@ -18,9 +19,9 @@ use Rattle.erd_check.proofs.Clean.{IsClean}
 use Rattle.erd_check.proofs.Exact.{is_same_exact}
 use Rattle.erd_check.proofs.Order.{In, In-all, all_from_In}
 use Rattle.erd_check.proofs.Shapes.{Within, Within-step, false_unless, faultless, within-tree}
-use Rattle.erd_meaning.proofs.Lists.{list_of_items-items_of}
+use Rattle.erd_check.proofs.Lists.{list_of_items-items_of}
 use Rattle.erd_meaning.specs.SelectionNames.{rising_list, with_inserted}
-use Rattle.erd_normal.specs.NormalTree.{array_of, unless_no_entry}
+use Rattle.erd_normal.specs.code.NormalTree.{array_of, unless_no_entry}
 use Rattle.erd_normal.proofs.AskedMembers.{all_items}
 use Rattle.erd_normal.proofs.BuiltLists.{all_map, all_of, all_rising, trees_listed}
 use Rattle.erd_normal.proofs.CleanValues.{clean_array, clean_reference, clean_within, entry_holds}

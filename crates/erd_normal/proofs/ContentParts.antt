@@ -6,7 +6,7 @@ use Rattle.serde_json.specs.Written.{has_float, items_have_float}
 use Rattle.serde_json.specs.declared.value.Value.{Value}
 use Rattle.erd_tables.specs.declared.member.MemberKind.{MemberKind}
 use Rattle.erd_tables.specs.declared.member.MemberKind.TheVariants as kind
-use Rattle.erd_normal.specs.NormalTree.{normal_content, normal_node, normal_node_value, normal_nodes, normal_value}
+use Rattle.erd_normal.specs.code.NormalTree.{normal_content, normal_node, normal_node_value, normal_nodes, normal_value}
 
 first_whole : (a b : Bool) → a || b ≡ false → a ≡ false
 first_whole true b e = e

@@ -15,7 +15,8 @@ use Rattle.erd_tables.specs.declared.class.Class.TheVariants as class
 use Rattle.erd_tables.specs.declared.class.Family.TheVariants as family
 use Rattle.erd_tables.specs.declared.class.Role.TheVariants as role
 use Rattle.erd_tables.specs.declared.member.MemberKind.TheVariants as kind
-use Rattle.erd_check.specs.Trees.{AreMembers, AreTrees, IsTree, list_of_items}
+use Rattle.erd_check.specs.Trees.{AreMembers, AreTrees, IsTree}
+use Rattle.erd_check.specs.Values.{list_of_items, text_at}
 use Rattle.erd_check.proofs.Shapes.{Classed, Within, Within-step, asked_inside_object, classed, wanted_within, asked_at-steps, lacks_none, member_within, of_role}
 use Rattle.erd_check.specs.Wants.{asked, class_of_object, want_of_kind}
 use Rattle.erd_check.specs.declared.want.Want.TheVariants.{Member, Object, Reference}
@@ -32,7 +33,7 @@ use Rattle.erd_meaning.specs.Accepted.{IsAccepted}
 use Rattle.erd_meaning.specs.LaterFaults.{is_selection_in}
 use Rattle.erd_meaning.specs.NameParts.{NameParts}
 use Rattle.erd_meaning.specs.SelectionNames.{key_named, name_named}
-use Rattle.erd_meaning.specs.Keys.{text_at, has_keys}
+use Rattle.erd_meaning.specs.Keys.{has_keys}
 use Rattle.erd_meaning.proofs.References.{owned, selected}
 use Rattle.erd_meaning.specs.Objects.{owner}
 use Rattle.erd_meaning.proofs.Phases.{no_shape_fault}

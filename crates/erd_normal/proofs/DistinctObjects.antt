@@ -11,10 +11,10 @@ use Rattle.erd_tables.specs.declared.place.Step.{Step}
 use Rattle.erd_tables.specs.declared.place.Step.TheVariants.{At}
 use Rattle.erd_check.proofs.Rising.{Has}
 use Rattle.erd_meaning.specs.Accepted.{IsAccepted}
-use Rattle.erd_meaning.specs.Keys.{entries_at, has_keys, key_cmp, key_of}
+use Rattle.erd_meaning.specs.Keys.{has_keys, key_cmp, key_of, kept_key}
+use Rattle.erd_check.specs.Values.{entries_at}
 use Rattle.erd_meaning.specs.Lookups.{key_in}
 use Rattle.erd_meaning.specs.NameParts.{NameParts}
-use Rattle.erd_meaning.specs.ObjectWalk.{kept_key}
 use Rattle.erd_meaning.specs.Objects.{Placed, contests, objects, placed_from, selections_of}
 use Rattle.erd_meaning.specs.Orders.{key_cmp_exact, name_cmp_exact}
 use Rattle.erd_meaning.specs.SelectionNames.{name_cmp, name_of}
@@ -23,7 +23,7 @@ use Rattle.erd_meaning.proofs.OneObject.{in_at, one_key}
 use Rattle.erd_meaning.proofs.Phases.{no_identity_fault}
 use Rattle.erd_meaning.proofs.References.{has_identifier}
 use Rattle.erd_meaning.proofs.Standing.{flat-has, one_named, stands}
-use Rattle.erd_normal.specs.NormalTree.{by_key, by_name}
+use Rattle.erd_normal.specs.code.NormalTree.{by_key, by_name}
 use Rattle.erd_normal.proofs.DistinctEntries.{distinct_from_one_place, distinct_map}
 use Rattle.erd_normal.proofs.RisingSets.{has_from_In}
 use Rattle.erd_normal.proofs.Selections.{has_name}

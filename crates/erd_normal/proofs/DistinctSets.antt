@@ -19,7 +19,8 @@ use Rattle.erd_tables.specs.declared.place.Step.TheVariants.{At}
 use Rattle.erd_check.specs.declared.want.Want.{Want}
 use Rattle.erd_check.specs.declared.want.Want.TheVariants.{Member, Object, Reference}
 use Rattle.erd_check.specs.Faults.{is_shape_fault}
-use Rattle.erd_check.specs.Trees.{AreTrees, is_same_json, list_of_items}
+use Rattle.erd_check.specs.Trees.{AreTrees, is_same_json}
+use Rattle.erd_check.specs.Values.{list_of_items}
 use Rattle.erd_check.specs.Wants.{asked, entry_want, is_compared_set, is_repeated}
 use Rattle.erd_check.proofs.Entries.{list_of_items-place, list_of_items-tree, string_from_text}
 use Rattle.erd_check.proofs.Exact.{text_itself}
@@ -35,7 +36,7 @@ use Rattle.erd_meaning.specs.SelectionNames.{compact_cmp, key_named}
 use Rattle.erd_meaning.proofs.Phases.{no_reference_fault, no_shape_fault}
 use Rattle.erd_meaning.proofs.References.{resolves}
 use Rattle.erd_meaning.proofs.Standing.{one_keyed, owned_by}
-use Rattle.erd_normal.specs.NormalTree.{reference_cmp}
+use Rattle.erd_normal.specs.code.NormalTree.{reference_cmp}
 use Rattle.erd_normal.proofs.Arrays.{Names}
 use Rattle.erd_normal.proofs.DistinctEntries.{unrepeated_by_cmp}
 use Rattle.erd_normal.proofs.RisingSets.{has_from_In}

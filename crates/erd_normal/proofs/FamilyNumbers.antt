@@ -11,9 +11,8 @@ use Rattle.erd_meaning.proofs.OneObject.{in_at, one_key}
 use Rattle.erd_meaning.proofs.Phases.{no_identity_fault}
 use Rattle.erd_meaning.proofs.References.{has_identifier}
 use Rattle.erd_meaning.specs.Accepted.{IsAccepted}
-use Rattle.erd_meaning.specs.Keys.{has_keys, key_cmp, key_of}
+use Rattle.erd_meaning.specs.Keys.{has_keys, key_cmp, key_of, kept_key}
 use Rattle.erd_meaning.specs.Objects.{objects, Placed}
-use Rattle.erd_meaning.specs.ObjectWalk.{kept_key}
 use Rattle.erd_meaning.specs.Orders.{key_cmp_total}
 use Rattle.erd_meaning.specs.SelectionNames.{rising_list}
 use Rattle.erd_meaning.specs.declared.key.Key.{Key}
@@ -22,8 +21,8 @@ use Rattle.erd_normal.proofs.DistinctEntries.{distinct_by_cmp, place_of}
 use Rattle.erd_normal.proofs.Numbered.{number_of}
 use Rattle.erd_normal.proofs.RisingSets.{has_from_In}
 use Rattle.erd_normal.proofs.StableRising.{by_first}
-use Rattle.erd_normal.specs.Building.{AreNumbers, key_positions, numbered}
-use Rattle.erd_normal.specs.KeyOrders.{optional_key_exact}
+use Rattle.erd_normal.specs.code.Building.{AreNumbers, key_positions, numbered}
+use Rattle.erd_normal.specs.code.KeyOrders.{optional_key_exact}
 
 abbrev by_key_first : Option Key × ℕ → Option Key × ℕ → Ordering
 by_key_first = by_first (option_cmp key_cmp)

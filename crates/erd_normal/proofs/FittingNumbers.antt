@@ -11,7 +11,7 @@ use Rattle.erd_tables.specs.declared.place.Step.TheVariants.{At, Name}
 use Rattle.erd_check.specs.declared.want.Want.{Want}
 use Rattle.erd_check.specs.declared.want.Want.TheVariants.{Object}
 use Rattle.erd_check.specs.Numbers.{IsFittingNumber, HasFittingNumbers, ItemsHaveFittingNumbers, MembersHaveFittingNumbers}
-use Rattle.erd_check.specs.Trees.{list_of_items}
+use Rattle.erd_check.specs.Values.{list_of_items}
 use Rattle.erd_check.specs.Wants.{Asked, asked, asked_from, asked_inside, entry_want, is_compared_set, is_repeated, scope_inside, want_of_name}
 use Rattle.erd_check.proofs.Order.{In}
 use Rattle.erd_check.proofs.Shapes.{Within}

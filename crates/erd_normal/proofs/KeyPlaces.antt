@@ -11,8 +11,8 @@ use Rattle.erd_meaning.specs.SelectionNames.{rising_list}
 use Rattle.erd_normal.proofs.Numbered.{number_of}
 use Rattle.erd_normal.proofs.RisingSets.{length-rising}
 use Rattle.erd_normal.proofs.StableRising.{by_first}
-use Rattle.erd_normal.specs.Building.{numbered}
-use Rattle.erd_normal.specs.KeyRanks.{places_of, positioned}
+use Rattle.erd_normal.specs.code.Building.{numbered}
+use Rattle.erd_normal.specs.code.KeyRanks.{places_of, positioned}
 
 -- ---- lengths
 

@@ -5,7 +5,7 @@ use Rattle.serde_json.specs.Data.{Data}
 use Rattle.erd_meaning.specs.Keys.{key_of}
 use Rattle.erd_meaning.specs.Objects.{Placed}
 use Rattle.erd_meaning.specs.declared.key.Key.{Key}
-use Rattle.erd_normal.specs.Building.{key_positions}
+use Rattle.erd_normal.specs.code.Building.{key_positions}
 
 some_left : (os : List Placed) (n i : ℕ) (v : Data) → Some v ≡ option_map (λ o. o.value) (slice_get os i)
     → key_positions n (drop i os) ≡ (key_of v, n) ∷ key_positions (n + 1) (drop (suc i) os)

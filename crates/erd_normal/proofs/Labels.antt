@@ -8,7 +8,8 @@ use Rattle.erd_tables.specs.Classes.{role_of_class, text_of_class}
 use Rattle.erd_tables.specs.declared.class.Class.TheVariants as class
 use Rattle.erd_tables.specs.declared.class.Role.TheVariants as role
 use Rattle.erd_tables.specs.declared.member.MemberKind.TheVariants as kind
-use Rattle.erd_check.specs.Trees.{AreMembers, IsTree, list_of_items}
+use Rattle.erd_check.specs.Trees.{AreMembers, IsTree}
+use Rattle.erd_check.specs.Values.{list_of_items}
 use Rattle.erd_check.specs.Faults.{is_text, is_object}
 use Rattle.erd_check.proofs.Shapes.{Classed, Within, classed, wanted_within, lacks_none, member_within, of_label}
 use Rattle.erd_check.specs.Wants.{asked, class_of_object}

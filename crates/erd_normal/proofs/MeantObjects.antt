@@ -19,7 +19,8 @@ use Rattle.erd_tables.specs.declared.class.Role.TheVariants as role
 use Rattle.erd_tables.specs.declared.member.MemberKind.{MemberKind}
 use Rattle.erd_tables.specs.declared.member.MemberKind.TheVariants as kind
 use Rattle.erd_check.specs.Faults.{NoneOf, ShapeFault, is_array}
-use Rattle.erd_check.specs.Trees.{IsTree, entries_of}
+use Rattle.erd_check.specs.Trees.{IsTree}
+use Rattle.erd_check.specs.Values.{entries_of, entries_at, text_of}
 use Rattle.erd_check.specs.Wants.{asked, class_of_object}
 use Rattle.erd_check.specs.declared.want.Want.TheVariants.{Member, Object, Reference}
 use Rattle.erd_check.proofs.Entries.{entries_in}
@@ -28,7 +29,6 @@ use Rattle.erd_check.proofs.ObjectsAt.{ObjectIn, object_in}
 use Rattle.erd_check.proofs.Rising.{Has, all-Has}
 use Rattle.erd_check.proofs.Shapes.{Within, wanted_within, within-tree}
 use Rattle.erd_meaning.specs.Accepted.{IsAccepted}
-use Rattle.erd_meaning.specs.Keys.{entries_at}
 use Rattle.erd_meaning.specs.Meaning.{PlainValue, Record, a_plain, a_selection_map}
 use Rattle.erd_meaning.specs.NameParts.{NameParts}
 use Rattle.erd_meaning.specs.Objects.{Placed, objects}
@@ -38,7 +38,7 @@ use Rattle.erd_meaning.specs.SelectionNames.{name_cmp, name_named, name_of, risi
 use Rattle.erd_meaning.proofs.EqualNames.{equal_names, options_exact}
 use Rattle.erd_meaning.proofs.Phases.{no_shape_fault}
 use Rattle.erd_meaning.proofs.Standing.{stands}
-use Rattle.erd_normal.specs.NormalTree.{array_of, by_name, normal_object, normal_object_value, normal_selection, normal_selection_reference, normal_tree, normal_value, text_of, unless_no_entry}
+use Rattle.erd_normal.specs.code.NormalTree.{array_of, by_name, normal_object, normal_object_value, normal_selection, normal_selection_reference, normal_tree, normal_value, unless_no_entry}
 use Rattle.erd_normal.proofs.AskedMembers.{AskedAs, asked_as, entries_asked}
 use Rattle.erd_normal.proofs.FoundBuilt.{IsKept, found_in_order}
 use Rattle.erd_normal.proofs.MeantContents.{content_value_meant}

@@ -31,7 +31,7 @@ use Rattle.erd_meaning.specs.declared.key.Key.{Key}
 use Rattle.erd_meaning.proofs.EqualNames.{equal_keys, options_exact}
 use Rattle.erd_meaning.proofs.Phases.{no_shape_fault}
 use Rattle.erd_meaning.proofs.Skeleton.{Skeleton, elections_are, skeleton_of_shape}
-use Rattle.erd_normal.specs.NormalTree.{by_key, normal_election, normal_election_value, normal_object, normal_report_value, normal_tree, normal_value}
+use Rattle.erd_normal.specs.code.NormalTree.{by_key, normal_election, normal_election_value, normal_object, normal_report_value, normal_tree, normal_value}
 use Rattle.erd_normal.proofs.AskedMembers.{AskedAs, asked_as}
 use Rattle.erd_normal.proofs.BuiltLists.{all_map}
 use Rattle.erd_normal.proofs.FoundBuilt.{IsKept, find_values, found_in_order}

@@ -9,7 +9,8 @@ use Rattle.erd_tables.specs.declared.member.MemberKind.{MemberKind}
 use Rattle.erd_tables.specs.declared.member.MemberKind.TheVariants as kind
 use Rattle.erd_tables.specs.declared.place.Step.TheVariants.{At}
 use Rattle.erd_check.specs.Faults.{is_array, is_empty_array}
-use Rattle.erd_check.specs.Trees.{IsTree, entries_of, list_of_items}
+use Rattle.erd_check.specs.Trees.{IsTree}
+use Rattle.erd_check.specs.Values.{entries_of, list_of_items, text_of}
 use Rattle.erd_check.specs.Wants.{asked, is_repeated}
 use Rattle.erd_check.specs.declared.want.Want.TheVariants.{Member, Reference}
 use Rattle.erd_check.proofs.Entries.{string_from_text}
@@ -23,7 +24,7 @@ use Rattle.erd_meaning.specs.SelectionNames.{compact_cmp, key_named, keys_named,
 use Rattle.erd_meaning.proofs.Phases.{no_shape_fault}
 use Rattle.erd_meaning.proofs.References.{resolves, unrepeated_reference}
 use Rattle.erd_normal.specs.Canonical.{id_prefix}
-use Rattle.erd_normal.specs.NormalTree.{array_of, normal_id, normal_reference, normal_tree, normal_value, reference_cmp, text_of, unless_no_entry}
+use Rattle.erd_normal.specs.code.NormalTree.{array_of, normal_id, normal_reference, normal_tree, normal_value, reference_cmp, unless_no_entry}
 use Rattle.erd_normal.proofs.AskedMembers.{AskedAs, all_items}
 use Rattle.erd_normal.proofs.BuiltLists.{all_rising}
 use Rattle.erd_normal.proofs.NormalEntries.{listed_again, no_entry}

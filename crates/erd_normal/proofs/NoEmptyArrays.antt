@@ -7,7 +7,8 @@ use Rattle.erd_tables.specs.declared.fault.Reason.TheVariants as reason
 use Rattle.erd_tables.specs.declared.member.MemberKind.{MemberKind}
 use Rattle.erd_tables.specs.declared.member.MemberKind.TheVariants as kind
 use Rattle.erd_check.specs.Faults.{has_not_one_entry, is_array, is_empty_array, NoneOf, ShapeFault}
-use Rattle.erd_check.specs.Trees.{IsTree, entries_of, list_of_items}
+use Rattle.erd_check.specs.Trees.{IsTree}
+use Rattle.erd_check.specs.Values.{entries_of, list_of_items}
 use Rattle.erd_check.specs.Wants.{Asked, asked}
 use Rattle.erd_check.specs.declared.want.Want.{Want}
 use Rattle.erd_check.specs.declared.want.Want.TheVariants.{Member}
@@ -17,7 +18,7 @@ use Rattle.erd_meaning.proofs.Phases.{no_shape_fault}
 use Rattle.erd_meaning.specs.Accepted.{IsAccepted}
 use Rattle.erd_meaning.specs.SelectionNames.{compact_cmp, rising_list, with_rising_text}
 use Rattle.erd_normal.specs.Canonical.{HasNoEmptyArray, kind_wanted}
-use Rattle.erd_normal.specs.NormalTree.{array_of, by_key, by_name, normal_content, normal_election, normal_nodes, normal_object, normal_reference, normal_selection, normal_selection_reference, normal_tree, reference_cmp}
+use Rattle.erd_normal.specs.code.NormalTree.{array_of, by_key, by_name, normal_content, normal_election, normal_nodes, normal_object, normal_reference, normal_selection, normal_selection_reference, normal_tree, reference_cmp}
 use Rattle.erd_normal.proofs.CleanReports.{as_one}
 use Rattle.erd_normal.proofs.CleanSets.{as_empty}
 use Rattle.erd_normal.proofs.RisingSets.{length-rising}

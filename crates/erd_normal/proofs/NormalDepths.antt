@@ -14,17 +14,18 @@ use Rattle.erd_tables.specs.declared.class.Role.TheVariants as role
 use Rattle.erd_tables.specs.declared.member.MemberKind.{MemberKind}
 use Rattle.erd_tables.specs.declared.member.MemberKind.TheVariants as kind
 use Rattle.erd_check.specs.Faults.{is_array, NoneOf, ShapeFault}
-use Rattle.erd_check.specs.Trees.{IsTree, AreMembers, IsNoDeeper, entries_of, list_of_items}
+use Rattle.erd_check.specs.Trees.{IsTree, AreMembers, IsNoDeeper}
+use Rattle.erd_check.specs.Values.{entries_of, list_of_items, entries_at}
 use Rattle.erd_check.specs.Wants.{asked, class_of_object, entry_want, is_compared_set}
 use Rattle.erd_check.specs.declared.want.Want.{Want}
 use Rattle.erd_check.specs.declared.want.Want.TheVariants.{Member, Object}
 use Rattle.erd_check.proofs.Members.{get_member-depth, get_member-first}
 use Rattle.erd_check.proofs.ObjectsAt.{ObjectAt, ObjectIn, object_in}
 use Rattle.erd_check.proofs.Shapes.{Within, Within-root, wanted_within, within-tree}
-use Rattle.erd_meaning.specs.Keys.{entries_at, key_of}
+use Rattle.erd_meaning.specs.Keys.{key_of}
 use Rattle.erd_meaning.specs.Records.{class_of_node}
 use Rattle.erd_meaning.specs.SelectionNames.{compact_cmp, rising_list, selection_role, with_rising_text}
-use Rattle.erd_normal.specs.NormalTree.{array_of, by_key, by_name, id_of_key, id_of_selection, in_envelope, normal_content, normal_election, normal_election_value, normal_members, normal_node, normal_node_members, normal_node_value, normal_nodes, normal_object, normal_object_value, normal_object_with, normal_objects, normal_reference, normal_report_value, normal_selection, normal_selection_reference, normal_tree, normal_value, reference_cmp, unless_no_entry, with_id}
+use Rattle.erd_normal.specs.code.NormalTree.{array_of, by_key, by_name, id_of_key, id_of_selection, in_envelope, normal_content, normal_election, normal_election_value, normal_members, normal_node, normal_node_members, normal_node_value, normal_nodes, normal_object, normal_object_value, normal_object_with, normal_objects, normal_reference, normal_report_value, normal_selection, normal_selection_reference, normal_tree, normal_value, reference_cmp, unless_no_entry, with_id}
 use Rattle.erd_normal.proofs.AskedMembers.{AskedAs, asked_as, entries_asked, entry_asked, label_texts}
 use Rattle.erd_normal.proofs.BuiltLists.{IfSome, if_some_is, all_rising, all_map, all_of, items_of-depth, listed_depth, unless_no_entry-holds}
 use Rattle.erd_normal.proofs.NormalEnvelope.{with_envelope-depth}

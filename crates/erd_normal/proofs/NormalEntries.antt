@@ -13,12 +13,12 @@ use Rattle.erd_tables.specs.declared.class.Family.TheVariants as family
 use Rattle.erd_tables.specs.declared.class.Role.TheVariants as role
 use Rattle.erd_tables.specs.declared.member.MemberKind.TheVariants as kind
 use Rattle.erd_check.specs.Faults.{is_empty_array, is_object, NoneOf, ShapeFault}
-use Rattle.erd_check.specs.Trees.{IsTree, entries_of, list_of_items}
+use Rattle.erd_check.specs.Trees.{IsTree}
+use Rattle.erd_check.specs.Values.{entries_of, list_of_items, entries_at}
 use Rattle.erd_check.specs.Wants.{class_of_object}
 use Rattle.erd_check.proofs.Entries.{entries_in}
-use Rattle.erd_meaning.specs.Keys.{entries_at}
 use Rattle.erd_meaning.specs.SelectionNames.{compact_cmp, rising_list, selection_role, with_rising_text}
-use Rattle.erd_normal.specs.NormalTree.{array_of, by_key, by_name, normal_election, normal_object, normal_reference, normal_report_value, normal_selection, normal_tree, reference_cmp, unless_no_entry}
+use Rattle.erd_normal.specs.code.NormalTree.{array_of, by_key, by_name, normal_election, normal_object, normal_reference, normal_report_value, normal_selection, normal_tree, reference_cmp, unless_no_entry}
 use Rattle.erd_normal.proofs.NormalGets.{get_election, get_label-text, get_object, get_selection}
 use Rattle.erd_normal.proofs.NormalReports.{get_report}
 

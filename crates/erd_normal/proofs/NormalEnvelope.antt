@@ -9,7 +9,7 @@ use Rattle.erd_tables.specs.Table.{is_envelope_name}
 use Rattle.erd_check.specs.Trees.{IsTree, AreMembers}
 use Rattle.erd_check.proofs.Exact.{both_true, text_exact}
 use Rattle.erd_check.proofs.PutTrees.{put-trees}
-use Rattle.erd_normal.specs.NormalTree.{with_envelope}
+use Rattle.erd_normal.specs.code.NormalTree.{with_envelope}
 use Rattle.erd_normal.proofs.PutMembers.{put_elsewhere, put-depth}
 
 -- ---- several values put at their names

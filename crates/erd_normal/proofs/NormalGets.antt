@@ -18,11 +18,12 @@ use Rattle.erd_check.specs.Faults.{is_object}
 use Rattle.erd_check.specs.Trees.{IsTree}
 use Rattle.erd_check.specs.Wants.{class_of_object}
 use Rattle.erd_check.proofs.TableKinds.{kind_of_id}
-use Rattle.erd_meaning.specs.Keys.{entries_at, key_of}
+use Rattle.erd_meaning.specs.Keys.{key_of}
+use Rattle.erd_check.specs.Values.{entries_at}
 use Rattle.erd_meaning.specs.Objects.{id_of}
 use Rattle.erd_meaning.specs.Records.{class_of_node}
 use Rattle.erd_meaning.specs.SelectionNames.{compact_cmp, rising_list, selection_role, with_rising_text}
-use Rattle.erd_normal.specs.NormalTree.{array_of, id_of_key, id_of_selection, normal_content, normal_election, normal_election_value, normal_node, normal_node_value, normal_object, normal_object_value, normal_object_with, normal_selection, normal_value, with_id}
+use Rattle.erd_normal.specs.code.NormalTree.{array_of, id_of_key, id_of_selection, normal_content, normal_election, normal_election_value, normal_node, normal_node_value, normal_object, normal_object_value, normal_object_with, normal_selection, normal_value, with_id}
 use Rattle.erd_normal.proofs.AskedMembers.{kind_of_type}
 use Rattle.erd_normal.proofs.NormalMembers.{get_normal, get_normal_node, node_value}
 use Rattle.erd_normal.proofs.PutMembers.{put_elsewhere}

@@ -30,7 +30,7 @@ use Rattle.erd_meaning.proofs.Phases.{no_identity_fault, no_shape_fault}
 use Rattle.erd_meaning.proofs.References.{option_map-Some}
 use Rattle.erd_meaning.proofs.Standing.{stands}
 use Rattle.erd_normal.specs.Canonical.{canonical_id}
-use Rattle.erd_normal.specs.NormalTree.{by_key, normal_object, normal_tree, rank_of}
+use Rattle.erd_normal.specs.code.NormalTree.{by_key, normal_object, normal_tree, rank_of}
 use Rattle.erd_normal.proofs.BuiltLists.{all_map, all_rising}
 use Rattle.erd_normal.proofs.LeastKeys.{key_of_object}
 use Rattle.erd_normal.proofs.NormalGets.{id_of_object}

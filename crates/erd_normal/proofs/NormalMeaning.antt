@@ -6,8 +6,9 @@ use Rattle.erd_check.specs.Trees.{IsTree}
 use Rattle.erd_meaning.specs.Accepted.{IsAccepted}
 use Rattle.erd_meaning.specs.Objects.{owner}
 use Rattle.erd_meaning.specs.Records.{meaning}
-use Rattle.erd_normal.specs.NormalTree.{normal_tree, text_of}
-use Rattle.erd_normal.specs.Tables.{IsBounded}
+use Rattle.erd_normal.specs.code.NormalTree.{normal_tree}
+use Rattle.erd_check.specs.Values.{text_of}
+use Rattle.erd_normal.specs.code.Tables.{IsBounded}
 use Rattle.erd_normal.proofs.MeantObjects.{Facts}
 use Rattle.erd_normal.proofs.MeantReports.{meaning_of_normal_tree}
 use Rattle.erd_normal.proofs.NormalNames.{Refers, name_built_within, reference_refers}

@@ -12,7 +12,7 @@ use Rattle.erd_tables.specs.declared.class.Class.{Class}
 use Rattle.erd_tables.specs.declared.member.MemberKind.{MemberKind}
 use Rattle.erd_check.specs.Trees.{IsTree, AreMembers, IsBeforeFirst}
 use Rattle.erd_check.proofs.Members.{get_member-before, get_member-first}
-use Rattle.erd_normal.specs.NormalTree.{normal_members, normal_node_members, normal_node_value, normal_content}
+use Rattle.erd_normal.specs.code.NormalTree.{normal_members, normal_node_members, normal_node_value, normal_content}
 
 -- ---- of any value by name
 

@@ -16,23 +16,24 @@ use Rattle.erd_tables.specs.declared.member.MemberKind.TheVariants as kind
 use Rattle.erd_tables.specs.declared.place.Step.TheVariants.{At}
 use Rattle.erd_check.specs.declared.want.Want.{Want}
 use Rattle.erd_check.specs.declared.want.Want.TheVariants.{Member, Object, Reference}
-use Rattle.erd_check.specs.Trees.{IsTree, list_of_items}
+use Rattle.erd_check.specs.Trees.{IsTree}
+use Rattle.erd_check.specs.Values.{list_of_items, entries_at}
 use Rattle.erd_check.specs.Wants.{asked, is_repeated}
 use Rattle.erd_check.proofs.Entries.{array_from, string_from_text}
 use Rattle.erd_check.proofs.ObjectsAt.{ObjectAt, ObjectIn, object_in}
 use Rattle.erd_check.proofs.Rising.{Has}
 use Rattle.erd_check.proofs.Shapes.{Within, Within-step, wanted_within, within-tree}
 use Rattle.erd_meaning.specs.Accepted.{IsAccepted}
-use Rattle.erd_meaning.specs.Keys.{entries_at, has_keys, key_cmp}
+use Rattle.erd_meaning.specs.Keys.{has_keys, key_cmp}
 use Rattle.erd_meaning.specs.Objects.{Placed, contests, objects, owner, selections_of}
 use Rattle.erd_meaning.specs.SelectionNames.{is_write_in, key_named, keys_named, keys_of_selection, label_of_selection, name_in_class, name_of, order_of_selection, rising_list, selection_role, with_rising_text}
 use Rattle.erd_meaning.proofs.Phases.{no_shape_fault}
 use Rattle.erd_meaning.proofs.References.{owned, unrepeated_reference}
 use Rattle.erd_meaning.proofs.Standing.{flat-has, stands}
 use Rattle.erd_normal.specs.Canonical.{id_prefix}
-use Rattle.erd_normal.specs.NormalTree.{normal_label, normal_value, normal_reference, normal_selection, normal_tree, reference_cmp}
+use Rattle.erd_normal.specs.code.NormalTree.{normal_label, normal_value, normal_reference, normal_selection, normal_tree, reference_cmp}
 use Rattle.erd_normal.proofs.AskedMembers.{AskedAs, all_items, asked_as}
-use Rattle.erd_normal.specs.Tables.{IsBounded}
+use Rattle.erd_normal.specs.code.Tables.{IsBounded}
 use Rattle.erd_normal.proofs.BuiltLists.{all_rising}
 use Rattle.erd_normal.proofs.LeastKeys.{key_of_selection}
 use Rattle.erd_normal.proofs.NormalEntries.{selection_references}

@@ -14,7 +14,7 @@ use Rattle.erd_meaning.proofs.References.{find-any, option_map-Some}
 use Rattle.erd_meaning.proofs.Sets.{any-has}
 use Rattle.erd_meaning.proofs.Standing.{has_id-Some, has_id-from, owned_by}
 use Rattle.erd_normal.specs.Canonical.{canonical_id, id_prefix}
-use Rattle.erd_normal.specs.NormalTree.{by_key, id_of_key, normal_id, normal_object, normal_tree}
+use Rattle.erd_normal.specs.code.NormalTree.{by_key, id_of_key, normal_id, normal_object, normal_tree}
 use Rattle.erd_normal.proofs.CanonicalIds.{canonical_id_exact}
 use Rattle.erd_normal.proofs.LeastKeys.{key_of_object}
 use Rattle.erd_normal.proofs.NormalKeys.{IsClassed, ids_by_rank, rank_is, values_classed}

@@ -16,7 +16,7 @@ use Rattle.erd_check.specs.declared.want.Want.TheVariants.{Object}
 use Rattle.erd_check.proofs.Rising.{Has, Has-cases, here, later}
 use Rattle.erd_check.proofs.Shapes.{Within}
 use Rattle.erd_meaning.specs.Accepted.{IsAccepted}
-use Rattle.erd_meaning.specs.Keys.{entries_at}
+use Rattle.erd_check.specs.Values.{entries_at}
 use Rattle.erd_meaning.specs.NameParts.{NameParts}
 use Rattle.erd_meaning.specs.Objects.{Placed, contests, id_of, objects, placed_from, selections_of}
 use Rattle.erd_meaning.specs.Orders.{name_cmp_exact, name_cmp_total}
@@ -25,7 +25,7 @@ use Rattle.erd_meaning.proofs.References.{option_map-Some}
 use Rattle.erd_meaning.proofs.Skeleton.{values-placed_entries}
 use Rattle.erd_meaning.proofs.Standing.{flat-has, one_named, stands}
 use Rattle.erd_normal.specs.Canonical.{HasCanonicalIds, canonical_selection_id}
-use Rattle.erd_normal.specs.NormalTree.{by_key, by_name, normal_selection, normal_tree}
+use Rattle.erd_normal.specs.code.NormalTree.{by_key, by_name, normal_selection, normal_tree}
 use Rattle.erd_normal.proofs.BuiltLists.{all_map, all_rising}
 use Rattle.erd_normal.proofs.NormalGets.{id_of_built_selection}
 use Rattle.erd_normal.proofs.NormalKeys.{IsClassed, built_at, ids_by_rank, object_classed, rank_is, rising_classed}

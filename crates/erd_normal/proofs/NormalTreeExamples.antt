@@ -3,7 +3,7 @@ use Rattle.std.proofs.Common.{◌≡◌, refl}
 use Rattle.std.specs.Fmt.{digits}
 use Rattle.serde_json.proofs.OnLiterals.{serde_json_on_literals}
 use Rattle.erd_check.proofs.Reports.{tree_of, one_unit, small_ballot, small_ballot_canonical}
-use Rattle.erd_normal.specs.NormalTree.{normal_tree}
+use Rattle.erd_normal.specs.code.NormalTree.{normal_tree}
 use Rattle.erd_normal.proofs.MeaningExamples.{one_unit_canonical}
 
 one_unit_built : normal_tree (tree_of one_unit) ≡ tree_of one_unit_canonical

@@ -12,7 +12,7 @@ use Rattle.erd_normal.proofs.RisingOrders.{rising_strictly}
 use Rattle.erd_normal.proofs.RisingRanks.{rank_in, stands_at_rank}
 use Rattle.erd_normal.proofs.RisingSets.{In-rising, length-rising}
 use Rattle.erd_normal.proofs.StableRising.{by_first}
-use Rattle.erd_normal.specs.Building.{numbered}
+use Rattle.erd_normal.specs.code.Building.{numbered}
 
 set_other : (ns : List ℕ) (i j n : ℕ) → (i ≡ j → ⊥) → slice_get (slice_set ns i n) j ≡ slice_get ns j
 set_other [] zero j n other = refl

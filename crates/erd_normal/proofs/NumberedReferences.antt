@@ -16,10 +16,10 @@ use Rattle.erd_meaning.specs.SelectionNames.{key_named}
 use Rattle.erd_meaning.specs.declared.key.Key.{Key}
 use Rattle.erd_normal.proofs.DistinctEntries.{place_of}
 use Rattle.erd_normal.proofs.RisingSets.{has_from_In, In-from_has}
-use Rattle.erd_normal.specs.Building.{AreNumbers, numbered_id}
+use Rattle.erd_normal.specs.code.Building.{AreNumbers, numbered_id}
 use Rattle.erd_normal.specs.Canonical.{id_prefix}
-use Rattle.erd_normal.specs.NormalTree.{normal_id, rank_of}
-use Rattle.erd_normal.specs.Tables.{AreSelectionNumbers, AreTables, number_in, table_of}
+use Rattle.erd_normal.specs.code.NormalTree.{normal_id, rank_of}
+use Rattle.erd_normal.specs.code.Tables.{AreSelectionNumbers, AreTables, number_in, table_of}
 use Rattle.erd_normal.specs.declared.tables.Tables.{Tables}
 
 -- the `@id` text of a rank

@@ -16,8 +16,8 @@ use Rattle.erd_meaning.specs.SelectionNames.{name_cmp, name_of, rising_list}
 use Rattle.erd_meaning.specs.declared.key.Key.{Key}
 use Rattle.erd_normal.proofs.BuiltLists.{all_rising}
 use Rattle.erd_normal.proofs.StableRising.{rising_by_part}
-use Rattle.erd_normal.specs.NormalTree.{by_key, by_name}
-use Rattle.erd_normal.specs.PlacedTree.{beside_name, beside_own_key, map_from}
+use Rattle.erd_normal.specs.code.NormalTree.{by_key, by_name}
+use Rattle.erd_normal.specs.code.PlacedTree.{beside_name, beside_own_key, map_from}
 use Rattle.erd_normal.specs.StableOrder.{IsStablySorted}
 
 -- ---- built one after another

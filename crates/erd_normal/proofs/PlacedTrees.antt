@@ -12,7 +12,8 @@ use Rattle.erd_tables.specs.declared.class.Family.TheVariants as family
 use Rattle.erd_tables.specs.declared.class.Role.TheVariants as role
 use Rattle.erd_tables.specs.declared.member.MemberKind.{MemberKind}
 use Rattle.erd_tables.specs.declared.member.MemberKind.TheVariants as kind
-use Rattle.erd_check.specs.Trees.{AreMembers, IsTree, entries_of}
+use Rattle.erd_check.specs.Trees.{AreMembers, IsTree}
+use Rattle.erd_check.specs.Values.{entries_of, entries_at}
 use Rattle.erd_check.specs.Wants.{asked, class_of_object}
 use Rattle.erd_check.specs.declared.want.Want.TheVariants.{Object}
 use Rattle.erd_check.proofs.Members.{get_member-first}
@@ -23,7 +24,7 @@ use Rattle.erd_meaning.proofs.Phases.{no_shape_fault}
 use Rattle.erd_meaning.proofs.Skeleton.{Skeleton, skeleton}
 use Rattle.erd_meaning.proofs.Standing.{stands}
 use Rattle.erd_meaning.specs.Accepted.{IsAccepted}
-use Rattle.erd_meaning.specs.Keys.{entries_at, has_keys}
+use Rattle.erd_meaning.specs.Keys.{has_keys}
 use Rattle.erd_meaning.specs.Objects.{Placed, objects}
 use Rattle.erd_meaning.specs.SelectionNames.{rising_list, selection_role}
 use Rattle.erd_normal.proofs.BuiltFrom.{Builder}
@@ -33,8 +34,8 @@ use Rattle.erd_normal.proofs.NormalSelections.{has_at}
 use Rattle.erd_normal.proofs.Positions.{map_has}
 use Rattle.erd_normal.proofs.RisingLists.{has_rising}
 use Rattle.erd_normal.proofs.RisingReports.{object_ids, selection_ids}
-use Rattle.erd_normal.specs.NormalTree.{array_of, by_key, by_name, in_envelope, normal_election, normal_election_value, normal_members, normal_object, normal_object_value, normal_object_with, normal_report_value, normal_selection, normal_tree, normal_value, unless_no_entry, with_id}
-use Rattle.erd_normal.specs.PlacedTree.{map_from, placed_election, placed_election_value, placed_object, placed_object_value, placed_objects, placed_report_value, placed_selection, placed_tree}
+use Rattle.erd_normal.specs.code.NormalTree.{array_of, by_key, by_name, in_envelope, normal_election, normal_election_value, normal_members, normal_object, normal_object_value, normal_object_with, normal_report_value, normal_selection, normal_tree, normal_value, unless_no_entry, with_id}
+use Rattle.erd_normal.specs.code.PlacedTree.{map_from, placed_election, placed_election_value, placed_object, placed_object_value, placed_objects, placed_report_value, placed_selection, placed_tree}
 
 -- ---- lists and members
 

@@ -13,7 +13,8 @@ use Rattle.erd_tables.specs.declared.class.Role.TheVariants as role
 use Rattle.erd_tables.specs.declared.member.MemberKind.TheVariants as kind
 use Rattle.erd_tables.specs.declared.fault.Reason.TheVariants as reason
 use Rattle.erd_check.specs.declared.want.Want.{Want}
-use Rattle.erd_check.specs.Trees.{AreMembers, AreTrees, IsTree, list_of_items}
+use Rattle.erd_check.specs.Trees.{AreMembers, AreTrees, IsTree}
+use Rattle.erd_check.specs.Values.{list_of_items}
 use Rattle.erd_check.specs.declared.want.Want.TheVariants.{Member, Object}
 use Rattle.erd_check.proofs.ObjectsAt.{ObjectAt, ObjectIn, object_in}
 use Rattle.erd_check.proofs.Shapes.{Within, faultless, wanted_within, member_within}

@@ -11,22 +11,22 @@ use Rattle.erd_tables.specs.declared.member.MemberKind.TheVariants as kind
 use Rattle.erd_tables.specs.declared.place.Step.{Step}
 use Rattle.erd_tables.specs.declared.place.Step.TheVariants.{Name, At}
 use Rattle.erd_check.specs.declared.want.Want.TheVariants.{Member, Object, Reference}
-use Rattle.erd_check.specs.Trees.{IsTree, list_of_items}
+use Rattle.erd_check.specs.Trees.{IsTree}
+use Rattle.erd_check.specs.Values.{list_of_items, entries_at, text_at, text_of}
 use Rattle.erd_check.specs.Wants.{Asked, asked, asked_at, asked_inside}
 use Rattle.erd_check.proofs.Entries.{array_from}
 use Rattle.erd_check.proofs.ObjectsAt.{ObjectIn, object_in}
 use Rattle.erd_check.proofs.Shapes.{Within, Within-step, asked_at-steps, asked_inside_object, lacks_none, of_role, wanted_within, within-tree}
 use Rattle.erd_meaning.specs.Accepted.{IsAccepted}
-use Rattle.erd_meaning.specs.Keys.{entries_at, text_at}
 use Rattle.erd_meaning.specs.LaterFaults.{is_other_selection, is_selection_in}
 use Rattle.erd_meaning.specs.Objects.{owner}
 use Rattle.erd_meaning.specs.Records.{class_of_node}
 use Rattle.erd_meaning.proofs.Phases.{no_shape_fault}
 use Rattle.erd_meaning.proofs.References.{selected}
 use Rattle.erd_meaning.proofs.Standing.{owned_by}
-use Rattle.erd_normal.specs.NormalTree.{normal_content, normal_id, normal_node, normal_node_value, normal_object, normal_selection_reference, normal_tree, text_of}
+use Rattle.erd_normal.specs.code.NormalTree.{normal_content, normal_id, normal_node, normal_node_value, normal_object, normal_selection_reference, normal_tree}
 use Rattle.erd_normal.proofs.AskedMembers.{all_items}
-use Rattle.erd_normal.specs.Tables.{IsBounded}
+use Rattle.erd_normal.specs.code.Tables.{IsBounded}
 use Rattle.erd_normal.proofs.BuiltLists.{all_map}
 use Rattle.erd_normal.proofs.ContestSelections.{reference_in_built}
 use Rattle.erd_normal.proofs.NormalEntries.{entries_built}

@@ -19,7 +19,8 @@ use Rattle.erd_tables.specs.declared.place.Step.{Step}
 use Rattle.erd_check.specs.declared.want.Want.{Want}
 use Rattle.erd_check.specs.declared.want.Want.TheVariants.{Member, Reference}
 use Rattle.erd_check.specs.Faults.{is_reference}
-use Rattle.erd_check.specs.Trees.{IsTree, entries_of, is_same_json, list_of_items}
+use Rattle.erd_check.specs.Trees.{IsTree, is_same_json}
+use Rattle.erd_check.specs.Values.{entries_of, list_of_items, text_of}
 use Rattle.erd_check.specs.Wants.{Asked, asked, asked_at, is_repeated}
 use Rattle.erd_check.proofs.Entries.{array_from}
 use Rattle.erd_check.proofs.Exact.{text_exact}
@@ -35,8 +36,8 @@ use Rattle.erd_meaning.specs.declared.key.Key.{Key}
 use Rattle.erd_meaning.proofs.Phases.{no_shape_fault}
 use Rattle.erd_meaning.proofs.Sets.{any-has}
 use Rattle.erd_normal.specs.Canonical.{keys_referred}
-use Rattle.erd_normal.specs.NormalTree.{normal_id, normal_reference, normal_selection_reference, normal_tree, reference_cmp, text_of}
-use Rattle.erd_normal.specs.Tables.{IsBounded}
+use Rattle.erd_normal.specs.code.NormalTree.{normal_id, normal_reference, normal_selection_reference, normal_tree, reference_cmp}
+use Rattle.erd_normal.specs.code.Tables.{IsBounded}
 use Rattle.erd_normal.proofs.BuiltLists.{all_map, all_rising}
 use Rattle.erd_normal.proofs.CleanSets.{AreUnlike, unlike_unrepeated}
 use Rattle.erd_normal.proofs.CleanValues.{entry_holds}

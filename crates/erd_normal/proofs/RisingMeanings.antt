@@ -11,15 +11,16 @@ use Rattle.serde_json.specs.Find.{as_str, get_member}
 use Rattle.serde_json.specs.View.{items_of}
 use Rattle.serde_json.proofs.Views.{get_member-put, get_member-put_other}
 use Rattle.erd_tables.specs.declared.class.Family.{Family}
-use Rattle.erd_check.specs.Trees.{is_same_json, entries_of}
+use Rattle.erd_check.specs.Trees.{is_same_json}
+use Rattle.erd_check.specs.Values.{entries_of, entries_at}
 use Rattle.erd_check.proofs.Exact.{text_itself}
-use Rattle.erd_meaning.specs.Keys.{entries_at, key_cmp, key_of, least_key, least_key_of, lesser_key, triple_of}
+use Rattle.erd_meaning.specs.Keys.{key_cmp, key_of, least_key, least_key_of, lesser_key, triple_of}
 use Rattle.erd_meaning.specs.Meaning.{translated}
 use Rattle.erd_meaning.specs.Orders.{key_cmp_exact, key_cmp_total}
 use Rattle.erd_meaning.specs.Records.{beside_text, json_set, key_set, label_of}
 use Rattle.erd_meaning.specs.SelectionNames.{compact_cmp, key_named, keys_named, rising_list, with_rising_text}
 use Rattle.erd_meaning.specs.declared.key.Key.{Key}
-use Rattle.erd_meaning.proofs.Lists.{list_of_items-items_of}
+use Rattle.erd_check.proofs.Lists.{list_of_items-items_of}
 use Rattle.erd_normal.proofs.RisingOrders.{greater_turned, less_turned}
 use Rattle.erd_normal.proofs.RisingSets.{any-rising, any_filter_map-rising, whole-rising}
 

@@ -12,18 +12,19 @@ use Rattle.erd_tables.specs.declared.class.Role.TheVariants as role
 use Rattle.erd_tables.specs.declared.member.MemberKind.TheVariants as kind
 use Rattle.erd_check.specs.declared.want.Want.TheVariants.{Member}
 use Rattle.erd_check.specs.Numbers.{ItemsHaveFittingNumbers}
-use Rattle.erd_check.specs.Trees.{AreTrees, list_of_items}
+use Rattle.erd_check.specs.Trees.{AreTrees}
+use Rattle.erd_check.specs.Values.{list_of_items, entries_at, text_of}
 use Rattle.erd_check.specs.Wants.{asked}
 use Rattle.erd_check.proofs.Order.{sorted_map}
 use Rattle.erd_check.proofs.Rising.{Has}
 use Rattle.erd_check.proofs.Shapes.{Within}
 use Rattle.erd_meaning.specs.Accepted.{IsAccepted}
-use Rattle.erd_meaning.specs.Keys.{entries_at, has_keys, key_cmp, key_of}
+use Rattle.erd_meaning.specs.Keys.{has_keys, key_cmp, key_of}
 use Rattle.erd_meaning.specs.Objects.{Placed, objects}
 use Rattle.erd_meaning.specs.Orders.{compact_cmp_total, key_cmp_total, name_cmp_total}
 use Rattle.erd_meaning.specs.SelectionNames.{compact_cmp, key_named, name_cmp, name_of, rising_list}
 use Rattle.erd_normal.specs.Canonical.{canonical_id, canonical_selection_id}
-use Rattle.erd_normal.specs.NormalTree.{by_key, by_name, id_of_key, id_of_selection, rank_of, rank_of_name, reference_cmp, text_of}
+use Rattle.erd_normal.specs.code.NormalTree.{by_key, by_name, id_of_key, id_of_selection, rank_of, rank_of_name, reference_cmp}
 use Rattle.erd_normal.proofs.CompactTexts.{compact_exact}
 use Rattle.erd_normal.proofs.DistinctObjects.{selection_values_distinct, values_distinct}
 use Rattle.erd_normal.proofs.DistinctSets.{json_values_distinct, references_distinct}

@@ -15,7 +15,7 @@ use Rattle.erd_tables.specs.declared.place.Step.TheVariants.{Name}
 use Rattle.erd_check.proofs.Rising.{Has}
 use Rattle.erd_meaning.proofs.OneObject.{in_at}
 use Rattle.erd_meaning.specs.Accepted.{IsAccepted}
-use Rattle.erd_meaning.specs.Keys.{entries_at}
+use Rattle.erd_check.specs.Values.{entries_at}
 use Rattle.erd_meaning.specs.Objects.{Placed, contests, objects, placed_entries, placed_from, selections_of}
 use Rattle.erd_meaning.specs.Orders.{name_cmp_total}
 use Rattle.erd_meaning.specs.SelectionNames.{name_cmp, name_of}
@@ -25,9 +25,9 @@ use Rattle.erd_normal.proofs.KeyPlaces.{length_places, place_is}
 use Rattle.erd_normal.proofs.NumberedParts.{in_part}
 use Rattle.erd_normal.proofs.RisingRanks.{rank_map}
 use Rattle.erd_normal.proofs.RisingSets.{has_from_In}
-use Rattle.erd_normal.specs.KeyRanks.{numbers_in_contest, numbers_in_election, numbers_in_report}
-use Rattle.erd_normal.specs.NormalTree.{rank_of_name}
-use Rattle.erd_normal.specs.Tables.{AreSelectionNumbers}
+use Rattle.erd_normal.specs.code.KeyRanks.{numbers_in_contest, numbers_in_election, numbers_in_report}
+use Rattle.erd_normal.specs.code.NormalTree.{rank_of_name}
+use Rattle.erd_normal.specs.code.Tables.{AreSelectionNumbers}
 
 module _ (t : Data) where
   -- the numbers of the selections of a contest

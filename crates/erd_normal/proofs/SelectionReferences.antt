@@ -16,7 +16,8 @@ use Rattle.erd_meaning.proofs.OneObject.{in_at, with_part}
 use Rattle.erd_meaning.proofs.References.{find-Some, option_map-Some}
 use Rattle.erd_meaning.proofs.Standing.{flat-has, has_id-Some, one_object, owner_is, stands}
 use Rattle.erd_meaning.specs.Accepted.{IsAccepted}
-use Rattle.erd_meaning.specs.Keys.{entries_at, key_of}
+use Rattle.erd_meaning.specs.Keys.{key_of}
+use Rattle.erd_check.specs.Values.{entries_at}
 use Rattle.erd_meaning.specs.Lookups.{FindsId, id_in, selection_in}
 use Rattle.erd_meaning.specs.NameParts.{NameParts}
 use Rattle.erd_meaning.specs.Objects.{Placed, contests, has_id, id_of, numbered_selections, numbered_selections_of, objects, selections_of}
@@ -26,9 +27,9 @@ use Rattle.erd_normal.proofs.DistinctEntries.{place_of}
 use Rattle.erd_normal.proofs.FoundInParts.{FoundSelection, owner_found}
 use Rattle.erd_normal.proofs.RisingSets.{has_from_In, In-from_has}
 use Rattle.erd_normal.proofs.Selections.{has_name}
-use Rattle.erd_normal.specs.NormalTree.{contest_with, id_of_selection, normal_selection_reference, rank_of, rank_of_name, selection_with}
-use Rattle.erd_normal.specs.PlacedTree.{selection_id_numbered}
-use Rattle.erd_normal.specs.Tables.{AreTables, number_in}
+use Rattle.erd_normal.specs.code.NormalTree.{contest_with, id_of_selection, normal_selection_reference, rank_of, rank_of_name, selection_with}
+use Rattle.erd_normal.specs.code.PlacedTree.{selection_id_numbered}
+use Rattle.erd_normal.specs.code.Tables.{AreTables, number_in}
 use Rattle.erd_normal.specs.declared.tables.Tables.{Tables}
 
 -- ---- the selections of a report, without the numbers of their contests

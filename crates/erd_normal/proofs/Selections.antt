@@ -19,7 +19,7 @@ use Rattle.erd_check.proofs.Shapes.{Within}
 use Rattle.erd_check.specs.Wants.{asked}
 use Rattle.erd_check.proofs.Entries.{entries_in}
 use Rattle.erd_check.specs.Faults.{is_empty_array}
-use Rattle.erd_check.specs.Trees.{entries_of, list_of_items}
+use Rattle.erd_check.specs.Values.{entries_of, list_of_items, entries_at}
 use Rattle.erd_meaning.specs.Objects.{Placed, has_id, id_of, objects, placed_entries, placed_from}
 use Rattle.erd_meaning.specs.Meaning.{SelectionRecord, MemberValue, a_selection_map}
 use Rattle.erd_meaning.specs.Records.{plain_member, selection_record, object_record, selection_map, unless_empty}
@@ -28,7 +28,7 @@ use Rattle.erd_meaning.specs.Accepted.{IsAccepted}
 use Rattle.erd_meaning.proofs.References.{find-Some}
 use Rattle.erd_meaning.specs.NameParts.{NameParts}
 use Rattle.erd_meaning.proofs.Standing.{contest_selections}
-use Rattle.erd_meaning.specs.Keys.{entries_at, has_keys}
+use Rattle.erd_meaning.specs.Keys.{has_keys}
 use Rattle.erd_meaning.specs.Orders.{name_cmp_exact, name_cmp_total}
 use Rattle.erd_meaning.proofs.Phases.{no_shape_fault}
 use Rattle.erd_normal.proofs.Families.{Alike}

@@ -14,20 +14,21 @@ use Rattle.erd_check.specs.declared.want.Want.{Want}
 use Rattle.erd_check.specs.declared.want.Want.TheVariants.{Member, Object}
 use Rattle.erd_check.specs.Faults.{is_array}
 use Rattle.erd_check.specs.Numbers.{HasFittingNumbers}
-use Rattle.erd_check.specs.Trees.{IsTree, entries_of, list_of_items}
+use Rattle.erd_check.specs.Trees.{IsTree}
+use Rattle.erd_check.specs.Values.{entries_of, list_of_items, entries_at, text_of}
 use Rattle.erd_check.specs.Wants.{Asked, asked}
 use Rattle.erd_check.proofs.Entries.{array_from}
 use Rattle.erd_check.proofs.Rising.{Has}
 use Rattle.erd_check.proofs.Shapes.{Within, wanted_within, within-tree}
 use Rattle.erd_meaning.specs.Accepted.{IsAccepted}
-use Rattle.erd_meaning.specs.Keys.{entries_at, has_keys, key_cmp}
+use Rattle.erd_meaning.specs.Keys.{has_keys, key_cmp}
 use Rattle.erd_meaning.specs.Objects.{Placed, objects}
 use Rattle.erd_meaning.specs.SelectionNames.{compact_cmp, key_named, name_cmp, name_of, rising_list, selection_role}
 use Rattle.erd_meaning.proofs.Phases.{no_shape_fault}
 use Rattle.erd_normal.specs.Canonical.{AreSetsInOrder, RisesAs, id_prefix, keys_of, keys_referred, kind_wanted}
-use Rattle.erd_normal.specs.NormalTree.{array_of, by_key, by_name, normal_object, normal_objects, normal_reference, normal_selection, normal_tree, reference_cmp, text_of}
+use Rattle.erd_normal.specs.code.NormalTree.{array_of, by_key, by_name, normal_object, normal_objects, normal_reference, normal_selection, normal_tree, reference_cmp}
 use Rattle.erd_normal.proofs.AskedMembers.{entries_asked}
-use Rattle.erd_normal.specs.Tables.{IsBounded}
+use Rattle.erd_normal.specs.code.Tables.{IsBounded}
 use Rattle.erd_normal.proofs.BuiltLists.{all_rising}
 use Rattle.erd_normal.proofs.FittingNumbers.{within-fitting}
 use Rattle.erd_normal.proofs.LeastKeys.{key_of_object}

@@ -17,7 +17,8 @@ use Rattle.erd_tables.specs.declared.fault.Reason.TheVariants as reason
 use Rattle.erd_tables.specs.declared.member.MemberKind.{MemberKind}
 use Rattle.erd_tables.specs.declared.member.MemberKind.TheVariants as kind
 use Rattle.erd_check.specs.Faults.{is_empty_array, NoneOf, ShapeFault}
-use Rattle.erd_check.specs.Trees.{IsTree, entries_of, list_of_items}
+use Rattle.erd_check.specs.Trees.{IsTree}
+use Rattle.erd_check.specs.Values.{entries_of, list_of_items, text_of}
 use Rattle.erd_check.specs.Wants.{Asked, asked, class_of_object, is_repeated, member_want, want_of_kind}
 use Rattle.erd_check.specs.declared.want.Want.TheVariants.{Object, ClassText, Reference, Member}
 use Rattle.erd_check.proofs.Entries.{array_from}
@@ -26,7 +27,7 @@ use Rattle.erd_check.proofs.Shapes.{Classed, Within, classed, faultless, member_
 use Rattle.erd_check.proofs.TableKinds.{kind_of_unlisted_has}
 use Rattle.erd_meaning.specs.SelectionNames.{compact_cmp, rising_list, with_rising_text}
 use Rattle.erd_normal.specs.Canonical.{id_prefix}
-use Rattle.erd_normal.specs.NormalTree.{array_of, normal_id, normal_reference, normal_selection_reference, normal_value, reference_cmp, text_of}
+use Rattle.erd_normal.specs.code.NormalTree.{array_of, normal_id, normal_reference, normal_selection_reference, normal_value, reference_cmp}
 use Rattle.erd_normal.proofs.AskedMembers.{entries_asked, label_texts}
 use Rattle.erd_normal.proofs.BuiltLists.{all_map}
 use Rattle.erd_normal.proofs.CleanSets.{given_unless, rising_entry}

@@ -25,7 +25,8 @@ use Rattle.erd_check.proofs.Whole.{no_strange, not_true}
 use Rattle.erd_meaning.specs.Accepted.{IsAccepted}
 use Rattle.erd_meaning.specs.Objects.{Placed, elections, id_of, objects, selections_of}
 use Rattle.erd_meaning.proofs.Skeleton.{Skeleton, elections_are, skeleton, values-placed_entries}
-use Rattle.erd_meaning.specs.Keys.{entries_at, has_keys}
+use Rattle.erd_meaning.specs.Keys.{has_keys}
+use Rattle.erd_check.specs.Values.{entries_at}
 use Rattle.erd_meaning.specs.Records.{is_in_envelope, meaning, member_of_class, plain_member, selection_record, object_record}
 use Rattle.erd_meaning.specs.Meaning.{ObjectRecord, SelectionRecord}
 use Rattle.erd_meaning.specs.SelectionNames.{selection_role}

@@ -8,7 +8,7 @@ use Rattle.erd_tables.specs.declared.class.Role.TheVariants as role
 use Rattle.erd_tables.specs.declared.member.MemberKind.TheVariants as kind
 use Rattle.erd_tables.specs.declared.place.Step.{Step}
 use Rattle.erd_tables.specs.declared.place.Step.TheVariants.{Name, At}
-use Rattle.erd_check.specs.Trees.{list_of_items, entries_of}
+use Rattle.erd_check.specs.Values.{list_of_items, entries_of}
 use Rattle.erd_check.specs.Wants.{asked_at, scope_inside, want_of_name, entry_want, is_table_set}
 use Rattle.erd_check.specs.declared.want.Scope.{Scope}
 use Rattle.erd_check.specs.declared.want.Want.{Want}

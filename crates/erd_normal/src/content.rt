@@ -2,10 +2,10 @@ ghost use Rattle.std.specs.Prelude.{◌≡◌, false, Some, map, option_map, IfO
 ghost use Rattle.serde_json.specs.View.{view, items_view, members_view};
 ghost use Rattle.serde_json.specs.Written.{has_float, items_have_float, members_have_float};
 ghost use Rattle.erd_tables.specs.Table.{kind_of_member};
-ghost use Rattle.erd_normal.specs.NormalTree.{normal_content, normal_node, normal_node_members, normal_node_value};
+ghost use Rattle.erd_normal.specs.code.NormalTree.{normal_content, normal_node, normal_node_members, normal_node_value};
 
+use erd_check::values::{class_of_object, is_empty_array};
 use crate::members::put_built;
-use crate::shape::{class_of_value, is_empty_array};
 use crate::value_rule::ValueRule;
 use erd_tables::{Class, MemberKind, Role, member_kind};
 use serde_json::{Map, Value};
@@ -49,7 +49,7 @@ fn node<V: ValueRule>(alloc: Global, values: &V, value: &Value) -> Result<Value,
 {
     match value {
         Value::Object(members) => {
-            let class = class_of_value(Role::Content, value);
+            let class = class_of_object(Role::Content, value);
             Ok(Value::Object(node_members(alloc, values, class, members)?))
         }
         other => other.clone(),

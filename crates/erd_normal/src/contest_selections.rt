@@ -3,7 +3,7 @@ ghost use Rattle.std.specs.List.{AllByRecursion};
 ghost use Rattle.serde_json.specs.View.{view, items_view};
 ghost use Rattle.serde_json.specs.Written.{has_float, items_have_float};
 ghost use Rattle.erd_meaning.specs.SelectionNames.{name_of};
-ghost use Rattle.erd_normal.specs.PlacedTree.{beside_name, map_from, placed_selection, placed_selections};
+ghost use Rattle.erd_normal.specs.code.PlacedTree.{beside_name, map_from, placed_selection, placed_selections};
 
 use crate::member_rule::MemberRule;
 use crate::objects::{object_by, with_id};
@@ -21,7 +21,7 @@ struct SelectionMembers<'a, V: ValueRule> {
 }
 
 impl<'a, V: ValueRule> MemberRule for SelectionMembers<'a, V> {
-    ghost use Rattle.erd_normal.specs.NormalTree.{normal_value};
+    ghost use Rattle.erd_normal.specs.code.NormalTree.{normal_value};
 
     ghost value_of = { λ rule name kind d. normal_value (V.report rule.values.now) kind d };
 

@@ -1,14 +1,14 @@
 ghost use Rattle.std.specs.Prelude.{◌≡◌, false, map, IfOk};
 ghost use Rattle.serde_json.specs.View.{view, items_view};
 ghost use Rattle.serde_json.specs.Written.{has_float, items_have_float};
-ghost use Rattle.erd_check.specs.Trees.{entries_of};
-ghost use Rattle.erd_normal.specs.NormalTree.{array_of};
-ghost use Rattle.erd_normal.specs.PlacedTree.{placed_election};
+ghost use Rattle.erd_check.specs.Values.{entries_of};
+ghost use Rattle.erd_normal.specs.code.NormalTree.{array_of};
+ghost use Rattle.erd_normal.specs.code.PlacedTree.{placed_election};
 
+use erd_check::values::entries_of;
 use crate::family_objects::family_array;
 use crate::member_rule::MemberRule;
 use crate::objects::object_by;
-use crate::shape::entries_of;
 use crate::value_rule::ValueRule;
 use erd_meaning::Report;
 use erd_tables::{MemberKind, Role};
@@ -24,7 +24,7 @@ struct ElectionMembers<'a, V: ValueRule> {
 
 impl<'a, V: ValueRule> MemberRule for ElectionMembers<'a, V> {
     ghost use Rattle.serde_json.specs.View.{view};
-    ghost use Rattle.erd_normal.specs.PlacedTree.{placed_election_value};
+    ghost use Rattle.erd_normal.specs.code.PlacedTree.{placed_election_value};
 
     ghost value_of = { λ rule name kind d. placed_election_value (view rule.report.now) (V.report rule.values.now) kind d };
 

@@ -2,16 +2,16 @@ ghost use Rattle.std.specs.Prelude.{◌≡◌, false, map, option_map, string_by
 ghost use Rattle.std.specs.List.{AllByRecursion};
 ghost use Rattle.serde_json.specs.View.{view, items_view};
 ghost use Rattle.serde_json.specs.Written.{has_float, items_have_float};
-ghost use Rattle.erd_check.specs.Trees.{entries_of};
-ghost use Rattle.erd_normal.specs.PlacedTree.{beside_own_key, id_numbered, map_from, placed_object, placed_objects};
-ghost use Rattle.erd_normal.specs.NormalTree.{array_of, unless_no_entry};
+ghost use Rattle.erd_check.specs.Values.{entries_of};
+ghost use Rattle.erd_normal.specs.code.PlacedTree.{beside_own_key, id_numbered, map_from, placed_object, placed_objects};
+ghost use Rattle.erd_normal.specs.code.NormalTree.{array_of, unless_no_entry};
 
+use erd_check::values::{entries_of, is_empty_array};
 use crate::content::content;
 use crate::contest_selections::contest_selections;
 use crate::identifiers::id_text;
 use crate::member_rule::MemberRule;
 use crate::objects::{object_by, with_id};
-use crate::shape::{entries_of, is_empty_array};
 use crate::sorting::in_order;
 use crate::value_rule::ValueRule;
 use erd_meaning::{Key, Report, key_of};
@@ -29,7 +29,7 @@ struct ObjectMembers<'a, V: ValueRule> {
 
 impl<'a, V: ValueRule> MemberRule for ObjectMembers<'a, V> {
     ghost use Rattle.serde_json.specs.View.{view};
-    ghost use Rattle.erd_normal.specs.PlacedTree.{placed_object_value};
+    ghost use Rattle.erd_normal.specs.code.PlacedTree.{placed_object_value};
 
     ghost value_of = { λ rule name kind d. placed_object_value (view rule.report.now) (V.report rule.values.now) rule.number kind d };
 

@@ -1,5 +1,5 @@
 ghost use Rattle.std.specs.Prelude.{◌≡◌, string_bytes, IfOk};
-ghost use Rattle.erd_normal.specs.Building.{numbered_id};
+ghost use Rattle.erd_normal.specs.code.Building.{numbered_id};
 
 use erd_tables::Family;
 use std::alloc::{AllocError, Global};

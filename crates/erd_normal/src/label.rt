@@ -3,8 +3,8 @@ ghost use Rattle.serde_json.specs.View.{view};
 ghost use Rattle.serde_json.specs.Written.{has_float};
 ghost use Rattle.erd_meaning.specs.SelectionNames.{with_rising_text};
 
+use erd_check::values::entries_at;
 use crate::rising::rising_values;
-use crate::shape::entries;
 use serde_json::Value;
 use std::alloc::{AllocError, Global};
 
@@ -12,7 +12,7 @@ use std::alloc::{AllocError, Global};
 pub(crate) fn with_rising_text(alloc: Global, label: &Value) -> Result<Value, AllocError>
     ensures { IfOk result (λ copy. has_float (view label.now) ≡ false → view copy ≡ with_rising_text (view label.now)) }
 {
-    let translations = rising_values(alloc, entries(label, "Text"))?;
+    let translations = rising_values(alloc, entries_at(label, "Text"))?;
     match label.clone()? {
         Value::Object(mut members) => {
             serde_json::put(&mut members, alloc, "Text", Value::Array(translations))?;

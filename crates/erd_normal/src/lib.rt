@@ -22,7 +22,6 @@ mod rising;
 mod selection_numbers;
 mod selection_references;
 mod set_order;
-mod shape;
 mod sorting;
 mod tables;
 mod value_rule;

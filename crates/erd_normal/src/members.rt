@@ -2,8 +2,8 @@ ghost use Rattle.std.specs.Prelude.{◌≡◌, false, option_map, IfOk};
 ghost use Rattle.std.specs.Result.{OnOk};
 ghost use Rattle.serde_json.specs.View.{view, members_view};
 ghost use Rattle.serde_json.specs.Written.{members_have_float};
-ghost use Rattle.erd_normal.specs.Building.{put_if};
-ghost use Rattle.erd_normal.specs.NormalTree.{normal_members};
+ghost use Rattle.erd_normal.specs.code.Building.{put_if};
+ghost use Rattle.erd_normal.specs.code.NormalTree.{normal_members};
 
 use crate::member_rule::MemberRule;
 use erd_tables::{Class, member_kind};

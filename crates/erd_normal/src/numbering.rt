@@ -2,10 +2,11 @@ ghost use Rattle.std.specs.Prelude.{◌≡◌, ◌==◌, IfOk};
 ghost use Rattle.serde_json.specs.View.{view};
 ghost use Rattle.erd_tables.specs.Classes.{family_number};
 ghost use Rattle.erd_meaning.specs.Accepted.{IsAccepted};
-ghost use Rattle.erd_normal.specs.Building.{numbered_id};
-ghost use Rattle.erd_normal.specs.NormalTree.{normal_id, normal_reference, text_of};
-ghost use Rattle.erd_normal.specs.Tables.{AreTables, number_in, table_of};
+ghost use Rattle.erd_normal.specs.code.Building.{numbered_id};
+ghost use Rattle.erd_normal.specs.code.NormalTree.{normal_id, normal_reference};
+ghost use Rattle.erd_normal.specs.code.Tables.{AreTables, number_in, table_of};
 
+use erd_check::values::text_of;
 use crate::identifiers::id_text;
 use crate::numbers::family_numbers;
 use crate::selection_numbers::selection_numbers;
@@ -64,13 +65,6 @@ pub(crate) fn is_same(found: Family, family: Family) -> bool
     ensures { result ≡ (family_number found == family_number family) }
 {
     found == family
-}
-
-/// The text of a reference.
-pub(crate) fn text_of(value: &Value) -> &str
-    ensures { result.now ≡ text_of (view value.now) }
-{
-    value.as_str().unwrap_or("")
 }
 
 /// The number of the object of a family that has the `@id`, and 1 where none has it.

@@ -3,7 +3,7 @@ ghost use Rattle.serde_json.specs.View.{view};
 ghost use Rattle.erd_meaning.specs.Accepted.{IsAccepted};
 ghost use Rattle.erd_meaning.specs.Keys.{has_keys};
 ghost use Rattle.erd_meaning.specs.Objects.{objects};
-ghost use Rattle.erd_normal.specs.Building.{AreNumbers, key_positions, numbered};
+ghost use Rattle.erd_normal.specs.code.Building.{AreNumbers, key_positions, numbered};
 
 use crate::sorting::in_order;
 use erd_meaning::{Key, Report, key_of};

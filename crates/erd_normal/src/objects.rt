@@ -2,11 +2,11 @@ ghost use Rattle.std.specs.Prelude.{◌≡◌, false, Some, option_map, string_b
 ghost use Rattle.serde_json.specs.View.{view};
 ghost use Rattle.serde_json.specs.Written.{has_float};
 ghost use Rattle.erd_check.specs.Wants.{class_of_object};
-ghost use Rattle.erd_normal.specs.NormalTree.{normal_object_with, with_id};
+ghost use Rattle.erd_normal.specs.code.NormalTree.{normal_object_with, with_id};
 
+use erd_check::values::class_of_object;
 use crate::member_rule::MemberRule;
 use crate::members::members_by;
-use crate::shape::class_of_value;
 use erd_tables::{Class, Role};
 use serde_json::Value;
 use std::alloc::{AllocError, Global};
@@ -21,7 +21,7 @@ pub(crate) fn object_by<R: MemberRule>(
     requires whole { has_float (view value.now) ≡ false }
     ensures { IfOk result (λ built. view built ≡ normal_object_with (R.value_of rule.now) (class_of_object role (view value.now)) (view value.now)) }
 {
-    match class_of_value(role, value) {
+    match class_of_object(role, value) {
         Some(class) => object_in_class(alloc, rule, class, value),
         None => value.clone(),
     }

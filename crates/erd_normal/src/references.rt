@@ -3,11 +3,13 @@ ghost use Rattle.serde_json.specs.View.{view};
 ghost use Rattle.erd_meaning.specs.Accepted.{IsAccepted};
 ghost use Rattle.erd_meaning.specs.Keys.{key_of};
 ghost use Rattle.erd_meaning.specs.SelectionNames.{key_named, rising_list};
-ghost use Rattle.erd_normal.specs.Building.{beside_key, beside_named};
-ghost use Rattle.erd_normal.specs.NormalTree.{normal_reference, reference_cmp, text_of};
-ghost use Rattle.erd_normal.specs.Tables.{AreTables};
+ghost use Rattle.erd_normal.specs.code.Building.{beside_key, beside_named};
+ghost use Rattle.erd_normal.specs.code.NormalTree.{normal_reference, reference_cmp};
+ghost use Rattle.erd_check.specs.Values.{text_of};
+ghost use Rattle.erd_normal.specs.code.Tables.{AreTables};
 
-use crate::numbering::{is_same, reference, text_of};
+use erd_check::values::text_of;
+use crate::numbering::{is_same, reference};
 use crate::sorting::in_order;
 use crate::tables::Tables;
 use erd_meaning::{Key, Report, key_of};

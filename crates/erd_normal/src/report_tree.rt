@@ -2,7 +2,7 @@ ghost use Rattle.std.specs.Prelude.{◌≡◌, IfOk};
 ghost use Rattle.std.specs.Result.{OnOk};
 ghost use Rattle.serde_json.specs.Data.{number, put, string, unsigned};
 ghost use Rattle.serde_json.specs.View.{view, members_view};
-ghost use Rattle.erd_normal.specs.NormalTree.{in_envelope, normal_tree, with_envelope};
+ghost use Rattle.erd_normal.specs.code.NormalTree.{in_envelope, normal_tree, with_envelope};
 
 use crate::election::election_array;
 use crate::family_objects::family_array;
@@ -23,7 +23,7 @@ struct ReportMembers<'a, V: ValueRule> {
 
 impl<'a, V: ValueRule> MemberRule for ReportMembers<'a, V> {
     ghost use Rattle.serde_json.specs.View.{view};
-    ghost use Rattle.erd_normal.specs.PlacedTree.{placed_report_value};
+    ghost use Rattle.erd_normal.specs.code.PlacedTree.{placed_report_value};
 
     ghost value_of = { λ rule name kind d. placed_report_value (view rule.report.now) (V.report rule.values.now) name kind d };
 

@@ -1,6 +1,6 @@
 ghost use Rattle.std.specs.Prelude.{◌≡◌};
 ghost use Rattle.serde_json.specs.View.{view};
-ghost use Rattle.erd_normal.specs.Tables.{AreTables};
+ghost use Rattle.erd_normal.specs.code.Tables.{AreTables};
 
 use crate::member_rule::MemberRule;
 use crate::tables::Tables;
@@ -25,7 +25,7 @@ impl<'a> Model for ReportValues<'a> {
     ghost use Rattle.serde_json.specs.View.{view as data_of};
     ghost use Rattle.serde_json.specs.contracts.value.Value as tree_value;
     ghost use Rattle.serde_json.specs.declared.value.Value.{Value as Tree};
-    ghost use Rattle.erd_normal.specs.Tables.{AreTables};
+    ghost use Rattle.erd_normal.specs.code.Tables.{AreTables};
 
     ghost Value = { Tree };
 

@@ -2,7 +2,7 @@ ghost use Rattle.std.specs.Prelude.{◌≡◌, false, map, IfOk};
 ghost use Rattle.serde_json.specs.View.{view, items_view};
 ghost use Rattle.serde_json.specs.Written.{items_have_float};
 ghost use Rattle.erd_meaning.specs.SelectionNames.{compact_cmp, rising_list};
-ghost use Rattle.erd_normal.specs.Building.{beside, beside_text};
+ghost use Rattle.erd_normal.specs.code.Building.{beside, beside_text};
 
 use crate::compact_text::CompactText;
 use crate::sorting::in_order;

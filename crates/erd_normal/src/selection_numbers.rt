@@ -6,11 +6,11 @@ ghost use Rattle.erd_tables.specs.declared.class.Family.TheVariants as family;
 ghost use Rattle.erd_meaning.specs.Accepted.{IsAccepted};
 ghost use Rattle.erd_meaning.specs.Objects.{objects};
 ghost use Rattle.erd_meaning.specs.SelectionNames.{name_of};
-ghost use Rattle.erd_normal.specs.KeyRanks.{numbers_in_contest, numbers_of_selections, positioned};
-ghost use Rattle.erd_normal.specs.Tables.{AreSelectionNumbers};
+ghost use Rattle.erd_normal.specs.code.KeyRanks.{numbers_in_contest, numbers_of_selections, positioned};
+ghost use Rattle.erd_normal.specs.code.Tables.{AreSelectionNumbers};
 
+use erd_check::values::entries_at;
 use crate::numbers::numbers_by;
-use crate::shape::entries;
 use crate::sorting::in_order;
 use erd_meaning::{Report, SelectionName};
 use erd_tables::Family;
@@ -25,9 +25,9 @@ pub(crate) fn selection_numbers(alloc: Global, report: &Report) -> Result<Vec<us
 {
     let count = report.count(Family::Selection);
     let mut numbers = Vec::with_capacity(alloc, count)?;
-    let elections = entries(report.tree(), "Election");
+    let elections = entries_at(report.tree(), "Election");
     for election in elections {
-        let own = election_numbers(alloc, report, entries(election, "Contest"))?;
+        let own = election_numbers(alloc, report, entries_at(election, "Contest"))?;
         numbers.extend_from_slice(&own)?;
     }
     Ok(numbers)
@@ -45,7 +45,7 @@ fn election_numbers(
 {
     let mut numbers = Vec::new(alloc);
     for contest in contests {
-        let own = contest_numbers(alloc, report, entries(contest, "ContestSelection"))?;
+        let own = contest_numbers(alloc, report, entries_at(contest, "ContestSelection"))?;
         numbers.extend_from_slice(&own)?;
     }
     Ok(numbers)

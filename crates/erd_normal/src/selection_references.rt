@@ -3,11 +3,12 @@ ghost use Rattle.std.specs.Option.{option_map_or};
 ghost use Rattle.serde_json.specs.Data.{string};
 ghost use Rattle.serde_json.specs.View.{view};
 ghost use Rattle.erd_meaning.specs.Lookups.{selection_in};
-ghost use Rattle.erd_normal.specs.NormalTree.{normal_selection_reference};
-ghost use Rattle.erd_normal.specs.PlacedTree.{selection_id_numbered};
-ghost use Rattle.erd_normal.specs.Tables.{AreTables, number_in};
+ghost use Rattle.erd_normal.specs.code.NormalTree.{normal_selection_reference};
+ghost use Rattle.erd_normal.specs.code.PlacedTree.{selection_id_numbered};
+ghost use Rattle.erd_normal.specs.code.Tables.{AreTables, number_in};
 
-use crate::numbering::{is_same, number_at, text_of};
+use erd_check::values::text_of;
+use crate::numbering::{is_same, number_at};
 use crate::tables::Tables;
 use erd_meaning::Report;
 use erd_tables::Family;

@@ -59,7 +59,7 @@ impl SetOrder for Option<Key> {
     ghost use Rattle.std.specs.Option.{option_cmp};
     ghost use Rattle.erd_meaning.specs.Keys.{key_cmp};
     ghost use Rattle.erd_meaning.specs.Orders.{key_cmp_total};
-    ghost use Rattle.erd_normal.specs.KeyOrders.{optional_key_exact};
+    ghost use Rattle.erd_normal.specs.code.KeyOrders.{optional_key_exact};
 
     ghost cmp = { option_cmp key_cmp };
 
@@ -82,7 +82,7 @@ impl SetOrder for Option<SelectionName> {
     ghost use Rattle.std.specs.Option.{option_cmp};
     ghost use Rattle.erd_meaning.specs.Orders.{name_cmp_total};
     ghost use Rattle.erd_meaning.specs.SelectionNames.{name_cmp};
-    ghost use Rattle.erd_normal.specs.NameOrders.{optional_name_exact};
+    ghost use Rattle.erd_normal.specs.code.NameOrders.{optional_name_exact};
 
     ghost cmp = { option_cmp name_cmp };
 

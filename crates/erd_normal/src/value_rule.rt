@@ -2,7 +2,7 @@ ghost use Rattle.std.specs.Prelude.{◌≡◌, false, option_map, IfOk};
 ghost use Rattle.serde_json.specs.Data.{Data};
 ghost use Rattle.serde_json.specs.View.{view};
 ghost use Rattle.serde_json.specs.Written.{has_float};
-ghost use Rattle.erd_normal.specs.NormalTree.{normal_value};
+ghost use Rattle.erd_normal.specs.code.NormalTree.{normal_value};
 
 use erd_tables::MemberKind;
 use serde_json::Value;

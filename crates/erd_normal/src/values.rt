@@ -1,15 +1,15 @@
 ghost use Rattle.std.specs.Prelude.{◌≡◌, false, map, option_map, IfOk};
 ghost use Rattle.serde_json.specs.View.{view};
 ghost use Rattle.serde_json.specs.Written.{has_float};
-ghost use Rattle.erd_normal.specs.NormalTree.{array_of, normal_selection_reference, normal_value, unless_no_entry};
-ghost use Rattle.erd_normal.specs.Tables.{AreTables};
+ghost use Rattle.erd_normal.specs.code.NormalTree.{array_of, normal_selection_reference, normal_value, unless_no_entry};
+ghost use Rattle.erd_normal.specs.code.Tables.{AreTables};
 
+use erd_check::values::{entries_of, is_empty_array};
 use crate::label::with_rising_text;
 use crate::numbering::reference;
 use crate::references::rising_references;
 use crate::rising::rising_values;
 use crate::selection_references::selection_reference;
-use crate::shape::{entries_of, is_empty_array};
 use crate::tables::Tables;
 use erd_meaning::Report;
 use erd_tables::MemberKind;

@@ -1,6 +1,6 @@
 use Rattle.std.proofs.Common.{◌≡◌, ◌∙◌, ◌∷◌, Option, List, ap, ap₂, subst, sym}
 use Rattle.clap.specs.Words.{Row, Text, is_simple, subcommand_of, subcommand_rows_of, takes}
-use Rattle.erd_canon.specs.Subcommands.{program}
+use Rattle.erd_canon.specs.code.Subcommands.{program}
 use Rattle.erd_canon.specs.ExactLines.{IsAskedBy, words_of}
 use Rattle.erd_canon.proofs.LineReadings.{program_simple, line_found, takes-line}
 use Rattle.erd_canon.proofs.words.command_line.Goals as goal

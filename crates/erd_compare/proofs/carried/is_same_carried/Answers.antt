@@ -8,8 +8,8 @@ use Rattle.erd_tables.specs.declared.class.Class.{Class}
 use Rattle.erd_tables.specs.declared.member.MemberKind.{MemberKind}
 use Rattle.erd_tables.specs.declared.member.MemberKind.TheVariants as kind
 use Rattle.erd_meaning.specs.Records.{carried_members, if_carried}
-use Rattle.erd_compare.specs.Choices.{is_carried_kind, takes_name}
-use Rattle.erd_compare.specs.Comparing.{Decides}
+use Rattle.erd_compare.specs.code.Choices.{is_carried_kind, takes_name}
+use Rattle.erd_compare.specs.code.Comparing.{Decides}
 use Rattle.erd_compare.specs.declared.choice.Choice.TheVariants.{Carried}
 use Rattle.erd_compare.proofs.ChosenMembers.{chosen-Decides}
 use Rattle.erd_compare.proofs.carried.is_same_carried.Goals as goal

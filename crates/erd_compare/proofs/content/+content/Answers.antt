@@ -5,14 +5,13 @@ use Rattle.serde_json.specs.Data.{depth, items_depth}
 use Rattle.serde_json.specs.View.{items_view, view}
 use Rattle.serde_json.specs.declared.value.Value.{Value, the_lemmas}
 use Rattle.serde_json.proofs.Views.{view-Array}
-use Rattle.erd_check.specs.Trees.{entries_of}
+use Rattle.erd_check.specs.Values.{entries_of, text_at}
 use Rattle.erd_tables.specs.declared.class.Family.TheVariants as family
-use Rattle.erd_meaning.specs.Keys.{text_at}
 use Rattle.erd_meaning.specs.Records.{carried_members, class_of_node, node_of}
 use Rattle.erd_meaning.specs.SelectionNames.{key_named}
-use Rattle.erd_compare.specs.ContentParts.{content_within}
-use Rattle.erd_meaning.proofs.Lists.{list_of_items-items_of}
-use Rattle.erd_compare.specs.Comparing.{IsWholeTree}
+use Rattle.erd_compare.specs.code.ContentParts.{content_within}
+use Rattle.erd_check.proofs.Lists.{list_of_items-items_of}
+use Rattle.erd_compare.specs.code.Comparing.{IsWholeTree}
 use Rattle.erd_compare.proofs.EqualOptions.{decides_as}
 use Rattle.erd_compare.proofs.NodeParts.{decides_swap, entry_depth, get_depth, node_contest, node_header, within_none, within_some}
 use Rattle.erd_compare.proofs.SameContents.{content-Decides, content_of-none, contest-header, header-contest, header-Decides}

@@ -4,7 +4,7 @@ use Rattle.std.specs.Slice.Iter.{iter_rest}
 use Rattle.serde_json.specs.Data.{depth, items_depth}
 use Rattle.serde_json.specs.View.{items_view, view}
 use Rattle.erd_meaning.specs.Records.{node_of}
-use Rattle.erd_compare.specs.Comparing.{IsWholeTree}
+use Rattle.erd_compare.specs.code.Comparing.{IsWholeTree}
 use Rattle.erd_compare.proofs.StepByStep.{AreSameIfLeft}
 use Rattle.erd_compare.proofs.content.+content.Given as goal
 

@@ -5,7 +5,7 @@ use Rattle.serde_json.specs.Find.{as_str}
 use Rattle.serde_json.specs.View.{view}
 use Rattle.serde_json.specs.declared.value.Value.{Value}
 use Rattle.erd_tables.specs.declared.class.Family.TheVariants as family
-use Rattle.erd_meaning.specs.Keys.{entries_at, text_at}
+use Rattle.erd_check.specs.Values.{entries_at, text_at}
 use Rattle.erd_meaning.specs.NameParts.{NameParts}
 use Rattle.erd_meaning.specs.Records.{carried_members, class_of_node}
 use Rattle.erd_meaning.specs.SelectionNames.{key_named, name_named}
@@ -37,7 +37,7 @@ returns-then-is_same_rest c =
       | then-is_same_owner w ↦ (c.is_same_owner.ensures.0 w.if-is_same_owner.true, w.is_same_rest.ensures.0 (sym w.value-is ∙ c.if-is_same_rest.true))
       | else-is_same_owner w ↦ absurd (true≢false (sym c.if-is_same_rest.true ∙ (w.value-is ∙ w.if-is_same_owner.false)))
     ] in
-    let names = decides_as refl (names_at t d c.entries.result.now c.entries.ensures) (names_at u e c.entries-then-is_same_rest.result.now c.entries-then-is_same_rest.ensures) c.are_same_names.ensures in
+    let names = decides_as refl (names_at t d c.entries_at.result.now c.entries_at.ensures) (names_at u e c.entries_at-then-is_same_rest.result.now c.entries_at-then-is_same_rest.ensures) c.are_same_names.ensures in
     contest-Decides c.are_same_names.result k l (map (name_in t) (entries_at (codes "OrderedContestSelectionIds") d)) (map (name_in u) (entries_at (codes "OrderedContestSelectionIds") e)) m n
     (λ h. (both.0, both.1, names.0 h))
     (λ a b s. names.1 s)

@@ -2,7 +2,7 @@ use Rattle.std.proofs.Common.{◌≡◌, Some, sym, ◌∙◌}
 use Rattle.std.specs.Prelude.{IfOk}
 use Rattle.serde_json.specs.View.{view}
 use Rattle.erd_meaning.specs.Records.{object_with_key}
-use Rattle.erd_compare.specs.Comparing.{TellsHow}
+use Rattle.erd_compare.specs.code.Comparing.{TellsHow}
 use Rattle.erd_compare.proofs.KeyedRecords.{object_at_key, object_whole, only_left, records_at_key}
 use Rattle.erd_compare.proofs.families.difference_at.Goals as goal
 

@@ -1,7 +1,7 @@
 use Rattle.std.proofs.Common.{subst, arith}
 use Rattle.serde_json.specs.View.{view}
 use Rattle.erd_meaning.specs.Records.{records_of}
-use Rattle.erd_compare.specs.Comparing.{TellsHow}
+use Rattle.erd_compare.specs.code.Comparing.{TellsHow}
 use Rattle.erd_compare.proofs.LeastDifferences.{left_all, left_differs, left_keyless, left_same}
 use Rattle.erd_compare.proofs.families.least_of_left.Goals as goal
 use Rattle.erd_compare.proofs.families.least_of_left.Goals.{in-Some+in_ok-how+in-Some-2, in-Some+in_ok-how+in_default-2, in_default}

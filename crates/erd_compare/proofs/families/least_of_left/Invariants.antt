@@ -1,6 +1,6 @@
 use Rattle.serde_json.specs.View.{view}
 use Rattle.erd_meaning.specs.Records.{records_of}
-use Rattle.erd_compare.specs.KeyedDifferences.{HasKeyAmong, TellsAmong}
+use Rattle.erd_compare.specs.code.KeyedDifferences.{HasKeyAmong, TellsAmong}
 use Rattle.erd_compare.proofs.families.least_of_left.Given as goal
 
 abbrev pub invariant-loop-index : goal.invariant-loop-index

@@ -1,6 +1,6 @@
 use Rattle.serde_json.specs.View.{view}
 use Rattle.erd_meaning.specs.Records.{records_of}
-use Rattle.erd_compare.specs.KeyedDifferences.{HasKeyAloneAmong, TellsAmong}
+use Rattle.erd_compare.specs.code.KeyedDifferences.{HasKeyAloneAmong, TellsAmong}
 use Rattle.erd_compare.proofs.families.least_of_right.Given as goal
 
 abbrev pub invariant-loop-index : goal.invariant-loop-index

@@ -3,8 +3,8 @@ use Rattle.std.proofs.lemmas.Result.{IfOk-weaker}
 use Rattle.serde_json.specs.View.{view}
 use Rattle.erd_tables.specs.declared.class.Role.TheVariants as role
 use Rattle.erd_meaning.specs.Records.{meaning, object_record, records_of}
-use Rattle.erd_compare.specs.Comparing.{TellsPart}
-use Rattle.erd_compare.specs.KeyedDifferences.{TellsKeyed, TellsWhole}
+use Rattle.erd_compare.specs.code.Comparing.{TellsPart}
+use Rattle.erd_compare.specs.code.KeyedDifferences.{TellsKeyed, TellsWhole}
 use Rattle.erd_compare.proofs.FamilyTrees.{whole_election}
 use Rattle.erd_compare.proofs.PartsTold.{comparable, election_told, keyed_told, report_part, report_told}
 use Rattle.erd_compare.proofs.families.part_difference.Goals as goal

@@ -3,7 +3,7 @@ use Rattle.std.proofs.Common.{sym, ap, ◌∙◌}
 use Rattle.serde_json.specs.Find.{get}
 use Rattle.serde_json.specs.View.{view}
 use Rattle.erd_tables.specs.Table.{kind_of_member}
-use Rattle.erd_compare.specs.SelectionMembers.{is_selections}
+use Rattle.erd_compare.specs.code.SelectionMembers.{is_selections}
 use Rattle.erd_compare.proofs.MemberValues.{other_kind-Decides}
 use Rattle.erd_compare.proofs.member.is_same_member.Goals as goal
 

@@ -1,6 +1,6 @@
 use Rattle.std.proofs.Common.{subst, sym}
 use Rattle.serde_json.specs.View.{view}
-use Rattle.erd_compare.specs.Comparing.{NamesKeys}
+use Rattle.erd_compare.specs.code.Comparing.{NamesKeys}
 use Rattle.erd_compare.proofs.KeyedKinds.{member_keyed}
 use Rattle.erd_compare.proofs.WholeTrees.{whole_tree-get}
 use Rattle.erd_compare.proofs.plain.is_same_plain_member.Goals as goal

@@ -4,7 +4,7 @@ use Rattle.serde_json.specs.View.{members_view, view}
 use Rattle.serde_json.proofs.Views.{Entry}
 use Rattle.erd_check.specs.Trees.{AreMembers}
 use Rattle.erd_meaning.specs.Records.{member_of_class}
-use Rattle.erd_compare.specs.LeastNames.{MemberMap, TellsAmong}
+use Rattle.erd_compare.specs.code.LeastNames.{MemberMap, TellsAmong}
 use Rattle.erd_compare.proofs.LesserNames.{TellsOfAll, all-left, entries-rise, none-left, one-found, one-passed}
 use Rattle.erd_compare.proofs.record.first_name.Goals as goal
 

@@ -3,7 +3,7 @@ use Rattle.serde_json.specs.Data.{object}
 use Rattle.serde_json.specs.View.{view, members_view}
 use Rattle.erd_check.specs.Trees.{AreMembers}
 use Rattle.erd_meaning.specs.Records.{member_of_class}
-use Rattle.erd_compare.specs.LeastNames.{TellsAmong}
+use Rattle.erd_compare.specs.code.LeastNames.{TellsAmong}
 use Rattle.erd_compare.proofs.record.first_name.Given as goal
 
 abbrev pub invariant-loop-name : goal.invariant-loop-name

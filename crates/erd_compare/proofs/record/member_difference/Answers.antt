@@ -1,8 +1,8 @@
 -- The lesser of the two names is the least at which the objects differ.
 use Rattle.std.proofs.Common.{◌≡◌, List, ℕ, Option, Some, None, Bor, option_map, sym, ap, ◌∙◌, subst}
 use Rattle.serde_json.specs.View.{view}
-use Rattle.erd_compare.specs.Comparing.{TellsHow}
-use Rattle.erd_compare.specs.LeastNames.{lesser_name, record_of_class}
+use Rattle.erd_compare.specs.code.Comparing.{TellsHow}
+use Rattle.erd_compare.specs.code.LeastNames.{lesser_name, record_of_class}
 use Rattle.erd_compare.specs.declared.difference.How.TheVariants.{Member}
 use Rattle.erd_compare.proofs.LesserNames.{least-told}
 use Rattle.erd_compare.proofs.record.member_difference.Goals as goal

@@ -2,7 +2,7 @@ use Rattle.std.proofs.Common.{◌↔◌, drop, map}
 use Rattle.std.specs.List.{AllByRecursion}
 use Rattle.serde_json.specs.View.{view}
 use Rattle.erd_meaning.specs.Records.{selection_map}
-use Rattle.erd_compare.specs.AgreeingSelections.{AgreeAtOption}
+use Rattle.erd_compare.specs.code.AgreeingSelections.{AgreeAtOption}
 use Rattle.erd_compare.proofs.selections.are_same_at.Given as goal
 
 abbrev pub invariant-loop-name : goal.invariant-loop-name

@@ -2,7 +2,7 @@ use Rattle.std.proofs.Common.{◌↔◌, IfSome}
 use Rattle.serde_json.specs.Find.{as_object}
 use Rattle.serde_json.specs.View.{view, members_view}
 use Rattle.erd_meaning.specs.Records.{plain_member}
-use Rattle.erd_compare.specs.AgreeingSelections.{AgreeAtNames}
+use Rattle.erd_compare.specs.code.AgreeingSelections.{AgreeAtNames}
 use Rattle.erd_compare.proofs.selections.are_same_at_names.Given as goal
 
 abbrev pub invariant-loop-name : goal.invariant-loop-name

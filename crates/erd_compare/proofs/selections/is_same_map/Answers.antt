@@ -2,7 +2,7 @@ use Rattle.std.proofs.Common.{map, sym, ◌∙◌, subst}
 use Rattle.std.specs.List.{AllByRecursion}
 use Rattle.serde_json.specs.View.{view}
 use Rattle.erd_meaning.specs.Records.{selection_map}
-use Rattle.erd_compare.specs.AgreeingSelections.{AgreeAtOption}
+use Rattle.erd_compare.specs.code.AgreeingSelections.{AgreeAtOption}
 use Rattle.erd_compare.proofs.FoundNames.{agree_at_each, same_maps}
 use Rattle.erd_compare.proofs.selections.is_same_map.Goals as goal
 

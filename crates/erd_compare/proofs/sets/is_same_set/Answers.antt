@@ -2,7 +2,7 @@
 use Rattle.std.proofs.Common.{Bool, map, subst}
 use Rattle.serde_json.specs.View.{view}
 use Rattle.erd_meaning.specs.Records.{json_set}
-use Rattle.erd_compare.specs.Comparing.{Decides}
+use Rattle.erd_compare.specs.code.Comparing.{Decides}
 use Rattle.erd_compare.proofs.JsonSets.{first_answer, json_set-Decides, second_answer}
 use Rattle.erd_compare.proofs.WholeTrees.{whole_trees-views}
 use Rattle.erd_compare.proofs.sets.is_same_set.Goals as goal

@@ -1,7 +1,7 @@
 -- Equality as JSON decides equality of whole trees.
 use Rattle.std.proofs.Common.{sym, subst, Bool}
 use Rattle.serde_json.specs.View.{view}
-use Rattle.erd_compare.specs.Comparing.{Decides}
+use Rattle.erd_compare.specs.code.Comparing.{Decides}
 use Rattle.erd_compare.proofs.WholeTrees.{is_same_json-Decides}
 use Rattle.erd_compare.proofs.sets.is_same_value.Goals as goal
 

@@ -1,9 +1,9 @@
 use Rattle.std.proofs.Common.{◌≡◌, IfOk, List, codes, map, ap, ◌∙◌, subst}
 use Rattle.serde_json.specs.Data.{Data}
 use Rattle.serde_json.specs.View.{view}
-use Rattle.erd_meaning.specs.Keys.{entries_at}
+use Rattle.erd_check.specs.Values.{entries_at}
 use Rattle.erd_meaning.specs.SelectionNames.{compact_cmp, rising_list}
-use Rattle.erd_meaning.specs.TranslationOrder.{tree_cmp, tree_cmp_total}
+use Rattle.erd_meaning.specs.code.TranslationOrder.{tree_cmp, tree_cmp_total}
 use Rattle.erd_meaning.proofs.RisingLists.{rising_from_sort, rising_list_map}
 use Rattle.erd_meaning.proofs.label.rising_translations.Goals as goal
 

@@ -1,6 +1,6 @@
 use Rattle.std.proofs.Common.{◌≡◌, ◌+◌, ◌≤◌, drop, length, map}
 use Rattle.erd_meaning.specs.Lookups.{those_of}
-use Rattle.erd_meaning.specs.Shown.{shown}
+use Rattle.erd_meaning.specs.code.Shown.{shown}
 use Rattle.erd_meaning.proofs.lookup.count_of.Given as goal
 
 abbrev pub invariant-loop-object : goal.invariant-loop-object

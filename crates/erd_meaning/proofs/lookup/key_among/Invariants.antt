@@ -1,6 +1,6 @@
 use Rattle.std.proofs.Common.{◌≡◌, drop, map}
-use Rattle.erd_meaning.specs.NamesAmong.{key_among}
-use Rattle.erd_meaning.specs.Shown.{shown}
+use Rattle.erd_meaning.specs.code.NamesAmong.{key_among}
+use Rattle.erd_meaning.specs.code.Shown.{shown}
 use Rattle.erd_meaning.proofs.lookup.key_among.Given as goal
 
 abbrev pub invariant-loop-object : goal.invariant-loop-object

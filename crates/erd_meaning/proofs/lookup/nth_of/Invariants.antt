@@ -1,7 +1,7 @@
 use Rattle.std.proofs.Common.{◌≡◌, drop, map}
 use Rattle.std.specs.List.{slice_get}
 use Rattle.erd_meaning.specs.Lookups.{those_of}
-use Rattle.erd_meaning.specs.Shown.{shown}
+use Rattle.erd_meaning.specs.code.Shown.{shown}
 use Rattle.erd_meaning.proofs.lookup.nth_of.Given as goal
 
 abbrev pub invariant-loop-object : goal.invariant-loop-object

@@ -1,6 +1,6 @@
 use Rattle.std.proofs.Common.{◌≡◌, drop, map}
-use Rattle.erd_meaning.specs.SelectionWalk.{is_taken}
-use Rattle.erd_meaning.specs.Shown.{name_shown}
+use Rattle.erd_meaning.specs.code.SelectionWalk.{is_taken}
+use Rattle.erd_meaning.specs.code.Shown.{name_shown}
 use Rattle.erd_meaning.proofs.named_selection.is_taken.Given as goal
 
 abbrev pub invariant-loop-selection : goal.invariant-loop-selection

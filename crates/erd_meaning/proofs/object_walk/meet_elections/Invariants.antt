@@ -1,10 +1,10 @@
 use Rattle.std.proofs.Common.{◌≡◌, drop, map}
 use Rattle.std.specs.List.{flat_map}
 use Rattle.serde_json.specs.View.{view}
-use Rattle.erd_check.specs.Paths.{steps_of}
+use Rattle.erd_check.specs.code.Paths.{steps_of}
 use Rattle.erd_meaning.specs.Objects.{placed_from}
-use Rattle.erd_meaning.specs.ObjectWalk.{election_located, met_all}
-use Rattle.erd_meaning.specs.Shown.{met_of}
+use Rattle.erd_meaning.specs.code.ObjectWalk.{election_located, met_all}
+use Rattle.erd_meaning.specs.code.Shown.{met_of}
 use Rattle.erd_meaning.proofs.object_walk.meet_elections.Given as goal
 
 abbrev pub invariant-loop-index : goal.invariant-loop-index

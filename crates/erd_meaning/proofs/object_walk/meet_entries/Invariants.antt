@@ -1,9 +1,9 @@
 use Rattle.std.proofs.Common.{◌≡◌, drop, map}
 use Rattle.serde_json.specs.View.{view}
-use Rattle.erd_check.specs.Paths.{steps_of}
+use Rattle.erd_check.specs.code.Paths.{steps_of}
 use Rattle.erd_meaning.specs.Objects.{placed_from}
-use Rattle.erd_meaning.specs.ObjectWalk.{located, met_all}
-use Rattle.erd_meaning.specs.Shown.{met_of}
+use Rattle.erd_meaning.specs.code.ObjectWalk.{located, met_all}
+use Rattle.erd_meaning.specs.code.Shown.{met_of}
 use Rattle.erd_meaning.proofs.object_walk.meet_entries.Given as goal
 
 abbrev pub invariant-loop-index : goal.invariant-loop-index

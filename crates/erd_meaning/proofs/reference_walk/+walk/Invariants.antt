@@ -1,9 +1,9 @@
 use Rattle.std.proofs.Common.{◌≡◌, ◌++◌, map, take, drop, []}
 use Rattle.serde_json.specs.View.{view, items_view, members_view}
-use Rattle.erd_check.specs.Paths.{steps_of}
-use Rattle.erd_check.specs.Walk.{AreItemsInOrder, AreMembersInOrder}
-use Rattle.erd_meaning.specs.ReferenceWalk.{references_of_items, references_of_members}
-use Rattle.erd_meaning.specs.Shown.{shown}
+use Rattle.erd_check.specs.code.Paths.{steps_of}
+use Rattle.erd_check.specs.code.Walk.{AreItemsInOrder, AreMembersInOrder}
+use Rattle.erd_meaning.specs.code.ReferenceWalk.{references_of_items, references_of_members}
+use Rattle.erd_meaning.specs.code.Shown.{shown}
 use Rattle.erd_meaning.proofs.reference_walk.+walk.Given as goal
 
 abbrev pub invariant-walk_items-loop-index : goal.invariant-walk_items-loop-index

@@ -4,8 +4,8 @@ use Rattle.erd_tables.specs.declared.class.Role.TheVariants.{Report}
 use Rattle.erd_tables.specs.Faults.{ListsAll}
 use Rattle.erd_check.specs.declared.want.Want.TheVariants.{Object}
 use Rattle.erd_meaning.specs.LaterFaults.{ReferenceFault}
-use Rattle.erd_meaning.specs.ObjectWalk.{Kept}
-use Rattle.erd_meaning.specs.ReferenceWalk.{references_at}
+use Rattle.erd_meaning.specs.code.ObjectWalk.{Kept}
+use Rattle.erd_meaning.specs.code.ReferenceWalk.{references_at}
 use Rattle.erd_meaning.proofs.ReferenceWalks.{references_all}
 use Rattle.erd_meaning.proofs.reference_walk.reference_faults.Goals as goal
 

@@ -1,7 +1,7 @@
 use Rattle.std.proofs.Common.{◌≡◌, [], length, map, ap, ◌∙◌, sym}
 use Rattle.std.specs.Prelude.{◌≢◌}
 use Rattle.serde_json.specs.View.{view}
-use Rattle.erd_meaning.specs.Shown.{shown}
+use Rattle.erd_meaning.specs.code.Shown.{shown}
 use Rattle.erd_meaning.specs.declared.selection_walk.SelectionWalk.{SelectionWalk}
 use Rattle.erd_meaning.proofs.WalkedNames.{NamesWalked, names_left, no_twin_left, twins_left}
 use Rattle.erd_meaning.proofs.resolving.names_told_apart.Goals as goal

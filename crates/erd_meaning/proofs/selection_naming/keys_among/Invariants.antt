@@ -1,7 +1,7 @@
 use Rattle.std.proofs.Common.{◌≡◌, ◌++◌, drop, map}
 use Rattle.serde_json.specs.View.{view}
-use Rattle.erd_meaning.specs.NamesAmong.{keys_among}
-use Rattle.erd_meaning.specs.Shown.{shown}
+use Rattle.erd_meaning.specs.code.NamesAmong.{keys_among}
+use Rattle.erd_meaning.specs.code.Shown.{shown}
 use Rattle.erd_meaning.proofs.selection_naming.keys_among.Given as goal
 
 abbrev pub invariant-loop-reference : goal.invariant-loop-reference

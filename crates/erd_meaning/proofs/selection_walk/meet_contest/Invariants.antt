@@ -1,10 +1,10 @@
 use Rattle.std.proofs.Common.{◌≡◌, ℕ, drop, map}
 use Rattle.serde_json.specs.View.{view}
-use Rattle.erd_check.specs.Paths.{steps_of}
-use Rattle.erd_meaning.specs.NamesAmong.{name_among}
+use Rattle.erd_check.specs.code.Paths.{steps_of}
+use Rattle.erd_meaning.specs.code.NamesAmong.{name_among}
 use Rattle.erd_meaning.specs.Objects.{Placed, placed_from}
-use Rattle.erd_meaning.specs.SelectionWalk.{named_all}
-use Rattle.erd_meaning.specs.Shown.{names_met, shown}
+use Rattle.erd_meaning.specs.code.SelectionWalk.{named_all}
+use Rattle.erd_meaning.specs.code.Shown.{names_met, shown}
 use Rattle.erd_meaning.proofs.selection_walk.meet_contest.Given as goal
 
 abbrev pub invariant-loop-index : goal.invariant-loop-index

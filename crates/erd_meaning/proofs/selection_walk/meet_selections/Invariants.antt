@@ -1,8 +1,8 @@
 use Rattle.std.proofs.Common.{◌≡◌, drop, map}
-use Rattle.erd_check.specs.Paths.{steps_of}
-use Rattle.erd_meaning.specs.NamesAmong.{name_among}
-use Rattle.erd_meaning.specs.SelectionWalk.{named_all}
-use Rattle.erd_meaning.specs.Shown.{names_met, shown}
+use Rattle.erd_check.specs.code.Paths.{steps_of}
+use Rattle.erd_meaning.specs.code.NamesAmong.{name_among}
+use Rattle.erd_meaning.specs.code.SelectionWalk.{named_all}
+use Rattle.erd_meaning.specs.code.Shown.{names_met, shown}
 use Rattle.erd_meaning.proofs.MetSelections.{of_contests_from}
 use Rattle.erd_meaning.proofs.selection_walk.meet_selections.Given as goal
 

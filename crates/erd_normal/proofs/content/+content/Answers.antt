@@ -4,8 +4,8 @@ use Rattle.serde_json.specs.View.{members_view, view}
 use Rattle.serde_json.specs.Written.{has_float}
 use Rattle.serde_json.proofs.Views.{Entry, view-Array}
 use Rattle.erd_tables.specs.Table.{kind_of_member}
-use Rattle.erd_normal.specs.Building.{put_each}
-use Rattle.erd_normal.specs.NormalTree.{normal_content, normal_node, normal_node_value}
+use Rattle.erd_normal.specs.code.Building.{put_each}
+use Rattle.erd_normal.specs.code.NormalTree.{normal_content, normal_node, normal_node_value}
 use Rattle.erd_normal.proofs.BuiltEntries.{one_more}
 use Rattle.erd_normal.proofs.BuiltMembers.{put_all_of, put_one, whole_first, whole_rest}
 use Rattle.erd_normal.proofs.ContentParts.{content_from_map, other_node_value, whole_item}

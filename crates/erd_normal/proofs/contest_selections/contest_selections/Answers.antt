@@ -1,8 +1,8 @@
 use Rattle.std.proofs.Common.{map, ap, ◌∙◌}
 use Rattle.serde_json.specs.View.{view}
 use Rattle.erd_normal.proofs.PlacedEntries.{selections_in_order, whole_in_order}
-use Rattle.erd_normal.specs.NormalTree.{by_name}
-use Rattle.erd_normal.specs.PlacedTree.{map_from, placed_selection}
+use Rattle.erd_normal.specs.code.NormalTree.{by_name}
+use Rattle.erd_normal.specs.code.PlacedTree.{map_from, placed_selection}
 use Rattle.erd_normal.proofs.contest_selections.contest_selections.Goals as goal
 
 pub numbered_selections-requires : goal.numbered_selections-requires

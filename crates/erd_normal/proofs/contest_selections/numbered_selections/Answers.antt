@@ -1,7 +1,7 @@
 use Rattle.std.proofs.Common.{map, ap, ◌∙◌}
 use Rattle.serde_json.specs.View.{view}
 use Rattle.erd_normal.proofs.PlacedEntries.{placed_more}
-use Rattle.erd_normal.specs.PlacedTree.{placed_selection}
+use Rattle.erd_normal.specs.code.PlacedTree.{placed_selection}
 use Rattle.erd_normal.proofs.contest_selections.numbered_selections.Goals as goal
 
 pub loop-index-preserved : goal.loop-index-preserved

@@ -1,7 +1,7 @@
 use Rattle.std.proofs.Common.{◌≡◌, map, take}
 use Rattle.serde_json.specs.View.{view}
 use Rattle.erd_meaning.specs.SelectionNames.{name_of}
-use Rattle.erd_normal.specs.PlacedTree.{beside_name}
+use Rattle.erd_normal.specs.code.PlacedTree.{beside_name}
 use Rattle.erd_normal.proofs.contest_selections.with_names.Given as goal
 
 abbrev pub invariant-loop-selection : goal.invariant-loop-selection

@@ -1,6 +1,6 @@
 use Rattle.std.proofs.Common.{◌≡◌, map, take}
 use Rattle.serde_json.specs.View.{view}
-use Rattle.erd_normal.specs.PlacedTree.{placed_election}
+use Rattle.erd_normal.specs.code.PlacedTree.{placed_election}
 use Rattle.erd_normal.proofs.election.elections.Given as goal
 
 abbrev pub invariant-loop-entry : goal.invariant-loop-entry

@@ -1,8 +1,8 @@
 use Rattle.std.proofs.Common.{map, ap, ◌∙◌}
 use Rattle.serde_json.specs.View.{view}
 use Rattle.erd_normal.proofs.PlacedEntries.{objects_in_order, whole_in_order}
-use Rattle.erd_normal.specs.NormalTree.{by_key}
-use Rattle.erd_normal.specs.PlacedTree.{map_from, placed_object}
+use Rattle.erd_normal.specs.code.NormalTree.{by_key}
+use Rattle.erd_normal.specs.code.PlacedTree.{map_from, placed_object}
 use Rattle.erd_normal.proofs.family_objects.family_objects.Goals as goal
 
 pub numbered_objects-requires : goal.numbered_objects-requires

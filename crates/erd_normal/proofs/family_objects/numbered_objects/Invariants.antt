@@ -1,6 +1,6 @@
 use Rattle.std.proofs.Common.{◌≡◌, map, take}
 use Rattle.serde_json.specs.View.{view}
-use Rattle.erd_normal.specs.PlacedTree.{map_from, placed_object}
+use Rattle.erd_normal.specs.code.PlacedTree.{map_from, placed_object}
 use Rattle.erd_normal.proofs.family_objects.numbered_objects.Given as goal
 
 abbrev pub invariant-loop-index : goal.invariant-loop-index

@@ -1,6 +1,6 @@
 use Rattle.std.proofs.Common.{◌≡◌, map, take}
 use Rattle.serde_json.specs.View.{view}
-use Rattle.erd_normal.specs.PlacedTree.{beside_own_key}
+use Rattle.erd_normal.specs.code.PlacedTree.{beside_own_key}
 use Rattle.erd_normal.proofs.family_objects.with_keys.Given as goal
 
 abbrev pub invariant-loop-object : goal.invariant-loop-object

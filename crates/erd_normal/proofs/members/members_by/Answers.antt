@@ -2,7 +2,7 @@ use Rattle.std.proofs.Common.{option_map, ap, ap₂, sym, ◌∙◌}
 use Rattle.serde_json.specs.View.{members_view, view}
 use Rattle.serde_json.proofs.Views.{Entry}
 use Rattle.erd_tables.specs.Table.{kind_of_member}
-use Rattle.erd_normal.specs.Building.{put_each}
+use Rattle.erd_normal.specs.code.Building.{put_each}
 use Rattle.erd_normal.proofs.BuiltMembers.{put_all_of, put_one, whole_first, whole_rest}
 use Rattle.erd_normal.proofs.NormalMembers.{normal_members_each, value_in_class}
 use Rattle.erd_normal.proofs.members.members_by.Goals as goal

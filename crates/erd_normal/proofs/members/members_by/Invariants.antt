@@ -2,7 +2,7 @@ use Rattle.std.proofs.Common.{◌≡◌, false}
 use Rattle.serde_json.specs.Data.{no_members}
 use Rattle.serde_json.specs.View.{members_view}
 use Rattle.serde_json.specs.Written.{members_have_float}
-use Rattle.erd_normal.specs.Building.{put_each}
+use Rattle.erd_normal.specs.code.Building.{put_each}
 use Rattle.erd_normal.proofs.NormalMembers.{value_in_class}
 use Rattle.erd_normal.proofs.members.members_by.Given as goal
 

@@ -1,7 +1,7 @@
 use Rattle.std.proofs.Common.{ap, sym, ◌∙◌}
 use Rattle.serde_json.specs.View.{view}
-use Rattle.erd_normal.specs.Building.{numbered_id}
-use Rattle.erd_normal.specs.Tables.{number_in}
+use Rattle.erd_normal.specs.code.Building.{numbered_id}
+use Rattle.erd_normal.specs.code.Tables.{number_in}
 use Rattle.erd_normal.proofs.NumberedReferences.{named_elsewhere, named_here, named_nowhere}
 use Rattle.erd_normal.proofs.numbering.number_of.Goals as goal
 

@@ -2,7 +2,7 @@ use Rattle.std.proofs.Common.{◌≡◌, string_bytes, rules, ap, ◌∙◌}
 use Rattle.serde_json.specs.Data.{string}
 use Rattle.serde_json.specs.View.{view}
 use Rattle.serde_json.specs.declared.value.Value.{String, the_lemmas}
-use Rattle.erd_normal.specs.NormalTree.{normal_id}
+use Rattle.erd_normal.specs.code.NormalTree.{normal_id}
 use Rattle.erd_normal.proofs.numbering.reference.Goals as goal
 
 pub returns : goal.returns

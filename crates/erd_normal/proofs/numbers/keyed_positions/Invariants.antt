@@ -1,7 +1,7 @@
 use Rattle.std.proofs.Common.{◌≡◌, ◌++◌, drop}
 use Rattle.serde_json.specs.View.{view}
 use Rattle.erd_meaning.specs.Objects.{objects}
-use Rattle.erd_normal.specs.Building.{key_positions}
+use Rattle.erd_normal.specs.code.Building.{key_positions}
 use Rattle.erd_normal.proofs.numbers.keyed_positions.Given as goal
 
 abbrev pub invariant-loop-index : goal.invariant-loop-index

@@ -1,5 +1,5 @@
 use Rattle.std.proofs.Common.{◌≡◌, drop}
-use Rattle.erd_normal.specs.Building.{numbered}
+use Rattle.erd_normal.specs.code.Building.{numbered}
 use Rattle.erd_normal.proofs.numbers.numbers_by.Given as goal
 
 abbrev pub invariant-loop-rank : goal.invariant-loop-rank

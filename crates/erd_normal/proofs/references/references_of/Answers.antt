@@ -1,6 +1,6 @@
 use Rattle.std.proofs.Common.{map, ap, ◌∙◌}
 use Rattle.serde_json.specs.View.{view}
-use Rattle.erd_normal.specs.NormalTree.{normal_reference}
+use Rattle.erd_normal.specs.code.NormalTree.{normal_reference}
 use Rattle.erd_normal.proofs.BuiltEntries.{one_more}
 use Rattle.erd_normal.proofs.references.references_of.Goals as goal
 

@@ -1,6 +1,6 @@
 use Rattle.std.proofs.Common.{◌≡◌, map, take}
 use Rattle.serde_json.specs.View.{view}
-use Rattle.erd_normal.specs.NormalTree.{normal_reference}
+use Rattle.erd_normal.specs.code.NormalTree.{normal_reference}
 use Rattle.erd_normal.proofs.references.references_of.Given as goal
 
 abbrev pub invariant-loop-pair : goal.invariant-loop-pair

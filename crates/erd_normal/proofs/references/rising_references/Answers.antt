@@ -5,7 +5,8 @@ use Rattle.serde_json.specs.View.{view}
 use Rattle.erd_meaning.specs.Keys.{key_cmp}
 use Rattle.erd_meaning.specs.Orders.{key_cmp_total}
 use Rattle.erd_meaning.specs.SelectionNames.{key_named}
-use Rattle.erd_normal.specs.NormalTree.{normal_reference, text_of}
+use Rattle.erd_normal.specs.code.NormalTree.{normal_reference}
+use Rattle.erd_check.specs.Values.{text_of}
 use Rattle.erd_normal.proofs.StableRising.{map_after, rising_by_part}
 use Rattle.erd_normal.proofs.references.rising_references.Goals as goal
 

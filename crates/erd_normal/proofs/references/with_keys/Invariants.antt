@@ -1,6 +1,6 @@
 use Rattle.std.proofs.Common.{◌≡◌, map, take}
 use Rattle.serde_json.specs.View.{view}
-use Rattle.erd_normal.specs.Building.{beside_key, beside_named}
+use Rattle.erd_normal.specs.code.Building.{beside_key, beside_named}
 use Rattle.erd_normal.proofs.references.with_keys.Given as goal
 
 abbrev pub invariant-loop-value : goal.invariant-loop-value

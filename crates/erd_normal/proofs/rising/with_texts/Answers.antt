@@ -1,6 +1,6 @@
 use Rattle.std.proofs.Common.{map, ap, ◌∙◌}
 use Rattle.serde_json.specs.View.{view}
-use Rattle.erd_normal.specs.Building.{beside, beside_text}
+use Rattle.erd_normal.specs.code.Building.{beside, beside_text}
 use Rattle.erd_normal.proofs.BuiltEntries.{one_more}
 use Rattle.erd_normal.proofs.ContentParts.{whole_item}
 use Rattle.erd_normal.proofs.rising.with_texts.Goals as goal

@@ -1,7 +1,7 @@
 use Rattle.std.proofs.Common.{◌≡◌, false, map, take}
 use Rattle.serde_json.specs.View.{items_view, view}
 use Rattle.serde_json.specs.Written.{items_have_float}
-use Rattle.erd_normal.specs.Building.{beside, beside_text}
+use Rattle.erd_normal.specs.code.Building.{beside, beside_text}
 use Rattle.erd_normal.proofs.rising.with_texts.Given as goal
 
 abbrev pub invariant-loop-value : goal.invariant-loop-value

@@ -1,7 +1,7 @@
 use Rattle.std.proofs.Common.{◌≡◌, map, take}
 use Rattle.std.specs.List.{flat_map}
 use Rattle.serde_json.specs.View.{view}
-use Rattle.erd_normal.specs.KeyRanks.{numbers_in_contest}
+use Rattle.erd_normal.specs.code.KeyRanks.{numbers_in_contest}
 use Rattle.erd_normal.proofs.selection_numbers.election_numbers.Given as goal
 
 abbrev pub invariant-loop-contest : goal.invariant-loop-contest

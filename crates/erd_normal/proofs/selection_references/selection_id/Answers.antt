@@ -5,9 +5,9 @@ use Rattle.serde_json.specs.Data.{string}
 use Rattle.serde_json.specs.View.{view}
 use Rattle.erd_meaning.specs.Lookups.{selection_in}
 use Rattle.erd_normal.proofs.SelectionReferences.{selection_elsewhere, selection_here, selection_nowhere}
-use Rattle.erd_normal.specs.NormalTree.{normal_selection_reference}
-use Rattle.erd_normal.specs.PlacedTree.{selection_id_numbered}
-use Rattle.erd_normal.specs.Tables.{number_in}
+use Rattle.erd_normal.specs.code.NormalTree.{normal_selection_reference}
+use Rattle.erd_normal.specs.code.PlacedTree.{selection_id_numbered}
+use Rattle.erd_normal.specs.code.Tables.{number_in}
 use Rattle.erd_normal.proofs.selection_references.selection_id.Goals as goal
 
 pub returns-then-is_same : goal.returns-then-is_same

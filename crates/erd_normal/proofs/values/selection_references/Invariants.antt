@@ -1,6 +1,6 @@
 use Rattle.std.proofs.Common.{◌≡◌, map, take}
 use Rattle.serde_json.specs.View.{view}
-use Rattle.erd_normal.specs.NormalTree.{normal_selection_reference}
+use Rattle.erd_normal.specs.code.NormalTree.{normal_selection_reference}
 use Rattle.erd_normal.proofs.values.selection_references.Given as goal
 
 abbrev pub invariant-loop-value : goal.invariant-loop-value

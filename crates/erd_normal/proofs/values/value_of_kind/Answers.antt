@@ -1,10 +1,10 @@
 use Rattle.std.proofs.Common.{◌≡◌, inl, inr, map, option_map, ap, sym, ◌∙◌}
 use Rattle.serde_json.specs.View.{view}
-use Rattle.erd_check.specs.Trees.{entries_of}
+use Rattle.erd_check.specs.Values.{entries_of}
 use Rattle.erd_meaning.specs.SelectionNames.{compact_cmp, rising_list}
 use Rattle.erd_normal.proofs.StableRising.{map_after}
 use Rattle.erd_normal.proofs.WholeEntries.{whole_list}
-use Rattle.erd_normal.specs.NormalTree.{array_of, normal_selection_reference, normal_value, unless_no_entry}
+use Rattle.erd_normal.specs.code.NormalTree.{array_of, normal_selection_reference, normal_value, unless_no_entry}
 use Rattle.erd_normal.proofs.values.value_of_kind.Goals as goal
 
 pub returns-in_ok-built-in-Identifiers : goal.returns-in_ok-built-in-Identifiers

@@ -1,5 +1,5 @@
 use Rattle.std.proofs.Common.{◌∙◌, sym, subst}
-use Rattle.erd_meaning.specs.Resolved.{IsResolved}
+use Rattle.erd_meaning.specs.code.Resolved.{IsResolved}
 use Rattle.erd_meaning.proofs.Lookups.{counted}
 use Rattle.erd_meaning.proofs.report.Report.count.Goals as goal
 

@@ -5,15 +5,15 @@ use Rattle.erd_meaning.specs.Objects.{Placed, elections}
 use Rattle.erd_meaning.proofs.Skeleton.{one_election}
 use Rattle.erd_meaning.proofs.report.Report.election.Goals as goal
 
-pub bounds-entries-0 : goal.bounds-entries-0
-bounds-entries-0 c =
-    let found = one_election (view c.self.inside.tree.now) c.self.invariant.faultless c.entries.result.now c.entries.ensures in
-    let one : length c.entries.result.now ≡ 1 = ap length found.alone in
+pub bounds-entries_at-0 : goal.bounds-entries_at-0
+bounds-entries_at-0 c =
+    let found = one_election (view c.self.inside.tree.now) c.self.invariant.faultless c.entries_at.result.now c.entries_at.ensures in
+    let one : length c.entries_at.result.now ≡ 1 = ap length found.alone in
     omega (arith, one)
 
 pub returns : goal.returns
 returns c =
-    let result = c.index-entries-0.result in
-    let found = one_election (view c.self.inside.tree.now) c.self.invariant.faultless c.entries.result.now c.entries.ensures in
-    let same : result ≡ found.one = c.index-entries-0.is ∙ ap (λ (vs : List Value). get_or vs 0 result) found.alone in
+    let result = c.index-entries_at-0.result in
+    let found = one_election (view c.self.inside.tree.now) c.self.invariant.faultless c.entries_at.result.now c.entries_at.ensures in
+    let same : result ≡ found.one = c.index-entries_at-0.is ∙ ap (λ (vs : List Value). get_or vs 0 result) found.alone in
     subst (λ (v : Value). map (λ (o : Placed). o.value) (elections (view v)) ≡ view result ∷ []) c.self.view_is (found.is ∙ ap (λ (v : Value). view v ∷ []) (sym same))

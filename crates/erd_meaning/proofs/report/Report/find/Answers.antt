@@ -1,5 +1,5 @@
 use Rattle.std.proofs.Common.{◌≡◌, ap, sym, subst, ◌∙◌}
-use Rattle.erd_meaning.specs.Resolved.{IsResolved}
+use Rattle.erd_meaning.specs.code.Resolved.{IsResolved}
 use Rattle.erd_meaning.proofs.Found.{key_found, key_missed, rank}
 use Rattle.erd_meaning.proofs.report.Report.find.Goals as goal
 

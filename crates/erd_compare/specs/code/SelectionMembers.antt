@@ -1,7 +1,7 @@
 -- The selections of a contest, as a member of it.
 use Rattle.std.specs.Prelude.{Bool, true, false, Option, option_and_then}
 use Rattle.serde_json.specs.Data.{Data}
-use Rattle.erd_check.specs.Trees.{entries_of}
+use Rattle.erd_check.specs.Values.{entries_of}
 use Rattle.erd_tables.specs.declared.class.Family.TheVariants as family
 use Rattle.erd_tables.specs.declared.member.MemberKind.{MemberKind}
 use Rattle.erd_tables.specs.declared.member.MemberKind.TheVariants as kind

@@ -13,16 +13,12 @@ use Rattle.erd_tables.specs.declared.fault.Reason.TheVariants.{WrongKind, Missin
 use Rattle.erd_tables.specs.declared.fault.Fault.{Fault}
 use Rattle.erd_check.specs.Numbers.{IsInRange}
 use Rattle.erd_check.specs.Trees.{is_same_json}
+use Rattle.erd_check.specs.Values.{names}
 use Rattle.erd_check.specs.Wants.{Asked, scope_inside, want_of_name, entry_want, is_compared_set}
 use Rattle.erd_check.specs.Faults.{is_shape_fault, names_wanted, lacks, wants_whole}
-use Rattle.erd_check.specs.Paths.{fault_at}
+use Rattle.erd_check.specs.code.Paths.{fault_at}
 use Rattle.erd_check.specs.declared.want.Want.{Want}
 use Rattle.erd_check.specs.declared.want.Scope.{Scope}
-
--- the names of an object's members, in their order
-abbrev pub names : Members → List (List ℕ)
-names no_members = []
-names (member k d ms) = k ∷ names ms
 
 -- what is asked of a value, with whether it repeats an earlier one
 abbrev pub asked_with : Want → Bool → Data → Asked

@@ -1,9 +1,9 @@
 use Rattle.std.proofs.Common.{sym, ap, ◌∙◌, map}
 use Rattle.serde_json.specs.View.{view}
 use Rattle.serde_json.proofs.Views.{view-Array}
-use Rattle.erd_check.specs.Trees.{entries_of}
-use Rattle.erd_meaning.proofs.Lists.{list_of_items-items_of}
-use Rattle.erd_meaning.proofs.members.entries_of.Goals as goal
+use Rattle.erd_check.specs.Values.{entries_of}
+use Rattle.erd_check.proofs.Lists.{list_of_items-items_of}
+use Rattle.erd_check.proofs.values.entries_of.Goals as goal
 
 pub returns-in-Array : goal.returns-in-Array
 returns-in-Array c =

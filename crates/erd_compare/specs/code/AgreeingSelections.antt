@@ -4,7 +4,7 @@ use Rattle.std.specs.List.{AllByRecursion}
 use Rattle.std.specs.Option.{IfSome, option_cmp}
 use Rattle.std.specs.Ordering.{is_eq}
 use Rattle.serde_json.specs.Data.{Data, Members}
-use Rattle.erd_check.specs.Walk.{names}
+use Rattle.erd_check.specs.Values.{names}
 use Rattle.erd_meaning.specs.Meaning.{PlainValue, SelectionRecord}
 use Rattle.erd_meaning.specs.NameParts.{NameParts}
 use Rattle.erd_meaning.specs.SelectionNames.{name_cmp, name_of}

@@ -13,8 +13,8 @@ use Rattle.erd_tables.specs.declared.fault.Fault.{Fault}
 use Rattle.erd_tables.specs.declared.fault.Reason.TheVariants.{NoIdentifier, TwinIdentifier, DuplicateId}
 use Rattle.erd_tables.specs.declared.place.Step.{Step}
 use Rattle.erd_tables.specs.declared.place.Step.TheVariants.{Name}
-use Rattle.erd_check.specs.Paths.{fault_at}
-use Rattle.erd_meaning.specs.Keys.{has_keys, key_cmp, key_of}
+use Rattle.erd_check.specs.code.Paths.{fault_at}
+use Rattle.erd_meaning.specs.Keys.{has_keys, kept_key, key_cmp}
 use Rattle.erd_meaning.specs.Objects.{Placed, elections, id_of, placed_entries, report_of, selections_of}
 use Rattle.erd_meaning.specs.declared.key.Key.{Key}
 
@@ -26,10 +26,6 @@ pub record Kept : Type 0 where
   pub value : Data
   pub key : Option Key
   pub id : Option (List ℕ)
-
--- the key that is kept of an object of a family
-abbrev pub kept_key : Family → Data → Option Key
-kept_key f d = if has_keys f then key_of d else None
 
 -- an object of a family
 abbrev pub kept : Family → Data → Kept

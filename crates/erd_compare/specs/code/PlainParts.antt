@@ -5,7 +5,7 @@ use Rattle.serde_json.specs.Find.{as_str}
 use Rattle.erd_tables.specs.declared.member.MemberKind.{MemberKind}
 use Rattle.erd_tables.specs.declared.member.MemberKind.TheVariants as kind
 use Rattle.erd_check.specs.Faults.{is_empty_array}
-use Rattle.erd_check.specs.Trees.{entries_of}
+use Rattle.erd_check.specs.Values.{entries_of}
 use Rattle.erd_meaning.specs.Meaning.{PlainValue, a_json, a_label, a_json_set, a_key, a_key_set, a_content}
 use Rattle.erd_meaning.specs.Records.{content_of, json_set, key_set, label_of}
 use Rattle.erd_meaning.specs.SelectionNames.{key_named, keys_named}

@@ -11,9 +11,9 @@ use Rattle.erd_check.specs.Shapes.{IsFaultless}
 use Rattle.erd_check.specs.Trees.{IsTree}
 use Rattle.erd_meaning.specs.LaterFaults.{IdentityFault, ReferenceFault, SelectionFault}
 use Rattle.erd_meaning.specs.Lookups.{selection_in}
-use Rattle.erd_meaning.specs.ObjectWalk.{kept_objects}
-use Rattle.erd_meaning.specs.SelectionWalk.{NumberedName}
-use Rattle.erd_meaning.specs.Shown.{name_shown, shown}
+use Rattle.erd_meaning.specs.code.ObjectWalk.{kept_objects}
+use Rattle.erd_meaning.specs.code.SelectionWalk.{NumberedName}
+use Rattle.erd_meaning.specs.code.Shown.{name_shown, shown}
 use Rattle.erd_meaning.specs.declared.named_selection.NamedSelection.{NamedSelection}
 use Rattle.erd_meaning.specs.declared.object.Object.{Object}
 

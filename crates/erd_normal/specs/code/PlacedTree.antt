@@ -8,14 +8,14 @@ use Rattle.erd_tables.specs.declared.class.Family.TheVariants as family
 use Rattle.erd_tables.specs.declared.class.Role.TheVariants as role
 use Rattle.erd_tables.specs.declared.member.MemberKind.{MemberKind}
 use Rattle.erd_tables.specs.declared.member.MemberKind.TheVariants as kind
-use Rattle.erd_check.specs.Trees.{entries_of}
+use Rattle.erd_check.specs.Values.{entries_of}
 use Rattle.erd_check.specs.Wants.{class_of_object}
 use Rattle.erd_meaning.specs.Keys.{key_of}
 use Rattle.erd_meaning.specs.NameParts.{NameParts}
 use Rattle.erd_meaning.specs.SelectionNames.{rising_list, selection_role}
 use Rattle.erd_meaning.specs.declared.key.Key.{Key}
 use Rattle.erd_normal.specs.Canonical.{id_prefix}
-use Rattle.erd_normal.specs.NormalTree.{array_of, by_key, by_name, in_envelope, normal_content, normal_object_with, normal_value, unless_no_entry, with_id}
+use Rattle.erd_normal.specs.code.NormalTree.{array_of, by_key, by_name, in_envelope, normal_content, normal_object_with, normal_value, unless_no_entry, with_id}
 
 -- what each becomes with its number, counted from n on
 abbrev pub map_from : {A B : Type 0} → (ℕ → A → B) → ℕ → List A → List B

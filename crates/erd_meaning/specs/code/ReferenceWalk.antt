@@ -11,16 +11,16 @@ use Rattle.erd_tables.specs.declared.fault.Fault.{Fault}
 use Rattle.erd_tables.specs.declared.fault.Reason.TheVariants.{Repeated, Unresolved, WrongFamily, SelectionOfOtherContest}
 use Rattle.erd_tables.specs.declared.place.Step.{Step}
 use Rattle.erd_tables.specs.declared.place.Step.TheVariants.{Name, At}
-use Rattle.erd_check.specs.Paths.{fault_at}
+use Rattle.erd_check.specs.code.Paths.{fault_at}
 use Rattle.erd_check.specs.Trees.{is_same_json}
 use Rattle.erd_check.specs.Wants.{scope_inside, want_of_name, entry_want, is_compared_set}
 use Rattle.erd_check.specs.declared.want.Scope.{Scope}
 use Rattle.erd_check.specs.declared.want.Want.{Want}
 use Rattle.erd_check.specs.declared.want.Want.TheVariants.{Reference}
-use Rattle.erd_meaning.specs.Keys.{text_at}
+use Rattle.erd_check.specs.Values.{text_at}
 use Rattle.erd_meaning.specs.LaterFaults.{is_selection_in}
 use Rattle.erd_meaning.specs.Lookups.{is_of_family, is_named}
-use Rattle.erd_meaning.specs.ObjectWalk.{Kept, fault_if}
+use Rattle.erd_meaning.specs.code.ObjectWalk.{Kept, fault_if}
 
 -- ---- look-ups
 

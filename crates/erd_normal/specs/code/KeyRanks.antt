@@ -4,9 +4,9 @@ use Rattle.std.specs.List.{flat_map}
 use Rattle.std.specs.Option.{option_cmp}
 use Rattle.std.specs.declared.cmp.Ordering.{Ordering}
 use Rattle.serde_json.specs.Data.{Data}
-use Rattle.erd_meaning.specs.Keys.{entries_at}
+use Rattle.erd_check.specs.Values.{entries_at}
 use Rattle.erd_meaning.specs.SelectionNames.{name_cmp, name_of, rising_list}
-use Rattle.erd_normal.specs.Building.{numbered}
+use Rattle.erd_normal.specs.code.Building.{numbered}
 
 -- keys and their positions, from position i on
 abbrev pub positioned : {K : Type 0} → ℕ → List K → List (K × ℕ)

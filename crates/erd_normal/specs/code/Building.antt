@@ -10,7 +10,8 @@ use Rattle.erd_meaning.specs.Objects.{objects, Placed}
 use Rattle.erd_meaning.specs.SelectionNames.{key_named}
 use Rattle.erd_meaning.specs.declared.key.Key.{Key}
 use Rattle.erd_normal.specs.Canonical.{id_prefix}
-use Rattle.erd_normal.specs.NormalTree.{rank_of, text_of}
+use Rattle.erd_normal.specs.code.NormalTree.{rank_of}
+use Rattle.erd_check.specs.Values.{text_of}
 
 -- the members with the value under the name, if there is a value
 abbrev pub put_if : List ℕ → Option Data → Members → Members

@@ -5,11 +5,12 @@ use Rattle.serde_json.specs.Data.{Data}
 use Rattle.erd_tables.specs.declared.class.Family.{Family}
 use Rattle.erd_tables.specs.declared.class.Family.TheVariants as family
 use Rattle.erd_meaning.specs.Accepted.{IsAccepted}
-use Rattle.erd_meaning.specs.Keys.{entries_at, has_keys}
+use Rattle.erd_meaning.specs.Keys.{has_keys}
+use Rattle.erd_check.specs.Values.{entries_at}
 use Rattle.erd_meaning.specs.Objects.{Placed, contests, numbered_selections, objects}
 use Rattle.erd_meaning.specs.SelectionNames.{name_of}
-use Rattle.erd_normal.specs.Building.{AreNumbers}
-use Rattle.erd_normal.specs.NormalTree.{rank_of_name}
+use Rattle.erd_normal.specs.code.Building.{AreNumbers}
+use Rattle.erd_normal.specs.code.NormalTree.{rank_of_name}
 use Rattle.erd_normal.specs.declared.tables.Tables.{Tables}
 
 -- the numbers of the objects of a family; those of selections count within their contests

@@ -14,9 +14,9 @@ use Rattle.erd_tables.specs.declared.class.Role.TheVariants as role
 use Rattle.erd_tables.specs.declared.member.MemberKind.{MemberKind}
 use Rattle.erd_tables.specs.declared.member.MemberKind.TheVariants as kind
 use Rattle.erd_check.specs.Faults.{is_empty_array}
-use Rattle.erd_check.specs.Trees.{entries_of}
+use Rattle.erd_check.specs.Values.{entries_of, entries_at, text_of}
 use Rattle.erd_check.specs.Wants.{class_of_object}
-use Rattle.erd_meaning.specs.Keys.{entries_at, key_cmp, key_of}
+use Rattle.erd_meaning.specs.Keys.{key_cmp, key_of}
 use Rattle.erd_meaning.specs.NameParts.{NameParts}
 use Rattle.erd_meaning.specs.Objects.{has_id, contests, objects, selections_of, Placed}
 use Rattle.erd_meaning.specs.Records.{class_of_node}
@@ -37,10 +37,6 @@ id_of_key t f k = canonical_id f (rank_of t f k)
 -- a reference to the object of the family that has the `@id`
 abbrev pub normal_id : Data → Family → List ℕ → List ℕ
 normal_id t f id = unwrap_or (id_of_key t f (key_named t f id)) []
-
--- the text of a reference
-abbrev pub text_of : Data → List ℕ
-text_of d = unwrap_or (as_str d) []
 
 -- a reference to an object of the family
 abbrev pub normal_reference : Data → Family → Data → Data

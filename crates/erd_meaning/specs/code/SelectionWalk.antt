@@ -9,10 +9,10 @@ use Rattle.serde_json.specs.Data.{Data}
 use Rattle.erd_tables.specs.declared.fault.Fault.{Fault}
 use Rattle.erd_tables.specs.declared.fault.Reason.TheVariants.{TwinSelection}
 use Rattle.erd_tables.specs.declared.place.Step.{Step}
-use Rattle.erd_check.specs.Paths.{fault_at}
+use Rattle.erd_check.specs.code.Paths.{fault_at}
 use Rattle.erd_meaning.specs.NameParts.{NameParts}
 use Rattle.erd_meaning.specs.Objects.{Placed}
-use Rattle.erd_meaning.specs.ObjectWalk.{fault_if}
+use Rattle.erd_meaning.specs.code.ObjectWalk.{fault_if}
 use Rattle.erd_meaning.specs.SelectionNames.{name_cmp}
 
 -- ---- names

@@ -1,12 +1,12 @@
 -- What the objects that the program keeps stand for.
 use Rattle.std.specs.Prelude.{map, option_map}
 use Rattle.serde_json.specs.View.{view}
-use Rattle.erd_meaning.specs.ObjectWalk.{Kept, Met}
-use Rattle.erd_check.specs.Paths.{steps_of}
+use Rattle.erd_meaning.specs.code.ObjectWalk.{Kept, Met}
+use Rattle.erd_check.specs.code.Paths.{steps_of}
 use Rattle.erd_check.specs.declared.path.Path.{Path}
 use Rattle.serde_json.specs.declared.value.Value.{Value}
 use Rattle.erd_meaning.specs.Objects.{Placed}
-use Rattle.erd_meaning.specs.SelectionWalk.{NamesMet, NumberedName}
+use Rattle.erd_meaning.specs.code.SelectionWalk.{NamesMet, NumberedName}
 use Rattle.erd_meaning.specs.declared.named_selection.NamedSelection.{NamedSelection}
 use Rattle.erd_meaning.specs.declared.object.Object.{Object}
 use Rattle.erd_meaning.specs.declared.object_walk.ObjectWalk.{ObjectWalk}

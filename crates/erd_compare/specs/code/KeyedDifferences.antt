@@ -10,7 +10,7 @@ use Rattle.erd_meaning.specs.Keys.{key_cmp}
 use Rattle.erd_meaning.specs.Lookups.{key_in}
 use Rattle.erd_meaning.specs.Meaning.{ObjectRecord}
 use Rattle.erd_meaning.specs.declared.key.Key.{Key}
-use Rattle.erd_compare.specs.Comparing.{DifferAtKey, IsWholeTree}
+use Rattle.erd_compare.specs.code.Comparing.{DifferAtKey, IsWholeTree}
 use Rattle.erd_compare.specs.Differences.{Differ}
 use Rattle.erd_compare.specs.declared.difference.Difference.{Difference}
 use Rattle.erd_compare.specs.declared.difference.How.{How}

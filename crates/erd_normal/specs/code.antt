@@ -1,0 +1,7 @@
+pub mod Building
+pub mod KeyOrders
+pub mod KeyRanks
+pub mod NameOrders
+pub mod NormalTree
+pub mod PlacedTree
+pub mod Tables
