@@ -16,7 +16,7 @@ use Rattle.erd_check.specs.Wants.{Asked, scope_inside, want_of_name, entry_want,
 use Rattle.erd_check.specs.declared.want.Want.{Want}
 use Rattle.erd_check.specs.declared.want.Want.TheVariants.{Object}
 use Rattle.erd_check.specs.declared.want.Scope.{Scope}
-use Rattle.erd_check.proofs.FaultsInside.{text_from_equal, next_index}
+use Rattle.erd_check.proofs.Steps.{text_from_equal, next_index}
 use Rattle.erd_check.proofs.Order.{In, In-append_left, In-append_right}
 use Rattle.erd_check.proofs.Reasons.{and_true}
 

@@ -22,7 +22,7 @@ use Rattle.erd_check.specs.declared.want.Want.{Want}
 use Rattle.erd_check.specs.declared.want.Want.TheVariants.{Object}
 use Rattle.erd_check.specs.declared.want.Scope.{Scope}
 use Rattle.erd_check.proofs.AllAsked.{AskedPlace, all_asked_from, all_asked_items, all_asked_members, all_asked}
-use Rattle.erd_check.proofs.FaultsInside.{next_index, same_text, found_all, at_less}
+use Rattle.erd_check.proofs.Steps.{next_index, same_text, found_all, at_less}
 use Rattle.erd_check.proofs.Order.{In, In-append, all_from_In, sorted_append}
 
 -- the one place stands before the other

@@ -12,14 +12,14 @@ use Rattle.erd_tables.specs.declared.class.Role.TheVariants.{Report}
 use Rattle.erd_tables.specs.declared.fault.Fault.{Fault}
 use Rattle.erd_check.specs.Faults.{ShapeFault, NoneOf}
 use Rattle.erd_check.specs.Trees.{IsBeforeFirst, IsNumber, IsTree, AreTrees, AreMembers}
-use Rattle.erd_check.specs.code.Walk.{faults_at, IsInOrder, AreItemsInOrder, AreMembersInOrder}
+use Rattle.erd_check.specs.code.Walk.{reasons, told_of_report, IsInOrder, AreItemsInOrder, AreMembersInOrder}
 use Rattle.erd_check.specs.Values.{names}
 use Rattle.erd_check.specs.Wants.{scope_inside, want_of_name, entry_want}
 use Rattle.erd_check.specs.declared.want.Scope.{Scope}
 use Rattle.erd_check.specs.declared.want.Want.{Want}
 use Rattle.erd_check.specs.declared.want.Want.TheVariants.{Object}
 use Rattle.erd_check.proofs.FaultLists.{no_fault_from_empty}
-use Rattle.erd_check.proofs.FaultsInside.{walk_finds_all}
+use Rattle.erd_check.proofs.ShapeWalks.{shape_walk_lists}
 use Rattle.erd_check.proofs.Reasons.{and_true}
 
 -- ---- the test
@@ -125,10 +125,10 @@ mutual
 
 -- the faults of the shape of a report, as the walk finds them
 abbrev pub faults_found : Data → List Fault
-faults_found t = faults_at [] (Object Report) false t
+faults_found t = told_of_report (λ outer. reasons) t
 
 pub faults_listed : (t : Data) → IsTree t → ListsAll (ShapeFault t) (faults_found t)
-faults_listed t tree = walk_finds_all (Object Report) t (tree_in_order (Object Report) t tree)
+faults_listed t tree = shape_walk_lists t (tree_in_order (Object Report) t tree)
 
 pub no_fault_listed : (t : Data) → is_tree t ≡ true → length (faults_found t) ≡ 0 → NoneOf (ShapeFault t)
 no_fault_listed t tree empty = no_fault_from_empty t (faults_found t) (faults_listed t (tree_sound t tree)) empty

@@ -1,11 +1,13 @@
 pub mod Lists
 pub mod Order
 pub mod Reasons
-pub mod FaultsInside
+pub mod Steps
 pub mod FaultLists
 pub mod AllAsked
 pub mod AskedInside
 pub mod FaultsAsked
+pub mod Walks
+pub mod ShapeWalks
 pub mod Deciding
 pub mod Reports
 pub mod Members
@@ -17,10 +19,9 @@ pub mod ObjectsAt
 pub mod TableKinds
 pub mod Whole
 pub mod Clean
-pub mod Fractions
+pub mod Sought
 pub mod Numbers
-pub mod ReportNumbers
-pub mod ReportTrees
+pub mod ShapedReports
 pub mod PutTrees
 pub mod ReadTrees
 mod AskedExamples

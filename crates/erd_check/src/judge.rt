@@ -4,49 +4,58 @@ ghost use Rattle.serde_json.specs.Find.{is_float};
 ghost use Rattle.serde_json.specs.View.{view, number_view};
 ghost use Rattle.erd_check.specs.Faults.{has_kind, has_wanted_kind, names_wanted, is_not_whole, has_not_one_entry, is_reference, lacks};
 ghost use Rattle.erd_check.specs.Numbers.{IsFittingNumber, IsInRange};
-ghost use Rattle.erd_check.specs.code.Walk.{IsAskedInRange, other_reasons, missing, reasons, faults_of};
-ghost use Rattle.erd_check.specs.Wants.{scope_inside};
+ghost use Rattle.erd_check.specs.code.Walk.{IsAskedInRange, other_reasons, missing, faults_of};
 ghost use Rattle.erd_check.specs.code.Paths.{steps_of};
 
+use crate::equality::is_among;
 use crate::path::{Path, push_fault};
 use crate::values::is_empty_array;
+use crate::visitor::{Visit, Visitor};
 use crate::want::{Scope, Want};
 use erd_tables::{Fault, MemberKind, Reason, Text, class_in, required};
 use serde_json::{Number, Value};
 use std::alloc::{AllocError, Global};
 
-/// Adds the faults of one value, and none of what is inside it.
-pub fn judge(
-    alloc: Global,
-    want: Want,
-    scope: Scope,
-    value: &Value,
-    is_repeated: bool,
-    path: &Path,
-    faults: &mut Vec<Fault>,
-) -> Result<(), AllocError>
-    requires { scope ≡ scope_inside want (view value.now) }
-    ensures added { IfOk result (λ _. faults.new.items
-        ≡ faults.old.items ++ faults_of (steps_of path.now) (reasons want is_repeated (view value.now))) }
-    ensures in_range { IfOk result (λ _. IsAskedInRange want (view value.now)) }
-{
-    if !fits(want, value) {
-        push_fault(alloc, path, Reason::WrongKind, faults)?;
+/// Tells the faults of the shape.
+#[derive(Clone, Copy, Drop)]
+pub(crate) struct ShapeJudge;
+
+impl Visitor for ShapeJudge {
+    ghost use Rattle.erd_check.specs.code.Walk.{IsAskedInRange, reasons};
+
+    ghost tells = { λ _ outer. reasons };
+
+    ghost Known = { λ _. IsAskedInRange };
+
+    fn visit(
+        &self,
+        alloc: Global,
+        visit: Visit,
+        scope: Scope,
+        value: &Value,
+        faults: &mut Vec<Fault>,
+    ) -> Result<(), AllocError> {
+        let want = visit.want;
+        let path = visit.position.path;
+        if !fits(want, value) {
+            push_fault(alloc, path, Reason::WrongKind, faults)?;
+        }
+        push_missing(alloc, scope, value, path, faults)?;
+        if let Some(reason) = other_reason(want, value) {
+            push_fault(alloc, path, reason, faults)?;
+        }
+        if is_compared_here(want) && is_among(value, visit.earlier) {
+            push_fault(alloc, path, Reason::Repeated, faults)?;
+        }
+        Ok(())
     }
-    push_missing(alloc, scope, value, path, faults)?;
-    if let Some(reason) = other_reason(want, value) {
-        push_fault(alloc, path, reason, faults)?;
-    }
-    if is_repeated && !is_reference_wanted(want) {
-        push_fault(alloc, path, Reason::Repeated, faults)?;
-    }
-    Ok(())
 }
 
-fn is_reference_wanted(want: Want) -> bool
-    ensures { result ≡ is_reference want }
+/// Whether repeated entries are faults of the shape: those of references are told with what the references name.
+fn is_compared_here(want: Want) -> bool
+    ensures { result ≡ not (is_reference want) }
 {
-    matches!(want, Want::Reference(_))
+    !matches!(want, Want::Reference(_))
 }
 
 /// Whether a value is of the JSON kind that is asked for.

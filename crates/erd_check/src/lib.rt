@@ -8,6 +8,7 @@ pub mod path;
 mod shape_faults;
 mod shaped;
 pub mod values;
+mod visitor;
 mod walk;
 pub mod want;
 

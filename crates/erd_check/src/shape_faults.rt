@@ -3,14 +3,13 @@ ghost use Rattle.serde_json.specs.View.{view};
 ghost use Rattle.erd_tables.specs.Faults.{ListsAll};
 ghost use Rattle.erd_check.specs.Faults.{ShapeFault};
 ghost use Rattle.erd_check.specs.Trees.{IsShallow};
-ghost use Rattle.erd_check.specs.code.Walk.{HasNumbersInRange, IsInOrder};
+ghost use Rattle.erd_check.specs.code.Walk.{IsAskedInRange, IsInOrder, IsKnown};
 ghost use Rattle.erd_check.specs.declared.want.Want.TheVariants.{Object};
 ghost use Rattle.erd_tables.specs.declared.class.Role.TheVariants.{Report};
 
-use crate::path::Path;
-use crate::walk::walk;
-use crate::want::Want;
-use erd_tables::{FaultList, Role};
+use crate::judge::ShapeJudge;
+use crate::walk::walk_report;
+use erd_tables::FaultList;
 use serde_json::Value;
 use std::alloc::{AllocError, Global};
 
@@ -30,16 +29,8 @@ pub fn faults(alloc: Global, tree: &Value) -> Result<FaultList, AllocError>
 pub(crate) fn walked_faults(alloc: Global, tree: &Value) -> Result<FaultList, AllocError>
     ensures all { IfOk result (ListsAll (ShapeFault (view tree.now))) }
     ensures in_order { IfOk result (λ _. IsInOrder (Object Report) (view tree.now)) }
-    ensures in_range { IfOk result (λ _. HasNumbersInRange (Object Report) (view tree.now)) }
+    ensures in_range { IfOk result (λ _. IsKnown IsAskedInRange (Object Report) (view tree.now)) }
 {
-    let mut found = Vec::new(alloc);
-    walk(
-        alloc,
-        Want::Object(Role::Report),
-        tree,
-        false,
-        &Path::Root,
-        &mut found,
-    )?;
+    let found = walk_report(alloc, &ShapeJudge, tree)?;
     Ok(FaultList::of(found))
 }

@@ -1,86 +1,155 @@
-ghost use Rattle.std.specs.Prelude.{◌≡◌, ◌++◌, [], IfOk};
+ghost use Rattle.std.specs.Prelude.{◌≡◌, ◌++◌, ◌≤◌, ◌&&◌, [], map, take, length, IfOk, IfSome};
+ghost use Rattle.std.specs.List.{list_any};
 ghost use Rattle.std.specs.List.Sorted.{IsStrictlySortedBy};
+ghost use Rattle.std.specs.Option.{option_map_or};
+ghost use Rattle.serde_json.specs.Data.{Data};
 ghost use Rattle.serde_json.specs.View.{view, items_view, members_view};
 ghost use Rattle.erd_tables.specs.Texts.{text_cmp};
-ghost use Rattle.erd_check.specs.code.Paths.{steps_of};
-ghost use Rattle.erd_check.specs.code.Walk.{faults_at, item_faults, member_faults, IsInOrder, AreItemsInOrder, AreMembersInOrder, HasNumbersInRange, ItemsHaveNumbersInRange, MembersHaveNumbersInRange};
+ghost use Rattle.erd_check.specs.Trees.{is_same_json};
 ghost use Rattle.erd_check.specs.Values.{names};
+ghost use Rattle.erd_check.specs.Wants.{entry_want, is_compared_set};
+ghost use Rattle.erd_check.specs.code.Paths.{steps_of};
+ghost use Rattle.erd_check.specs.code.Walk.{told_at, told_of_items, told_of_members, told_of_report, IsKnown, AreItemsKnown, AreMembersKnown, IsInOrder, AreItemsInOrder, AreMembersInOrder};
+ghost use Rattle.erd_check.specs.declared.want.Want.TheVariants.{Object};
+ghost use Rattle.erd_tables.specs.declared.class.Role.TheVariants.{Report};
 
-use crate::equality::is_among;
-use crate::judge::judge;
 use crate::path::Path;
+use crate::visitor::{Position, Visit, Visitor};
 use crate::want::{Scope, Want, is_set_wanted, scope_of, want_in, want_of_entry};
-use erd_tables::Fault;
+use erd_tables::{Fault, Role};
 use serde_json::{Map, Value};
 use std::alloc::{AllocError, Global};
 
-/// Adds the faults of a value and of what is inside it, in the order of places.
-#[cycle(walk)]
-pub fn walk(
+/// The faults that a visitor tells of a report and of all values in it of which the table asks something, in the order of
+/// places: members by name, entries by position.
+pub fn walk_report<V: Visitor>(
     alloc: Global,
-    want: Want,
-    value: &Value,
-    is_repeated: bool,
-    path: &Path,
+    visitor: &V,
+    report: &Value,
+) -> Result<Vec<Fault>, AllocError>
+    ensures told { IfOk result (λ faults. faults.items ≡ told_of_report (V.tells visitor.now) (view report.now)) }
+    ensures known { IfOk result (λ _. IsKnown (V.Known visitor.now) (Object Report) (view report.now)) }
+    ensures in_order { IfOk result (λ _. IsInOrder (Object Report) (view report.now)) }
+{
+    let mut faults = Vec::new(alloc);
+    let visit = Visit {
+        want: Want::Object(Role::Report),
+        earlier: &[],
+        position: Position {
+            path: &Path::Root,
+            owner: report,
+            outer: report,
+        },
+    };
+    walk(alloc, visitor, visit, report, &mut faults)?;
+    Ok(faults)
+}
+
+/// Adds what is told of a value and of what is inside it.
+#[cycle(walk)]
+fn walk<'a, V: Visitor>(
+    alloc: Global,
+    visitor: &V,
+    visit: Visit<'a>,
+    value: &'a Value,
     faults: &mut Vec<Fault>,
 ) -> Result<(), AllocError>
-    ensures added { IfOk result (λ _. faults.new.items
-        ≡ faults.old.items ++ faults_at (steps_of path.now) want is_repeated (view value.now)) }
-    ensures in_order { IfOk result (λ _. IsInOrder want (view value.now)) }
-    ensures in_range { IfOk result (λ _. HasNumbersInRange want (view value.now)) }
+    ensures told { IfOk result (λ _. faults.new.items ≡ faults.old.items
+        ++ told_at (V.tells visitor.now) (view visit.entry.position.outer.now) (view visit.entry.position.owner.now)
+        (steps_of visit.entry.position.path.now) visit.entry.want
+        (list_any (is_same_json (view value.now)) (map view visit.entry.earlier.now)) (view value.now)) }
+    ensures known { IfOk result (λ _. IsKnown (V.Known visitor.now) visit.entry.want (view value.now)) }
+    ensures in_order { IfOk result (λ _. IsInOrder visit.entry.want (view value.now)) }
 {
+    let Visit { want, position, .. } = visit;
     let scope = scope_of(want, value);
-    judge(alloc, want, scope, value, is_repeated, path, faults)?;
+    visitor.visit(alloc, visit, scope, value, faults)?;
+    let inside = Position {
+        path: &*position.path,
+        owner: &*value,
+        outer: &*position.owner,
+    };
     match value {
-        Value::Array(items) => match want_of_entry(want) {
-            Some(entry) => walk_items(alloc, entry, is_set_wanted(want), items, path, faults),
-            None => Ok(()),
-        },
-        Value::Object(members) => walk_members(alloc, scope, members, path, faults),
+        Value::Array(items) => walk_items(alloc, visitor, inside, want, items, faults),
+        Value::Object(members) => walk_members(alloc, visitor, inside, scope, members, faults),
         Value::Null | Value::Bool(_) | Value::Number(_) | Value::String(_) => Ok(()),
     }
 }
 
+/// Adds what is told of the entries of an array of which this is asked; the path is that of the array.
 #[cycle(walk)]
-fn walk_items(
+fn walk_items<'a, V: Visitor>(
     alloc: Global,
+    visitor: &V,
+    inside: Position<'a>,
     want: Want,
-    is_set: bool,
-    items: &Vec<Value>,
-    path: &Path,
+    items: &'a Vec<Value>,
     faults: &mut Vec<Fault>,
 ) -> Result<(), AllocError>
-    ensures added { IfOk result (λ _. faults.new.items
-        ≡ faults.old.items ++ item_faults (steps_of path.now) want is_set [] (items_view items.now.items)) }
-    ensures in_order { IfOk result (λ _. AreItemsInOrder want (items_view items.now.items)) }
-    ensures in_range { IfOk result (λ _. ItemsHaveNumbersInRange want (items_view items.now.items)) }
+    ensures told { IfOk result (λ _. faults.new.items ≡ faults.old.items
+        ++ option_map_or (λ v. told_of_items (V.tells visitor.now) (view inside.entry.outer.now) (view inside.entry.owner.now)
+        (steps_of inside.entry.path.now) v (is_compared_set want) [] (items_view items.now.items)) (entry_want want) []) }
+    ensures known { IfOk result (λ _. IfSome (entry_want want) (λ v. AreItemsKnown (V.Known visitor.now) v (items_view items.now.items))) }
+    ensures in_order { IfOk result (λ _. IfSome (entry_want want) (λ v. AreItemsInOrder v (items_view items.now.items))) }
 {
+    let Some(entry) = want_of_entry(want) else {
+        return Ok(());
+    };
+    let is_set = is_set_wanted(want);
     for (index, item) in items.iter().enumerate() {
-        let is_repeated = is_set && is_among(item, &items[..index]);
-        let below = Path::Entry(&*path, index);
-        walk(alloc, want, item, is_repeated, &below, faults)?;
+        let path = Path::Entry(&*inside.path, index);
+        let visit = Visit {
+            want: entry,
+            earlier: compared_before(is_set, &*items, index),
+            position: Position {
+                path: &path,
+                owner: &*inside.owner,
+                outer: &*inside.outer,
+            },
+        };
+        walk(alloc, visitor, visit, item, faults)?;
     }
     Ok(())
 }
 
+/// The entries before a position, where they are compared, and else none.
+fn compared_before(is_set: bool, items: &[Value], index: usize) -> &[Value]
+    requires { index ≤ length items.now }
+    ensures { (d : Data) → list_any (is_same_json d) (map view result.now)
+        ≡ (is_set && list_any (is_same_json d) (map view (take index items.now))) }
+{
+    if is_set { &items[..index] } else { &[] }
+}
+
+/// Adds what is told of the members of an object, which has this scope; the path is that of the object.
 #[cycle(walk)]
-fn walk_members(
+fn walk_members<'a, V: Visitor>(
     alloc: Global,
+    visitor: &V,
+    inside: Position<'a>,
     scope: Scope,
-    members: &Map<String, Value>,
-    path: &Path,
+    members: &'a Map<String, Value>,
     faults: &mut Vec<Fault>,
 ) -> Result<(), AllocError>
-    ensures added { IfOk result (λ _. faults.new.items
-        ≡ faults.old.items ++ member_faults (steps_of path.now) scope (members_view members.now.entries)) }
+    ensures told { IfOk result (λ _. faults.new.items ≡ faults.old.items
+        ++ told_of_members (V.tells visitor.now) (view inside.entry.outer.now) (view inside.entry.owner.now)
+        (steps_of inside.entry.path.now) scope (members_view members.now.entries)) }
+    ensures known { IfOk result (λ _. AreMembersKnown (V.Known visitor.now) scope (members_view members.now.entries)) }
     ensures in_order { IfOk result (λ _. AreMembersInOrder scope (members_view members.now.entries)) }
-    ensures in_range { IfOk result (λ _. MembersHaveNumbersInRange scope (members_view members.now.entries)) }
     ensures sorted { IfOk result (λ _. IsStrictlySortedBy text_cmp (names (members_view members.now.entries))) }
 {
     for (name, member) in members.iter() {
         if let Some(want) = want_in(scope, name.as_str()) {
-            let below = Path::Member(&*path, name.as_str());
-            walk(alloc, want, member, false, &below, faults)?;
+            let path = Path::Member(&*inside.path, name.as_str());
+            let visit = Visit {
+                want,
+                earlier: &[],
+                position: Position {
+                    path: &path,
+                    ..inside
+                },
+            };
+            walk(alloc, visitor, visit, member, faults)?;
         }
     }
     Ok(())

@@ -1,5 +1,5 @@
--- The faults of a value in the order in which a walk over it meets them, as a list. It is no definition of the profile:
--- that the list is that of the faults of the shape is proved in `FaultsInside`.
+-- The faults that a walk over a report tells, in the order in which it visits the values, and what it leaves known. It is no
+-- definition of the profile: that the list is that of all faults of a kind is proved in `Walks`.
 use Rattle.std.specs.Prelude.{ℕ, List, [], ◌∷◌, ◌++◌, Bool, false, ◌&&◌, map, filter, length, IfSome, IsTrue, ⊤}
 use Rattle.std.specs.List.{list_any}
 use Rattle.std.specs.List.Sorted.{IsStrictlySortedBy}
@@ -17,7 +17,9 @@ use Rattle.erd_check.specs.Values.{names}
 use Rattle.erd_check.specs.Wants.{Asked, scope_inside, want_of_name, entry_want, is_compared_set}
 use Rattle.erd_check.specs.Faults.{is_shape_fault, names_wanted, lacks, wants_whole}
 use Rattle.erd_check.specs.code.Paths.{fault_at}
+use Rattle.erd_tables.specs.declared.class.Role.TheVariants.{Report}
 use Rattle.erd_check.specs.declared.want.Want.{Want}
+use Rattle.erd_check.specs.declared.want.Want.TheVariants.{Object}
 use Rattle.erd_check.specs.declared.want.Scope.{Scope}
 
 -- what is asked of a value, with whether it repeats an earlier one
@@ -43,27 +45,40 @@ reasons w repeated d =
 abbrev pub faults_of : List Step → List Reason → List Fault
 faults_of p = map (fault_at p)
 
--- the faults of a value, of entries and of members, and of all that stands inside them
+-- what a walk tells of a value: by the value two steps above it, what is asked of it, whether it is equal to an earlier entry
+-- of its set, and itself
+abbrev pub Telling : Type 0
+Telling = Data → Want → Bool → Data → List Reason
+
+-- what is told of a value, of entries and of members, and of all that stands inside them; with the values that stand two steps
+-- and one step above each (for the report itself and its members, the report)
 abbrev mutual
-  pub faults_at : List Step → Want → Bool → Data → List Fault
-  faults_at p w repeated null = faults_of p (reasons w repeated null)
-  faults_at p w repeated (boolean b) = faults_of p (reasons w repeated (boolean b))
-  faults_at p w repeated (number n) = faults_of p (reasons w repeated (number n))
-  faults_at p w repeated (string s) = faults_of p (reasons w repeated (string s))
-  faults_at p w repeated (array ds) =
-      faults_of p (reasons w repeated (array ds)) ++ option_map_or (λ v. item_faults p v (is_compared_set w) [] ds) (entry_want w) []
-  faults_at p w repeated (object ms) =
-      faults_of p (reasons w repeated (object ms)) ++ member_faults p (scope_inside w (object ms)) ms
+  pub told_at : Telling → Data → Data → List Step → Want → Bool → Data → List Fault
+  told_at tells outer owner p w repeated null = faults_of p (tells outer w repeated null)
+  told_at tells outer owner p w repeated (boolean b) = faults_of p (tells outer w repeated (boolean b))
+  told_at tells outer owner p w repeated (number n) = faults_of p (tells outer w repeated (number n))
+  told_at tells outer owner p w repeated (string s) = faults_of p (tells outer w repeated (string s))
+  told_at tells outer owner p w repeated (array ds) =
+      faults_of p (tells outer w repeated (array ds))
+      ++ option_map_or (λ v. told_of_items tells owner (array ds) p v (is_compared_set w) [] ds) (entry_want w) []
+  told_at tells outer owner p w repeated (object ms) =
+      faults_of p (tells outer w repeated (object ms)) ++ told_of_members tells owner (object ms) p (scope_inside w (object ms)) ms
 
-  pub item_faults : List Step → Want → Bool → List Data → Items → List Fault
-  item_faults p w is_set earlier no_items = []
-  item_faults p w is_set earlier (item d ds) =
-      faults_at (p ++ At (length earlier) ∷ []) w (is_set && list_any (is_same_json d) earlier) d ++ item_faults p w is_set (earlier ++ d ∷ []) ds
+  pub told_of_items : Telling → Data → Data → List Step → Want → Bool → List Data → Items → List Fault
+  told_of_items tells outer owner p w is_set earlier no_items = []
+  told_of_items tells outer owner p w is_set earlier (item d ds) =
+      told_at tells outer owner (p ++ At (length earlier) ∷ []) w (is_set && list_any (is_same_json d) earlier) d
+      ++ told_of_items tells outer owner p w is_set (earlier ++ d ∷ []) ds
 
-  pub member_faults : List Step → Scope → Members → List Fault
-  member_faults p s no_members = []
-  member_faults p s (member k d ms) =
-      option_map_or (λ v. faults_at (p ++ Name k ∷ []) v false d) (want_of_name s k) [] ++ member_faults p s ms
+  pub told_of_members : Telling → Data → Data → List Step → Scope → Members → List Fault
+  told_of_members tells outer owner p s no_members = []
+  told_of_members tells outer owner p s (member k d ms) =
+      option_map_or (λ v. told_at tells outer owner (p ++ Name k ∷ []) v false d) (want_of_name s k) []
+      ++ told_of_members tells outer owner p s ms
+
+-- what the report's own walk tells
+abbrev pub told_of_report : Telling → Data → List Fault
+told_of_report tells t = told_at tells t t [] (Object Report) false t
 
 -- the members of each object that is walked are in the order of their names
 abbrev mutual
@@ -83,24 +98,24 @@ abbrev mutual
   AreMembersInOrder s no_members = ⊤
   AreMembersInOrder s (member k d ms) = IfSome (want_of_name s k) (λ v. IsInOrder v d) × AreMembersInOrder s ms
 
+-- something is known of each value that is visited, by what is asked of it
+abbrev mutual
+  pub IsKnown : (Want → Data → Type 0) → Want → Data → Type 0
+  IsKnown Known w null = Known w null
+  IsKnown Known w (boolean b) = Known w (boolean b)
+  IsKnown Known w (number n) = Known w (number n)
+  IsKnown Known w (string s) = Known w (string s)
+  IsKnown Known w (array ds) = Known w (array ds) × IfSome (entry_want w) (λ v. AreItemsKnown Known v ds)
+  IsKnown Known w (object ms) = Known w (object ms) × AreMembersKnown Known (scope_inside w (object ms)) ms
+
+  pub AreItemsKnown : (Want → Data → Type 0) → Want → Items → Type 0
+  AreItemsKnown Known w no_items = ⊤
+  AreItemsKnown Known w (item d ds) = IsKnown Known w d × AreItemsKnown Known w ds
+
+  pub AreMembersKnown : (Want → Data → Type 0) → Scope → Members → Type 0
+  AreMembersKnown Known s no_members = ⊤
+  AreMembersKnown Known s (member k d ms) = IfSome (want_of_name s k) (λ v. IsKnown Known v d) × AreMembersKnown Known s ms
+
 -- where a whole number is asked for, one that is there fits 64 bits
 abbrev pub IsAskedInRange : Want → Data → Type 0
 IsAskedInRange w d = IsTrue (wants_whole w) → IsInRange d
-
--- the whole numbers that are asked for and walked fit 64 bits
-abbrev mutual
-  pub HasNumbersInRange : Want → Data → Type 0
-  HasNumbersInRange w null = ⊤
-  HasNumbersInRange w (boolean b) = ⊤
-  HasNumbersInRange w (number n) = IsAskedInRange w (number n)
-  HasNumbersInRange w (string s) = ⊤
-  HasNumbersInRange w (array ds) = IfSome (entry_want w) (λ v. ItemsHaveNumbersInRange v ds)
-  HasNumbersInRange w (object ms) = MembersHaveNumbersInRange (scope_inside w (object ms)) ms
-
-  pub ItemsHaveNumbersInRange : Want → Items → Type 0
-  ItemsHaveNumbersInRange w no_items = ⊤
-  ItemsHaveNumbersInRange w (item d ds) = HasNumbersInRange w d × ItemsHaveNumbersInRange w ds
-
-  pub MembersHaveNumbersInRange : Scope → Members → Type 0
-  MembersHaveNumbersInRange s no_members = ⊤
-  MembersHaveNumbersInRange s (member k d ms) = IfSome (want_of_name s k) (λ v. HasNumbersInRange v d) × MembersHaveNumbersInRange s ms

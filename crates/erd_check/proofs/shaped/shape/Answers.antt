@@ -1,7 +1,7 @@
 use Rattle.std.proofs.Common.{◌∙◌, sym}
 use Rattle.serde_json.specs.View.{view}
 use Rattle.erd_check.proofs.FaultLists.{no_fault_from_empty}
-use Rattle.erd_check.proofs.ReportTrees.{shaped_by}
+use Rattle.erd_check.proofs.ShapedReports.{shaped_by}
 use Rattle.erd_check.proofs.shaped.shape.Goals as goal
 
 pub invariant_of-result : goal.invariant_of-result
