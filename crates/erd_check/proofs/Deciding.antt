@@ -1,5 +1,5 @@
 -- Whether a value is a tree, by a test; of a tree the walk's list is that of all faults of the shape.
-use Rattle.std.proofs.Common.{◌≡◌, ℕ, List, [], Bool, true, false, ◌&&◌, Ordering, Less, Equal, Greater, is_lt, Option, Some, None, length, refl}
+use Rattle.std.proofs.Common.{◌≡◌, ℕ, List, Bool, true, false, ◌&&◌, Ordering, Less, Equal, Greater, is_lt, Option, Some, None, length, refl}
 use Rattle.std.specs.Prelude.{pos}
 use Rattle.std.proofs.lemmas.Cmp.{nat_list_cmp_total}
 use Rattle.std.specs.List.{AllByRecursion}

@@ -1,5 +1,5 @@
 -- The walk that judges the shape tells exactly the faults of the shape.
-use Rattle.std.proofs.Common.{◌≡◌, List, Bool, Option, Some, None, IsTrue, refl, sym, ap, subst}
+use Rattle.std.proofs.Common.{◌≡◌, List, Option, Some, None, IsTrue, refl, sym, subst}
 use Rattle.std.specs.Prelude.{IsSomeAnd}
 use Rattle.serde_json.specs.Data.{Data}
 use Rattle.erd_tables.specs.Faults.{ListsAll}
@@ -13,7 +13,7 @@ use Rattle.erd_check.specs.declared.want.Want.TheVariants.{Object}
 use Rattle.erd_check.proofs.FaultsAsked.{AreReasons}
 use Rattle.erd_check.proofs.Order.{In}
 use Rattle.erd_check.proofs.Reasons.{reasons_complete, reasons_sorted, reasons_sound}
-use Rattle.erd_check.proofs.Walks.{walk_lists, Agrees}
+use Rattle.erd_check.proofs.Walks.{walk_lists}
 
 -- the reasons of the shape of what is asked at a place
 abbrev pub shape_reasons : List Step → Asked → List Reason

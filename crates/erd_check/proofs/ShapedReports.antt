@@ -1,6 +1,6 @@
 -- A report without a fault of the shape: all that stands in it is asked for, so each number in it is whole and fits 64 bits, and the names of all its objects
 -- rise.
-use Rattle.std.proofs.Common.{◌≡◌, ℕ, suc, List, [], ◌∷◌, length, Ordering, Less, Greater, nat_cmp, Bool, true, false, ◌&&◌, ◌||◌, Option, Some, None, refl, sym, ap, ◌∙◌, subst}
+use Rattle.std.proofs.Common.{◌≡◌, ℕ, suc, List, ◌∷◌, length, Less, Greater, nat_cmp, Bool, true, false, ◌&&◌, ◌||◌, Option, Some, None, refl, sym, ap, ◌∙◌, subst}
 use Rattle.std.proofs.lemmas.Cmp.{nat_list_cmp_total}
 use Rattle.std.specs.Prelude.{IfSome}
 use Rattle.std.specs.Cmp.Lexicographic.{slice_cmp}
@@ -162,7 +162,7 @@ module _ (t : Data) (clean : NoneOf (ShapeFault t)) where
         let sought = all.each k in
         let first = sound_at sought.want false d sought.sought (subst (λ o. IfSome o (λ v. IsInOrder v d)) sought.is order.0) (each k sought.want d sought.is (get_first k d ms)) in
         let rest = members_sound s ms all (names_after k ms rising) order.1
-            (λ n v e h there. each n v e h (get_later n k d e ms (found_all (λ n. slice_cmp nat_cmp k n ≡ Less) n e ms there (names_above k ms rising)) there)) in
+        (λ n v e h there. each n v e h (get_later n k d e ms (found_all (λ n. slice_cmp nat_cmp k n ≡ Less) n e ms there (names_above k ms rising)) there)) in
         record {
           whole = nowhere_float (has_float d) (members_have_float ms) first.whole rest.whole;
           trees = λ h. (before_first k ms rising, first.tree h.0, rest.trees h.1);

@@ -1,11 +1,10 @@
 -- Trees: JSON values (RFC 8259) as `serde_json` reads them, and when two are equal.
-use Rattle.std.specs.Prelude.{◌≡◌, ◌≤◌, ℕ, ℤ, pos, List, [], ◌∷◌, Bool, true, false, not, ◌&&◌, Option, Some, None, ⊤}
-use Rattle.std.specs.Option.{option_map_or}
+use Rattle.std.specs.Prelude.{◌≡◌, ◌≤◌, ℕ, ℤ, pos, List, Bool, true, false, not, ◌&&◌, Option, Some, None, ⊤}
 use Rattle.std.specs.Ordering.{int_eq}
 use Rattle.std.specs.Str.{bytes_eq}
 use Rattle.std.specs.declared.cmp.Ordering.TheVariants.{Less}
 use Rattle.serde_json.specs.Data.{Num, negative, Data, null, boolean, number, string, array, object, Items, no_items, item, Members, no_members, member, depth}
-use Rattle.serde_json.specs.Find.{as_array, as_integer}
+use Rattle.serde_json.specs.Find.{as_integer}
 use Rattle.serde_json.specs.Read.{max_depth}
 use Rattle.erd_tables.specs.Texts.{text_cmp}
 

@@ -8,8 +8,8 @@ pub mod path;
 mod shape_faults;
 mod shaped;
 pub mod values;
-mod visitor;
-mod walk;
+pub mod visitor;
+pub mod walk;
 pub mod want;
 
 pub use equality::{is_among, same_json};

@@ -8,7 +8,6 @@ pub mod Sets
 pub mod References
 pub mod Skeleton
 pub mod Standing
-pub mod LaterFaultLists
 pub mod ReferenceFaultLists
 pub mod SelectionEntries
 pub mod RefusedLists

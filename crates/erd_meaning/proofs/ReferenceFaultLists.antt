@@ -1,4 +1,4 @@
--- The faults of references as a list over all that is asked in a report: it is that of all of them, in their order.
+-- The reasons of a reference at its place: they rise, each is a fault, and none is left out.
 use Rattle.std.proofs.Common.{◌≡◌, ◌-◌, ℕ, List, [], ◌∷◌, ◌++◌, inl, inr, filter, length, take, drop, codes, Bool, true, false, ◌&&◌, true≢false, Option, Some, None, refl, sym, ap, ◌∙◌, subst, arith, rules, length-append}
 use Rattle.std.proofs.Math.Seq.{take-append_seam, drop-append_seam}
 use Rattle.std.proofs.lemmas.List.{take-append-drop}
@@ -8,23 +8,16 @@ use Rattle.std.specs.Option.{option_map_or}
 use Rattle.std.specs.Prelude.{IsSomeAnd, IsTrue}
 use Rattle.std.specs.Str.{bytes_eq}
 use Rattle.serde_json.specs.Data.{Data}
-use Rattle.erd_tables.specs.Faults.{reason_cmp, ListsAll}
-use Rattle.erd_tables.specs.declared.class.Role.TheVariants.{Report}
-use Rattle.erd_tables.specs.declared.fault.Fault.{Fault}
+use Rattle.erd_tables.specs.Faults.{reason_cmp}
 use Rattle.erd_tables.specs.declared.fault.Reason.{Reason}
 use Rattle.erd_tables.specs.declared.fault.Reason.TheVariants.{Repeated, Unresolved, WrongFamily, SelectionOfOtherContest}
 use Rattle.erd_tables.specs.declared.place.Step.{Step}
 use Rattle.erd_tables.specs.declared.place.Step.TheVariants.{Name, At}
-use Rattle.erd_check.specs.Trees.{IsTree}
-use Rattle.erd_check.specs.code.Walk.{IsInOrder}
 use Rattle.erd_check.specs.Wants.{Asked, asked_at}
-use Rattle.erd_check.specs.declared.want.Want.TheVariants.{Object}
-use Rattle.erd_check.proofs.Deciding.{tree_in_order}
-use Rattle.erd_check.proofs.FaultsAsked.{AreReasons, faults_asked, faults_asked_listed}
-use Rattle.erd_check.proofs.Order.{In, In-filter, In-filter_kept, sorted_filter}
+use Rattle.erd_check.proofs.Order.{In, In-filter_kept}
 use Rattle.erd_check.proofs.Reasons.{and_true, both_true}
 use Rattle.erd_meaning.specs.LaterFaults.{is_reference_fault, is_other_selection, entry_place, NamesOtherContest, ReferenceFault}
-use Rattle.erd_meaning.proofs.LaterFaultLists.{object_place_of}
+use Rattle.erd_check.proofs.Walks.{outer_place}
 
 -- ---- the entries of an object's list
 
@@ -42,18 +35,18 @@ entry_steps_from (Name n ∷ At i ∷ []) h = (i, ap (λ (m : List ℕ). Name m 
 entry_steps_from ss h = absurd (true≢false (sym h))
 
 -- such a place is that of an entry
-entry_place_from : (p : List Step) → are_entry_steps (last_steps p) ≡ true → (i : ℕ) × (p ≡ entry_place (object_place_of p) i)
+entry_place_from : (p : List Step) → are_entry_steps (last_steps p) ≡ true → (i : ℕ) × (p ≡ entry_place (outer_place p) i)
 entry_place_from p h =
     let steps = entry_steps_from (last_steps p) h in
-    (steps.0, sym (take-append-drop (length p - 2) p) ∙ ap (λ ss. object_place_of p ++ ss) steps.1)
+    (steps.0, sym (take-append-drop (length p - 2) p) ∙ ap (λ ss. outer_place p ++ ss) steps.1)
 
 two_less : (q : List Step) (i : ℕ) → length (entry_place q i) - 2 ≡ length q
 two_less q i =
     let last : List Step = Name (codes "OrderedContestSelectionIds") ∷ At i ∷ [] in
     omega (arith, length-append q last)
 
-pub object_place_of_entry : (q : List Step) (i : ℕ) → object_place_of (entry_place q i) ≡ q
-object_place_of_entry q i = ap (λ n. take n (entry_place q i)) (two_less q i) ∙ take-append_seam q (Name (codes "OrderedContestSelectionIds") ∷ At i ∷ [])
+pub outer_place_entry : (q : List Step) (i : ℕ) → outer_place (entry_place q i) ≡ q
+outer_place_entry q i = ap (λ n. take n (entry_place q i)) (two_less q i) ∙ take-append_seam q (Name (codes "OrderedContestSelectionIds") ∷ At i ∷ [])
 
 last_steps_of_entry : (q : List Step) (i : ℕ) → last_steps (entry_place q i) ≡ Name (codes "OrderedContestSelectionIds") ∷ At i ∷ []
 last_steps_of_entry q i = ap (λ n. drop n (entry_place q i)) (two_less q i) ∙ drop-append_seam q (Name (codes "OrderedContestSelectionIds") ∷ At i ∷ [])
@@ -62,7 +55,7 @@ last_steps_of_entry q i = ap (λ n. drop n (entry_place q i)) (two_less q i) ∙
 
 -- what is asked there is a selection of another contest than that of the object
 abbrev pub is_elsewhere : Data → List Step → Asked → Bool
-is_elsewhere t p a = option_map_or (λ contest. is_other_selection t contest.value a.want a.value) (asked_at t (object_place_of p)) false
+is_elsewhere t p a = option_map_or (λ contest. is_other_selection t contest.value a.want a.value) (asked_at t (outer_place p)) false
 
 -- whether a reference has a fault, by what is asked of it and of the object of its list
 abbrev pub has_reference_reason : Data → List Step → Asked → Reason → Bool
@@ -75,10 +68,6 @@ reference_reasons = Repeated ∷ Unresolved ∷ WrongFamily ∷ SelectionOfOther
 -- the reasons of a place, in the order of reasons
 abbrev pub reference_reasons_at : Data → List Step → Asked → List Reason
 reference_reasons_at t p a = filter (has_reference_reason t p a) reference_reasons
-
--- the faults of references of a report
-abbrev pub reference_list : Data → List Fault
-reference_list t = faults_asked (reference_reasons_at t) t
 
 pub reference_reasons_rise : IsStrictlySortedBy reason_cmp reference_reasons
 unfolding IsStrictlySortedBy
@@ -94,9 +83,9 @@ other_contest : (t : Data) (p : List Step) (a : Asked) → asked_at t p ≡ Some
 other_contest t p a e h =
     let both = and_true (are_entry_steps (last_steps p)) (is_elsewhere t p a) h in
     let entry = entry_place_from p both.0 in
-    let object = object_from (λ contest. is_other_selection t contest.value a.want a.value) (asked_at t (object_place_of p)) both.1 in
+    let object = object_from (λ contest. is_other_selection t contest.value a.want a.value) (asked_at t (outer_place p)) both.1 in
     record {
-      object_place = object_place_of p;
+      object_place = outer_place p;
       position = entry.0;
       place = entry.1;
       contest = object.0;
@@ -129,7 +118,7 @@ kept t p r a i h = In-filter_kept (has_reference_reason t p a) r reference_reaso
 other_kept : (t : Data) (p : List Step) → NamesOtherContest t p → HasReason t p SelectionOfOtherContest
 other_kept t p h =
     let steps : are_entry_steps (last_steps p) ≡ true = ap (λ q. are_entry_steps (last_steps q)) h.place ∙ ap are_entry_steps (last_steps_of_entry h.object_place h.position) in
-    let object : object_place_of p ≡ h.object_place = ap object_place_of h.place ∙ object_place_of_entry h.object_place h.position in
+    let object : outer_place p ≡ h.object_place = ap outer_place h.place ∙ outer_place_entry h.object_place h.position in
     let elsewhere : is_elsewhere t p h.entry ≡ true = rw (object, h.contest_stands) h.elsewhere in
     (h.entry, h.entry_stands, kept t p SelectionOfOtherContest h.entry (inr (inr (inr (inl refl)))) (both_true (are_entry_steps (last_steps p)) (is_elsewhere t p h.entry) steps elsewhere))
 
@@ -139,18 +128,3 @@ reason_of_fault t p Repeated h = kept_there t p Repeated (λ a. is_reference_fau
 reason_of_fault t p Unresolved h = kept_there t p Unresolved (λ a. is_reference_fault t a Unresolved) (λ a e. kept t p Unresolved a (inr (inl refl)) e) (asked_at t p) refl h
 reason_of_fault t p WrongFamily h = kept_there t p WrongFamily (λ a. is_reference_fault t a WrongFamily) (λ a e. kept t p WrongFamily a (inr (inr (inl refl))) e) (asked_at t p) refl h
 reason_of_fault t p r h = kept_there t p r (λ a. false) (λ a e. absurd (true≢false (sym e))) (asked_at t p) refl h
-
--- ---- together
-
-reference_reasons_all : (t : Data) → AreReasons t (reference_reasons_at t) (ReferenceFault t)
-reference_reasons_all t = record {
-  rising = λ p a. sorted_filter (has_reference_reason t p a) reason_cmp reference_reasons reference_reasons_rise;
-  sound = λ p a r e i. fault_of_reason t p a r e (In-filter (has_reference_reason t p a) r reference_reasons i).1;
-  complete = reason_of_fault t;
-}
-
-pub reference_faults_listed : (t : Data) → IsInOrder (Object Report) t → ListsAll (ReferenceFault t) (reference_list t)
-reference_faults_listed t order = faults_asked_listed t (reference_reasons_at t) (ReferenceFault t) order (reference_reasons_all t)
-
-pub reference_faults_listed_in_tree : (t : Data) → IsTree t → ListsAll (ReferenceFault t) (reference_list t)
-reference_faults_listed_in_tree t tree = reference_faults_listed t (tree_in_order (Object Report) t tree)

@@ -7,6 +7,7 @@ use Rattle.std.proofs.lemmas.Slice.Eq.{bytes_eq-Decides}
 use Rattle.serde_json.specs.Data.{Data}
 use Rattle.erd_tables.specs.Classes.{families, family_number}
 use Rattle.erd_tables.specs.declared.class.Family.{Family}
+use Rattle.erd_tables.specs.declared.class.Family.TheVariants as family
 use Rattle.erd_check.proofs.Order.{In, any_at}
 use Rattle.erd_check.proofs.Reasons.{both_true}
 use Rattle.erd_meaning.specs.Lookups.{is_of_family, is_named}
@@ -14,9 +15,21 @@ use Rattle.erd_meaning.specs.Objects.{Placed, has_id, id_of, is_owned, objects, 
 use Rattle.erd_meaning.specs.code.ObjectWalk.{Kept, kept, kept_objects, same_id}
 use Rattle.erd_meaning.specs.code.ReferenceWalk.{is_known, owner_among}
 use Rattle.erd_meaning.proofs.IdentityFaults.{any_from}
-use Rattle.erd_meaning.proofs.LaterFaultLists.{every_family}
 use Rattle.erd_meaning.proofs.Lookups.{kept_of, those_kept}
 use Rattle.erd_meaning.proofs.ObjectFamilies.{itself}
+
+-- ---- families
+
+every_family : (f : Family) → In f families
+every_family family.Unit = inl refl
+every_family family.Party = inr (inl refl)
+every_family family.Person = inr (inr (inl refl))
+every_family family.Office = inr (inr (inr (inl refl)))
+every_family family.Header = inr (inr (inr (inr (inl refl))))
+every_family family.Candidate = inr (inr (inr (inr (inr (inl refl)))))
+every_family family.Contest = inr (inr (inr (inr (inr (inr (inl refl))))))
+every_family family.Style = inr (inr (inr (inr (inr (inr (inr (inl refl)))))))
+every_family family.Selection = inr (inr (inr (inr (inr (inr (inr (inr (inl refl))))))))
 
 -- ---- tests and searches
 

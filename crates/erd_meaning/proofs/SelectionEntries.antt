@@ -15,6 +15,7 @@ use Rattle.erd_tables.specs.declared.class.Class.TheVariants as class
 use Rattle.erd_tables.specs.declared.class.Family.{Family}
 use Rattle.erd_tables.specs.declared.class.Family.TheVariants as family
 use Rattle.erd_tables.specs.declared.class.Role.TheVariants.{Report}
+use Rattle.erd_tables.specs.declared.fault.Fault.{Fault}
 use Rattle.erd_tables.specs.declared.fault.Reason.{Reason}
 use Rattle.erd_tables.specs.declared.fault.Reason.TheVariants.{SelectionOfOtherContest}
 use Rattle.erd_tables.specs.declared.member.MemberKind.{MemberKind}
@@ -22,19 +23,18 @@ use Rattle.erd_tables.specs.declared.member.MemberKind.TheVariants as kind
 use Rattle.erd_tables.specs.declared.place.Step.{Step}
 use Rattle.erd_tables.specs.declared.place.Step.TheVariants.{Name, At}
 use Rattle.erd_check.specs.Trees.{IsTree}
-use Rattle.erd_check.specs.code.Walk.{IsInOrder}
 use Rattle.erd_check.specs.Wants.{Asked, asked, asked_at, asked_from, asked_inside, asked_of_member, carried_want, entry_want, is_compared_set, is_repeated, is_report_class, member_want, scope_inside, want_of_kind, want_of_name}
 use Rattle.erd_check.specs.declared.want.Scope.{Scope}
 use Rattle.erd_check.specs.declared.want.Scope.TheVariants as scope
 use Rattle.erd_check.specs.declared.want.Want.{Want}
 use Rattle.erd_check.specs.declared.want.Want.TheVariants.{Object, ClassText, Reference, Status, Member, Carried}
 use Rattle.erd_check.proofs.Deciding.{tree_in_order}
-use Rattle.erd_check.proofs.FaultsAsked.{AreReasons, faults_asked_listed}
+use Rattle.erd_check.proofs.FaultsAsked.{faults_asked, faults_asked_listed, AreReasons}
 use Rattle.erd_check.proofs.Order.{In, In-filter, In-filter_kept, sorted_filter}
 use Rattle.erd_check.proofs.Reasons.{and_true, both_true}
 use Rattle.erd_check.proofs.TableKinds.{kind_of_name, kind_of_id}
-use Rattle.erd_meaning.specs.LaterFaults.{is_other_selection, ReferenceFault}
-use Rattle.erd_meaning.proofs.LaterFaultLists.{has_reference_fault, object_place_of, reference_faults}
+use Rattle.erd_meaning.specs.LaterFaults.{is_other_selection, is_reference_fault, ReferenceFault}
+use Rattle.erd_check.proofs.Walks.{outer_place}
 use Rattle.erd_meaning.proofs.ReferenceFaultLists.{are_entry_steps, fault_of_reason, has_reference_reason, is_elsewhere, last_steps, reason_of_fault, reference_reasons, reference_reasons_rise}
 
 -- ---- the table
@@ -224,7 +224,7 @@ steps_at t q (s ∷ r ∷ []) a e few all k =
     two_steps b.0 s r a b.2 k
 steps_at t q (s ∷ r ∷ x ∷ ss) a e few all k = absurd (omega arith)
 
-none_before : (p : List Step) → length (last_steps p) < 2 → object_place_of p ≡ []
+none_before : (p : List Step) → length (last_steps p) < 2 → outer_place p ≡ []
 none_before p h =
     let e : length p - 2 ≡ 0 = omega (arith, length-drop (length p - 2) p) in
     ap (λ n. take n p) e
@@ -233,10 +233,15 @@ none_before p h =
 pub selection_place : (t : Data) (p : List Step) (a : Asked) → asked_at t p ≡ Some a → wants_selection a.want ≡ true → are_entry_steps (last_steps p) ≡ true
 selection_place t p a e k =
     let few : length (last_steps p) ≤ 2 = omega (arith, length-drop (length p - 2) p) in
-    let parts : asked_at t (object_place_of p ++ last_steps p) ≡ Some a = ap (asked_at t) (take-append-drop (length p - 2) p) ∙ e in
-    steps_at t (object_place_of p) (last_steps p) a parts few (none_before p) k
+    let parts : asked_at t (outer_place p ++ last_steps p) ≡ Some a = ap (asked_at t) (take-append-drop (length p - 2) p) ∙ e in
+    steps_at t (outer_place p) (last_steps p) a parts few (none_before p) k
 
--- ---- the list without the test
+-- ---- the reasons without the test
+
+-- whether what is asked there has this fault of references
+abbrev pub has_reference_fault : Data → List Step → Asked → Reason → Bool
+has_reference_fault t p a SelectionOfOtherContest = is_elsewhere t p a
+has_reference_fault t p a r = is_reference_fault t a r
 
 elsewhere_wants : (t d : Data) (w : Want) (e : Data) → is_other_selection t d w e ≡ true → wants_selection w ≡ true
 elsewhere_wants t d (Reference family.Selection) e h = refl
@@ -246,34 +251,34 @@ elsewhere_at : (t : Data) (a : Asked) (o : Option Asked) → option_map_or (λ c
 elsewhere_at t a None h = cc
 elsewhere_at t a (Some contest) h = elsewhere_wants t contest.value a.want a.value h
 
-reason_from : (t : Data) (p : List Step) (a : Asked) (r : Reason) → asked_at t p ≡ Some a → has_reference_fault t (p, a) r ≡ true → has_reference_reason t p a r ≡ true
+reason_from : (t : Data) (p : List Step) (a : Asked) (r : Reason) → asked_at t p ≡ Some a → has_reference_fault t p a r ≡ true → has_reference_reason t p a r ≡ true
 reason_from t p a SelectionOfOtherContest e h =
-    both_true (are_entry_steps (last_steps p)) (is_elsewhere t p a) (selection_place t p a e (elsewhere_at t a (asked_at t (object_place_of p)) h)) h
+    both_true (are_entry_steps (last_steps p)) (is_elsewhere t p a) (selection_place t p a e (elsewhere_at t a (asked_at t (outer_place p)) h)) h
 reason_from t p a r e h = h
 
-fault_from : (t : Data) (p : List Step) (a : Asked) (r : Reason) → has_reference_reason t p a r ≡ true → has_reference_fault t (p, a) r ≡ true
+fault_from : (t : Data) (p : List Step) (a : Asked) (r : Reason) → has_reference_reason t p a r ≡ true → has_reference_fault t p a r ≡ true
 fault_from t p a SelectionOfOtherContest h = (and_true (are_entry_steps (last_steps p)) (is_elsewhere t p a) h).1
 fault_from t p a r h = h
 
-abbrev reasons_there : Data → List Step → Asked → List Reason
-reasons_there t p a = filter (has_reference_fault t (p, a)) reference_reasons
+abbrev pub reasons_there : Data → List Step → Asked → List Reason
+reasons_there t p a = filter (has_reference_fault t p a) reference_reasons
 
 complete_there : (t : Data) (p : List Step) (r : Reason) → ReferenceFault t p r → (a : Asked) × (asked_at t p ≡ Some a) × In r (reasons_there t p a)
 complete_there t p r h =
     let c = reason_of_fault t p r h in
     let i = In-filter (has_reference_reason t p c.0) r reference_reasons c.2 in
-    (c.0, c.1, In-filter_kept (has_reference_fault t (p, c.0)) r reference_reasons i.0 (fault_from t p c.0 r i.1))
+    (c.0, c.1, In-filter_kept (has_reference_fault t p c.0) r reference_reasons i.0 (fault_from t p c.0 r i.1))
 
-reasons_all : (t : Data) → AreReasons t (reasons_there t) (ReferenceFault t)
+pub reasons_all : (t : Data) → AreReasons t (reasons_there t) (ReferenceFault t)
 reasons_all t = record {
-  rising = λ p a. sorted_filter (has_reference_fault t (p, a)) reason_cmp reference_reasons reference_reasons_rise;
-  sound = λ p a r e i. fault_of_reason t p a r e (reason_from t p a r e (In-filter (has_reference_fault t (p, a)) r reference_reasons i).1);
+  rising = λ p a. sorted_filter (has_reference_fault t p a) reason_cmp reference_reasons reference_reasons_rise;
+  sound = λ p a r e i. fault_of_reason t p a r e (reason_from t p a r e (In-filter (has_reference_fault t p a) r reference_reasons i).1);
   complete = complete_there t;
 }
 
--- the list of `LaterFaultLists`, which tests no names, is that of all faults of references too
-pub reference_faults_all : (t : Data) → IsInOrder (Object Report) t → ListsAll (ReferenceFault t) (reference_faults t)
-reference_faults_all t order = faults_asked_listed t (reasons_there t) (ReferenceFault t) order (reasons_all t)
+-- the faults of references of a report
+abbrev pub reference_faults : Data → List Fault
+reference_faults t = faults_asked (reasons_there t) t
 
-pub reference_faults_all_in_tree : (t : Data) → IsTree t → ListsAll (ReferenceFault t) (reference_faults t)
-reference_faults_all_in_tree t tree = reference_faults_all t (tree_in_order (Object Report) t tree)
+pub reference_faults_listed : (t : Data) → IsTree t → ListsAll (ReferenceFault t) (reference_faults t)
+reference_faults_listed t tree = faults_asked_listed t (reasons_there t) (ReferenceFault t) (tree_in_order (Object Report) t tree) (reasons_all t)

@@ -1,15 +1,12 @@
-ghost use Rattle.std.specs.Prelude.{◌≡◌, ◌++◌, [], map, IfOk};
-ghost use Rattle.std.specs.List.Sorted.{IsStrictlySortedBy};
-ghost use Rattle.serde_json.specs.View.{view, items_view, members_view};
+ghost use Rattle.std.specs.Prelude.{◌≡◌, ◌++◌, map, IfOk};
+ghost use Rattle.serde_json.specs.View.{view};
 ghost use Rattle.erd_tables.specs.Faults.{ListsAll};
-ghost use Rattle.erd_tables.specs.Texts.{text_cmp};
-ghost use Rattle.erd_check.specs.code.Paths.{steps_of, fault_at};
-ghost use Rattle.erd_check.specs.code.Walk.{IsInOrder, AreItemsInOrder, AreMembersInOrder};
-ghost use Rattle.erd_check.specs.Values.{names};
+ghost use Rattle.erd_check.specs.code.Paths.{steps_of};
+ghost use Rattle.erd_check.specs.code.Walk.{faults_of};
 ghost use Rattle.erd_meaning.specs.LaterFaults.{ReferenceFault, is_selection_in};
 ghost use Rattle.erd_meaning.specs.Objects.{has_id};
-ghost use Rattle.erd_meaning.specs.code.ObjectWalk.{fault_if, kept_objects};
-ghost use Rattle.erd_meaning.specs.code.ReferenceWalk.{is_of_others, is_elsewhere, id_faults, faults_here, references_at, references_of_items, references_of_members};
+ghost use Rattle.erd_meaning.specs.code.ObjectWalk.{kept_objects};
+ghost use Rattle.erd_meaning.specs.code.ReferenceWalk.{id_reasons, is_elsewhere, is_of_others, reason_if};
 ghost use Rattle.erd_meaning.specs.code.Shown.{shown};
 
 use crate::lookup::{is_id_known, owner_of};
@@ -17,9 +14,11 @@ use crate::object::Object;
 use erd_check::is_among;
 use erd_check::path::{Path, push_fault};
 use erd_check::values::{entries_at, text_at};
-use erd_check::want::{Scope, Want, is_set_wanted, scope_of, want_in, want_of_entry};
-use erd_tables::{Family, Fault, FaultList, Reason, Role};
-use serde_json::{Map, Value};
+use erd_check::visitor::{Position, Visit, Visitor};
+use erd_check::walk::walk_report;
+use erd_check::want::{Scope, Want};
+use erd_tables::{Family, Fault, FaultList, Reason};
+use serde_json::Value;
 use std::alloc::{AllocError, Global};
 
 /// All faults of references of a report (reason 11 of references, and reasons 15 to 17), by place, then by reason, each
@@ -34,178 +33,69 @@ pub(crate) fn reference_faults(
     requires kept { map shown objects.now ≡ kept_objects (view tree.now) }
     ensures { IfOk result (ListsAll (ReferenceFault (view tree.now))) }
 {
-    let mut found = Vec::new(alloc);
-    walk(
-        alloc,
-        objects,
-        Want::Object(Role::Report),
-        tree,
-        false,
-        tree,
-        tree,
-        &Path::Root,
-        &mut found,
-    )?;
+    let found = walk_report(alloc, &ReferenceJudge { objects }, tree)?;
     Ok(FaultList::of(found))
 }
 
-/// Adds the faults of references of a value and of what is inside it, in the order of places. The owner is the value that
-/// it stands in, and the outer one is that of the owner.
-#[cycle(walk)]
-fn walk(
-    alloc: Global,
-    objects: &[Object],
-    want: Want,
-    value: &Value,
-    is_repeated: bool,
-    outer: &Value,
-    owner: &Value,
-    path: &Path,
-    faults: &mut Vec<Fault>,
-) -> Result<(), AllocError>
-    ensures added { IfOk result (λ _. faults.new.items ≡ faults.old.items
-        ++ references_at (map shown objects.now) (view outer.now) (view owner.now) (steps_of path.now) want is_repeated (view value.now)) }
-    ensures in_order { IfOk result (λ _. IsInOrder want (view value.now)) }
-{
-    judge(
-        alloc,
-        objects,
-        want,
-        value,
-        is_repeated,
-        outer,
-        path,
-        faults,
-    )?;
-    match value {
-        Value::Array(items) => match want_of_entry(want) {
-            Some(entry) => {
-                let is_set = is_set_wanted(want);
-                walk_items(
-                    alloc, objects, entry, is_set, items, owner, value, path, faults,
-                )
-            }
+/// Tells the faults of references, which name these objects.
+#[derive(Drop)]
+struct ReferenceJudge<'b, 'a> {
+    objects: &'b [Object<'a>],
+}
+
+impl<'b, 'a> Visitor for ReferenceJudge<'b, 'a> {
+    ghost use Rattle.std.specs.Prelude.{map, ⊤};
+    ghost use Rattle.erd_meaning.specs.code.ReferenceWalk.{reference_reasons_told};
+    ghost use Rattle.erd_meaning.specs.code.Shown.{shown};
+
+    ghost tells = { λ j. reference_reasons_told (map shown j.objects.now) };
+
+    ghost Known = { λ _ _ _. ⊤ };
+
+    fn visit(
+        &self,
+        alloc: Global,
+        visit: Visit,
+        scope: Scope,
+        value: &Value,
+        faults: &mut Vec<Fault>,
+    ) -> Result<(), AllocError> {
+        let Want::Reference(family) = visit.want else {
+            return Ok(());
+        };
+        let position = visit.position;
+        let is_repeated = is_among(value, visit.earlier);
+        push_if(alloc, is_repeated, position.path, Reason::Repeated, faults)?;
+        match value.as_str() {
+            Some(id) => self.push_id_faults(alloc, family, id, position, faults),
             None => Ok(()),
-        },
-        Value::Object(members) => {
-            let scope = scope_of(want, value);
-            walk_members(alloc, objects, scope, members, owner, value, path, faults)
-        }
-        Value::Null | Value::Bool(_) | Value::Number(_) | Value::String(_) => Ok(()),
-    }
-}
-
-#[cycle(walk)]
-fn walk_items(
-    alloc: Global,
-    objects: &[Object],
-    want: Want,
-    is_set: bool,
-    items: &Vec<Value>,
-    outer: &Value,
-    owner: &Value,
-    path: &Path,
-    faults: &mut Vec<Fault>,
-) -> Result<(), AllocError>
-    ensures added { IfOk result (λ _. faults.new.items ≡ faults.old.items
-        ++ references_of_items (map shown objects.now) (view outer.now) (view owner.now) (steps_of path.now) want is_set [] (items_view items.now.items)) }
-    ensures in_order { IfOk result (λ _. AreItemsInOrder want (items_view items.now.items)) }
-{
-    for (index, item) in items.iter().enumerate() {
-        let is_repeated = is_set && is_among(item, &items[..index]);
-        let below = Path::Entry(&*path, index);
-        walk(
-            alloc,
-            objects,
-            want,
-            item,
-            is_repeated,
-            outer,
-            owner,
-            &below,
-            faults,
-        )?;
-    }
-    Ok(())
-}
-
-#[cycle(walk)]
-fn walk_members(
-    alloc: Global,
-    objects: &[Object],
-    scope: Scope,
-    members: &Map<String, Value>,
-    outer: &Value,
-    owner: &Value,
-    path: &Path,
-    faults: &mut Vec<Fault>,
-) -> Result<(), AllocError>
-    ensures added { IfOk result (λ _. faults.new.items ≡ faults.old.items
-        ++ references_of_members (map shown objects.now) (view outer.now) (view owner.now) (steps_of path.now) scope (members_view members.now.entries)) }
-    ensures in_order { IfOk result (λ _. AreMembersInOrder scope (members_view members.now.entries)) }
-    ensures sorted { IfOk result (λ _. IsStrictlySortedBy text_cmp (names (members_view members.now.entries))) }
-{
-    for (name, member) in members.iter() {
-        if let Some(want) = want_in(scope, name.as_str()) {
-            let below = Path::Member(&*path, name.as_str());
-            walk(
-                alloc, objects, want, member, false, outer, owner, &below, faults,
-            )?;
         }
     }
-    Ok(())
 }
 
-/// Adds the faults of one reference; any other value has none.
-fn judge(
-    alloc: Global,
-    objects: &[Object],
-    want: Want,
-    value: &Value,
-    is_repeated: bool,
-    outer: &Value,
-    path: &Path,
-    faults: &mut Vec<Fault>,
-) -> Result<(), AllocError>
-    ensures { IfOk result (λ _. faults.new.items ≡ faults.old.items
-        ++ faults_here (map shown objects.now) (view outer.now) (steps_of path.now) want is_repeated (view value.now)) }
-{
-    match want {
-        Want::Reference(family) => {
-            push_if(alloc, is_repeated, path, Reason::Repeated, faults)?;
-            match value.as_str() {
-                Some(id) => judge_id(alloc, objects, family, id, outer, path, faults),
-                None => Ok(()),
-            }
-        }
-        _ => Ok(()),
+impl<'b, 'a> ReferenceJudge<'b, 'a> {
+    /// Adds the faults of a reference with this text, but for its being repeated. The outer value of its position is the
+    /// object whose list it stands in, where it stands in one.
+    fn push_id_faults(
+        &self,
+        alloc: Global,
+        family: Family,
+        id: &str,
+        position: Position,
+        faults: &mut Vec<Fault>,
+    ) -> Result<(), AllocError>
+        ensures { IfOk result (λ _. faults.new.items ≡ faults.old.items ++ faults_of (steps_of position.entry.path.now)
+            (id_reasons (map shown self.now.objects.now) (view position.entry.outer.now) family id.now)) }
+    {
+        let Position { path, outer, .. } = position;
+        let is_missing = !is_id_known(self.objects, id);
+        push_if(alloc, is_missing, path, Reason::Unresolved, faults)?;
+        let is_astray = is_of_others(self.objects, family, id);
+        push_if(alloc, is_astray, path, Reason::WrongFamily, faults)?;
+        let is_other = family == Family::Selection && is_elsewhere(self.objects, outer, id);
+        let reason = Reason::SelectionOfOtherContest;
+        push_if(alloc, is_other, path, reason, faults)
     }
-}
-
-fn judge_id(
-    alloc: Global,
-    objects: &[Object],
-    family: Family,
-    id: &str,
-    outer: &Value,
-    path: &Path,
-    faults: &mut Vec<Fault>,
-) -> Result<(), AllocError>
-    ensures { IfOk result (λ _. faults.new.items ≡ faults.old.items
-        ++ id_faults (map shown objects.now) (view outer.now) (steps_of path.now) family id.now) }
-{
-    let is_missing = !is_id_known(objects, id);
-    push_if(alloc, is_missing, path, Reason::Unresolved, faults)?;
-    let is_astray = is_of_others(objects, family, id);
-    push_if(alloc, is_astray, path, Reason::WrongFamily, faults)?;
-    let is_other = family == Family::Selection && is_elsewhere(objects, outer, id);
-    push_if(
-        alloc,
-        is_other,
-        path,
-        Reason::SelectionOfOtherContest,
-        faults,
-    )
 }
 
 fn push_if(
@@ -216,7 +106,7 @@ fn push_if(
     faults: &mut Vec<Fault>,
 ) -> Result<(), AllocError>
     ensures { IfOk result (λ _. faults.new.items
-        ≡ faults.old.items ++ fault_if is_fault (fault_at (steps_of path.now) reason)) }
+        ≡ faults.old.items ++ faults_of (steps_of path.now) (reason_if is_fault reason)) }
 {
     if is_fault {
         push_fault(alloc, path, reason, faults)?;

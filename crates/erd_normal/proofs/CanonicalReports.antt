@@ -15,15 +15,17 @@ use Rattle.erd_check.specs.Trees.{IsNoDeeper}
 use Rattle.erd_check.specs.Values.{entries_of}
 use Rattle.erd_check.specs.Wants.{Asked, asked_at}
 use Rattle.erd_check.proofs.AllAsked.{AskedPlace, all_asked, tested_at}
-use Rattle.erd_check.proofs.Deciding.{faults_found, is_tree, no_fault_listed}
+use Rattle.erd_check.proofs.Deciding.{faults_found, is_tree, no_fault_listed, tree_sound}
 use Rattle.erd_check.proofs.Reasons.{and_true}
 use Rattle.erd_check.proofs.Reports.{tree_of, one_unit, small_ballot, small_ballot_canonical}
 use Rattle.erd_meaning.specs.Accepted.{IsAccepted}
 use Rattle.erd_meaning.specs.Keys.{key_cmp}
 use Rattle.erd_meaning.specs.SelectionNames.{compact_cmp, name_cmp, name_of}
 use Rattle.erd_meaning.proofs.AcceptedExamples.{small_ballot_canonical_is_accepted}
-use Rattle.erd_meaning.proofs.LaterFaultLists.{identity_faults, reference_faults, selection_faults, no_identity_fault_listed, no_reference_fault_listed, no_selection_fault_listed}
-use Rattle.erd_meaning.proofs.Phases.{accepted_by_phases}
+use Rattle.erd_meaning.proofs.IdentityFaults.{identity_told}
+use Rattle.erd_meaning.proofs.RefusedLists.{accepted_by_lists}
+use Rattle.erd_meaning.proofs.SelectionEntries.{reference_faults}
+use Rattle.erd_meaning.proofs.SelectionFaults.{selections_told}
 use Rattle.erd_normal.specs.Canonical.{AreSetsInOrder, HasNoEmptyArray, IsCanonical, IsCanonicalFormOf, RisesAs, keys_of, keys_referred, kind_wanted}
 use Rattle.erd_normal.proofs.BallotMeaningExamples.{canonical_ballot_means_the_same}
 use Rattle.erd_normal.proofs.CanonicalExamples.{canonical_envelope}
@@ -120,7 +122,7 @@ no_shape_fault : length (faults_found canonical) ≡ 0
 unfolding serde_json_on_literals
 no_shape_fault = refl
 
-no_identity_fault : length (identity_faults canonical) ≡ 0
+no_identity_fault : length (identity_told canonical) ≡ 0
 unfolding serde_json_on_literals
 no_identity_fault = refl
 
@@ -128,7 +130,7 @@ no_reference_fault : length (reference_faults canonical) ≡ 0
 unfolding serde_json_on_literals
 no_reference_fault = refl
 
-no_selection_fault : length (selection_faults canonical) ≡ 0
+no_selection_fault : length (selections_told canonical) ≡ 0
 unfolding serde_json_on_literals
 no_selection_fault = refl
 
@@ -138,8 +140,7 @@ one_unit_in_form = refl
 
 pub one_unit_canonical_is_accepted : IsAccepted canonical
 one_unit_canonical_is_accepted =
-    accepted_by_phases canonical (no_fault_listed canonical one_unit_tree no_shape_fault) (no_identity_fault_listed canonical no_identity_fault)
-    (no_reference_fault_listed canonical no_reference_fault) (no_selection_fault_listed canonical no_selection_fault)
+    accepted_by_lists canonical (tree_sound canonical one_unit_tree) (no_fault_listed canonical one_unit_tree no_shape_fault) no_identity_fault no_reference_fault no_selection_fault
 
 pub one_unit_is_canonical : IsCanonical (tree_of one_unit_canonical)
 one_unit_is_canonical = record {

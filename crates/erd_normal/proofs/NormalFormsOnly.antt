@@ -6,7 +6,7 @@ use Rattle.erd_tables.specs.declared.class.Role.TheVariants.{Report}
 use Rattle.erd_check.specs.Trees.{IsTree}
 use Rattle.erd_check.specs.declared.want.Want.TheVariants.{Object}
 use Rattle.erd_check.proofs.Deciding.{tree_in_order}
-use Rattle.erd_check.proofs.Fractions.{no_fraction}
+use Rattle.erd_check.proofs.ShapedReports.{no_fraction}
 use Rattle.erd_meaning.specs.Accepted.{IsAccepted}
 use Rattle.erd_meaning.proofs.Phases.{no_shape_fault}
 use Rattle.erd_normal.specs.Canonical.{IsCanonicalFormOf}
@@ -31,4 +31,4 @@ module _ (t : Data) (accepted : IsAccepted t) (tree : IsTree t) (bounded : IsBou
   })
 
   pub whole_built : has_float (normal_tree t) ≡ false
-  whole_built = no_fraction (normal_tree t) (tree_in_order (Object Report) (normal_tree t) (normal_tree-tree t tree)) (no_shape_fault (normal_tree t) form_built.canonical.accepted)
+  whole_built = no_fraction (normal_tree t) (no_shape_fault (normal_tree t) form_built.canonical.accepted) (tree_in_order (Object Report) (normal_tree t) (normal_tree-tree t tree))

@@ -1,6 +1,6 @@
 -- The faults that a walk over a report tells, in the order in which it visits the values, and what it leaves known. It is no
 -- definition of the profile: that the list is that of all faults of a kind is proved in `Walks`.
-use Rattle.std.specs.Prelude.{ℕ, List, [], ◌∷◌, ◌++◌, Bool, false, ◌&&◌, map, filter, length, IfSome, IsTrue, ⊤}
+use Rattle.std.specs.Prelude.{List, [], ◌∷◌, ◌++◌, Bool, false, ◌&&◌, map, filter, length, IfSome, IsTrue, ⊤}
 use Rattle.std.specs.List.{list_any}
 use Rattle.std.specs.List.Sorted.{IsStrictlySortedBy}
 use Rattle.std.specs.Option.{option_map_or}
