@@ -18,3 +18,8 @@ counts() {
     echo "$passed passed, $failed failed"
     [ "$failed" -eq 0 ]
 }
+
+# clock SECONDS: as minutes and seconds
+clock() {
+    printf '%d:%02d' $(($1 / 60)) $(($1 % 60))
+}

@@ -1,16 +1,19 @@
 #!/usr/bin/env bash
-# Every check of the repository. The last line is 'N passed, M failed' for all of them together.
+# Every check of the repository. At the end stands the time of each part, and the last line is 'N passed, M failed' for
+# all of them together.
 set -u
 cd "$(dirname "$0")/.." || exit 1
-passed=0
-failed=0
+. tests/counting.sh
+program=crates/erd/out/erd
+tests=crates/erd_rows/out/erd_rows_tests
+times=''
 
-# Runs a command that ends with a line 'N passed, M failed', and adds its counts.
+# counted COMMAND ..: runs a command that ends with a line 'N passed, M failed', and adds its counts
 counted() {
-    local log last
+    local log last status start=$SECONDS
     log=$(mktemp) || exit 1
     "$@" 2>&1 | tee "$log"
-    local status=${PIPESTATUS[0]}
+    status=${PIPESTATUS[0]}
     last=$(grep -E '^[0-9]+ passed, [0-9]+ failed$' "$log" | tail -n 1)
     rm -f "$log"
     if [[ $last =~ ^([0-9]+)\ passed,\ ([0-9]+)\ failed$ ]]; then
@@ -23,22 +26,28 @@ counted() {
         echo "$*: gave no counts"
         failed=$((failed + 1))
     fi
+    times+=$(printf '%8s  %s' "$(clock $((SECONDS - start)))" "$*")$'\n'
+    return "$status"
 }
 
-# Builds what the scripts run. That it is proved is shown by `rt ci`, in a run of its own.
-built() {
-    if ! "$@" > /dev/null; then
-        echo "$*: failed"
-        failed=$((failed + 1))
-    fi
+# left FILE: whether `rt ci` has left what it built; if not, that is a failure
+left() {
+    [ -x "$1" ] && return
+    echo "rt ci left no $1: what runs it is not run"
+    failed=$((failed + 1))
+    return 1
 }
 
-counted rt ci
-built make erd
-built bash -c 'cd crates/erd_rows && rt test'
-counted tests/cli.sh
-counted tests/man.sh
-counted tests/refusals.sh
+# What `rt ci` has proved, compiled and run is what the scripts run, so nothing older may stand there.
+rm -f "$program" "$tests"
+counted rt ci || echo 'rt ci failed, as it says above'
+if left "$program"; then
+    cp "$program" erd
+    counted tests/cli.sh
+    counted tests/man.sh
+    left "$tests" && counted tests/refusals.sh
+fi
 
-echo "$passed passed, $failed failed"
-[ "$failed" -eq 0 ]
+echo 'Minutes and seconds of each part:'
+printf '%s' "$times"
+counts

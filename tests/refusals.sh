@@ -1,8 +1,13 @@
 #!/usr/bin/env bash
 # Refuses each request of memory in turn, in the built program and in built tests, until a run meets no refusal.
-# Each run must end right, or with want of memory and nothing else. One line a case.
+# Each run must end right, or with want of memory and nothing else. One line a case. `make test` leaves the program and
+# the tests; so do `make erd` and, in crates/erd_rows, `rt test`.
 set -u
 cd "$(dirname "$0")/.." || exit 1
+tests=crates/erd_rows/out/erd_rows_tests
+for file in ./erd "$tests"; do
+    [ -x "$file" ] || { echo "refusals: $file is missing" >&2; exit 1; }
+done
 work=$(mktemp -d) || exit 1
 trap 'rm -rf "$work"' EXIT
 . tests/counting.sh
@@ -51,7 +56,7 @@ program() {
 one_test() {
     local name=$1 refusals=0 at
     for ((at = 1; at <= most; at++)); do
-        refusing "$at" crates/erd_rows/out/erd_rows_tests "$name" > "$work/out" 2>&1
+        refusing "$at" "$tests" "$name" > "$work/out" 2>&1
         status=$?
         if [ ! -e "$work/log" ]; then
             [ "$status" -eq 0 ] && [ "$refusals" -gt 0 ] && break
