@@ -19,7 +19,7 @@ use Rattle.erd_meaning.specs.NameParts.{NameParts}
 use Rattle.erd_meaning.specs.Objects.{elections, contests}
 use Rattle.erd_meaning.specs.Records.{plain_member, object_record, selection_map, records_of, meaning}
 use Rattle.erd_meaning.specs.SelectionNames.{name_of}
-use Rattle.erd_meaning.specs.declared.key.Key.{Key}
+use Rattle.erd_meaning.specs.declared.keys.key.Key.{Key}
 use Rattle.erd_compare.proofs.FirstDifferenceExamples.{not_in}
 use Rattle.erd_compare.proofs.OrderExamples.{first_member}
 use Rattle.erd_compare.specs.Differences.{record_at, part_cmp, IsFirstDifference}

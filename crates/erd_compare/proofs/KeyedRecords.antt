@@ -22,7 +22,7 @@ use Rattle.erd_meaning.specs.Meaning.{ObjectRecord}
 use Rattle.erd_meaning.specs.Objects.{Placed, objects}
 use Rattle.erd_meaning.specs.Orders.{key_cmp_total}
 use Rattle.erd_meaning.specs.Records.{member_of_class, object_record, object_with_key, records_of}
-use Rattle.erd_meaning.specs.declared.key.Key.{Key}
+use Rattle.erd_meaning.specs.declared.keys.key.Key.{Key}
 use Rattle.erd_meaning.proofs.EqualNames.{equal_keys, options_exact}
 use Rattle.erd_meaning.proofs.OneObject.{in_at, one_key}
 use Rattle.erd_meaning.proofs.Phases.{no_identity_fault, no_shape_fault}

@@ -11,7 +11,7 @@ use Rattle.erd_meaning.specs.Meaning.{ObjectRecord}
 use Rattle.erd_meaning.specs.Objects.{Placed, objects}
 use Rattle.erd_meaning.specs.Orders.{key_cmp_exact, key_cmp_total}
 use Rattle.erd_meaning.specs.Records.{records_of}
-use Rattle.erd_meaning.specs.declared.key.Key.{Key}
+use Rattle.erd_meaning.specs.declared.keys.key.Key.{Key}
 use Rattle.erd_compare.specs.Differences.{Differ}
 use Rattle.erd_compare.specs.code.KeyedDifferences.{DifferAmong, HasKey, HasKeyAlone, HasKeyAloneAmong, HasKeyAmong, IsAnyKey, IsComparable, TellsAmong, lesser_difference}
 use Rattle.erd_compare.specs.declared.families.KeyedDifference.{KeyedDifference}

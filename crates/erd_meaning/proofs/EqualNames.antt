@@ -15,7 +15,7 @@ use Rattle.erd_tables.specs.declared.class.Class.{Class}
 use Rattle.erd_meaning.specs.Keys.{key_cmp}
 use Rattle.erd_meaning.specs.NameParts.{NameParts}
 use Rattle.erd_meaning.specs.SelectionNames.{class_cmp, name_cmp}
-use Rattle.erd_meaning.specs.declared.key.Key.{Key}
+use Rattle.erd_meaning.specs.declared.keys.key.Key.{Key}
 
 both_equal : (x y : Ordering) → is_eq (ordering_then x y) ≡ true → (is_eq x ≡ true) × (is_eq y ≡ true)
 both_equal x y h = and_parts (is_eq x) (is_eq y) (tied_then x y ∙ h)

@@ -15,9 +15,9 @@ use Rattle.erd_meaning.specs.Lookups.{FindsId, FindsKey, id_in, is_keyed, is_nam
 use Rattle.erd_meaning.specs.code.ObjectWalk.{Kept, same_id, same_key}
 use Rattle.erd_meaning.specs.code.Resolved.{IsResolved}
 use Rattle.erd_meaning.specs.code.Shown.{shown}
-use Rattle.erd_meaning.specs.declared.key.Key.{Key}
-use Rattle.erd_meaning.specs.declared.named_selection.NamedSelection.{NamedSelection}
-use Rattle.erd_meaning.specs.declared.object.Object.{Object}
+use Rattle.erd_meaning.specs.declared.keys.key.Key.{Key}
+use Rattle.erd_meaning.specs.declared.names.numbered_name.NamedSelection.{NamedSelection}
+use Rattle.erd_meaning.specs.declared.objects.object.Object.{Object}
 use Rattle.erd_meaning.proofs.OneObject.{Hit, hit, in_at, missed, one_id, one_key}
 use Rattle.erd_meaning.proofs.IdentityFaults.{same_id_from, same_key_from}
 use Rattle.erd_meaning.proofs.Lookups.{part_at, ranked}

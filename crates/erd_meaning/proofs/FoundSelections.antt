@@ -10,8 +10,8 @@ use Rattle.erd_meaning.specs.NameParts.{NameParts}
 use Rattle.erd_meaning.specs.code.Resolved.{IsResolved}
 use Rattle.erd_meaning.specs.code.SelectionWalk.{NumberedName, is_selection_named}
 use Rattle.erd_meaning.specs.code.Shown.{name_shown}
-use Rattle.erd_meaning.specs.declared.named_selection.NamedSelection.{NamedSelection}
-use Rattle.erd_meaning.specs.declared.object.Object.{Object}
+use Rattle.erd_meaning.specs.declared.names.numbered_name.NamedSelection.{NamedSelection}
+use Rattle.erd_meaning.specs.declared.objects.object.Object.{Object}
 use Rattle.erd_meaning.proofs.NamesTold.{is_named_from, is_named_itself}
 use Rattle.erd_meaning.proofs.OneObject.{hit, in_at, missed}
 use Rattle.erd_meaning.proofs.SelectionsMet.{one_selection}

@@ -19,7 +19,7 @@ use Rattle.erd_meaning.specs.Keys.{has_keys, key_of, kept_key}
 use Rattle.erd_meaning.specs.LaterFaults.{IdentityFault, LacksIdentifier, RepeatsId, RepeatsKey}
 use Rattle.erd_meaning.specs.code.ObjectWalk.{Kept, Located, all_located, fault_if, faults_after, has_same_id, has_same_key, kept, located_one, same_id, same_key}
 use Rattle.erd_meaning.specs.Objects.{Placed, id_of, objects}
-use Rattle.erd_meaning.specs.declared.key.Key.{Key}
+use Rattle.erd_meaning.specs.declared.keys.key.Key.{Key}
 use Rattle.erd_meaning.proofs.ObjectFamilies.{family_exact, is_of, itself, objects_met}
 use Rattle.erd_meaning.proofs.ObjectPlaces.{all_parted, id_place}
 use Rattle.erd_meaning.specs.Orders.{key_cmp_exact, key_cmp_total}

@@ -26,7 +26,7 @@ use Rattle.erd_meaning.specs.Keys.{has_keys, key_of, key_cmp}
 use Rattle.erd_meaning.specs.LaterFaults.{LacksIdentifier, RepeatsKey, RepeatsId, IdentityFault, is_reference_fault, is_other_selection, entry_place, NamesOtherContest, ReferenceFault, RepeatsName, SelectionFault}
 use Rattle.erd_meaning.specs.Objects.{Placed, objects, selections_of, id_of}
 use Rattle.erd_meaning.specs.SelectionNames.{name_of, name_cmp}
-use Rattle.erd_meaning.specs.declared.key.Key.{Key}
+use Rattle.erd_meaning.specs.declared.keys.key.Key.{Key}
 use Rattle.erd_meaning.specs.Orders.{key_cmp_total, name_cmp_total}
 
 -- ---- what repeats the name of an earlier one

@@ -11,8 +11,8 @@ use Rattle.erd_meaning.specs.Objects.{Placed, objects}
 use Rattle.erd_meaning.specs.code.ObjectWalk.{Kept, Located, all_located, kept, kept_objects, located}
 use Rattle.erd_meaning.specs.code.Resolved.{IsResolved}
 use Rattle.erd_meaning.specs.code.Shown.{shown}
-use Rattle.erd_meaning.specs.declared.named_selection.NamedSelection.{NamedSelection}
-use Rattle.erd_meaning.specs.declared.object.Object.{Object}
+use Rattle.erd_meaning.specs.declared.names.numbered_name.NamedSelection.{NamedSelection}
+use Rattle.erd_meaning.specs.declared.objects.object.Object.{Object}
 use Rattle.erd_meaning.proofs.ObjectFamilies.{is_of, objects_met, pick}
 
 -- the objects of a family, as they are kept

@@ -9,7 +9,7 @@ use Rattle.erd_check.proofs.Reports.{tree_of, small_ballot, small_ballot_canonic
 use Rattle.erd_meaning.specs.NameParts.{NameParts}
 use Rattle.erd_meaning.specs.Objects.{objects}
 use Rattle.erd_meaning.specs.SelectionNames.{name_of, name_cmp}
-use Rattle.erd_meaning.specs.declared.key.Key.{Key}
+use Rattle.erd_meaning.specs.declared.keys.key.Key.{Key}
 
 abbrev local_key : List ℕ → Key
 local_key value = record { kind = codes "local-level"; other = []; value = value }

@@ -16,7 +16,7 @@ use Rattle.erd_meaning.specs.Keys.{key_of}
 use Rattle.erd_meaning.specs.LaterFaults.{is_reference_fault, is_in_other_contest}
 use Rattle.erd_meaning.specs.Objects.{Placed, objects, owner, owner_at, id_of, numbered_selections}
 use Rattle.erd_meaning.specs.SelectionNames.{key_named}
-use Rattle.erd_meaning.specs.declared.key.Key.{Key}
+use Rattle.erd_meaning.specs.declared.keys.key.Key.{Key}
 
 -- ---- keys
 

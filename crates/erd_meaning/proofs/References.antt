@@ -12,7 +12,7 @@ use Rattle.erd_check.specs.Wants.{Asked, asked_at, asked}
 use Rattle.erd_check.proofs.Rising.{Has, here, later}
 use Rattle.erd_check.specs.declared.want.Want.TheVariants.{Reference}
 use Rattle.erd_check.proofs.Shapes.{Within, false_unless, not_within, true_unless}
-use Rattle.erd_meaning.specs.declared.key.Key.{Key}
+use Rattle.erd_meaning.specs.declared.keys.key.Key.{Key}
 use Rattle.erd_meaning.specs.Accepted.{IsAccepted}
 use Rattle.erd_meaning.specs.LaterFaults.{is_reference_fault, is_selection_in}
 use Rattle.erd_meaning.specs.Objects.{Placed, has_id, is_owned, objects, owner}

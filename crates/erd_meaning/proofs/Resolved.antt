@@ -8,8 +8,8 @@ use Rattle.erd_check.proofs.FaultLists.{none_from_empty}
 use Rattle.erd_meaning.specs.LaterFaults.{IdentityFault}
 use Rattle.erd_meaning.specs.code.ObjectWalk.{Met, all_located, kept_objects, met_all}
 use Rattle.erd_meaning.specs.code.Shown.{met_of, shown}
-use Rattle.erd_meaning.specs.declared.object.Object.{Object}
-use Rattle.erd_meaning.specs.declared.object_walk.ObjectWalk.{ObjectWalk}
+use Rattle.erd_meaning.specs.declared.objects.object.Object.{Object}
+use Rattle.erd_meaning.specs.declared.objects.object_walk.ObjectWalk.{ObjectWalk}
 use Rattle.erd_meaning.proofs.IdentityFaults.{identity_listed, identity_told}
 use Rattle.erd_meaning.proofs.ToldFaults.{met_faults, met_objects, told}
 

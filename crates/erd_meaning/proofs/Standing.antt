@@ -30,7 +30,7 @@ use Rattle.erd_check.proofs.Entries.{entries_in}
 use Rattle.erd_check.specs.Values.{list_of_items, entries_at}
 use Rattle.erd_check.proofs.Exact.{text_exact, text_itself}
 use Rattle.erd_check.proofs.TableKinds.{want_by_kind}
-use Rattle.erd_meaning.specs.declared.key.Key.{Key}
+use Rattle.erd_meaning.specs.declared.keys.key.Key.{Key}
 use Rattle.erd_meaning.proofs.References.{Contains-Has, find-Some, find-any, option_map-Some}
 use Rattle.erd_meaning.specs.Accepted.{IsAccepted}
 use Rattle.erd_meaning.specs.LaterFaults.{IsBefore}

@@ -14,8 +14,8 @@ use Rattle.erd_meaning.specs.code.Resolved.{AreNames}
 use Rattle.erd_meaning.specs.SelectionNames.{name_of}
 use Rattle.erd_meaning.specs.code.SelectionWalk.{NamesMet, named_all}
 use Rattle.erd_meaning.specs.code.Shown.{name_shown, names_met}
-use Rattle.erd_meaning.specs.declared.named_selection.NamedSelection.{NamedSelection}
-use Rattle.erd_meaning.specs.declared.selection_walk.SelectionWalk.{SelectionWalk}
+use Rattle.erd_meaning.specs.declared.names.numbered_name.NamedSelection.{NamedSelection}
+use Rattle.erd_meaning.specs.declared.names.selection_walk.SelectionWalk.{SelectionWalk}
 use Rattle.erd_meaning.proofs.AmongNames.{name_same}
 use Rattle.erd_meaning.proofs.NamesTold.{all_faults, all_names, name_list, names_told}
 use Rattle.erd_meaning.proofs.SelectionFaults.{selections_listed, selections_told}

@@ -21,7 +21,7 @@ use Rattle.erd_check.specs.Values.{entries_at, text_at}
 use Rattle.erd_meaning.specs.NameParts.{NameParts}
 use Rattle.erd_meaning.specs.Objects.{Placed, selections_of, IsObject, id_of, has_id, owner, is_owned}
 use Rattle.erd_meaning.specs.SelectionNames.{name_of}
-use Rattle.erd_meaning.specs.declared.key.Key.{Key}
+use Rattle.erd_meaning.specs.declared.keys.key.Key.{Key}
 
 -- the one object stands earlier in the report than the other
 abbrev pub IsBefore : Placed → Placed → Type 0

@@ -9,7 +9,7 @@ use Rattle.erd_meaning.specs.Objects.{id_of, numbered_selections, objects}
 use Rattle.erd_meaning.specs.code.ObjectWalk.{Kept, same_id, same_key}
 use Rattle.erd_meaning.specs.Keys.{kept_key}
 use Rattle.erd_meaning.specs.SelectionNames.{name_of}
-use Rattle.erd_meaning.specs.declared.key.Key.{Key}
+use Rattle.erd_meaning.specs.declared.keys.key.Key.{Key}
 
 -- ---- in a report
 

@@ -23,7 +23,7 @@ use Rattle.erd_meaning.specs.Meaning.{JsonMap, JsonSet, KeySet, Label, untransla
 use Rattle.erd_meaning.specs.NameParts.{NameParts}
 use Rattle.erd_meaning.specs.Objects.{objects, elections}
 use Rattle.erd_meaning.specs.SelectionNames.{selection_role, name_of, name_cmp, key_named, keys_named, name_named}
-use Rattle.erd_meaning.specs.declared.key.Key.{Key}
+use Rattle.erd_meaning.specs.declared.keys.key.Key.{Key}
 
 -- ---- values
 

@@ -12,8 +12,8 @@ ghost use Rattle.erd_meaning.specs.code.ObjectWalk.{fault_if, kept_objects};
 ghost use Rattle.erd_meaning.specs.code.ReferenceWalk.{is_of_others, is_elsewhere, id_faults, faults_here, references_at, references_of_items, references_of_members};
 ghost use Rattle.erd_meaning.specs.code.Shown.{shown};
 
-use crate::lookup::{is_id_known, owner_of};
-use crate::object::Object;
+use crate::objects::lookup::{is_id_known, owner_of};
+use crate::objects::object::Object;
 use erd_check::is_among;
 use erd_check::path::{Path, push_fault};
 use erd_check::values::{entries_at, text_at};

@@ -20,7 +20,7 @@ use Rattle.erd_check.specs.Wants.{asked, entry_want, is_repeated, is_compared_se
 use Rattle.erd_check.proofs.Whole.{entry_itself, is_simple_class}
 use Rattle.erd_check.specs.Faults.{is_empty_array}
 use Rattle.erd_check.proofs.Entries.{list_of_items-place, list_of_items-tree, list_of_items_exact, string_from_text}
-use Rattle.erd_meaning.specs.declared.key.Key.{Key}
+use Rattle.erd_meaning.specs.declared.keys.key.Key.{Key}
 use Rattle.erd_meaning.specs.Accepted.{IsAccepted}
 use Rattle.erd_meaning.specs.SelectionNames.{compact_cmp, key_named, keys_named}
 use Rattle.erd_meaning.specs.Records.{key_set, json_set, unless_empty}

@@ -22,7 +22,7 @@ use Rattle.erd_meaning.specs.NameParts.{NameParts}
 use Rattle.erd_meaning.specs.Objects.{elections, contests}
 use Rattle.erd_meaning.specs.Records.{content_of, beside_text, carried_members, json_set, plain_member, object_record, selection_map, records_of, meaning}
 use Rattle.erd_meaning.specs.SelectionNames.{name_named, name_of}
-use Rattle.erd_meaning.specs.declared.key.Key.{Key}
+use Rattle.erd_meaning.specs.declared.keys.key.Key.{Key}
 
 abbrev given : Data
 given = tree_of small_ballot

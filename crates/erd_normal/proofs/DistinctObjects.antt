@@ -18,7 +18,7 @@ use Rattle.erd_meaning.specs.NameParts.{NameParts}
 use Rattle.erd_meaning.specs.Objects.{Placed, contests, objects, placed_from, selections_of}
 use Rattle.erd_meaning.specs.Orders.{key_cmp_exact, name_cmp_exact}
 use Rattle.erd_meaning.specs.SelectionNames.{name_cmp, name_of}
-use Rattle.erd_meaning.specs.declared.key.Key.{Key}
+use Rattle.erd_meaning.specs.declared.keys.key.Key.{Key}
 use Rattle.erd_meaning.proofs.OneObject.{in_at, one_key}
 use Rattle.erd_meaning.proofs.Phases.{no_identity_fault}
 use Rattle.erd_meaning.proofs.References.{has_identifier}

@@ -15,7 +15,7 @@ use Rattle.erd_meaning.specs.Keys.{has_keys, key_cmp, key_of, kept_key}
 use Rattle.erd_meaning.specs.Objects.{objects, Placed}
 use Rattle.erd_meaning.specs.Orders.{key_cmp_total}
 use Rattle.erd_meaning.specs.SelectionNames.{rising_list}
-use Rattle.erd_meaning.specs.declared.key.Key.{Key}
+use Rattle.erd_meaning.specs.declared.keys.key.Key.{Key}
 use Rattle.erd_tables.specs.declared.class.Family.{Family}
 use Rattle.erd_normal.proofs.DistinctEntries.{distinct_by_cmp, place_of}
 use Rattle.erd_normal.proofs.Numbered.{number_of}

@@ -12,7 +12,7 @@ use Rattle.erd_meaning.proofs.RecordExamples.{local_key}
 use Rattle.erd_meaning.proofs.WholeMeanings.{same_object, same_at_every_key, no_record, same_meaning}
 use Rattle.erd_meaning.specs.Objects.{objects, elections}
 use Rattle.erd_meaning.specs.Records.{object_record, records_of, meaning}
-use Rattle.erd_meaning.specs.declared.key.Key.{Key}
+use Rattle.erd_meaning.specs.declared.keys.key.Key.{Key}
 
 -- the canonical form of the report of one unit
 abbrev pub one_unit_canonical : List ℕ

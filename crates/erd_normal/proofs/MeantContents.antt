@@ -25,7 +25,7 @@ use Rattle.erd_check.proofs.Entries.{entries_in, string_from_text}
 use Rattle.erd_check.proofs.ObjectsAt.{ObjectIn, object_in}
 use Rattle.erd_check.proofs.Shapes.{Within, lacks_none, member_within, of_role, wanted_within, within-tree}
 use Rattle.erd_meaning.specs.Accepted.{IsAccepted}
-use Rattle.erd_meaning.specs.declared.key.Key.{Key}
+use Rattle.erd_meaning.specs.declared.keys.key.Key.{Key}
 use Rattle.erd_meaning.specs.Meaning.{Content, JsonMap, a_contest, a_content, a_header, first_node, no_content}
 use Rattle.erd_meaning.specs.NameParts.{NameParts}
 use Rattle.erd_meaning.specs.Objects.{objects}

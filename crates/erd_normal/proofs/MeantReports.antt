@@ -27,7 +27,7 @@ use Rattle.erd_meaning.specs.Meaning.{Meaning, ObjectRecord}
 use Rattle.erd_meaning.specs.Objects.{Placed, elections, objects}
 use Rattle.erd_meaning.specs.Orders.{key_cmp_total}
 use Rattle.erd_meaning.specs.Records.{meaning, member_of_class, object_record, object_with_key, plain_member, plain_value, records_of}
-use Rattle.erd_meaning.specs.declared.key.Key.{Key}
+use Rattle.erd_meaning.specs.declared.keys.key.Key.{Key}
 use Rattle.erd_meaning.proofs.EqualNames.{equal_keys, options_exact}
 use Rattle.erd_meaning.proofs.Phases.{no_shape_fault}
 use Rattle.erd_meaning.proofs.Skeleton.{Skeleton, elections_are, skeleton_of_shape}

@@ -24,7 +24,7 @@ use Rattle.erd_meaning.specs.Lookups.{key_in}
 use Rattle.erd_meaning.specs.Objects.{Placed, id_of, objects}
 use Rattle.erd_meaning.specs.Orders.{key_cmp_exact, key_cmp_total}
 use Rattle.erd_meaning.specs.SelectionNames.{rising_list}
-use Rattle.erd_meaning.specs.declared.key.Key.{Key}
+use Rattle.erd_meaning.specs.declared.keys.key.Key.{Key}
 use Rattle.erd_meaning.proofs.OneObject.{in_at, one_key}
 use Rattle.erd_meaning.proofs.Phases.{no_identity_fault, no_shape_fault}
 use Rattle.erd_meaning.proofs.References.{option_map-Some}

@@ -13,7 +13,7 @@ use Rattle.erd_meaning.specs.Keys.{has_keys, key_cmp, key_of}
 use Rattle.erd_meaning.specs.Lookups.{FindsId, id_in}
 use Rattle.erd_meaning.specs.Objects.{id_of, objects, owner, Placed}
 use Rattle.erd_meaning.specs.SelectionNames.{key_named}
-use Rattle.erd_meaning.specs.declared.key.Key.{Key}
+use Rattle.erd_meaning.specs.declared.keys.key.Key.{Key}
 use Rattle.erd_normal.proofs.DistinctEntries.{place_of}
 use Rattle.erd_normal.proofs.RisingSets.{has_from_In, In-from_has}
 use Rattle.erd_normal.specs.code.Building.{AreNumbers, numbered_id}

@@ -32,7 +32,7 @@ use Rattle.erd_meaning.specs.LaterFaults.{is_reference_fault}
 use Rattle.erd_meaning.specs.Objects.{is_owned, owner}
 use Rattle.erd_meaning.specs.Orders.{key_cmp_total}
 use Rattle.erd_meaning.specs.SelectionNames.{key_named, rising_list}
-use Rattle.erd_meaning.specs.declared.key.Key.{Key}
+use Rattle.erd_meaning.specs.declared.keys.key.Key.{Key}
 use Rattle.erd_meaning.proofs.Phases.{no_shape_fault}
 use Rattle.erd_meaning.proofs.Sets.{any-has}
 use Rattle.erd_normal.specs.Canonical.{keys_referred}

@@ -19,7 +19,7 @@ use Rattle.erd_meaning.specs.Meaning.{translated}
 use Rattle.erd_meaning.specs.Orders.{key_cmp_exact, key_cmp_total}
 use Rattle.erd_meaning.specs.Records.{beside_text, json_set, key_set, label_of}
 use Rattle.erd_meaning.specs.SelectionNames.{compact_cmp, key_named, keys_named, rising_list, with_rising_text}
-use Rattle.erd_meaning.specs.declared.key.Key.{Key}
+use Rattle.erd_meaning.specs.declared.keys.key.Key.{Key}
 use Rattle.erd_check.proofs.Lists.{list_of_items-items_of}
 use Rattle.erd_normal.proofs.RisingOrders.{greater_turned, less_turned}
 use Rattle.erd_normal.proofs.RisingSets.{any-rising, any_filter_map-rising, whole-rising}

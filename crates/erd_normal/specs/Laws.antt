@@ -15,7 +15,7 @@ use Rattle.erd_meaning.specs.NameParts.{NameParts}
 use Rattle.erd_meaning.specs.Objects.{Placed, contests, objects, selections_of, IsObject, id_of}
 use Rattle.erd_meaning.specs.Records.{content_of, key_set, object_record, selection_record, meaning}
 use Rattle.erd_meaning.specs.SelectionNames.{name_of, key_named, keys_named}
-use Rattle.erd_meaning.specs.declared.key.Key.{Key}
+use Rattle.erd_meaning.specs.declared.keys.key.Key.{Key}
 use Rattle.erd_normal.specs.Canonical.{kind_wanted, IsCanonical}
 use Rattle.erd_normal.specs.Rearranged.{Change, IsRearrangement}
 

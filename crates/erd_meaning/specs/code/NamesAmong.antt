@@ -15,7 +15,7 @@ use Rattle.erd_meaning.specs.Lookups.{is_of_family, is_named}
 use Rattle.erd_meaning.specs.NameParts.{NameParts}
 use Rattle.erd_meaning.specs.code.ObjectWalk.{Kept}
 use Rattle.erd_meaning.specs.SelectionNames.{is_write_in, label_of_selection, order_of_selection, rising_list, selection_role}
-use Rattle.erd_meaning.specs.declared.key.Key.{Key}
+use Rattle.erd_meaning.specs.declared.keys.key.Key.{Key}
 
 -- the key of the object of a family with the `@id`
 abbrev pub key_among : List Kept → Family → List ℕ → Option Key

@@ -16,7 +16,7 @@ use Rattle.erd_tables.specs.declared.place.Step.TheVariants.{Name}
 use Rattle.erd_check.specs.code.Paths.{fault_at}
 use Rattle.erd_meaning.specs.Keys.{has_keys, kept_key, key_cmp}
 use Rattle.erd_meaning.specs.Objects.{Placed, elections, id_of, placed_entries, report_of, selections_of}
-use Rattle.erd_meaning.specs.declared.key.Key.{Key}
+use Rattle.erd_meaning.specs.declared.keys.key.Key.{Key}
 
 -- ---- objects
 

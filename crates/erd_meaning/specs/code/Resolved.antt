@@ -14,8 +14,8 @@ use Rattle.erd_meaning.specs.Lookups.{selection_in}
 use Rattle.erd_meaning.specs.code.ObjectWalk.{kept_objects}
 use Rattle.erd_meaning.specs.code.SelectionWalk.{NumberedName}
 use Rattle.erd_meaning.specs.code.Shown.{name_shown, shown}
-use Rattle.erd_meaning.specs.declared.named_selection.NamedSelection.{NamedSelection}
-use Rattle.erd_meaning.specs.declared.object.Object.{Object}
+use Rattle.erd_meaning.specs.declared.names.numbered_name.NamedSelection.{NamedSelection}
+use Rattle.erd_meaning.specs.declared.objects.object.Object.{Object}
 
 -- no two objects have one key or one `@id`, and those that need a key have one
 abbrev pub IsIdentified : Value → Type 0
