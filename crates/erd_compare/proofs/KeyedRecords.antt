@@ -23,12 +23,12 @@ use Rattle.erd_meaning.specs.Objects.{Placed, objects}
 use Rattle.erd_meaning.specs.Orders.{key_cmp_total}
 use Rattle.erd_meaning.specs.Records.{member_of_class, object_record, object_with_key, records_of}
 use Rattle.erd_meaning.specs.declared.keys.key.Key.{Key}
-use Rattle.erd_meaning.proofs.EqualNames.{equal_keys, options_exact}
-use Rattle.erd_meaning.proofs.OneObject.{in_at, one_key}
-use Rattle.erd_meaning.proofs.Phases.{no_identity_fault, no_shape_fault}
-use Rattle.erd_meaning.proofs.References.{find-Some, find-any, option_map-Some}
-use Rattle.erd_meaning.proofs.Standing.{stands}
-use Rattle.erd_meaning.proofs.WholeMeanings.{has_key}
+use Rattle.erd_meaning.proofs.orders.EqualNames.{equal_keys, options_exact}
+use Rattle.erd_meaning.proofs.finding.OneObject.{in_at, one_key}
+use Rattle.erd_meaning.proofs.accepted.Phases.{no_identity_fault, no_shape_fault}
+use Rattle.erd_meaning.proofs.accepted.References.{find-Some, find-any, option_map-Some}
+use Rattle.erd_meaning.proofs.accepted.Standing.{stands}
+use Rattle.erd_meaning.proofs.meanings.WholeMeanings.{has_key}
 use Rattle.erd_compare.specs.code.Comparing.{IsWholeTree}
 use Rattle.erd_compare.specs.Differences.{Differ}
 use Rattle.erd_compare.specs.code.KeyedDifferences.{HasKey, IsComparable}

@@ -12,7 +12,7 @@ use Rattle.serde_json.specs.declared.value.Value.{Value}
 use Rattle.erd_tables.specs.declared.class.Family.{Family}
 use Rattle.erd_check.proofs.Reasons.{and_true, both_true}
 use Rattle.erd_check.proofs.Rising.{Has, here, later}
-use Rattle.erd_meaning.proofs.Sets.{any-has, has-any}
+use Rattle.erd_meaning.proofs.orders.Sets.{any-has, has-any}
 use Rattle.erd_meaning.specs.Keys.{key_cmp}
 use Rattle.erd_meaning.specs.Orders.{key_cmp_exact, key_cmp_total}
 use Rattle.erd_meaning.specs.Records.{key_set}

@@ -13,10 +13,10 @@ use Rattle.erd_meaning.specs.Lookups.{is_of_family, is_named}
 use Rattle.erd_meaning.specs.Objects.{Placed, has_id, id_of, is_owned, objects, owner}
 use Rattle.erd_meaning.specs.code.ObjectWalk.{Kept, kept, kept_objects, same_id}
 use Rattle.erd_meaning.specs.code.ReferenceWalk.{is_known, owner_among}
-use Rattle.erd_meaning.proofs.IdentityFaults.{any_from}
+use Rattle.erd_meaning.proofs.identity.IdentityFaults.{any_from}
 use Rattle.erd_meaning.proofs.LaterFaultLists.{every_family}
-use Rattle.erd_meaning.proofs.Lookups.{kept_of, those_kept}
-use Rattle.erd_meaning.proofs.ObjectFamilies.{itself}
+use Rattle.erd_meaning.proofs.finding.Lookups.{kept_of, those_kept}
+use Rattle.erd_meaning.proofs.identity.ObjectFamilies.{itself}
 
 -- ---- tests and searches
 

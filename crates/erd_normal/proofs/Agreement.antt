@@ -8,14 +8,14 @@ use Rattle.erd_tables.specs.declared.class.Family.{Family}
 use Rattle.erd_tables.specs.declared.class.Family.TheVariants as family
 use Rattle.erd_check.proofs.Rising.{Has, Has-cases, here, later}
 use Rattle.erd_meaning.specs.Objects.{Placed, contests, has_id, id_of, objects, owner, selections_of}
-use Rattle.erd_meaning.proofs.Standing.{flat-has, has_id-Some, one_keyed, one_named, owned_by, owner_is, stands}
-use Rattle.erd_meaning.proofs.Sets.{has-any}
-use Rattle.erd_meaning.proofs.Skeleton.{values-placed_entries}
+use Rattle.erd_meaning.proofs.accepted.Standing.{flat-has, has_id-Some, one_keyed, one_named, owned_by, owner_is, stands}
+use Rattle.erd_meaning.proofs.orders.Sets.{has-any}
+use Rattle.erd_meaning.proofs.accepted.Skeleton.{values-placed_entries}
 use Rattle.erd_meaning.specs.LaterFaults.{is_selection_in}
 use Rattle.erd_meaning.specs.SelectionNames.{key_named, name_named, name_of}
 use Rattle.erd_meaning.specs.Keys.{key_of, has_keys}
 use Rattle.erd_meaning.specs.Records.{meaning}
-use Rattle.erd_meaning.proofs.References.{resolves}
+use Rattle.erd_meaning.proofs.accepted.References.{resolves}
 use Rattle.erd_normal.specs.Canonical.{IsCanonical}
 use Rattle.erd_normal.proofs.Arrays.{Names}
 use Rattle.erd_normal.proofs.Selections.{ObjectPair, SelectionPair, find_paired, has_name, object_pairs, paired_at, paired_flat, selection_pairs, selections_paired}

@@ -14,8 +14,8 @@ use Rattle.erd_tables.specs.declared.class.Role.TheVariants as role
 use Rattle.erd_check.proofs.Reports.{tree_of, small_ballot, small_ballot_canonical}
 use Rattle.erd_check.specs.Trees.{is_same_json}
 use Rattle.erd_check.specs.Values.{entries_of, entries_at}
-use Rattle.erd_meaning.proofs.RecordExamples.{local_key}
-use Rattle.erd_meaning.proofs.WholeMeanings.{same_members, same_object, absent_carried, absent_beside, AgreeAt, AreAmong, ObjectsAgree, same_at_key, ObjectsAgreeButOne, SameMember, same_at_key_with, value_with_key, HaveKeys, keys_of_family, same_family, selection_with_name, SelectionsAgreeButOne, same_at_name, HaveNames, names_of_selections, same_selections, same_meaning}
+use Rattle.erd_meaning.proofs.examples.RecordExamples.{local_key}
+use Rattle.erd_meaning.proofs.meanings.WholeMeanings.{same_members, same_object, absent_carried, absent_beside, AgreeAt, AreAmong, ObjectsAgree, same_at_key, ObjectsAgreeButOne, SameMember, same_at_key_with, value_with_key, HaveKeys, keys_of_family, same_family, selection_with_name, SelectionsAgreeButOne, same_at_name, HaveNames, names_of_selections, same_selections, same_meaning}
 use Rattle.erd_meaning.specs.Keys.{has_keys, key_cmp}
 use Rattle.erd_meaning.specs.Meaning.{Content, no_content, first_node, a_contest, a_header, JsonMap, a_label, translated, a_key_set, a_content, a_plain, a_selection_map}
 use Rattle.erd_meaning.specs.NameParts.{NameParts}

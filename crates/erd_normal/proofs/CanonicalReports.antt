@@ -21,9 +21,9 @@ use Rattle.erd_check.proofs.Reports.{tree_of, one_unit, small_ballot, small_ball
 use Rattle.erd_meaning.specs.Accepted.{IsAccepted}
 use Rattle.erd_meaning.specs.Keys.{key_cmp}
 use Rattle.erd_meaning.specs.SelectionNames.{compact_cmp, name_cmp, name_of}
-use Rattle.erd_meaning.proofs.AcceptedExamples.{small_ballot_canonical_is_accepted}
+use Rattle.erd_meaning.proofs.examples.AcceptedExamples.{small_ballot_canonical_is_accepted}
 use Rattle.erd_meaning.proofs.LaterFaultLists.{identity_faults, reference_faults, selection_faults, no_identity_fault_listed, no_reference_fault_listed, no_selection_fault_listed}
-use Rattle.erd_meaning.proofs.Phases.{accepted_by_phases}
+use Rattle.erd_meaning.proofs.accepted.Phases.{accepted_by_phases}
 use Rattle.erd_normal.specs.Canonical.{AreSetsInOrder, HasNoEmptyArray, IsCanonical, IsCanonicalFormOf, RisesAs, keys_of, keys_referred, kind_wanted}
 use Rattle.erd_normal.proofs.BallotMeaningExamples.{canonical_ballot_means_the_same}
 use Rattle.erd_normal.proofs.CanonicalExamples.{canonical_envelope}

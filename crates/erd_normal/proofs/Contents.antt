@@ -34,9 +34,9 @@ use Rattle.erd_meaning.specs.LaterFaults.{is_selection_in}
 use Rattle.erd_meaning.specs.NameParts.{NameParts}
 use Rattle.erd_meaning.specs.SelectionNames.{key_named, name_named}
 use Rattle.erd_meaning.specs.Keys.{has_keys}
-use Rattle.erd_meaning.proofs.References.{owned, selected}
+use Rattle.erd_meaning.proofs.accepted.References.{owned, selected}
 use Rattle.erd_meaning.specs.Objects.{owner}
-use Rattle.erd_meaning.proofs.Phases.{no_shape_fault}
+use Rattle.erd_meaning.proofs.accepted.Phases.{no_shape_fault}
 use Rattle.erd_normal.specs.Canonical.{IsCanonical}
 use Rattle.erd_normal.proofs.Arrays.{Names, texts_same}
 

@@ -12,8 +12,8 @@ use Rattle.erd_meaning.specs.Accepted.{IsAccepted}
 use Rattle.erd_meaning.specs.LaterFaults.{IsBefore, is_selection_in}
 use Rattle.erd_meaning.specs.Objects.{Placed, contests, has_id, id_of, objects, owner, placed_from, selections_of}
 use Rattle.erd_meaning.specs.SelectionNames.{name_named}
-use Rattle.erd_meaning.proofs.Sets.{any-has, has-any}
-use Rattle.erd_meaning.proofs.Standing.{flat-has, has_id-Some, has_id-from, one_object, one_placed, owned_by}
+use Rattle.erd_meaning.proofs.orders.Sets.{any-has, has-any}
+use Rattle.erd_meaning.proofs.accepted.Standing.{flat-has, has_id-Some, has_id-from, one_object, one_placed, owned_by}
 use Rattle.erd_normal.specs.code.NormalTree.{id_of_selection, normal_object, normal_selection_reference, normal_tree}
 use Rattle.erd_check.specs.Values.{text_of}
 use Rattle.erd_normal.specs.code.Tables.{IsBounded}

@@ -19,10 +19,10 @@ use Rattle.erd_meaning.specs.Objects.{Placed, contests, objects, placed_from, se
 use Rattle.erd_meaning.specs.Orders.{key_cmp_exact, name_cmp_exact}
 use Rattle.erd_meaning.specs.SelectionNames.{name_cmp, name_of}
 use Rattle.erd_meaning.specs.declared.keys.key.Key.{Key}
-use Rattle.erd_meaning.proofs.OneObject.{in_at, one_key}
-use Rattle.erd_meaning.proofs.Phases.{no_identity_fault}
-use Rattle.erd_meaning.proofs.References.{has_identifier}
-use Rattle.erd_meaning.proofs.Standing.{flat-has, one_named, stands}
+use Rattle.erd_meaning.proofs.finding.OneObject.{in_at, one_key}
+use Rattle.erd_meaning.proofs.accepted.Phases.{no_identity_fault}
+use Rattle.erd_meaning.proofs.accepted.References.{has_identifier}
+use Rattle.erd_meaning.proofs.accepted.Standing.{flat-has, one_named, stands}
 use Rattle.erd_normal.specs.code.NormalTree.{by_key, by_name}
 use Rattle.erd_normal.proofs.DistinctEntries.{distinct_from_one_place, distinct_map}
 use Rattle.erd_normal.proofs.RisingSets.{has_from_In}

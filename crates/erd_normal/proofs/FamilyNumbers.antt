@@ -7,9 +7,9 @@ use Rattle.std.specs.Option.{option_cmp}
 use Rattle.std.specs.Ordering.{eq_by_cmp}
 use Rattle.serde_json.specs.Data.{Data}
 use Rattle.erd_check.proofs.Order.{In}
-use Rattle.erd_meaning.proofs.OneObject.{in_at, one_key}
-use Rattle.erd_meaning.proofs.Phases.{no_identity_fault}
-use Rattle.erd_meaning.proofs.References.{has_identifier}
+use Rattle.erd_meaning.proofs.finding.OneObject.{in_at, one_key}
+use Rattle.erd_meaning.proofs.accepted.Phases.{no_identity_fault}
+use Rattle.erd_meaning.proofs.accepted.References.{has_identifier}
 use Rattle.erd_meaning.specs.Accepted.{IsAccepted}
 use Rattle.erd_meaning.specs.Keys.{has_keys, key_cmp, key_of, kept_key}
 use Rattle.erd_meaning.specs.Objects.{objects, Placed}

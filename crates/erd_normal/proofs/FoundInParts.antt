@@ -6,7 +6,7 @@ use Rattle.serde_json.specs.Data.{Data}
 use Rattle.erd_tables.specs.declared.class.Family.TheVariants as family
 use Rattle.erd_check.proofs.Rising.{Has}
 use Rattle.erd_meaning.specs.Objects.{Placed, contests, has_id, objects, owner, selections_of}
-use Rattle.erd_meaning.proofs.References.{find-Some, option_map-Some}
+use Rattle.erd_meaning.proofs.accepted.References.{find-Some, option_map-Some}
 use Rattle.erd_normal.specs.code.NormalTree.{contest_with, selection_with}
 
 module _ {A B : Type 0} (test : B → Bool) (f : A → List B) where

@@ -31,7 +31,7 @@ use Rattle.erd_meaning.specs.NameParts.{NameParts}
 use Rattle.erd_meaning.specs.Objects.{objects}
 use Rattle.erd_meaning.specs.Records.{carried_members, class_of_node, contest_node, content_inside, content_of, header_node, if_carried, node_of, nodes_of, plain_value}
 use Rattle.erd_meaning.specs.SelectionNames.{key_named, name_named}
-use Rattle.erd_meaning.proofs.Phases.{no_shape_fault}
+use Rattle.erd_meaning.proofs.accepted.Phases.{no_shape_fault}
 use Rattle.erd_normal.specs.code.NormalTree.{normal_content, normal_node, normal_node_members, normal_node_value, normal_nodes, normal_reference, normal_selection_reference, normal_tree, unless_no_entry}
 use Rattle.erd_normal.proofs.AskedMembers.{all_items, entry_asked}
 use Rattle.erd_normal.proofs.MeantValues.{filled_array, is_referred, reference_meant}

@@ -25,7 +25,7 @@ use Rattle.erd_check.specs.Wants.{Asked, asked, asked_at, asked_from, asked_insi
 use Rattle.erd_meaning.specs.Accepted.{IsAccepted}
 use Rattle.erd_meaning.specs.LaterFaults.{NamesOtherContest, ReferenceFault, is_other_selection, is_reference_fault}
 use Rattle.erd_meaning.specs.Records.{class_of_node}
-use Rattle.erd_meaning.proofs.Phases.{no_shape_fault}
+use Rattle.erd_meaning.proofs.accepted.Phases.{no_shape_fault}
 use Rattle.erd_normal.specs.code.NormalTree.{normal_tree}
 use Rattle.erd_normal.specs.code.Tables.{IsBounded}
 use Rattle.erd_normal.proofs.NormalGets.{class_has_role}

@@ -15,8 +15,8 @@ use Rattle.erd_meaning.specs.Keys.{has_keys, key_of}
 use Rattle.erd_meaning.specs.LaterFaults.{IdentityFault, IsBefore, LacksIdentifier, RepeatsId, RepeatsKey}
 use Rattle.erd_meaning.specs.Objects.{Placed, contests, id_of, objects, selections_of}
 use Rattle.erd_meaning.specs.SelectionNames.{rising_list}
-use Rattle.erd_meaning.proofs.References.{Has-Contains, has_identifier}
-use Rattle.erd_meaning.proofs.Standing.{has-flat}
+use Rattle.erd_meaning.proofs.accepted.References.{Has-Contains, has_identifier}
+use Rattle.erd_meaning.proofs.accepted.Standing.{has-flat}
 use Rattle.erd_normal.specs.code.NormalTree.{by_key, normal_tree, rank_of}
 use Rattle.erd_normal.specs.code.Tables.{IsBounded}
 use Rattle.erd_normal.proofs.CanonicalIds.{canonical_id_exact, selection_id_apart}

@@ -21,9 +21,9 @@ use Rattle.erd_meaning.specs.NameParts.{NameParts}
 use Rattle.erd_meaning.specs.Objects.{Placed, contests, id_of, objects, placed_from, selections_of}
 use Rattle.erd_meaning.specs.Orders.{name_cmp_exact, name_cmp_total}
 use Rattle.erd_meaning.specs.SelectionNames.{name_cmp, name_of, rising_list, selection_role}
-use Rattle.erd_meaning.proofs.References.{option_map-Some}
-use Rattle.erd_meaning.proofs.Skeleton.{values-placed_entries}
-use Rattle.erd_meaning.proofs.Standing.{flat-has, one_named, stands}
+use Rattle.erd_meaning.proofs.accepted.References.{option_map-Some}
+use Rattle.erd_meaning.proofs.accepted.Skeleton.{values-placed_entries}
+use Rattle.erd_meaning.proofs.accepted.Standing.{flat-has, one_named, stands}
 use Rattle.erd_normal.specs.Canonical.{HasCanonicalIds, canonical_selection_id}
 use Rattle.erd_normal.specs.code.NormalTree.{by_key, by_name, normal_selection, normal_tree}
 use Rattle.erd_normal.proofs.BuiltLists.{all_map, all_rising}

@@ -31,7 +31,7 @@ use Rattle.erd_meaning.specs.Records.{key_set, json_set, is_in_envelope, nodes_o
 use Rattle.erd_meaning.specs.Accepted.{IsAccepted}
 use Rattle.erd_meaning.specs.Objects.{id_of}
 use Rattle.erd_meaning.specs.SelectionNames.{keys_named}
-use Rattle.erd_meaning.proofs.Phases.{no_shape_fault}
+use Rattle.erd_meaning.proofs.accepted.Phases.{no_shape_fault}
 use Rattle.erd_meaning.specs.Keys.{has_keys}
 use Rattle.erd_normal.specs.Canonical.{IsCanonical}
 use Rattle.erd_normal.proofs.Contents.{SameNames, content_same}

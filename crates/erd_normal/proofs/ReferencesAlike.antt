@@ -21,9 +21,9 @@ use Rattle.erd_meaning.specs.NameParts.{NameParts}
 use Rattle.erd_meaning.specs.Objects.{Placed, id_of, objects, selections_of}
 use Rattle.erd_meaning.specs.Records.{content_of, key_set}
 use Rattle.erd_meaning.specs.SelectionNames.{keys_named}
-use Rattle.erd_meaning.proofs.Phases.{no_shape_fault}
-use Rattle.erd_meaning.proofs.References.{Has-Contains}
-use Rattle.erd_meaning.proofs.Standing.{one_keyed, one_named}
+use Rattle.erd_meaning.proofs.accepted.Phases.{no_shape_fault}
+use Rattle.erd_meaning.proofs.accepted.References.{Has-Contains}
+use Rattle.erd_meaning.proofs.accepted.Standing.{one_keyed, one_named}
 use Rattle.erd_normal.specs.Canonical.{kind_wanted}
 use Rattle.erd_normal.specs.Laws.{IsSelection, MeanAlike, ReferencesAgree}
 use Rattle.erd_normal.proofs.Agreement.{same_names}

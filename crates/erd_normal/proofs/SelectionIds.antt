@@ -13,11 +13,11 @@ use Rattle.erd_meaning.specs.Keys.{has_keys}
 use Rattle.erd_check.specs.Values.{entries_at, text_of}
 use Rattle.erd_meaning.specs.Objects.{Placed, contests, has_id, id_of, objects, owner, selections_of}
 use Rattle.erd_meaning.specs.SelectionNames.{name_named, name_of, rising_list}
-use Rattle.erd_meaning.proofs.Phases.{no_shape_fault}
-use Rattle.erd_meaning.proofs.References.{find-any}
-use Rattle.erd_meaning.proofs.Sets.{any-has}
-use Rattle.erd_meaning.proofs.Skeleton.{values-placed_entries}
-use Rattle.erd_meaning.proofs.Standing.{flat-has, has-flat, has_id-Some, has_id-from}
+use Rattle.erd_meaning.proofs.accepted.Phases.{no_shape_fault}
+use Rattle.erd_meaning.proofs.accepted.References.{find-any}
+use Rattle.erd_meaning.proofs.orders.Sets.{any-has}
+use Rattle.erd_meaning.proofs.accepted.Skeleton.{values-placed_entries}
+use Rattle.erd_meaning.proofs.accepted.Standing.{flat-has, has-flat, has_id-Some, has_id-from}
 use Rattle.erd_normal.specs.Canonical.{HasCanonicalIds, canonical_selection_id}
 use Rattle.erd_normal.specs.code.NormalTree.{by_key, by_name, id_of_selection, normal_object, normal_selection, normal_selection_reference, normal_tree, selection_with}
 use Rattle.erd_normal.proofs.Bounds.{few_selections}

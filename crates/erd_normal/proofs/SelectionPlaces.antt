@@ -13,7 +13,7 @@ use Rattle.erd_tables.specs.declared.class.Family.TheVariants as family
 use Rattle.erd_tables.specs.declared.place.Step.{Step}
 use Rattle.erd_tables.specs.declared.place.Step.TheVariants.{Name}
 use Rattle.erd_check.proofs.Rising.{Has}
-use Rattle.erd_meaning.proofs.OneObject.{in_at}
+use Rattle.erd_meaning.proofs.finding.OneObject.{in_at}
 use Rattle.erd_meaning.specs.Accepted.{IsAccepted}
 use Rattle.erd_check.specs.Values.{entries_at}
 use Rattle.erd_meaning.specs.Objects.{Placed, contests, objects, placed_entries, placed_from, selections_of}

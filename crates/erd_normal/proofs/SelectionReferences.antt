@@ -9,12 +9,12 @@ use Rattle.erd_tables.specs.Classes.{family_number}
 use Rattle.erd_tables.specs.declared.class.Family.{Family}
 use Rattle.erd_tables.specs.declared.class.Family.TheVariants as family
 use Rattle.erd_check.proofs.Rising.{Has}
-use Rattle.erd_meaning.proofs.NamesTold.{Numbered}
-use Rattle.erd_meaning.proofs.NumberedSelections.{OfContest, of_its_contest}
-use Rattle.erd_meaning.proofs.ObjectFamilies.{family_exact, itself}
-use Rattle.erd_meaning.proofs.OneObject.{in_at, with_part}
-use Rattle.erd_meaning.proofs.References.{find-Some, option_map-Some}
-use Rattle.erd_meaning.proofs.Standing.{flat-has, has_id-Some, one_object, owner_is, stands}
+use Rattle.erd_meaning.proofs.selections.NamesTold.{Numbered}
+use Rattle.erd_meaning.proofs.selections.NumberedSelections.{OfContest, of_its_contest}
+use Rattle.erd_meaning.proofs.identity.ObjectFamilies.{family_exact, itself}
+use Rattle.erd_meaning.proofs.finding.OneObject.{in_at, with_part}
+use Rattle.erd_meaning.proofs.accepted.References.{find-Some, option_map-Some}
+use Rattle.erd_meaning.proofs.accepted.Standing.{flat-has, has_id-Some, one_object, owner_is, stands}
 use Rattle.erd_meaning.specs.Accepted.{IsAccepted}
 use Rattle.erd_meaning.specs.Keys.{key_of}
 use Rattle.erd_check.specs.Values.{entries_at}

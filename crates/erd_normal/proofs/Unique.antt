@@ -24,14 +24,14 @@ use Rattle.erd_check.proofs.Exact.{both_true, text_exact}
 use Rattle.erd_check.proofs.Whole.{no_strange, not_true}
 use Rattle.erd_meaning.specs.Accepted.{IsAccepted}
 use Rattle.erd_meaning.specs.Objects.{Placed, elections, id_of, objects, selections_of}
-use Rattle.erd_meaning.proofs.Skeleton.{Skeleton, elections_are, skeleton, values-placed_entries}
+use Rattle.erd_meaning.proofs.accepted.Skeleton.{Skeleton, elections_are, skeleton, values-placed_entries}
 use Rattle.erd_meaning.specs.Keys.{has_keys}
 use Rattle.erd_check.specs.Values.{entries_at}
 use Rattle.erd_meaning.specs.Records.{is_in_envelope, meaning, member_of_class, plain_member, selection_record, object_record}
 use Rattle.erd_meaning.specs.Meaning.{ObjectRecord, SelectionRecord}
 use Rattle.erd_meaning.specs.SelectionNames.{selection_role}
-use Rattle.erd_meaning.proofs.Standing.{flat-has, stands}
-use Rattle.erd_meaning.proofs.Phases.{no_shape_fault}
+use Rattle.erd_meaning.proofs.accepted.Standing.{flat-has, stands}
+use Rattle.erd_meaning.proofs.accepted.Phases.{no_shape_fault}
 use Rattle.erd_normal.proofs.Selections.{selection_array}
 use Rattle.erd_normal.proofs.Agreement.{ContestPair, contest_pairs, pairs_of, same_names}
 use Rattle.erd_normal.specs.Canonical.{IsCanonical}

@@ -24,7 +24,7 @@ pub(crate) struct ObjectWalk<'a> {
 }
 
 /// Meets the objects of a report.
-#[tactic(auto, using(crate::proofs::MetObjects::met_all_append))]
+#[tactic(auto, using(crate::proofs::identity::MetObjects::met_all_append))]
 pub(crate) fn meet_report<'a>(
     alloc: Global,
     report: &'a Value,
@@ -41,7 +41,7 @@ pub(crate) fn meet_report<'a>(
     meet_entries(alloc, Family::Person, report, "Person", &path, walk)
 }
 
-#[tactic(auto, using(crate::proofs::MetObjects::met_all_append))]
+#[tactic(auto, using(crate::proofs::identity::MetObjects::met_all_append))]
 fn meet_elections<'a>(
     alloc: Global,
     report: &'a Value,
@@ -59,7 +59,7 @@ fn meet_elections<'a>(
     Ok(())
 }
 
-#[tactic(auto, using(crate::proofs::MetObjects::met_all_append))]
+#[tactic(auto, using(crate::proofs::identity::MetObjects::met_all_append))]
 fn meet_election<'a>(
     alloc: Global,
     election: &'a Value,
@@ -74,7 +74,7 @@ fn meet_election<'a>(
     meet_contests(alloc, election, path, walk)
 }
 
-#[tactic(auto, using(crate::proofs::MetObjects::met_all_append))]
+#[tactic(auto, using(crate::proofs::identity::MetObjects::met_all_append))]
 fn meet_contests<'a>(
     alloc: Global,
     election: &'a Value,

@@ -1,7 +1,7 @@
 use Rattle.std.proofs.Common.{ap, ◌∙◌}
 use Rattle.serde_json.specs.View.{view}
 use Rattle.serde_json.specs.Written.{compact_text, has_float}
-use Rattle.erd_meaning.proofs.WholeParts.{whole_label}
+use Rattle.erd_meaning.proofs.selections.WholeParts.{whole_label}
 use Rattle.erd_meaning.proofs.names.label.label_text.Goals as goal
 
 pub returns : goal.returns

@@ -4,7 +4,7 @@ use Rattle.serde_json.specs.View.{view}
 use Rattle.erd_check.specs.Values.{entries_at}
 use Rattle.erd_meaning.specs.SelectionNames.{compact_cmp, rising_list}
 use Rattle.erd_meaning.specs.code.TranslationOrder.{tree_cmp, tree_cmp_total}
-use Rattle.erd_meaning.proofs.RisingLists.{rising_from_sort, rising_list_map}
+use Rattle.erd_meaning.proofs.orders.RisingLists.{rising_from_sort, rising_list_map}
 use Rattle.erd_meaning.proofs.names.label.rising_translations.Goals as goal
 
 pub returns : goal.returns

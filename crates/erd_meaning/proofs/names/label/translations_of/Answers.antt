@@ -1,6 +1,6 @@
 use Rattle.std.proofs.Common.{codes}
 use Rattle.serde_json.specs.View.{view}
-use Rattle.erd_meaning.proofs.WholeParts.{whole_entry}
+use Rattle.erd_meaning.proofs.selections.WholeParts.{whole_entry}
 use Rattle.erd_meaning.proofs.names.label.translations_of.Goals as goal
 
 pub of-requires : goal.of-requires

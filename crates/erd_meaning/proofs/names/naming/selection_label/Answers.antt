@@ -1,6 +1,6 @@
 use Rattle.std.proofs.Common.{codes, sym}
 use Rattle.serde_json.specs.View.{view}
-use Rattle.erd_meaning.proofs.WholeParts.{whole_get}
+use Rattle.erd_meaning.proofs.selections.WholeParts.{whole_get}
 use Rattle.erd_meaning.proofs.names.naming.selection_label.Goals as goal
 
 pub label_text-requires : goal.label_text-requires

@@ -1,5 +1,5 @@
 use Rattle.std.proofs.Common.{refl}
-use Rattle.erd_meaning.proofs.ComparisonChains.{then_assoc}
+use Rattle.erd_meaning.proofs.orders.ComparisonChains.{then_assoc}
 use Rattle.erd_meaning.proofs.names.selection_name.order_of_names.Goals as goal
 
 pub returns : goal.returns

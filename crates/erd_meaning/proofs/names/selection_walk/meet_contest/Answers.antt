@@ -1,6 +1,6 @@
 use Rattle.std.proofs.Common.{codes}
 use Rattle.serde_json.specs.View.{view}
-use Rattle.erd_meaning.proofs.WholeParts.{whole_entry}
+use Rattle.erd_meaning.proofs.selections.WholeParts.{whole_entry}
 use Rattle.erd_meaning.proofs.names.selection_walk.meet_contest.Goals as goal
 
 pub meet_selection-requires : goal.meet_selection-requires

@@ -6,9 +6,9 @@ use Rattle.erd_tables.specs.declared.place.Step.TheVariants.{At, Name}
 use Rattle.erd_meaning.specs.code.NamesAmong.{name_among}
 use Rattle.erd_meaning.specs.code.SelectionWalk.{named_all}
 use Rattle.erd_meaning.specs.code.Shown.{names_met, shown}
-use Rattle.erd_meaning.proofs.MetSelections.{all_named, named_inside, selections_here}
-use Rattle.erd_meaning.proofs.Skeleton.{one_election}
-use Rattle.erd_meaning.proofs.WholeParts.{whole_entry}
+use Rattle.erd_meaning.proofs.selections.MetSelections.{all_named, named_inside, selections_here}
+use Rattle.erd_meaning.proofs.accepted.Skeleton.{one_election}
+use Rattle.erd_meaning.proofs.selections.WholeParts.{whole_entry}
 use Rattle.erd_meaning.proofs.names.selection_walk.meet_selections.Goals as goal
 
 -- the place of the contests

@@ -3,7 +3,7 @@ use Rattle.std.specs.Prelude.{◌≢◌}
 use Rattle.serde_json.specs.View.{view}
 use Rattle.erd_meaning.specs.code.Shown.{shown}
 use Rattle.erd_meaning.specs.declared.names.selection_walk.SelectionWalk.{SelectionWalk}
-use Rattle.erd_meaning.proofs.WalkedNames.{NamesWalked, names_left, no_twin_left, twins_left}
+use Rattle.erd_meaning.proofs.selections.WalkedNames.{NamesWalked, names_left, no_twin_left, twins_left}
 use Rattle.erd_meaning.proofs.report.resolving.names_told_apart.Goals as goal
 
 pub returns-then-len-eq0-clause-told_apart : goal.returns-then-len-eq0-clause-told_apart

@@ -2,7 +2,7 @@ use Rattle.std.proofs.Common.{◌≡◌, [], length, ap, ◌∙◌, sym}
 use Rattle.std.specs.Prelude.{◌≢◌}
 use Rattle.serde_json.specs.View.{view}
 use Rattle.erd_meaning.specs.declared.objects.object_walk.ObjectWalk.{ObjectWalk}
-use Rattle.erd_meaning.proofs.Resolved.{Walked, all_told, none_told, walked_objects}
+use Rattle.erd_meaning.proofs.identity.Resolved.{Walked, all_told, none_told, walked_objects}
 use Rattle.erd_meaning.proofs.report.resolving.objects_told_apart.Goals as goal
 
 pub returns-then-len-eq0-clause-identified : goal.returns-then-len-eq0-clause-identified

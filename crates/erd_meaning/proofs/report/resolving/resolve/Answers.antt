@@ -4,7 +4,7 @@ use Rattle.serde_json.specs.View.{view}
 use Rattle.serde_json.specs.declared.value.Value.{Value}
 use Rattle.erd_check.specs.Refusals.{RefusedFor}
 use Rattle.erd_meaning.specs.Accepted.{IsFault}
-use Rattle.erd_meaning.proofs.Refused.{refused_for_identity, refused_for_references, refused_for_selections}
+use Rattle.erd_meaning.proofs.refused.Refused.{refused_for_identity, refused_for_references, refused_for_selections}
 use Rattle.erd_meaning.proofs.report.resolving.resolve.Goals as goal
 
 pub returns-in_err-objects-clause-refused : goal.returns-in_err-objects-clause-refused

@@ -10,11 +10,11 @@ use Rattle.erd_check.proofs.FaultsAsked.{In-flat_map_from}
 use Rattle.erd_check.proofs.Order.{In, In-all, In-flat_map, In-map, In-map_from, all_from_In}
 use Rattle.erd_meaning.specs.Objects.{Placed, contests, numbered_selections, numbered_selections_of, selections_of}
 use Rattle.erd_meaning.specs.code.ObjectWalk.{Located, located, located_one}
-use Rattle.erd_meaning.proofs.NamesTold.{Numbered, in_places}
-use Rattle.erd_meaning.proofs.ObjectFamilies.{located-append}
-use Rattle.erd_meaning.proofs.ObjectPlaces.{apart}
-use Rattle.erd_meaning.proofs.OneObject.{family_apart}
-use Rattle.erd_meaning.proofs.ToldFaults.{before_apart}
+use Rattle.erd_meaning.proofs.selections.NamesTold.{Numbered, in_places}
+use Rattle.erd_meaning.proofs.identity.ObjectFamilies.{located-append}
+use Rattle.erd_meaning.proofs.identity.ObjectPlaces.{apart}
+use Rattle.erd_meaning.proofs.finding.OneObject.{family_apart}
+use Rattle.erd_meaning.proofs.identity.ToldFaults.{before_apart}
 
 -- ---- their order
 

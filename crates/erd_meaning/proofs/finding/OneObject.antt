@@ -16,10 +16,10 @@ use Rattle.erd_meaning.specs.Objects.{Placed, id_of, objects}
 use Rattle.erd_meaning.specs.code.ObjectWalk.{Located, all_located, located, located_one}
 use Rattle.erd_meaning.specs.Keys.{kept_key}
 use Rattle.erd_meaning.specs.declared.keys.key.Key.{Key}
-use Rattle.erd_meaning.proofs.IdentityFaults.{is_met, kept_keyed}
-use Rattle.erd_meaning.proofs.ObjectFamilies.{is_of, objects_met}
-use Rattle.erd_meaning.proofs.ObjectPlaces.{AreApart, all_parted, apart, id_place}
-use Rattle.erd_meaning.proofs.ToldFaults.{before_apart, less_itself}
+use Rattle.erd_meaning.proofs.identity.IdentityFaults.{is_met, kept_keyed}
+use Rattle.erd_meaning.proofs.identity.ObjectFamilies.{is_of, objects_met}
+use Rattle.erd_meaning.proofs.identity.ObjectPlaces.{AreApart, all_parted, apart, id_place}
+use Rattle.erd_meaning.proofs.identity.ToldFaults.{before_apart, less_itself}
 
 -- ---- positions in lists
 

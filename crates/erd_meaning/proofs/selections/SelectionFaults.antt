@@ -13,8 +13,8 @@ use Rattle.erd_meaning.specs.NameParts.{NameParts}
 use Rattle.erd_meaning.specs.Objects.{contests, numbered_selections, selections_of}
 use Rattle.erd_meaning.specs.SelectionNames.{name_of}
 use Rattle.erd_meaning.specs.code.SelectionWalk.{NumberedName}
-use Rattle.erd_meaning.proofs.NamesTold.{HasEarlier, Numbered, ToldTwin, names_rising, names_told, told_twin, twin_told}
-use Rattle.erd_meaning.proofs.NumberedSelections.{numbered_rising, of_its_contest, one_contest, with_number}
+use Rattle.erd_meaning.proofs.selections.NamesTold.{HasEarlier, Numbered, ToldTwin, names_rising, names_told, told_twin, twin_told}
+use Rattle.erd_meaning.proofs.selections.NumberedSelections.{numbered_rising, of_its_contest, one_contest, with_number}
 
 -- what is told of the selections of a report
 abbrev pub selections_told : Data → List Fault

@@ -19,7 +19,7 @@ use Rattle.erd_check.proofs.Entries.{array_from}
 use Rattle.erd_meaning.specs.Accepted.{IsAccepted}
 use Rattle.erd_meaning.specs.Objects.{Placed, elections, placed_entries, placed_from, report_of}
 use Rattle.erd_check.specs.Values.{entries_at}
-use Rattle.erd_meaning.proofs.Phases.{no_shape_fault}
+use Rattle.erd_meaning.proofs.accepted.Phases.{no_shape_fault}
 
 -- the report and its one election
 pub record Skeleton (t : Data) : Type 0 where

@@ -24,7 +24,7 @@ use Rattle.erd_meaning.specs.LaterFaults.{IdentityFault, ReferenceFault, Selecti
 use Rattle.erd_meaning.specs.Objects.{Placed, objects, report_of}
 use Rattle.erd_meaning.specs.SelectionNames.{name_in_class}
 use Rattle.erd_meaning.proofs.LaterFaultLists.{identity_faults, reference_faults, selection_faults, no_identity_fault_listed, no_reference_fault_listed}
-use Rattle.erd_meaning.proofs.RefusedLists.{Each, refused_by_shape, refused_by_identity, refused_by_references, refused_by_selections}
+use Rattle.erd_meaning.proofs.refused.RefusedLists.{Each, refused_by_shape, refused_by_identity, refused_by_references, refused_by_selections}
 
 -- the object at this position of its family
 abbrev object_at : Data → Family → ℕ → Placed

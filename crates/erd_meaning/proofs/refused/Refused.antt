@@ -9,7 +9,7 @@ use Rattle.erd_check.specs.declared.error.CheckError.{CheckError}
 use Rattle.erd_check.specs.declared.error.CheckError.TheVariants.{Faults, Memory}
 use Rattle.erd_meaning.specs.Accepted.{IsFault, OrElse}
 use Rattle.erd_meaning.specs.LaterFaults.{IdentityFault, ReferenceFault, SelectionFault}
-use Rattle.erd_meaning.proofs.RefusedLists.{first_refused, second_refused}
+use Rattle.erd_meaning.proofs.refused.RefusedLists.{first_refused, second_refused}
 
 first_phase : (First Second : List Step → Reason → Type 0) (e : CheckError) → RefusedFor First e → RefusedFor (OrElse First Second) e
 first_phase First Second (Faults faults) h = (first_refused First Second faults h.0 h.1, h.1)

@@ -12,7 +12,7 @@ use Rattle.erd_check.specs.Values.{entries_at}
 use Rattle.erd_meaning.specs.NameParts.{NameParts}
 use Rattle.erd_meaning.specs.Objects.{Placed, contests, elections, numbered_selections, numbered_selections_of, placed_entries, placed_from}
 use Rattle.erd_meaning.specs.code.SelectionWalk.{NamesMet, named_all, named_one}
-use Rattle.erd_meaning.proofs.Skeleton.{one_election}
+use Rattle.erd_meaning.proofs.accepted.Skeleton.{one_election}
 
 pub named_all_append : (name : Data → Option NameParts) (m : NamesMet) (xs ys : List (ℕ × Placed)) → named_all name m (xs ++ ys) ≡ named_all name (named_all name m xs) ys
 named_all_append name m [] ys = refl

@@ -18,11 +18,11 @@ use Rattle.erd_meaning.specs.Objects.{Placed, contests, numbered_selections, obj
 use Rattle.erd_meaning.specs.code.Resolved.{AreNames}
 use Rattle.erd_meaning.specs.SelectionNames.{name_in_class, name_of, selection_role}
 use Rattle.erd_meaning.specs.code.SelectionWalk.{NumberedName}
-use Rattle.erd_meaning.proofs.NamesTold.{Numbered, in_places, name_list}
-use Rattle.erd_meaning.proofs.NumberedSelections.{numbered_rising, of_its_contest}
-use Rattle.erd_meaning.proofs.OneObject.{in_at, sorted_at, which_first}
-use Rattle.erd_meaning.proofs.SelectionFaults.{repeats}
-use Rattle.erd_meaning.proofs.Standing.{stands_of_shape}
+use Rattle.erd_meaning.proofs.selections.NamesTold.{Numbered, in_places, name_list}
+use Rattle.erd_meaning.proofs.selections.NumberedSelections.{numbered_rising, of_its_contest}
+use Rattle.erd_meaning.proofs.finding.OneObject.{in_at, sorted_at, which_first}
+use Rattle.erd_meaning.proofs.selections.SelectionFaults.{repeats}
+use Rattle.erd_meaning.proofs.accepted.Standing.{stands_of_shape}
 
 -- ---- each selection has a name
 

@@ -10,8 +10,8 @@ use Rattle.erd_meaning.specs.code.ObjectWalk.{Met, all_located, kept_objects, me
 use Rattle.erd_meaning.specs.code.Shown.{met_of, shown}
 use Rattle.erd_meaning.specs.declared.objects.object.Object.{Object}
 use Rattle.erd_meaning.specs.declared.objects.object_walk.ObjectWalk.{ObjectWalk}
-use Rattle.erd_meaning.proofs.IdentityFaults.{identity_listed, identity_told}
-use Rattle.erd_meaning.proofs.ToldFaults.{met_faults, met_objects, told}
+use Rattle.erd_meaning.proofs.identity.IdentityFaults.{identity_listed, identity_told}
+use Rattle.erd_meaning.proofs.identity.ToldFaults.{met_faults, met_objects, told}
 
 -- a walk that began with nothing has met this report
 pub record Walked (w v : ObjectWalk) (t : Data) : Type 0 where

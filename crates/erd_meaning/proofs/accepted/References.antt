@@ -19,7 +19,7 @@ use Rattle.erd_meaning.specs.Objects.{Placed, has_id, is_owned, objects, owner}
 use Rattle.erd_meaning.specs.SelectionNames.{key_named}
 use Rattle.erd_meaning.specs.Keys.{key_of, has_keys}
 use Rattle.erd_check.specs.Values.{text_at}
-use Rattle.erd_meaning.proofs.Phases.{no_reference_fault, no_identity_fault}
+use Rattle.erd_meaning.proofs.accepted.Phases.{no_reference_fault, no_identity_fault}
 
 found_either : (some any : Bool) → not any ≡ false → (not some && any) ≡ false → some ≡ true
 found_either true any h k = refl

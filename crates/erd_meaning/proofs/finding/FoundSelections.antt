@@ -12,9 +12,9 @@ use Rattle.erd_meaning.specs.code.SelectionWalk.{NumberedName, is_selection_name
 use Rattle.erd_meaning.specs.code.Shown.{name_shown}
 use Rattle.erd_meaning.specs.declared.names.numbered_name.NamedSelection.{NamedSelection}
 use Rattle.erd_meaning.specs.declared.objects.object.Object.{Object}
-use Rattle.erd_meaning.proofs.NamesTold.{is_named_from, is_named_itself}
-use Rattle.erd_meaning.proofs.OneObject.{hit, in_at, missed}
-use Rattle.erd_meaning.proofs.SelectionsMet.{one_selection}
+use Rattle.erd_meaning.proofs.selections.NamesTold.{is_named_from, is_named_itself}
+use Rattle.erd_meaning.proofs.finding.OneObject.{hit, in_at, missed}
+use Rattle.erd_meaning.proofs.selections.SelectionsMet.{one_selection}
 
 pub name_at : (v : Value) (os : List Object) (ns : List NamedSelection) (i : ℕ) → IsResolved v os ns → option_map name_shown (slice_get ns i) ≡ selection_in (view v) i
 name_at v os ns i r = sym (slice_get-map {B = NumberedName} name_shown ns i) ∙ r.named i

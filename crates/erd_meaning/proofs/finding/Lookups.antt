@@ -13,7 +13,7 @@ use Rattle.erd_meaning.specs.code.Resolved.{IsResolved}
 use Rattle.erd_meaning.specs.code.Shown.{shown}
 use Rattle.erd_meaning.specs.declared.names.numbered_name.NamedSelection.{NamedSelection}
 use Rattle.erd_meaning.specs.declared.objects.object.Object.{Object}
-use Rattle.erd_meaning.proofs.ObjectFamilies.{is_of, objects_met, pick}
+use Rattle.erd_meaning.proofs.identity.ObjectFamilies.{is_of, objects_met, pick}
 
 -- the objects of a family, as they are kept
 abbrev pub kept_of : Family → List Placed → List Kept

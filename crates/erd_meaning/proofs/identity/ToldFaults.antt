@@ -12,7 +12,7 @@ use Rattle.erd_check.specs.code.Paths.{fault_at}
 use Rattle.erd_check.proofs.Order.{In, In-append, In-append_left, In-append_right, In-all, Below, sorted_append}
 use Rattle.erd_meaning.specs.Keys.{has_keys}
 use Rattle.erd_meaning.specs.code.ObjectWalk.{Kept, Located, Met, fault_if, faults_after, has_same_id, has_same_key, met_all, met_one}
-use Rattle.erd_meaning.proofs.ObjectPlaces.{AreApart, apart, id_place}
+use Rattle.erd_meaning.proofs.identity.ObjectPlaces.{AreApart, apart, id_place}
 
 -- ---- the walk as lists
 

@@ -23,7 +23,7 @@ use Rattle.erd_meaning.specs.Meaning.{Label, Content, no_content, first_node, No
 use Rattle.erd_meaning.specs.Records.{selection_record, object_with_key, member_of_class, plain_member, label_of, content_of, json_set, plain_value, records_of, beside_text, carried_members, meaning}
 use Rattle.erd_meaning.specs.SelectionNames.{name_named}
 use Rattle.erd_meaning.specs.declared.keys.key.Key.{Key}
-use Rattle.erd_meaning.proofs.WholeRecords.{names_in, absent_plain, absent_member, same_at_every_name}
+use Rattle.erd_meaning.proofs.meanings.WholeRecords.{names_in, absent_plain, absent_member, same_at_every_name}
 
 abbrev pub local_key : List ℕ → Key
 local_key value = record { kind = codes "local-level"; other = []; value = value }

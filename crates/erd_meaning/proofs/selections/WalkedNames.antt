@@ -16,10 +16,10 @@ use Rattle.erd_meaning.specs.code.SelectionWalk.{NamesMet, named_all}
 use Rattle.erd_meaning.specs.code.Shown.{name_shown, names_met}
 use Rattle.erd_meaning.specs.declared.names.numbered_name.NamedSelection.{NamedSelection}
 use Rattle.erd_meaning.specs.declared.names.selection_walk.SelectionWalk.{SelectionWalk}
-use Rattle.erd_meaning.proofs.AmongNames.{name_same}
-use Rattle.erd_meaning.proofs.NamesTold.{all_faults, all_names, name_list, names_told}
-use Rattle.erd_meaning.proofs.SelectionFaults.{selections_listed, selections_told}
-use Rattle.erd_meaning.proofs.SelectionsMet.{names_listed}
+use Rattle.erd_meaning.proofs.selections.AmongNames.{name_same}
+use Rattle.erd_meaning.proofs.selections.NamesTold.{all_faults, all_names, name_list, names_told}
+use Rattle.erd_meaning.proofs.selections.SelectionFaults.{selections_listed, selections_told}
+use Rattle.erd_meaning.proofs.selections.SelectionsMet.{names_listed}
 
 -- a walk that began with nothing has met the selections of this report, among these objects
 pub record NamesWalked (w v : SelectionWalk) (ks : List Kept) (t : Data) : Type 0 where

@@ -18,10 +18,10 @@ use Rattle.erd_meaning.specs.code.Shown.{shown}
 use Rattle.erd_meaning.specs.declared.keys.key.Key.{Key}
 use Rattle.erd_meaning.specs.declared.names.numbered_name.NamedSelection.{NamedSelection}
 use Rattle.erd_meaning.specs.declared.objects.object.Object.{Object}
-use Rattle.erd_meaning.proofs.OneObject.{Hit, hit, in_at, missed, one_id, one_key}
-use Rattle.erd_meaning.proofs.IdentityFaults.{same_id_from, same_key_from}
-use Rattle.erd_meaning.proofs.Lookups.{part_at, ranked}
-use Rattle.erd_meaning.proofs.ObjectFamilies.{itself}
+use Rattle.erd_meaning.proofs.finding.OneObject.{Hit, hit, in_at, missed, one_id, one_key}
+use Rattle.erd_meaning.proofs.identity.IdentityFaults.{same_id_from, same_key_from}
+use Rattle.erd_meaning.proofs.finding.Lookups.{part_at, ranked}
+use Rattle.erd_meaning.proofs.identity.ObjectFamilies.{itself}
 use Rattle.erd_meaning.specs.Orders.{key_cmp_total}
 
 -- the position in its family of the object at this place among all

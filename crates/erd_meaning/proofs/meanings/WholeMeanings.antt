@@ -27,8 +27,8 @@ use Rattle.erd_meaning.specs.Objects.{Placed, objects}
 use Rattle.erd_meaning.specs.Records.{object_with_key, if_carried, carried_members, beside_text, plain_member, member_of_class, record_with, object_record, selection_record, selection_map, records_of, meaning}
 use Rattle.erd_meaning.specs.SelectionNames.{selection_role, name_cmp, name_of}
 use Rattle.erd_meaning.specs.declared.keys.key.Key.{Key}
-use Rattle.erd_meaning.proofs.EqualNames.{options_exact, equal_keys, equal_names}
-use Rattle.erd_meaning.proofs.WholeRecords.{names_in, absent_member, absent_plain, same_at_every_name, same_at_other_names}
+use Rattle.erd_meaning.proofs.orders.EqualNames.{options_exact, equal_keys, equal_names}
+use Rattle.erd_meaning.proofs.meanings.WholeRecords.{names_in, absent_member, absent_plain, same_at_every_name, same_at_other_names}
 
 -- ---- members
 

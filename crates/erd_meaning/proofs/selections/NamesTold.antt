@@ -19,9 +19,9 @@ use Rattle.erd_meaning.specs.code.ObjectWalk.{fault_if}
 use Rattle.erd_meaning.specs.Orders.{name_cmp_exact, name_cmp_total}
 use Rattle.erd_meaning.specs.SelectionNames.{name_cmp}
 use Rattle.erd_meaning.specs.code.SelectionWalk.{NamesMet, NumberedName, is_selection_named, is_taken, named_all, named_one, with_name}
-use Rattle.erd_meaning.proofs.IdentityFaults.{any_from, at_true, tied_from}
-use Rattle.erd_meaning.proofs.ObjectFamilies.{itself}
-use Rattle.erd_meaning.proofs.ToldFaults.{if_sorted, in_if, less_itself, turned}
+use Rattle.erd_meaning.proofs.identity.IdentityFaults.{any_from, at_true, tied_from}
+use Rattle.erd_meaning.proofs.identity.ObjectFamilies.{itself}
+use Rattle.erd_meaning.proofs.identity.ToldFaults.{if_sorted, in_if, less_itself, turned}
 
 -- a selection, with the number of its contest
 abbrev pub Numbered : Type 0

@@ -20,10 +20,10 @@ use Rattle.erd_meaning.specs.LaterFaults.{IdentityFault, LacksIdentifier, Repeat
 use Rattle.erd_meaning.specs.code.ObjectWalk.{Kept, Located, all_located, fault_if, faults_after, has_same_id, has_same_key, kept, located_one, same_id, same_key}
 use Rattle.erd_meaning.specs.Objects.{Placed, id_of, objects}
 use Rattle.erd_meaning.specs.declared.keys.key.Key.{Key}
-use Rattle.erd_meaning.proofs.ObjectFamilies.{family_exact, is_of, itself, objects_met}
-use Rattle.erd_meaning.proofs.ObjectPlaces.{all_parted, id_place}
+use Rattle.erd_meaning.proofs.identity.ObjectFamilies.{family_exact, is_of, itself, objects_met}
+use Rattle.erd_meaning.proofs.identity.ObjectPlaces.{all_parted, id_place}
 use Rattle.erd_meaning.specs.Orders.{key_cmp_exact, key_cmp_total}
-use Rattle.erd_meaning.proofs.ToldFaults.{Complete, Told, complete, duplicate_id, has_twin, in_if, is_keyless, is_named_before, no_identifier, told, told_rising, told_sound, twin_identifier}
+use Rattle.erd_meaning.proofs.identity.ToldFaults.{Complete, Told, complete, duplicate_id, has_twin, in_if, is_keyless, is_named_before, no_identifier, told, told_rising, told_sound, twin_identifier}
 
 -- ---- the objects of the walk
 

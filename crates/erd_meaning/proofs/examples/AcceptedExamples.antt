@@ -5,7 +5,7 @@ use Rattle.erd_check.proofs.Reports.{tree_of, one_unit, small_ballot, small_ball
 use Rattle.erd_check.proofs.WholeExamples.{one_unit_is_faultless, small_ballot_is_faultless, small_ballot_canonical_is_faultless}
 use Rattle.erd_meaning.specs.Accepted.{IsAccepted}
 use Rattle.erd_meaning.proofs.LaterFaultLists.{identity_faults, reference_faults, selection_faults, no_identity_fault_listed, no_reference_fault_listed, no_selection_fault_listed}
-use Rattle.erd_meaning.proofs.Phases.{accepted_by_phases}
+use Rattle.erd_meaning.proofs.accepted.Phases.{accepted_by_phases}
 
 unit_identity : length (identity_faults (tree_of one_unit)) ≡ 0
 unfolding serde_json_on_literals

@@ -31,16 +31,16 @@ use Rattle.erd_check.specs.Values.{list_of_items, entries_at}
 use Rattle.erd_check.proofs.Exact.{text_exact, text_itself}
 use Rattle.erd_check.proofs.TableKinds.{want_by_kind}
 use Rattle.erd_meaning.specs.declared.keys.key.Key.{Key}
-use Rattle.erd_meaning.proofs.References.{Contains-Has, find-Some, find-any, option_map-Some}
+use Rattle.erd_meaning.proofs.accepted.References.{Contains-Has, find-Some, find-any, option_map-Some}
 use Rattle.erd_meaning.specs.Accepted.{IsAccepted}
 use Rattle.erd_meaning.specs.LaterFaults.{IsBefore}
 use Rattle.erd_meaning.specs.Objects.{Placed, contests, elections, has_id, id_of, objects, owner, placed_entries, placed_from, report_of, selections_of}
-use Rattle.erd_meaning.proofs.Skeleton.{Skeleton, election_objects, skeleton_of_shape, the_election}
-use Rattle.erd_meaning.proofs.Sets.{any-has}
+use Rattle.erd_meaning.proofs.accepted.Skeleton.{Skeleton, election_objects, skeleton_of_shape, the_election}
+use Rattle.erd_meaning.proofs.orders.Sets.{any-has}
 use Rattle.erd_meaning.specs.Keys.{key_of, has_keys}
 use Rattle.erd_meaning.specs.SelectionNames.{name_of}
 use Rattle.erd_meaning.specs.NameParts.{NameParts}
-use Rattle.erd_meaning.proofs.Phases.{no_shape_fault, no_identity_fault, no_selection_fault}
+use Rattle.erd_meaning.proofs.accepted.Phases.{no_shape_fault, no_identity_fault, no_selection_fault}
 
 -- where an entry of an array stands
 placed_index : (p : List Step) (i : ℕ) (ds : Items) (o : Placed) → Has (placed_from p i (list_of_items ds)) o → (j : ℕ) × (o.place ≡ p ++ At (i + j) ∷ []) × (get_item j ds ≡ Some o.value)
