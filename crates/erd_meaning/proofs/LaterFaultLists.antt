@@ -24,10 +24,10 @@ use Rattle.erd_check.proofs.AllAsked.{AskedPlace, all_asked, all_asked_complete}
 use Rattle.erd_check.proofs.Order.{In, In-append_left, In-append_right, In-map, In-filter_kept, In-flat_map, In-from_contains, any_at}
 use Rattle.erd_meaning.specs.Keys.{has_keys, key_of, key_cmp}
 use Rattle.erd_meaning.specs.LaterFaults.{LacksIdentifier, RepeatsKey, RepeatsId, IdentityFault, is_reference_fault, is_other_selection, entry_place, NamesOtherContest, ReferenceFault, RepeatsName, SelectionFault}
-use Rattle.erd_meaning.specs.Objects.{Placed, objects, selections_of, id_of}
+use Rattle.erd_meaning.specs.Objects.{Placed, objects, selections_of_contest, id_of}
 use Rattle.erd_meaning.specs.SelectionNames.{name_of, name_cmp}
 use Rattle.erd_meaning.specs.declared.keys.key.Key.{Key}
-use Rattle.erd_meaning.specs.Orders.{key_cmp_total, name_cmp_total}
+use Rattle.erd_meaning.specs.code.Orders.{key_cmp_total, name_cmp_total}
 
 -- ---- what repeats the name of an earlier one
 
@@ -179,7 +179,7 @@ said_there P F (Some a) h use_it = use_it a refl h
 other_listed : (t : Data) (p : List Step) → NamesOtherContest t p → In (fault_at p SelectionOfOtherContest) (reference_faults t)
 other_listed t p h =
     let object : object_place_of p ≡ h.object_place = ap object_place_of h.place ∙ object_of_entry h.object_place h.position in
-    let elsewhere : has_reference_fault t (p, h.entry) SelectionOfOtherContest ≡ true = rw (object, h.contest_stands) h.elsewhere in
+    let elsewhere : has_reference_fault t (p, h.entry) SelectionOfOtherContest ≡ true = rw (object, h.ordered_contest_stands) h.elsewhere in
     listed_there t p h.entry SelectionOfOtherContest h.entry_stands (inr (inr (inr (inl refl)))) elsewhere
 
 pub reference_listed : (t : Data) (p : List Step) (r : Reason) → ReferenceFault t p r → In (fault_at p r) (reference_faults t)
@@ -192,14 +192,14 @@ reference_listed t p r h = said_there (λ a. IsTrue false) _ (asked_at t p) h (�
 -- ---- selections
 
 abbrev pub name_faults : Data → Placed → List Fault
-name_faults t contest = faults_at_places TwinSelection (repeating name_cmp (named_by (name_of t) (selections_of contest)))
+name_faults t contest = faults_at_places TwinSelection (repeating name_cmp (named_by (name_of t) (selections_of_contest contest)))
 
 abbrev pub selection_faults : Data → List Fault
 selection_faults t = flat_map (name_faults t) (objects family.Contest t)
 
 name_listed : (t : Data) (p : List Step) → RepeatsName t p → In (fault_at p TwinSelection) (selection_faults t)
 name_listed t p h =
-    let os = selections_of h.contest in
+    let os = selections_of_contest h.contest in
     let names = named_by (name_of t) os in
     let earlier = In-named_by (name_of t) h.earlier os (Some h.name) (In-from_contains h.earlier os h.earlier_stands) h.earlier_name in
     let later = In-named_by (name_of t) h.later os (Some h.name) (In-from_contains h.later os h.later_stands) h.later_name in

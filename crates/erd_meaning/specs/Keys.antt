@@ -44,5 +44,5 @@ abbrev pub key_of : Data → Option Key
 key_of d = least_key (map triple_of (entries_at (codes "ExternalIdentifier") d))
 
 -- the key of an object of a family, if its family has keys
-abbrev pub kept_key : Family → Data → Option Key
-kept_key f d = if has_keys f then key_of d else None
+abbrev pub key_of_family_object : Family → Data → Option Key
+key_of_family_object f d = if has_keys f then key_of d else None

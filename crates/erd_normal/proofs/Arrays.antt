@@ -26,7 +26,7 @@ use Rattle.erd_meaning.specs.SelectionNames.{compact_cmp, key_named, keys_named}
 use Rattle.erd_meaning.specs.Records.{key_set, json_set, unless_empty}
 use Rattle.erd_meaning.proofs.orders.Sets.{json_set_unique, set_unique}
 use Rattle.erd_meaning.specs.Keys.{key_cmp, has_keys}
-use Rattle.erd_meaning.specs.Orders.{key_cmp_exact, key_cmp_total}
+use Rattle.erd_meaning.specs.code.Orders.{key_cmp_exact, key_cmp_total}
 use Rattle.erd_meaning.proofs.accepted.References.{unrepeated_reference}
 use Rattle.erd_meaning.proofs.accepted.Phases.{no_shape_fault}
 use Rattle.erd_normal.specs.Canonical.{IsCanonical}

@@ -17,7 +17,7 @@ use Rattle.erd_meaning.proofs.accepted.References.{find-Some, has_identifier}
 use Rattle.erd_meaning.proofs.accepted.Standing.{stands}
 use Rattle.erd_meaning.specs.Accepted.{IsAccepted}
 use Rattle.erd_meaning.specs.Keys.{key_cmp, key_of, has_keys}
-use Rattle.erd_meaning.specs.Orders.{key_cmp_exact, key_cmp_total}
+use Rattle.erd_meaning.specs.code.Orders.{key_cmp_exact, key_cmp_total}
 use Rattle.erd_normal.specs.Canonical.{IsCanonical}
 use Rattle.erd_normal.proofs.Paired.{Keys, Paired, all_keys, has_key, keys_rise, paired}
 use Rattle.erd_normal.proofs.Records.{class_within, map_from_found, record_with-Some}

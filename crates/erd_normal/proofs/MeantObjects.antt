@@ -32,7 +32,7 @@ use Rattle.erd_meaning.specs.Accepted.{IsAccepted}
 use Rattle.erd_meaning.specs.Meaning.{PlainValue, Record, a_plain, a_selection_map}
 use Rattle.erd_meaning.specs.NameParts.{NameParts}
 use Rattle.erd_meaning.specs.Objects.{Placed, objects}
-use Rattle.erd_meaning.specs.Orders.{name_cmp_total}
+use Rattle.erd_meaning.specs.code.Orders.{name_cmp_total}
 use Rattle.erd_meaning.specs.Records.{is_in_envelope, member_of_class, member_value, object_record, plain_member, plain_value, record_with, selection_map, selection_record, unless_empty}
 use Rattle.erd_meaning.specs.SelectionNames.{name_cmp, name_named, name_of, rising_list, selection_role}
 use Rattle.erd_meaning.proofs.orders.EqualNames.{equal_names, options_exact}

@@ -25,7 +25,7 @@ use Rattle.erd_check.proofs.Shapes.{within-tree}
 use Rattle.erd_meaning.specs.Keys.{has_keys, key_cmp, key_of}
 use Rattle.erd_meaning.specs.Meaning.{Meaning, ObjectRecord}
 use Rattle.erd_meaning.specs.Objects.{Placed, elections, objects}
-use Rattle.erd_meaning.specs.Orders.{key_cmp_total}
+use Rattle.erd_meaning.specs.code.Orders.{key_cmp_total}
 use Rattle.erd_meaning.specs.Records.{meaning, member_of_class, object_record, object_with_key, plain_member, plain_value, records_of}
 use Rattle.erd_meaning.specs.declared.keys.key.Key.{Key}
 use Rattle.erd_meaning.proofs.orders.EqualNames.{equal_keys, options_exact}

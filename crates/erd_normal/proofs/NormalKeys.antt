@@ -22,7 +22,7 @@ use Rattle.erd_meaning.specs.Accepted.{IsAccepted}
 use Rattle.erd_meaning.specs.Keys.{has_keys, key_cmp, key_of}
 use Rattle.erd_meaning.specs.Lookups.{key_in}
 use Rattle.erd_meaning.specs.Objects.{Placed, id_of, objects}
-use Rattle.erd_meaning.specs.Orders.{key_cmp_exact, key_cmp_total}
+use Rattle.erd_meaning.specs.code.Orders.{key_cmp_exact, key_cmp_total}
 use Rattle.erd_meaning.specs.SelectionNames.{rising_list}
 use Rattle.erd_meaning.specs.declared.keys.key.Key.{Key}
 use Rattle.erd_meaning.proofs.finding.OneObject.{in_at, one_key}

@@ -29,7 +29,7 @@ use Rattle.erd_meaning.proofs.accepted.References.{find-Some}
 use Rattle.erd_meaning.specs.NameParts.{NameParts}
 use Rattle.erd_meaning.proofs.accepted.Standing.{contest_selections}
 use Rattle.erd_meaning.specs.Keys.{has_keys}
-use Rattle.erd_meaning.specs.Orders.{name_cmp_exact, name_cmp_total}
+use Rattle.erd_meaning.specs.code.Orders.{name_cmp_exact, name_cmp_total}
 use Rattle.erd_meaning.proofs.accepted.Phases.{no_shape_fault}
 use Rattle.erd_normal.proofs.Families.{Alike}
 use Rattle.erd_normal.proofs.Contents.{Filled, absent, filled}

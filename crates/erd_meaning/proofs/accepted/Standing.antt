@@ -34,7 +34,7 @@ use Rattle.erd_meaning.specs.declared.keys.key.Key.{Key}
 use Rattle.erd_meaning.proofs.accepted.References.{Contains-Has, find-Some, find-any, option_map-Some}
 use Rattle.erd_meaning.specs.Accepted.{IsAccepted}
 use Rattle.erd_meaning.specs.LaterFaults.{IsBefore}
-use Rattle.erd_meaning.specs.Objects.{Placed, contests, elections, has_id, id_of, objects, owner, placed_entries, placed_from, report_of, selections_of}
+use Rattle.erd_meaning.specs.Objects.{Placed, contests, elections, has_id, id_of, objects, owner, placed_entries, placed_from, report_of, selections_of_contest}
 use Rattle.erd_meaning.proofs.accepted.Skeleton.{Skeleton, election_objects, skeleton_of_shape, the_election}
 use Rattle.erd_meaning.proofs.orders.Sets.{any-has}
 use Rattle.erd_meaning.specs.Keys.{key_of, has_keys}
@@ -225,16 +225,16 @@ one_keyed t accepted f o p k keyed h i e l =
     one_placed t accepted f f o p h i (no_twin t accepted f o p k keyed h i e l) (no_twin t accepted f p o k keyed i h l e)
 
 -- a later selection of a contest has not the name of an earlier one
-no_second_name : (t : Data) → IsAccepted t → (contest o p : Placed) (n : NameParts) → Has (objects family.Contest t) contest → Has (selections_of contest) o → Has (selections_of contest) p
+no_second_name : (t : Data) → IsAccepted t → (contest o p : Placed) (n : NameParts) → Has (objects family.Contest t) contest → Has (selections_of_contest contest) o → Has (selections_of_contest contest) p
     → name_of t o.value ≡ Some n → name_of t p.value ≡ Some n → ¬ IsBefore o p
 no_second_name t accepted contest o p n c h k e l is = no_selection_fault t accepted p.place reason.TwinSelection (record {
   contest = contest;
   contest_stands = Contains-Has (objects family.Contest t) contest c;
   later = p;
-  later_stands = Contains-Has (selections_of contest) p k;
+  later_stands = Contains-Has (selections_of_contest contest) p k;
   place = refl;
   earlier = o;
-  earlier_stands = Contains-Has (selections_of contest) o h;
+  earlier_stands = Contains-Has (selections_of_contest contest) o h;
   before = is;
   name = n;
   later_name = l;
@@ -242,10 +242,10 @@ no_second_name t accepted contest o p n c h k e l is = no_selection_fault t acce
 })
 
 -- two selections of a contest with one name are one
-pub one_named : (t : Data) → IsAccepted t → (contest o p : Placed) (n : NameParts) → Has (objects family.Contest t) contest → Has (selections_of contest) o → Has (selections_of contest) p
+pub one_named : (t : Data) → IsAccepted t → (contest o p : Placed) (n : NameParts) → Has (objects family.Contest t) contest → Has (selections_of_contest contest) o → Has (selections_of_contest contest) p
     → name_of t o.value ≡ Some n → name_of t p.value ≡ Some n → o ≡ p
 one_named t accepted contest o p n c h k e l =
-    one_placed t accepted family.Selection family.Selection o p (flat-has selections_of (contests t) contest o c h) (flat-has selections_of (contests t) contest p c k)
+    one_placed t accepted family.Selection family.Selection o p (flat-has selections_of_contest (contests t) contest o c h) (flat-has selections_of_contest (contests t) contest p c k)
     (no_second_name t accepted contest o p n c h k e l) (no_second_name t accepted contest p o n c k h l e)
 
 pub has_id-Some : (r : List ℕ) (d : Data) → has_id r d ≡ true → id_of d ≡ Some r

@@ -20,7 +20,7 @@ use Rattle.erd_check.specs.Values.{entries_of}
 use Rattle.erd_check.specs.Wants.{asked_at}
 use Rattle.erd_meaning.specs.Keys.{key_cmp}
 use Rattle.erd_meaning.specs.Meaning.{Label, Content, no_content, first_node, Node, a_contest, a_header, a_json, a_label, untranslated, a_key, a_key_set, MemberValue, a_plain, Record}
-use Rattle.erd_meaning.specs.Records.{selection_record, object_with_key, member_of_class, plain_member, label_of, content_of, json_set, plain_value, records_of, beside_text, carried_members, meaning}
+use Rattle.erd_meaning.specs.Records.{selection_record, object_with_key, member_of_class, plain_member, label_of, content_of, json_set, plain_value, records_of, label_beside_text, carried_members, meaning}
 use Rattle.erd_meaning.specs.SelectionNames.{name_named}
 use Rattle.erd_meaning.specs.declared.keys.key.Key.{Key}
 use Rattle.erd_meaning.proofs.meanings.WholeRecords.{names_in, absent_plain, absent_member, same_at_every_name}
@@ -133,7 +133,7 @@ same_translations : (let t = tree_of small_ballot in let u = tree_of small_ballo
     let texts = entries_of (value_at t (Name (codes "Election") ∷ At 0 ∷ Name (codes "Contest") ∷ At 1 ∷ Name (codes "ContestSelection") ∷ At 0 ∷ Name (codes "Selection") ∷ Name (codes "Text") ∷ [])) in
     let others = entries_of (value_at u (Name (codes "Election") ∷ At 0 ∷ Name (codes "Contest") ∷ At 1 ∷ Name (codes "ContestSelection") ∷ At 1 ∷ Name (codes "Selection") ∷ Name (codes "Text") ∷ [])) in
     (map (json_set texts) others ≡ true ∷ true ∷ []) × (map (json_set others) texts ≡ true ∷ true ∷ [])
-    × (map (beside_text (value_at t (Name (codes "Election") ∷ At 0 ∷ Name (codes "Contest") ∷ At 1 ∷ Name (codes "ContestSelection") ∷ At 0 ∷ Name (codes "Selection") ∷ []))) (codes "@type" ∷ codes "Text" ∷ codes "Note" ∷ []) ≡ None ∷ None ∷ None ∷ []))
+    × (map (label_beside_text (value_at t (Name (codes "Election") ∷ At 0 ∷ Name (codes "Contest") ∷ At 1 ∷ Name (codes "ContestSelection") ∷ At 0 ∷ Name (codes "Selection") ∷ []))) (codes "@type" ∷ codes "Text" ∷ codes "Note" ∷ []) ≡ None ∷ None ∷ None ∷ []))
 unfolding serde_json_on_literals
 same_translations = (refl, refl, refl)
 

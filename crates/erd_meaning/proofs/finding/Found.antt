@@ -11,7 +11,8 @@ use Rattle.erd_tables.specs.declared.class.Family.{Family}
 use Rattle.erd_tables.specs.Classes.{family_number}
 use Rattle.erd_check.proofs.Order.{In, In-filter, In-map_from}
 use Rattle.erd_check.proofs.Reasons.{and_true, both_true}
-use Rattle.erd_meaning.specs.Lookups.{FindsId, FindsKey, id_in, is_keyed, is_named, is_of_family, key_in, those_of}
+use Rattle.erd_meaning.specs.Lookups.{FindsId, FindsKey, id_in, key_in}
+use Rattle.erd_meaning.specs.code.ObjectLookups.{is_keyed, keeps_id, is_of_family, those_of}
 use Rattle.erd_meaning.specs.code.ObjectWalk.{Kept, same_id, same_key}
 use Rattle.erd_meaning.specs.code.Resolved.{IsResolved}
 use Rattle.erd_meaning.specs.code.Shown.{shown}
@@ -22,7 +23,7 @@ use Rattle.erd_meaning.proofs.finding.OneObject.{Hit, hit, in_at, missed, one_id
 use Rattle.erd_meaning.proofs.identity.IdentityFaults.{same_id_from, same_key_from}
 use Rattle.erd_meaning.proofs.finding.Lookups.{part_at, ranked}
 use Rattle.erd_meaning.proofs.identity.ObjectFamilies.{itself}
-use Rattle.erd_meaning.specs.Orders.{key_cmp_total}
+use Rattle.erd_meaning.specs.code.Orders.{key_cmp_total}
 
 -- the position in its family of the object at this place among all
 abbrev pub rank : Family → List Object → ℕ → ℕ
@@ -80,17 +81,17 @@ key_missed v os ns f key r e j = (λ same. cc, λ there. absurd (nowhere there))
 
 -- ---- by an `@id`
 
-id_here : (v : Value) (os : List Object) (ns : List NamedSelection) (id : List ℕ) (n : ℕ) → IsResolved v os ns → (h : Hit (λ o. is_named id (shown o)) os n)
+id_here : (v : Value) (os : List Object) (ns : List NamedSelection) (id : List ℕ) (n : ℕ) → IsResolved v os ns → (h : Hit (λ o. keeps_id id (shown o)) os n)
     → id_in h.one.family (view v) (rank h.one.family os n) ≡ Some id
 id_here v os ns id n r h =
     let f = h.one.family in
     let same = same_id_from (shown h.one).id (Some id) h.passes in
     sym (part_at (λ k. k.id) v os ns f (rank f os n) r) ∙ ap (option_and_then (λ (k : Kept). k.id)) (ranked f os n h.one h.at (itself (family_number f))) ∙ same.1 ∙ sym same.2
 
-pub id_found : (v : Value) (os : List Object) (ns : List NamedSelection) (id : List ℕ) (n i : ℕ) (o : Object) → IsResolved v os ns → position (λ o. is_named id (shown o)) os ≡ Some n
+pub id_found : (v : Value) (os : List Object) (ns : List NamedSelection) (id : List ℕ) (n i : ℕ) (o : Object) → IsResolved v os ns → position (λ o. keeps_id id (shown o)) os ≡ Some n
     → o ≡ get_or os n o → i ≡ rank o.family os n → FindsId (view v) id (Some (o.family, i))
 id_found v os ns id n i o r e at is g j =
-    let h = hit (λ o. is_named id (shown o)) os n e in
+    let h = hit (λ o. keeps_id id (shown o)) os n e in
     let one : h.one ≡ o = sym (get_or_from_slice_get os n h.one o h.at) ∙ sym at in
     let ranked_here : id_in o.family (view v) (rank o.family os n) ≡ Some id = subst (λ (p : Object). id_in p.family (view v) (rank p.family os n) ≡ Some id) one (id_here v os ns id n r h) in
     let here : id_in o.family (view v) i ≡ Some id = subst (λ m. id_in o.family (view v) m ≡ Some id) (sym is) ranked_here in (
@@ -102,11 +103,11 @@ id_found v os ns id n i o r e at is g j =
           ap₂ (λ f m. Some (f, m)) parts.0 parts.1,
     )
 
-pub id_missed : (v : Value) (os : List Object) (ns : List NamedSelection) (id : List ℕ) → IsResolved v os ns → position (λ o. is_named id (shown o)) os ≡ None → FindsId (view v) id None
+pub id_missed : (v : Value) (os : List Object) (ns : List NamedSelection) (id : List ℕ) → IsResolved v os ns → position (λ o. keeps_id id (shown o)) os ≡ None → FindsId (view v) id None
 id_missed v os ns id r e f j = (λ same. cc, λ there. absurd (nowhere there))
   where
     nowhere : id_in f (view v) j ≡ Some id → ⊥
     nowhere there =
         let s = standing (λ (k : Kept). k.id) os f j id (part_at (λ k. k.id) v os ns f j r ∙ there) in
         let same : same_id (shown s.one).id (Some id) ≡ true = ap (λ k. same_id k (Some id)) s.has ∙ (bytes_eq-Decides id id).1 refl in
-        missed (λ o. is_named id (shown o)) os s.one e s.there same
+        missed (λ o. keeps_id id (shown o)) os s.one e s.there same

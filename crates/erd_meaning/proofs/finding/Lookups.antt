@@ -6,7 +6,7 @@ use Rattle.serde_json.specs.View.{view}
 use Rattle.serde_json.specs.declared.value.Value.{Value}
 use Rattle.serde_json.specs.Data.{Data}
 use Rattle.erd_tables.specs.declared.class.Family.{Family}
-use Rattle.erd_meaning.specs.Lookups.{is_of_family, those_of}
+use Rattle.erd_meaning.specs.code.ObjectLookups.{is_of_family, those_of}
 use Rattle.erd_meaning.specs.Objects.{Placed, objects}
 use Rattle.erd_meaning.specs.code.ObjectWalk.{Kept, Located, all_located, kept, kept_objects, located}
 use Rattle.erd_meaning.specs.code.Resolved.{IsResolved}

@@ -14,7 +14,7 @@ use Rattle.erd_meaning.specs.LaterFaults.{IdentityFault}
 use Rattle.erd_meaning.specs.Lookups.{id_in, key_in}
 use Rattle.erd_meaning.specs.Objects.{Placed, id_of, objects}
 use Rattle.erd_meaning.specs.code.ObjectWalk.{Located, all_located, located, located_one}
-use Rattle.erd_meaning.specs.Keys.{kept_key}
+use Rattle.erd_meaning.specs.Keys.{key_of_family_object}
 use Rattle.erd_meaning.specs.declared.keys.key.Key.{Key}
 use Rattle.erd_meaning.proofs.identity.IdentityFaults.{is_met, kept_keyed}
 use Rattle.erd_meaning.proofs.identity.ObjectFamilies.{is_of, objects_met}
@@ -83,7 +83,7 @@ which_first i j = grind arith
 -- ---- one key
 
 two_keys : (t : Data) (f : Family) (key : Key) (i j : ℕ) (a : ObjectIn f t i) (b : ObjectIn f t j) → NoneOf (IdentityFault t) → i < j
-    → kept_key f a.one.value ≡ Some key → kept_key f b.one.value ≡ Some key → ⊥
+    → key_of_family_object f a.one.value ≡ Some key → key_of_family_object f b.one.value ≡ Some key → ⊥
 two_keys t f key i j a b none l e g =
     let mine = kept_keyed f a.one.value key e in
     let its = kept_keyed f b.one.value key g in
@@ -103,8 +103,8 @@ two_keys t f key i j a b none l e g =
 
 pub one_key : (t : Data) (f : Family) (key : Key) (i j : ℕ) → NoneOf (IdentityFault t) → key_in f t i ≡ Some key → key_in f t j ≡ Some key → i ≡ j
 one_key t f key i j none e g =
-    let a = with_part (λ o. kept_key f o.value) f t i key e in
-    let b = with_part (λ o. kept_key f o.value) f t j key g in
+    let a = with_part (λ o. key_of_family_object f o.value) f t i key e in
+    let b = with_part (λ o. key_of_family_object f o.value) f t j key g in
     elim (which_first i j) [
       | inl same ↦ same
       | inr (inl l) ↦ absurd (two_keys t f key i j a.0 b.0 none l a.1 b.1)

@@ -15,14 +15,14 @@ use Rattle.erd_tables.specs.declared.place.Step.{Step}
 use Rattle.erd_check.specs.code.Paths.{fault_at}
 use Rattle.erd_check.proofs.Order.{In, In-append, In-append_left, In-append_right, In-map, In-map_from, In-filter, In-filter_kept, In-from_contains, contains_from_In, any_at}
 use Rattle.erd_check.proofs.Reasons.{and_true, both_true}
-use Rattle.erd_meaning.specs.Keys.{has_keys, key_of, kept_key}
+use Rattle.erd_meaning.specs.Keys.{has_keys, key_of, key_of_family_object}
 use Rattle.erd_meaning.specs.LaterFaults.{IdentityFault, LacksIdentifier, RepeatsId, RepeatsKey}
 use Rattle.erd_meaning.specs.code.ObjectWalk.{Kept, Located, all_located, fault_if, faults_after, has_same_id, has_same_key, kept, located_one, same_id, same_key}
 use Rattle.erd_meaning.specs.Objects.{Placed, id_of, objects}
 use Rattle.erd_meaning.specs.declared.keys.key.Key.{Key}
 use Rattle.erd_meaning.proofs.identity.ObjectFamilies.{family_exact, is_of, itself, objects_met}
 use Rattle.erd_meaning.proofs.identity.ObjectPlaces.{all_parted, id_place}
-use Rattle.erd_meaning.specs.Orders.{key_cmp_exact, key_cmp_total}
+use Rattle.erd_meaning.specs.code.Orders.{key_cmp_exact, key_cmp_total}
 use Rattle.erd_meaning.proofs.identity.ToldFaults.{Complete, Told, complete, duplicate_id, has_twin, in_if, is_keyless, is_named_before, no_identifier, told, told_rising, told_sound, twin_identifier}
 
 -- ---- the objects of the walk
@@ -59,7 +59,7 @@ keyed_at : (d : Data) (k : Key) (b : Bool) → cond b (key_of d) None ≡ Some k
 keyed_at d k true e = (refl, e)
 keyed_at d k false e = cc
 
-pub kept_keyed : (f : Family) (d : Data) (k : Key) → kept_key f d ≡ Some k → (has_keys f ≡ true) × (key_of d ≡ Some k)
+pub kept_keyed : (f : Family) (d : Data) (k : Key) → key_of_family_object f d ≡ Some k → (has_keys f ≡ true) × (key_of d ≡ Some k)
 kept_keyed f d k e = keyed_at d k (has_keys f) e
 
 none_from : {A : Type 0} (o : Option A) → is_none o ≡ true → o ≡ None
@@ -113,7 +113,7 @@ of_object t f told =
 
 lacking : (t : Data) (f : Family) (o : Placed) → In o (objects f t) → is_keyless (kept f o.value) ≡ true → LacksIdentifier t o.place
 lacking t f o i e =
-    let both = and_true (has_keys f) (is_none (kept_key f o.value)) e in
+    let both = and_true (has_keys f) (is_none (key_of_family_object f o.value)) e in
     record {
       family = f;
       keyed = both.0;
@@ -131,9 +131,9 @@ repeated_key t f o e =
     let other = of_family t met.0 met.1 in
     let object : kept other.family other.one.value ≡ found.0 = ap (λ (x : Located). x.object) other.is ∙ met.2 in
     let twins : has_same_key me (kept other.family other.one.value) ≡ true = ap (has_same_key me) object ∙ found.2 in
-    let both = and_true (family_number o.family == family_number other.family) (same_key me.key (kept_key other.family other.one.value)) twins in
+    let both = and_true (family_number o.family == family_number other.family) (same_key me.key (key_of_family_object other.family other.one.value)) twins in
     let family : o.family ≡ other.family = family_exact o.family other.family both.0 in
-    let key = same_key_from me.key (kept_key other.family other.one.value) both.1 in
+    let key = same_key_from me.key (key_of_family_object other.family other.one.value) both.1 in
     let mine = kept_keyed o.family o.one.value key.0 key.1 in
     let its = kept_keyed other.family other.one.value key.0 key.2 in
     record {
@@ -206,8 +206,8 @@ lacking_told t p h =
     let f = h.family in
     let k = kept f o.value in
     let c = completed t f o (In-from_contains o (objects f t) h.stands) in
-    let missing : kept_key f o.value ≡ None = rw (h.keyed, h.keyless) in
-    let keyless : is_keyless k ≡ true = both_true (has_keys f) (is_none (kept_key f o.value)) h.keyed (ap is_none missing) in
+    let missing : key_of_family_object f o.value ≡ None = rw (h.keyed, h.keyless) in
+    let keyless : is_keyless k ≡ true = both_true (has_keys f) (is_none (key_of_family_object f o.value)) h.keyed (ap is_none missing) in
     subst (λ q. In (fault_at q NoIdentifier) (identity_told t)) (sym h.place)
     (c.tells (fault_at o.place NoIdentifier)
     (In-append_left (fault_at o.place NoIdentifier) (no_identifier (is_keyless k) o.place)
@@ -221,9 +221,9 @@ key_told t p h =
     let fault = fault_at o.place TwinIdentifier in
     let c = completed t f o (In-from_contains o (objects f t) h.later_stands) in
     let other = is_met t f h.earlier (In-from_contains h.earlier (objects f t) h.earlier_stands) in
-    let mine : kept_key f o.value ≡ Some h.key = rw (h.keyed, h.later_key) in
-    let its : kept_key f h.earlier.value ≡ Some h.key = rw (h.keyed, h.earlier_key) in
-    let one : same_key (kept_key f o.value) (kept_key f h.earlier.value) ≡ true = rw (mine, its, tied_itself key_cmp_total h.key) in
+    let mine : key_of_family_object f o.value ≡ Some h.key = rw (h.keyed, h.later_key) in
+    let its : key_of_family_object f h.earlier.value ≡ Some h.key = rw (h.keyed, h.earlier_key) in
+    let one : same_key (key_of_family_object f o.value) (key_of_family_object f h.earlier.value) ≡ true = rw (mine, its, tied_itself key_cmp_total h.key) in
     let twins : has_same_key k (kept f h.earlier.value) ≡ true = both_true (family_number f == family_number f) _ (itself (family_number f)) one in
     let twin = any_at (has_same_key k) (kept f h.earlier.value) c.before (c.covers (located_one f h.earlier) other h.before) twins in
     subst (λ q. In (fault_at q TwinIdentifier) (identity_told t)) (sym h.place)

@@ -7,7 +7,7 @@ use Rattle.serde_json.specs.declared.value.Value.{Value}
 use Rattle.erd_tables.specs.declared.place.Step.{Step}
 use Rattle.erd_tables.specs.declared.place.Step.TheVariants.{At}
 use Rattle.erd_tables.specs.declared.class.Family.TheVariants.{Contest, Selection}
-use Rattle.erd_meaning.specs.Objects.{Placed, placed_from, selections_of}
+use Rattle.erd_meaning.specs.Objects.{Placed, placed_from, selections_of_contest}
 use Rattle.erd_meaning.specs.code.ObjectWalk.{Located, Met, located, located_one, contest_located, met_one, met_all}
 
 pub met_all_append : (m : Met) (xs ys : List Located) → met_all m (xs ++ ys) ≡ met_all (met_all m xs) ys
@@ -29,5 +29,5 @@ met_inside f p vs i v m n whole inside is before more =
 
 -- a contest, and then its selections
 pub contest_met : (o : Placed) (m k n : Met) → k ≡ met_one m (located_one Contest o)
-    → n ≡ met_all k (located Selection (selections_of o)) → n ≡ met_all m (contest_located o)
-contest_met o m k n first rest = rest ∙ ap (λ j. met_all j (located Selection (selections_of o))) first
+    → n ≡ met_all k (located Selection (selections_of_contest o)) → n ≡ met_all m (contest_located o)
+contest_met o m k n first rest = rest ∙ ap (λ j. met_all j (located Selection (selections_of_contest o))) first

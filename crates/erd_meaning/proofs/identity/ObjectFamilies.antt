@@ -8,7 +8,7 @@ use Rattle.erd_tables.specs.Classes.{families, family_number}
 use Rattle.erd_tables.specs.declared.class.Family.{Family}
 use Rattle.erd_tables.specs.declared.class.Family.TheVariants as family
 use Rattle.erd_meaning.specs.code.ObjectWalk.{Located, located, located_one, contest_located, election_located, shared_located, all_located}
-use Rattle.erd_meaning.specs.Objects.{Placed, elections, objects, placed_entries, report_of, selections_of}
+use Rattle.erd_meaning.specs.Objects.{Placed, elections, objects, placed_entries, report_of, selections_of_contest}
 
 -- an object is of the family
 abbrev pub is_of : Family → Located → Bool
@@ -59,19 +59,19 @@ pick-flat f h k each (o ∷ os) =
 
 abbrev of_contest : Family → Placed → List Placed
 of_contest family.Contest o = o ∷ []
-of_contest family.Selection o = selections_of o
+of_contest family.Selection o = selections_of_contest o
 of_contest f o = []
 
 in_contest : (f : Family) (o : Placed) → pick f (contest_located o) ≡ located f (of_contest f o)
-in_contest family.Contest o = ap (λ xs. located_one family.Contest o ∷ xs) (passed family.Contest family.Selection refl (selections_of o))
-in_contest family.Selection o = picked family.Selection (selections_of o)
-in_contest family.Unit o = passed family.Unit family.Selection refl (selections_of o)
-in_contest family.Party o = passed family.Party family.Selection refl (selections_of o)
-in_contest family.Person o = passed family.Person family.Selection refl (selections_of o)
-in_contest family.Office o = passed family.Office family.Selection refl (selections_of o)
-in_contest family.Header o = passed family.Header family.Selection refl (selections_of o)
-in_contest family.Candidate o = passed family.Candidate family.Selection refl (selections_of o)
-in_contest family.Style o = passed family.Style family.Selection refl (selections_of o)
+in_contest family.Contest o = ap (λ xs. located_one family.Contest o ∷ xs) (passed family.Contest family.Selection refl (selections_of_contest o))
+in_contest family.Selection o = picked family.Selection (selections_of_contest o)
+in_contest family.Unit o = passed family.Unit family.Selection refl (selections_of_contest o)
+in_contest family.Party o = passed family.Party family.Selection refl (selections_of_contest o)
+in_contest family.Person o = passed family.Person family.Selection refl (selections_of_contest o)
+in_contest family.Office o = passed family.Office family.Selection refl (selections_of_contest o)
+in_contest family.Header o = passed family.Header family.Selection refl (selections_of_contest o)
+in_contest family.Candidate o = passed family.Candidate family.Selection refl (selections_of_contest o)
+in_contest family.Style o = passed family.Style family.Selection refl (selections_of_contest o)
 
 abbrev of_contests : Family → List Placed → List Placed
 of_contests f os = flat_map (of_contest f) os
@@ -177,8 +177,8 @@ objects_are family.Contest t = election_alone family.Contest t (placed_entries (
 objects_are family.Style t =
     election_alone family.Style t (placed_entries (codes "BallotStyle")) (λ e. ap (λ xs. placed_entries (codes "BallotStyle") e ++ xs) (no_contest family.Style (λ o. refl) e) ∙ append-nil _) refl
 objects_are family.Selection t =
-    election_alone family.Selection t (λ e. flat_map selections_of (placed_entries (codes "Contest") e)) (λ e. refl) refl
-    ∙ nested_flat selections_of (placed_entries (codes "Contest")) (elections t)
+    election_alone family.Selection t (λ e. flat_map selections_of_contest (placed_entries (codes "Contest") e)) (λ e. refl) refl
+    ∙ nested_flat selections_of_contest (placed_entries (codes "Contest")) (elections t)
 
 -- the objects of a family, as the walk meets them
 pub objects_met : (f : Family) (t : Data) → pick f (all_located t) ≡ located f (objects f t)

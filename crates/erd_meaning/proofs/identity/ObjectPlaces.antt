@@ -12,7 +12,7 @@ use Rattle.erd_tables.specs.declared.place.Step.TheVariants.{Name, At}
 use Rattle.erd_tables.proofs.PlaceOrder.{steps_less}
 use Rattle.erd_check.proofs.Order.{In, In-append, Below, sorted_append}
 use Rattle.erd_meaning.specs.code.ObjectWalk.{Located, located, located_one, contest_located, election_located, shared_located, all_located}
-use Rattle.erd_meaning.specs.Objects.{Placed, placed_from, placed_entries, elections, selections_of, report_of}
+use Rattle.erd_meaning.specs.Objects.{Placed, placed_from, placed_entries, elections, selections_of_contest, report_of}
 
 abbrev pub id_place : List Step → List Step
 id_place p = p ++ Name (codes "@id") ∷ []
@@ -139,17 +139,17 @@ parted_located f name o = subst AreApart (each_alone f (placed_entries name o)) 
 
 -- ---- contests
 
-selections_inside : (o : Placed) → AllIn (InMember o.place (codes "ContestSelection")) (located family.Selection (selections_of o))
+selections_inside : (o : Placed) → AllIn (InMember o.place (codes "ContestSelection")) (located family.Selection (selections_of_contest o))
 selections_inside o = in_located family.Selection (codes "ContestSelection") o
 
 contest_inside : Inside contest_located
 contest_inside o =
-    all-append (AtOrIn o.place) (alone family.Contest o) (located family.Selection (selections_of o)) (alone_inside family.Contest o)
-    (all_inside o.place (codes "ContestSelection") (located family.Selection (selections_of o)) (selections_inside o))
+    all-append (AtOrIn o.place) (alone family.Contest o) (located family.Selection (selections_of_contest o)) (alone_inside family.Contest o)
+    (all_inside o.place (codes "ContestSelection") (located family.Selection (selections_of_contest o)) (selections_inside o))
 
 contest_parted : Parted contest_located
 contest_parted o =
-    sorted_append apart (alone family.Contest o) (located family.Selection (selections_of o)) (alone_parted family.Contest o)
+    sorted_append apart (alone family.Contest o) (located family.Selection (selections_of_contest o)) (alone_parted family.Contest o)
     (parted_located family.Selection (codes "ContestSelection") o) (λ x y i j. below x y i (selections_inside o y j))
   where
     below : (x y : Located) → In x (alone family.Contest o) → InMember o.place (codes "ContestSelection") y → apart x y ≡ Less

@@ -24,7 +24,7 @@ use Rattle.erd_meaning.specs.Keys.{has_keys, key_cmp, key_of}
 use Rattle.erd_meaning.specs.Meaning.{Record}
 use Rattle.erd_meaning.specs.NameParts.{NameParts}
 use Rattle.erd_meaning.specs.Objects.{Placed, objects}
-use Rattle.erd_meaning.specs.Records.{object_with_key, if_carried, carried_members, beside_text, plain_member, member_of_class, record_with, object_record, selection_record, selection_map, records_of, meaning}
+use Rattle.erd_meaning.specs.Records.{object_with_key, if_carried, carried_members, label_beside_text, plain_member, member_of_class, record_with, object_record, selection_record, selection_map, records_of, meaning}
 use Rattle.erd_meaning.specs.SelectionNames.{selection_role, name_cmp, name_of}
 use Rattle.erd_meaning.specs.declared.keys.key.Key.{Key}
 use Rattle.erd_meaning.proofs.orders.EqualNames.{options_exact, equal_keys, equal_names}
@@ -120,7 +120,7 @@ nothing_either_way : {V : Type 0} (b : Bool) (o : Option V) → o ≡ None → c
 nothing_either_way true o e = refl
 nothing_either_way false o e = e
 
-pub absent_beside : (d : Data) → IsOfMembers d (beside_text d)
+pub absent_beside : (d : Data) → IsOfMembers d (label_beside_text d)
 absent_beside d name e = nothing_either_way _ (get name d) e
 
 -- ---- keys and names

@@ -10,7 +10,7 @@ use Rattle.erd_check.proofs.Rising.{Has, here, later, rising_unique}
 use Rattle.erd_check.specs.Trees.{IsTree, is_same_json}
 use Rattle.erd_check.proofs.Exact.{is_same_exact}
 use Rattle.erd_meaning.specs.SelectionNames.{compact_cmp}
-use Rattle.erd_meaning.specs.Orders.{compact_cmp_total}
+use Rattle.erd_meaning.specs.code.Orders.{compact_cmp_total}
 use Rattle.erd_meaning.specs.Objects.{report_of}
 
 pub any-has : {A : Type 0} (test : A → Bool) (xs : List A) (x : A) → Has xs x → test x ≡ true → list_any test xs ≡ true

@@ -8,9 +8,9 @@ use Rattle.erd_tables.specs.declared.class.Class.TheVariants as class
 use Rattle.erd_tables.specs.declared.class.Family.{Family}
 use Rattle.erd_tables.specs.declared.class.Family.TheVariants as family
 use Rattle.erd_check.specs.Wants.{class_of_object}
-use Rattle.erd_meaning.specs.Keys.{has_keys, key_cmp, key_of, kept_key}
+use Rattle.erd_meaning.specs.Keys.{has_keys, key_cmp, key_of, key_of_family_object}
 use Rattle.erd_check.specs.Values.{entries_at}
-use Rattle.erd_meaning.specs.Lookups.{is_of_family, is_named}
+use Rattle.erd_meaning.specs.code.ObjectLookups.{is_of_family, keeps_id}
 use Rattle.erd_meaning.specs.code.NamesAmong.{class_name_among, key_among, keys_among, name_among, selection_keys_among}
 use Rattle.erd_meaning.specs.Objects.{Placed, has_id, id_of, objects}
 use Rattle.erd_meaning.specs.code.ObjectWalk.{Kept, kept, kept_objects}
@@ -20,17 +20,17 @@ use Rattle.erd_meaning.proofs.ReferenceLookups.{find_both, named_same}
 
 -- ---- the key of what an `@id` names
 
-keyed : (f : Family) (d : Data) → has_keys f ≡ true → kept_key f d ≡ key_of d
+keyed : (f : Family) (d : Data) → has_keys f ≡ true → key_of_family_object f d ≡ key_of d
 keyed f d e = ap (λ b. cond b (key_of d) None) e
 
 key_found : (f : Family) (id : List ℕ) (os : List Placed) → has_keys f ≡ true
-    → option_and_then (λ k. k.key) (find (is_named id) (kept_of f os)) ≡ option_and_then key_of (option_map (λ o. o.value) (find (λ o. has_id id o.value) os))
+    → option_and_then (λ k. k.key) (find (keeps_id id) (kept_of f os)) ≡ option_and_then key_of (option_map (λ o. o.value) (find (λ o. has_id id o.value) os))
 key_found f id [] h = refl
-key_found f id (o ∷ os) h = at (is_named id (kept f o.value)) (has_id id o.value) (named_same id (id_of o.value)) (key_found f id os h)
+key_found f id (o ∷ os) h = at (keeps_id id (kept f o.value)) (has_id id o.value) (named_same id (id_of o.value)) (key_found f id os h)
   where
     at : (a b : Bool) → a ≡ b
-        → option_and_then (λ k. k.key) (find (is_named id) (kept_of f os)) ≡ option_and_then key_of (option_map (λ o. o.value) (find (λ o. has_id id o.value) os))
-        → option_and_then (λ k. k.key) (cond a (Some (kept f o.value)) (find (is_named id) (kept_of f os))) ≡ option_and_then key_of (option_map (λ o. o.value) (cond b (Some o) (find (λ o. has_id id o.value) os)))
+        → option_and_then (λ k. k.key) (find (keeps_id id) (kept_of f os)) ≡ option_and_then key_of (option_map (λ o. o.value) (find (λ o. has_id id o.value) os))
+        → option_and_then (λ k. k.key) (cond a (Some (kept f o.value)) (find (keeps_id id) (kept_of f os))) ≡ option_and_then key_of (option_map (λ o. o.value) (cond b (Some o) (find (λ o. has_id id o.value) os)))
     at true true e k = keyed f o.value h
     at true false e k = cc
     at false true e k = cc
@@ -38,7 +38,7 @@ key_found f id (o ∷ os) h = at (is_named id (kept f o.value)) (has_id id o.val
 
 key_same : (t : Data) (f : Family) (id : List ℕ) → has_keys f ≡ true → key_among (kept_objects t) f id ≡ key_named t f id
 key_same t f id h =
-    ap (option_and_then (λ (k : Kept). k.key)) (find_both (is_of_family f) (is_named id) (kept_objects t) ∙ ap (find (is_named id)) (those_kept f t))
+    ap (option_and_then (λ (k : Kept). k.key)) (find_both (is_of_family f) (keeps_id id) (kept_objects t) ∙ ap (find (keeps_id id)) (those_kept f t))
     ∙ key_found f id (objects f t) h
 
 -- ---- the keys of a selection

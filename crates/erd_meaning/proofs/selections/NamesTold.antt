@@ -16,7 +16,7 @@ use Rattle.erd_check.proofs.Reasons.{and_true, both_true}
 use Rattle.erd_meaning.specs.NameParts.{NameParts}
 use Rattle.erd_meaning.specs.Objects.{Placed}
 use Rattle.erd_meaning.specs.code.ObjectWalk.{fault_if}
-use Rattle.erd_meaning.specs.Orders.{name_cmp_exact, name_cmp_total}
+use Rattle.erd_meaning.specs.code.Orders.{name_cmp_exact, name_cmp_total}
 use Rattle.erd_meaning.specs.SelectionNames.{name_cmp}
 use Rattle.erd_meaning.specs.code.SelectionWalk.{NamesMet, NumberedName, is_selection_named, is_taken, named_all, named_one, with_name}
 use Rattle.erd_meaning.proofs.identity.IdentityFaults.{any_from, at_true, tied_from}

@@ -8,7 +8,7 @@ use Rattle.serde_json.specs.Data.{Data}
 use Rattle.erd_tables.specs.declared.class.Family.TheVariants.{Selection}
 use Rattle.erd_check.proofs.FaultsAsked.{In-flat_map_from}
 use Rattle.erd_check.proofs.Order.{In, In-all, In-flat_map, In-map, In-map_from, all_from_In}
-use Rattle.erd_meaning.specs.Objects.{Placed, contests, numbered_selections, numbered_selections_of, selections_of}
+use Rattle.erd_meaning.specs.Objects.{Placed, contests, numbered_selections, numbered_selections_of, selections_of_contest}
 use Rattle.erd_meaning.specs.code.ObjectWalk.{Located, located, located_one}
 use Rattle.erd_meaning.proofs.selections.NamesTold.{Numbered, in_places}
 use Rattle.erd_meaning.proofs.identity.ObjectFamilies.{located-append}
@@ -34,11 +34,11 @@ of_contest : (k : ℕ) (os : List Placed) → map {A = Numbered} located_selecti
 of_contest k [] = refl
 of_contest k (o ∷ os) = ap (λ xs. located_one Selection o ∷ xs) (of_contest k os)
 
-of_contests : (k : ℕ) (cs : List Placed) → map {A = Numbered} located_selection (flat_map numbered_selections_of (enumerate_from k cs)) ≡ located Selection (flat_map selections_of cs)
+of_contests : (k : ℕ) (cs : List Placed) → map {A = Numbered} located_selection (flat_map numbered_selections_of (enumerate_from k cs)) ≡ located Selection (flat_map selections_of_contest cs)
 of_contests k [] = refl
 of_contests k (c ∷ cs) =
     map-append {A = Numbered} located_selection (numbered_selections_of (k, c)) (flat_map numbered_selections_of (enumerate_from (k + 1) cs))
-    ∙ ap₂ ◌++◌ (of_contest k (selections_of c)) (of_contests (k + 1) cs) ∙ sym (located-append Selection (selections_of c) (flat_map selections_of cs))
+    ∙ ap₂ ◌++◌ (of_contest k (selections_of_contest c)) (of_contests (k + 1) cs) ∙ sym (located-append Selection (selections_of_contest c) (flat_map selections_of_contest cs))
 
 pub numbered_rising : (t : Data) → IsStrictlySortedBy in_places (numbered_selections t)
 numbered_rising t =
@@ -52,7 +52,7 @@ pub record OfContest (t : Data) (s : Numbered) : Type 0 where
   pub contest : Placed
   pub at : slice_get (contests t) s.0 ≡ Some contest
   pub there : In contest (contests t)
-  pub inside : In s.1 (selections_of contest)
+  pub inside : In s.1 (selections_of_contest contest)
 
 -- an element and its number
 record NumberedFrom {A : Type 0} (k n : ℕ) (x : A) (xs : List A) : Type 0 where
@@ -75,7 +75,7 @@ numbered_from k n x (y ∷ xs) (inr i) =
 pub of_its_contest : (t : Data) (s : Numbered) → In {A = Numbered} s (numbered_selections t) → OfContest t s
 of_its_contest t s i =
     let o = In-flat_map_from {A = Numbered} {B = Numbered} numbered_selections_of (enumerate_from 0 (contests t)) s i in
-    let image = In-map_from {A = Placed} {B = Numbered} (λ p. (o.from.0, p)) (selections_of o.from.1) s o.has in
+    let image = In-map_from {A = Placed} {B = Numbered} (λ p. (o.from.0, p)) (selections_of_contest o.from.1) s o.has in
     let number : o.from.0 ≡ s.0 = ap (λ (p : Numbered). p.0) image.is in
     let h = numbered_from 0 o.from.0 o.from.1 (contests t) o.inside in
     let is : o.from.0 ≡ 0 + h.after = h.is in
@@ -84,7 +84,7 @@ of_its_contest t s i =
       contest = o.from.1;
       at = subst (λ n. slice_get (contests t) n ≡ Some o.from.1) same h.at;
       there = h.there;
-      inside = subst (λ (p : Placed). In p (selections_of o.from.1)) (ap (λ (p : Numbered). p.1) image.is) image.inside;
+      inside = subst (λ (p : Placed). In p (selections_of_contest o.from.1)) (ap (λ (p : Numbered). p.1) image.is) image.inside;
     }
 
 -- two selections with one number are of one contest
@@ -98,11 +98,11 @@ numbered_in {A} k x (y ∷ xs) (inl e) = (k, inl (ap (λ z. (k, z)) e))
 numbered_in k x (y ∷ xs) (inr i) = let h = numbered_in (k + 1) x xs i in (h.0, inr h.1)
 
 -- all selections of a contest have one number
-pub with_number : (t : Data) (contest : Placed) → In contest (contests t) → (n : ℕ) × ((o : Placed) → In o (selections_of contest) → In {A = Numbered} (n, o) (numbered_selections t))
+pub with_number : (t : Data) (contest : Placed) → In contest (contests t) → (n : ℕ) × ((o : Placed) → In o (selections_of_contest contest) → In {A = Numbered} (n, o) (numbered_selections t))
 with_number t contest i =
     let h = numbered_in 0 contest (contests t) i in (
       h.0,
       λ o j.
           In-flat_map {A = Numbered} {B = Numbered} numbered_selections_of (h.0, o) (h.0, contest) (enumerate_from 0 (contests t)) h.1
-          (In-map {B = Numbered} (λ p. (h.0, p)) o (selections_of contest) j),
+          (In-map {B = Numbered} (λ p. (h.0, p)) o (selections_of_contest contest) j),
     )

@@ -10,7 +10,7 @@ use Rattle.erd_check.specs.code.Paths.{fault_at}
 use Rattle.erd_check.proofs.Order.{In, In-from_contains, contains_from_In}
 use Rattle.erd_meaning.specs.LaterFaults.{IsBefore, RepeatsName, SelectionFault}
 use Rattle.erd_meaning.specs.NameParts.{NameParts}
-use Rattle.erd_meaning.specs.Objects.{contests, numbered_selections, selections_of}
+use Rattle.erd_meaning.specs.Objects.{contests, numbered_selections, selections_of_contest}
 use Rattle.erd_meaning.specs.SelectionNames.{name_of}
 use Rattle.erd_meaning.specs.code.SelectionWalk.{NumberedName}
 use Rattle.erd_meaning.proofs.selections.NamesTold.{HasEarlier, Numbered, ToldTwin, names_rising, names_told, told_twin, twin_told}
@@ -31,10 +31,10 @@ repeats t one other n i j same named also before =
       contest = a.contest;
       contest_stands = contains_from_In a.contest (contests t) a.there;
       later = one.1;
-      later_stands = contains_from_In one.1 (selections_of a.contest) a.inside;
+      later_stands = contains_from_In one.1 (selections_of_contest a.contest) a.inside;
       place = refl;
       earlier = other.1;
-      earlier_stands = contains_from_In other.1 (selections_of a.contest) (subst (λ c. In other.1 (selections_of c)) contest b.inside);
+      earlier_stands = contains_from_In other.1 (selections_of_contest a.contest) (subst (λ c. In other.1 (selections_of_contest c)) contest b.inside);
       before = before;
       name = n;
       later_name = named;
@@ -52,8 +52,8 @@ of_told t f told = subst (λ (g : Fault). SelectionFault t g.place g.reason) tol
 told_of_reason : (t : Data) (p : List Step) (r : Reason) → SelectionFault t p r → In (fault_at p r) (selections_told t)
 told_of_reason t p TwinSelection h =
     let number = with_number t h.contest (In-from_contains h.contest (contests t) h.contest_stands) in
-    let later = number.1 h.later (In-from_contains h.later (selections_of h.contest) h.later_stands) in
-    let earlier = number.1 h.earlier (In-from_contains h.earlier (selections_of h.contest) h.earlier_stands) in
+    let later = number.1 h.later (In-from_contains h.later (selections_of_contest h.contest) h.later_stands) in
+    let earlier = number.1 h.earlier (In-from_contains h.earlier (selections_of_contest h.contest) h.earlier_stands) in
     subst (λ q. In (fault_at q TwinSelection) (selections_told t)) (sym h.place)
     (twin_told (name_of t) [] (numbered_selections t) (number.0, h.later) h.name (numbered_rising t) later h.later_name (inr ((number.0, h.earlier), earlier, refl, h.earlier_name, h.before)))
 told_of_reason t p r h = absurd h

@@ -14,7 +14,7 @@ use Rattle.erd_check.proofs.Rising.{Has, here, later}
 use Rattle.erd_meaning.specs.LaterFaults.{SelectionFault}
 use Rattle.erd_meaning.specs.Lookups.{selection_in}
 use Rattle.erd_meaning.specs.NameParts.{NameParts}
-use Rattle.erd_meaning.specs.Objects.{Placed, contests, numbered_selections, objects, selections_of}
+use Rattle.erd_meaning.specs.Objects.{Placed, contests, numbered_selections, objects, selections_of_contest}
 use Rattle.erd_meaning.specs.code.Resolved.{AreNames}
 use Rattle.erd_meaning.specs.SelectionNames.{name_in_class, name_of, selection_role}
 use Rattle.erd_meaning.specs.code.SelectionWalk.{NumberedName}
@@ -44,7 +44,7 @@ HaveNames name xs = (x : Numbered) → In {A = Numbered} x xs → (n : NameParts
 selections_named : (t : Data) → NoneOf (ShapeFault t) → HaveNames (name_of t) (numbered_selections t)
 selections_named t none x i =
     let contest = of_its_contest t x i in
-    let c = selection_class t none x.1 (In-flat_map selections_of x.1 contest.contest (contests t) contest.there contest.inside) in
+    let c = selection_class t none x.1 (In-flat_map selections_of_contest x.1 contest.contest (contests t) contest.there contest.inside) in
     (name_in_class t c.0 x.1.value, ap (option_map (λ k. name_in_class t k x.1.value)) c.1)
 
 -- ---- the name at a position

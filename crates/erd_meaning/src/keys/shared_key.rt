@@ -52,7 +52,7 @@ impl PartialEq for SharedKey {
     ghost use Rattle.std.specs.Cmp.{eq_by_cmp_equiv, partial_equiv_from_equiv};
     ghost use Rattle.std.specs.Ordering.{eq_by_cmp};
     ghost use Rattle.erd_meaning.specs.Keys.{key_cmp};
-    ghost use Rattle.erd_meaning.specs.Orders.{key_cmp_total};
+    ghost use Rattle.erd_meaning.specs.code.Orders.{key_cmp_total};
 
     ghost eq = { eq_by_cmp key_cmp };
 
@@ -65,7 +65,7 @@ impl PartialEq for SharedKey {
 
 impl Eq for SharedKey {
     ghost use Rattle.std.specs.Cmp.{eq_by_cmp_equiv};
-    ghost use Rattle.erd_meaning.specs.Orders.{key_cmp_total};
+    ghost use Rattle.erd_meaning.specs.code.Orders.{key_cmp_total};
 
     ghost laws = { eq_by_cmp_equiv key_cmp_total };
 }
@@ -74,7 +74,7 @@ impl PartialOrd for SharedKey {
     ghost use Rattle.std.specs.Cmp.{partial_order_from_total};
     ghost use Rattle.std.specs.Ordering.{as_partial_cmp};
     ghost use Rattle.erd_meaning.specs.Keys.{key_cmp};
-    ghost use Rattle.erd_meaning.specs.Orders.{key_cmp_total};
+    ghost use Rattle.erd_meaning.specs.code.Orders.{key_cmp_total};
 
     ghost partial_cmp = { as_partial_cmp key_cmp };
 
@@ -88,7 +88,7 @@ impl PartialOrd for SharedKey {
 impl Ord for SharedKey {
     ghost use Rattle.std.proofs.Common.{refl};
     ghost use Rattle.erd_meaning.specs.Keys.{key_cmp};
-    ghost use Rattle.erd_meaning.specs.Orders.{key_cmp_total};
+    ghost use Rattle.erd_meaning.specs.code.Orders.{key_cmp_total};
 
     ghost cmp = { key_cmp };
 
@@ -105,7 +105,7 @@ impl Ord for SharedKey {
 
 impl Hash for SharedKey {
     ghost use Rattle.erd_meaning.specs.code.NameHashes.{key_writes};
-    ghost use Rattle.erd_meaning.specs.Orders.{equal_keys_alike};
+    ghost use Rattle.erd_meaning.specs.code.Orders.{equal_keys_alike};
 
     ghost hash_input = { key_writes };
 

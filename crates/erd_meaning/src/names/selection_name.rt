@@ -101,7 +101,7 @@ impl PartialEq for SelectionName {
     ghost use Rattle.std.specs.Cmp.{eq_by_cmp_equiv, partial_equiv_from_equiv};
     ghost use Rattle.std.specs.Ordering.{eq_by_cmp};
     ghost use Rattle.erd_meaning.specs.SelectionNames.{name_cmp};
-    ghost use Rattle.erd_meaning.specs.Orders.{name_cmp_total};
+    ghost use Rattle.erd_meaning.specs.code.Orders.{name_cmp_total};
 
     ghost eq = { eq_by_cmp name_cmp };
 
@@ -114,7 +114,7 @@ impl PartialEq for SelectionName {
 
 impl Eq for SelectionName {
     ghost use Rattle.std.specs.Cmp.{eq_by_cmp_equiv};
-    ghost use Rattle.erd_meaning.specs.Orders.{name_cmp_total};
+    ghost use Rattle.erd_meaning.specs.code.Orders.{name_cmp_total};
 
     ghost laws = { eq_by_cmp_equiv name_cmp_total };
 }
@@ -123,7 +123,7 @@ impl PartialOrd for SelectionName {
     ghost use Rattle.std.specs.Cmp.{partial_order_from_total};
     ghost use Rattle.std.specs.Ordering.{as_partial_cmp};
     ghost use Rattle.erd_meaning.specs.SelectionNames.{name_cmp};
-    ghost use Rattle.erd_meaning.specs.Orders.{name_cmp_total};
+    ghost use Rattle.erd_meaning.specs.code.Orders.{name_cmp_total};
 
     ghost partial_cmp = { as_partial_cmp name_cmp };
 
@@ -137,7 +137,7 @@ impl PartialOrd for SelectionName {
 impl Ord for SelectionName {
     ghost use Rattle.std.proofs.Common.{refl};
     ghost use Rattle.erd_meaning.specs.SelectionNames.{name_cmp};
-    ghost use Rattle.erd_meaning.specs.Orders.{name_cmp_total};
+    ghost use Rattle.erd_meaning.specs.code.Orders.{name_cmp_total};
 
     ghost cmp = { name_cmp };
 
@@ -154,7 +154,7 @@ impl Ord for SelectionName {
 
 impl Hash for SelectionName {
     ghost use Rattle.erd_meaning.specs.code.NameHashes.{name_writes};
-    ghost use Rattle.erd_meaning.specs.Orders.{equal_names_alike};
+    ghost use Rattle.erd_meaning.specs.code.Orders.{equal_names_alike};
 
     ghost hash_input = { name_writes };
 

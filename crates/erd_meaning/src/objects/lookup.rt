@@ -2,7 +2,7 @@ ghost use Rattle.std.specs.Prelude.{◌≡◌, length, map, option_map, slice_ge
 ghost use Rattle.std.specs.List.{position};
 ghost use Rattle.std.specs.Option.{option_copied};
 ghost use Rattle.serde_json.specs.View.{view};
-ghost use Rattle.erd_meaning.specs.Lookups.{is_keyed, is_named, those_of};
+ghost use Rattle.erd_meaning.specs.code.ObjectLookups.{is_keyed, keeps_id, those_of};
 ghost use Rattle.erd_meaning.specs.code.ReferenceWalk.{is_known, owner_among};
 ghost use Rattle.erd_meaning.specs.code.NamesAmong.{key_among};
 ghost use Rattle.erd_meaning.specs.code.Shown.{shown};
@@ -57,9 +57,9 @@ pub(crate) fn place_of_key(objects: &[Object], family: Family, key: &Key) -> Opt
 
 /// Where the object with the `@id` stands among all.
 pub(crate) fn place_of_id(objects: &[Object], id: &str) -> Option<usize>
-    ensures { result ≡ position (λ o. is_named id.now (shown o)) objects.now }
+    ensures { result ≡ position (λ o. keeps_id id.now (shown o)) objects.now }
 {
-    objects.iter().position(|object| object.is_named(id))
+    objects.iter().position(|object| object.keeps_id(id))
 }
 
 /// Whether an object has the `@id`.
@@ -67,7 +67,7 @@ pub(crate) fn is_id_known(objects: &[Object], id: &str) -> bool
     ensures { result ≡ is_known (map shown objects.now) id.now }
 {
     for object in objects {
-        if object.is_named(id) {
+        if object.keeps_id(id) {
             return true;
         }
     }
@@ -79,7 +79,7 @@ pub(crate) fn owner_of<'a>(objects: &[Object<'a>], family: Family, id: &str) -> 
     ensures { option_map (λ v. view v.now) result ≡ owner_among (map shown objects.now) family id.now }
 {
     for object in objects {
-        if object.is_of(family) && object.is_named(id) {
+        if object.is_of(family) && object.keeps_id(id) {
             return Some(object.value);
         }
     }
@@ -95,7 +95,7 @@ pub(crate) fn key_among<'b>(
     ensures { option_copied result ≡ key_among (map shown objects.now) family id.now }
 {
     for object in objects {
-        if object.is_of(family) && object.is_named(id) {
+        if object.is_of(family) && object.keeps_id(id) {
             return object.key.as_ref();
         }
     }

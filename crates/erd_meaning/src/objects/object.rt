@@ -1,6 +1,6 @@
 ghost use Rattle.std.specs.Prelude.{◌≡◌};
 ghost use Rattle.std.specs.Option.{option_copied};
-ghost use Rattle.erd_meaning.specs.Lookups.{is_of_family, is_keyed, is_named};
+ghost use Rattle.erd_meaning.specs.code.ObjectLookups.{is_of_family, is_keyed, keeps_id};
 ghost use Rattle.erd_meaning.specs.code.ObjectWalk.{has_same_key, has_same_id};
 ghost use Rattle.erd_meaning.specs.code.Shown.{shown};
 
@@ -73,8 +73,8 @@ impl<'a> Object<'a> {
     }
 
     /// Whether it has the `@id`.
-    pub(crate) fn is_named(&self, id: &str) -> bool
-        ensures { result ≡ is_named id.now (shown self.now) }
+    pub(crate) fn keeps_id(&self, id: &str) -> bool
+        ensures { result ≡ keeps_id id.now (shown self.now) }
     {
         match self.id {
             Some(own) => own == id,

@@ -1,5 +1,5 @@
 use Rattle.erd_meaning.specs.Keys.{key_cmp}
-use Rattle.erd_meaning.specs.Orders.{key_cmp_total}
+use Rattle.erd_meaning.specs.code.Orders.{key_cmp_total}
 use Rattle.erd_meaning.proofs.orders.RisingLists.{rising_from_sort}
 use Rattle.erd_meaning.proofs.names.naming.in_rising_order.Goals as goal
 

@@ -1,5 +1,5 @@
 use Rattle.std.proofs.Common.{◌≡◌, ◌+◌, ◌≤◌, drop, length, map}
-use Rattle.erd_meaning.specs.Lookups.{those_of}
+use Rattle.erd_meaning.specs.code.ObjectLookups.{those_of}
 use Rattle.erd_meaning.specs.code.Shown.{shown}
 use Rattle.erd_meaning.proofs.objects.lookup.count_of.Given as goal
 

@@ -1,6 +1,6 @@
 use Rattle.std.proofs.Common.{◌≡◌, drop, map}
 use Rattle.std.specs.List.{slice_get}
-use Rattle.erd_meaning.specs.Lookups.{those_of}
+use Rattle.erd_meaning.specs.code.ObjectLookups.{those_of}
 use Rattle.erd_meaning.specs.code.Shown.{shown}
 use Rattle.erd_meaning.proofs.objects.lookup.nth_of.Given as goal
 

@@ -53,7 +53,7 @@ unfolding class_of_name
 class_of_name-own class.ElectionReport = refl
 class_of_name-own c = refl
 
-pub class_name_exact : (c d : Class) → class_name c ≡ class_name d → c ≡ d
+class_name_exact : (c d : Class) → class_name c ≡ class_name d → c ≡ d
 class_name_exact c d e = let h : Some c ≡ Some d = sym (class_of_name-own c) ∙ ap class_of_name e ∙ class_of_name-own d in cc
 
 classes_exact : CmpEqualImpliesEq class_cmp
