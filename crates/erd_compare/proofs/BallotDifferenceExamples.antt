@@ -10,8 +10,8 @@ use Rattle.erd_tables.specs.declared.class.Family.{Family}
 use Rattle.erd_tables.specs.declared.class.Family.TheVariants as family
 use Rattle.erd_tables.specs.declared.class.Role.TheVariants as role
 use Rattle.erd_check.proofs.Reports.{tree_of, small_ballot, small_ballot_with, header_node, contest_node}
-use Rattle.erd_meaning.proofs.RecordExamples.{local_key}
-use Rattle.erd_meaning.proofs.WholeMeanings.{same_object, AreAmong, AgreeAt, ObjectsAgree, same_at_key, ObjectsAgreeButOne, SameMember, same_at_key_with, HaveKeys, keys_of_family, nothing_at, same_family, selection_with_name, SelectionsAgreeButOne, same_at_name, HaveNames, names_of_selections, same_selections}
+use Rattle.erd_meaning.proofs.examples.RecordExamples.{local_key}
+use Rattle.erd_meaning.proofs.meanings.WholeMeanings.{same_object, AreAmong, AgreeAt, ObjectsAgree, same_at_key, ObjectsAgreeButOne, SameMember, same_at_key_with, HaveKeys, keys_of_family, nothing_at, same_family, selection_with_name, SelectionsAgreeButOne, same_at_name, HaveNames, names_of_selections, same_selections}
 use Rattle.erd_meaning.specs.Keys.{has_keys, key_cmp}
 use Rattle.erd_check.specs.Values.{entries_at}
 use Rattle.erd_meaning.specs.Meaning.{a_selection_map}
@@ -19,7 +19,7 @@ use Rattle.erd_meaning.specs.NameParts.{NameParts}
 use Rattle.erd_meaning.specs.Objects.{elections, contests}
 use Rattle.erd_meaning.specs.Records.{plain_member, object_record, selection_map, records_of, meaning}
 use Rattle.erd_meaning.specs.SelectionNames.{name_of}
-use Rattle.erd_meaning.specs.declared.key.Key.{Key}
+use Rattle.erd_meaning.specs.declared.keys.key.Key.{Key}
 use Rattle.erd_compare.proofs.FirstDifferenceExamples.{not_in}
 use Rattle.erd_compare.proofs.OrderExamples.{first_member}
 use Rattle.erd_compare.specs.Differences.{record_at, part_cmp, IsFirstDifference}

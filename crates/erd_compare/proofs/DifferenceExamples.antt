@@ -7,7 +7,7 @@ use Rattle.erd_tables.specs.declared.class.Class.TheVariants as class
 use Rattle.erd_check.proofs.Reports.{tree_of, small_ballot, small_ballot_with, header_node, contest_node}
 use Rattle.erd_meaning.specs.Meaning.{Content, first_node, a_header, a_content, MemberValue, a_plain, ObjectRecord, Meaning}
 use Rattle.erd_meaning.specs.Records.{meaning}
-use Rattle.erd_meaning.specs.declared.key.Key.{Key}
+use Rattle.erd_meaning.specs.declared.keys.key.Key.{Key}
 use Rattle.erd_compare.specs.DifferenceLine.{difference_line}
 use Rattle.erd_compare.specs.Differences.{record_at, part_cmp, Differ}
 use Rattle.erd_compare.specs.declared.difference.Difference.{Difference}

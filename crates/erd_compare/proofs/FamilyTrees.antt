@@ -9,8 +9,8 @@ use Rattle.erd_tables.specs.declared.place.Step.TheVariants.{Name}
 use Rattle.erd_check.proofs.Rising.{Has, all-Has}
 use Rattle.erd_check.specs.Values.{entries_at}
 use Rattle.erd_meaning.specs.Objects.{Placed, contests, elections, objects, placed_entries, placed_from, report_of}
-use Rattle.erd_meaning.proofs.Skeleton.{values-placed_entries}
-use Rattle.erd_meaning.proofs.Standing.{has-flat}
+use Rattle.erd_meaning.proofs.accepted.Skeleton.{values-placed_entries}
+use Rattle.erd_meaning.proofs.accepted.Standing.{has-flat}
 use Rattle.erd_compare.specs.code.Comparing.{IsWholeTree}
 use Rattle.erd_compare.proofs.WholeTrees.{AreWholeTrees, whole_trees-entries_at}
 

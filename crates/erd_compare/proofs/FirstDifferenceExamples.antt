@@ -17,11 +17,11 @@ use Rattle.erd_meaning.specs.Keys.{key_cmp}
 use Rattle.erd_meaning.specs.Meaning.{ObjectRecord, MemberValue, a_plain, a_label, a_json, untranslated}
 use Rattle.erd_meaning.specs.Objects.{objects, elections}
 use Rattle.erd_meaning.specs.Records.{member_of_class, object_record, records_of, meaning}
-use Rattle.erd_meaning.specs.declared.key.Key.{Key}
-use Rattle.erd_meaning.proofs.RecordExamples.{local_key}
-use Rattle.erd_meaning.proofs.EqualNames.{equal_keys}
-use Rattle.erd_meaning.proofs.WholeMeanings.{same_but_one, same_object, is_key_in, same_at_every_key, no_record, same_meaning}
-use Rattle.erd_meaning.proofs.WholeRecords.{absent_member}
+use Rattle.erd_meaning.specs.declared.keys.key.Key.{Key}
+use Rattle.erd_meaning.proofs.examples.RecordExamples.{local_key}
+use Rattle.erd_meaning.proofs.orders.EqualNames.{equal_keys}
+use Rattle.erd_meaning.proofs.meanings.WholeMeanings.{same_but_one, same_object, is_key_in, same_at_every_key, no_record, same_meaning}
+use Rattle.erd_meaning.proofs.meanings.WholeRecords.{absent_member}
 use Rattle.erd_compare.specs.Differences.{record_at, part_cmp, IsFirstDifference, IsDifference}
 use Rattle.erd_compare.specs.declared.difference.How.{How}
 use Rattle.erd_compare.specs.declared.difference.How.TheVariants.{OnlyLeft, OnlyRight, Member}

@@ -13,8 +13,8 @@ use Rattle.serde_json.specs.Data.{Data}
 use Rattle.serde_json.specs.View.{view}
 use Rattle.serde_json.specs.declared.value.Value.{Value}
 use Rattle.erd_check.specs.Wants.{class_of_object}
-use Rattle.erd_meaning.proofs.EqualNames.{equal_names, options_exact}
-use Rattle.erd_meaning.proofs.References.{find-Some}
+use Rattle.erd_meaning.proofs.orders.EqualNames.{equal_names, options_exact}
+use Rattle.erd_meaning.proofs.accepted.References.{find-Some}
 use Rattle.erd_meaning.specs.Meaning.{PlainValue, Record, SelectionRecord}
 use Rattle.erd_meaning.specs.NameParts.{NameParts}
 use Rattle.erd_meaning.specs.Records.{plain_member, selection_map, selection_record}

@@ -7,7 +7,7 @@ use Rattle.erd_check.specs.Trees.{is_same_json}
 use Rattle.erd_check.proofs.Exact.{both_true}
 use Rattle.erd_check.proofs.Rising.{Has, here, later, all-Has}
 use Rattle.erd_meaning.specs.Records.{json_set}
-use Rattle.erd_meaning.proofs.Sets.{any-has, has-any}
+use Rattle.erd_meaning.proofs.orders.Sets.{any-has, has-any}
 use Rattle.erd_compare.specs.code.Comparing.{Decides, IsWholeTree}
 use Rattle.erd_compare.proofs.WholeTrees.{AreWholeTrees, whole_tree-exact, whole_tree-itself}
 

@@ -16,19 +16,19 @@ use Rattle.erd_check.proofs.ObjectsAt.{ObjectIn, object_in}
 use Rattle.erd_check.proofs.Order.{any_at}
 use Rattle.erd_check.proofs.Rising.{Has, Has-cases}
 use Rattle.erd_check.proofs.Shapes.{Within}
-use Rattle.erd_meaning.specs.Keys.{has_keys, key_cmp, key_of, kept_key}
+use Rattle.erd_meaning.specs.Keys.{has_keys, key_cmp, key_of, key_of_family_object}
 use Rattle.erd_meaning.specs.Lookups.{key_in}
 use Rattle.erd_meaning.specs.Meaning.{ObjectRecord}
 use Rattle.erd_meaning.specs.Objects.{Placed, objects}
-use Rattle.erd_meaning.specs.Orders.{key_cmp_total}
+use Rattle.erd_meaning.specs.code.Orders.{key_cmp_total}
 use Rattle.erd_meaning.specs.Records.{member_of_class, object_record, object_with_key, records_of}
-use Rattle.erd_meaning.specs.declared.key.Key.{Key}
-use Rattle.erd_meaning.proofs.EqualNames.{equal_keys, options_exact}
-use Rattle.erd_meaning.proofs.OneObject.{in_at, one_key}
-use Rattle.erd_meaning.proofs.Phases.{no_identity_fault, no_shape_fault}
-use Rattle.erd_meaning.proofs.References.{find-Some, find-any, option_map-Some}
-use Rattle.erd_meaning.proofs.Standing.{stands}
-use Rattle.erd_meaning.proofs.WholeMeanings.{has_key}
+use Rattle.erd_meaning.specs.declared.keys.key.Key.{Key}
+use Rattle.erd_meaning.proofs.orders.EqualNames.{equal_keys, options_exact}
+use Rattle.erd_meaning.proofs.finding.OneObject.{in_at, one_key}
+use Rattle.erd_meaning.proofs.accepted.Phases.{no_identity_fault, no_shape_fault}
+use Rattle.erd_meaning.proofs.accepted.References.{find-Some, find-any, option_map-Some}
+use Rattle.erd_meaning.proofs.accepted.Standing.{stands}
+use Rattle.erd_meaning.proofs.meanings.WholeMeanings.{has_key}
 use Rattle.erd_compare.specs.code.Comparing.{IsWholeTree}
 use Rattle.erd_compare.specs.Differences.{Differ}
 use Rattle.erd_compare.specs.code.KeyedDifferences.{HasKey, IsComparable}
@@ -72,11 +72,11 @@ abbrev made_with : Data → Data → Class → ObjectRecord
 made_with t d c = record { class = c; members = member_of_class t d c }
 
 module _ (t : Data) (c : IsComparable t) (f : Family) (keyed : has_keys f ≡ true) where
-  kept_key_is : (d : Data) → kept_key f d ≡ key_of d
+  kept_key_is : (d : Data) → key_of_family_object f d ≡ key_of d
   kept_key_is d = rw keyed
 
   key_at : (i : ℕ) (o : Placed) → slice_get (objects f t) i ≡ Some o → key_in f t i ≡ key_of o.value
-  key_at i o at = ap (option_and_then (λ (x : Placed). kept_key f x.value)) at ∙ kept_key_is o.value
+  key_at i o at = ap (option_and_then (λ (x : Placed). key_of_family_object f x.value)) at ∙ kept_key_is o.value
 
   -- an object that is found by its key stands at a position
   found_has : (k : Key) (o : Placed) → find (has_key k) (objects f t) ≡ Some o → HasKey t f k
@@ -88,7 +88,7 @@ module _ (t : Data) (c : IsComparable t) (f : Family) (keyed : has_keys f ≡ tr
   -- the object at a position is found by its key
   find_at : (k : Key) (i : ℕ) → key_in f t i ≡ Some k → find (has_key k) (objects f t) ≡ slice_get (objects f t) i
   find_at k i e =
-      let here = part_of (λ (x : Placed). kept_key f x.value) (slice_get (objects f t) i) k e in
+      let here = part_of (λ (x : Placed). key_of_family_object f x.value) (slice_get (objects f t) i) k e in
       let its : key_of here.0.value ≡ Some k = sym (kept_key_is here.0.value) ∙ here.2 in
       let found = find-any (has_key k) (objects f t) (any_at (has_key k) here.0 (objects f t) (in_at (objects f t) i here.0 here.1) (has_its_key k here.0 its)) in
       let place = position_of (objects f t) found.0 found.3 in
@@ -117,7 +117,7 @@ module _ (t : Data) (c : IsComparable t) (f : Family) (keyed : has_keys f ≡ tr
       at : (o : Option Data) → object_with_key t f k ≡ o → HasKey t f k ⊎ (HasKey t f k → ⊥)
       at None is =
           inr (λ h.
-          let here = part_of (λ (x : Placed). kept_key f x.value) (slice_get (objects f t) h.0) k h.1 in
+          let here = part_of (λ (x : Placed). key_of_family_object f x.value) (slice_get (objects f t) h.0) k h.1 in
           let clash : Some here.0.value ≡ None = sym (ap (option_map (λ (o : Placed). o.value)) here.1) ∙ object_at_key k h.0 h.1 ∙ is in cc)
       at (Some d) is = inl (object_has k d is)
 
@@ -169,7 +169,7 @@ only_left t u f k d c e keyed left right =
 pub only_right : (t u : Data) (f : Family) (k : Key) (i : ℕ) → IsComparable t → IsComparable u → has_keys f ≡ true → (HasKey t f k → ⊥) → key_in f u i ≡ Some k
     → Differ (records_of t f k) (records_of u f k) OnlyRight
 only_right t u f k i c e keyed none is =
-    let here = part_of (λ (x : Placed). kept_key f x.value) (slice_get (objects f u) i) k is in
+    let here = part_of (λ (x : Placed). key_of_family_object f x.value) (slice_get (objects f u) i) k is in
     let d : object_with_key u f k ≡ Some here.0.value = sym (object_at_key u e f keyed k i is) ∙ ap (option_map (λ (o : Placed). o.value)) here.1 in
     let r = record_with u e f keyed k here.0.value d in
     differ_right (records_of t f k) (records_of u f k) r.0 (record_absent t c f keyed k (object_absent t c f keyed k none)) r.1

@@ -6,7 +6,7 @@ use Rattle.serde_json.specs.Find.{get}
 use Rattle.erd_check.proofs.Exact.{both_true}
 use Rattle.erd_check.specs.Values.{entries_at}
 use Rattle.erd_meaning.specs.Meaning.{JsonMap, JsonSet, Label, translated, untranslated}
-use Rattle.erd_meaning.specs.Records.{beside_text, json_set}
+use Rattle.erd_meaning.specs.Records.{label_beside_text, json_set}
 use Rattle.erd_compare.specs.code.Choices.{takes_name, translated_label}
 use Rattle.erd_compare.specs.code.Comparing.{Decides}
 use Rattle.erd_compare.specs.declared.choice.Choice.TheVariants.{BesideText}
@@ -23,7 +23,7 @@ texts_in (translated beside texts) = texts
 texts_in (untranslated text) = λ d. false
 
 -- the members beside the translations are the chosen ones
-pub chosen_beside : (d : Data) (name : List ℕ) → cond (takes_name BesideText name) (get name d) None ≡ beside_text d name
+pub chosen_beside : (d : Data) (name : List ℕ) → cond (takes_name BesideText name) (get name d) None ≡ label_beside_text d name
 chosen_beside d name = turned (bytes_eq name (codes "@type") || bytes_eq name (codes "Text")) (get name d)
   where
     turned : (b : Bool) (o : Option Data) → cond (not b) o None ≡ cond b None o
@@ -31,7 +31,7 @@ chosen_beside d name = turned (bytes_eq name (codes "@type") || bytes_eq name (c
     turned false o = refl
 
 -- the same members beside the same translations
-pub translated-Decides : (a b : Bool) (d e : Data) → Decides a (beside_text d) (beside_text e) → Decides b (json_set (entries_at (codes "Text") d)) (json_set (entries_at (codes "Text") e))
+pub translated-Decides : (a b : Bool) (d e : Data) → Decides a (label_beside_text d) (label_beside_text e) → Decides b (json_set (entries_at (codes "Text") d)) (json_set (entries_at (codes "Text") e))
     → Decides (a && b) (translated_label d) (translated_label e)
 translated-Decides a b d e beside texts = (
   λ h. let both = both_true a b h in ap₂ translated (beside.0 both.0) (texts.0 both.1),

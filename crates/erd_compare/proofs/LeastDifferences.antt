@@ -5,13 +5,13 @@ use Rattle.std.specs.Ordering.{ordering_reverse}
 use Rattle.std.proofs.lemmas.Cmp.{tied_itself}
 use Rattle.serde_json.specs.Data.{Data}
 use Rattle.erd_tables.specs.declared.class.Family.{Family}
-use Rattle.erd_meaning.specs.Keys.{has_keys, key_cmp, kept_key}
+use Rattle.erd_meaning.specs.Keys.{has_keys, key_cmp, key_of_family_object}
 use Rattle.erd_meaning.specs.Lookups.{FindsKey, key_in}
 use Rattle.erd_meaning.specs.Meaning.{ObjectRecord}
 use Rattle.erd_meaning.specs.Objects.{Placed, objects}
-use Rattle.erd_meaning.specs.Orders.{key_cmp_exact, key_cmp_total}
+use Rattle.erd_meaning.specs.code.Orders.{key_cmp_exact, key_cmp_total}
 use Rattle.erd_meaning.specs.Records.{records_of}
-use Rattle.erd_meaning.specs.declared.key.Key.{Key}
+use Rattle.erd_meaning.specs.declared.keys.key.Key.{Key}
 use Rattle.erd_compare.specs.Differences.{Differ}
 use Rattle.erd_compare.specs.code.KeyedDifferences.{DifferAmong, HasKey, HasKeyAlone, HasKeyAloneAmong, HasKeyAmong, IsAnyKey, IsComparable, TellsAmong, lesser_difference}
 use Rattle.erd_compare.specs.declared.families.KeyedDifference.{KeyedDifference}
@@ -94,7 +94,7 @@ low_at (y ∷ ys) (suc i) x e = omega (arith, low_at ys i x e)
 pub among_all : (t : Data) (f : Family) (k : Key) → HasKey t f k → HasKeyAmong t f (length (objects f t)) k
 among_all t f k h = (h.0, at (slice_get (objects f t) h.0) refl h.1, h.1)
   where
-    at : (o : Option Placed) → slice_get (objects f t) h.0 ≡ o → option_and_then (λ (x : Placed). kept_key f x.value) o ≡ Some k → h.0 < length (objects f t)
+    at : (o : Option Placed) → slice_get (objects f t) h.0 ≡ o → option_and_then (λ (x : Placed). key_of_family_object f x.value) o ≡ Some k → h.0 < length (objects f t)
     at None is e = cc
     at (Some o) is e = low_at (objects f t) h.0 o is
 

@@ -12,12 +12,12 @@ use Rattle.serde_json.specs.declared.value.Value.{Value}
 use Rattle.erd_tables.specs.declared.class.Family.{Family}
 use Rattle.erd_check.proofs.Reasons.{and_true, both_true}
 use Rattle.erd_check.proofs.Rising.{Has, here, later}
-use Rattle.erd_meaning.proofs.Sets.{any-has, has-any}
+use Rattle.erd_meaning.proofs.orders.Sets.{any-has, has-any}
 use Rattle.erd_meaning.specs.Keys.{key_cmp}
-use Rattle.erd_meaning.specs.Orders.{key_cmp_exact, key_cmp_total}
+use Rattle.erd_meaning.specs.code.Orders.{key_cmp_exact, key_cmp_total}
 use Rattle.erd_meaning.specs.Records.{key_set}
 use Rattle.erd_meaning.specs.SelectionNames.{key_named, keys_named}
-use Rattle.erd_meaning.specs.declared.key.Key.{Key}
+use Rattle.erd_meaning.specs.declared.keys.key.Key.{Key}
 use Rattle.erd_compare.specs.code.Comparing.{Decides}
 
 -- ---- tests of all

@@ -14,8 +14,8 @@ use Rattle.erd_tables.specs.declared.class.Family.TheVariants as family
 use Rattle.erd_check.proofs.Reports.{tree_of, small_ballot, small_ballot_with, header_node, contest_node}
 use Rattle.erd_meaning.specs.Meaning.{first_node, a_header, a_content, MemberValue, a_plain}
 use Rattle.erd_meaning.specs.Records.{object_with_key, member_of_class, meaning}
-use Rattle.erd_meaning.specs.declared.key.Key.{Key}
-use Rattle.erd_meaning.proofs.WholeRecords.{absent_member, same_at_other_names}
+use Rattle.erd_meaning.specs.declared.keys.key.Key.{Key}
+use Rattle.erd_meaning.proofs.meanings.WholeRecords.{absent_member, same_at_other_names}
 use Rattle.erd_compare.specs.Differences.{record_at, Differ}
 use Rattle.erd_compare.specs.declared.difference.How.TheVariants.{Member}
 use Rattle.erd_compare.specs.declared.difference.Part.TheVariants as part

@@ -10,9 +10,9 @@ use Rattle.erd_tables.specs.declared.class.Family.TheVariants as family
 use Rattle.erd_meaning.specs.Keys.{key_cmp}
 use Rattle.erd_meaning.specs.Meaning.{Meaning}
 use Rattle.erd_meaning.specs.Records.{meaning, records_of}
-use Rattle.erd_meaning.specs.declared.key.Key.{Key}
-use Rattle.erd_meaning.proofs.OneObject.{which_first}
-use Rattle.erd_meaning.proofs.WholeMeanings.{same_meaning}
+use Rattle.erd_meaning.specs.declared.keys.key.Key.{Key}
+use Rattle.erd_meaning.proofs.finding.OneObject.{which_first}
+use Rattle.erd_meaning.proofs.meanings.WholeMeanings.{same_meaning}
 use Rattle.erd_compare.specs.code.Comparing.{DifferAtPart}
 use Rattle.erd_compare.specs.Differences.{Differ, IsFirstDifference, part_cmp, part_number, record_at}
 use Rattle.erd_compare.specs.declared.difference.Difference.{Difference}

@@ -14,7 +14,7 @@ use Rattle.erd_meaning.specs.Keys.{key_cmp}
 use Rattle.erd_meaning.specs.Meaning.{Meaning, ObjectRecord}
 use Rattle.erd_meaning.specs.Objects.{Placed, elections}
 use Rattle.erd_meaning.specs.Records.{meaning, object_record}
-use Rattle.erd_meaning.specs.declared.key.Key.{Key}
+use Rattle.erd_meaning.specs.declared.keys.key.Key.{Key}
 use Rattle.erd_compare.specs.code.Comparing.{TellsPart}
 use Rattle.erd_compare.specs.Differences.{Differ, record_at, record_with_key, record_without_key}
 use Rattle.erd_compare.specs.code.KeyedDifferences.{IsComparable, TellsKeyed, TellsWhole, family_of_part}

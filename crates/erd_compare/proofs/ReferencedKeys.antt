@@ -6,12 +6,12 @@ use Rattle.serde_json.specs.Data.{Data}
 use Rattle.erd_tables.specs.Classes.{family_number}
 use Rattle.erd_tables.specs.declared.class.Family.{Family}
 use Rattle.erd_check.proofs.Rising.{Has, here, later}
-use Rattle.erd_meaning.proofs.ObjectFamilies.{family_exact, itself}
-use Rattle.erd_meaning.proofs.OneObject.{with_part}
-use Rattle.erd_meaning.proofs.References.{find-any, find-Some}
-use Rattle.erd_meaning.proofs.Sets.{any-has}
-use Rattle.erd_meaning.proofs.Standing.{has_id-from, has_id-Some}
-use Rattle.erd_meaning.specs.Keys.{has_keys, key_of, kept_key}
+use Rattle.erd_meaning.proofs.identity.ObjectFamilies.{family_exact, itself}
+use Rattle.erd_meaning.proofs.finding.OneObject.{with_part}
+use Rattle.erd_meaning.proofs.accepted.References.{find-any, find-Some}
+use Rattle.erd_meaning.proofs.orders.Sets.{any-has}
+use Rattle.erd_meaning.proofs.accepted.Standing.{has_id-from, has_id-Some}
+use Rattle.erd_meaning.specs.Keys.{has_keys, key_of, key_of_family_object}
 use Rattle.erd_meaning.specs.Lookups.{FindsId, id_in, key_in}
 use Rattle.erd_meaning.specs.Objects.{Placed, has_id, id_of, objects, owner_at}
 use Rattle.erd_meaning.specs.SelectionNames.{key_named}
@@ -73,7 +73,7 @@ module _ (t : Data) (f : Family) (id : List ℕ) where
 -- ---- its key
 
 module _ (t : Data) (f : Family) (id : List ℕ) where
-  key_kept : has_keys f ≡ true → (o : Option Placed) → option_and_then (λ o. kept_key f o.value) o ≡ option_and_then key_of (option_map (λ o. o.value) o)
+  key_kept : has_keys f ≡ true → (o : Option Placed) → option_and_then (λ o. key_of_family_object f o.value) o ≡ option_and_then key_of (option_map (λ o. o.value) o)
   key_kept keyed None = refl
   key_kept keyed (Some o) = ap (λ b. cond b (key_of o.value) None) keyed
 

@@ -7,10 +7,10 @@ use Rattle.serde_json.specs.Data.{Data}
 use Rattle.erd_tables.specs.Classes.{family_number}
 use Rattle.erd_tables.specs.declared.class.Family.{Family}
 use Rattle.erd_tables.specs.declared.class.Family.TheVariants as family
-use Rattle.erd_meaning.proofs.NamesTold.{Numbered}
+use Rattle.erd_meaning.proofs.selections.NamesTold.{Numbered}
 use Rattle.erd_meaning.specs.Lookups.{FindsId, selection_in}
 use Rattle.erd_meaning.specs.NameParts.{NameParts}
-use Rattle.erd_meaning.specs.Objects.{Placed, contests, numbered_selections, numbered_selections_of, objects, selections_of}
+use Rattle.erd_meaning.specs.Objects.{Placed, contests, numbered_selections, numbered_selections_of, objects, selections_of_contest}
 use Rattle.erd_meaning.specs.SelectionNames.{name_named, name_of}
 use Rattle.erd_compare.proofs.ReferencedKeys.{owner_elsewhere, owner_here, owner_nowhere}
 
@@ -20,11 +20,11 @@ of_contest : (k : ℕ) (os : List Placed) → map {A = Numbered} (λ s. s.1) (ma
 of_contest k [] = refl
 of_contest k (o ∷ os) = ap (λ xs. o ∷ xs) (of_contest k os)
 
-of_contests : (k : ℕ) (cs : List Placed) → map {A = Numbered} (λ s. s.1) (flat_map numbered_selections_of (enumerate_from k cs)) ≡ flat_map selections_of cs
+of_contests : (k : ℕ) (cs : List Placed) → map {A = Numbered} (λ s. s.1) (flat_map numbered_selections_of (enumerate_from k cs)) ≡ flat_map selections_of_contest cs
 of_contests k [] = refl
 of_contests k (c ∷ cs) =
     map-append {A = Numbered} (λ s. s.1) (numbered_selections_of (k, c)) (flat_map numbered_selections_of (enumerate_from (k + 1) cs))
-    ∙ ap₂ ◌++◌ (of_contest k (selections_of c)) (of_contests (k + 1) cs)
+    ∙ ap₂ ◌++◌ (of_contest k (selections_of_contest c)) (of_contests (k + 1) cs)
 
 -- the selection at a position
 numbered_at : (t : Data) (i : ℕ) → option_map (λ (s : Numbered). s.1) (slice_get (numbered_selections t) i) ≡ slice_get (objects family.Selection t) i

@@ -9,7 +9,7 @@ use Rattle.erd_check.specs.Values.{entries_of, list_of_items}
 use Rattle.erd_meaning.specs.Meaning.{JsonMap, Content, no_content, first_node, Node, a_contest, a_header}
 use Rattle.erd_meaning.specs.NameParts.{NameParts}
 use Rattle.erd_meaning.specs.Records.{content_of, node_of, nodes_of}
-use Rattle.erd_meaning.specs.declared.key.Key.{Key}
+use Rattle.erd_meaning.specs.declared.keys.key.Key.{Key}
 use Rattle.erd_compare.specs.code.Comparing.{Decides}
 
 -- ---- content as a list of nodes

@@ -12,7 +12,7 @@ use Rattle.serde_json.specs.View.{members_view}
 use Rattle.serde_json.proofs.Views.{Entry}
 use Rattle.erd_check.specs.Values.{names}
 use Rattle.erd_tables.specs.declared.class.Class.{Class}
-use Rattle.erd_meaning.proofs.WholeRecords.{absent_plain}
+use Rattle.erd_meaning.proofs.meanings.WholeRecords.{absent_plain}
 use Rattle.erd_meaning.specs.Meaning.{PlainValue}
 use Rattle.erd_meaning.specs.Records.{plain_member}
 use Rattle.erd_compare.specs.code.AgreeingSelections.{AgreeAtNames}

@@ -12,7 +12,7 @@ use Rattle.erd_check.specs.Trees.{IsTree, AreTrees, is_same_json, are_same_items
 use Rattle.erd_check.specs.Values.{entries_of, list_of_items, entries_at}
 use Rattle.erd_check.proofs.Exact.{is_same_exact, text_itself}
 use Rattle.erd_check.proofs.Members.{get_member-tree}
-use Rattle.erd_meaning.proofs.WholeParts.{whole_get}
+use Rattle.erd_meaning.proofs.selections.WholeParts.{whole_get}
 use Rattle.erd_compare.specs.code.Comparing.{Decides, IsWholeTree}
 
 -- values that are whole trees

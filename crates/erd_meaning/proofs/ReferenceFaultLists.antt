@@ -88,8 +88,8 @@ other_contest t p a e h =
       object_place = outer_place p;
       position = entry.0;
       place = entry.1;
-      contest = object.0;
-      contest_stands = object.1;
+      ordered_contest = object.0;
+      ordered_contest_stands = object.1;
       entry = a;
       entry_stands = e;
       elsewhere = object.2;
@@ -119,7 +119,7 @@ other_kept : (t : Data) (p : List Step) → NamesOtherContest t p → HasReason 
 other_kept t p h =
     let steps : are_entry_steps (last_steps p) ≡ true = ap (λ q. are_entry_steps (last_steps q)) h.place ∙ ap are_entry_steps (last_steps_of_entry h.object_place h.position) in
     let object : outer_place p ≡ h.object_place = ap outer_place h.place ∙ outer_place_entry h.object_place h.position in
-    let elsewhere : is_elsewhere t p h.entry ≡ true = rw (object, h.contest_stands) h.elsewhere in
+    let elsewhere : is_elsewhere t p h.entry ≡ true = rw (object, h.ordered_contest_stands) h.elsewhere in
     (h.entry, h.entry_stands, kept t p SelectionOfOtherContest h.entry (inr (inr (inr (inl refl)))) (both_true (are_entry_steps (last_steps p)) (is_elsewhere t p h.entry) steps elsewhere))
 
 pub reason_of_fault : (t : Data) (p : List Step) (r : Reason) → ReferenceFault t p r → HasReason t p r

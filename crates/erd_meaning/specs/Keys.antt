@@ -7,7 +7,7 @@ use Rattle.erd_tables.specs.Texts.{text_cmp}
 use Rattle.erd_tables.specs.declared.class.Family.{Family}
 use Rattle.erd_tables.specs.declared.class.Family.TheVariants as family
 use Rattle.erd_check.specs.Values.{entries_at, text_at}
-use Rattle.erd_meaning.specs.declared.key.Key.{Key}
+use Rattle.erd_meaning.specs.declared.keys.key.Key.{Key}
 
 -- whether the objects of a family are named by keys: those of the first eight families are; selections have names of
 -- their own (profile)
@@ -42,5 +42,5 @@ abbrev pub key_of : Data → Option Key
 key_of d = least_key (map triple_of (entries_at (codes "ExternalIdentifier") d))
 
 -- the key of an object of a family, if its family has keys
-abbrev pub kept_key : Family → Data → Option Key
-kept_key f d = if has_keys f then key_of d else None
+abbrev pub key_of_family_object : Family → Data → Option Key
+key_of_family_object f d = if has_keys f then key_of d else None

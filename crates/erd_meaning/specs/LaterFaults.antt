@@ -19,9 +19,9 @@ use Rattle.erd_check.specs.declared.want.Want.TheVariants.{Reference}
 use Rattle.erd_meaning.specs.Keys.{has_keys, key_of}
 use Rattle.erd_check.specs.Values.{entries_at, text_at}
 use Rattle.erd_meaning.specs.NameParts.{NameParts}
-use Rattle.erd_meaning.specs.Objects.{Placed, selections_of, IsObject, id_of, has_id, owner, is_owned}
+use Rattle.erd_meaning.specs.Objects.{Placed, selections_of_contest, IsObject, id_of, has_id, owner, is_owned}
 use Rattle.erd_meaning.specs.SelectionNames.{name_of}
-use Rattle.erd_meaning.specs.declared.key.Key.{Key}
+use Rattle.erd_meaning.specs.declared.keys.key.Key.{Key}
 
 -- the one object stands earlier in the report than the other
 abbrev pub IsBefore : Placed → Placed → Type 0
@@ -112,16 +112,16 @@ is_other_selection t d w entry = false
 abbrev pub entry_place : List Step → ℕ → List Step
 entry_place q i = q ++ Name (codes "OrderedContestSelectionIds") ∷ At i ∷ []
 
--- reason 17: an entry of the list of an object that names one contest is a selection of another
+-- reason 17: an entry of the list of an object that names one contest (class OrderedContest) is a selection of another
 pub record NamesOtherContest (t : Data) (p : List Step) : Type 0 where
   pub object_place : List Step
   pub position : ℕ
   pub place : p ≡ entry_place object_place position
-  pub contest : Asked
-  pub contest_stands : asked_at t object_place ≡ Some contest
+  pub ordered_contest : Asked
+  pub ordered_contest_stands : asked_at t object_place ≡ Some ordered_contest
   pub entry : Asked
   pub entry_stands : asked_at t p ≡ Some entry
-  pub elsewhere : IsTrue (is_other_selection t contest.value entry.want entry.value)
+  pub elsewhere : IsTrue (is_other_selection t ordered_contest.value entry.want entry.value)
 
 -- the faults of references
 abbrev pub ReferenceFault : Data → List Step → Reason → Type 0
@@ -135,10 +135,10 @@ pub record RepeatsName (t : Data) (p : List Step) : Type 0 where
   pub contest : Placed
   pub contest_stands : IsObject t family.Contest contest
   pub later : Placed
-  pub later_stands : Contains (selections_of contest) later
+  pub later_stands : Contains (selections_of_contest contest) later
   pub place : p ≡ later.place
   pub earlier : Placed
-  pub earlier_stands : Contains (selections_of contest) earlier
+  pub earlier_stands : Contains (selections_of_contest contest) earlier
   pub before : IsBefore earlier later
   pub name : NameParts
   pub later_name : name_of t later.value ≡ Some name

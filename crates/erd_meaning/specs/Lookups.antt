@@ -1,21 +1,17 @@
 -- What is looked up among the objects of a report, by family and position.
-use Rattle.std.specs.Prelude.{◌≡◌, ◌↔◌, ℕ, List, Bool, ◌&&◌, ◌==◌, Option, Some, option_and_then, option_map, filter}
+use Rattle.std.specs.Prelude.{◌≡◌, ◌↔◌, ℕ, List, Option, Some, option_and_then, option_map}
 use Rattle.std.specs.List.{slice_get}
 use Rattle.serde_json.specs.Data.{Data}
-use Rattle.erd_tables.specs.Classes.{family_number}
 use Rattle.erd_tables.specs.declared.class.Family.{Family}
 use Rattle.erd_meaning.specs.NameParts.{NameParts}
 use Rattle.erd_meaning.specs.Objects.{id_of, numbered_selections, objects}
-use Rattle.erd_meaning.specs.code.ObjectWalk.{Kept, same_id, same_key}
-use Rattle.erd_meaning.specs.Keys.{kept_key}
+use Rattle.erd_meaning.specs.Keys.{key_of_family_object}
 use Rattle.erd_meaning.specs.SelectionNames.{name_of}
-use Rattle.erd_meaning.specs.declared.key.Key.{Key}
-
--- ---- in a report
+use Rattle.erd_meaning.specs.declared.keys.key.Key.{Key}
 
 -- the key of the object of a family at a position, if there is one, and if the family has keys
 abbrev pub key_in : Family → Data → ℕ → Option Key
-key_in f t i = option_and_then (λ o. kept_key f o.value) (slice_get (objects f t) i)
+key_in f t i = option_and_then (λ o. key_of_family_object f o.value) (slice_get (objects f t) i)
 
 -- the `@id` of the object of a family at a position, if there is one, and if it has one
 abbrev pub id_in : Family → Data → ℕ → Option (List ℕ)
@@ -36,21 +32,3 @@ FindsId t id found = (f : Family) (i : ℕ) → (found ≡ Some (f, i)) ↔ (id_
 -- the position is that of the selection of the contest with the name, of which there is one at most
 abbrev pub FindsSelection : Data → ℕ → NameParts → Option ℕ → Type 0
 FindsSelection t c n found = (i : ℕ) → (found ≡ Some i) ↔ (selection_in t i ≡ Some (c, n))
-
--- ---- among the objects that are kept
-
--- an object of the family
-abbrev pub is_of_family : Family → Kept → Bool
-is_of_family f k = family_number k.family == family_number f
-
--- those of a family
-abbrev pub those_of : Family → List Kept → List Kept
-those_of f ks = filter (is_of_family f) ks
-
--- the object of a family with a key
-abbrev pub is_keyed : Family → Key → Kept → Bool
-is_keyed f key k = is_of_family f k && same_key k.key (Some key)
-
--- an object with an `@id`
-abbrev pub is_named : List ℕ → Kept → Bool
-is_named id k = same_id k.id (Some id)

@@ -1,7 +1,7 @@
 -- The six parts of a selection's name.
 use Rattle.std.specs.Prelude.{ℕ, ℤ, List, Bool, Option}
 use Rattle.erd_tables.specs.declared.class.Class.{Class}
-use Rattle.erd_meaning.specs.declared.key.Key.{Key}
+use Rattle.erd_meaning.specs.declared.keys.key.Key.{Key}
 
 -- class, keys of candidates or parties, whether it is for a write-in, sequence order, label, triple of identifiers (profile)
 pub record NameParts : Type 0 where

@@ -41,8 +41,8 @@ abbrev pub contests : Data → List Placed
 contests t = flat_map (placed_entries (codes "Contest")) (elections t)
 
 -- the selections of a contest (class Contest)
-abbrev pub selections_of : Placed → List Placed
-selections_of contest = placed_entries (codes "ContestSelection") contest
+abbrev pub selections_of_contest : Placed → List Placed
+selections_of_contest contest = placed_entries (codes "ContestSelection") contest
 
 -- the objects of a family, in the order of their places (classes ElectionReport, Election and Contest)
 abbrev pub objects : Family → Data → List Placed
@@ -54,7 +54,7 @@ objects family.Header t = placed_entries (codes "Header") (report_of t)
 objects family.Candidate t = flat_map (placed_entries (codes "Candidate")) (elections t)
 objects family.Contest t = contests t
 objects family.Style t = flat_map (placed_entries (codes "BallotStyle")) (elections t)
-objects family.Selection t = flat_map selections_of (contests t)
+objects family.Selection t = flat_map selections_of_contest (contests t)
 
 -- an object of the family stands at its place
 abbrev pub IsObject : Data → Family → Placed → Type 0
@@ -62,7 +62,7 @@ IsObject t f o = Contains (objects f t) o
 
 -- the selections of contest i, each with the number i
 abbrev pub numbered_selections_of : ℕ × Placed → List (ℕ × Placed)
-numbered_selections_of contest = map (λ o. (contest.0, o)) (selections_of contest.1)
+numbered_selections_of contest = map (λ o. (contest.0, o)) (selections_of_contest contest.1)
 
 -- the selections of a report, each with the position of its contest
 abbrev pub numbered_selections : Data → List (ℕ × Placed)

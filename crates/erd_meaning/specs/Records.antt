@@ -23,7 +23,7 @@ use Rattle.erd_meaning.specs.Meaning.{JsonMap, JsonSet, KeySet, Label, untransla
 use Rattle.erd_meaning.specs.NameParts.{NameParts}
 use Rattle.erd_meaning.specs.Objects.{objects, elections}
 use Rattle.erd_meaning.specs.SelectionNames.{selection_role, name_of, name_cmp, key_named, keys_named, name_named}
-use Rattle.erd_meaning.specs.declared.key.Key.{Key}
+use Rattle.erd_meaning.specs.declared.keys.key.Key.{Key}
 
 -- ---- values
 
@@ -45,12 +45,12 @@ abbrev pub carried_members : Option Class → Data → JsonMap
 carried_members class d name = option_and_then (λ c. if_carried (kind_of_member c name) (get name d)) class
 
 -- the members of a label but for its translations, and for `@type`, which is the same in every accepted label
-abbrev pub beside_text : Data → JsonMap
-beside_text d name = if bytes_eq name (codes "@type") || bytes_eq name (codes "Text") then None else get name d
+abbrev pub label_beside_text : Data → JsonMap
+label_beside_text d name = if bytes_eq name (codes "@type") || bytes_eq name (codes "Text") then None else get name d
 
 -- a label (class InternationalizedText, or a text)
 abbrev pub label_of : Data → Label
-label_of (object ms) = translated (beside_text (object ms)) (json_set (entries_at (codes "Text") (object ms)))
+label_of (object ms) = translated (label_beside_text (object ms)) (json_set (entries_at (codes "Text") (object ms)))
 label_of d = untranslated (unwrap_or (as_str d) [])
 
 -- ---- the order of a ballot

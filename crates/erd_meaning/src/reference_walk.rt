@@ -9,8 +9,8 @@ ghost use Rattle.erd_meaning.specs.code.ObjectWalk.{kept_objects};
 ghost use Rattle.erd_meaning.specs.code.ReferenceWalk.{id_reasons, is_elsewhere, is_of_others, reason_if};
 ghost use Rattle.erd_meaning.specs.code.Shown.{shown};
 
-use crate::lookup::{is_id_known, owner_of};
-use crate::object::Object;
+use crate::objects::lookup::{is_id_known, owner_of};
+use crate::objects::object::Object;
 use erd_check::is_among;
 use erd_check::path::{Path, push_fault};
 use erd_check::values::{entries_at, text_at};

@@ -10,12 +10,14 @@ ghost use Rattle.erd_meaning.specs.Objects.{elections, objects};
 ghost use Rattle.erd_meaning.specs.code.Resolved.{IsResolved};
 ghost use Rattle.erd_meaning.specs.SelectionNames.{name_of};
 
-use crate::key::Key;
-use crate::lookup::{count_of, nth_of, place_of_id, place_of_key};
-use crate::named_selection::{NamedSelection, place_of_name};
-use crate::object::Object;
-use crate::selection_name::SelectionName;
-use crate::selection_naming::name_of_selection;
+pub(crate) mod resolving;
+
+use crate::keys::key::Key;
+use crate::names::naming::name_of_selection;
+use crate::names::numbered_name::{NamedSelection, place_of_name};
+use crate::names::selection_name::SelectionName;
+use crate::objects::lookup::{count_of, nth_of, place_of_id, place_of_key};
+use crate::objects::object::Object;
 use erd_check::values::entries_at;
 use erd_tables::Family;
 use serde_json::Value;

@@ -7,15 +7,15 @@ use Rattle.serde_json.specs.Data.{Data}
 use Rattle.erd_tables.specs.declared.class.Family.{Family}
 use Rattle.erd_tables.specs.declared.class.Family.TheVariants as family
 use Rattle.erd_check.proofs.Rising.{Has, Has-cases, here, later}
-use Rattle.erd_meaning.specs.Objects.{Placed, contests, has_id, id_of, objects, owner, selections_of}
-use Rattle.erd_meaning.proofs.Standing.{flat-has, has_id-Some, one_keyed, one_named, owned_by, owner_is, stands}
-use Rattle.erd_meaning.proofs.Sets.{has-any}
-use Rattle.erd_meaning.proofs.Skeleton.{values-placed_entries}
+use Rattle.erd_meaning.specs.Objects.{Placed, contests, has_id, id_of, objects, owner, selections_of_contest}
+use Rattle.erd_meaning.proofs.accepted.Standing.{flat-has, has_id-Some, one_keyed, one_named, owned_by, owner_is, stands}
+use Rattle.erd_meaning.proofs.orders.Sets.{has-any}
+use Rattle.erd_meaning.proofs.accepted.Skeleton.{values-placed_entries}
 use Rattle.erd_meaning.specs.LaterFaults.{is_selection_in}
 use Rattle.erd_meaning.specs.SelectionNames.{key_named, name_named, name_of}
 use Rattle.erd_meaning.specs.Keys.{key_of, has_keys}
 use Rattle.erd_meaning.specs.Records.{meaning}
-use Rattle.erd_meaning.proofs.References.{resolves}
+use Rattle.erd_meaning.proofs.accepted.References.{resolves}
 use Rattle.erd_normal.specs.Canonical.{IsCanonical}
 use Rattle.erd_normal.proofs.Arrays.{Names}
 use Rattle.erd_normal.proofs.Selections.{ObjectPair, SelectionPair, find_paired, has_name, object_pairs, paired_at, paired_flat, selection_pairs, selections_paired}
@@ -43,7 +43,7 @@ names_of t canonical = record {
 -- two contests with one key, one record and one `@id`, and their selections in pairs
 pub record ContestPair (t u : Data) (o p : Placed) : Type 0 where
   pub pair : ObjectPair t u family.Contest o p
-  pub selections : Paired (SelectionPair t u) (selections_of o) (selections_of p)
+  pub selections : Paired (SelectionPair t u) (selections_of_contest o) (selections_of_contest p)
 
 flatten : {A : Type 0} → Option (Option A) → Option A
 flatten None = None
@@ -58,7 +58,7 @@ any_paired : (t u : Data) (r : List ℕ) (xs ys : List Placed) → Paired (Selec
 any_paired t u r xs ys Paired.none = refl
 any_paired t u r xs ys (Paired.more {xs = xs'} {ys = ys'} h rest) = ap₂ ◌||◌ (ap (λ o. option_map_or (bytes_eq r) o false) h.same_id) (any_paired t u r xs' ys' rest)
 
-selected_by : (o : Placed) (r : List ℕ) → is_selection_in o.value r ≡ list_any (has_id r) (map (λ x. x.value) (selections_of o))
+selected_by : (o : Placed) (r : List ℕ) → is_selection_in o.value r ≡ list_any (has_id r) (map (λ x. x.value) (selections_of_contest o))
 selected_by o r = ap (list_any (has_id r)) (sym (values-placed_entries (codes "ContestSelection") o))
 
 map-has : (xs : List Placed) (d : Data) → Has (map (λ x. x.value) xs) d → (x : Placed) × Has xs x × (x.value ≡ d)
@@ -66,12 +66,12 @@ map-has [] d h = elim h [ ]
 map-has (x ∷ xs) d h = ⊎_elim (λ e. (x, here, e)) (λ k. let r = map-has xs d k in (r.0, later r.1, r.2)) (Has-cases x.value d (map (λ x. x.value) xs) h)
 
 -- the selection of a contest that a reference names
-selection_named : (t : Data) → IsCanonical t → (o : Placed) (r : List ℕ) → Has (objects family.Contest t) o → is_selection_in o.value r ≡ true → (x : Placed) × Has (selections_of o) x × (id_of x.value ≡ Some r) × (name_named t r ≡ name_of t x.value)
+selection_named : (t : Data) → IsCanonical t → (o : Placed) (r : List ℕ) → Has (objects family.Contest t) o → is_selection_in o.value r ≡ true → (x : Placed) × Has (selections_of_contest o) x × (id_of x.value ≡ Some r) × (name_named t r ≡ name_of t x.value)
 selection_named t canonical o r h e =
-    let d = has-any (has_id r) (map (λ x. x.value) (selections_of o)) (sym (selected_by o r) ∙ e) in
-    let x = map-has (selections_of o) d.0 d.1 in
+    let d = has-any (has_id r) (map (λ x. x.value) (selections_of_contest o)) (sym (selected_by o r) ∙ e) in
+    let x = map-has (selections_of_contest o) d.0 d.1 in
     let id : id_of x.0.value ≡ Some r = ap id_of x.2 ∙ has_id-Some r d.0 d.2 in
-    (x.0, x.1, id, ap (option_and_then (name_of t)) (owner_is t canonical.accepted family.Selection x.0 r (flat-has selections_of (contests t) o x.0 h x.1) id))
+    (x.0, x.1, id, ap (option_and_then (name_of t)) (owner_is t canonical.accepted family.Selection x.0 r (flat-has selections_of_contest (contests t) o x.0 h x.1) id))
 
 pub slice_get-has : {A : Type 0} (xs : List A) (i : ℕ) (x : A) → slice_get xs i ≡ Some x → Has xs x
 slice_get-has [] i x e = cc
@@ -90,7 +90,7 @@ module _ (t u : Data) (canonical : IsCanonical t) (canonical' : IsCanonical u) (
       })
 
   pub all_selections : Paired (SelectionPair t u) (objects family.Selection t) (objects family.Selection u)
-  all_selections = paired_flat (ContestPair t u) (SelectionPair t u) selections_of selections_of (contests t) (contests u) contest_pairs (λ o p r. r.selections)
+  all_selections = paired_flat (ContestPair t u) (SelectionPair t u) selections_of_contest selections_of_contest (contests t) (contests u) contest_pairs (λ o p r. r.selections)
 
   key_same : (f : Family) (r : List ℕ) → has_keys f ≡ true → key_named t f r ≡ key_named u f r
   key_same f r h =
@@ -105,7 +105,7 @@ module _ (t u : Data) (canonical : IsCanonical t) (canonical' : IsCanonical u) (
   selected_same : (c : List ℕ) (a b : Data) → owner t family.Contest c ≡ Some a → owner u family.Contest c ≡ Some b → (r : List ℕ) → is_selection_in a r ≡ is_selection_in b r
   selected_same c a b e g r =
       let both = find_paired (ContestPair t u) (λ d. is_selection_in d r) (λ d. is_selection_in d r) c (objects family.Contest t) (objects family.Contest u) contest_pairs
-      (λ x y k. (k.pair.same_id, selected_by x r ∙ any_paired t u r (selections_of x) (selections_of y) k.selections ∙ sym (selected_by y r))) in
+      (λ x y k. (k.pair.same_id, selected_by x r ∙ any_paired t u r (selections_of_contest x) (selections_of_contest y) k.selections ∙ sym (selected_by y r))) in
       let one : Some (is_selection_in a r) ≡ Some (is_selection_in b r) = sym (ap (option_map (λ d. is_selection_in d r)) e) ∙ both ∙ ap (option_map (λ d. is_selection_in d r)) g in
       cc
 
@@ -114,7 +114,7 @@ module _ (t u : Data) (canonical : IsCanonical t) (canonical' : IsCanonical u) (
       let o = owned_by t family.Contest c a e in
       let x = selection_named t canonical o.0 r o.1 (ap (λ d. is_selection_in d r) o.2 ∙ h) in
       let y = selection_named t canonical o.0 s o.1 (ap (λ d. is_selection_in d s) o.2 ∙ k) in
-      let stands_at = stands t canonical.accepted family.Selection x.0 (flat-has selections_of (contests t) o.0 x.0 o.1 x.1) in
+      let stands_at = stands t canonical.accepted family.Selection x.0 (flat-has selections_of_contest (contests t) o.0 x.0 o.1 x.1) in
       let n = has_name t canonical.accepted x.0.value (record { place = x.0.place; is = stands_at }) in
       let one : x.0.value ≡ y.0.value = ap (λ z. z.value) (one_named t canonical.accepted o.0 x.0 y.0 n.0 o.1 x.1 y.1 n.1 (sym y.3 ∙ sym names ∙ x.3 ∙ n.1)) in
       let ids : Some r ≡ Some s = sym x.2 ∙ ap id_of one ∙ y.2 in

@@ -15,7 +15,7 @@ use Rattle.erd_check.proofs.TableKinds.{kind_of_name}
 use Rattle.erd_check.proofs.Exact.{text_exact}
 use Rattle.erd_meaning.specs.Meaning.{PlainValue, MemberValue, a_plain}
 use Rattle.erd_meaning.specs.Records.{is_in_envelope, member_value}
-use Rattle.erd_meaning.proofs.Sets.{has-any}
+use Rattle.erd_meaning.proofs.orders.Sets.{has-any}
 use Rattle.erd_normal.proofs.Records.{is_apart, is_plain}
 
 abbrev pub are_apart : List (List ℕ) → Class → Bool

@@ -20,15 +20,15 @@ use Rattle.erd_check.specs.Wants.{asked, entry_want, is_repeated, is_compared_se
 use Rattle.erd_check.proofs.Whole.{entry_itself, is_simple_class}
 use Rattle.erd_check.specs.Faults.{is_empty_array}
 use Rattle.erd_check.proofs.Entries.{list_of_items-place, list_of_items-tree, list_of_items_exact, string_from_text}
-use Rattle.erd_meaning.specs.declared.key.Key.{Key}
+use Rattle.erd_meaning.specs.declared.keys.key.Key.{Key}
 use Rattle.erd_meaning.specs.Accepted.{IsAccepted}
 use Rattle.erd_meaning.specs.SelectionNames.{compact_cmp, key_named, keys_named}
 use Rattle.erd_meaning.specs.Records.{key_set, json_set, unless_empty}
-use Rattle.erd_meaning.proofs.Sets.{json_set_unique, set_unique}
+use Rattle.erd_meaning.proofs.orders.Sets.{json_set_unique, set_unique}
 use Rattle.erd_meaning.specs.Keys.{key_cmp, has_keys}
-use Rattle.erd_meaning.specs.Orders.{key_cmp_exact, key_cmp_total}
-use Rattle.erd_meaning.proofs.References.{unrepeated_reference}
-use Rattle.erd_meaning.proofs.Phases.{no_shape_fault}
+use Rattle.erd_meaning.specs.code.Orders.{key_cmp_exact, key_cmp_total}
+use Rattle.erd_meaning.proofs.accepted.References.{unrepeated_reference}
+use Rattle.erd_meaning.proofs.accepted.Phases.{no_shape_fault}
 use Rattle.erd_normal.specs.Canonical.{IsCanonical}
 use Rattle.erd_normal.proofs.Paired.{all_keys, keys_rise}
 

@@ -14,15 +14,15 @@ use Rattle.erd_tables.specs.declared.class.Role.TheVariants as role
 use Rattle.erd_check.proofs.Reports.{tree_of, small_ballot, small_ballot_canonical}
 use Rattle.erd_check.specs.Trees.{is_same_json}
 use Rattle.erd_check.specs.Values.{entries_of, entries_at}
-use Rattle.erd_meaning.proofs.RecordExamples.{local_key}
-use Rattle.erd_meaning.proofs.WholeMeanings.{same_members, same_object, absent_carried, absent_beside, AgreeAt, AreAmong, ObjectsAgree, same_at_key, ObjectsAgreeButOne, SameMember, same_at_key_with, value_with_key, HaveKeys, keys_of_family, same_family, selection_with_name, SelectionsAgreeButOne, same_at_name, HaveNames, names_of_selections, same_selections, same_meaning}
+use Rattle.erd_meaning.proofs.examples.RecordExamples.{local_key}
+use Rattle.erd_meaning.proofs.meanings.WholeMeanings.{same_members, same_object, absent_carried, absent_beside, AgreeAt, AreAmong, ObjectsAgree, same_at_key, ObjectsAgreeButOne, SameMember, same_at_key_with, value_with_key, HaveKeys, keys_of_family, same_family, selection_with_name, SelectionsAgreeButOne, same_at_name, HaveNames, names_of_selections, same_selections, same_meaning}
 use Rattle.erd_meaning.specs.Keys.{has_keys, key_cmp}
 use Rattle.erd_meaning.specs.Meaning.{Content, no_content, first_node, a_contest, a_header, JsonMap, a_label, translated, a_key_set, a_content, a_plain, a_selection_map}
 use Rattle.erd_meaning.specs.NameParts.{NameParts}
 use Rattle.erd_meaning.specs.Objects.{elections, contests}
-use Rattle.erd_meaning.specs.Records.{content_of, beside_text, carried_members, json_set, plain_member, object_record, selection_map, records_of, meaning}
+use Rattle.erd_meaning.specs.Records.{content_of, label_beside_text, carried_members, json_set, plain_member, object_record, selection_map, records_of, meaning}
 use Rattle.erd_meaning.specs.SelectionNames.{name_named, name_of}
-use Rattle.erd_meaning.specs.declared.key.Key.{Key}
+use Rattle.erd_meaning.specs.declared.keys.key.Key.{Key}
 
 abbrev given : Data
 given = tree_of small_ballot
@@ -129,9 +129,9 @@ no_selection = same_selection 1 0 class.BallotMeasureSelection (codes "Selection
 abbrev label_in : Data → Data
 label_in t = unwrap_or (get (codes "Selection") (selection_in t 1 1)) null
 
-nothing_beside : beside_text (label_in canonical) ≡ beside_text (label_in given)
+nothing_beside : label_beside_text (label_in canonical) ≡ label_beside_text (label_in given)
 unfolding serde_json_on_literals
-nothing_beside = same_members (beside_text (label_in canonical)) (beside_text (label_in given)) (label_in canonical) (label_in given) (absent_beside (label_in canonical)) (absent_beside (label_in given)) refl
+nothing_beside = same_members (label_beside_text (label_in canonical)) (label_beside_text (label_in given)) (label_in canonical) (label_in given) (absent_beside (label_in canonical)) (absent_beside (label_in given)) refl
 
 abbrev translation : Data → ℕ → Data
 translation t i = unwrap_or (slice_get (entries_at (codes "Text") (label_in t)) i) null
@@ -146,7 +146,7 @@ unfolding serde_json_on_literals
 yes_selection =
     same_selection 1 1 class.BallotMeasureSelection (codes "Selection") (refl, refl, refl, refl, refl)
     (ap (λ beside. Some (a_label (translated beside (json_set (entries_at (codes "Text") (label_in canonical)))))) nothing_beside
-    ∙ ap (λ texts. Some (a_label (translated (beside_text (label_in given)) texts))) same_translations)
+    ∙ ap (λ texts. Some (a_label (translated (label_beside_text (label_in given)) texts))) same_translations)
 
 -- ---- contests
 

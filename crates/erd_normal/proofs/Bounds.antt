@@ -4,7 +4,7 @@ use Rattle.std.proofs.Math.ListN.{length-append}
 use Rattle.serde_json.specs.Data.{Data}
 use Rattle.erd_tables.specs.declared.class.Family.TheVariants as family
 use Rattle.erd_check.proofs.Rising.{Has, here, later}
-use Rattle.erd_meaning.specs.Objects.{Placed, contests, objects, selections_of}
+use Rattle.erd_meaning.specs.Objects.{Placed, contests, objects, selections_of_contest}
 use Rattle.erd_normal.specs.code.Tables.{IsBounded}
 
 -- one of the lists that are put together is no longer than the whole
@@ -13,8 +13,8 @@ part_short f xs x (here {xs = ys}) = omega (arith, length-append (f x) (flat_map
 part_short f xs x (later {y = y} {xs = ys} h) = let rest : length (f x) ≤ length (flat_map f ys) = part_short f ys x h in omega (arith, rest, length-append (f y) (flat_map f ys))
 
 -- a contest has few selections
-pub few_selections : (t : Data) → IsBounded t → (contest : Placed) → Has (objects family.Contest t) contest → length (selections_of contest) < 2 ^ 64
+pub few_selections : (t : Data) → IsBounded t → (contest : Placed) → Has (objects family.Contest t) contest → length (selections_of_contest contest) < 2 ^ 64
 few_selections t bounded contest h =
-    let part : length (selections_of contest) ≤ length (objects family.Selection t) = part_short selections_of (contests t) contest h in
+    let part : length (selections_of_contest contest) ≤ length (objects family.Selection t) = part_short selections_of_contest (contests t) contest h in
     let all : length (objects family.Selection t) < 2 ^ 64 = bounded.few family.Selection in
     omega (arith, part, all)

@@ -17,7 +17,7 @@ use Rattle.erd_check.specs.declared.want.Want.TheVariants.{Object}
 use Rattle.erd_check.proofs.Exact.{text_exact}
 use Rattle.erd_check.proofs.ObjectsAt.{ObjectAt, ObjectIn, object_in}
 use Rattle.erd_check.proofs.Shapes.{Within, within-tree}
-use Rattle.erd_meaning.proofs.Skeleton.{Skeleton}
+use Rattle.erd_meaning.proofs.accepted.Skeleton.{Skeleton}
 use Rattle.erd_meaning.specs.Keys.{key_of}
 use Rattle.erd_meaning.specs.SelectionNames.{selection_role}
 use Rattle.erd_normal.specs.code.NormalTree.{id_of_key, id_of_selection, normal_content, normal_election, normal_election_value, normal_node, normal_node_value, normal_object, normal_object_value, normal_report_value, normal_selection, normal_tree, normal_value}

@@ -12,7 +12,7 @@ use Rattle.erd_tables.specs.declared.place.Step.TheVariants.{Name, At}
 use Rattle.erd_check.proofs.Reports.{tree_of, small_ballot, small_ballot_canonical}
 use Rattle.erd_check.specs.Values.{entries_of}
 use Rattle.erd_check.specs.Wants.{asked_at}
-use Rattle.erd_meaning.proofs.RecordExamples.{local_key, members_of}
+use Rattle.erd_meaning.proofs.examples.RecordExamples.{local_key, members_of}
 use Rattle.erd_meaning.specs.Keys.{key_cmp}
 use Rattle.erd_meaning.specs.Meaning.{a_key, a_plain}
 use Rattle.erd_meaning.specs.NameParts.{NameParts}

@@ -13,7 +13,7 @@ use Rattle.erd_tables.specs.declared.class.Family.{Family}
 use Rattle.erd_tables.specs.declared.class.Family.TheVariants as family
 use Rattle.erd_check.proofs.Reports.{tree_of, small_ballot, small_ballot_canonical, one_unit}
 use Rattle.erd_meaning.specs.Keys.{has_keys}
-use Rattle.erd_meaning.specs.Objects.{Placed, objects, selections_of, id_of, report_of}
+use Rattle.erd_meaning.specs.Objects.{Placed, objects, selections_of_contest, id_of, report_of}
 use Rattle.erd_normal.proofs.Lists.{passed, is_family, all_from, passed_at}
 use Rattle.erd_normal.proofs.MeaningExamples.{one_unit_canonical}
 use Rattle.erd_normal.specs.Canonical.{HasCanonicalEnvelope, HasCanonicalIds, canonical_id, canonical_selection_id}
@@ -42,7 +42,7 @@ are_ranked t f = not (has_keys f) || all_from (is_ranked f) 0 (objects f t)
 
 abbrev has_canonical_ids : Data → Bool
 has_canonical_ids t =
-    list_all (are_ranked t) families && all_from (λ i contest. all_from (is_selection_ranked i) 0 (selections_of contest)) 0 (objects family.Contest t)
+    list_all (are_ranked t) families && all_from (λ i contest. all_from (is_selection_ranked i) 0 (selections_of_contest contest)) 0 (objects family.Contest t)
 
 with_keys : (a b : Bool) → a ≡ true → (not a || b) ≡ true → b ≡ true
 with_keys true b is h = h
@@ -58,8 +58,8 @@ canonical_ids t h =
           (passed_at (is_ranked f) (objects f t) i o (with_keys (has_keys f) _ keyed (passed (are_ranked t) families f parts.0 (is_family f))) at);
       selections = λ i j contest o contest_at at.
           equal_texts (id_of o.value) (Some (canonical_selection_id i j))
-          (passed_at (is_selection_ranked i) (selections_of contest) j o
-          (passed_at (λ i contest. all_from (is_selection_ranked i) 0 (selections_of contest)) (objects family.Contest t) i contest parts.1 contest_at) at);
+          (passed_at (is_selection_ranked i) (selections_of_contest contest) j o
+          (passed_at (λ i contest. all_from (is_selection_ranked i) 0 (selections_of_contest contest)) (objects family.Contest t) i contest parts.1 contest_at) at);
     }
 
 pub ids_of_one_unit : HasCanonicalIds (tree_of one_unit_canonical)

@@ -24,8 +24,8 @@ use Rattle.erd_check.proofs.ObjectsAt.{ObjectAt, election_class, object_at}
 use Rattle.erd_check.proofs.Shapes.{Within, faultless, wanted_within}
 use Rattle.erd_check.proofs.Whole.{not_true}
 use Rattle.erd_check.proofs.Lists.{list_of_items-items_of}
-use Rattle.erd_meaning.proofs.Phases.{no_shape_fault}
-use Rattle.erd_meaning.proofs.Skeleton.{Skeleton, skeleton_of_shape}
+use Rattle.erd_meaning.proofs.accepted.Phases.{no_shape_fault}
+use Rattle.erd_meaning.proofs.accepted.Skeleton.{Skeleton, skeleton_of_shape}
 use Rattle.erd_meaning.specs.Accepted.{IsAccepted}
 use Rattle.erd_normal.specs.code.NormalTree.{array_of, normal_election, normal_election_value, normal_objects, normal_report_value, normal_tree, normal_value}
 use Rattle.erd_normal.proofs.BuiltFrom.{BuildsClean, IsFilled, clean_built, is_kept, member_of_builder, normal_value-kept, required_is}

@@ -26,7 +26,7 @@ use Rattle.erd_check.specs.Faults.{is_empty_array}
 use Rattle.erd_check.proofs.Whole.{no_strange, no_unknown}
 use Rattle.erd_check.proofs.Exact.{text_exact}
 use Rattle.erd_check.proofs.TableKinds.{kind_of_unlisted_has}
-use Rattle.erd_meaning.specs.declared.key.Key.{Key}
+use Rattle.erd_meaning.specs.declared.keys.key.Key.{Key}
 use Rattle.erd_meaning.specs.Meaning.{JsonMap, Content, Node, a_contest, a_header, no_content}
 use Rattle.erd_meaning.specs.Records.{content_inside, content_of, contest_node, header_node, if_carried, node_of, nodes_of}
 use Rattle.erd_meaning.specs.Accepted.{IsAccepted}
@@ -34,9 +34,9 @@ use Rattle.erd_meaning.specs.LaterFaults.{is_selection_in}
 use Rattle.erd_meaning.specs.NameParts.{NameParts}
 use Rattle.erd_meaning.specs.SelectionNames.{key_named, name_named}
 use Rattle.erd_meaning.specs.Keys.{has_keys}
-use Rattle.erd_meaning.proofs.References.{owned, selected}
+use Rattle.erd_meaning.proofs.accepted.References.{owned, selected}
 use Rattle.erd_meaning.specs.Objects.{owner}
-use Rattle.erd_meaning.proofs.Phases.{no_shape_fault}
+use Rattle.erd_meaning.proofs.accepted.Phases.{no_shape_fault}
 use Rattle.erd_normal.specs.Canonical.{IsCanonical}
 use Rattle.erd_normal.proofs.Arrays.{Names, texts_same}
 

@@ -10,10 +10,10 @@ use Rattle.erd_check.specs.Trees.{IsTree}
 use Rattle.erd_check.proofs.Rising.{Has}
 use Rattle.erd_meaning.specs.Accepted.{IsAccepted}
 use Rattle.erd_meaning.specs.LaterFaults.{IsBefore, is_selection_in}
-use Rattle.erd_meaning.specs.Objects.{Placed, contests, has_id, id_of, objects, owner, placed_from, selections_of}
+use Rattle.erd_meaning.specs.Objects.{Placed, contests, has_id, id_of, objects, owner, placed_from, selections_of_contest}
 use Rattle.erd_meaning.specs.SelectionNames.{name_named}
-use Rattle.erd_meaning.proofs.Sets.{any-has, has-any}
-use Rattle.erd_meaning.proofs.Standing.{flat-has, has_id-Some, has_id-from, one_object, one_placed, owned_by}
+use Rattle.erd_meaning.proofs.orders.Sets.{any-has, has-any}
+use Rattle.erd_meaning.proofs.accepted.Standing.{flat-has, has_id-Some, has_id-from, one_object, one_placed, owned_by}
 use Rattle.erd_normal.specs.code.NormalTree.{id_of_selection, normal_object, normal_selection_reference, normal_tree}
 use Rattle.erd_check.specs.Values.{text_of}
 use Rattle.erd_normal.specs.code.Tables.{IsBounded}
@@ -49,16 +49,16 @@ first_same (x ∷ xs) (y ∷ ys) a b e =
     ap₂ (λ z zs. z ∷ zs) head (first_same xs ys a b rest)
 
 -- the place of a selection's contest
-contest_place : (c o : Placed) → Has (selections_of c) o → (k : ℕ) × (o.place ≡ (c.place ++ Name (codes "ContestSelection") ∷ []) ++ At k ∷ [])
+contest_place : (c o : Placed) → Has (selections_of_contest c) o → (k : ℕ) × (o.place ≡ (c.place ++ Name (codes "ContestSelection") ∷ []) ++ At k ∷ [])
 contest_place c o h =
-    let i = position_of (selections_of c) o h in
+    let i = position_of (selections_of_contest c) o h in
     placed_at (c.place ++ Name (codes "ContestSelection") ∷ []) 0 (selection_values c) i.0 o i.1
 
 -- ---- contests
 
 module _ (t : Data) (accepted : IsAccepted t) where
   -- two contests that have one selection are one
-  pub one_contest : (c d o : Placed) → Has (objects family.Contest t) c → Has (objects family.Contest t) d → Has (selections_of c) o → Has (selections_of d) o → c ≡ d
+  pub one_contest : (c d o : Placed) → Has (objects family.Contest t) c → Has (objects family.Contest t) d → Has (selections_of_contest c) o → Has (selections_of_contest d) o → c ≡ d
   one_contest c d o in_c in_d of_c of_d =
       let k = contest_place c o of_c in
       let l = contest_place d o of_d in
@@ -73,23 +73,23 @@ module _ (t : Data) (accepted : IsAccepted t) where
       before_same c d same before = ap (place_cmp c.place) same ∙ before
 
   -- the selection of a contest that has an `@id`
-  pub selection_with_id : (contest : Placed) (id : List ℕ) → is_selection_in contest.value id ≡ true → (o : Placed) × Has (selections_of contest) o × (id_of o.value ≡ Some id)
+  pub selection_with_id : (contest : Placed) (id : List ℕ) → is_selection_in contest.value id ≡ true → (o : Placed) × Has (selections_of_contest contest) o × (id_of o.value ≡ Some id)
   selection_with_id contest id is =
       let d = has-any (has_id id) (selection_values contest) is in
-      let o = map_has (λ (x : Placed). x.value) (selections_of contest) d.0 (subst (λ xs. Has xs d.0) (sym (listed contest)) d.1) in
+      let o = map_has (λ (x : Placed). x.value) (selections_of_contest contest) d.0 (subst (λ xs. Has xs d.0) (sym (listed contest)) d.1) in
       (o.0, o.1, ap id_of o.2 ∙ has_id-Some id d.0 d.2)
 
   module _ (tree : IsTree t) (bounded : IsBounded t) where
     -- what is built of a selection is a selection of what is built of its contest
-    pub selection_in_built : (contest o : Placed) → Has (objects family.Contest t) contest → Has (selections_of contest) o
+    pub selection_in_built : (contest o : Placed) → Has (objects family.Contest t) contest → Has (selections_of_contest contest) o
         → is_selection_in (normal_object t family.Contest contest.value) (id_of_selection t contest.value o.value) ≡ true
     selection_in_built contest o of_report of_contest =
         let id : List ℕ = id_of_selection t contest.value o.value in
         let p = built_stands t accepted tree family.Contest refl contest of_report in
         let q = selection_stands t accepted tree contest p.0 of_report (sym p.2) o of_contest in
-        let k : IsClassed family.Selection o.value = object_classed t accepted tree family.Selection o (flat-has selections_of (contests t) contest o of_report of_contest) in
+        let k : IsClassed family.Selection o.value = object_classed t accepted tree family.Selection o (flat-has selections_of_contest (contests t) contest o of_report of_contest) in
         let own : id_of q.0.value ≡ Some id = ap id_of q.2 ∙ id_of_built_selection t contest.value k.0 o.value k.2 k.1 in
-        let there : Has (selection_values p.0) q.0.value = subst (λ xs. Has xs q.0.value) (listed p.0) (has_mapped (λ (x : Placed). x.value) (selections_of p.0) q.0 q.1) in
+        let there : Has (selection_values p.0) q.0.value = subst (λ xs. Has xs q.0.value) (listed p.0) (has_mapped (λ (x : Placed). x.value) (selections_of_contest p.0) q.0 q.1) in
         subst (λ x. is_selection_in x id ≡ true) p.2 (any-has (has_id id) (selection_values p.0) q.0.value there (has_id-from id q.0.value own))
 
     -- and so for references
@@ -100,9 +100,9 @@ module _ (t : Data) (accepted : IsAccepted t) where
         let o = selection_with_id contest (text_of r) is in
         let own : id_of s.selection.value ≡ Some (text_of r) = ap id_of s.value ∙ (owned_by t family.Selection (text_of r) d owned).3 in
         let one : o.0 ≡ s.selection =
-        one_object t accepted family.Selection family.Selection o.0 s.selection (text_of r) (flat-has selections_of (contests t) contest o.0 of_report o.1)
-        (flat-has selections_of (contests t) s.contest s.selection s.of_report s.of_contest) o.2 own in
-        let here : contest ≡ s.contest = one_contest contest s.contest s.selection of_report s.of_report (subst (Has (selections_of contest)) one o.1) s.of_contest in
+        one_object t accepted family.Selection family.Selection o.0 s.selection (text_of r) (flat-has selections_of_contest (contests t) contest o.0 of_report o.1)
+        (flat-has selections_of_contest (contests t) s.contest s.selection s.of_report s.of_contest) o.2 own in
+        let here : contest ≡ s.contest = one_contest contest s.contest s.selection of_report s.of_report (subst (Has (selections_of_contest contest)) one o.1) s.of_contest in
         ap (λ x. is_selection_in (normal_object t family.Contest x.value) (text_of (normal_selection_reference t r))) here
         ∙ ap (is_selection_in (normal_object t family.Contest s.contest.value)) (text_built t accepted tree bounded r d owned)
         ∙ selection_in_built s.contest s.selection s.of_report s.of_contest

@@ -11,18 +11,18 @@ use Rattle.erd_tables.specs.declared.place.Step.{Step}
 use Rattle.erd_tables.specs.declared.place.Step.TheVariants.{At}
 use Rattle.erd_check.proofs.Rising.{Has}
 use Rattle.erd_meaning.specs.Accepted.{IsAccepted}
-use Rattle.erd_meaning.specs.Keys.{has_keys, key_cmp, key_of, kept_key}
+use Rattle.erd_meaning.specs.Keys.{has_keys, key_cmp, key_of, key_of_family_object}
 use Rattle.erd_check.specs.Values.{entries_at}
 use Rattle.erd_meaning.specs.Lookups.{key_in}
 use Rattle.erd_meaning.specs.NameParts.{NameParts}
-use Rattle.erd_meaning.specs.Objects.{Placed, contests, objects, placed_from, selections_of}
-use Rattle.erd_meaning.specs.Orders.{key_cmp_exact, name_cmp_exact}
+use Rattle.erd_meaning.specs.Objects.{Placed, contests, objects, placed_from, selections_of_contest}
+use Rattle.erd_meaning.specs.code.Orders.{key_cmp_exact, name_cmp_exact}
 use Rattle.erd_meaning.specs.SelectionNames.{name_cmp, name_of}
-use Rattle.erd_meaning.specs.declared.key.Key.{Key}
-use Rattle.erd_meaning.proofs.OneObject.{in_at, one_key}
-use Rattle.erd_meaning.proofs.Phases.{no_identity_fault}
-use Rattle.erd_meaning.proofs.References.{has_identifier}
-use Rattle.erd_meaning.proofs.Standing.{flat-has, one_named, stands}
+use Rattle.erd_meaning.specs.declared.keys.key.Key.{Key}
+use Rattle.erd_meaning.proofs.finding.OneObject.{in_at, one_key}
+use Rattle.erd_meaning.proofs.accepted.Phases.{no_identity_fault}
+use Rattle.erd_meaning.proofs.accepted.References.{has_identifier}
+use Rattle.erd_meaning.proofs.accepted.Standing.{flat-has, one_named, stands}
 use Rattle.erd_normal.specs.code.NormalTree.{by_key, by_name}
 use Rattle.erd_normal.proofs.DistinctEntries.{distinct_from_one_place, distinct_map}
 use Rattle.erd_normal.proofs.RisingSets.{has_from_In}
@@ -31,7 +31,7 @@ use Rattle.erd_normal.proofs.Selections.{has_name}
 -- ---- objects by their keys
 
 key_at : (t : Data) (f : Family) (i : ℕ) (o : Placed) (k : Key) → has_keys f ≡ true → slice_get (objects f t) i ≡ Some o → key_of o.value ≡ Some k → key_in f t i ≡ Some k
-key_at t f i o k keyed a e = ap (option_and_then (λ (o : Placed). kept_key f o.value)) a ∙ ap (λ b. cond b (key_of o.value) None) keyed ∙ e
+key_at t f i o k keyed a e = ap (option_and_then (λ (o : Placed). key_of_family_object f o.value)) a ∙ ap (λ b. cond b (key_of o.value) None) keyed ∙ e
 
 pub objects_distinct : (t : Data) → IsAccepted t → (f : Family) → has_keys f ≡ true → IsDistinct (λ o p. eq_by_cmp by_key o.value p.value) (objects f t)
 objects_distinct t accepted f keyed = distinct_from_one_place (λ o p. eq_by_cmp by_key o.value p.value) (objects f t) (λ i j o p a b e.
@@ -68,20 +68,20 @@ one_place p ds i j o q a b e =
     let h : 0 + i ≡ 0 + j = one_index p (0 + i) (0 + j) (sym (placed_at p 0 ds i o a) ∙ ap (λ x. x.place) e ∙ placed_at p 0 ds j q b) in
     omega arith
 
-pub selections_distinct : (t : Data) → IsAccepted t → (contest : Placed) → Has (objects family.Contest t) contest → IsDistinct (λ o p. eq_by_cmp (by_name t) o.value p.value) (selections_of contest)
-selections_distinct t accepted contest c = distinct_from_one_place (λ o p. eq_by_cmp (by_name t) o.value p.value) (selections_of contest) (λ i j o p a b e.
-    let h = has_from_In o (selections_of contest) (in_at (selections_of contest) i o a) in
-    let k = has_from_In p (selections_of contest) (in_at (selections_of contest) j p b) in
+pub selections_distinct : (t : Data) → IsAccepted t → (contest : Placed) → Has (objects family.Contest t) contest → IsDistinct (λ o p. eq_by_cmp (by_name t) o.value p.value) (selections_of_contest contest)
+selections_distinct t accepted contest c = distinct_from_one_place (λ o p. eq_by_cmp (by_name t) o.value p.value) (selections_of_contest contest) (λ i j o p a b e.
+    let h = has_from_In o (selections_of_contest contest) (in_at (selections_of_contest contest) i o a) in
+    let k = has_from_In p (selections_of_contest contest) (in_at (selections_of_contest contest) j p b) in
     let m = named o h in
     let n = named p k in
     let same : m.0 ≡ n.0 = name_cmp_exact m.0 n.0 ((Equal-is (name_cmp m.0 n.0)).0 (sym (ap₂ (λ x y. is_eq (option_cmp name_cmp x y)) m.1 n.1) ∙ e)) in
     one_place _ (entries_at (codes "ContestSelection") contest.value) i j o p a b (one_named t accepted contest o p m.0 c h k m.1 (n.1 ∙ ap Some (sym same))))
   where
-    named : (o : Placed) → Has (selections_of contest) o → (n : NameParts) × (name_of t o.value ≡ Some n)
-    named o h = has_name t accepted o.value (record { place = o.place; is = stands t accepted family.Selection o (flat-has selections_of (contests t) contest o c h) })
+    named : (o : Placed) → Has (selections_of_contest contest) o → (n : NameParts) × (name_of t o.value ≡ Some n)
+    named o h = has_name t accepted o.value (record { place = o.place; is = stands t accepted family.Selection o (flat-has selections_of_contest (contests t) contest o c h) })
 
 -- the values of a contest's selections
 pub selection_values_distinct : (t : Data) → IsAccepted t → (contest : Placed) → Has (objects family.Contest t) contest → IsDistinct (eq_by_cmp (by_name t)) (entries_at (codes "ContestSelection") contest.value)
 selection_values_distinct t accepted contest c =
     subst (IsDistinct (eq_by_cmp (by_name t))) (values_placed _ 0 (entries_at (codes "ContestSelection") contest.value))
-    (distinct_map (λ o. o.value) (eq_by_cmp (by_name t)) (selections_of contest) (selections_distinct t accepted contest c))
+    (distinct_map (λ o. o.value) (eq_by_cmp (by_name t)) (selections_of_contest contest) (selections_distinct t accepted contest c))

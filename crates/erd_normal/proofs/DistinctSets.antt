@@ -31,11 +31,11 @@ use Rattle.erd_meaning.specs.Accepted.{IsAccepted}
 use Rattle.erd_meaning.specs.Keys.{has_keys, key_cmp, key_of}
 use Rattle.erd_meaning.specs.LaterFaults.{is_reference_fault}
 use Rattle.erd_meaning.specs.Objects.{id_of, owner}
-use Rattle.erd_meaning.specs.Orders.{key_cmp_exact}
+use Rattle.erd_meaning.specs.code.Orders.{key_cmp_exact}
 use Rattle.erd_meaning.specs.SelectionNames.{compact_cmp, key_named}
-use Rattle.erd_meaning.proofs.Phases.{no_reference_fault, no_shape_fault}
-use Rattle.erd_meaning.proofs.References.{resolves}
-use Rattle.erd_meaning.proofs.Standing.{one_keyed, owned_by}
+use Rattle.erd_meaning.proofs.accepted.Phases.{no_reference_fault, no_shape_fault}
+use Rattle.erd_meaning.proofs.accepted.References.{resolves}
+use Rattle.erd_meaning.proofs.accepted.Standing.{one_keyed, owned_by}
 use Rattle.erd_normal.specs.code.NormalTree.{reference_cmp}
 use Rattle.erd_normal.proofs.Arrays.{Names}
 use Rattle.erd_normal.proofs.DistinctEntries.{unrepeated_by_cmp}

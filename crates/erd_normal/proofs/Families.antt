@@ -8,16 +8,16 @@ use Rattle.erd_tables.specs.declared.class.Family.TheVariants as family
 use Rattle.erd_tables.specs.declared.class.Role.TheVariants as role
 use Rattle.erd_check.proofs.Rising.{Has}
 use Rattle.erd_check.proofs.Entries.{entries_in}
-use Rattle.erd_meaning.specs.declared.key.Key.{Key}
+use Rattle.erd_meaning.specs.declared.keys.key.Key.{Key}
 use Rattle.erd_meaning.specs.Objects.{Placed, objects}
 use Rattle.erd_meaning.specs.Meaning.{ObjectRecord}
 use Rattle.erd_meaning.specs.Records.{meaning, member_of_class, object_with_key, records_of, object_record}
-use Rattle.erd_meaning.proofs.Skeleton.{Skeleton, skeleton}
-use Rattle.erd_meaning.proofs.References.{find-Some, has_identifier}
-use Rattle.erd_meaning.proofs.Standing.{stands}
+use Rattle.erd_meaning.proofs.accepted.Skeleton.{Skeleton, skeleton}
+use Rattle.erd_meaning.proofs.accepted.References.{find-Some, has_identifier}
+use Rattle.erd_meaning.proofs.accepted.Standing.{stands}
 use Rattle.erd_meaning.specs.Accepted.{IsAccepted}
 use Rattle.erd_meaning.specs.Keys.{key_cmp, key_of, has_keys}
-use Rattle.erd_meaning.specs.Orders.{key_cmp_exact, key_cmp_total}
+use Rattle.erd_meaning.specs.code.Orders.{key_cmp_exact, key_cmp_total}
 use Rattle.erd_normal.specs.Canonical.{IsCanonical}
 use Rattle.erd_normal.proofs.Paired.{Keys, Paired, all_keys, has_key, keys_rise, paired}
 use Rattle.erd_normal.proofs.Records.{class_within, map_from_found, record_with-Some}

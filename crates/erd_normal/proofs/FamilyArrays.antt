@@ -22,10 +22,10 @@ use Rattle.erd_check.proofs.Shapes.{Within, Within-step}
 use Rattle.erd_check.specs.Wants.{asked}
 use Rattle.erd_check.proofs.Entries.{entries_in, list_of_items-place, list_of_items_exact}
 use Rattle.erd_check.specs.Values.{list_of_items, entries_at}
-use Rattle.erd_meaning.proofs.Skeleton.{Skeleton, election_objects, the_election, values-placed_entries}
+use Rattle.erd_meaning.proofs.accepted.Skeleton.{Skeleton, election_objects, the_election, values-placed_entries}
 use Rattle.erd_meaning.specs.Objects.{elections, objects, placed_entries, report_of}
 use Rattle.erd_meaning.specs.Keys.{key_cmp, key_of, has_keys}
-use Rattle.erd_meaning.proofs.Phases.{no_shape_fault}
+use Rattle.erd_meaning.proofs.accepted.Phases.{no_shape_fault}
 use Rattle.erd_normal.proofs.Contents.{Filled, absent, filled}
 use Rattle.erd_normal.specs.Canonical.{IsCanonical, RisesAs}
 

@@ -18,7 +18,7 @@ use Rattle.erd_check.specs.Values.{entries_of}
 use Rattle.erd_check.proofs.Entries.{entries_in}
 use Rattle.erd_check.proofs.Exact.{text_exact}
 use Rattle.erd_check.proofs.TableKinds.{kind_of_id, kind_of_name}
-use Rattle.erd_meaning.proofs.Skeleton.{Skeleton}
+use Rattle.erd_meaning.proofs.accepted.Skeleton.{Skeleton}
 use Rattle.erd_meaning.specs.Objects.{objects}
 use Rattle.erd_normal.proofs.AskedMembers.{kind_of_type}
 use Rattle.erd_normal.proofs.FamilyArrays.{values_of}

@@ -7,15 +7,15 @@ use Rattle.std.specs.Option.{option_cmp}
 use Rattle.std.specs.Ordering.{eq_by_cmp}
 use Rattle.serde_json.specs.Data.{Data}
 use Rattle.erd_check.proofs.Order.{In}
-use Rattle.erd_meaning.proofs.OneObject.{in_at, one_key}
-use Rattle.erd_meaning.proofs.Phases.{no_identity_fault}
-use Rattle.erd_meaning.proofs.References.{has_identifier}
+use Rattle.erd_meaning.proofs.finding.OneObject.{in_at, one_key}
+use Rattle.erd_meaning.proofs.accepted.Phases.{no_identity_fault}
+use Rattle.erd_meaning.proofs.accepted.References.{has_identifier}
 use Rattle.erd_meaning.specs.Accepted.{IsAccepted}
-use Rattle.erd_meaning.specs.Keys.{has_keys, key_cmp, key_of, kept_key}
+use Rattle.erd_meaning.specs.Keys.{has_keys, key_cmp, key_of, key_of_family_object}
 use Rattle.erd_meaning.specs.Objects.{objects, Placed}
-use Rattle.erd_meaning.specs.Orders.{key_cmp_total}
+use Rattle.erd_meaning.specs.code.Orders.{key_cmp_total}
 use Rattle.erd_meaning.specs.SelectionNames.{rising_list}
-use Rattle.erd_meaning.specs.declared.key.Key.{Key}
+use Rattle.erd_meaning.specs.declared.keys.key.Key.{Key}
 use Rattle.erd_tables.specs.declared.class.Family.{Family}
 use Rattle.erd_normal.proofs.DistinctEntries.{distinct_by_cmp, place_of}
 use Rattle.erd_normal.proofs.Numbered.{number_of}
@@ -77,8 +77,8 @@ module _ (t : Data) (accepted : IsAccepted t) (f : Family) (keyed : has_keys f �
       let same : Some p ≡ Some q = sym x.1 ∙ (ap (slice_get (key_positions 0 (objects f t))) (sym here ∙ (e ∙ there)) ∙ y.1) in
       cc
 
-  key_at : (i : ℕ) (o : Placed) (k : Key) → slice_get (objects f t) i ≡ Some o → key_of o.value ≡ Some k → option_and_then (λ x. kept_key f x.value) (slice_get (objects f t) i) ≡ Some k
-  key_at i o k at is = ap (option_and_then (λ x. kept_key f x.value)) at ∙ (ap (λ b. if b then key_of o.value else None) keyed ∙ is)
+  key_at : (i : ℕ) (o : Placed) (k : Key) → slice_get (objects f t) i ≡ Some o → key_of o.value ≡ Some k → option_and_then (λ x. key_of_family_object f x.value) (slice_get (objects f t) i) ≡ Some k
+  key_at i o k at is = ap (option_and_then (λ x. key_of_family_object f x.value)) at ∙ (ap (λ b. if b then key_of o.value else None) keyed ∙ is)
 
   apart : IsDistinct (eq_by_cmp by_key_first) (key_positions 0 (objects f t))
   apart = distinct_by_cmp by_key_first (key_positions 0 (objects f t)) (λ i j p q a b e.

@@ -5,8 +5,8 @@ use Rattle.std.specs.Option.{option_map_or, option_or}
 use Rattle.serde_json.specs.Data.{Data}
 use Rattle.erd_tables.specs.declared.class.Family.TheVariants as family
 use Rattle.erd_check.proofs.Rising.{Has}
-use Rattle.erd_meaning.specs.Objects.{Placed, contests, has_id, objects, owner, selections_of}
-use Rattle.erd_meaning.proofs.References.{find-Some, option_map-Some}
+use Rattle.erd_meaning.specs.Objects.{Placed, contests, has_id, objects, owner, selections_of_contest}
+use Rattle.erd_meaning.proofs.accepted.References.{find-Some, option_map-Some}
 use Rattle.erd_normal.specs.code.NormalTree.{contest_with, selection_with}
 
 module _ {A B : Type 0} (test : B → Bool) (f : A → List B) where
@@ -32,18 +32,18 @@ pub record FoundSelection (t : Data) (id : List ℕ) (d : Data) : Type 0 where
   pub selection_is : selection_with id contest ≡ Some selection
   pub value : selection.value ≡ d
   pub of_report : Has (objects family.Contest t) contest
-  pub of_contest : Has (selections_of contest) selection
+  pub of_contest : Has (selections_of_contest contest) selection
 
 pub owner_found : (t : Data) (id : List ℕ) (d : Data) → owner t family.Selection id ≡ Some d → FoundSelection t id d
 owner_found t id d e =
     let o = option_map-Some (λ (o : Placed). o.value) (find (λ o. has_id id o.value) (objects family.Selection t)) d e in
-    let x = found_in (λ (o : Placed). has_id id o.value) selections_of (contests t) o.0 o.1 in
+    let x = found_in (λ (o : Placed). has_id id o.value) selections_of_contest (contests t) o.0 o.1 in
     record {
       contest = x.0;
       selection = o.0;
       contest_is = x.1;
       selection_is = x.2;
       value = o.2;
-      of_report = (find-Some (has_one (λ (o : Placed). has_id id o.value) selections_of) (contests t) x.0 x.1).0;
-      of_contest = (find-Some (λ (o : Placed). has_id id o.value) (selections_of x.0) o.0 x.2).0;
+      of_report = (find-Some (has_one (λ (o : Placed). has_id id o.value) selections_of_contest) (contests t) x.0 x.1).0;
+      of_contest = (find-Some (λ (o : Placed). has_id id o.value) (selections_of_contest x.0) o.0 x.2).0;
     }

@@ -6,7 +6,7 @@ use Rattle.std.specs.Cmp.{IsTotalOrder}
 use Rattle.std.specs.List.{AllByRecursion, IsDistinct}
 use Rattle.std.specs.Ordering.{eq_by_cmp}
 use Rattle.erd_check.proofs.Order.{In}
-use Rattle.erd_meaning.proofs.OneObject.{in_at}
+use Rattle.erd_meaning.proofs.finding.OneObject.{in_at}
 use Rattle.erd_meaning.specs.SelectionNames.{rising_list}
 use Rattle.erd_normal.proofs.Numbered.{number_of}
 use Rattle.erd_normal.proofs.RisingSets.{length-rising}

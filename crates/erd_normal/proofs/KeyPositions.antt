@@ -4,7 +4,7 @@ use Rattle.std.specs.List.{slice_get}
 use Rattle.serde_json.specs.Data.{Data}
 use Rattle.erd_meaning.specs.Keys.{key_of}
 use Rattle.erd_meaning.specs.Objects.{Placed}
-use Rattle.erd_meaning.specs.declared.key.Key.{Key}
+use Rattle.erd_meaning.specs.declared.keys.key.Key.{Key}
 use Rattle.erd_normal.specs.code.Building.{key_positions}
 
 some_left : (os : List Placed) (n i : ℕ) (v : Data) → Some v ≡ option_map (λ o. o.value) (slice_get os i)

@@ -20,7 +20,7 @@ use Rattle.erd_check.proofs.Entries.{array_from}
 use Rattle.erd_check.proofs.Exact.{text_exact}
 use Rattle.erd_meaning.specs.Meaning.{JsonMap, Label, translated, untranslated}
 use Rattle.erd_meaning.specs.Records.{json_set, label_of}
-use Rattle.erd_meaning.proofs.Phases.{no_shape_fault}
+use Rattle.erd_meaning.proofs.accepted.Phases.{no_shape_fault}
 use Rattle.erd_normal.specs.Canonical.{IsCanonical}
 use Rattle.erd_normal.proofs.Arrays.{json_set_same}
 

@@ -16,9 +16,9 @@ use Rattle.erd_check.specs.Trees.{IsTree}
 use Rattle.erd_check.specs.Wants.{class_of_object}
 use Rattle.erd_meaning.specs.Keys.{key_cmp, key_of, least_key, least_key_of, lesser_key, triple_of}
 use Rattle.erd_check.specs.Values.{entries_at}
-use Rattle.erd_meaning.specs.Orders.{key_cmp_exact, key_cmp_total}
+use Rattle.erd_meaning.specs.code.Orders.{key_cmp_exact, key_cmp_total}
 use Rattle.erd_meaning.specs.SelectionNames.{compact_cmp, rising_list, selection_role, with_inserted}
-use Rattle.erd_meaning.specs.declared.key.Key.{Key}
+use Rattle.erd_meaning.specs.declared.keys.key.Key.{Key}
 use Rattle.erd_normal.specs.code.NormalTree.{normal_object, normal_selection}
 use Rattle.erd_normal.proofs.NormalEntries.{entries_of_identifiers, selection_identifiers}
 use Rattle.erd_normal.proofs.NormalGets.{class_has_role}

@@ -8,11 +8,11 @@ use Rattle.erd_tables.specs.declared.class.Family.{Family}
 use Rattle.erd_tables.specs.declared.class.Family.TheVariants as family
 use Rattle.erd_tables.specs.declared.class.Role.TheVariants as role
 use Rattle.erd_check.proofs.Reports.{tree_of, one_unit}
-use Rattle.erd_meaning.proofs.RecordExamples.{local_key}
-use Rattle.erd_meaning.proofs.WholeMeanings.{same_object, same_at_every_key, no_record, same_meaning}
+use Rattle.erd_meaning.proofs.examples.RecordExamples.{local_key}
+use Rattle.erd_meaning.proofs.meanings.WholeMeanings.{same_object, same_at_every_key, no_record, same_meaning}
 use Rattle.erd_meaning.specs.Objects.{objects, elections}
 use Rattle.erd_meaning.specs.Records.{object_record, records_of, meaning}
-use Rattle.erd_meaning.specs.declared.key.Key.{Key}
+use Rattle.erd_meaning.specs.declared.keys.key.Key.{Key}
 
 -- the canonical form of the report of one unit
 abbrev pub one_unit_canonical : List ℕ

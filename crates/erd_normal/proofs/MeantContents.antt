@@ -25,13 +25,13 @@ use Rattle.erd_check.proofs.Entries.{entries_in, string_from_text}
 use Rattle.erd_check.proofs.ObjectsAt.{ObjectIn, object_in}
 use Rattle.erd_check.proofs.Shapes.{Within, lacks_none, member_within, of_role, wanted_within, within-tree}
 use Rattle.erd_meaning.specs.Accepted.{IsAccepted}
-use Rattle.erd_meaning.specs.declared.key.Key.{Key}
+use Rattle.erd_meaning.specs.declared.keys.key.Key.{Key}
 use Rattle.erd_meaning.specs.Meaning.{Content, JsonMap, a_contest, a_content, a_header, first_node, no_content}
 use Rattle.erd_meaning.specs.NameParts.{NameParts}
 use Rattle.erd_meaning.specs.Objects.{objects}
 use Rattle.erd_meaning.specs.Records.{carried_members, class_of_node, contest_node, content_inside, content_of, header_node, if_carried, node_of, nodes_of, plain_value}
 use Rattle.erd_meaning.specs.SelectionNames.{key_named, name_named}
-use Rattle.erd_meaning.proofs.Phases.{no_shape_fault}
+use Rattle.erd_meaning.proofs.accepted.Phases.{no_shape_fault}
 use Rattle.erd_normal.specs.code.NormalTree.{normal_content, normal_node, normal_node_members, normal_node_value, normal_nodes, normal_reference, normal_selection_reference, normal_tree, unless_no_entry}
 use Rattle.erd_normal.proofs.AskedMembers.{all_items, entry_asked}
 use Rattle.erd_normal.proofs.MeantValues.{filled_array, is_referred, reference_meant}

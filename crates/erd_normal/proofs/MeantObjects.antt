@@ -32,12 +32,12 @@ use Rattle.erd_meaning.specs.Accepted.{IsAccepted}
 use Rattle.erd_meaning.specs.Meaning.{PlainValue, Record, a_plain, a_selection_map}
 use Rattle.erd_meaning.specs.NameParts.{NameParts}
 use Rattle.erd_meaning.specs.Objects.{Placed, objects}
-use Rattle.erd_meaning.specs.Orders.{name_cmp_total}
+use Rattle.erd_meaning.specs.code.Orders.{name_cmp_total}
 use Rattle.erd_meaning.specs.Records.{is_in_envelope, member_of_class, member_value, object_record, plain_member, plain_value, record_with, selection_map, selection_record, unless_empty}
 use Rattle.erd_meaning.specs.SelectionNames.{name_cmp, name_named, name_of, rising_list, selection_role}
-use Rattle.erd_meaning.proofs.EqualNames.{equal_names, options_exact}
-use Rattle.erd_meaning.proofs.Phases.{no_shape_fault}
-use Rattle.erd_meaning.proofs.Standing.{stands}
+use Rattle.erd_meaning.proofs.orders.EqualNames.{equal_names, options_exact}
+use Rattle.erd_meaning.proofs.accepted.Phases.{no_shape_fault}
+use Rattle.erd_meaning.proofs.accepted.Standing.{stands}
 use Rattle.erd_normal.specs.code.NormalTree.{array_of, by_name, normal_object, normal_object_value, normal_selection, normal_selection_reference, normal_tree, normal_value, unless_no_entry}
 use Rattle.erd_normal.proofs.AskedMembers.{AskedAs, asked_as, entries_asked}
 use Rattle.erd_normal.proofs.FoundBuilt.{IsKept, found_in_order}

@@ -25,12 +25,12 @@ use Rattle.erd_check.proofs.Shapes.{within-tree}
 use Rattle.erd_meaning.specs.Keys.{has_keys, key_cmp, key_of}
 use Rattle.erd_meaning.specs.Meaning.{Meaning, ObjectRecord}
 use Rattle.erd_meaning.specs.Objects.{Placed, elections, objects}
-use Rattle.erd_meaning.specs.Orders.{key_cmp_total}
+use Rattle.erd_meaning.specs.code.Orders.{key_cmp_total}
 use Rattle.erd_meaning.specs.Records.{meaning, member_of_class, object_record, object_with_key, plain_member, plain_value, records_of}
-use Rattle.erd_meaning.specs.declared.key.Key.{Key}
-use Rattle.erd_meaning.proofs.EqualNames.{equal_keys, options_exact}
-use Rattle.erd_meaning.proofs.Phases.{no_shape_fault}
-use Rattle.erd_meaning.proofs.Skeleton.{Skeleton, elections_are, skeleton_of_shape}
+use Rattle.erd_meaning.specs.declared.keys.key.Key.{Key}
+use Rattle.erd_meaning.proofs.orders.EqualNames.{equal_keys, options_exact}
+use Rattle.erd_meaning.proofs.accepted.Phases.{no_shape_fault}
+use Rattle.erd_meaning.proofs.accepted.Skeleton.{Skeleton, elections_are, skeleton_of_shape}
 use Rattle.erd_normal.specs.code.NormalTree.{by_key, normal_election, normal_election_value, normal_object, normal_report_value, normal_tree, normal_value}
 use Rattle.erd_normal.proofs.AskedMembers.{AskedAs, asked_as}
 use Rattle.erd_normal.proofs.BuiltLists.{all_map}

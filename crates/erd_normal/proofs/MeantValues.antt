@@ -21,8 +21,8 @@ use Rattle.erd_meaning.specs.Meaning.{a_json_set, a_key, a_key_set, a_label}
 use Rattle.erd_meaning.specs.Objects.{objects, owner}
 use Rattle.erd_meaning.specs.Records.{json_set, key_set, plain_value, unless_empty}
 use Rattle.erd_meaning.specs.SelectionNames.{compact_cmp, key_named, keys_named, rising_list}
-use Rattle.erd_meaning.proofs.Phases.{no_shape_fault}
-use Rattle.erd_meaning.proofs.References.{resolves, unrepeated_reference}
+use Rattle.erd_meaning.proofs.accepted.Phases.{no_shape_fault}
+use Rattle.erd_meaning.proofs.accepted.References.{resolves, unrepeated_reference}
 use Rattle.erd_normal.specs.Canonical.{id_prefix}
 use Rattle.erd_normal.specs.code.NormalTree.{array_of, normal_id, normal_reference, normal_tree, normal_value, reference_cmp, unless_no_entry}
 use Rattle.erd_normal.proofs.AskedMembers.{AskedAs, all_items}

@@ -3,7 +3,7 @@ use Rattle.std.proofs.Common.{◌≡◌, List, ◌∷◌, map, refl, ap₂}
 use Rattle.serde_json.specs.Data.{Data}
 use Rattle.erd_tables.specs.declared.class.Family.{Family}
 use Rattle.erd_tables.specs.declared.class.Family.TheVariants as family
-use Rattle.erd_meaning.specs.Objects.{contests, id_of, objects, selections_of}
+use Rattle.erd_meaning.specs.Objects.{contests, id_of, objects, selections_of_contest}
 use Rattle.erd_meaning.specs.SelectionNames.{name_of}
 use Rattle.erd_normal.specs.Laws.{MeanAlike, NamesAgree, ids_in, names_in}
 use Rattle.erd_normal.proofs.Agreement.{all_selections, contest_pairs, pairs_of}
@@ -24,6 +24,6 @@ pub names_agree : NamesAgree
 names_agree t u alike = record {
   keys = λ f h. paired_map key_at key_at (objects f t) (objects f u) (pairs_of t u alike.left alike.right alike.same f h) (λ x y r. r.alike.0);
   names = paired_map (names_in t) (names_in u) (contests t) (contests u) (contest_pairs t u alike.left alike.right alike.same)
-      (λ x y r. paired_map (λ o. name_of t o.value) (λ o. name_of u o.value) (selections_of x) (selections_of y) r.selections (λ v w q. q.alike.0));
+      (λ x y r. paired_map (λ o. name_of t o.value) (λ o. name_of u o.value) (selections_of_contest x) (selections_of_contest y) r.selections (λ v w q. q.alike.0));
   ids = ids_alike t u alike;
 }

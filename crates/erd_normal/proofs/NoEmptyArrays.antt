@@ -14,7 +14,7 @@ use Rattle.erd_check.specs.declared.want.Want.{Want}
 use Rattle.erd_check.specs.declared.want.Want.TheVariants.{Member}
 use Rattle.erd_check.proofs.Shapes.{Within, faultless, not_false, unrepeated, wanted_within}
 use Rattle.erd_check.proofs.Whole.{no_strange, no_unknown}
-use Rattle.erd_meaning.proofs.Phases.{no_shape_fault}
+use Rattle.erd_meaning.proofs.accepted.Phases.{no_shape_fault}
 use Rattle.erd_meaning.specs.Accepted.{IsAccepted}
 use Rattle.erd_meaning.specs.SelectionNames.{compact_cmp, rising_list, with_rising_text}
 use Rattle.erd_normal.specs.Canonical.{HasNoEmptyArray, kind_wanted}

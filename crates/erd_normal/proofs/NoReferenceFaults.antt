@@ -25,7 +25,7 @@ use Rattle.erd_check.specs.Wants.{Asked, asked, asked_at, asked_from, asked_insi
 use Rattle.erd_meaning.specs.Accepted.{IsAccepted}
 use Rattle.erd_meaning.specs.LaterFaults.{NamesOtherContest, ReferenceFault, is_other_selection, is_reference_fault}
 use Rattle.erd_meaning.specs.Records.{class_of_node}
-use Rattle.erd_meaning.proofs.Phases.{no_shape_fault}
+use Rattle.erd_meaning.proofs.accepted.Phases.{no_shape_fault}
 use Rattle.erd_normal.specs.code.NormalTree.{normal_tree}
 use Rattle.erd_normal.specs.code.Tables.{IsBounded}
 use Rattle.erd_normal.proofs.NormalGets.{class_has_role}
@@ -168,21 +168,21 @@ elsewhere_wants u d w e h = cc
 none_elsewhere : (u : Data) → ((p : List Step) (a : Asked) → asked_at u p ≡ Some a → IsListed u a) → (p : List Step) → NamesOtherContest u p → ⊥
 none_elsewhere u listed p h =
     let steps : asked_at u (h.object_place ++ Name list_name ∷ At h.position ∷ []) ≡ Some h.entry = ap (asked_at u) (sym h.place) ∙ h.entry_stands in
-    let inside : asked_from h.contest (Name list_name ∷ At h.position ∷ []) ≡ Some h.entry =
-    ap (option_and_then (λ b. asked_from b (Name list_name ∷ At h.position ∷ []))) (sym h.contest_stands)
+    let inside : asked_from h.ordered_contest (Name list_name ∷ At h.position ∷ []) ≡ Some h.entry =
+    ap (option_and_then (λ b. asked_from b (Name list_name ∷ At h.position ∷ []))) (sym h.ordered_contest_stands)
     ∙ sym (asked_from-append (asked (Object role.Report) u) h.object_place (Name list_name ∷ At h.position ∷ [])) ∙ steps in
-    let b = then_from (λ b. asked_from b (At h.position ∷ [])) (asked_inside h.contest.want h.contest.value (Name list_name)) h.entry inside in
+    let b = then_from (λ b. asked_from b (At h.position ∷ [])) (asked_inside h.ordered_contest.want h.ordered_contest.value (Name list_name)) h.entry inside in
     let c = then_from (λ c. asked_from c []) (asked_inside b.0.want b.0.value (At h.position)) h.entry b.2 in
-    let wants : h.entry.want ≡ Reference family.Selection = elsewhere_wants u h.contest.value h.entry.want h.entry.value h.elsewhere in
+    let wants : h.entry.want ≡ Reference family.Selection = elsewhere_wants u h.ordered_contest.value h.entry.want h.entry.value h.elsewhere in
     let entry : EntryOf b.0.want b.0.value h.position h.entry = entry_of b.0.want b.0.value h.position h.entry (c.1 ∙ c.2) wants in
-    let owner : OfContest h.contest.want h.contest.value b.0 = list_owner h.contest.want h.contest.value b.0 b.1 entry.lists in
-    let all : IsListSound u h.contest.value = (listed h.object_place h.contest h.contest_stands).sound owner.content owner.among in
-    let entries : entries_at list_name h.contest.value ≡ list_of_items entry.items =
+    let owner : OfContest h.ordered_contest.want h.ordered_contest.value b.0 = list_owner h.ordered_contest.want h.ordered_contest.value b.0 b.1 entry.lists in
+    let all : IsListSound u h.ordered_contest.value = (listed h.object_place h.ordered_contest h.ordered_contest_stands).sound owner.content owner.among in
+    let entries : entries_at list_name h.ordered_contest.value ≡ list_of_items entry.items =
     ap (entries_at list_name) owner.stands.1 ∙ ap (λ o. option_map_or entries_of o []) (owner.stands.2 ∙ ap Some entry.is_array) in
-    let here : is_other_selection u h.contest.value (Reference family.Selection) h.entry.value ≡ false =
-    item_holds (λ e. is_other_selection u h.contest.value (Reference family.Selection) e ≡ false) entry.items h.position h.entry.value
-    (subst (AllByRecursion (λ e. is_other_selection u h.contest.value (Reference family.Selection) e ≡ false)) entries all) entry.found in
-    true≢false (sym h.elsewhere ∙ ap (λ w. is_other_selection u h.contest.value w h.entry.value) wants ∙ here)
+    let here : is_other_selection u h.ordered_contest.value (Reference family.Selection) h.entry.value ≡ false =
+    item_holds (λ e. is_other_selection u h.ordered_contest.value (Reference family.Selection) e ≡ false) entry.items h.position h.entry.value
+    (subst (AllByRecursion (λ e. is_other_selection u h.ordered_contest.value (Reference family.Selection) e ≡ false)) entries all) entry.found in
+    true≢false (sym h.elsewhere ∙ ap (λ w. is_other_selection u h.ordered_contest.value w h.entry.value) wants ∙ here)
 
 -- ---- the report that is built
 

@@ -3,7 +3,7 @@ use Rattle.serde_json.specs.Data.{Data}
 use Rattle.erd_check.specs.Numbers.{HasFittingNumbers}
 use Rattle.erd_check.specs.Trees.{IsTree}
 use Rattle.erd_meaning.specs.Accepted.{IsAccepted}
-use Rattle.erd_meaning.proofs.Phases.{accepted_by_phases, no_shape_fault}
+use Rattle.erd_meaning.proofs.accepted.Phases.{accepted_by_phases, no_shape_fault}
 use Rattle.erd_normal.specs.Canonical.{IsCanonical}
 use Rattle.erd_normal.specs.code.NormalTree.{normal_tree}
 use Rattle.erd_normal.specs.code.Tables.{IsBounded}

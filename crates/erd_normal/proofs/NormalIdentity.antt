@@ -13,10 +13,10 @@ use Rattle.erd_check.proofs.Rising.{Has}
 use Rattle.erd_meaning.specs.Accepted.{IsAccepted}
 use Rattle.erd_meaning.specs.Keys.{has_keys, key_of}
 use Rattle.erd_meaning.specs.LaterFaults.{IdentityFault, IsBefore, LacksIdentifier, RepeatsId, RepeatsKey}
-use Rattle.erd_meaning.specs.Objects.{Placed, contests, id_of, objects, selections_of}
+use Rattle.erd_meaning.specs.Objects.{Placed, contests, id_of, objects, selections_of_contest}
 use Rattle.erd_meaning.specs.SelectionNames.{rising_list}
-use Rattle.erd_meaning.proofs.References.{Has-Contains, has_identifier}
-use Rattle.erd_meaning.proofs.Standing.{has-flat}
+use Rattle.erd_meaning.proofs.accepted.References.{Has-Contains, has_identifier}
+use Rattle.erd_meaning.proofs.accepted.Standing.{has-flat}
 use Rattle.erd_normal.specs.code.NormalTree.{by_key, normal_tree, rank_of}
 use Rattle.erd_normal.specs.code.Tables.{IsBounded}
 use Rattle.erd_normal.proofs.CanonicalIds.{canonical_id_exact, selection_id_apart}
@@ -102,16 +102,16 @@ module _ (t : Data) (accepted : IsAccepted t) (tree : IsTree t) where
         → id_of o.value ≡ Some id → id_of p.value ≡ Some id → ⊥
     one_a_selection f o p id keyed in_o in_p e h =
         let k = position_of (objects f (normal_tree t)) o in_o in
-        let c = has-flat selections_of (contests (normal_tree t)) p in_p in
+        let c = has-flat selections_of_contest (contests (normal_tree t)) p in_p in
         let i = position_of (objects family.Contest (normal_tree t)) c.0 c.1 in
-        let j = position_of (selections_of c.0) p c.2 in
+        let j = position_of (selections_of_contest c.0) p c.2 in
         selection_id_apart f i.0 j.0 k.0 (sym (ids_by_rank t accepted tree f keyed k.0 o k.1) ∙ e ∙ sym h ∙ (has_canonical_ids t accepted tree).selections i.0 j.0 c.0 p i.1 j.1)
 
     both_selections : (o p : Placed) (id : List ℕ) → Has (objects family.Selection (normal_tree t)) o → Has (objects family.Selection (normal_tree t)) p
         → id_of o.value ≡ Some id → id_of p.value ≡ Some id → o ≡ p
     both_selections o p id in_o in_p e h =
-        let c = has-flat selections_of (contests (normal_tree t)) o in_o in
-        let d = has-flat selections_of (contests (normal_tree t)) p in_p in
+        let c = has-flat selections_of_contest (contests (normal_tree t)) o in_o in
+        let d = has-flat selections_of_contest (contests (normal_tree t)) p in_p in
         (one_selection t accepted tree bounded c.0 d.0 o p c.1 d.1 c.2 d.2 (e ∙ sym h)).1
 
     -- two objects with one `@id` are one

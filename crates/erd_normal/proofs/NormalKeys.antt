@@ -22,13 +22,13 @@ use Rattle.erd_meaning.specs.Accepted.{IsAccepted}
 use Rattle.erd_meaning.specs.Keys.{has_keys, key_cmp, key_of}
 use Rattle.erd_meaning.specs.Lookups.{key_in}
 use Rattle.erd_meaning.specs.Objects.{Placed, id_of, objects}
-use Rattle.erd_meaning.specs.Orders.{key_cmp_exact, key_cmp_total}
+use Rattle.erd_meaning.specs.code.Orders.{key_cmp_exact, key_cmp_total}
 use Rattle.erd_meaning.specs.SelectionNames.{rising_list}
-use Rattle.erd_meaning.specs.declared.key.Key.{Key}
-use Rattle.erd_meaning.proofs.OneObject.{in_at, one_key}
-use Rattle.erd_meaning.proofs.Phases.{no_identity_fault, no_shape_fault}
-use Rattle.erd_meaning.proofs.References.{option_map-Some}
-use Rattle.erd_meaning.proofs.Standing.{stands}
+use Rattle.erd_meaning.specs.declared.keys.key.Key.{Key}
+use Rattle.erd_meaning.proofs.finding.OneObject.{in_at, one_key}
+use Rattle.erd_meaning.proofs.accepted.Phases.{no_identity_fault, no_shape_fault}
+use Rattle.erd_meaning.proofs.accepted.References.{option_map-Some}
+use Rattle.erd_meaning.proofs.accepted.Standing.{stands}
 use Rattle.erd_normal.specs.Canonical.{canonical_id}
 use Rattle.erd_normal.specs.code.NormalTree.{by_key, normal_object, normal_tree, rank_of}
 use Rattle.erd_normal.proofs.BuiltLists.{all_map, all_rising}

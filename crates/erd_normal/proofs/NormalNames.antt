@@ -25,11 +25,11 @@ use Rattle.erd_check.proofs.Rising.{Has}
 use Rattle.erd_check.proofs.Shapes.{Within, Within-step, wanted_within, within-tree}
 use Rattle.erd_meaning.specs.Accepted.{IsAccepted}
 use Rattle.erd_meaning.specs.Keys.{has_keys, key_cmp}
-use Rattle.erd_meaning.specs.Objects.{Placed, contests, objects, owner, selections_of}
+use Rattle.erd_meaning.specs.Objects.{Placed, contests, objects, owner, selections_of_contest}
 use Rattle.erd_meaning.specs.SelectionNames.{is_write_in, key_named, keys_named, keys_of_selection, label_of_selection, name_in_class, name_of, order_of_selection, rising_list, selection_role, with_rising_text}
-use Rattle.erd_meaning.proofs.Phases.{no_shape_fault}
-use Rattle.erd_meaning.proofs.References.{owned, unrepeated_reference}
-use Rattle.erd_meaning.proofs.Standing.{flat-has, stands}
+use Rattle.erd_meaning.proofs.accepted.Phases.{no_shape_fault}
+use Rattle.erd_meaning.proofs.accepted.References.{owned, unrepeated_reference}
+use Rattle.erd_meaning.proofs.accepted.Standing.{flat-has, stands}
 use Rattle.erd_normal.specs.Canonical.{id_prefix}
 use Rattle.erd_normal.specs.code.NormalTree.{normal_label, normal_value, normal_reference, normal_selection, normal_tree, reference_cmp}
 use Rattle.erd_normal.proofs.AskedMembers.{AskedAs, all_items, asked_as}
@@ -176,6 +176,6 @@ module _ (t : Data) (accepted : IsAccepted t) (tree : IsTree t) (bounded : IsBou
       subst (λ x. name_of (normal_tree t) (normal_selection t contest x) ≡ name_of t x) (sym i.is_object)
       (name_of_built contest i.class i.ms i.at (subst IsTree i.is_object inside))
 
-  pub name_built : (contest o : Placed) → Has (objects family.Contest t) contest → Has (selections_of contest) o → name_of (normal_tree t) (normal_selection t contest.value o.value) ≡ name_of t o.value
+  pub name_built : (contest o : Placed) → Has (objects family.Contest t) contest → Has (selections_of_contest contest) o → name_of (normal_tree t) (normal_selection t contest.value o.value) ≡ name_of t o.value
   name_built contest o of_report of_contest =
-      name_built_within contest.value o.value (record { place = o.place; is = stands t accepted family.Selection o (flat-has selections_of (contests t) contest o of_report of_contest) })
+      name_built_within contest.value o.value (record { place = o.place; is = stands t accepted family.Selection o (flat-has selections_of_contest (contests t) contest o of_report of_contest) })

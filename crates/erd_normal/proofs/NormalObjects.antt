@@ -19,8 +19,8 @@ use Rattle.erd_meaning.specs.Keys.{has_keys}
 use Rattle.erd_check.specs.Values.{entries_at}
 use Rattle.erd_meaning.specs.Objects.{Placed, elections, objects, placed_entries, placed_from, report_of}
 use Rattle.erd_meaning.specs.SelectionNames.{rising_list}
-use Rattle.erd_meaning.proofs.Skeleton.{Skeleton, election_objects, skeleton_of_shape, the_election, values-placed_entries}
-use Rattle.erd_meaning.proofs.Standing.{contest_selections}
+use Rattle.erd_meaning.proofs.accepted.Skeleton.{Skeleton, election_objects, skeleton_of_shape, the_election, values-placed_entries}
+use Rattle.erd_meaning.proofs.accepted.Standing.{contest_selections}
 use Rattle.erd_normal.specs.code.NormalTree.{by_key, by_name, normal_election, normal_object, normal_selection, normal_tree}
 use Rattle.erd_normal.proofs.NormalEntries.{entries_of_election, entries_of_elections, entries_of_report, entries_of_selections}
 use Rattle.erd_normal.proofs.NormalGets.{class_has_role}

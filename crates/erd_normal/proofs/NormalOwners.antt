@@ -9,10 +9,10 @@ use Rattle.erd_meaning.specs.Accepted.{IsAccepted}
 use Rattle.erd_meaning.specs.Keys.{has_keys, key_of}
 use Rattle.erd_meaning.specs.Objects.{Placed, has_id, id_of, objects, owner}
 use Rattle.erd_meaning.specs.SelectionNames.{key_named, rising_list, with_inserted}
-use Rattle.erd_meaning.proofs.Phases.{no_shape_fault}
-use Rattle.erd_meaning.proofs.References.{find-any, option_map-Some}
-use Rattle.erd_meaning.proofs.Sets.{any-has}
-use Rattle.erd_meaning.proofs.Standing.{has_id-Some, has_id-from, owned_by}
+use Rattle.erd_meaning.proofs.accepted.Phases.{no_shape_fault}
+use Rattle.erd_meaning.proofs.accepted.References.{find-any, option_map-Some}
+use Rattle.erd_meaning.proofs.orders.Sets.{any-has}
+use Rattle.erd_meaning.proofs.accepted.Standing.{has_id-Some, has_id-from, owned_by}
 use Rattle.erd_normal.specs.Canonical.{canonical_id, id_prefix}
 use Rattle.erd_normal.specs.code.NormalTree.{by_key, id_of_key, normal_id, normal_object, normal_tree}
 use Rattle.erd_normal.proofs.CanonicalIds.{canonical_id_exact}

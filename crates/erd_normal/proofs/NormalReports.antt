@@ -9,7 +9,7 @@ use Rattle.erd_tables.specs.declared.class.Role.TheVariants as role
 use Rattle.erd_check.specs.Faults.{NoneOf, ShapeFault}
 use Rattle.erd_check.specs.Trees.{IsTree}
 use Rattle.erd_check.specs.Wants.{class_of_object}
-use Rattle.erd_meaning.proofs.Skeleton.{Skeleton, skeleton_of_shape}
+use Rattle.erd_meaning.proofs.accepted.Skeleton.{Skeleton, skeleton_of_shape}
 use Rattle.erd_normal.specs.Canonical.{HasCanonicalEnvelope}
 use Rattle.erd_normal.specs.code.NormalTree.{in_envelope, normal_members, normal_object_with, normal_report_value, normal_tree, with_envelope}
 use Rattle.erd_normal.proofs.NormalEnvelope.{envelope_values, get_with_envelope, get_with_envelope-other, put_value}

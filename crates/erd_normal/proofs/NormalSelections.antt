@@ -18,12 +18,12 @@ use Rattle.erd_check.proofs.Shapes.{Within}
 use Rattle.erd_meaning.specs.Accepted.{IsAccepted}
 use Rattle.erd_check.specs.Values.{entries_at}
 use Rattle.erd_meaning.specs.NameParts.{NameParts}
-use Rattle.erd_meaning.specs.Objects.{Placed, contests, id_of, objects, placed_from, selections_of}
-use Rattle.erd_meaning.specs.Orders.{name_cmp_exact, name_cmp_total}
+use Rattle.erd_meaning.specs.Objects.{Placed, contests, id_of, objects, placed_from, selections_of_contest}
+use Rattle.erd_meaning.specs.code.Orders.{name_cmp_exact, name_cmp_total}
 use Rattle.erd_meaning.specs.SelectionNames.{name_cmp, name_of, rising_list, selection_role}
-use Rattle.erd_meaning.proofs.References.{option_map-Some}
-use Rattle.erd_meaning.proofs.Skeleton.{values-placed_entries}
-use Rattle.erd_meaning.proofs.Standing.{flat-has, one_named, stands}
+use Rattle.erd_meaning.proofs.accepted.References.{option_map-Some}
+use Rattle.erd_meaning.proofs.accepted.Skeleton.{values-placed_entries}
+use Rattle.erd_meaning.proofs.accepted.Standing.{flat-has, one_named, stands}
 use Rattle.erd_normal.specs.Canonical.{HasCanonicalIds, canonical_selection_id}
 use Rattle.erd_normal.specs.code.NormalTree.{by_key, by_name, normal_selection, normal_tree}
 use Rattle.erd_normal.proofs.BuiltLists.{all_map, all_rising}
@@ -75,27 +75,27 @@ module _ (t : Data) (accepted : IsAccepted t) (tree : IsTree t) where
     abbrev selections : List Data
     selections = entries_at (codes "ContestSelection") contest.value
 
-    in_report : (o : Placed) → Has (selections_of contest) o → Has (objects family.Selection t) o
-    in_report o h = flat-has selections_of (contests t) contest o of_report h
+    in_report : (o : Placed) → Has (selections_of_contest contest) o → Has (objects family.Selection t) o
+    in_report o h = flat-has selections_of_contest (contests t) contest o of_report h
 
-    listed : map (λ o. o.value) (selections_of contest) ≡ selections
+    listed : map (λ o. o.value) (selections_of_contest contest) ≡ selections
     listed = values-placed_entries (codes "ContestSelection") contest
 
     pub selections_classed : AllByRecursion (IsClassed family.Selection) selections
     selections_classed =
         subst (AllByRecursion (IsClassed family.Selection)) listed
-        (all_map (λ o. IsClassed family.Selection o.value) (IsClassed family.Selection) (λ o. o.value) (selections_of contest) (λ o h. h)
-        (all_by_entry (λ o. IsClassed family.Selection o.value) (selections_of contest) (λ o h. object_classed t accepted tree family.Selection o (in_report o h))))
+        (all_map (λ o. IsClassed family.Selection o.value) (IsClassed family.Selection) (λ o. o.value) (selections_of_contest contest) (λ o h. h)
+        (all_by_entry (λ o. IsClassed family.Selection o.value) (selections_of_contest contest) (λ o h. object_classed t accepted tree family.Selection o (in_report o h))))
 
-    placed : (i : ℕ) (d : Data) → slice_get selections i ≡ Some d → (o : Placed) × (slice_get (selections_of contest) i ≡ Some o) × (o.value ≡ d)
+    placed : (i : ℕ) (d : Data) → slice_get selections i ≡ Some d → (o : Placed) × (slice_get (selections_of_contest contest) i ≡ Some o) × (o.value ≡ d)
     placed i d is =
-        option_map-Some (λ o. o.value) (slice_get (selections_of contest) i) d
-        (sym (slice_get-map (λ o. o.value) (selections_of contest) i) ∙ ap (λ xs. slice_get xs i) listed ∙ is)
+        option_map-Some (λ o. o.value) (slice_get (selections_of_contest contest) i) d
+        (sym (slice_get-map (λ o. o.value) (selections_of_contest contest) i) ∙ ap (λ xs. slice_get xs i) listed ∙ is)
 
-    one_position : (i j : ℕ) (o p : Placed) → slice_get (selections_of contest) i ≡ Some o → slice_get (selections_of contest) j ≡ Some p → name_of t o.value ≡ name_of t p.value → i ≡ j
+    one_position : (i j : ℕ) (o p : Placed) → slice_get (selections_of_contest contest) i ≡ Some o → slice_get (selections_of_contest contest) j ≡ Some p → name_of t o.value ≡ name_of t p.value → i ≡ j
     one_position i j o p at_o at_p same =
-        let mine = has_at (selections_of contest) i o at_o in
-        let its = has_at (selections_of contest) j p at_p in
+        let mine = has_at (selections_of_contest contest) i o at_o in
+        let its = has_at (selections_of_contest contest) j p at_p in
         let w : Within t (asked (Object selection_role) o.value) = record { place = o.place; is = stands t accepted family.Selection o (in_report o mine) } in
         let n = has_name t accepted o.value w in
         let one : o ≡ p = one_named t accepted contest o p n.0 of_report mine its n.1 (sym same ∙ n.1) in
@@ -121,14 +121,14 @@ module _ (t : Data) (accepted : IsAccepted t) (tree : IsTree t) where
         ap id_of (sym e.2) ∙ id_of_built_selection t contest.value k.0 e.0 k.2 k.1
         ∙ ap Some (ap₂ canonical_selection_id (rank_is t accepted tree family.Contest refl i contest.value at_contest) (rank_rising (by_name t) (by_name_total t) selections j e.0 names_untied e.1))
 
-  selection_ids : (i j : ℕ) (contest o : Placed) → slice_get (objects family.Contest (normal_tree t)) i ≡ Some contest → slice_get (selections_of contest) j ≡ Some o → id_of o.value ≡ Some (canonical_selection_id i j)
+  selection_ids : (i j : ℕ) (contest o : Placed) → slice_get (objects family.Contest (normal_tree t)) i ≡ Some contest → slice_get (selections_of_contest contest) j ≡ Some o → id_of o.value ≡ Some (canonical_selection_id i j)
   selection_ids i j contest o at_contest at_selection =
       let ds : List Data = rising_list by_key (values_of family.Contest t) in
       let d = built_at t accepted tree family.Contest refl i contest at_contest in
       let k : IsClassed family.Contest d.0 = all_at (IsClassed family.Contest) ds i d.0 (rising_classed t accepted tree family.Contest) d.1 in
       let from = map_has (λ (x : Placed). x.value) (objects family.Contest t) d.0 (has_rising by_key (values_of family.Contest t) d.0 (has_at ds i d.0 d.1)) in
       let value : slice_get (entries_at (codes "ContestSelection") contest.value) j ≡ Some o.value =
-      ap (λ xs. slice_get xs j) (sym (values-placed_entries (codes "ContestSelection") contest)) ∙ slice_get-map (λ o. o.value) (selections_of contest) j ∙ ap (option_map (λ o. o.value)) at_selection in
+      ap (λ xs. slice_get xs j) (sym (values-placed_entries (codes "ContestSelection") contest)) ∙ slice_get-map (λ o. o.value) (selections_of_contest contest) j ∙ ap (option_map (λ o. o.value)) at_selection in
       let built : slice_get (map (normal_selection t d.0) (rising_list (by_name t) (entries_at (codes "ContestSelection") d.0))) j ≡ Some o.value =
       ap (λ xs. slice_get xs j) (sym (selections_built t k.0 d.0 k.2 k.1) ∙ ap (entries_at (codes "ContestSelection")) d.2) ∙ value in
       built_selection from.0 from.1 i j o.value (d.1 ∙ ap Some (sym from.2))

@@ -5,15 +5,15 @@ use Rattle.serde_json.specs.Data.{Data}
 use Rattle.erd_tables.specs.Classes.{family_number}
 use Rattle.erd_tables.specs.declared.class.Family.{Family}
 use Rattle.erd_tables.specs.declared.class.Family.TheVariants as family
-use Rattle.erd_meaning.proofs.ObjectFamilies.{family_exact, itself}
-use Rattle.erd_meaning.proofs.OneObject.{in_at, ObjectIn, with_part}
-use Rattle.erd_meaning.proofs.Standing.{owned_by, owner_is}
+use Rattle.erd_meaning.proofs.identity.ObjectFamilies.{family_exact, itself}
+use Rattle.erd_meaning.proofs.finding.OneObject.{in_at, ObjectIn, with_part}
+use Rattle.erd_meaning.proofs.accepted.Standing.{owned_by, owner_is}
 use Rattle.erd_meaning.specs.Accepted.{IsAccepted}
 use Rattle.erd_meaning.specs.Keys.{has_keys, key_cmp, key_of}
 use Rattle.erd_meaning.specs.Lookups.{FindsId, id_in}
 use Rattle.erd_meaning.specs.Objects.{id_of, objects, owner, Placed}
 use Rattle.erd_meaning.specs.SelectionNames.{key_named}
-use Rattle.erd_meaning.specs.declared.key.Key.{Key}
+use Rattle.erd_meaning.specs.declared.keys.key.Key.{Key}
 use Rattle.erd_normal.proofs.DistinctEntries.{place_of}
 use Rattle.erd_normal.proofs.RisingSets.{has_from_In, In-from_has}
 use Rattle.erd_normal.specs.code.Building.{AreNumbers, numbered_id}

@@ -8,8 +8,8 @@ use Rattle.erd_check.proofs.Rising.{Has, here, later}
 use Rattle.erd_meaning.specs.Keys.{has_keys}
 use Rattle.erd_meaning.specs.Objects.{Placed, IsObject, id_of, objects}
 use Rattle.erd_meaning.specs.Records.{object_record}
-use Rattle.erd_meaning.proofs.References.{Has-Contains}
-use Rattle.erd_meaning.proofs.Standing.{one_object}
+use Rattle.erd_meaning.proofs.accepted.References.{Has-Contains}
+use Rattle.erd_meaning.proofs.accepted.Standing.{one_object}
 use Rattle.erd_normal.specs.Canonical.{IsCanonical}
 use Rattle.erd_normal.specs.Laws.{MeanAlike, ObjectsAgree}
 use Rattle.erd_normal.proofs.Unique.{leaves, object_unique, selection_same, unique, within_t, within_u}

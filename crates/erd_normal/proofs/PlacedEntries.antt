@@ -11,9 +11,9 @@ use Rattle.serde_json.specs.Written.{has_float, items_have_float}
 use Rattle.serde_json.specs.declared.value.Value.{Value}
 use Rattle.erd_meaning.specs.Keys.{key_cmp, key_of}
 use Rattle.erd_meaning.specs.NameParts.{NameParts}
-use Rattle.erd_meaning.specs.Orders.{key_cmp_total, name_cmp_total}
+use Rattle.erd_meaning.specs.code.Orders.{key_cmp_total, name_cmp_total}
 use Rattle.erd_meaning.specs.SelectionNames.{name_cmp, name_of, rising_list}
-use Rattle.erd_meaning.specs.declared.key.Key.{Key}
+use Rattle.erd_meaning.specs.declared.keys.key.Key.{Key}
 use Rattle.erd_normal.proofs.BuiltLists.{all_rising}
 use Rattle.erd_normal.proofs.StableRising.{rising_by_part}
 use Rattle.erd_normal.specs.code.NormalTree.{by_key, by_name}

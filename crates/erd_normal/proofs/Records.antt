@@ -25,13 +25,13 @@ use Rattle.erd_check.proofs.TableKinds.{is_word, kind_of_id, want_by_kind, want_
 use Rattle.erd_check.proofs.Entries.{array_from, string_from_text}
 use Rattle.erd_check.proofs.Whole.{no_strange, no_unknown}
 use Rattle.erd_check.proofs.Exact.{text_exact}
-use Rattle.erd_meaning.specs.declared.key.Key.{Key}
+use Rattle.erd_meaning.specs.declared.keys.key.Key.{Key}
 use Rattle.erd_meaning.specs.Meaning.{Content, Label, PlainValue, Record, a_content, a_json, a_json_set, a_key_set, a_label, no_content, untranslated}
 use Rattle.erd_meaning.specs.Records.{key_set, json_set, is_in_envelope, nodes_of, plain_value, plain_member, record_with}
 use Rattle.erd_meaning.specs.Accepted.{IsAccepted}
 use Rattle.erd_meaning.specs.Objects.{id_of}
 use Rattle.erd_meaning.specs.SelectionNames.{keys_named}
-use Rattle.erd_meaning.proofs.Phases.{no_shape_fault}
+use Rattle.erd_meaning.proofs.accepted.Phases.{no_shape_fault}
 use Rattle.erd_meaning.specs.Keys.{has_keys}
 use Rattle.erd_normal.specs.Canonical.{IsCanonical}
 use Rattle.erd_normal.proofs.Contents.{SameNames, content_same}

@@ -14,16 +14,16 @@ use Rattle.erd_check.specs.Values.{entries_of}
 use Rattle.erd_check.specs.Wants.{Asked, asked, asked_at}
 use Rattle.erd_check.proofs.Entries.{array_from}
 use Rattle.erd_check.proofs.Shapes.{Within, unrepeated, wanted_within, within-tree}
-use Rattle.erd_meaning.specs.declared.key.Key.{Key}
+use Rattle.erd_meaning.specs.declared.keys.key.Key.{Key}
 use Rattle.erd_meaning.specs.Accepted.{IsAccepted}
 use Rattle.erd_meaning.specs.Keys.{has_keys}
 use Rattle.erd_meaning.specs.NameParts.{NameParts}
-use Rattle.erd_meaning.specs.Objects.{Placed, id_of, objects, selections_of}
+use Rattle.erd_meaning.specs.Objects.{Placed, id_of, objects, selections_of_contest}
 use Rattle.erd_meaning.specs.Records.{content_of, key_set}
 use Rattle.erd_meaning.specs.SelectionNames.{keys_named}
-use Rattle.erd_meaning.proofs.Phases.{no_shape_fault}
-use Rattle.erd_meaning.proofs.References.{Has-Contains}
-use Rattle.erd_meaning.proofs.Standing.{one_keyed, one_named}
+use Rattle.erd_meaning.proofs.accepted.Phases.{no_shape_fault}
+use Rattle.erd_meaning.proofs.accepted.References.{Has-Contains}
+use Rattle.erd_meaning.proofs.accepted.Standing.{one_keyed, one_named}
 use Rattle.erd_normal.specs.Canonical.{kind_wanted}
 use Rattle.erd_normal.specs.Laws.{IsSelection, MeanAlike, ReferencesAgree}
 use Rattle.erd_normal.proofs.Agreement.{same_names}
@@ -67,8 +67,8 @@ one_of_name : (t : Data) → IsAccepted t → (k : Key) (n : NameParts) (one oth
 one_of_name t accepted k n one other a b =
     let stands = Has-Contains (objects family.Contest t) a.contest a.contest_stands in
     let same : b.contest ≡ a.contest = one_keyed t accepted family.Contest b.contest a.contest k refl (Has-Contains (objects family.Contest t) b.contest b.contest_stands) stands b.contest_key a.contest_key in
-    one_named t accepted a.contest one other n stands (Has-Contains (selections_of a.contest) one a.stands)
-    (Has-Contains (selections_of a.contest) other (subst (λ c. Contains (selections_of c) other) same b.stands)) a.its_name b.its_name
+    one_named t accepted a.contest one other n stands (Has-Contains (selections_of_contest a.contest) one a.stands)
+    (Has-Contains (selections_of_contest a.contest) other (subst (λ c. Contains (selections_of_contest c) other) same b.stands)) a.its_name b.its_name
 
 pub references_agree : ReferencesAgree
 references_agree t u alike = record {

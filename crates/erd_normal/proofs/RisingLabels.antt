@@ -8,7 +8,7 @@ use Rattle.std.proofs.lemmas.Cmp.{nat_list_cmp_total, tied_itself}
 use Rattle.serde_json.specs.Data.{Data, null, boolean, number, string, array, object, put, Members, no_members, member}
 use Rattle.serde_json.specs.View.{items_of}
 use Rattle.erd_check.specs.Values.{entries_at}
-use Rattle.erd_meaning.specs.Orders.{compact_cmp_total}
+use Rattle.erd_meaning.specs.code.Orders.{compact_cmp_total}
 use Rattle.erd_meaning.specs.SelectionNames.{compact_cmp, rising_list, with_inserted, with_rising_text}
 use Rattle.erd_normal.proofs.RisingMeanings.{entries_at-with_rising_text}
 use Rattle.erd_normal.proofs.RisingOrders.{NeverFalls, less_turned, rising_never_falls}

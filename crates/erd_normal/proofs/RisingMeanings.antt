@@ -16,10 +16,10 @@ use Rattle.erd_check.specs.Values.{entries_of, entries_at}
 use Rattle.erd_check.proofs.Exact.{text_itself}
 use Rattle.erd_meaning.specs.Keys.{key_cmp, key_of, least_key, least_key_of, lesser_key, triple_of}
 use Rattle.erd_meaning.specs.Meaning.{translated}
-use Rattle.erd_meaning.specs.Orders.{key_cmp_exact, key_cmp_total}
-use Rattle.erd_meaning.specs.Records.{beside_text, json_set, key_set, label_of}
+use Rattle.erd_meaning.specs.code.Orders.{key_cmp_exact, key_cmp_total}
+use Rattle.erd_meaning.specs.Records.{label_beside_text, json_set, key_set, label_of}
 use Rattle.erd_meaning.specs.SelectionNames.{compact_cmp, key_named, keys_named, rising_list, with_rising_text}
-use Rattle.erd_meaning.specs.declared.key.Key.{Key}
+use Rattle.erd_meaning.specs.declared.keys.key.Key.{Key}
 use Rattle.erd_check.proofs.Lists.{list_of_items-items_of}
 use Rattle.erd_normal.proofs.RisingOrders.{greater_turned, less_turned}
 use Rattle.erd_normal.proofs.RisingSets.{any-rising, any_filter_map-rising, whole-rising}
@@ -131,7 +131,7 @@ beside_at name d ms true is false = refl
 beside_at name d ms false is false =
     get_member-put_other name (codes "Text") d ms (λ e. true≢false (sym (ap (λ x. bytes_eq x (codes "Text")) e ∙ text_itself (codes "Text")) ∙ is))
 
-pub beside_text-put : (d : Data) (ms : Members) → beside_text (object (put (codes "Text") d ms)) ≡ beside_text (object ms)
+pub beside_text-put : (d : Data) (ms : Members) → label_beside_text (object (put (codes "Text") d ms)) ≡ label_beside_text (object ms)
 beside_text-put d ms = fun_ext (λ name. beside_at name d ms (bytes_eq name (codes "Text")) refl (bytes_eq name (codes "@type")))
 
 -- the translations of a label in rising order

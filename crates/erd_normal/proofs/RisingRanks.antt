@@ -6,7 +6,7 @@ use Rattle.std.specs.List.Sorted.{IsStrictlySortedBy}
 use Rattle.std.specs.Ordering.{eq_by_cmp}
 use Rattle.std.proofs.lemmas.Cmp.{on_total, tied_itself}
 use Rattle.erd_check.proofs.Order.{In, In-all, all_from_In}
-use Rattle.erd_meaning.proofs.OneObject.{in_at}
+use Rattle.erd_meaning.proofs.finding.OneObject.{in_at}
 use Rattle.erd_meaning.specs.SelectionNames.{rising_list}
 use Rattle.erd_normal.proofs.RisingSets.{count-rising, count_map, rising-In}
 use Rattle.erd_normal.proofs.RisingOrders.{less_turned, rising_strictly}

@@ -21,7 +21,7 @@ use Rattle.erd_check.proofs.Shapes.{Within}
 use Rattle.erd_meaning.specs.Accepted.{IsAccepted}
 use Rattle.erd_meaning.specs.Keys.{has_keys, key_cmp, key_of}
 use Rattle.erd_meaning.specs.Objects.{Placed, objects}
-use Rattle.erd_meaning.specs.Orders.{compact_cmp_total, key_cmp_total, name_cmp_total}
+use Rattle.erd_meaning.specs.code.Orders.{compact_cmp_total, key_cmp_total, name_cmp_total}
 use Rattle.erd_meaning.specs.SelectionNames.{compact_cmp, key_named, name_cmp, name_of, rising_list}
 use Rattle.erd_normal.specs.Canonical.{canonical_id, canonical_selection_id}
 use Rattle.erd_normal.specs.code.NormalTree.{by_key, by_name, id_of_key, id_of_selection, rank_of, rank_of_name, reference_cmp}

@@ -13,11 +13,11 @@ use Rattle.erd_tables.specs.declared.class.Family.TheVariants as family
 use Rattle.erd_tables.specs.declared.place.Step.{Step}
 use Rattle.erd_tables.specs.declared.place.Step.TheVariants.{Name}
 use Rattle.erd_check.proofs.Rising.{Has}
-use Rattle.erd_meaning.proofs.OneObject.{in_at}
+use Rattle.erd_meaning.proofs.finding.OneObject.{in_at}
 use Rattle.erd_meaning.specs.Accepted.{IsAccepted}
 use Rattle.erd_check.specs.Values.{entries_at}
-use Rattle.erd_meaning.specs.Objects.{Placed, contests, objects, placed_entries, placed_from, selections_of}
-use Rattle.erd_meaning.specs.Orders.{name_cmp_total}
+use Rattle.erd_meaning.specs.Objects.{Placed, contests, objects, placed_entries, placed_from, selections_of_contest}
+use Rattle.erd_meaning.specs.code.Orders.{name_cmp_total}
 use Rattle.erd_meaning.specs.SelectionNames.{name_cmp, name_of}
 use Rattle.erd_normal.proofs.DistinctEntries.{distinct_map}
 use Rattle.erd_normal.proofs.DistinctObjects.{selection_values_distinct, values_placed}
@@ -50,24 +50,24 @@ module _ (t : Data) where
 
   -- ---- one contest
 
-  as_many : (contest : Placed) → length (numbers_at contest) ≡ length (selections_of contest)
+  as_many : (contest : Placed) → length (numbers_at contest) ≡ length (selections_of_contest contest)
   as_many contest =
       let ds = entries_at (codes "ContestSelection") contest.value in
       length_places (option_cmp name_cmp) (map (name_of t) ds)
       ∙ (length-map ds (name_of t)
       ∙ (sym (ap length (values_placed (contest.place ++ Name (codes "ContestSelection") ∷ []) 0 ds))
-      ∙ length-map (selections_of contest) (λ o. o.value)))
+      ∙ length-map (selections_of_contest contest) (λ o. o.value)))
 
-  name_at : (contest : Placed) (m : ℕ) (o : Placed) → slice_get (selections_of contest) m ≡ Some o → slice_get (map (name_of t) (entries_at (codes "ContestSelection") contest.value)) m ≡ Some (name_of t o.value)
+  name_at : (contest : Placed) (m : ℕ) (o : Placed) → slice_get (selections_of_contest contest) m ≡ Some o → slice_get (map (name_of t) (entries_at (codes "ContestSelection") contest.value)) m ≡ Some (name_of t o.value)
   name_at contest m o at =
       let ds = entries_at (codes "ContestSelection") contest.value in
       slice_get-map (name_of t) ds m
       ∙ ap (option_map (name_of t))
       (ap (λ xs. slice_get xs m) (sym (values_placed (contest.place ++ Name (codes "ContestSelection") ∷ []) 0 ds))
-      ∙ (slice_get-map (λ (o : Placed). o.value) (selections_of contest) m
+      ∙ (slice_get-map (λ (o : Placed). o.value) (selections_of_contest contest) m
       ∙ ap (option_map (λ o. o.value)) at))
 
-  contest_number : IsAccepted t → (contest : Placed) → Has (objects family.Contest t) contest → (m : ℕ) (o : Placed) → slice_get (selections_of contest) m ≡ Some o
+  contest_number : IsAccepted t → (contest : Placed) → Has (objects family.Contest t) contest → (m : ℕ) (o : Placed) → slice_get (selections_of_contest contest) m ≡ Some o
       → slice_get (numbers_at contest) m ≡ Some (rank_of_name t (entries_at (codes "ContestSelection") contest.value) (name_of t o.value) + 1)
   contest_number accepted contest has m o at =
       let ds = entries_at (codes "ContestSelection") contest.value in
@@ -80,7 +80,7 @@ module _ (t : Data) where
 
   pub selection_numbered : IsAccepted t → (ns : List ℕ) → ns ≡ numbers_in_report t → AreSelectionNumbers t ns
   selection_numbered accepted ns is i c contest o numbered at =
-      let h = in_part numbers_at selections_of as_many (contests t) 0 i c o numbered in
+      let h = in_part numbers_at selections_of_contest as_many (contests t) 0 i c o numbered in
       let after : c ≡ 0 + h.index = h.after in
       let index : h.index ≡ c = omega arith in
       let one : h.one ≡ contest = same_Some h.one contest (sym h.at ∙ (ap (slice_get (contests t)) index ∙ at)) in
@@ -88,4 +88,4 @@ module _ (t : Data) where
       ∙ (h.same
       ∙ (ap (λ x. slice_get (numbers_at x) h.inner) one
       ∙ contest_number accepted contest (has_from_In contest (contests t) (in_at (contests t) c contest at)) h.inner o
-      (subst (λ x. slice_get (selections_of x) h.inner ≡ Some o) one h.there)))
+      (subst (λ x. slice_get (selections_of_contest x) h.inner ≡ Some o) one h.there)))

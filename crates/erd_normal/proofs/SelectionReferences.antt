@@ -9,18 +9,18 @@ use Rattle.erd_tables.specs.Classes.{family_number}
 use Rattle.erd_tables.specs.declared.class.Family.{Family}
 use Rattle.erd_tables.specs.declared.class.Family.TheVariants as family
 use Rattle.erd_check.proofs.Rising.{Has}
-use Rattle.erd_meaning.proofs.NamesTold.{Numbered}
-use Rattle.erd_meaning.proofs.NumberedSelections.{OfContest, of_its_contest}
-use Rattle.erd_meaning.proofs.ObjectFamilies.{family_exact, itself}
-use Rattle.erd_meaning.proofs.OneObject.{in_at, with_part}
-use Rattle.erd_meaning.proofs.References.{find-Some, option_map-Some}
-use Rattle.erd_meaning.proofs.Standing.{flat-has, has_id-Some, one_object, owner_is, stands}
+use Rattle.erd_meaning.proofs.selections.NamesTold.{Numbered}
+use Rattle.erd_meaning.proofs.selections.NumberedSelections.{OfContest, of_its_contest}
+use Rattle.erd_meaning.proofs.identity.ObjectFamilies.{family_exact, itself}
+use Rattle.erd_meaning.proofs.finding.OneObject.{in_at, with_part}
+use Rattle.erd_meaning.proofs.accepted.References.{find-Some, option_map-Some}
+use Rattle.erd_meaning.proofs.accepted.Standing.{flat-has, has_id-Some, one_object, owner_is, stands}
 use Rattle.erd_meaning.specs.Accepted.{IsAccepted}
 use Rattle.erd_meaning.specs.Keys.{key_of}
 use Rattle.erd_check.specs.Values.{entries_at}
 use Rattle.erd_meaning.specs.Lookups.{FindsId, id_in, selection_in}
 use Rattle.erd_meaning.specs.NameParts.{NameParts}
-use Rattle.erd_meaning.specs.Objects.{Placed, contests, has_id, id_of, numbered_selections, numbered_selections_of, objects, selections_of}
+use Rattle.erd_meaning.specs.Objects.{Placed, contests, has_id, id_of, numbered_selections, numbered_selections_of, objects, selections_of_contest}
 use Rattle.erd_meaning.specs.SelectionNames.{name_of}
 use Rattle.erd_normal.proofs.ContestSelections.{one_contest}
 use Rattle.erd_normal.proofs.DistinctEntries.{place_of}
@@ -38,11 +38,11 @@ of_contest : (k : ℕ) (os : List Placed) → map {A = Numbered} (λ s. s.1) (ma
 of_contest k [] = refl
 of_contest k (o ∷ os) = ap (λ xs. o ∷ xs) (of_contest k os)
 
-of_contests : (k : ℕ) (cs : List Placed) → map {A = Numbered} (λ s. s.1) (flat_map numbered_selections_of (enumerate_from k cs)) ≡ flat_map selections_of cs
+of_contests : (k : ℕ) (cs : List Placed) → map {A = Numbered} (λ s. s.1) (flat_map numbered_selections_of (enumerate_from k cs)) ≡ flat_map selections_of_contest cs
 of_contests k [] = refl
 of_contests k (c ∷ cs) =
     map-append {A = Numbered} (λ s. s.1) (numbered_selections_of (k, c)) (flat_map numbered_selections_of (enumerate_from (k + 1) cs))
-    ∙ ap₂ ◌++◌ (of_contest k (selections_of c)) (of_contests (k + 1) cs)
+    ∙ ap₂ ◌++◌ (of_contest k (selections_of_contest c)) (of_contests (k + 1) cs)
 
 -- the selection at a position, with the number of its contest
 numbered_at : (t : Data) (i : ℕ) (o : Placed) → slice_get (objects family.Selection t) i ≡ Some o → (c : ℕ) × (slice_get (numbered_selections t) i ≡ Some (c, o))
@@ -77,11 +77,11 @@ module _ (t : Data) (id : List ℕ) where
       let n = has_name t accepted o.value (record { place = o.place; is = stands t accepted family.Selection o of_report }) in
       let f : FoundSelection t id o.value = owner_found t id o.value (owner_is t accepted family.Selection o id of_report is) in
       let one : f.selection ≡ o =
-      one_object t accepted family.Selection family.Selection f.selection o id (flat-has selections_of (contests t) f.contest f.selection f.of_report f.of_contest) of_report
+      one_object t accepted family.Selection family.Selection f.selection o id (flat-has selections_of_contest (contests t) f.contest f.selection f.of_report f.of_contest) of_report
       (ap id_of f.value ∙ is) is in
       let whole : f.contest ≡ c.contest =
-      one_contest t accepted f.contest c.contest o f.of_report (has_from_In c.contest (contests t) c.there) (subst (Has (selections_of f.contest)) one f.of_contest)
-      (has_from_In o (selections_of c.contest) c.inside) in
+      one_contest t accepted f.contest c.contest o f.of_report (has_from_In c.contest (contests t) c.there) (subst (Has (selections_of_contest f.contest)) one f.of_contest)
+      (has_from_In o (selections_of_contest c.contest) c.inside) in
       record {
         number = s.0;
         contest = c.contest;
@@ -99,19 +99,19 @@ module _ (t : Data) (id : List ℕ) where
   unnamed : ((i : ℕ) → id_in family.Selection t i ≡ Some id → ⊥) → string [] ≡ normal_selection_reference t (string id)
   unnamed none = at (contest_with t id) refl
     where
-      inside : (c : Placed) → Has (contests t) c → (o : Option Placed) → find (λ o. has_id id o.value) (selections_of c) ≡ o → option_map_or (λ o. true) o false ≡ true → ⊥
+      inside : (c : Placed) → Has (contests t) c → (o : Option Placed) → find (λ o. has_id id o.value) (selections_of_contest c) ≡ o → option_map_or (λ o. true) o false ≡ true → ⊥
       inside c of_report None is h = cc
       inside c of_report (Some o) is h =
-          let found = find-Some (λ (o : Placed). has_id id o.value) (selections_of c) o is in
-          let place = place_of o (objects family.Selection t) (In-from_has o (objects family.Selection t) (flat-has selections_of (contests t) c o of_report found.0)) in
+          let found = find-Some (λ (o : Placed). has_id id o.value) (selections_of_contest c) o is in
+          let place = place_of o (objects family.Selection t) (In-from_has o (objects family.Selection t) (flat-has selections_of_contest (contests t) c o of_report found.0)) in
           none place.0 (ap (option_and_then (λ (o : Placed). id_of o.value)) place.1 ∙ has_id-Some id o.value found.1)
 
       at : (c : Option Placed) → contest_with t id ≡ c
           → string [] ≡ string (option_map_or (λ (c : Placed). option_map_or (λ (o : Placed). id_of_selection t c.value o.value) (selection_with id c) []) c [])
       at None is = refl
       at (Some c) is =
-          let found = find-Some (λ (c : Placed). option_map_or (λ (o : Placed). true) (find (λ o. has_id id o.value) (selections_of c)) false) (contests t) c is in
-          absurd (inside c found.0 (find (λ o. has_id id o.value) (selections_of c)) refl found.1)
+          let found = find-Some (λ (c : Placed). option_map_or (λ (o : Placed). true) (find (λ o. has_id id o.value) (selections_of_contest c)) false) (contests t) c is in
+          absurd (inside c found.0 (find (λ o. has_id id o.value) (selections_of_contest c)) refl found.1)
 
 -- a selection is found
 pub selection_here : (t : Data) (id : List ℕ) (n : Tables) (g : Family) (i : ℕ) → AreTables t n → FindsId t id (Some (g, i)) → (family_number g == family_number family.Selection) ≡ true

@@ -25,12 +25,12 @@ use Rattle.erd_meaning.specs.Meaning.{SelectionRecord, MemberValue, a_selection_
 use Rattle.erd_meaning.specs.Records.{plain_member, selection_record, object_record, selection_map, unless_empty}
 use Rattle.erd_meaning.specs.SelectionNames.{selection_role, name_cmp, name_in_class, name_of}
 use Rattle.erd_meaning.specs.Accepted.{IsAccepted}
-use Rattle.erd_meaning.proofs.References.{find-Some}
+use Rattle.erd_meaning.proofs.accepted.References.{find-Some}
 use Rattle.erd_meaning.specs.NameParts.{NameParts}
-use Rattle.erd_meaning.proofs.Standing.{contest_selections}
+use Rattle.erd_meaning.proofs.accepted.Standing.{contest_selections}
 use Rattle.erd_meaning.specs.Keys.{has_keys}
-use Rattle.erd_meaning.specs.Orders.{name_cmp_exact, name_cmp_total}
-use Rattle.erd_meaning.proofs.Phases.{no_shape_fault}
+use Rattle.erd_meaning.specs.code.Orders.{name_cmp_exact, name_cmp_total}
+use Rattle.erd_meaning.proofs.accepted.Phases.{no_shape_fault}
 use Rattle.erd_normal.proofs.Families.{Alike}
 use Rattle.erd_normal.proofs.Contents.{Filled, absent, filled}
 use Rattle.erd_normal.specs.Canonical.{IsCanonical}

@@ -4,8 +4,8 @@ use Rattle.std.proofs.lemmas.Cmp.{nat_cmp_total, nat_list_cmp_total, on_total, t
 use Rattle.std.specs.Cmp.{IsTotalOrder}
 use Rattle.std.specs.Ordering.{nat_cmp, is_eq, is_lt, ordering_reverse}
 use Rattle.erd_meaning.specs.Keys.{key_cmp}
-use Rattle.erd_meaning.specs.declared.key.Key.{Key}
-use Rattle.erd_meaning.proofs.RecordExamples.{local_key}
+use Rattle.erd_meaning.specs.declared.keys.key.Key.{Key}
+use Rattle.erd_meaning.proofs.examples.RecordExamples.{local_key}
 use Rattle.erd_normal.specs.StableOrder.{IsStablySorted, pairs_of}
 
 -- no key is equal to two of which one is less

@@ -5,7 +5,7 @@ use Rattle.std.proofs.lemmas.List.Elements.{filter_agree}
 use Rattle.std.specs.Cmp.{IsTotalOrder}
 use Rattle.std.specs.List.{filter}
 use Rattle.std.specs.List.Sorted.{ties}
-use Rattle.erd_meaning.proofs.RisingLists.{rising_from_sort, rising_list_map}
+use Rattle.erd_meaning.proofs.orders.RisingLists.{rising_from_sort, rising_list_map}
 use Rattle.erd_meaning.specs.SelectionNames.{rising_list}
 use Rattle.erd_normal.proofs.StableSorts.{tie_by_key}
 use Rattle.erd_normal.specs.StableOrder.{IsStablySorted, pairs_of}

@@ -18,7 +18,7 @@ use Rattle.erd_check.specs.Wants.{Asked, asked, asked_at, asked_inside, member_w
 use Rattle.erd_check.specs.declared.want.Want.TheVariants.{Member, Object}
 use Rattle.erd_check.proofs.Shapes.{Within}
 use Rattle.erd_check.proofs.TableKinds.{kind_of_class}
-use Rattle.erd_meaning.proofs.Skeleton.{Skeleton, skeleton_of_shape}
+use Rattle.erd_meaning.proofs.accepted.Skeleton.{Skeleton, skeleton_of_shape}
 use Rattle.erd_meaning.specs.Keys.{has_keys}
 use Rattle.erd_meaning.specs.Objects.{objects}
 use Rattle.erd_normal.specs.code.NormalTree.{array_of, normal_election, normal_election_value, normal_objects, normal_report_value, normal_tree, normal_value}

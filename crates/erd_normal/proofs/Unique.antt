@@ -23,15 +23,15 @@ use Rattle.erd_check.specs.Wants.{asked, class_of_object, is_report_class, want_
 use Rattle.erd_check.proofs.Exact.{both_true, text_exact}
 use Rattle.erd_check.proofs.Whole.{no_strange, not_true}
 use Rattle.erd_meaning.specs.Accepted.{IsAccepted}
-use Rattle.erd_meaning.specs.Objects.{Placed, elections, id_of, objects, selections_of}
-use Rattle.erd_meaning.proofs.Skeleton.{Skeleton, elections_are, skeleton, values-placed_entries}
+use Rattle.erd_meaning.specs.Objects.{Placed, elections, id_of, objects, selections_of_contest}
+use Rattle.erd_meaning.proofs.accepted.Skeleton.{Skeleton, elections_are, skeleton, values-placed_entries}
 use Rattle.erd_meaning.specs.Keys.{has_keys}
 use Rattle.erd_check.specs.Values.{entries_at}
 use Rattle.erd_meaning.specs.Records.{is_in_envelope, meaning, member_of_class, plain_member, selection_record, object_record}
 use Rattle.erd_meaning.specs.Meaning.{ObjectRecord, SelectionRecord}
 use Rattle.erd_meaning.specs.SelectionNames.{selection_role}
-use Rattle.erd_meaning.proofs.Standing.{flat-has, stands}
-use Rattle.erd_meaning.proofs.Phases.{no_shape_fault}
+use Rattle.erd_meaning.proofs.accepted.Standing.{flat-has, stands}
+use Rattle.erd_meaning.proofs.accepted.Phases.{no_shape_fault}
 use Rattle.erd_normal.proofs.Selections.{selection_array}
 use Rattle.erd_normal.proofs.Agreement.{ContestPair, contest_pairs, pairs_of, same_names}
 use Rattle.erd_normal.specs.Canonical.{IsCanonical}
@@ -157,8 +157,8 @@ module _ (t u : Data) (canonical : IsCanonical t) (canonical' : IsCanonical u) (
   selections_same : (o p : Placed) → Has (objects family.Contest t) o → Has (objects family.Contest u) p → ContestPair t u o p → entries_at selection_member o.value ≡ entries_at selection_member p.value
   selections_same o p h k pair =
       sym (values-placed_entries selection_member o)
-      ∙ paired_values (selections_of o) (selections_of p) pair.selections
-      (λ x y i j r. selection_same x.value y.value (within_t family.Selection x (flat-has selections_of (objects family.Contest t) o x h i)) (within_u family.Selection y (flat-has selections_of (objects family.Contest u) p y k j)) r.alike.1 r.same_id)
+      ∙ paired_values (selections_of_contest o) (selections_of_contest p) pair.selections
+      (λ x y i j r. selection_same x.value y.value (within_t family.Selection x (flat-has selections_of_contest (objects family.Contest t) o x h i)) (within_u family.Selection y (flat-has selections_of_contest (objects family.Contest u) p y k j)) r.alike.1 r.same_id)
       ∙ values-placed_entries selection_member p
 
   contest_same : (o p : Placed) → Has (objects family.Contest t) o → Has (objects family.Contest u) p → ContestPair t u o p → o.value ≡ p.value

@@ -7,7 +7,7 @@ use Rattle.serde_json.specs.View.{items_of, items_view, view}
 use Rattle.serde_json.specs.Written.{has_float, items_have_float}
 use Rattle.serde_json.specs.declared.value.Value.{Value}
 use Rattle.erd_check.specs.Values.{entries_of, list_of_items, entries_at}
-use Rattle.erd_meaning.proofs.WholeParts.{whole_get}
+use Rattle.erd_meaning.proofs.selections.WholeParts.{whole_get}
 
 listed_items : (ds : Items) → items_of (list_of_items ds) ≡ ds
 listed_items no_items = refl

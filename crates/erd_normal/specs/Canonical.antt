@@ -16,10 +16,10 @@ use Rattle.erd_check.specs.declared.want.Want.{Want}
 use Rattle.erd_check.specs.declared.want.Want.TheVariants.{Member}
 use Rattle.erd_meaning.specs.Accepted.{IsAccepted}
 use Rattle.erd_meaning.specs.Keys.{has_keys, key_cmp, key_of}
-use Rattle.erd_meaning.specs.Objects.{Placed, objects, id_of, selections_of}
+use Rattle.erd_meaning.specs.Objects.{Placed, objects, id_of, selections_of_contest}
 use Rattle.erd_meaning.specs.Records.{meaning}
 use Rattle.erd_meaning.specs.SelectionNames.{compact_cmp, name_cmp, name_of, key_named}
-use Rattle.erd_meaning.specs.declared.key.Key.{Key}
+use Rattle.erd_meaning.specs.declared.keys.key.Key.{Key}
 
 -- ---- the envelope
 
@@ -103,7 +103,7 @@ pub record HasCanonicalIds (t : Data) : Type 0 where
   pub families : (f : Family) (i : ℕ) (o : Placed) → IsTrue (has_keys f) → slice_get (objects f t) i ≡ Some o
       → id_of o.value ≡ canonical_id f i
   pub selections : (i j : ℕ) (contest o : Placed) → slice_get (objects family.Contest t) i ≡ Some contest
-      → slice_get (selections_of contest) j ≡ Some o → id_of o.value ≡ Some (canonical_selection_id i j)
+      → slice_get (selections_of_contest contest) j ≡ Some o → id_of o.value ≡ Some (canonical_selection_id i j)
 
 -- ---- the whole
 

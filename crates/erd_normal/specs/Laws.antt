@@ -12,10 +12,10 @@ use Rattle.erd_check.specs.Wants.{Asked, asked_at}
 use Rattle.erd_meaning.specs.Accepted.{IsAccepted}
 use Rattle.erd_meaning.specs.Keys.{has_keys, key_of}
 use Rattle.erd_meaning.specs.NameParts.{NameParts}
-use Rattle.erd_meaning.specs.Objects.{Placed, contests, objects, selections_of, IsObject, id_of}
+use Rattle.erd_meaning.specs.Objects.{Placed, contests, objects, selections_of_contest, IsObject, id_of}
 use Rattle.erd_meaning.specs.Records.{content_of, key_set, object_record, selection_record, meaning}
 use Rattle.erd_meaning.specs.SelectionNames.{name_of, key_named, keys_named}
-use Rattle.erd_meaning.specs.declared.key.Key.{Key}
+use Rattle.erd_meaning.specs.declared.keys.key.Key.{Key}
 use Rattle.erd_normal.specs.Canonical.{kind_wanted, IsCanonical}
 use Rattle.erd_normal.specs.Rearranged.{Change, IsRearrangement}
 
@@ -39,7 +39,7 @@ ids_in f t = map (λ o. id_of o.value) (objects f t)
 
 -- the names of the selections of a contest, in their order
 abbrev pub names_in : Data → Placed → List (Option NameParts)
-names_in t contest = map (λ o. name_of t o.value) (selections_of contest)
+names_in t contest = map (λ o. name_of t o.value) (selections_of_contest contest)
 
 -- each family has the same list of keys, each contest the same of names, and so each family the same `@id` texts
 pub record HaveSameNames (t u : Data) : Type 0 where
@@ -58,7 +58,7 @@ pub record IsSelection (t : Data) (key : Key) (name : NameParts) (selection : Pl
   pub contest : Placed
   pub contest_stands : IsObject t family.Contest contest
   pub contest_key : key_of contest.value ≡ Some key
-  pub stands : Contains (selections_of contest) selection
+  pub stands : Contains (selections_of_contest contest) selection
   pub its_name : name_of t selection.value ≡ Some name
 
 -- equal keys, equal sets of keys, equal selection names of one contest and equal contents are written alike

@@ -26,7 +26,7 @@ pub trait SetOrder {
 
 impl SetOrder for Key {
     ghost use Rattle.erd_meaning.specs.Keys.{key_cmp};
-    ghost use Rattle.erd_meaning.specs.Orders.{key_cmp_exact, key_cmp_total};
+    ghost use Rattle.erd_meaning.specs.code.Orders.{key_cmp_exact, key_cmp_total};
 
     ghost cmp = { key_cmp };
 
@@ -40,7 +40,7 @@ impl SetOrder for Key {
 }
 
 impl SetOrder for SelectionName {
-    ghost use Rattle.erd_meaning.specs.Orders.{name_cmp_exact, name_cmp_total};
+    ghost use Rattle.erd_meaning.specs.code.Orders.{name_cmp_exact, name_cmp_total};
     ghost use Rattle.erd_meaning.specs.SelectionNames.{name_cmp};
 
     ghost cmp = { name_cmp };
@@ -58,7 +58,7 @@ impl SetOrder for Option<Key> {
     ghost use Rattle.std.specs.Cmp.Lexicographic.{options_total};
     ghost use Rattle.std.specs.Option.{option_cmp};
     ghost use Rattle.erd_meaning.specs.Keys.{key_cmp};
-    ghost use Rattle.erd_meaning.specs.Orders.{key_cmp_total};
+    ghost use Rattle.erd_meaning.specs.code.Orders.{key_cmp_total};
     ghost use Rattle.erd_normal.specs.code.KeyOrders.{optional_key_exact};
 
     ghost cmp = { option_cmp key_cmp };
@@ -80,7 +80,7 @@ impl SetOrder for Option<Key> {
 impl SetOrder for Option<SelectionName> {
     ghost use Rattle.std.specs.Cmp.Lexicographic.{options_total};
     ghost use Rattle.std.specs.Option.{option_cmp};
-    ghost use Rattle.erd_meaning.specs.Orders.{name_cmp_total};
+    ghost use Rattle.erd_meaning.specs.code.Orders.{name_cmp_total};
     ghost use Rattle.erd_meaning.specs.SelectionNames.{name_cmp};
     ghost use Rattle.erd_normal.specs.code.NameOrders.{optional_name_exact};
 

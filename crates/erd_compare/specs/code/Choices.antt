@@ -7,7 +7,7 @@ use Rattle.erd_tables.specs.declared.member.MemberKind.{MemberKind}
 use Rattle.erd_tables.specs.declared.member.MemberKind.TheVariants as kind
 use Rattle.erd_check.specs.Values.{entries_at}
 use Rattle.erd_meaning.specs.Meaning.{Label, translated}
-use Rattle.erd_meaning.specs.Records.{beside_text, json_set}
+use Rattle.erd_meaning.specs.Records.{label_beside_text, json_set}
 use Rattle.erd_compare.specs.declared.choice.Choice.{Choice}
 use Rattle.erd_compare.specs.declared.choice.Choice.TheVariants.{BesideText, Carried}
 
@@ -38,4 +38,4 @@ chosen_in choice d = chosen_members choice (members_in d)
 
 -- what a label means that is an object
 abbrev pub translated_label : Data → Label
-translated_label d = translated (beside_text d) (json_set (entries_at (codes "Text") d))
+translated_label d = translated (label_beside_text d) (json_set (entries_at (codes "Text") d))

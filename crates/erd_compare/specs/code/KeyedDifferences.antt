@@ -9,7 +9,7 @@ use Rattle.erd_meaning.specs.Accepted.{IsAccepted}
 use Rattle.erd_meaning.specs.Keys.{key_cmp}
 use Rattle.erd_meaning.specs.Lookups.{key_in}
 use Rattle.erd_meaning.specs.Meaning.{ObjectRecord}
-use Rattle.erd_meaning.specs.declared.key.Key.{Key}
+use Rattle.erd_meaning.specs.declared.keys.key.Key.{Key}
 use Rattle.erd_compare.specs.code.Comparing.{DifferAtKey, IsWholeTree}
 use Rattle.erd_compare.specs.Differences.{Differ}
 use Rattle.erd_compare.specs.declared.difference.Difference.{Difference}

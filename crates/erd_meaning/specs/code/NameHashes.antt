@@ -3,7 +3,7 @@ use Rattle.std.specs.Prelude.{◌++◌}
 use Rattle.std.specs.Hash.{HashWrites, str, slice, option, bool, i128}
 use Rattle.erd_tables.specs.Classes.{text_of_class}
 use Rattle.erd_meaning.specs.NameParts.{NameParts}
-use Rattle.erd_meaning.specs.declared.key.Key.{Key}
+use Rattle.erd_meaning.specs.declared.keys.key.Key.{Key}
 
 -- the three texts of a key
 abbrev pub key_writes : Key → HashWrites

@@ -14,9 +14,9 @@ use Rattle.erd_tables.specs.declared.fault.Reason.TheVariants.{NoIdentifier, Twi
 use Rattle.erd_tables.specs.declared.place.Step.{Step}
 use Rattle.erd_tables.specs.declared.place.Step.TheVariants.{Name}
 use Rattle.erd_check.specs.code.Paths.{fault_at}
-use Rattle.erd_meaning.specs.Keys.{has_keys, kept_key, key_cmp}
-use Rattle.erd_meaning.specs.Objects.{Placed, elections, id_of, placed_entries, report_of, selections_of}
-use Rattle.erd_meaning.specs.declared.key.Key.{Key}
+use Rattle.erd_meaning.specs.Keys.{has_keys, key_of_family_object, key_cmp}
+use Rattle.erd_meaning.specs.Objects.{Placed, elections, id_of, placed_entries, report_of, selections_of_contest}
+use Rattle.erd_meaning.specs.declared.keys.key.Key.{Key}
 
 -- ---- objects
 
@@ -29,7 +29,7 @@ pub record Kept : Type 0 where
 
 -- an object of a family
 abbrev pub kept : Family → Data → Kept
-kept f d = record { family = f; value = d; key = kept_key f d; id = id_of d }
+kept f d = record { family = f; value = d; key = key_of_family_object f d; id = id_of d }
 
 -- an object and its place
 pub record Located : Type 0 where
@@ -46,7 +46,7 @@ located f os = map (located_one f) os
 
 -- a contest and its selections
 abbrev pub contest_located : Placed → List Located
-contest_located o = located_one family.Contest o ∷ located family.Selection (selections_of o)
+contest_located o = located_one family.Contest o ∷ located family.Selection (selections_of_contest o)
 
 -- the objects of an election
 abbrev pub election_located : Placed → List Located

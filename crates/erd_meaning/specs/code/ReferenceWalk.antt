@@ -13,18 +13,18 @@ use Rattle.erd_check.specs.Values.{text_at}
 use Rattle.erd_check.specs.declared.want.Want.{Want}
 use Rattle.erd_check.specs.declared.want.Want.TheVariants.{Reference}
 use Rattle.erd_meaning.specs.LaterFaults.{is_selection_in}
-use Rattle.erd_meaning.specs.Lookups.{is_of_family, is_named}
+use Rattle.erd_meaning.specs.code.ObjectLookups.{is_of_family, keeps_id}
 use Rattle.erd_meaning.specs.code.ObjectWalk.{Kept}
 
 -- ---- look-ups
 
 -- an object has the `@id`
 abbrev pub is_known : List Kept → List ℕ → Bool
-is_known ks id = list_any (is_named id) ks
+is_known ks id = list_any (keeps_id id) ks
 
 -- the object of a family with the `@id`
 abbrev pub owner_among : List Kept → Family → List ℕ → Option Data
-owner_among ks f id = option_map (λ k. k.value) (find (λ k. is_of_family f k && is_named id k) ks)
+owner_among ks f id = option_map (λ k. k.value) (find (λ k. is_of_family f k && keeps_id id k) ks)
 
 -- an object with the `@id` is there, but none of the family
 abbrev pub is_of_others : List Kept → Family → List ℕ → Bool

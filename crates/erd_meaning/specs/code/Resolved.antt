@@ -14,14 +14,15 @@ use Rattle.erd_meaning.specs.Lookups.{selection_in}
 use Rattle.erd_meaning.specs.code.ObjectWalk.{kept_objects}
 use Rattle.erd_meaning.specs.code.SelectionWalk.{NumberedName}
 use Rattle.erd_meaning.specs.code.Shown.{name_shown, shown}
-use Rattle.erd_meaning.specs.declared.named_selection.NamedSelection.{NamedSelection}
-use Rattle.erd_meaning.specs.declared.object.Object.{Object}
+use Rattle.erd_meaning.specs.declared.names.numbered_name.NamedSelection.{NamedSelection}
+use Rattle.erd_meaning.specs.declared.objects.object.Object.{Object}
 
--- no two objects have one key or one `@id`, and those that need a key have one
+-- no two objects of one family have one key, no two objects of the report have one `@id`, and those that need a key have one
 abbrev pub IsIdentified : Value → Type 0
 IsIdentified tree = NoneOf (IdentityFault (view tree))
 
--- each reference names an object of its family, and no set of references names one twice
+-- each reference names an object of its family, no set of references names one twice, and where an object names a contest,
+-- each selection in its list is one of that contest
 abbrev pub IsReferred : Value → Type 0
 IsReferred tree = NoneOf (ReferenceFault (view tree))
 

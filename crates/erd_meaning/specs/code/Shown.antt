@@ -7,10 +7,10 @@ use Rattle.erd_check.specs.declared.path.Path.{Path}
 use Rattle.serde_json.specs.declared.value.Value.{Value}
 use Rattle.erd_meaning.specs.Objects.{Placed}
 use Rattle.erd_meaning.specs.code.SelectionWalk.{NamesMet, NumberedName}
-use Rattle.erd_meaning.specs.declared.named_selection.NamedSelection.{NamedSelection}
-use Rattle.erd_meaning.specs.declared.object.Object.{Object}
-use Rattle.erd_meaning.specs.declared.object_walk.ObjectWalk.{ObjectWalk}
-use Rattle.erd_meaning.specs.declared.selection_walk.SelectionWalk.{SelectionWalk}
+use Rattle.erd_meaning.specs.declared.names.numbered_name.NamedSelection.{NamedSelection}
+use Rattle.erd_meaning.specs.declared.objects.object.Object.{Object}
+use Rattle.erd_meaning.specs.declared.objects.object_walk.ObjectWalk.{ObjectWalk}
+use Rattle.erd_meaning.specs.declared.names.selection_walk.SelectionWalk.{SelectionWalk}
 
 -- an object as it is kept
 abbrev pub shown : Object → Kept

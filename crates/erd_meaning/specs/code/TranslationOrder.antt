@@ -6,7 +6,7 @@ use Rattle.std.proofs.lemmas.Cmp.{on_total}
 use Rattle.serde_json.specs.View.{view}
 use Rattle.serde_json.specs.Written.{compact_text}
 use Rattle.serde_json.specs.declared.value.Value.{Value}
-use Rattle.erd_meaning.specs.Orders.{compact_cmp_total}
+use Rattle.erd_meaning.specs.code.Orders.{compact_cmp_total}
 use Rattle.erd_meaning.specs.SelectionNames.{compact_cmp}
 
 -- the compact text of a value

@@ -8,7 +8,7 @@ use Rattle.erd_tables.specs.declared.class.Family.{Family}
 use Rattle.erd_meaning.specs.Keys.{key_of}
 use Rattle.erd_meaning.specs.Objects.{objects, Placed}
 use Rattle.erd_meaning.specs.SelectionNames.{key_named}
-use Rattle.erd_meaning.specs.declared.key.Key.{Key}
+use Rattle.erd_meaning.specs.declared.keys.key.Key.{Key}
 use Rattle.erd_normal.specs.Canonical.{id_prefix}
 use Rattle.erd_normal.specs.code.NormalTree.{rank_of}
 use Rattle.erd_check.specs.Values.{text_of}

@@ -3,7 +3,7 @@ use Rattle.std.proofs.Common.{Some, None, refl, ap}
 use Rattle.std.specs.Option.{option_cmp}
 use Rattle.std.proofs.lemmas.Map.Lookups.{CmpEqualImpliesEq}
 use Rattle.erd_meaning.specs.Keys.{key_cmp}
-use Rattle.erd_meaning.specs.Orders.{key_cmp_exact}
+use Rattle.erd_meaning.specs.code.Orders.{key_cmp_exact}
 
 pub optional_key_exact : CmpEqualImpliesEq (option_cmp key_cmp)
 optional_key_exact None None e = refl

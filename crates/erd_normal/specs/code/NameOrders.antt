@@ -2,7 +2,7 @@
 use Rattle.std.proofs.Common.{Some, None, refl, ap}
 use Rattle.std.specs.Option.{option_cmp}
 use Rattle.std.proofs.lemmas.Map.Lookups.{CmpEqualImpliesEq}
-use Rattle.erd_meaning.specs.Orders.{name_cmp_exact}
+use Rattle.erd_meaning.specs.code.Orders.{name_cmp_exact}
 use Rattle.erd_meaning.specs.SelectionNames.{name_cmp}
 
 pub optional_name_exact : CmpEqualImpliesEq (option_cmp name_cmp)

@@ -18,10 +18,10 @@ use Rattle.erd_check.specs.Values.{entries_of, entries_at, text_of}
 use Rattle.erd_check.specs.Wants.{class_of_object}
 use Rattle.erd_meaning.specs.Keys.{key_cmp, key_of}
 use Rattle.erd_meaning.specs.NameParts.{NameParts}
-use Rattle.erd_meaning.specs.Objects.{has_id, contests, objects, selections_of, Placed}
+use Rattle.erd_meaning.specs.Objects.{has_id, contests, objects, selections_of_contest, Placed}
 use Rattle.erd_meaning.specs.Records.{class_of_node}
 use Rattle.erd_meaning.specs.SelectionNames.{compact_cmp, key_named, name_cmp, name_of, rising_list, selection_role, with_rising_text}
-use Rattle.erd_meaning.specs.declared.key.Key.{Key}
+use Rattle.erd_meaning.specs.declared.keys.key.Key.{Key}
 use Rattle.erd_normal.specs.Canonical.{canonical_id, canonical_selection_id}
 
 -- ---- ranks and references
@@ -57,11 +57,11 @@ id_of_selection t contest d =
 
 -- the contest that has a selection with the `@id`
 abbrev pub contest_with : Data → List ℕ → Option Placed
-contest_with t id = find (λ c. option_map_or (λ o. true) (find (λ o. has_id id o.value) (selections_of c)) false) (contests t)
+contest_with t id = find (λ c. option_map_or (λ o. true) (find (λ o. has_id id o.value) (selections_of_contest c)) false) (contests t)
 
 -- the selection of a contest that has the `@id`
 abbrev pub selection_with : List ℕ → Placed → Option Placed
-selection_with id c = find (λ o. has_id id o.value) (selections_of c)
+selection_with id c = find (λ o. has_id id o.value) (selections_of_contest c)
 
 -- a reference to a selection
 abbrev pub normal_selection_reference : Data → Data → Data

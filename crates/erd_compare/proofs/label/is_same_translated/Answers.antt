@@ -4,7 +4,7 @@ use Rattle.serde_json.specs.Data.{Data}
 use Rattle.serde_json.specs.View.{view}
 use Rattle.erd_check.specs.Trees.{are_same_members}
 use Rattle.erd_check.specs.Values.{entries_at}
-use Rattle.erd_meaning.specs.Records.{beside_text, json_set}
+use Rattle.erd_meaning.specs.Records.{label_beside_text, json_set}
 use Rattle.erd_compare.specs.code.Choices.{chosen_in, translated_label}
 use Rattle.erd_compare.specs.code.Comparing.{Decides, IsWholeTree}
 use Rattle.erd_compare.specs.declared.choice.Choice.TheVariants.{BesideText}
@@ -22,8 +22,8 @@ is_same_set-requires-clause-others c =
     whole_values-entries_at (codes "Text") (view c.args.other.now) c.entries_at-then-is_same_choice.result.now c.requires.other c.entries_at-then-is_same_choice.ensures
 
 -- the members beside the translations
-same_beside : (d e : Data) → IsWholeTree d → IsWholeTree e → Decides (are_same_members (chosen_in BesideText d) (chosen_in BesideText e)) (beside_text d) (beside_text e)
-same_beside d e left right = chosen-Decides BesideText BesideText d e (beside_text d) (beside_text e) left right (chosen_beside d) (chosen_beside e)
+same_beside : (d e : Data) → IsWholeTree d → IsWholeTree e → Decides (are_same_members (chosen_in BesideText d) (chosen_in BesideText e)) (label_beside_text d) (label_beside_text e)
+same_beside d e left right = chosen-Decides BesideText BesideText d e (label_beside_text d) (label_beside_text e) left right (chosen_beside d) (chosen_beside e)
 
 pub returns-then-is_same_choice : goal.returns-then-is_same_choice
 returns-then-is_same_choice c =

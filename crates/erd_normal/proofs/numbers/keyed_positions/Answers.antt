@@ -1,7 +1,7 @@
 use Rattle.std.proofs.Common.{◌≡◌, ℕ, ◌+◌, ◌∷◌, [], ◌++◌, List, drop, length, option_map, Option, Vec, Global, sym, ap, ◌∙◌, subst, arith}
 use Rattle.serde_json.specs.View.{view}
 use Rattle.erd_meaning.specs.Objects.{objects}
-use Rattle.erd_meaning.specs.declared.key.Key.{Key}
+use Rattle.erd_meaning.specs.declared.keys.key.Key.{Key}
 use Rattle.erd_normal.specs.code.Building.{key_positions}
 use Rattle.erd_normal.proofs.KeyPositions.{positions_all, positions_none, positions_some}
 use Rattle.erd_normal.proofs.numbers.keyed_positions.Goals as goal

@@ -2,7 +2,7 @@ use Rattle.std.proofs.Common.{◌≡◌, IfOk, Option, option_and_then, sym, sub
 use Rattle.serde_json.specs.View.{view}
 use Rattle.erd_meaning.specs.Keys.{key_of}
 use Rattle.erd_meaning.specs.SelectionNames.{key_named}
-use Rattle.erd_meaning.specs.declared.key.Key.{Key}
+use Rattle.erd_meaning.specs.declared.keys.key.Key.{Key}
 use Rattle.erd_normal.proofs.NumberedReferences.{key_elsewhere, key_here, key_nowhere}
 use Rattle.erd_normal.proofs.references.key_referred.Goals as goal
 

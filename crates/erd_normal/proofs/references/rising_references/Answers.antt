@@ -3,7 +3,7 @@ use Rattle.std.specs.Cmp.Lexicographic.{options_total}
 use Rattle.std.specs.Option.{option_cmp}
 use Rattle.serde_json.specs.View.{view}
 use Rattle.erd_meaning.specs.Keys.{key_cmp}
-use Rattle.erd_meaning.specs.Orders.{key_cmp_total}
+use Rattle.erd_meaning.specs.code.Orders.{key_cmp_total}
 use Rattle.erd_meaning.specs.SelectionNames.{key_named}
 use Rattle.erd_normal.specs.code.NormalTree.{normal_reference}
 use Rattle.erd_check.specs.Values.{text_of}

@@ -1,6 +1,6 @@
 use Rattle.std.proofs.Common.{◌∙◌, sym, subst}
 use Rattle.erd_meaning.specs.code.Resolved.{IsResolved}
-use Rattle.erd_meaning.proofs.Lookups.{counted}
+use Rattle.erd_meaning.proofs.finding.Lookups.{counted}
 use Rattle.erd_meaning.proofs.report.Report.count.Goals as goal
 
 pub returns : goal.returns

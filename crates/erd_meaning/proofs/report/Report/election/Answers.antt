@@ -2,7 +2,7 @@ use Rattle.std.proofs.Common.{arith, ◌≡◌, ◌∷◌, [], map, ap, ◌∙�
 use Rattle.serde_json.specs.View.{view}
 use Rattle.serde_json.specs.declared.value.Value.{Value}
 use Rattle.erd_meaning.specs.Objects.{Placed, elections}
-use Rattle.erd_meaning.proofs.Skeleton.{one_election}
+use Rattle.erd_meaning.proofs.accepted.Skeleton.{one_election}
 use Rattle.erd_meaning.proofs.report.Report.election.Goals as goal
 
 pub bounds-entries_at-0 : goal.bounds-entries_at-0

@@ -1,6 +1,6 @@
 use Rattle.std.proofs.Common.{◌≡◌, ap, sym, subst, ◌∙◌}
 use Rattle.erd_meaning.specs.code.Resolved.{IsResolved}
-use Rattle.erd_meaning.proofs.Found.{key_found, key_missed, rank}
+use Rattle.erd_meaning.proofs.finding.Found.{key_found, key_missed, rank}
 use Rattle.erd_meaning.proofs.report.Report.find.Goals as goal
 
 pub returns-in-Some : goal.returns-in-Some

@@ -1,6 +1,6 @@
 use Rattle.std.proofs.Common.{sym, subst}
 use Rattle.erd_meaning.specs.code.Resolved.{IsResolved}
-use Rattle.erd_meaning.proofs.FoundSelections.{selection_found}
+use Rattle.erd_meaning.proofs.finding.FoundSelections.{selection_found}
 use Rattle.erd_meaning.proofs.report.Report.find_selection.Goals as goal
 
 pub returns : goal.returns

@@ -3,7 +3,7 @@ use Rattle.serde_json.specs.View.{view}
 use Rattle.erd_meaning.specs.NameParts.{NameParts}
 use Rattle.erd_meaning.specs.code.NamesAmong.{name_among}
 use Rattle.erd_meaning.specs.code.Resolved.{IsResolved}
-use Rattle.erd_meaning.proofs.AmongNames.{name_same}
+use Rattle.erd_meaning.proofs.selections.AmongNames.{name_same}
 use Rattle.erd_meaning.proofs.report.Report.name_of.Goals as goal
 
 pub returns : goal.returns

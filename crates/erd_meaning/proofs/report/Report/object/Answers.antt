@@ -1,7 +1,7 @@
 use Rattle.std.proofs.Common.{ap, option_map, ◌∙◌, sym, subst}
 use Rattle.erd_meaning.specs.code.Resolved.{IsResolved}
 use Rattle.erd_meaning.specs.code.ObjectWalk.{Kept}
-use Rattle.erd_meaning.proofs.Lookups.{value_at}
+use Rattle.erd_meaning.proofs.finding.Lookups.{value_at}
 use Rattle.erd_meaning.proofs.report.Report.object.Goals as goal
 
 pub returns-in-Some : goal.returns-in-Some

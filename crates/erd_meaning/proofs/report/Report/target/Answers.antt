@@ -1,6 +1,6 @@
 use Rattle.std.proofs.Common.{◌≡◌, ap, get_or, sym, subst, ◌∙◌}
 use Rattle.erd_meaning.specs.code.Resolved.{IsResolved}
-use Rattle.erd_meaning.proofs.Found.{id_found, id_missed, rank}
+use Rattle.erd_meaning.proofs.finding.Found.{id_found, id_missed, rank}
 use Rattle.erd_meaning.proofs.report.Report.target.Goals as goal
 
 pub returns-in-Some : goal.returns-in-Some

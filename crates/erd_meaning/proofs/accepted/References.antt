@@ -1,0 +1,111 @@
+-- What the references of an accepted report name.
+use Rattle.std.proofs.Common.{◌≡◌, ℕ, zero, suc, List, [], ◌∷◌, ◌++◌, Option, Some, None, option_map, option_and_then, is_some, Contains, Bool, true, false, codes, find, refl, sym, ap, ◌∙◌, subst, arith, not, is_none, ◌&&◌}
+use Rattle.std.specs.Prelude.{IsTrue}
+use Rattle.std.specs.List.{list_any}
+use Rattle.serde_json.specs.Data.{Data, string}
+use Rattle.erd_tables.specs.declared.class.Family.{Family}
+use Rattle.erd_tables.specs.declared.place.Step.{Step}
+use Rattle.erd_tables.specs.declared.place.Step.TheVariants.{At, Name}
+use Rattle.erd_tables.specs.declared.class.Family.TheVariants as family
+use Rattle.erd_tables.specs.declared.fault.Reason.TheVariants as reason
+use Rattle.erd_check.specs.Wants.{Asked, asked_at, asked}
+use Rattle.erd_check.proofs.Rising.{Has, here, later}
+use Rattle.erd_check.specs.declared.want.Want.TheVariants.{Reference}
+use Rattle.erd_check.proofs.Shapes.{Within, false_unless, not_within, true_unless}
+use Rattle.erd_meaning.specs.declared.keys.key.Key.{Key}
+use Rattle.erd_meaning.specs.Accepted.{IsAccepted}
+use Rattle.erd_meaning.specs.LaterFaults.{is_reference_fault, is_selection_in}
+use Rattle.erd_meaning.specs.Objects.{Placed, has_id, is_owned, objects, owner}
+use Rattle.erd_meaning.specs.SelectionNames.{key_named}
+use Rattle.erd_meaning.specs.Keys.{key_of, has_keys}
+use Rattle.erd_check.specs.Values.{text_at}
+use Rattle.erd_meaning.proofs.accepted.Phases.{no_reference_fault, no_identity_fault}
+
+found_either : (some any : Bool) → not any ≡ false → (not some && any) ≡ false → some ≡ true
+found_either true any h k = refl
+found_either false true h k = cc
+found_either false false h k = cc
+
+some_from : {A : Type 0} (o : Option A) → is_some o ≡ true → (x : A) × (o ≡ Some x)
+some_from None h = cc
+some_from (Some x) h = (x, refl)
+
+none_not : {A : Type 0} (o : Option A) → is_none o ≡ not (is_some o)
+none_not None = refl
+none_not (Some x) = refl
+
+-- a reference names an object of its family
+pub owned : (t : Data) → IsAccepted t → (f : Family) (r : List ℕ) → Within t (asked (Reference f) (string r)) → (o : Data) × (owner t f r ≡ Some o)
+owned t accepted f r w =
+    let a : Asked = asked (Reference f) (string r) in
+    let known : not (is_owned t r) ≡ false = false_unless _ (not_within t a (λ x. IsTrue (is_reference_fault t x reason.Unresolved)) w (no_reference_fault t accepted w.place reason.Unresolved)) in
+    let here : (is_none (owner t f r) && is_owned t r) ≡ false = false_unless _ (not_within t a (λ x. IsTrue (is_reference_fault t x reason.WrongFamily)) w (no_reference_fault t accepted w.place reason.WrongFamily)) in
+    some_from (owner t f r) (found_either (is_some (owner t f r)) (is_owned t r) known (rw (none_not (owner t f r)) at here))
+
+-- no entry of a set of references repeats an earlier one
+pub unrepeated_reference : (t : Data) → IsAccepted t → (f : Family) (d : Data) (b : Bool) → Within t (record { want = Reference f; value = d; repeated = b }) → Within t (asked (Reference f) d)
+unrepeated_reference t accepted f d true w = absurd (not_within t (record { want = Reference f; value = d; repeated = true }) (λ x. IsTrue (is_reference_fault t x reason.Repeated)) w (no_reference_fault t accepted w.place reason.Repeated) refl)
+unrepeated_reference t accepted f d false w = w
+
+-- an entry of a ballot's list is a selection of the contest
+pub selected : (t : Data) → IsAccepted t → (a : Asked) (contest : Data) (w : Within t a) → owner t family.Contest (text_at (codes "ContestId") a.value) ≡ Some contest
+    → (i : ℕ) (r : List ℕ) → asked_at t (w.place ++ Name (codes "OrderedContestSelectionIds") ∷ At i ∷ []) ≡ Some (asked (Reference family.Selection) (string r)) → is_selection_in contest r ≡ true
+selected t accepted a contest w names i r e =
+    let p : List Step = w.place ++ Name (codes "OrderedContestSelectionIds") ∷ At i ∷ [] in
+    let stands : is_some (owner t family.Selection r) ≡ true = ap is_some (owned t accepted family.Selection r (record { place = p; is = e })).1 in
+    true_unless (is_selection_in contest r) (λ h. no_reference_fault t accepted p reason.SelectionOfOtherContest (record {
+      object_place = w.place;
+      position = i;
+      place = refl;
+      ordered_contest = a;
+      ordered_contest_stands = w.is;
+      entry = asked (Reference family.Selection) (string r);
+      entry_stands = e;
+      elsewhere = rw (stands, names, h);
+    }))
+
+-- what is found passes, and stands in the list
+pub find-Some : {A : Type 0} (test : A → Bool) (xs : List A) (x : A) → find test xs ≡ Some x → Has xs x × (test x ≡ true)
+find-Some test [] x e = cc
+find-Some {A} test (y ∷ ys) x e = at (test y) refl (find-Some test ys x)
+  where
+    at : (b : Bool) → test y ≡ b → (find test ys ≡ Some x → Has ys x × (test x ≡ true)) → Has (y ∷ ys) x × (test x ≡ true)
+    at true is h = let f : Some y ≡ Some x = rw is at e in let g : y ≡ x = cc in (subst (λ z. Has (y ∷ ys) z) g here, subst (λ z. test z ≡ true) g is)
+    at false is h = let r = h (rw is at e) in (later r.0, r.1)
+
+pub find-any : {A : Type 0} (test : A → Bool) (xs : List A) → list_any test xs ≡ true → (x : A) × (find test xs ≡ Some x) × (test x ≡ true) × Has xs x
+find-any test [] e = cc
+find-any {A} test (x ∷ xs) e = at (test x) refl (find-any test xs)
+  where
+    at : (b : Bool) → test x ≡ b → (list_any test xs ≡ true → (y : A) × (find test xs ≡ Some y) × (test y ≡ true) × Has xs y) → (y : A) × (find test (x ∷ xs) ≡ Some y) × (test y ≡ true) × Has (x ∷ xs) y
+    at true is h = (x, rw is, is, here)
+    at false is h = let r = h (rw is at e) in (r.0, rw is r.1, r.2, later r.3)
+
+pub Contains-Has : {A : Type 0} (xs : List A) (x : A) → Has xs x → Contains xs x
+Contains-Has xs x (here {xs = ys}) = (0, omega arith, refl)
+Contains-Has xs x (later {y = y} {xs = ys} h) = let r = Contains-Has ys x h in (suc r.0, omega (arith, r.1), r.2)
+
+pub Has-Contains : {A : Type 0} (xs : List A) (x : A) → Contains xs x → Has xs x
+Has-Contains [] x (k, low, e) = absurd (omega (arith, low))
+Has-Contains (y ∷ ys) x (zero, low, e) = subst (Has (y ∷ ys)) e here
+Has-Contains (y ∷ ys) x (suc k, low, e) = later (Has-Contains ys x (k, omega (arith, low), e))
+
+pub option_map-Some : {A B : Type 0} (f : A → B) (o : Option A) (y : B) → option_map f o ≡ Some y → (x : A) × (o ≡ Some x) × (f x ≡ y)
+option_map-Some f None y e = cc
+option_map-Some f (Some x) y e = (x, refl, cc)
+
+-- an object of a family that is named by keys has one
+pub has_identifier : (t : Data) → IsAccepted t → (f : Family) (o : Placed) → has_keys f ≡ true → Has (objects f t) o → (k : Key) × (key_of o.value ≡ Some k)
+has_identifier t accepted f o keyed h = at (key_of o.value) refl
+  where
+    at : (k : Option Key) → key_of o.value ≡ k → (l : Key) × (key_of o.value ≡ Some l)
+    at None e = absurd (no_identity_fault t accepted o.place reason.NoIdentifier (record { family = f; keyed = keyed; placed = o; stands = Contains-Has (objects f t) o h; place = refl; keyless = e }))
+    at (Some k) e = (k, e)
+
+-- a reference names an object that has a key
+pub resolves : (t : Data) → IsAccepted t → (f : Family) (r : List ℕ) → has_keys f ≡ true → Within t (asked (Reference f) (string r)) → (k : Key) × (key_named t f r ≡ Some k)
+resolves t accepted f r keyed w =
+    let o = owned t accepted f r w in
+    let x = option_map-Some (λ x. x.value) (find (λ x. has_id r x.value) (objects f t)) o.0 o.1 in
+    let k = has_identifier t accepted f x.0 keyed (find-Some (λ x. has_id r x.value) (objects f t) x.0 x.1).0 in
+    (k.0, ap (option_and_then key_of) o.1 ∙ ap key_of (sym x.2) ∙ k.1)

@@ -1,0 +1,7 @@
+-- What the definitions say of small reports, by computation.
+mod ReferenceExamples
+mod NameExamples
+pub mod RecordExamples
+mod LaterFaultExamples
+pub mod AcceptedExamples
+mod RefusedExamples

@@ -1,0 +1,129 @@
+-- Faults of identity, of references and of selections, as facts on small trees, by computation.
+use Rattle.std.proofs.Common.{◌≡◌, ℕ, [], ◌∷◌, Some, None, codes, true, false, refl, lit<}
+use Rattle.std.specs.Prelude.{slice_get, unwrap_or, option_and_then}
+use Rattle.serde_json.specs.Data.{Data, boolean}
+use Rattle.serde_json.proofs.OnLiterals.{serde_json_on_literals}
+use Rattle.erd_tables.specs.declared.class.Class.TheVariants as class
+use Rattle.erd_tables.specs.declared.class.Family.{Family}
+use Rattle.erd_tables.specs.declared.class.Family.TheVariants as family
+use Rattle.erd_tables.specs.declared.class.Role.TheVariants as role
+use Rattle.erd_tables.specs.declared.fault.Reason.TheVariants.{NoIdentifier, TwinIdentifier, DuplicateId, WrongFamily, SelectionOfOtherContest, TwinSelection}
+use Rattle.erd_tables.specs.declared.place.Step.TheVariants.{Name, At}
+use Rattle.erd_check.proofs.Reports.{tree_of}
+use Rattle.erd_check.specs.Wants.{asked}
+use Rattle.erd_check.specs.declared.want.Want.TheVariants.{Object, Reference}
+use Rattle.erd_meaning.specs.LaterFaults.{IdentityFault, ReferenceFault, SelectionFault}
+use Rattle.erd_meaning.specs.Meaning.{a_json}
+use Rattle.erd_meaning.specs.Objects.{Placed, objects, report_of}
+use Rattle.erd_meaning.specs.Records.{selection_record}
+use Rattle.erd_meaning.specs.SelectionNames.{name_of, name_in_class}
+
+-- the object at this position of its family
+abbrev object_at : Data → Family → ℕ → Placed
+object_at t f i = unwrap_or (slice_get (objects f t) i) (report_of t)
+
+-- an empty array of identifiers is none, and a style needs one too
+no_identifier : IdentityFault (tree_of (codes "{\"GpUnit\":[{\"ExternalIdentifier\":[]}]}")) (Name (codes "GpUnit") ∷ At 0 ∷ []) NoIdentifier
+    × IdentityFault (tree_of (codes "{\"Election\":[{\"BallotStyle\":[{}]}]}")) (Name (codes "Election") ∷ At 0 ∷ Name (codes "BallotStyle") ∷ At 0 ∷ []) NoIdentifier
+unfolding serde_json_on_literals
+no_identifier = (
+  record {
+    family = family.Unit;
+    keyed = refl;
+    placed = object_at (tree_of (codes "{\"GpUnit\":[{\"ExternalIdentifier\":[]}]}")) family.Unit 0;
+    stands = (0, lit< tt, refl);
+    place = refl;
+    keyless = refl;
+  },
+  record {
+    family = family.Style;
+    keyed = refl;
+    placed = object_at (tree_of (codes "{\"Election\":[{\"BallotStyle\":[{}]}]}")) family.Style 0;
+    stands = (0, lit< tt, refl);
+    place = refl;
+    keyless = refl;
+  },
+)
+
+abbrev twins : Data
+twins = tree_of (codes "{\"GpUnit\":[{\"@id\":\"u7\",\"ExternalIdentifier\":[{\"Type\":\"other\",\"Value\":\"X\"}]},{\"@id\":\"u8\",\"ExternalIdentifier\":[{\"Type\":\"other\",\"Value\":\"X\",\"OtherType\":\"\"},{\"Type\":\"z\",\"Value\":\"Y\"}]}],\"Party\":[{\"@id\":\"u7\"}]}")
+
+-- the later unit has the key of the earlier one, and a party its `@id`
+twin_units : IdentityFault twins (Name (codes "GpUnit") ∷ At 1 ∷ []) TwinIdentifier × IdentityFault twins (Name (codes "Party") ∷ At 0 ∷ Name (codes "@id") ∷ []) DuplicateId
+unfolding serde_json_on_literals
+twin_units = (
+  record {
+    family = family.Unit;
+    keyed = refl;
+    later = object_at twins family.Unit 1;
+    later_stands = (1, lit< tt, refl);
+    place = refl;
+    earlier = object_at twins family.Unit 0;
+    earlier_stands = (0, lit< tt, refl);
+    before = refl;
+    key = record { kind = codes "other"; other = []; value = codes "X" };
+    later_key = refl;
+    earlier_key = refl;
+  },
+  record {
+    family = family.Party;
+    later = object_at twins family.Party 0;
+    later_stands = (0, lit< tt, refl);
+    place = refl;
+    earlier_family = family.Unit;
+    earlier = object_at twins family.Unit 0;
+    earlier_stands = (0, lit< tt, refl);
+    before = refl;
+    id = codes "u7";
+    later_id = refl;
+    earlier_id = refl;
+  },
+)
+
+abbrev write_ins : Data
+write_ins = tree_of (codes "{\"Election\":[{\"Contest\":[{\"ContestSelection\":[{\"@type\":\"ElectionResults.CandidateSelection\",\"IsWriteIn\":true},{\"@type\":\"ElectionResults.CandidateSelection\",\"IsWriteIn\":true,\"Note\":1}]}]}]}")
+
+-- two lines for write-ins that nothing in their names tells apart
+twin_selections : SelectionFault write_ins (Name (codes "Election") ∷ At 0 ∷ Name (codes "Contest") ∷ At 0 ∷ Name (codes "ContestSelection") ∷ At 1 ∷ []) TwinSelection
+unfolding serde_json_on_literals
+twin_selections = record {
+  contest = object_at write_ins family.Contest 0;
+  contest_stands = (0, lit< tt, refl);
+  later = object_at write_ins family.Selection 1;
+  later_stands = (1, lit< tt, refl);
+  place = refl;
+  earlier = object_at write_ins family.Selection 0;
+  earlier_stands = (0, lit< tt, refl);
+  before = refl;
+  name = record (name_in_class write_ins class.CandidateSelection write_ins) { write_in = true };
+  later_name = refl;
+  earlier_name = refl;
+}
+
+abbrev other_contest : Data
+other_contest = tree_of (codes "{\"@type\":\"ElectionResults.ElectionReport\",\"Election\":[{\"@type\":\"ElectionResults.Election\",\"Contest\":[{\"@id\":\"c1\",\"ContestSelection\":[{\"@id\":\"s1\"}]},{\"@id\":\"c2\",\"ContestSelection\":[{\"@id\":\"s2\"}]}],\"BallotStyle\":[{\"@type\":\"ElectionResults.BallotStyle\",\"OrderedContent\":[{\"@type\":\"ElectionResults.OrderedContest\",\"ContestId\":\"c1\",\"OrderedContestSelectionIds\":[\"s1\",\"s2\",\"c2\"]}]}]}]}")
+
+-- a selection of the second contest where the first is named, and a contest where a selection belongs
+other_selections : ReferenceFault other_contest (Name (codes "Election") ∷ At 0 ∷ Name (codes "BallotStyle") ∷ At 0 ∷ Name (codes "OrderedContent") ∷ At 0 ∷ Name (codes "OrderedContestSelectionIds") ∷ At 1 ∷ []) SelectionOfOtherContest
+    × ReferenceFault other_contest (Name (codes "Election") ∷ At 0 ∷ Name (codes "BallotStyle") ∷ At 0 ∷ Name (codes "OrderedContent") ∷ At 0 ∷ Name (codes "OrderedContestSelectionIds") ∷ At 2 ∷ []) WrongFamily
+unfolding serde_json_on_literals
+other_selections = (
+  record {
+    object_place = (Name (codes "Election") ∷ At 0 ∷ Name (codes "BallotStyle") ∷ At 0 ∷ Name (codes "OrderedContent") ∷ At 0 ∷ []);
+    position = 1;
+    place = refl;
+    ordered_contest = asked (Object role.Content) (tree_of (codes "{\"@type\":\"ElectionResults.OrderedContest\",\"ContestId\":\"c1\",\"OrderedContestSelectionIds\":[\"s1\",\"s2\",\"c2\"]}"));
+    ordered_contest_stands = refl;
+    entry = asked (Reference family.Selection) (tree_of (codes "\"s2\""));
+    entry_stands = refl;
+    elsewhere = refl;
+  },
+  refl,
+)
+
+-- `IsWriteIn` false and absent give one name and two records
+absent_or_false : (let t = tree_of (codes "{\"@type\":\"ElectionResults.CandidateSelection\"}") in let u = tree_of (codes "{\"@type\":\"ElectionResults.CandidateSelection\",\"IsWriteIn\":false}") in
+    (name_of t t ≡ name_of t u) × (option_and_then (λ r. r.members (codes "IsWriteIn")) (selection_record t t) ≡ None)
+    × (option_and_then (λ r. r.members (codes "IsWriteIn")) (selection_record t u) ≡ Some (a_json (boolean false))))
+unfolding serde_json_on_literals
+absent_or_false = (refl, refl, refl)

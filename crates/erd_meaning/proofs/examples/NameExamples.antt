@@ -1,0 +1,72 @@
+-- The names of the selections of the small ballot, by computation.
+use Rattle.std.proofs.Common.{◌≡◌, ℕ, List, [], ◌∷◌, Option, Some, None, map, codes, Bool, true, false, ◌&&◌, is_lt, refl}
+use Rattle.std.specs.Prelude.{ℤ, pos, negsuc}
+use Rattle.serde_json.specs.Data.{Data}
+use Rattle.serde_json.proofs.OnLiterals.{serde_json_on_literals}
+use Rattle.erd_tables.specs.declared.class.Class.TheVariants as class
+use Rattle.erd_tables.specs.declared.class.Family.TheVariants as family
+use Rattle.erd_check.proofs.Reports.{tree_of, small_ballot, small_ballot_canonical}
+use Rattle.erd_meaning.specs.NameParts.{NameParts}
+use Rattle.erd_meaning.specs.Objects.{objects}
+use Rattle.erd_meaning.specs.SelectionNames.{name_of, name_cmp}
+use Rattle.erd_meaning.specs.declared.keys.key.Key.{Key}
+
+abbrev local_key : List ℕ → Key
+local_key value = record { kind = codes "local-level"; other = []; value = value }
+
+abbrev names_in : Data → List (Option NameParts)
+names_in t = map (λ o. name_of t o.value) (objects family.Selection t)
+
+abbrev for_candidates : List Key → NameParts
+for_candidates keys = record { class = class.CandidateSelection; keys = keys; write_in = false; order = None; label = None; identifier = None }
+
+abbrev with_label : List ℕ → NameParts
+with_label label = record { class = class.BallotMeasureSelection; keys = []; write_in = false; order = None; label = Some label; identifier = None }
+
+abbrev write_in_line : NameParts
+write_in_line = record (for_candidates []) { write_in = true }
+
+abbrev for_two : NameParts
+for_two = for_candidates (local_key (codes "K1") ∷ local_key (codes "K2") ∷ [])
+
+abbrev for_one : NameParts
+for_one = for_candidates (local_key (codes "K3") ∷ [])
+
+abbrev yes : NameParts
+yes = with_label (codes "{\"@type\":\"ElectionResults.InternationalizedText\",\"Text\":[{\"@type\":\"ElectionResults.LanguageString\",\"Content\":\"Si\",\"Language\":\"es\"},{\"@type\":\"ElectionResults.LanguageString\",\"Content\":\"Yes\",\"Language\":\"en\"}]}")
+
+abbrev no : NameParts
+no = with_label (codes "\"No\"")
+
+-- candidates by their keys in rising order, the label with its translations in rising order
+names_of_selections : names_in (tree_of small_ballot) ≡ Some for_two ∷ Some for_one ∷ Some write_in_line ∷ Some yes ∷ Some no ∷ []
+unfolding serde_json_on_literals
+names_of_selections = refl
+
+-- the canonical form has the same names, rising within each contest
+names_of_canonical_selections : names_in (tree_of small_ballot_canonical) ≡ Some write_in_line ∷ Some for_two ∷ Some for_one ∷ Some no ∷ Some yes ∷ []
+unfolding serde_json_on_literals
+names_of_canonical_selections = refl
+
+abbrev rise : List NameParts → Bool
+rise [] = true
+rise (a ∷ []) = true
+rise (a ∷ b ∷ names) = is_lt (name_cmp a b) && rise (b ∷ names)
+
+abbrev sequenced : Option ℤ → NameParts
+sequenced order = record write_in_line { order = order }
+
+-- by class, by keys as words, not for a write-in first, by number with none first, by label, by identifier with none first
+names_in_order : rise (no ∷ yes ∷ for_candidates [] ∷ write_in_line ∷ record write_in_line { identifier = Some (local_key (codes "W1")) } ∷ sequenced (Some (pos 2))
+    ∷ sequenced (Some (pos 10)) ∷ for_candidates (local_key (codes "K1") ∷ []) ∷ for_two ∷ for_one ∷ []) ≡ true
+names_in_order = refl
+
+-- the six parts of a selection that has them; `IsWriteIn` counts in its own class alone, false is as absent
+parts_of_names : (let t = tree_of small_ballot in map (λ text. name_of t (tree_of text)) (
+    (codes "{\"@type\":\"ElectionResults.PartySelection\",\"PartyIds\":[\"a3\"],\"IsWriteIn\":true,\"SequenceOrder\":-1,\"Selection\":\"Blue\",\"ExternalIdentifier\":[{\"Type\":\"local-level\",\"Value\":\"W1\"}]}")
+    ∷ (codes "{\"@type\":\"ElectionResults.CandidateSelection\",\"CandidateIds\":[\"a7\"],\"IsWriteIn\":false,\"EndorsementPartyIds\":[\"a3\"]}")
+    ∷ (codes "{\"@type\":\"ElectionResults.Candidate\"}") ∷ []))
+    ≡ Some (record { class = class.PartySelection; keys = local_key (codes "P1") ∷ []; write_in = false; order = Some (negsuc 0); label = None; identifier = Some (local_key (codes "W1")) })
+    ∷ Some for_one ∷ None ∷ []
+unfolding serde_json_on_literals
+parts_of_names = refl

@@ -1,0 +1,120 @@
+-- Whole reports that are refused, each with the list of all its faults: one for each phase, by computation.
+use Rattle.std.proofs.Common.{◌≡◌, ℕ, List, [], ◌∷◌, ◌++◌, codes, true, length, refl}
+use Rattle.serde_json.specs.Data.{Data}
+use Rattle.serde_json.proofs.OnLiterals.{serde_json_on_literals}
+use Rattle.erd_tables.specs.Faults.{ListsAll}
+use Rattle.erd_tables.specs.declared.fault.Fault.{Fault}
+use Rattle.erd_tables.specs.declared.fault.Reason.TheVariants.{TwinIdentifier, Unresolved, WrongFamily, SelectionOfOtherContest, TwinSelection}
+use Rattle.erd_tables.specs.declared.place.Step.{Step}
+use Rattle.erd_tables.specs.declared.place.Step.TheVariants.{Name, At}
+use Rattle.erd_check.specs.code.Paths.{fault_at}
+use Rattle.erd_check.proofs.Deciding.{is_tree, faults_found, no_fault_listed, tree_sound}
+use Rattle.erd_check.proofs.Reports.{tree_of, small_ballot_with, header_node, contest_node, with_election_member}
+use Rattle.erd_check.proofs.WholeExamples.{faulty, faulty_faults, faulty_has_all}
+use Rattle.erd_meaning.specs.Accepted.{IsFault}
+use Rattle.erd_meaning.proofs.identity.IdentityFaults.{identity_told}
+use Rattle.erd_meaning.proofs.SelectionEntries.{reference_faults}
+use Rattle.erd_meaning.proofs.selections.SelectionFaults.{selections_told}
+use Rattle.erd_meaning.proofs.refused.RefusedLists.{refused_by_shape, refused_by_identity, refused_by_references, refused_by_selections}
+
+-- ---- the shape: a report with many faults
+
+faulty_refused : ListsAll (IsFault (tree_of faulty)) faulty_faults
+faulty_refused = refused_by_shape (tree_of faulty) faulty_has_all
+
+-- ---- identity: two candidates with one key
+
+abbrev twin_candidates : Data
+twin_candidates = tree_of (small_ballot_with (codes "K1") (header_node ++ codes "," ++ contest_node))
+
+-- the second of them
+abbrev twin_candidate : Fault
+twin_candidate = fault_at (Name (codes "Election") ∷ At 0 ∷ Name (codes "Candidate") ∷ At 1 ∷ []) TwinIdentifier
+
+twin_candidates_tree : is_tree twin_candidates ≡ true
+unfolding serde_json_on_literals
+twin_candidates_tree = refl
+
+twin_candidates_shape : length (faults_found twin_candidates) ≡ 0
+unfolding serde_json_on_literals
+twin_candidates_shape = refl
+
+twin_candidates_found : identity_told twin_candidates ≡ twin_candidate ∷ []
+unfolding serde_json_on_literals
+twin_candidates_found = refl
+
+twin_candidates_refused : ListsAll (IsFault twin_candidates) (twin_candidate ∷ [])
+twin_candidates_refused =
+    refused_by_identity twin_candidates twin_candidate [] (no_fault_listed twin_candidates twin_candidates_tree twin_candidates_shape) twin_candidates_found
+
+-- ---- references: a contest on the ballot with a selection of another contest, one of its own, a header and nothing
+
+abbrev strange_node : List ℕ
+strange_node = codes "{\"@type\":\"ElectionResults.OrderedContest\",\"ContestId\":\"a12\",\"OrderedContestSelectionIds\":[\"a9\",\"a13\",\"a4\",\"none\"]}"
+
+abbrev strange_entries : Data
+strange_entries = tree_of (small_ballot_with (codes "K3") strange_node)
+
+abbrev strange_entry : ℕ → List Step
+strange_entry i = Name (codes "Election") ∷ At 0 ∷ Name (codes "BallotStyle") ∷ At 0 ∷ Name (codes "OrderedContent") ∷ At 0 ∷ Name (codes "OrderedContestSelectionIds") ∷ At i ∷ []
+
+abbrev of_other_contest : Fault
+of_other_contest = fault_at (strange_entry 0) SelectionOfOtherContest
+
+abbrev more_strange_entries : List Fault
+more_strange_entries = fault_at (strange_entry 2) WrongFamily ∷ fault_at (strange_entry 3) Unresolved ∷ []
+
+strange_entries_tree : is_tree strange_entries ≡ true
+unfolding serde_json_on_literals
+strange_entries_tree = refl
+
+strange_entries_shape : length (faults_found strange_entries) ≡ 0
+unfolding serde_json_on_literals
+strange_entries_shape = refl
+
+strange_entries_identity : length (identity_told strange_entries) ≡ 0
+unfolding serde_json_on_literals
+strange_entries_identity = refl
+
+strange_entries_found : reference_faults strange_entries ≡ of_other_contest ∷ more_strange_entries
+unfolding serde_json_on_literals
+strange_entries_found = refl
+
+strange_entries_refused : ListsAll (IsFault strange_entries) (of_other_contest ∷ more_strange_entries)
+strange_entries_refused =
+    refused_by_references strange_entries of_other_contest more_strange_entries (tree_sound strange_entries strange_entries_tree)
+    (no_fault_listed strange_entries strange_entries_tree strange_entries_shape) strange_entries_identity strange_entries_found
+
+-- ---- selections: a contest with two lines for write-ins
+
+abbrev two_write_ins : Data
+two_write_ins = tree_of (with_election_member (codes "\"Contest\":[{\"@id\":\"c1\",\"@type\":\"ElectionResults.CandidateContest\",\"Name\":\"Mayor\",\"ElectionDistrictId\":\"u7\",\"VotesAllowed\":2,\"ExternalIdentifier\":[{\"@type\":\"ElectionResults.ExternalIdentifier\",\"Type\":\"local-level\",\"Value\":\"C1\"}],\"ContestSelection\":[{\"@id\":\"s1\",\"@type\":\"ElectionResults.CandidateSelection\",\"IsWriteIn\":true},{\"@id\":\"s2\",\"@type\":\"ElectionResults.CandidateSelection\",\"IsWriteIn\":true}]}]"))
+
+-- the second of them
+abbrev second_write_in : Fault
+second_write_in = fault_at (Name (codes "Election") ∷ At 0 ∷ Name (codes "Contest") ∷ At 0 ∷ Name (codes "ContestSelection") ∷ At 1 ∷ []) TwinSelection
+
+two_write_ins_tree : is_tree two_write_ins ≡ true
+unfolding serde_json_on_literals
+two_write_ins_tree = refl
+
+two_write_ins_shape : length (faults_found two_write_ins) ≡ 0
+unfolding serde_json_on_literals
+two_write_ins_shape = refl
+
+two_write_ins_identity : length (identity_told two_write_ins) ≡ 0
+unfolding serde_json_on_literals
+two_write_ins_identity = refl
+
+two_write_ins_references : length (reference_faults two_write_ins) ≡ 0
+unfolding serde_json_on_literals
+two_write_ins_references = refl
+
+two_write_ins_found : selections_told two_write_ins ≡ second_write_in ∷ []
+unfolding serde_json_on_literals
+two_write_ins_found = refl
+
+two_write_ins_refused : ListsAll (IsFault two_write_ins) (second_write_in ∷ [])
+two_write_ins_refused =
+    refused_by_selections two_write_ins second_write_in [] (tree_sound two_write_ins two_write_ins_tree) (no_fault_listed two_write_ins two_write_ins_tree two_write_ins_shape)
+    two_write_ins_identity two_write_ins_references two_write_ins_found

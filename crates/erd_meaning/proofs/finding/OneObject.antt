@@ -1,0 +1,201 @@
+-- What names an object names one object: by its key in its family, by its `@id` in the report.
+use Rattle.std.proofs.Common.{◌≡◌, ◌<◌, ◌+◌, ℕ, zero, suc, ◌⊎◌, inl, inr, List, [], ◌∷◌, Bool, true, false, cond, Less, Ordering, Option, Some, None, option_and_then, option_map, refl, sym, ap, ◌∙◌, subst, arith}
+use Rattle.std.specs.List.{position, position_from, slice_get}
+use Rattle.std.specs.List.Sorted.{IsStrictlySortedBy}
+use Rattle.std.proofs.lemmas.Iterator.Adapters.{position_from-zero}
+use Rattle.std.proofs.lemmas.Option.{slice_get-map}
+use Rattle.serde_json.specs.Data.{Data}
+use Rattle.erd_tables.specs.Places.{place_cmp}
+use Rattle.erd_tables.specs.declared.class.Family.{Family}
+use Rattle.erd_tables.specs.declared.fault.Reason.TheVariants.{TwinIdentifier, DuplicateId}
+use Rattle.erd_check.specs.Faults.{NoneOf}
+use Rattle.erd_check.proofs.Order.{In, In-all, contains_from_In, sorted_filter}
+use Rattle.erd_meaning.specs.LaterFaults.{IdentityFault}
+use Rattle.erd_meaning.specs.Lookups.{id_in, key_in}
+use Rattle.erd_meaning.specs.Objects.{Placed, id_of, objects}
+use Rattle.erd_meaning.specs.code.ObjectWalk.{Located, all_located, located, located_one}
+use Rattle.erd_meaning.specs.Keys.{key_of_family_object}
+use Rattle.erd_meaning.specs.declared.keys.key.Key.{Key}
+use Rattle.erd_meaning.proofs.identity.IdentityFaults.{is_met, kept_keyed}
+use Rattle.erd_meaning.proofs.identity.ObjectFamilies.{is_of, objects_met}
+use Rattle.erd_meaning.proofs.identity.ObjectPlaces.{AreApart, all_parted, apart, id_place}
+use Rattle.erd_meaning.proofs.identity.ToldFaults.{before_apart, less_itself}
+
+-- ---- positions in lists
+
+pub in_at : {A : Type 0} (xs : List A) (i : ℕ) (x : A) → slice_get xs i ≡ Some x → In x xs
+in_at [] i x e = cc
+in_at (y ∷ xs) zero x e = let same : y ≡ x = cc in inl same
+in_at (y ∷ xs) (suc i) x e = inr (in_at xs i x e)
+
+pub sorted_at : {A : Type 0} (cmp : A → A → Ordering) (xs : List A) (i j : ℕ) (x y : A) → IsStrictlySortedBy cmp xs → i < j
+    → slice_get xs i ≡ Some x → slice_get xs j ≡ Some y → cmp x y ≡ Less
+unfolding IsStrictlySortedBy
+sorted_at cmp [] i j x y s l a b = cc
+sorted_at cmp (z ∷ xs) i zero x y s l a b = absurd (omega arith)
+sorted_at cmp (z ∷ xs) zero (suc j) x y s l a b =
+    let same : z ≡ x = cc in
+    subst (λ w. cmp w y ≡ Less) same (In-all (λ w. cmp z w ≡ Less) y xs s.0 (in_at xs j y b))
+sorted_at cmp (z ∷ xs) (suc i) (suc j) x y s l a b = sorted_at cmp xs i j x y s.1 (omega arith) a b
+
+-- two elements of a list in order are one, or in order
+either_way : {A : Type 0} (cmp : A → A → Ordering) (xs : List A) (x y : A) → IsStrictlySortedBy cmp xs → In x xs → In y xs
+    → (x ≡ y) ⊎ ((cmp x y ≡ Less) ⊎ (cmp y x ≡ Less))
+unfolding IsStrictlySortedBy
+either_way cmp [] x y s i j = absurd i
+either_way cmp (z ∷ xs) x y s (inl a) (inl b) = inl (sym a ∙ b)
+either_way cmp (z ∷ xs) x y s (inl a) (inr j) = inr (inl (subst (λ w. cmp w y ≡ Less) a (In-all (λ w. cmp z w ≡ Less) y xs s.0 j)))
+either_way cmp (z ∷ xs) x y s (inr i) (inl b) = inr (inr (subst (λ w. cmp w x ≡ Less) b (In-all (λ w. cmp z w ≡ Less) x xs s.0 i)))
+either_way cmp (z ∷ xs) x y s (inr i) (inr j) = either_way cmp xs x y s.1 i j
+
+-- ---- objects of one family
+
+-- the object of a family at a position
+pub record ObjectIn (f : Family) (t : Data) (i : ℕ) : Type 0 where
+  pub one : Placed
+  pub at : slice_get (objects f t) i ≡ Some one
+
+pub with_part : {A : Type 0} (g : Placed → Option A) (f : Family) (t : Data) (i : ℕ) (a : A) → option_and_then g (slice_get (objects f t) i) ≡ Some a
+    → (o : ObjectIn f t i) × (g o.one ≡ Some a)
+with_part {A} g f t i a e = from (slice_get (objects f t) i) refl e
+  where
+    from : (o : Option Placed) → slice_get (objects f t) i ≡ o → option_and_then g o ≡ Some a → (o : ObjectIn f t i) × (g o.one ≡ Some a)
+    from None is h = cc
+    from (Some o) is h = (record { one = o; at = is }, h)
+
+pub object_in : (f : Family) (t : Data) (i : ℕ) (o : ObjectIn f t i) → In o.one (objects f t)
+object_in f t i o = in_at (objects f t) i o.one o.at
+
+pub family_apart : (f : Family) (t : Data) → AreApart (located f (objects f t))
+family_apart f t = subst AreApart (objects_met f t) (sorted_filter (is_of f) apart (all_located t) (all_parted t))
+
+located_at : (f : Family) (t : Data) (i : ℕ) (o : ObjectIn f t i) → slice_get (located f (objects f t)) i ≡ Some (located_one f o.one)
+located_at f t i o = slice_get-map (located_one f) (objects f t) i ∙ ap (option_map (located_one f)) o.at
+
+before_in : (f : Family) (t : Data) (i j : ℕ) (a : ObjectIn f t i) (b : ObjectIn f t j) → i < j → place_cmp a.one.place b.one.place ≡ Less
+before_in f t i j a b l =
+    before_apart (located_one f a.one) (located_one f b.one)
+    (sorted_at apart (located f (objects f t)) i j (located_one f a.one) (located_one f b.one) (family_apart f t) l (located_at f t i a) (located_at f t j b))
+
+pub which_first : (i j : ℕ) → (i ≡ j) ⊎ ((i < j) ⊎ (j < i))
+which_first i j = grind arith
+
+-- ---- one key
+
+two_keys : (t : Data) (f : Family) (key : Key) (i j : ℕ) (a : ObjectIn f t i) (b : ObjectIn f t j) → NoneOf (IdentityFault t) → i < j
+    → key_of_family_object f a.one.value ≡ Some key → key_of_family_object f b.one.value ≡ Some key → ⊥
+two_keys t f key i j a b none l e g =
+    let mine = kept_keyed f a.one.value key e in
+    let its = kept_keyed f b.one.value key g in
+    none b.one.place TwinIdentifier (record {
+      family = f;
+      keyed = mine.0;
+      later = b.one;
+      later_stands = contains_from_In b.one (objects f t) (object_in f t j b);
+      place = refl;
+      earlier = a.one;
+      earlier_stands = contains_from_In a.one (objects f t) (object_in f t i a);
+      before = before_in f t i j a b l;
+      key = key;
+      later_key = its.1;
+      earlier_key = mine.1;
+    })
+
+pub one_key : (t : Data) (f : Family) (key : Key) (i j : ℕ) → NoneOf (IdentityFault t) → key_in f t i ≡ Some key → key_in f t j ≡ Some key → i ≡ j
+one_key t f key i j none e g =
+    let a = with_part (λ o. key_of_family_object f o.value) f t i key e in
+    let b = with_part (λ o. key_of_family_object f o.value) f t j key g in
+    elim (which_first i j) [
+      | inl same ↦ same
+      | inr (inl l) ↦ absurd (two_keys t f key i j a.0 b.0 none l a.1 b.1)
+      | inr (inr l) ↦ absurd (two_keys t f key j i b.0 a.0 none l b.1 a.1)
+    ]
+
+-- ---- one `@id`
+
+two_ids : (t : Data) (id : List ℕ) (f g : Family) (i j : ℕ) (a : ObjectIn f t i) (b : ObjectIn g t j) → NoneOf (IdentityFault t)
+    → apart (located_one f a.one) (located_one g b.one) ≡ Less → id_of a.one.value ≡ Some id → id_of b.one.value ≡ Some id → ⊥
+two_ids t id f g i j a b none l d e =
+    none (id_place b.one.place) DuplicateId (record {
+      family = g;
+      later = b.one;
+      later_stands = contains_from_In b.one (objects g t) (object_in g t j b);
+      place = refl;
+      earlier_family = f;
+      earlier = a.one;
+      earlier_stands = contains_from_In a.one (objects f t) (object_in f t i a);
+      before = before_apart (located_one f a.one) (located_one g b.one) l;
+      id = id;
+      later_id = e;
+      earlier_id = d;
+    })
+
+same_position : (t : Data) (f : Family) (i j : ℕ) (a : ObjectIn f t i) (b : ObjectIn f t j) → a.one.place ≡ b.one.place → i ≡ j
+same_position t f i j a b e = elim (which_first i j) [
+  | inl same ↦ same
+  | inr (inl l) ↦ absurd (less_itself b.one.place (subst (λ p. place_cmp p b.one.place ≡ Less) e (before_in f t i j a b l)))
+  | inr (inr l) ↦ absurd (less_itself b.one.place (subst (λ p. place_cmp b.one.place p ≡ Less) e (before_in f t j i b a l)))
+]
+
+one_object : (t : Data) (f g : Family) (i j : ℕ) (a : ObjectIn f t i) (b : ObjectIn g t j) → located_one f a.one ≡ located_one g b.one → (f ≡ g) × (i ≡ j)
+one_object t f g i j a b e =
+    let family : f ≡ g = ap (λ (x : Located). x.object.family) e in
+    let place : a.one.place ≡ b.one.place = ap (λ (x : Located). x.place) e in
+    let there : slice_get (objects f t) j ≡ Some b.one = subst (λ h. slice_get (objects h t) j ≡ Some b.one) (sym family) b.at in
+    (family, same_position t f i j a (record { one = b.one; at = there }) place)
+
+pub one_id : (t : Data) (id : List ℕ) (f g : Family) (i j : ℕ) → NoneOf (IdentityFault t) → id_in f t i ≡ Some id → id_in g t j ≡ Some id → (f ≡ g) × (i ≡ j)
+one_id t id f g i j none d e =
+    let a = with_part (λ o. id_of o.value) f t i id d in
+    let b = with_part (λ o. id_of o.value) g t j id e in
+    let x = located_one f a.0.one in
+    let y = located_one g b.0.one in
+    elim (either_way apart (all_located t) x y (all_parted t) (is_met t f a.0.one (object_in f t i a.0)) (is_met t g b.0.one (object_in g t j b.0))) [
+      | inl same ↦ one_object t f g i j a.0 b.0 same
+      | inr (inl l) ↦ absurd (two_ids t id f g i j a.0 b.0 none l a.1 b.1)
+      | inr (inr l) ↦ absurd (two_ids t id g f j i b.0 a.0 none l b.1 a.1)
+    ]
+
+-- ---- the first that passes a test
+
+-- a place at which an element passes
+pub record Hit {A : Type 0} (p : A → Bool) (xs : List A) (n : ℕ) : Type 0 where
+  pub one : A
+  pub at : slice_get xs n ≡ Some one
+  pub passes : p one ≡ true
+
+record HitFrom {A : Type 0} (p : A → Bool) (i : ℕ) (xs : List A) (n : ℕ) : Type 0 where
+  after : ℕ
+  is : n ≡ i + after
+  hit : Hit p xs after
+
+hit_from : {A : Type 0} (p : A → Bool) (i : ℕ) (xs : List A) (n : ℕ) → position_from p i xs ≡ Some n → HitFrom p i xs n
+hit_from p i [] n e = cc
+hit_from p i (x ∷ xs) n e = at (p x) refl e (hit_from p (i + 1) xs n)
+  where
+    at : (b : Bool) → p x ≡ b → cond b (Some i) (position_from p (i + 1) xs) ≡ Some n → (position_from p (i + 1) xs ≡ Some n → HitFrom p (i + 1) xs n)
+        → HitFrom p i (x ∷ xs) n
+    at true is h more = let same : i ≡ n = cc in record { after = 0; is = omega arith; hit = record { one = x; at = refl; passes = is } }
+    at false is h more =
+        let found = more h in
+        let place : n ≡ i + 1 + found.after = found.is in
+        record { after = suc found.after; is = omega arith; hit = record { one = found.hit.one; at = found.hit.at; passes = found.hit.passes } }
+
+pub hit : {A : Type 0} (p : A → Bool) (xs : List A) (n : ℕ) → position p xs ≡ Some n → Hit p xs n
+hit p xs n e =
+    let found = hit_from p 0 xs n (sym (position_from-zero p xs) ∙ e) in
+    let place : n ≡ 0 + found.after = found.is in
+    let same : found.after ≡ n = omega arith in
+    subst (Hit p xs) same found.hit
+
+missed_from : {A : Type 0} (p : A → Bool) (i : ℕ) (xs : List A) (x : A) → position_from p i xs ≡ None → In x xs → p x ≡ true → ⊥
+missed_from p i [] x e h t = absurd h
+missed_from p i (y ∷ xs) x e (inl same) t = let passes : p y ≡ true = ap p same ∙ t in let h : Some i ≡ None = rw passes at e in cc
+missed_from p i (y ∷ xs) x e (inr h) t = at (p y) e (λ g. missed_from p (i + 1) xs x g h t)
+  where
+    at : (b : Bool) → cond b (Some i) (position_from p (i + 1) xs) ≡ None → (position_from p (i + 1) xs ≡ None → ⊥) → ⊥
+    at true g more = cc
+    at false g more = more g
+
+pub missed : {A : Type 0} (p : A → Bool) (xs : List A) (x : A) → position p xs ≡ None → In x xs → p x ≡ true → ⊥
+missed p xs x e h t = missed_from p 0 xs x (sym (position_from-zero p xs) ∙ e) h t

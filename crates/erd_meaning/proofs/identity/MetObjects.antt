@@ -1,0 +1,33 @@
+-- Meeting objects, some and then more.
+use Rattle.std.proofs.Common.{◌≡◌, ◌<◌, ◌+◌, ℕ, List, [], ◌∷◌, ◌++◌, length, drop, map, get_or, refl, sym, ap, ◌∙◌}
+use Rattle.std.specs.List.{flat_map}
+use Rattle.std.proofs.lemmas.List.{at_drop_more}
+use Rattle.serde_json.specs.View.{view}
+use Rattle.serde_json.specs.declared.value.Value.{Value}
+use Rattle.erd_tables.specs.declared.place.Step.{Step}
+use Rattle.erd_tables.specs.declared.place.Step.TheVariants.{At}
+use Rattle.erd_tables.specs.declared.class.Family.TheVariants.{Contest, Selection}
+use Rattle.erd_meaning.specs.Objects.{Placed, placed_from, selections_of_contest}
+use Rattle.erd_meaning.specs.code.ObjectWalk.{Located, Met, located, located_one, contest_located, met_one, met_all}
+
+pub met_all_append : (m : Met) (xs ys : List Located) → met_all m (xs ++ ys) ≡ met_all (met_all m xs) ys
+met_all_append m [] ys = refl
+met_all_append m (x ∷ xs) ys = met_all_append (met_one m x) xs ys
+
+abbrev entry : List Step → ℕ → Value → Placed
+entry p i v = record { place = p ++ At i ∷ []; value = view v }
+
+-- one entry after another, each with the objects inside it
+pub met_inside : (f : Placed → List Located) (p : List Step) (vs : List Value) (i : ℕ) (v : Value) (m n whole : Met) → i < length vs
+    → v ≡ get_or vs i v → met_all m (flat_map f (placed_from p i (map view (drop i vs)))) ≡ whole → n ≡ met_all m (f (entry p i v))
+    → met_all n (flat_map f (placed_from p (i + 1) (map view (drop (i + 1) vs)))) ≡ whole
+met_inside f p vs i v m n whole inside is before more =
+    let left = λ (ws : List Value). met_all m (flat_map f (placed_from p i (map view ws))) in
+    let rest = flat_map f (placed_from p (i + 1) (map view (drop (i + 1) vs))) in
+    let first : left (drop i vs) ≡ left (v ∷ drop (i + 1) vs) = at_drop_more left vs i v inside ∙ ap (λ w. left (w ∷ drop (i + 1) vs)) (sym is) in
+    ap (λ k. met_all k rest) more ∙ sym (met_all_append m (f (entry p i v)) rest) ∙ sym first ∙ before
+
+-- a contest, and then its selections
+pub contest_met : (o : Placed) (m k n : Met) → k ≡ met_one m (located_one Contest o)
+    → n ≡ met_all k (located Selection (selections_of_contest o)) → n ≡ met_all m (contest_located o)
+contest_met o m k n first rest = rest ∙ ap (λ j. met_all j (located Selection (selections_of_contest o))) first

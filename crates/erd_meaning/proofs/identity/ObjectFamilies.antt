@@ -1,0 +1,188 @@
+-- The objects of a family are those that the walk meets of it, in the same order.
+use Rattle.std.proofs.Common.{◌≡◌, ℕ, List, [], ◌∷◌, ◌++◌, filter, cond, Bool, true, false, ◌==◌, codes, refl, sym, ap, ap₂, ◌∙◌, append-nil, append_assoc, find, Option, Some, subst}
+use Rattle.std.proofs.lemmas.Bool.Decides.{Decides-eqb}
+use Rattle.std.proofs.lemmas.List.Elements.{filter-append}
+use Rattle.std.specs.List.{flat_map}
+use Rattle.serde_json.specs.Data.{Data}
+use Rattle.erd_tables.specs.Classes.{families, family_number}
+use Rattle.erd_tables.specs.declared.class.Family.{Family}
+use Rattle.erd_tables.specs.declared.class.Family.TheVariants as family
+use Rattle.erd_meaning.specs.code.ObjectWalk.{Located, located, located_one, contest_located, election_located, shared_located, all_located}
+use Rattle.erd_meaning.specs.Objects.{Placed, elections, objects, placed_entries, report_of, selections_of_contest}
+
+-- an object is of the family
+abbrev pub is_of : Family → Located → Bool
+is_of f x = family_number x.object.family == family_number f
+
+pub itself : (n : ℕ) → (n == n) ≡ true
+itself n = (Decides-eqb n n).1 refl
+
+-- those of a list that are of the family
+abbrev pub pick : Family → List Located → List Located
+pick f xs = filter (is_of f) xs
+
+picked : (f : Family) (os : List Placed) → pick f (located f os) ≡ located f os
+picked f [] = refl
+picked f (o ∷ os) = rw (itself (family_number f)) (ap (λ xs. located_one f o ∷ xs) (picked f os))
+
+passed : (f g : Family) → (family_number g == family_number f) ≡ false → (os : List Placed) → pick f (located g os) ≡ []
+passed f g e [] = refl
+passed f g e (o ∷ os) = rw e (passed f g e os)
+
+pick-append : (f : Family) (xs ys us vs : List Located) → pick f xs ≡ us → pick f ys ≡ vs → pick f (xs ++ ys) ≡ us ++ vs
+pick-append f xs ys us vs a b = filter-append (is_of f) xs ys ∙ ap₂ ◌++◌ a b
+
+pub located-append : (f : Family) (xs ys : List Placed) → located f (xs ++ ys) ≡ located f xs ++ located f ys
+located-append f [] ys = refl
+located-append f (x ∷ xs) ys = ap (λ zs. located_one f x ∷ zs) (located-append f xs ys)
+
+none-flat : (h : Placed → List Placed) → ((o : Placed) → h o ≡ []) → (os : List Placed) → flat_map h os ≡ []
+none-flat h none [] = refl
+none-flat h none (o ∷ os) = ap₂ ◌++◌ (none o) (none-flat h none os)
+
+flat-append : (h : Placed → List Placed) (xs ys : List Placed) → flat_map h (xs ++ ys) ≡ flat_map h xs ++ flat_map h ys
+flat-append h [] ys = refl
+flat-append h (x ∷ xs) ys = ap (λ zs. h x ++ zs) (flat-append h xs ys) ∙ sym (append_assoc (h x) (flat_map h xs) (flat_map h ys))
+
+each-flat : (xs : List Placed) → flat_map (λ (o : Placed). o ∷ []) xs ≡ xs
+each-flat [] = refl
+each-flat (x ∷ xs) = ap (λ zs. x ∷ zs) (each-flat xs)
+
+pick-flat : (f : Family) (h : Placed → List Located) (k : Placed → List Placed) → ((o : Placed) → pick f (h o) ≡ located f (k o)) → (os : List Placed)
+    → pick f (flat_map h os) ≡ located f (flat_map k os)
+pick-flat f h k each [] = refl
+pick-flat f h k each (o ∷ os) =
+    pick-append f (h o) (flat_map h os) (located f (k o)) (located f (flat_map k os)) (each o) (pick-flat f h k each os)
+    ∙ sym (located-append f (k o) (flat_map k os))
+
+-- ---- inside a contest, an election, the report
+
+abbrev of_contest : Family → Placed → List Placed
+of_contest family.Contest o = o ∷ []
+of_contest family.Selection o = selections_of_contest o
+of_contest f o = []
+
+in_contest : (f : Family) (o : Placed) → pick f (contest_located o) ≡ located f (of_contest f o)
+in_contest family.Contest o = ap (λ xs. located_one family.Contest o ∷ xs) (passed family.Contest family.Selection refl (selections_of_contest o))
+in_contest family.Selection o = picked family.Selection (selections_of_contest o)
+in_contest family.Unit o = passed family.Unit family.Selection refl (selections_of_contest o)
+in_contest family.Party o = passed family.Party family.Selection refl (selections_of_contest o)
+in_contest family.Person o = passed family.Person family.Selection refl (selections_of_contest o)
+in_contest family.Office o = passed family.Office family.Selection refl (selections_of_contest o)
+in_contest family.Header o = passed family.Header family.Selection refl (selections_of_contest o)
+in_contest family.Candidate o = passed family.Candidate family.Selection refl (selections_of_contest o)
+in_contest family.Style o = passed family.Style family.Selection refl (selections_of_contest o)
+
+abbrev of_contests : Family → List Placed → List Placed
+of_contests f os = flat_map (of_contest f) os
+
+in_contests : (f : Family) (os : List Placed) → pick f (flat_map contest_located os) ≡ located f (of_contests f os)
+in_contests f os = pick-flat f contest_located (of_contest f) (in_contest f) os
+
+-- ---- arrays of one family
+
+family_numbered : ℕ → Option Family
+family_numbered n = find (λ f. family_number f == n) families
+
+own_number : (f : Family) → family_numbered (family_number f) ≡ Some f
+unfolding family_numbered
+own_number family.Unit = refl
+own_number f = refl
+
+pub family_exact : (f g : Family) → (family_number f == family_number g) ≡ true → f ≡ g
+family_exact f g e =
+    let same : family_number f ≡ family_number g = (Decides-eqb (family_number f) (family_number g)).0 e in
+    let found : Some f ≡ Some g = sym (own_number f) ∙ ap family_numbered same ∙ own_number g in
+    cc
+
+-- the entries of an array, where they are of the family
+abbrev if_of : Family → Family → List Placed → List Placed
+if_of f g os = cond (family_number g == family_number f) os []
+
+pick_at : (f g : Family) (b : Bool) → (family_number g == family_number f) ≡ b → (os : List Placed) → pick f (located g os) ≡ located f (cond b os [])
+pick_at f g true e os = subst (λ h. pick f (located h os) ≡ located f os) (sym (family_exact g f e)) (picked f os)
+pick_at f g false e os = passed f g e os
+
+pick_array : (f g : Family) (os : List Placed) → pick f (located g os) ≡ located f (if_of f g os)
+pick_array f g os = pick_at f g (family_number g == family_number f) refl os
+
+pick_both : (f : Family) (xs ys : List Located) (os ps : List Placed) → pick f xs ≡ located f os → pick f ys ≡ located f ps → pick f (xs ++ ys) ≡ located f (os ++ ps)
+pick_both f xs ys os ps a b = pick-append f xs ys (located f os) (located f ps) a b ∙ sym (located-append f os ps)
+
+-- ---- elections and the report
+
+abbrev of_election : Family → Placed → List Placed
+of_election f e =
+    if_of f family.Style (placed_entries (codes "BallotStyle") e)
+    ++ (if_of f family.Candidate (placed_entries (codes "Candidate") e) ++ of_contests f (placed_entries (codes "Contest") e))
+
+in_election : (f : Family) (e : Placed) → pick f (election_located e) ≡ located f (of_election f e)
+in_election f e =
+    let styles = placed_entries (codes "BallotStyle") e in
+    let candidates = placed_entries (codes "Candidate") e in
+    let all = placed_entries (codes "Contest") e in
+    pick_both f (located family.Style styles) (located family.Candidate candidates ++ flat_map contest_located all)
+    (if_of f family.Style styles) (if_of f family.Candidate candidates ++ of_contests f all) (pick_array f family.Style styles)
+    (pick_both f (located family.Candidate candidates) (flat_map contest_located all) (if_of f family.Candidate candidates) (of_contests f all) (pick_array f family.Candidate candidates) (in_contests f all))
+
+abbrev of_shared : Family → Placed → List Placed
+of_shared f r =
+    if_of f family.Unit (placed_entries (codes "GpUnit") r)
+    ++ (if_of f family.Header (placed_entries (codes "Header") r)
+    ++ (if_of f family.Office (placed_entries (codes "Office") r)
+    ++ (if_of f family.Party (placed_entries (codes "Party") r) ++ if_of f family.Person (placed_entries (codes "Person") r))))
+
+in_shared : (f : Family) (r : Placed) → pick f (shared_located r) ≡ located f (of_shared f r)
+in_shared f r =
+    let at = λ (name : List ℕ). placed_entries name r in
+    pick_both f _ _ _ _ (pick_array f family.Unit (at (codes "GpUnit")))
+    (pick_both f _ _ _ _ (pick_array f family.Header (at (codes "Header")))
+    (pick_both f _ _ _ _ (pick_array f family.Office (at (codes "Office")))
+    (pick_both f _ _ _ _ (pick_array f family.Party (at (codes "Party"))) (pick_array f family.Person (at (codes "Person"))))))
+
+flat_same : (h k : Placed → List Placed) → ((o : Placed) → h o ≡ k o) → (os : List Placed) → flat_map h os ≡ flat_map k os
+flat_same h k each [] = refl
+flat_same h k each (o ∷ os) = ap₂ ◌++◌ (each o) (flat_same h k each os)
+
+no_election : (f : Family) (t : Data) → ((e : Placed) → of_election f e ≡ []) → flat_map (of_election f) (elections t) ≡ []
+no_election f t none = none-flat (of_election f) none (elections t)
+
+-- those of the report alone
+shared_alone : (f : Family) (t : Data) (os : List Placed) → ((e : Placed) → of_election f e ≡ []) → of_shared f (report_of t) ≡ os
+    → flat_map (of_election f) (elections t) ++ of_shared f (report_of t) ≡ os
+shared_alone f t os none is = ap (λ xs. xs ++ of_shared f (report_of t)) (no_election f t none) ∙ is
+
+-- those of the elections alone
+election_alone : (f : Family) (t : Data) (k : Placed → List Placed) → ((e : Placed) → of_election f e ≡ k e) → of_shared f (report_of t) ≡ []
+    → flat_map (of_election f) (elections t) ++ of_shared f (report_of t) ≡ flat_map k (elections t)
+election_alone f t k each none =
+    ap (λ xs. flat_map (of_election f) (elections t) ++ xs) none ∙ append-nil (flat_map (of_election f) (elections t)) ∙ flat_same (of_election f) k each (elections t)
+
+no_contest : (f : Family) → ((o : Placed) → of_contest f o ≡ []) → (e : Placed) → of_contests f (placed_entries (codes "Contest") e) ≡ []
+no_contest f none e = none-flat (of_contest f) none (placed_entries (codes "Contest") e)
+
+nested_flat : (h k : Placed → List Placed) (os : List Placed) → flat_map (λ o. flat_map h (k o)) os ≡ flat_map h (flat_map k os)
+nested_flat h k [] = refl
+nested_flat h k (o ∷ os) = ap (λ xs. flat_map h (k o) ++ xs) (nested_flat h k os) ∙ sym (flat-append h (k o) (flat_map k os))
+
+objects_are : (f : Family) (t : Data) → flat_map (of_election f) (elections t) ++ of_shared f (report_of t) ≡ objects f t
+objects_are family.Unit t = shared_alone family.Unit t _ (no_contest family.Unit (λ o. refl)) (append-nil _)
+objects_are family.Party t = shared_alone family.Party t _ (no_contest family.Party (λ o. refl)) (append-nil _)
+objects_are family.Person t = shared_alone family.Person t _ (no_contest family.Person (λ o. refl)) refl
+objects_are family.Office t = shared_alone family.Office t _ (no_contest family.Office (λ o. refl)) (append-nil _)
+objects_are family.Header t = shared_alone family.Header t _ (no_contest family.Header (λ o. refl)) (append-nil _)
+objects_are family.Candidate t =
+    election_alone family.Candidate t (placed_entries (codes "Candidate")) (λ e. ap (λ xs. placed_entries (codes "Candidate") e ++ xs) (no_contest family.Candidate (λ o. refl) e) ∙ append-nil _) refl
+objects_are family.Contest t = election_alone family.Contest t (placed_entries (codes "Contest")) (λ e. each-flat (placed_entries (codes "Contest") e)) refl
+objects_are family.Style t =
+    election_alone family.Style t (placed_entries (codes "BallotStyle")) (λ e. ap (λ xs. placed_entries (codes "BallotStyle") e ++ xs) (no_contest family.Style (λ o. refl) e) ∙ append-nil _) refl
+objects_are family.Selection t =
+    election_alone family.Selection t (λ e. flat_map selections_of_contest (placed_entries (codes "Contest") e)) (λ e. refl) refl
+    ∙ nested_flat selections_of_contest (placed_entries (codes "Contest")) (elections t)
+
+-- the objects of a family, as the walk meets them
+pub objects_met : (f : Family) (t : Data) → pick f (all_located t) ≡ located f (objects f t)
+objects_met f t =
+    pick_both f (flat_map election_located (elections t)) (shared_located (report_of t)) (flat_map (of_election f) (elections t)) (of_shared f (report_of t))
+    (pick-flat f election_located (of_election f) (in_election f) (elections t)) (in_shared f (report_of t))
+    ∙ ap (located f) (objects_are f t)

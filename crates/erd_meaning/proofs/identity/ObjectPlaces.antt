@@ -1,0 +1,239 @@
+-- The objects that the walk meets stand apart: the place of the `@id` of each comes before the places of all later ones.
+use Rattle.std.proofs.Common.{◌≡◌, ℕ, ◌+◌, ◌<◌, ◌≤◌, inl, inr, List, [], ◌∷◌, ◌++◌, codes, Ordering, Less, nat_cmp, refl, sym, ap, ap₂, ◌∙◌, subst, append_assoc, append-nil, arith}
+use Rattle.std.specs.List.{AllByRecursion, flat_map}
+use Rattle.std.specs.List.Sorted.{IsStrictlySortedBy}
+use Rattle.serde_json.specs.Data.{Data}
+use Rattle.erd_tables.specs.Places.{place_cmp, step_cmp}
+use Rattle.erd_tables.specs.Texts.{text_cmp}
+use Rattle.erd_tables.specs.declared.class.Family.{Family}
+use Rattle.erd_tables.specs.declared.class.Family.TheVariants as family
+use Rattle.erd_tables.specs.declared.place.Step.{Step}
+use Rattle.erd_tables.specs.declared.place.Step.TheVariants.{Name, At}
+use Rattle.erd_tables.proofs.PlaceOrder.{steps_less}
+use Rattle.erd_check.proofs.Order.{In, In-append, Below, sorted_append}
+use Rattle.erd_meaning.specs.code.ObjectWalk.{Located, located, located_one, contest_located, election_located, shared_located, all_located}
+use Rattle.erd_meaning.specs.Objects.{Placed, placed_from, placed_entries, elections, selections_of_contest, report_of}
+
+abbrev pub id_place : List Step → List Step
+id_place p = p ++ Name (codes "@id") ∷ []
+
+abbrev pub apart : Located → Located → Ordering
+apart a b = place_cmp (id_place a.place) b.place
+
+abbrev pub AreApart : List Located → Type 0
+AreApart xs = IsStrictlySortedBy apart xs
+
+-- at a place or inside it
+record AtOrIn (p : List Step) (x : Located) : Type 0 where
+  rest : List Step
+  is : x.place ≡ p ++ rest
+
+-- at or inside an entry of an array, at this position or a later one
+record InEntry (p : List Step) (low : ℕ) (x : Located) : Type 0 where
+  index : ℕ
+  late : low ≤ index
+  rest : List Step
+  is : x.place ≡ p ++ At index ∷ rest
+
+-- at or inside a member
+record InMember (p : List Step) (name : List ℕ) (x : Located) : Type 0 where
+  rest : List Step
+  is : x.place ≡ p ++ Name name ∷ rest
+
+abbrev AllIn : (Located → Type 0) → List Located → Type 0
+AllIn P xs = (x : Located) → In x xs → P x
+
+all-append : (P : Located → Type 0) (xs ys : List Located) → AllIn P xs → AllIn P ys → AllIn P (xs ++ ys)
+all-append P xs ys a b x i = elim (In-append x xs ys i) [ inl j ↦ a x j | inr j ↦ b x j ]
+
+below-append : (xs ys zs : List Located) → Below apart xs ys → Below apart xs zs → Below apart xs (ys ++ zs)
+below-append xs ys zs a b x y i j = elim (In-append y ys zs j) [ inl k ↦ a x y i k | inr k ↦ b x y i k ]
+
+apart_by : (p : List Step) (s t : Step) (x y : Located) (q r : List Step) → x.place ≡ p ++ s ∷ q → y.place ≡ p ++ t ∷ r → step_cmp s t ≡ Less → apart x y ≡ Less
+apart_by p s t x y q r is also less =
+    ap₂ place_cmp (ap id_place is ∙ append_assoc p (s ∷ q) (Name (codes "@id") ∷ [])) also ∙ steps_less p s t (q ++ Name (codes "@id") ∷ []) r less
+
+-- ---- the entries of an array
+
+abbrev Inside : (Placed → List Located) → Type 0
+Inside f = (o : Placed) → AllIn (AtOrIn o.place) (f o)
+
+abbrev Parted : (Placed → List Located) → Type 0
+Parted f = (o : Placed) → AreApart (f o)
+
+first_entry : (p : List Step) (i : ℕ) (x : Located) → AtOrIn (p ++ At i ∷ []) x → InEntry p i x
+first_entry p i x a = record { index = i; late = omega arith; rest = a.rest; is = a.is ∙ append_assoc p (At i ∷ []) a.rest }
+
+later_entry : (p : List Step) (i : ℕ) (x : Located) → InEntry p (i + 1) x → InEntry p i x
+later_entry p i x b = let late = b.late in record { index = b.index; late = omega arith; rest = b.rest; is = b.is }
+
+in_entries : (f : Placed → List Located) → Inside f → (p : List Step) (i : ℕ) (ds : List Data) → AllIn (InEntry p i) (flat_map f (placed_from p i ds))
+in_entries f inside p i [] x h = absurd h
+in_entries f inside p i (d ∷ ds) x h =
+    let o : Placed = record { place = p ++ At i ∷ []; value = d } in
+    elim (In-append x (f o) (flat_map f (placed_from p (i + 1) ds)) h) [
+      | inl a ↦ first_entry p i x (inside o x a)
+      | inr b ↦ later_entry p i x (in_entries f inside p (i + 1) ds x b)
+    ]
+
+at_less : (i j : ℕ) → i < j → nat_cmp i j ≡ Less
+at_less i j h = grind arith
+
+parted_entries : (f : Placed → List Located) → Inside f → Parted f → (p : List Step) (i : ℕ) (ds : List Data) → AreApart (flat_map f (placed_from p i ds))
+unfolding IsStrictlySortedBy
+parted_entries f inside parted p i [] = tt
+parted_entries f inside parted p i (d ∷ ds) =
+    let o : Placed = record { place = p ++ At i ∷ []; value = d } in
+    sorted_append apart (f o) (flat_map f (placed_from p (i + 1) ds)) (parted o) (parted_entries f inside parted p (i + 1) ds)
+    (λ x y a b.
+    let u = inside o x a in
+    let v = in_entries f inside p (i + 1) ds y b in
+    let late = v.late in
+    apart_by p (At i) (At v.index) x y u.rest v.rest (u.is ∙ append_assoc p (At i ∷ []) u.rest) v.is (at_less i v.index (omega arith)))
+
+-- ---- the array that is a member
+
+in_member : (p : List Step) (name : List ℕ) (i : ℕ) (x : Located) → InEntry (p ++ Name name ∷ []) i x → InMember p name x
+in_member p name i x e = record { rest = At e.index ∷ e.rest; is = e.is ∙ append_assoc p (Name name ∷ []) (At e.index ∷ e.rest) }
+
+in_array : (f : Placed → List Located) → Inside f → (name : List ℕ) (o : Placed) → AllIn (InMember o.place name) (flat_map f (placed_entries name o))
+in_array f inside name o x h = in_member o.place name 0 x (in_entries f inside (o.place ++ Name name ∷ []) 0 _ x h)
+
+parted_array : (f : Placed → List Located) → Inside f → Parted f → (name : List ℕ) (o : Placed) → AreApart (flat_map f (placed_entries name o))
+parted_array f inside parted name o = parted_entries f inside parted (o.place ++ Name name ∷ []) 0 _
+
+below_by : (p : List Step) (m n : List ℕ) (xs ys : List Located) → text_cmp m n ≡ Less → AllIn (InMember p m) xs → AllIn (InMember p n) ys → Below apart xs ys
+below_by p m n xs ys less a b x y i j =
+    let u = a x i in
+    let v = b y j in
+    apart_by p (Name m) (Name n) x y u.rest v.rest u.is v.is less
+
+inside_member : (p : List Step) (name : List ℕ) (x : Located) → InMember p name x → AtOrIn p x
+inside_member p name x m = record { rest = Name name ∷ m.rest; is = m.is }
+
+all_inside : (p : List Step) (name : List ℕ) (xs : List Located) → AllIn (InMember p name) xs → AllIn (AtOrIn p) xs
+all_inside p name xs a x i = inside_member p name x (a x i)
+
+-- ---- objects of one family
+
+abbrev alone : Family → Placed → List Located
+alone f o = located_one f o ∷ []
+
+alone_inside : (f : Family) → Inside (alone f)
+alone_inside f o x (inl e) = record { rest = []; is = sym (ap (λ (y : Located). y.place) e) ∙ sym (append-nil o.place) }
+alone_inside f o x (inr h) = absurd h
+
+alone_parted : (f : Family) → Parted (alone f)
+unfolding IsStrictlySortedBy
+alone_parted f o = (tt, tt)
+
+each_alone : (f : Family) (os : List Placed) → flat_map (alone f) os ≡ located f os
+each_alone f [] = refl
+each_alone f (o ∷ os) = ap (λ xs. located_one f o ∷ xs) (each_alone f os)
+
+in_located : (f : Family) (name : List ℕ) (o : Placed) → AllIn (InMember o.place name) (located f (placed_entries name o))
+in_located f name o = subst (AllIn (InMember o.place name)) (each_alone f (placed_entries name o)) (in_array (alone f) (alone_inside f) name o)
+
+parted_located : (f : Family) (name : List ℕ) (o : Placed) → AreApart (located f (placed_entries name o))
+parted_located f name o = subst AreApart (each_alone f (placed_entries name o)) (parted_array (alone f) (alone_inside f) (alone_parted f) name o)
+
+-- ---- contests
+
+selections_inside : (o : Placed) → AllIn (InMember o.place (codes "ContestSelection")) (located family.Selection (selections_of_contest o))
+selections_inside o = in_located family.Selection (codes "ContestSelection") o
+
+contest_inside : Inside contest_located
+contest_inside o =
+    all-append (AtOrIn o.place) (alone family.Contest o) (located family.Selection (selections_of_contest o)) (alone_inside family.Contest o)
+    (all_inside o.place (codes "ContestSelection") (located family.Selection (selections_of_contest o)) (selections_inside o))
+
+contest_parted : Parted contest_located
+contest_parted o =
+    sorted_append apart (alone family.Contest o) (located family.Selection (selections_of_contest o)) (alone_parted family.Contest o)
+    (parted_located family.Selection (codes "ContestSelection") o) (λ x y i j. below x y i (selections_inside o y j))
+  where
+    below : (x y : Located) → In x (alone family.Contest o) → InMember o.place (codes "ContestSelection") y → apart x y ≡ Less
+    below x y (inl e) m =
+        ap₂ place_cmp (ap id_place (sym (ap (λ (z : Located). z.place) e))) m.is
+        ∙ steps_less o.place (Name (codes "@id")) (Name (codes "ContestSelection")) [] m.rest refl
+    below x y (inr h) m = absurd h
+
+-- ---- elections
+
+abbrev styles : Placed → List Located
+styles e = located family.Style (placed_entries (codes "BallotStyle") e)
+
+abbrev candidates : Placed → List Located
+candidates e = located family.Candidate (placed_entries (codes "Candidate") e)
+
+abbrev contests_of : Placed → List Located
+contests_of e = flat_map contest_located (placed_entries (codes "Contest") e)
+
+styles_in : (e : Placed) → AllIn (InMember e.place (codes "BallotStyle")) (styles e)
+styles_in e = in_located family.Style (codes "BallotStyle") e
+
+candidates_in : (e : Placed) → AllIn (InMember e.place (codes "Candidate")) (candidates e)
+candidates_in e = in_located family.Candidate (codes "Candidate") e
+
+contests_in : (e : Placed) → AllIn (InMember e.place (codes "Contest")) (contests_of e)
+contests_in e = in_array contest_located contest_inside (codes "Contest") e
+
+election_inside : Inside election_located
+election_inside e =
+    let p = e.place in
+    all-append (AtOrIn p) (styles e) (candidates e ++ contests_of e) (all_inside p (codes "BallotStyle") (styles e) (styles_in e))
+    (all-append (AtOrIn p) (candidates e) (contests_of e) (all_inside p (codes "Candidate") (candidates e) (candidates_in e))
+    (all_inside p (codes "Contest") (contests_of e) (contests_in e)))
+
+election_parted : Parted election_located
+election_parted e =
+    let p = e.place in
+    sorted_append apart (styles e) (candidates e ++ contests_of e) (parted_located family.Style (codes "BallotStyle") e)
+    (sorted_append apart (candidates e) (contests_of e) (parted_located family.Candidate (codes "Candidate") e)
+    (parted_array contest_located contest_inside contest_parted (codes "Contest") e)
+    (below_by p (codes "Candidate") (codes "Contest") (candidates e) (contests_of e) refl (candidates_in e) (contests_in e)))
+    (below-append (styles e) (candidates e) (contests_of e)
+    (below_by p (codes "BallotStyle") (codes "Candidate") (styles e) (candidates e) refl (styles_in e) (candidates_in e))
+    (below_by p (codes "BallotStyle") (codes "Contest") (styles e) (contests_of e) refl (styles_in e) (contests_in e)))
+
+-- ---- the report
+
+-- arrays of the report, in the order of their names
+abbrev arrays : Placed → List (List ℕ × Family) → List Located
+arrays r [] = []
+arrays r ((name, f) ∷ more) = located f (placed_entries name r) ++ arrays r more
+
+below_arrays : (r : Placed) (name : List ℕ) (xs : List Located) → AllIn (InMember r.place name) xs → (more : List (List ℕ × Family))
+    → AllByRecursion {X = List ℕ × Family} (λ m. text_cmp name m.0 ≡ Less) more → Below apart xs (arrays r more)
+below_arrays r name xs a [] less = λ x y i j. absurd j
+below_arrays r name xs a (m ∷ more) less =
+    below-append xs (located m.1 (placed_entries m.0 r)) (arrays r more)
+    (below_by r.place name m.0 xs (located m.1 (placed_entries m.0 r)) less.0 a (in_located m.1 m.0 r)) (below_arrays r name xs a more less.1)
+
+parted_arrays : (r : Placed) (ms : List (List ℕ × Family)) → IsStrictlySortedBy (λ (a b : List ℕ × Family). text_cmp a.0 b.0) ms → AreApart (arrays r ms)
+unfolding IsStrictlySortedBy
+parted_arrays r [] rising = tt
+parted_arrays r (m ∷ more) rising =
+    sorted_append apart (located m.1 (placed_entries m.0 r)) (arrays r more) (parted_located m.1 m.0 r) (parted_arrays r more rising.1)
+    (below_arrays r m.0 (located m.1 (placed_entries m.0 r)) (in_located m.1 m.0 r) more rising.0)
+
+abbrev shared_arrays : List (List ℕ × Family)
+shared_arrays = (codes "GpUnit", family.Unit) ∷ (codes "Header", family.Header) ∷ (codes "Office", family.Office) ∷ (codes "Party", family.Party) ∷ (codes "Person", family.Person) ∷ []
+
+shared_is : (r : Placed) → arrays r shared_arrays ≡ shared_located r
+shared_is r =
+    let one = λ (f : Family) (name : List ℕ). located f (placed_entries name r) in
+    ap (λ xs. one family.Unit (codes "GpUnit") ++ (one family.Header (codes "Header") ++ (one family.Office (codes "Office") ++ (one family.Party (codes "Party") ++ xs))))
+    (append-nil (one family.Person (codes "Person")))
+
+shared_parted : (r : Placed) → AreApart (shared_located r)
+unfolding IsStrictlySortedBy
+shared_parted r = subst AreApart (shared_is r) (parted_arrays r shared_arrays ((refl, (refl, (refl, (refl, tt)))), ((refl, (refl, (refl, tt))), ((refl, (refl, tt)), ((refl, tt), (tt, tt))))))
+
+pub all_parted : (t : Data) → AreApart (all_located t)
+all_parted t =
+    let r = report_of t in
+    let name = codes "Election" in
+    sorted_append apart (flat_map election_located (elections t)) (shared_located r) (parted_array election_located election_inside election_parted name r) (shared_parted r)
+    (subst (Below apart (flat_map election_located (elections t))) (shared_is r)
+    (below_arrays r name (flat_map election_located (elections t)) (in_array election_located election_inside name r) shared_arrays (refl, (refl, (refl, (refl, (refl, tt)))))))

@@ -1,0 +1,3 @@
+-- When two objects and two reports mean the same.
+pub mod WholeRecords
+pub mod WholeMeanings

@@ -1,0 +1,323 @@
+-- When two reports mean the same: the report, the election and the object of each key mean the same.
+use Rattle.std.proofs.Common.{◌≡◌, ℕ, List, [], ◌∷◌, ◌++◌, Bool, true, false, true≢false, not, ◌&&◌, ◌||◌, Contains, Option, Some, None, find, filter, map, Ordering, refl, sym, ap, ◌∙◌, subst, zero, suc, arith}
+use Rattle.std.proofs.Math.Path.{fun_ext}
+use Rattle.std.proofs.lemmas.Bool.{and_parts, or_from, or_parts}
+use Rattle.std.proofs.lemmas.List.Folds.{list_any-append}
+use Rattle.std.proofs.lemmas.Slice.Eq.{bytes_eq-Decides}
+use Rattle.std.specs.List.{list_any}
+use Rattle.std.specs.Option.{option_cmp}
+use Rattle.std.specs.Ordering.{is_eq}
+use Rattle.std.specs.Prelude.{option_and_then, option_map, unwrap_or, is_some, cond, ⊤}
+use Rattle.std.specs.Str.{bytes_eq}
+use Rattle.serde_json.specs.Data.{Data, null}
+use Rattle.serde_json.specs.Find.{get}
+use Rattle.erd_tables.specs.Table.{kind_of_member}
+use Rattle.erd_tables.specs.declared.class.Class.{Class}
+use Rattle.erd_tables.specs.declared.class.Family.{Family}
+use Rattle.erd_tables.specs.declared.class.Family.TheVariants as family
+use Rattle.erd_tables.specs.declared.class.Role.{Role}
+use Rattle.erd_tables.specs.declared.class.Role.TheVariants as role
+use Rattle.erd_tables.specs.declared.member.MemberKind.{MemberKind}
+use Rattle.erd_tables.specs.declared.member.MemberKind.TheVariants as kind
+use Rattle.erd_check.specs.Wants.{class_of_object}
+use Rattle.erd_meaning.specs.Keys.{has_keys, key_cmp, key_of}
+use Rattle.erd_meaning.specs.Meaning.{Record}
+use Rattle.erd_meaning.specs.NameParts.{NameParts}
+use Rattle.erd_meaning.specs.Objects.{Placed, objects}
+use Rattle.erd_meaning.specs.Records.{object_with_key, if_carried, carried_members, label_beside_text, plain_member, member_of_class, record_with, object_record, selection_record, selection_map, records_of, meaning}
+use Rattle.erd_meaning.specs.SelectionNames.{selection_role, name_cmp, name_of}
+use Rattle.erd_meaning.specs.declared.keys.key.Key.{Key}
+use Rattle.erd_meaning.proofs.orders.EqualNames.{options_exact, equal_keys, equal_names}
+use Rattle.erd_meaning.proofs.meanings.WholeRecords.{names_in, absent_member, absent_plain, same_at_every_name, same_at_other_names}
+
+-- ---- members
+
+abbrev pub names_of_both : Data → Data → List (List ℕ)
+names_of_both d e = names_in d ++ names_in e
+
+-- these names without one of them
+abbrev pub but_one : List ℕ → List (List ℕ) → List (List ℕ)
+but_one one names = filter (λ n. not (bytes_eq n one)) names
+
+in_neither : (d e : Data) (name : List ℕ) → list_any (bytes_eq name) (names_of_both d e) ≡ false → (list_any (bytes_eq name) (names_in d) ≡ false) × (list_any (bytes_eq name) (names_in e) ≡ false)
+in_neither d e name h =
+    or_parts (list_any (bytes_eq name) (names_in d)) (list_any (bytes_eq name) (names_in e)) (sym (list_any-append (bytes_eq name) (names_in d) (names_in e)) ∙ h)
+
+outside : (name one : List ℕ) (names : List (List ℕ)) → bytes_eq name one ≡ false → list_any (bytes_eq name) (but_one one names) ≡ false → list_any (bytes_eq name) names ≡ false
+outside name one [] other h = refl
+outside name one (n ∷ ns) other h = at (bytes_eq n one) refl (outside name one ns other)
+  where
+    at : (b : Bool) → bytes_eq n one ≡ b → (list_any (bytes_eq name) (but_one one ns) ≡ false → list_any (bytes_eq name) ns ≡ false) → (bytes_eq name n || list_any (bytes_eq name) ns) ≡ false
+    at true is rest = or_from (bytes_eq name n) _ (ap (bytes_eq name) ((bytes_eq-Decides n one).0 is) ∙ other) (rest (rw is at h))
+    at false is rest = let both = or_parts (bytes_eq name n) _ (rw is at h) in or_from (bytes_eq name n) _ both.0 (rest both.1)
+
+-- a map from the names of an object: it has nothing where the object has no member
+abbrev pub IsOfMembers : {V : Type 0} → Data → (List ℕ → Option V) → Type 0
+IsOfMembers d f = (name : List ℕ) → get name d ≡ None → f name ≡ None
+
+-- two objects mean the same at every name, if they do at those that either has
+pub same_members : {V : Type 0} (f g : List ℕ → Option V) (d e : Data) → IsOfMembers d f → IsOfMembers e g → map f (names_of_both d e) ≡ map g (names_of_both d e) → f ≡ g
+same_members f g d e no_f no_g agree =
+    same_at_every_name f g d e (names_of_both d e) no_f no_g (λ name h. (in_neither d e name h).0) (λ name h. (in_neither d e name h).1) agree
+
+-- the same but for one name
+pub same_but_one : {V : Type 0} (f g : List ℕ → Option V) (d e : Data) (one : List ℕ) → IsOfMembers d f → IsOfMembers e g
+    → map f (but_one one (names_of_both d e)) ≡ map g (but_one one (names_of_both d e)) → (name : List ℕ) → bytes_eq name one ≡ false → f name ≡ g name
+same_but_one f g d e one no_f no_g agree =
+    same_at_other_names f g d e (but_one one (names_of_both d e)) one no_f no_g (λ name other h. (in_neither d e name (outside name one (names_of_both d e) other h)).0)
+    (λ name other h. (in_neither d e name (outside name one (names_of_both d e) other h)).1) agree
+
+-- and at that name too
+pub same_with_one : {V : Type 0} (f g : List ℕ → Option V) (d e : Data) (one : List ℕ) → IsOfMembers d f → IsOfMembers e g
+    → map f (but_one one (names_of_both d e)) ≡ map g (but_one one (names_of_both d e)) → f one ≡ g one → f ≡ g
+same_with_one f g d e one no_f no_g agree at_one = fun_ext (λ name. at name (bytes_eq name one) refl)
+  where
+    at : (name : List ℕ) (b : Bool) → bytes_eq name one ≡ b → f name ≡ g name
+    at name true is = subst (λ n. f n ≡ g n) (sym ((bytes_eq-Decides name one).0 is)) at_one
+    at name false is = same_but_one f g d e one no_f no_g agree name is
+
+-- ---- objects
+
+abbrev made_with : {V : Type 0} → (Class → List ℕ → Option V) → Class → Record V
+made_with members_of c = record { class = c; members = members_of c }
+
+abbrev record_of_members : {V : Type 0} → Class → (List ℕ → Option V) → Option (Record V)
+record_of_members c members = Some (record { class = c; members = members })
+
+same_record : {V : Type 0} (f g : Class → List ℕ → Option V) (r : Role) (d e : Data) (c : Class) → class_of_object r d ≡ Some c → class_of_object r e ≡ Some c → f c ≡ g c
+    → record_with f r d ≡ record_with g r e
+same_record f g r d e c left right same = ap (option_map (made_with f)) left ∙ (ap (record_of_members c) same ∙ sym (ap (option_map (made_with g)) right))
+
+-- two objects of one class mean the same, if they do at the names that either has
+pub same_object : (t u d e : Data) (r : Role) (c : Class) → class_of_object r d ≡ Some c → class_of_object r e ≡ Some c
+    → map (member_of_class t d c) (names_of_both d e) ≡ map (member_of_class u e c) (names_of_both d e) → object_record t r d ≡ object_record u r e
+same_object t u d e r c left right agree =
+    same_record (member_of_class t d) (member_of_class u e) r d e c left right (same_members (member_of_class t d c) (member_of_class u e c) d e (absent_member t d c) (absent_member u e c) agree)
+
+-- the same, where one member is shown apart
+pub same_object_with : (t u d e : Data) (r : Role) (c : Class) (one : List ℕ) → class_of_object r d ≡ Some c → class_of_object r e ≡ Some c
+    → map (member_of_class t d c) (but_one one (names_of_both d e)) ≡ map (member_of_class u e c) (but_one one (names_of_both d e))
+    → member_of_class t d c one ≡ member_of_class u e c one → object_record t r d ≡ object_record u r e
+same_object_with t u d e r c one left right agree at_one =
+    same_record (member_of_class t d) (member_of_class u e) r d e c left right (same_with_one (member_of_class t d c) (member_of_class u e c) d e one (absent_member t d c) (absent_member u e c) agree at_one)
+
+-- two selections of one class, where one member is shown apart
+pub same_selection_with : (t u d e : Data) (c : Class) (one : List ℕ) → class_of_object selection_role d ≡ Some c → class_of_object selection_role e ≡ Some c
+    → map (plain_member t d c) (but_one one (names_of_both d e)) ≡ map (plain_member u e c) (but_one one (names_of_both d e))
+    → plain_member t d c one ≡ plain_member u e c one → selection_record t d ≡ selection_record u e
+same_selection_with t u d e c one left right agree at_one =
+    same_record (plain_member t d) (plain_member u e) selection_role d e c left right (same_with_one (plain_member t d c) (plain_member u e c) d e one (absent_plain t d c) (absent_plain u e c) agree at_one)
+
+nothing_carried : (k : MemberKind) → if_carried k None ≡ None
+nothing_carried kind.Carried = refl
+nothing_carried k = refl
+
+-- carried members, and what stands beside translations, are maps of members
+pub absent_carried : (c : Class) (d : Data) → IsOfMembers d (carried_members (Some c) d)
+absent_carried c d name e = ap (if_carried (kind_of_member c name)) e ∙ nothing_carried (kind_of_member c name)
+
+nothing_either_way : {V : Type 0} (b : Bool) (o : Option V) → o ≡ None → cond b None o ≡ None
+nothing_either_way true o e = refl
+nothing_either_way false o e = e
+
+pub absent_beside : (d : Data) → IsOfMembers d (label_beside_text d)
+absent_beside d name e = nothing_either_way _ (get name d) e
+
+-- ---- keys and names
+
+-- two maps agree at each of these keys
+abbrev pub AgreeAt : {K V : Type 0} → (K → V) → (K → V) → List K → Type 0
+AgreeAt f g [] = ⊤
+AgreeAt f g (k ∷ ks) = (f k ≡ g k) × AgreeAt f g ks
+
+agree_at : {K V : Type 0} (same : K → K → Bool) (equal : (k l : K) → same k l ≡ true → k ≡ l) (f g : K → V) (keys : List K) (k : K) → AgreeAt f g keys → list_any (λ l. same l k) keys ≡ true → f k ≡ g k
+agree_at same equal f g [] k agree among = absurd (true≢false (sym among))
+agree_at same equal f g (l ∷ ls) k agree among = at (same l k) refl among (agree_at same equal f g ls k agree.1)
+  where
+    at : (c : Bool) → same l k ≡ c → (c || list_any (λ l. same l k) ls) ≡ true → (list_any (λ l. same l k) ls ≡ true → f k ≡ g k) → f k ≡ g k
+    at true is h later = subst (λ q. f q ≡ g q) (equal l k is) agree.0
+    at false is h later = later h
+
+-- two maps that agree at these keys, and have nothing at any other, are equal at each key
+pub same_at_every : {K V : Type 0} (same : K → K → Bool) (equal : (k l : K) → same k l ≡ true → k ≡ l) (f g : K → Option V) (keys : List K) → AgreeAt f g keys
+    → ((k : K) → list_any (λ l. same l k) keys ≡ false → f k ≡ None) → ((k : K) → list_any (λ l. same l k) keys ≡ false → g k ≡ None) → (k : K) → f k ≡ g k
+same_at_every same equal f g keys agree no_f no_g k = at (list_any (λ l. same l k) keys) refl
+  where
+    at : (b : Bool) → list_any (λ l. same l k) keys ≡ b → f k ≡ g k
+    at true is = agree_at same equal f g keys k agree is
+    at false is = no_f k is ∙ sym (no_g k is)
+
+-- some key of the list is equal to this one
+abbrev pub is_key_in : List Key → Key → Bool
+is_key_in keys k = list_any (λ l. is_eq (key_cmp l k)) keys
+
+-- the same by keys
+pub same_at_every_key : {V : Type 0} (f g : Key → Option V) (keys : List Key) → AgreeAt f g keys
+    → ((k : Key) → is_key_in keys k ≡ false → f k ≡ None) → ((k : Key) → is_key_in keys k ≡ false → g k ≡ None) → (k : Key) → f k ≡ g k
+same_at_every_key f g keys agree no_f no_g k = same_at_every (λ l k. is_eq (key_cmp l k)) equal_keys f g keys agree no_f no_g k
+
+-- each of the later values is among the earlier ones
+abbrev pub AreAmong : {A : Type 0} → List A → List A → Type 0
+AreAmong xs [] = ⊤
+AreAmong xs (y ∷ ys) = Contains xs y × AreAmong xs ys
+
+failed : {A : Type 0} (test : A → Bool) (xs : List A) (x : A) → list_any test xs ≡ false → Contains xs x → test x ≡ false
+failed test [] x h (k, low, is) = absurd (omega arith)
+failed test (y ∷ ys) x h (zero, low, is) = subst (λ z. test z ≡ false) is (or_parts (test y) _ h).0
+failed test (y ∷ ys) x h (suc k, low, is) = failed test ys x (or_parts (test y) _ h).1 (k, omega arith, is)
+
+-- what none of the earlier values passes, none of the later does
+pub none_among : {A : Type 0} (test : A → Bool) (xs ys : List A) → AreAmong xs ys → list_any test xs ≡ false → list_any test ys ≡ false
+none_among test xs [] among h = refl
+none_among test xs (y ∷ ys) among h = or_from (test y) _ (failed test xs y h among.0) (none_among test xs ys among.1 h)
+
+-- where these are the keys of a list, one of its values has a key exactly if the key is among them
+pub looked_for : {A K : Type 0} (cmp : K → K → Ordering) (key : A → Option K) (xs : List A) (keys : List K) → map key xs ≡ map Some keys → (k : K)
+    → list_any (λ x. is_eq (option_cmp cmp (key x) (Some k))) xs ≡ list_any (λ l. is_eq (cmp l k)) keys
+looked_for cmp key [] [] e k = refl
+looked_for cmp key (x ∷ xs) (l ∷ ls) e k =
+    let first : key x ≡ Some l = cc in let rest : map key xs ≡ map Some ls = cc in
+    rw (first, looked_for cmp key xs ls rest k)
+looked_for cmp key [] (l ∷ ls) e k = absurd (cc e)
+looked_for cmp key (x ∷ xs) [] e k = absurd (cc e)
+
+-- the values of the one list have the keys of the other, in order
+abbrev pub have_keys : {A K : Type 0} → (K → K → Ordering) → (A → Option K) → List A → List K → Bool
+have_keys cmp key [] [] = true
+have_keys cmp key (x ∷ xs) (k ∷ ks) = is_eq (option_cmp cmp (key x) (Some k)) && have_keys cmp key xs ks
+have_keys cmp key xs ks = false
+
+pub keys_had : {A K : Type 0} (cmp : K → K → Ordering) → ((a b : K) → is_eq (cmp a b) ≡ true → a ≡ b) → (key : A → Option K) (xs : List A) (keys : List K) → have_keys cmp key xs keys ≡ true → map key xs ≡ map Some keys
+keys_had cmp exact key [] [] h = refl
+keys_had cmp exact key (x ∷ xs) (k ∷ ks) h =
+    let both = and_parts (is_eq (option_cmp cmp (key x) (Some k))) _ h in
+    let first : key x ≡ Some k = options_exact cmp exact (key x) (Some k) both.0 in
+    let rest : map key xs ≡ map Some ks = keys_had cmp exact key xs ks both.1 in cc
+keys_had cmp exact key [] (k ∷ ks) h = absurd (cc h)
+keys_had cmp exact key (x ∷ xs) [] h = absurd (cc h)
+
+-- the object has this key
+abbrev pub has_key : Key → Placed → Bool
+has_key k o = is_eq (option_cmp key_cmp (key_of o.value) (Some k))
+
+none_found : {A : Type 0} (test : A → Bool) (xs : List A) → list_any test xs ≡ false → find test xs ≡ None
+none_found test [] h = refl
+none_found test (x ∷ xs) h = let both = or_parts (test x) (list_any test xs) h in rw (both.0, none_found test xs both.1)
+
+-- a family means nothing at a key that none of its objects has
+pub no_record : (t : Data) (f : Family) (k : Key) → list_any (has_key k) (objects f t) ≡ false → records_of t f k ≡ None
+no_record t family.Selection k h = refl
+no_record t f k h = ap (λ o. option_and_then (object_record t (role.OfFamily f)) (option_map (λ p. p.value) o)) (none_found (has_key k) (objects f t) h)
+
+abbrev pub value_with_key : Data → Family → Key → Data
+value_with_key t f k = unwrap_or (object_with_key t f k) null
+
+one_found : (o : Option Data) → is_some o ≡ true → o ≡ Some (unwrap_or o null)
+one_found None h = absurd (cc h)
+one_found (Some d) h = refl
+
+record_with_key : (t : Data) (f : Family) (k : Key) → has_keys f ≡ true → is_some (object_with_key t f k) ≡ true → records_of t f k ≡ object_record t (role.OfFamily f) (value_with_key t f k)
+record_with_key t family.Selection k keyed h = absurd (cc keyed)
+record_with_key t f k keyed h = ap (option_and_then (object_record t (role.OfFamily f))) (one_found (object_with_key t f k) h)
+
+-- the objects of one key mean the same in both reports
+pub same_with_key : (t u : Data) (f : Family) (k : Key) → has_keys f ≡ true → is_some (object_with_key t f k) ≡ true → is_some (object_with_key u f k) ≡ true
+    → object_record t (role.OfFamily f) (value_with_key t f k) ≡ object_record u (role.OfFamily f) (value_with_key u f k) → records_of t f k ≡ records_of u f k
+same_with_key t u f k keyed left right same = record_with_key t f k keyed left ∙ (same ∙ sym (record_with_key u f k keyed right))
+
+-- both reports have an object of this key and class, with the same members
+abbrev pub ObjectsAgree : Data → Data → Family → Key → Class → Type 0
+ObjectsAgree t u f k c =
+    let d = value_with_key t f k in let e = value_with_key u f k in
+    (is_some (object_with_key t f k) ≡ true) × (is_some (object_with_key u f k) ≡ true)
+    × (class_of_object (role.OfFamily f) d ≡ Some c) × (class_of_object (role.OfFamily f) e ≡ Some c)
+    × (map (member_of_class t d c) (names_of_both d e) ≡ map (member_of_class u e c) (names_of_both d e))
+
+pub same_at_key : (t u : Data) (f : Family) (k : Key) (c : Class) → has_keys f ≡ true → ObjectsAgree t u f k c → records_of t f k ≡ records_of u f k
+same_at_key t u f k c keyed agree =
+    same_with_key t u f k keyed agree.0 agree.1 (same_object t u (value_with_key t f k) (value_with_key u f k) (role.OfFamily f) c agree.2 agree.3 agree.4)
+
+-- the same members but for one
+abbrev pub ObjectsAgreeButOne : Data → Data → Family → Key → Class → List ℕ → Type 0
+ObjectsAgreeButOne t u f k c one =
+    let d = value_with_key t f k in let e = value_with_key u f k in
+    (is_some (object_with_key t f k) ≡ true) × (is_some (object_with_key u f k) ≡ true)
+    × (class_of_object (role.OfFamily f) d ≡ Some c) × (class_of_object (role.OfFamily f) e ≡ Some c)
+    × (map (member_of_class t d c) (but_one one (names_of_both d e)) ≡ map (member_of_class u e c) (but_one one (names_of_both d e)))
+
+abbrev pub SameMember : Data → Data → Family → Key → Class → List ℕ → Type 0
+SameMember t u f k c one = member_of_class t (value_with_key t f k) c one ≡ member_of_class u (value_with_key u f k) c one
+
+pub same_at_key_with : (t u : Data) (f : Family) (k : Key) (c : Class) (one : List ℕ) → has_keys f ≡ true → ObjectsAgreeButOne t u f k c one → SameMember t u f k c one → records_of t f k ≡ records_of u f k
+same_at_key_with t u f k c one keyed agree at_one =
+    same_with_key t u f k keyed agree.0 agree.1 (same_object_with t u (value_with_key t f k) (value_with_key u f k) (role.OfFamily f) c one agree.2 agree.3 agree.4 at_one)
+
+-- the keys of the objects of a family, in their order
+abbrev pub HaveKeys : Data → Family → List Key → Type 0
+HaveKeys t f keys = map (λ o. key_of o.value) (objects f t) ≡ map Some keys
+
+pub keys_of_family : (t : Data) (f : Family) (keys : List Key) → have_keys key_cmp (λ o. key_of o.value) (objects f t) keys ≡ true → HaveKeys t f keys
+keys_of_family t f keys h = keys_had key_cmp equal_keys (λ o. key_of o.value) (objects f t) keys h
+
+-- a family means nothing at a key that is not among those of its objects
+pub nothing_at : (t : Data) (f : Family) (keys : List Key) (k : Key) → HaveKeys t f keys → is_key_in keys k ≡ false → records_of t f k ≡ None
+nothing_at t f keys k have h = no_record t f k (looked_for key_cmp (λ o. key_of o.value) (objects f t) keys have k ∙ h)
+
+-- a family means the same in both reports, if its keys stand in any order and the object of each means the same
+pub same_family : (t u : Data) (f : Family) (keys others : List Key) → HaveKeys t f keys → HaveKeys u f others → AreAmong keys others → AgreeAt (records_of t f) (records_of u f) keys
+    → (k : Key) → records_of t f k ≡ records_of u f k
+same_family t u f keys others have have_others among agree =
+    same_at_every_key (records_of t f) (records_of u f) keys agree (λ k h. nothing_at t f keys k have h)
+    (λ k h. nothing_at u f others k have_others (none_among (λ l. is_eq (key_cmp l k)) keys others among h))
+
+-- the selection has this name
+abbrev pub has_name : Data → NameParts → Data → Bool
+has_name t n d = is_eq (option_cmp name_cmp (name_of t d) (Some n))
+
+abbrev pub selection_with_name : Data → List Data → NameParts → Data
+selection_with_name t ds n = unwrap_or (find (has_name t n) ds) null
+
+-- the selections of one name mean the same in both
+pub same_with_name : (t u : Data) (ds es : List Data) (n : NameParts) → is_some (find (has_name t n) ds) ≡ true → is_some (find (has_name u n) es) ≡ true
+    → selection_record t (selection_with_name t ds n) ≡ selection_record u (selection_with_name u es n) → selection_map t ds n ≡ selection_map u es n
+same_with_name t u ds es n left right same =
+    ap (option_and_then (selection_record t)) (one_found (find (has_name t n) ds) left) ∙ (same ∙ sym (ap (option_and_then (selection_record u)) (one_found (find (has_name u n) es) right)))
+
+-- both have a selection of this name and class, with the same members but for one
+abbrev pub SelectionsAgreeButOne : Data → Data → List Data → List Data → NameParts → Class → List ℕ → Type 0
+SelectionsAgreeButOne t u ds es n c one =
+    let d = selection_with_name t ds n in let e = selection_with_name u es n in
+    (is_some (find (has_name t n) ds) ≡ true) × (is_some (find (has_name u n) es) ≡ true)
+    × (class_of_object selection_role d ≡ Some c) × (class_of_object selection_role e ≡ Some c)
+    × (map (plain_member t d c) (but_one one (names_of_both d e)) ≡ map (plain_member u e c) (but_one one (names_of_both d e)))
+
+pub same_at_name : (t u : Data) (ds es : List Data) (n : NameParts) (c : Class) (one : List ℕ) → SelectionsAgreeButOne t u ds es n c one
+    → plain_member t (selection_with_name t ds n) c one ≡ plain_member u (selection_with_name u es n) c one → selection_map t ds n ≡ selection_map u es n
+same_at_name t u ds es n c one agree at_one =
+    same_with_name t u ds es n agree.0 agree.1 (same_selection_with t u (selection_with_name t ds n) (selection_with_name u es n) c one agree.2 agree.3 agree.4 at_one)
+
+-- the names of selections, in their order
+abbrev pub HaveNames : Data → List Data → List NameParts → Type 0
+HaveNames t ds names = map (name_of t) ds ≡ map Some names
+
+pub names_of_selections : (t : Data) (ds : List Data) (names : List NameParts) → have_keys name_cmp (name_of t) ds names ≡ true → HaveNames t ds names
+names_of_selections t ds names h = keys_had name_cmp equal_names (name_of t) ds names h
+
+-- two maps of selections are equal, if their names stand in any order and the selection of each means the same
+pub same_selections : (t u : Data) (ds es : List Data) (names others : List NameParts) → HaveNames t ds names → HaveNames u es others → AreAmong names others
+    → AgreeAt (selection_map t ds) (selection_map u es) names → selection_map t ds ≡ selection_map u es
+same_selections t u ds es names others have have_others among agree =
+    fun_ext (same_at_every (λ m n. is_eq (name_cmp m n)) equal_names (selection_map t ds) (selection_map u es) names agree
+    (λ n h. ap (option_and_then (selection_record t)) (none_found (has_name t n) ds (looked_for name_cmp (name_of t) ds names have n ∙ h)))
+    (λ n h. ap (option_and_then (selection_record u)) (none_found (has_name u n) es
+    (looked_for name_cmp (name_of u) es others have_others n ∙ none_among (λ m. is_eq (name_cmp m n)) names others among h))))
+
+-- ---- the whole
+
+-- reports mean the same, if they and their elections do, and their objects at each key
+pub same_meaning : (t u : Data) → object_record t role.Report t ≡ object_record u role.Report u → (meaning t).election ≡ (meaning u).election
+    → ((f : Family) (k : Key) → records_of t f k ≡ records_of u f k) → meaning t ≡ meaning u
+same_meaning t u report election at_key =
+    ap (λ x. record { report = x; election = (meaning t).election; objects = records_of t }) report
+    ∙ (ap (λ x. record { report = object_record u role.Report u; election = x; objects = records_of t }) election
+    ∙ ap (λ x. record { report = object_record u role.Report u; election = (meaning u).election; objects = x }) (fun_ext (λ f. fun_ext (λ k. at_key f k))))

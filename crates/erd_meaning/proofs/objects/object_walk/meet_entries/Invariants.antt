@@ -1,0 +1,12 @@
+use Rattle.std.proofs.Common.{◌≡◌, drop, map}
+use Rattle.serde_json.specs.View.{view}
+use Rattle.erd_check.specs.code.Paths.{steps_of}
+use Rattle.erd_meaning.specs.Objects.{placed_from}
+use Rattle.erd_meaning.specs.code.ObjectWalk.{located, met_all}
+use Rattle.erd_meaning.specs.code.Shown.{met_of}
+use Rattle.erd_meaning.proofs.objects.object_walk.meet_entries.Given as goal
+
+abbrev pub invariant-loop-index : goal.invariant-loop-index
+invariant-loop-index l =
+    met_all (met_of l.walk) (located l.family (placed_from (steps_of l.array) l.index (map view (drop l.index l.entry-items))))
+    ≡ met_all (met_of l.initial.walk) (located l.family (placed_from (steps_of l.array) 0 (map view l.entry-items)))

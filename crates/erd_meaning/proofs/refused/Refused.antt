@@ -1,0 +1,41 @@
+-- A report that is refused for the faults of its first phase with any is refused for all its faults.
+use Rattle.std.proofs.Common.{List}
+use Rattle.serde_json.specs.Data.{Data}
+use Rattle.erd_tables.specs.declared.fault.Reason.{Reason}
+use Rattle.erd_tables.specs.declared.place.Step.{Step}
+use Rattle.erd_check.specs.Faults.{NoneOf, ShapeFault}
+use Rattle.erd_check.specs.Refusals.{RefusedFor}
+use Rattle.erd_check.specs.declared.error.CheckError.{CheckError}
+use Rattle.erd_check.specs.declared.error.CheckError.TheVariants.{Faults, Memory}
+use Rattle.erd_meaning.specs.Accepted.{IsFault, OrElse}
+use Rattle.erd_meaning.specs.LaterFaults.{IdentityFault, ReferenceFault, SelectionFault}
+use Rattle.erd_meaning.proofs.refused.RefusedLists.{first_refused, second_refused}
+
+first_phase : (First Second : List Step → Reason → Type 0) (e : CheckError) → RefusedFor First e → RefusedFor (OrElse First Second) e
+first_phase First Second (Faults faults) h = (first_refused First Second faults h.0 h.1, h.1)
+first_phase First Second Memory h = h
+
+second_phase : (First Second : List Step → Reason → Type 0) (e : CheckError) → NoneOf First → RefusedFor Second e → RefusedFor (OrElse First Second) e
+second_phase First Second (Faults faults) none h = (second_refused First Second faults none h.0, h.1)
+second_phase First Second Memory none h = h
+
+-- the faults of each phase, and of those after it
+abbrev FromReferences : Data → List Step → Reason → Type 0
+FromReferences t = OrElse (ReferenceFault t) (SelectionFault t)
+
+abbrev FromIdentity : Data → List Step → Reason → Type 0
+FromIdentity t = OrElse (IdentityFault t) (FromReferences t)
+
+pub refused_for_identity : (t : Data) (e : CheckError) → NoneOf (ShapeFault t) → RefusedFor (IdentityFault t) e → RefusedFor (IsFault t) e
+refused_for_identity t e shape h = second_phase (ShapeFault t) (FromIdentity t) e shape (first_phase (IdentityFault t) (FromReferences t) e h)
+
+pub refused_for_references : (t : Data) (e : CheckError) → NoneOf (ShapeFault t) → NoneOf (IdentityFault t) → RefusedFor (ReferenceFault t) e → RefusedFor (IsFault t) e
+refused_for_references t e shape identity h =
+    second_phase (ShapeFault t) (FromIdentity t) e shape
+    (second_phase (IdentityFault t) (FromReferences t) e identity (first_phase (ReferenceFault t) (SelectionFault t) e h))
+
+pub refused_for_selections : (t : Data) (e : CheckError) → NoneOf (ShapeFault t) → NoneOf (IdentityFault t) → NoneOf (ReferenceFault t) → RefusedFor (SelectionFault t) e
+    → RefusedFor (IsFault t) e
+refused_for_selections t e shape identity references h =
+    second_phase (ShapeFault t) (FromIdentity t) e shape
+    (second_phase (IdentityFault t) (FromReferences t) e identity (second_phase (ReferenceFault t) (SelectionFault t) e references h))

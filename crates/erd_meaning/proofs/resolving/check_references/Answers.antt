@@ -1,8 +1,0 @@
-use Rattle.std.proofs.Common.{◌∙◌, sym}
-use Rattle.serde_json.specs.View.{view}
-use Rattle.erd_check.proofs.FaultLists.{none_from_empty}
-use Rattle.erd_meaning.specs.LaterFaults.{ReferenceFault}
-use Rattle.erd_meaning.proofs.resolving.check_references.Goals as goal
-
-pub returns-then-len-eq0-clause-referred : goal.returns-then-len-eq0-clause-referred
-returns-then-len-eq0-clause-referred c = none_from_empty (ReferenceFault (view c.args.tree.now)) c.in_ok-references.references c.in_ok-references.ensures (sym c.len.ensures ∙ c.if-len-eq0.true)

@@ -1,0 +1,9 @@
+-- The claim: the walk over the selections of a report gives each its name, and tells exactly the faults of selections.
+pub mod MetSelections
+pub mod NamesTold
+pub mod NumberedSelections
+pub mod SelectionFaults
+pub mod SelectionsMet
+pub mod WalkedNames
+pub mod AmongNames
+pub mod WholeParts

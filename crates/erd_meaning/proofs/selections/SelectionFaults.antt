@@ -1,0 +1,68 @@
+-- The walk over the selections of a report tells exactly the faults of selections.
+use Rattle.std.proofs.Common.{◌≡◌, ◌⊎◌, inl, inr, List, [], Some, refl, sym, subst}
+use Rattle.serde_json.specs.Data.{Data}
+use Rattle.erd_tables.specs.Faults.{ListsAll}
+use Rattle.erd_tables.specs.declared.fault.Fault.{Fault}
+use Rattle.erd_tables.specs.declared.fault.Reason.{Reason}
+use Rattle.erd_tables.specs.declared.fault.Reason.TheVariants.{TwinSelection}
+use Rattle.erd_tables.specs.declared.place.Step.{Step}
+use Rattle.erd_check.specs.code.Paths.{fault_at}
+use Rattle.erd_check.proofs.Order.{In, In-from_contains, contains_from_In}
+use Rattle.erd_meaning.specs.LaterFaults.{IsBefore, RepeatsName, SelectionFault}
+use Rattle.erd_meaning.specs.NameParts.{NameParts}
+use Rattle.erd_meaning.specs.Objects.{contests, numbered_selections, selections_of_contest}
+use Rattle.erd_meaning.specs.SelectionNames.{name_of}
+use Rattle.erd_meaning.specs.code.SelectionWalk.{NumberedName}
+use Rattle.erd_meaning.proofs.selections.NamesTold.{HasEarlier, Numbered, ToldTwin, names_rising, names_told, told_twin, twin_told}
+use Rattle.erd_meaning.proofs.selections.NumberedSelections.{numbered_rising, of_its_contest, one_contest, with_number}
+
+-- what is told of the selections of a report
+abbrev pub selections_told : Data → List Fault
+selections_told t = names_told (name_of t) [] (numbered_selections t)
+
+-- two selections of one number and one name
+pub repeats : (t : Data) (one other : Numbered) (n : NameParts) → In {A = Numbered} one (numbered_selections t) → In {A = Numbered} other (numbered_selections t) → other.0 ≡ one.0
+    → name_of t one.1.value ≡ Some n → name_of t other.1.value ≡ Some n → IsBefore other.1 one.1 → RepeatsName t one.1.place
+repeats t one other n i j same named also before =
+    let a = of_its_contest t one i in
+    let b = of_its_contest t other j in
+    let contest : b.contest ≡ a.contest = one_contest t other one b a same in
+    record {
+      contest = a.contest;
+      contest_stands = contains_from_In a.contest (contests t) a.there;
+      later = one.1;
+      later_stands = contains_from_In one.1 (selections_of_contest a.contest) a.inside;
+      place = refl;
+      earlier = other.1;
+      earlier_stands = contains_from_In other.1 (selections_of_contest a.contest) (subst (λ c. In other.1 (selections_of_contest c)) contest b.inside);
+      before = before;
+      name = n;
+      later_name = named;
+      earlier_name = also;
+    }
+
+twins : (t : Data) (f : Fault) (told : ToldTwin (name_of t) [] (numbered_selections t) f) → In {A = NumberedName} (told.one.0, told.parts) [] ⊎ HasEarlier (name_of t) (numbered_selections t) told.one told.parts
+    → RepeatsName t told.one.1.place
+twins t f told (inl h) = absurd h
+twins t f told (inr (y, i, same, also, before)) = repeats t told.one y told.parts told.there i same told.named also before
+
+of_told : (t : Data) (f : Fault) → ToldTwin (name_of t) [] (numbered_selections t) f → SelectionFault t f.place f.reason
+of_told t f told = subst (λ (g : Fault). SelectionFault t g.place g.reason) told.is (twins t f told told.other)
+
+told_of_reason : (t : Data) (p : List Step) (r : Reason) → SelectionFault t p r → In (fault_at p r) (selections_told t)
+told_of_reason t p TwinSelection h =
+    let number = with_number t h.contest (In-from_contains h.contest (contests t) h.contest_stands) in
+    let later = number.1 h.later (In-from_contains h.later (selections_of_contest h.contest) h.later_stands) in
+    let earlier = number.1 h.earlier (In-from_contains h.earlier (selections_of_contest h.contest) h.earlier_stands) in
+    subst (λ q. In (fault_at q TwinSelection) (selections_told t)) (sym h.place)
+    (twin_told (name_of t) [] (numbered_selections t) (number.0, h.later) h.name (numbered_rising t) later h.later_name (inr ((number.0, h.earlier), earlier, refl, h.earlier_name, h.before)))
+told_of_reason t p r h = absurd h
+
+pub selections_listed : (t : Data) → ListsAll (SelectionFault t) (selections_told t)
+selections_listed t = record {
+  rising = names_rising (name_of t) [] (numbered_selections t) (numbered_rising t);
+  each = λ f. (
+    λ h. of_told t f (told_twin (name_of t) [] (numbered_selections t) f (numbered_rising t) (In-from_contains f (selections_told t) h)),
+    λ h. contains_from_In f (selections_told t) (told_of_reason t f.place f.reason h),
+  );
+}

@@ -1,0 +1,110 @@
+-- The names that the walk over the selections of a report meets are those of the definition, where its shape has no fault.
+use Rattle.std.proofs.Common.{◌≡◌, ◌<◌, ℕ, zero, suc, inl, inr, List, [], ◌∷◌, ◌++◌, flat_map, Option, Some, None, option_and_then, option_map, refl, sym, ap, ◌∙◌, subst}
+use Rattle.std.specs.List.{slice_get}
+use Rattle.std.specs.Option.{option_map_or}
+use Rattle.serde_json.specs.Data.{Data}
+use Rattle.erd_tables.specs.declared.class.Class.{Class}
+use Rattle.erd_tables.specs.declared.class.Family.TheVariants.{Selection}
+use Rattle.erd_tables.specs.declared.fault.Reason.TheVariants.{TwinSelection}
+use Rattle.erd_check.specs.Faults.{NoneOf, ShapeFault}
+use Rattle.erd_check.specs.Wants.{class_of_object}
+use Rattle.erd_check.proofs.ObjectsAt.{ObjectIn, object_in}
+use Rattle.erd_check.proofs.Order.{In, In-flat_map}
+use Rattle.erd_check.proofs.Rising.{Has, here, later}
+use Rattle.erd_meaning.specs.LaterFaults.{SelectionFault}
+use Rattle.erd_meaning.specs.Lookups.{selection_in}
+use Rattle.erd_meaning.specs.NameParts.{NameParts}
+use Rattle.erd_meaning.specs.Objects.{Placed, contests, numbered_selections, objects, selections_of_contest}
+use Rattle.erd_meaning.specs.code.Resolved.{AreNames}
+use Rattle.erd_meaning.specs.SelectionNames.{name_in_class, name_of, selection_role}
+use Rattle.erd_meaning.specs.code.SelectionWalk.{NumberedName}
+use Rattle.erd_meaning.proofs.selections.NamesTold.{Numbered, in_places, name_list}
+use Rattle.erd_meaning.proofs.selections.NumberedSelections.{numbered_rising, of_its_contest}
+use Rattle.erd_meaning.proofs.finding.OneObject.{in_at, sorted_at, which_first}
+use Rattle.erd_meaning.proofs.selections.SelectionFaults.{repeats}
+use Rattle.erd_meaning.proofs.accepted.Standing.{stands_of_shape}
+
+-- ---- each selection has a name
+
+has_from : {A : Type 0} (x : A) (xs : List A) → In x xs → Has xs x
+has_from x [] i = absurd i
+has_from x (y ∷ xs) (inl e) = subst (Has (y ∷ xs)) e here
+has_from x (y ∷ xs) (inr i) = later (has_from x xs i)
+
+selection_class : (t : Data) → NoneOf (ShapeFault t) → (o : Placed) → In o (objects Selection t) → (c : Class) × (class_of_object selection_role o.value ≡ Some c)
+selection_class t none o i =
+    let a : ObjectIn t selection_role o.value =
+    object_in t none selection_role o.value (record { place = o.place; is = stands_of_shape t none Selection o (has_from o (objects Selection t) i) }) in
+    (a.class, ap (class_of_object selection_role) a.is_object ∙ a.at.among)
+
+-- the name of each of these
+abbrev HaveNames : (Data → Option NameParts) → List Numbered → Type 0
+HaveNames name xs = (x : Numbered) → In {A = Numbered} x xs → (n : NameParts) × (name x.1.value ≡ Some n)
+
+selections_named : (t : Data) → NoneOf (ShapeFault t) → HaveNames (name_of t) (numbered_selections t)
+selections_named t none x i =
+    let contest = of_its_contest t x i in
+    let c = selection_class t none x.1 (In-flat_map selections_of_contest x.1 contest.contest (contests t) contest.there contest.inside) in
+    (name_in_class t c.0 x.1.value, ap (option_map (λ k. name_in_class t k x.1.value)) c.1)
+
+-- ---- the name at a position
+
+abbrev numbered_name : ℕ → Option NameParts → Option NumberedName
+numbered_name c o = option_map (λ n. (c, n)) o
+
+first_name : (c : ℕ) (o : Option NameParts) (n : NameParts) (rest : List NumberedName) → o ≡ Some n
+    → slice_get {X = NumberedName} (option_map_or (λ n. (c, n) ∷ []) o [] ++ rest) 0 ≡ numbered_name c o
+first_name c None n rest e = cc
+first_name c (Some m) n rest e = refl
+
+later_name : (c i : ℕ) (o : Option NameParts) (n : NameParts) (rest : List NumberedName) → o ≡ Some n
+    → slice_get {X = NumberedName} (option_map_or (λ n. (c, n) ∷ []) o [] ++ rest) (suc i) ≡ slice_get rest i
+later_name c i None n rest e = cc
+later_name c i (Some m) n rest e = refl
+
+names_at : (name : Data → Option NameParts) (xs : List Numbered) (i : ℕ) → HaveNames name xs
+    → slice_get (flat_map (name_list name) xs) i ≡ option_and_then (λ s. numbered_name s.0 (name s.1.value)) (slice_get xs i)
+names_at name [] i have = refl
+names_at name (x ∷ xs) zero have = let n = have x (inl refl) in first_name x.0 (name x.1.value) n.0 (flat_map (name_list name) xs) n.1
+names_at name (x ∷ xs) (suc i) have =
+    let n = have x (inl refl) in
+    later_name x.0 i (name x.1.value) n.0 (flat_map (name_list name) xs) n.1 ∙ names_at name xs i (λ y j. have y (inr j))
+
+pub names_listed : (t : Data) → NoneOf (ShapeFault t) → AreNames t (flat_map (name_list (name_of t)) (numbered_selections t))
+names_listed t none i = names_at (name_of t) (numbered_selections t) i (selections_named t none)
+
+-- ---- one name in one contest
+
+-- the selection at a position, of this contest and with this name
+record SelectionAt (t : Data) (i c : ℕ) (n : NameParts) : Type 0 where
+  one : Numbered
+  at : slice_get (numbered_selections t) i ≡ Some one
+  number : one.0 ≡ c
+  named : name_of t one.1.value ≡ Some n
+
+parts_of : (c d : ℕ) (o : Option NameParts) (n : NameParts) → numbered_name c o ≡ Some (d, n) → (c ≡ d) × (o ≡ Some n)
+parts_of c d None n e = cc
+parts_of c d (Some m) n e = let parts : ◌≡◌ {A = NumberedName} (c, m) (d, n) = cc in (ap (λ (s : NumberedName). s.0) parts, ap (λ (s : NumberedName). Some s.1) parts)
+
+selection_at : (t : Data) (i c : ℕ) (n : NameParts) → selection_in t i ≡ Some (c, n) → SelectionAt t i c n
+selection_at t i c n e = from (slice_get (numbered_selections t) i) refl e
+  where
+    from : (o : Option Numbered) → slice_get (numbered_selections t) i ≡ o → option_and_then (λ s. numbered_name s.0 (name_of t s.1.value)) o ≡ Some (c, n) → SelectionAt t i c n
+    from None is h = cc
+    from (Some s) is h = let parts = parts_of s.0 c (name_of t s.1.value) n h in record { one = s; at = is; number = parts.0; named = parts.1 }
+
+two_names : (t : Data) (i j c : ℕ) (n : NameParts) → NoneOf (SelectionFault t) → SelectionAt t i c n → SelectionAt t j c n → i < j → ⊥
+two_names t i j c n none a b less =
+    none b.one.1.place TwinSelection
+    (repeats t b.one a.one n (in_at {A = Numbered} (numbered_selections t) j b.one b.at) (in_at {A = Numbered} (numbered_selections t) i a.one a.at) (a.number ∙ sym b.number) b.named a.named
+    (sorted_at {A = Numbered} in_places (numbered_selections t) i j a.one b.one (numbered_rising t) less a.at b.at))
+
+pub one_selection : (t : Data) (c : ℕ) (n : NameParts) (i j : ℕ) → NoneOf (SelectionFault t) → selection_in t i ≡ Some (c, n) → selection_in t j ≡ Some (c, n) → i ≡ j
+one_selection t c n i j none e g =
+    let a = selection_at t i c n e in
+    let b = selection_at t j c n g in
+    elim (which_first i j) [
+      | inl same ↦ same
+      | inr (inl l) ↦ absurd (two_names t i j c n none a b l)
+      | inr (inr l) ↦ absurd (two_names t j i c n none b a l)
+    ]

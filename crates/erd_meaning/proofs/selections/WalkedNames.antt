@@ -1,0 +1,53 @@
+-- What the walk over the selections of a report leaves.
+use Rattle.std.proofs.Common.{◌≡◌, List, [], ◌++◌, flat_map, map, length, sym, ap, ap₂, ◌∙◌, subst, Option}
+use Rattle.serde_json.specs.Data.{Data}
+use Rattle.erd_tables.specs.Faults.{ListsAll}
+use Rattle.erd_tables.specs.declared.fault.Fault.{Fault}
+use Rattle.erd_check.specs.Faults.{NoneOf, ShapeFault}
+use Rattle.erd_check.proofs.FaultLists.{none_from_empty}
+use Rattle.erd_meaning.specs.LaterFaults.{SelectionFault}
+use Rattle.erd_meaning.specs.NameParts.{NameParts}
+use Rattle.erd_meaning.specs.code.NamesAmong.{name_among}
+use Rattle.erd_meaning.specs.Objects.{numbered_selections}
+use Rattle.erd_meaning.specs.code.ObjectWalk.{Kept, kept_objects}
+use Rattle.erd_meaning.specs.code.Resolved.{AreNames}
+use Rattle.erd_meaning.specs.SelectionNames.{name_of}
+use Rattle.erd_meaning.specs.code.SelectionWalk.{NamesMet, named_all}
+use Rattle.erd_meaning.specs.code.Shown.{name_shown, names_met}
+use Rattle.erd_meaning.specs.declared.names.numbered_name.NamedSelection.{NamedSelection}
+use Rattle.erd_meaning.specs.declared.names.selection_walk.SelectionWalk.{SelectionWalk}
+use Rattle.erd_meaning.proofs.selections.AmongNames.{name_same}
+use Rattle.erd_meaning.proofs.selections.NamesTold.{all_faults, all_names, name_list, names_told}
+use Rattle.erd_meaning.proofs.selections.SelectionFaults.{selections_listed, selections_told}
+use Rattle.erd_meaning.proofs.selections.SelectionsMet.{names_listed}
+
+-- a walk that began with nothing has met the selections of this report, among these objects
+pub record NamesWalked (w v : SelectionWalk) (ks : List Kept) (t : Data) : Type 0 where
+  pub no_name : w.names.items ≡ []
+  pub no_fault : w.faults.items ≡ []
+  pub kept : ks ≡ kept_objects t
+  pub met : names_met v ≡ named_all (name_among ks) (names_met w) (numbered_selections t)
+
+met_by_name : (w v : SelectionWalk) (ks : List Kept) (t : Data) → NamesWalked w v ks t → names_met v ≡ named_all (name_of t) (names_met w) (numbered_selections t)
+met_by_name w v ks t h =
+    let same : name_among (kept_objects t) ≡ name_of t = λ i d. name_same t d i in
+    h.met ∙ ap (λ (name : Data → Option NameParts). named_all name (names_met w) (numbered_selections t)) (ap name_among h.kept ∙ same)
+
+walked_names : (w v : SelectionWalk) (ks : List Kept) (t : Data) → NamesWalked w v ks t → map name_shown v.names.items ≡ flat_map (name_list (name_of t)) (numbered_selections t)
+walked_names w v ks t h =
+    ap (λ (m : NamesMet). m.names) (met_by_name w v ks t h) ∙ all_names (name_of t) (names_met w) (numbered_selections t)
+    ∙ ap (λ (ns : List NamedSelection). map name_shown ns ++ flat_map (name_list (name_of t)) (numbered_selections t)) h.no_name
+
+walked_faults : (w v : SelectionWalk) (ks : List Kept) (t : Data) → NamesWalked w v ks t → v.faults.items ≡ selections_told t
+walked_faults w v ks t h =
+    ap (λ (m : NamesMet). m.faults) (met_by_name w v ks t h) ∙ all_faults (name_of t) (names_met w) (numbered_selections t)
+    ∙ ap₂ (λ (fs : List Fault) (ns : List NamedSelection). fs ++ names_told (name_of t) (map name_shown ns) (numbered_selections t)) h.no_fault h.no_name
+
+pub names_left : (w v : SelectionWalk) (ks : List Kept) (t : Data) → NamesWalked w v ks t → NoneOf (ShapeFault t) → AreNames t (map name_shown v.names.items)
+names_left w v ks t h none = subst (AreNames t) (sym (walked_names w v ks t h)) (names_listed t none)
+
+pub twins_left : (w v : SelectionWalk) (ks : List Kept) (t : Data) → NamesWalked w v ks t → (fs : List Fault) → fs ≡ v.faults.items → ListsAll (SelectionFault t) fs
+twins_left w v ks t h fs e = subst (ListsAll (SelectionFault t)) (sym (e ∙ walked_faults w v ks t h)) (selections_listed t)
+
+pub no_twin_left : (w v : SelectionWalk) (ks : List Kept) (t : Data) → NamesWalked w v ks t → (fs : List Fault) → fs ≡ v.faults.items → length fs ≡ 0 → NoneOf (SelectionFault t)
+no_twin_left w v ks t h fs e empty = none_from_empty (SelectionFault t) fs (twins_left w v ks t h fs e) empty

@@ -1,0 +1,117 @@
+ghost use Rattle.std.specs.Prelude.{◌≡◌, IfOk};
+
+use crate::keys::key::Key;
+use std::alloc::{AllocError, Global};
+use std::cmp::Ordering;
+use std::hash::{Hash, Hasher};
+use std::marker::Model;
+use std::rc::Rc;
+
+/// A key that several have, held once. Contracts see the key.
+#[derive(Debug, Drop)]
+pub(crate) struct SharedKey {
+    key: Rc<Key>,
+}
+
+impl Model for SharedKey {
+    ghost use Rattle.erd_meaning.specs.declared.keys.key.Key.{Key};
+
+    ghost Value = { Key };
+
+    ghost view = { λ s. s.key.value };
+}
+
+impl SharedKey {
+    /// The key, with one owner.
+    pub(crate) fn of(alloc: Global, key: Key) -> Result<SharedKey, AllocError>
+        ensures { IfOk result (λ shared. shared ≡ key) }
+    {
+        Ok(SharedKey {
+            key: Rc::new(alloc, key)?,
+        })
+    }
+
+    /// The key.
+    pub(crate) fn key(&self) -> &Key
+        ensures { result.now ≡ self.now }
+    {
+        self.key.as_ref()
+    }
+
+    /// The same key with one more owner.
+    pub(crate) fn try_clone(&self) -> Result<SharedKey, AllocError>
+        ensures { IfOk result (λ shared. shared ≡ self.now) }
+    {
+        Ok(SharedKey {
+            key: self.key.clone()?,
+        })
+    }
+}
+
+impl PartialEq for SharedKey {
+    ghost use Rattle.std.specs.Cmp.{eq_by_cmp_equiv, partial_equiv_from_equiv};
+    ghost use Rattle.std.specs.Ordering.{eq_by_cmp};
+    ghost use Rattle.erd_meaning.specs.Keys.{key_cmp};
+    ghost use Rattle.erd_meaning.specs.code.Orders.{key_cmp_total};
+
+    ghost eq = { eq_by_cmp key_cmp };
+
+    ghost laws = { partial_equiv_from_equiv (eq_by_cmp_equiv key_cmp_total) };
+
+    fn eq(&self, other: &SharedKey) -> bool {
+        self.key().cmp(other.key()).is_eq()
+    }
+}
+
+impl Eq for SharedKey {
+    ghost use Rattle.std.specs.Cmp.{eq_by_cmp_equiv};
+    ghost use Rattle.erd_meaning.specs.code.Orders.{key_cmp_total};
+
+    ghost laws = { eq_by_cmp_equiv key_cmp_total };
+}
+
+impl PartialOrd for SharedKey {
+    ghost use Rattle.std.specs.Cmp.{partial_order_from_total};
+    ghost use Rattle.std.specs.Ordering.{as_partial_cmp};
+    ghost use Rattle.erd_meaning.specs.Keys.{key_cmp};
+    ghost use Rattle.erd_meaning.specs.code.Orders.{key_cmp_total};
+
+    ghost partial_cmp = { as_partial_cmp key_cmp };
+
+    ghost laws = { partial_order_from_total key_cmp_total };
+
+    fn partial_cmp(&self, other: &SharedKey) -> Option<Ordering> {
+        Some(self.key().cmp(other.key()))
+    }
+}
+
+impl Ord for SharedKey {
+    ghost use Rattle.std.proofs.Common.{refl};
+    ghost use Rattle.erd_meaning.specs.Keys.{key_cmp};
+    ghost use Rattle.erd_meaning.specs.code.Orders.{key_cmp_total};
+
+    ghost cmp = { key_cmp };
+
+    ghost total = { key_cmp_total };
+
+    ghost matches_partial_cmp = { λ a b. refl };
+
+    ghost matches_eq = { λ a b. refl };
+
+    fn cmp(&self, other: &SharedKey) -> Ordering {
+        self.key().cmp(other.key())
+    }
+}
+
+impl Hash for SharedKey {
+    ghost use Rattle.erd_meaning.specs.code.NameHashes.{key_writes};
+    ghost use Rattle.erd_meaning.specs.code.Orders.{equal_keys_alike};
+
+    ghost hash_input = { key_writes };
+
+    ghost respects_eq = { equal_keys_alike key_writes };
+
+    fn hash<H: Hasher>(&self, state: &mut H) {
+        self.key().hash(state);
+    }
+}

@@ -1,0 +1,165 @@
+ghost use Rattle.std.specs.Prelude.{◌≡◌, false, map, option_and_then, IfOk};
+ghost use Rattle.std.specs.Option.{option_copied};
+ghost use Rattle.serde_json.specs.Find.{as_str};
+ghost use Rattle.serde_json.specs.View.{view};
+ghost use Rattle.serde_json.specs.Written.{has_float};
+ghost use Rattle.erd_meaning.specs.Keys.{key_cmp};
+ghost use Rattle.erd_meaning.specs.code.NamesAmong.{key_among, keys_among, name_among, selection_keys_among};
+ghost use Rattle.erd_meaning.specs.SelectionNames.{is_write_in, label_of_selection, order_of_selection, rising_list};
+ghost use Rattle.erd_meaning.specs.code.Shown.{shown};
+
+use crate::keys::key_of::key_of;
+use crate::keys::shared_key::SharedKey;
+use crate::names::label::label_text;
+use crate::names::selection_name::SelectionName;
+use crate::objects::lookup::key_among;
+use crate::objects::object::Object;
+use erd_check::values::{class_of_object, entries_at};
+use erd_tables::{Class, Family, Role, Text};
+use serde_json::{Number, Value};
+use std::alloc::{AllocError, Global};
+
+/// The name of a selection, if it is of a class of selection. What its references name is looked up among the objects.
+pub(crate) fn name_of_selection(
+    alloc: Global,
+    objects: &[Object],
+    selection: &Value,
+) -> Result<Option<SelectionName>, AllocError>
+    requires whole { has_float (view selection.now) ≡ false }
+    ensures { IfOk result (λ name. name ≡ name_among (map shown objects.now) (view selection.now)) }
+{
+    let Some(class) = class_of_object(Role::OfFamily(Family::Selection), selection) else {
+        return Ok(None);
+    };
+    let keys = selection_keys(alloc, objects, class, selection)?;
+    let label = selection_label(alloc, class, selection)?;
+    let identifier = key_of(alloc, selection)?;
+    Ok(Some(SelectionName {
+        class,
+        keys,
+        write_in: is_write_in(class, selection),
+        order: sequence_order(selection),
+        label,
+        identifier,
+    }))
+}
+
+/// The keys of the candidates or the parties that a selection is for, in rising order.
+fn selection_keys(
+    alloc: Global,
+    objects: &[Object],
+    class: Class,
+    selection: &Value,
+) -> Result<Vec<SharedKey>, AllocError>
+    ensures { IfOk result (λ keys. keys.items
+        ≡ rising_list key_cmp (selection_keys_among (map shown objects.now) class (view selection.now))) }
+{
+    let keys = named_keys(alloc, objects, class, selection)?;
+    in_rising_order(keys)
+}
+
+/// The same keys in rising order, each as often.
+fn in_rising_order(mut keys: Vec<SharedKey>) -> Result<Vec<SharedKey>, AllocError>
+    ensures { IfOk result (λ rising. rising.items ≡ rising_list key_cmp keys.items) }
+{
+    keys.sort()?;
+    Ok(keys)
+}
+
+/// The keys of the candidates or the parties that a selection is for, in the order of its references.
+fn named_keys(
+    alloc: Global,
+    objects: &[Object],
+    class: Class,
+    selection: &Value,
+) -> Result<Vec<SharedKey>, AllocError>
+    ensures { IfOk result (λ keys. keys.items
+        ≡ selection_keys_among (map shown objects.now) class (view selection.now)) }
+{
+    match class {
+        Class::CandidateSelection => {
+            let references = entries_at(selection, "CandidateIds");
+            keys_among(alloc, objects, Family::Candidate, references)
+        }
+        Class::PartySelection => {
+            let references = entries_at(selection, "PartyIds");
+            keys_among(alloc, objects, Family::Party, references)
+        }
+        _ => Ok(Vec::new(alloc)),
+    }
+}
+
+/// The keys of what the references name.
+fn keys_among(
+    alloc: Global,
+    objects: &[Object],
+    family: Family,
+    references: &[Value],
+) -> Result<Vec<SharedKey>, AllocError>
+    ensures { IfOk result (λ keys. keys.items
+        ≡ keys_among (map shown objects.now) family (map view references.now)) }
+{
+    let mut keys = Vec::new(alloc);
+    for reference in references {
+        if let Some(key) = key_referred(objects, family, reference) {
+            keys.push(key.try_clone()?)?;
+        }
+    }
+    Ok(keys)
+}
+
+/// The key of what a reference names.
+fn key_referred<'b>(
+    objects: &'b [Object],
+    family: Family,
+    reference: &Value,
+) -> Option<&'b SharedKey>
+    ensures { option_copied result
+        ≡ option_and_then (key_among (map shown objects.now) family) (as_str (view reference.now)) }
+{
+    match reference.as_str() {
+        Some(id) => key_among(objects, family, id),
+        None => None,
+    }
+}
+
+/// Whether a selection is for a write-in.
+fn is_write_in(class: Class, selection: &Value) -> bool
+    ensures { result ≡ is_write_in class (view selection.now) }
+{
+    match class {
+        Class::CandidateSelection => selection
+            .get("IsWriteIn")
+            .and_then(Value::as_bool)
+            .unwrap_or(false),
+        _ => false,
+    }
+}
+
+/// The number in `SequenceOrder`, if there is one.
+fn sequence_order(selection: &Value) -> Option<i128>
+    ensures { result ≡ order_of_selection (view selection.now) }
+{
+    selection
+        .get("SequenceOrder")
+        .and_then(Value::as_number)
+        .and_then(Number::as_i128)
+}
+
+/// The compact text of the label of a ballot measure's selection, its translations in rising order.
+fn selection_label(
+    alloc: Global,
+    class: Class,
+    selection: &Value,
+) -> Result<Option<Text>, AllocError>
+    requires whole { has_float (view selection.now) ≡ false }
+    ensures { IfOk result (λ label. label ≡ label_of_selection class (view selection.now)) }
+{
+    match class {
+        Class::BallotMeasureSelection => match selection.get("Selection") {
+            Some(label) => Ok(Some(label_text(alloc, label)?)),
+            None => Ok(None),
+        },
+        _ => Ok(None),
+    }
+}

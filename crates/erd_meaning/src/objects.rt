@@ -1,0 +1,5 @@
+//! The objects of a report, in the order of their places.
+
+pub(crate) mod lookup;
+pub(crate) mod object;
+pub(crate) mod object_walk;

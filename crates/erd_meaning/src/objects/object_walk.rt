@@ -1,0 +1,208 @@
+ghost use Rattle.std.specs.Prelude.{◌≡◌, ◌++◌, map, codes, flat_map, IfOk};
+ghost use Rattle.std.specs.List.{list_any};
+ghost use Rattle.serde_json.specs.View.{view};
+ghost use Rattle.erd_check.specs.code.Paths.{steps_of};
+ghost use Rattle.erd_meaning.specs.Objects.{placed_entries};
+ghost use Rattle.erd_meaning.specs.code.ObjectWalk.{kept, faults_after, has_same_key, has_same_id, located, located_one, contest_located, election_located, all_located, met_one, met_all};
+ghost use Rattle.erd_meaning.specs.code.Shown.{shown, met_of, placed_at};
+
+use crate::keys::key::Key;
+use crate::keys::key_of::key_of;
+use crate::keys::shared_key::SharedKey;
+use crate::objects::object::Object;
+use erd_check::path::{Path, push_fault};
+use erd_check::values::entries_at;
+use erd_tables::{Family, Fault, Reason};
+use serde_json::Value;
+use std::alloc::{AllocError, Global};
+
+/// The objects that were met, in the order of their places, and their faults of identity.
+#[derive(Drop)]
+pub(crate) struct ObjectWalk<'a> {
+    pub(crate) objects: Vec<Object<'a>>,
+    pub(crate) faults: Vec<Fault>,
+}
+
+/// Meets the objects of a report.
+#[tactic(auto, using(crate::proofs::identity::MetObjects::met_all_append))]
+pub(crate) fn meet_report<'a>(
+    alloc: Global,
+    report: &'a Value,
+    walk: &mut ObjectWalk<'a>,
+) -> Result<(), AllocError>
+    ensures { IfOk result (λ _. met_of walk.new ≡ met_all (met_of walk.old) (all_located (view report.now))) }
+{
+    let path = Path::Root;
+    meet_elections(alloc, report, &path, walk)?;
+    meet_entries(alloc, Family::Unit, report, "GpUnit", &path, walk)?;
+    meet_entries(alloc, Family::Header, report, "Header", &path, walk)?;
+    meet_entries(alloc, Family::Office, report, "Office", &path, walk)?;
+    meet_entries(alloc, Family::Party, report, "Party", &path, walk)?;
+    meet_entries(alloc, Family::Person, report, "Person", &path, walk)
+}
+
+#[tactic(auto, using(crate::proofs::identity::MetObjects::met_all_append))]
+fn meet_elections<'a>(
+    alloc: Global,
+    report: &'a Value,
+    path: &Path,
+    walk: &mut ObjectWalk<'a>,
+) -> Result<(), AllocError>
+    ensures { IfOk result (λ _. met_of walk.new ≡ met_all (met_of walk.old)
+        (flat_map election_located (placed_entries (codes "Election") (placed_at path.now report.now)))) }
+{
+    let elections = Path::Member(&*path, "Election");
+    for (index, election) in entries_at(report, "Election").iter().enumerate() {
+        let election_path = Path::Entry(&elections, index);
+        meet_election(alloc, election, &election_path, walk)?;
+    }
+    Ok(())
+}
+
+#[tactic(auto, using(crate::proofs::identity::MetObjects::met_all_append))]
+fn meet_election<'a>(
+    alloc: Global,
+    election: &'a Value,
+    path: &Path,
+    walk: &mut ObjectWalk<'a>,
+) -> Result<(), AllocError>
+    ensures { IfOk result (λ _. met_of walk.new
+        ≡ met_all (met_of walk.old) (election_located (placed_at path.now election.now))) }
+{
+    meet_entries(alloc, Family::Style, election, "BallotStyle", path, walk)?;
+    meet_entries(alloc, Family::Candidate, election, "Candidate", path, walk)?;
+    meet_contests(alloc, election, path, walk)
+}
+
+#[tactic(auto, using(crate::proofs::identity::MetObjects::met_all_append))]
+fn meet_contests<'a>(
+    alloc: Global,
+    election: &'a Value,
+    path: &Path,
+    walk: &mut ObjectWalk<'a>,
+) -> Result<(), AllocError>
+    ensures { IfOk result (λ _. met_of walk.new ≡ met_all (met_of walk.old)
+        (flat_map contest_located (placed_entries (codes "Contest") (placed_at path.now election.now)))) }
+{
+    let contests = Path::Member(&*path, "Contest");
+    for (index, contest) in entries_at(election, "Contest").iter().enumerate() {
+        let contest_path = Path::Entry(&contests, index);
+        meet_object(alloc, Family::Contest, contest, &contest_path, walk)?;
+        meet_entries(
+            alloc,
+            Family::Selection,
+            contest,
+            "ContestSelection",
+            &contest_path,
+            walk,
+        )?;
+    }
+    Ok(())
+}
+
+fn meet_entries<'a>(
+    alloc: Global,
+    family: Family,
+    owner: &'a Value,
+    name: &str,
+    path: &Path,
+    walk: &mut ObjectWalk<'a>,
+) -> Result<(), AllocError>
+    ensures { IfOk result (λ _. met_of walk.new
+        ≡ met_all (met_of walk.old) (located family (placed_entries name.now (placed_at path.now owner.now)))) }
+{
+    let array = Path::Member(&*path, name);
+    for (index, entry) in entries_at(owner, name).iter().enumerate() {
+        let entry_path = Path::Entry(&array, index);
+        meet_object(alloc, family, entry, &entry_path, walk)?;
+    }
+    Ok(())
+}
+
+fn meet_object<'a>(
+    alloc: Global,
+    family: Family,
+    value: &'a Value,
+    path: &Path,
+    walk: &mut ObjectWalk<'a>,
+) -> Result<(), AllocError>
+    ensures { IfOk result (λ _. met_of walk.new
+        ≡ met_one (met_of walk.old) (located_one family (placed_at path.now value.now))) }
+{
+    let object = object_of(alloc, family, value)?;
+    push_identity_faults(alloc, &object, &walk.objects, path, &mut walk.faults)?;
+    walk.objects.push(object)?;
+    Ok(())
+}
+
+fn object_of<'a>(alloc: Global, family: Family, value: &'a Value) -> Result<Object<'a>, AllocError>
+    ensures { IfOk result (λ object. shown object ≡ kept family (view value.now)) }
+{
+    let key = match family {
+        Family::Selection => None,
+        _ => shared(alloc, key_of(alloc, value)?)?,
+    };
+    let id = value.get("@id").and_then(Value::as_str);
+    Ok(Object {
+        family,
+        value,
+        key,
+        id,
+    })
+}
+
+fn shared(alloc: Global, key: Option<Key>) -> Result<Option<SharedKey>, AllocError>
+    ensures { IfOk result (λ shared. shared ≡ key) }
+{
+    match key {
+        Some(key) => Ok(Some(SharedKey::of(alloc, key)?)),
+        None => Ok(None),
+    }
+}
+
+fn push_identity_faults(
+    alloc: Global,
+    object: &Object,
+    earlier: &[Object],
+    path: &Path,
+    faults: &mut Vec<Fault>,
+) -> Result<(), AllocError>
+    ensures { IfOk result (λ _. faults.new.items ≡ faults.old.items
+        ++ faults_after (map shown earlier.now) (steps_of path.now) (shown object.now)) }
+{
+    if object.family != Family::Selection && object.key.is_none() {
+        push_fault(alloc, path, Reason::NoIdentifier, faults)?;
+    }
+    if has_twin(object, earlier) {
+        push_fault(alloc, path, Reason::TwinIdentifier, faults)?;
+    }
+    if is_named_before(object, earlier) {
+        let id = Path::Member(&*path, "@id");
+        push_fault(alloc, &id, Reason::DuplicateId, faults)?;
+    }
+    Ok(())
+}
+
+/// Whether an earlier object of the family has the key.
+fn has_twin(object: &Object, earlier: &[Object]) -> bool
+    ensures { result ≡ list_any (has_same_key (shown object.now)) (map shown earlier.now) }
+{
+    for other in earlier {
+        if object.is_twin(other) {
+            return true;
+        }
+    }
+    false
+}
+
+/// Whether an earlier object has the `@id`.
+fn is_named_before(object: &Object, earlier: &[Object]) -> bool
+    ensures { result ≡ list_any (has_same_id (shown object.now)) (map shown earlier.now) }
+{
+    for other in earlier {
+        if object.has_id_of(other) {
+            return true;
+        }
+    }
+    false
+}
