@@ -2,6 +2,8 @@
 
 pub(crate) mod family_numbers;
 pub(crate) mod id_texts;
+pub(crate) mod lookups;
+pub(crate) mod numbered_report;
 pub(crate) mod numbering;
 pub(crate) mod object_numbers;
 pub(crate) mod selection_numbers;

@@ -23,8 +23,7 @@ pub(crate) fn family_numbers(
 {
     let keyed = keyed_positions(alloc, report, family)?;
     let sorted = in_order(alloc, keyed)?;
-    let numbers = numbers_by(alloc, &sorted)?;
-    Ok(numbers)
+    numbers_by(alloc, &sorted)
 }
 
 /// The keys of the objects of a family, with their positions.

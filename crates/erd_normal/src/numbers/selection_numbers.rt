@@ -9,9 +9,9 @@ ghost use Rattle.erd_meaning.specs.SelectionNames.{name_of};
 ghost use Rattle.erd_normal.specs.code.KeyRanks.{numbers_in_contest, numbers_of_selections, positioned};
 ghost use Rattle.erd_normal.specs.code.ObjectNumbers.{AreSelectionNumbers};
 
-use erd_check::values::entries_at;
 use crate::numbers::family_numbers::numbers_by;
 use crate::order::stable_sort::in_order;
+use erd_check::values::entries_at;
 use erd_meaning::{Report, SelectionName};
 use erd_tables::Family;
 use serde_json::Value;
@@ -62,8 +62,7 @@ fn contest_numbers(
 {
     let named = named_positions(alloc, report, selections)?;
     let sorted = in_order(alloc, named)?;
-    let numbers = numbers_by(alloc, &sorted)?;
-    Ok(numbers)
+    numbers_by(alloc, &sorted)
 }
 
 /// The names of selections, with their positions.

@@ -4,9 +4,8 @@ ghost use Rattle.serde_json.specs.Written.{has_float};
 ghost use Rattle.erd_check.specs.Wants.{class_of_object};
 ghost use Rattle.erd_normal.specs.code.NormalTree.{normal_object_with, with_id};
 
+use crate::objects::members::{MemberRule, members_by};
 use erd_check::values::class_of_object;
-use crate::objects::member_rule::MemberRule;
-use crate::objects::members::members_by;
 use erd_tables::{Class, Role};
 use serde_json::Value;
 use std::alloc::{AllocError, Global};

@@ -5,9 +5,9 @@ ghost use Rattle.serde_json.specs.Written.{has_float};
 ghost use Rattle.erd_check.specs.Trees.{IsNoDeeper, IsTree};
 ghost use Rattle.erd_normal.specs.Canonical.{IsCanonicalFormOf};
 
-use crate::numbers::numbering::tables_of;
+use crate::numbers::numbered_report::NumberedReport;
+use crate::numbers::numbering::numbers_of;
 use crate::report::report_tree::report_tree;
-use crate::values::report_values::ReportValues;
 use erd_meaning::Report;
 use serde_json::Value;
 use std::alloc::{AllocError, Global};
@@ -15,8 +15,9 @@ use std::alloc::{AllocError, Global};
 /// The canonical form of a report: the one tree that is canonical and means what the report means. It is nested no deeper
 /// than the report.
 ///
-/// The tree is built in one pass, in which each text is copied once. Before it the objects of each family are sorted by their
-/// keys, and the selections of each contest by their names, once each.
+/// First the objects get their numbers: those of each family are sorted by their keys, and the selections of each contest by
+/// their names. Then the tree is built in one pass, which sorts both once more, since it writes them in this order, and the
+/// entries of each set. It copies each text once, but for translations, which it copies in their old order and in the new.
 pub fn normal_tree(alloc: Global, report: &Report) -> Result<Value, AllocError>
     ensures canonical { IfOk result (λ tree. IsCanonicalFormOf (view report.now) (view tree)) }
     ensures unique { IfOk result (λ tree. (u : Data) → IsTree u → IsCanonicalFormOf (view report.now) u → u ≡ view tree) }
@@ -25,8 +26,6 @@ pub fn normal_tree(alloc: Global, report: &Report) -> Result<Value, AllocError>
     ensures whole { IfOk result (λ tree. has_float (view tree) ≡ false) }
 {
     let _accepted = report.tree();
-    let tables = tables_of(alloc, report)?;
-    let values = ReportValues::of(report, &tables);
-    let tree = report_tree(alloc, &values, report)?;
-    Ok(tree)
+    let numbers = numbers_of(alloc, report)?;
+    report_tree(alloc, &NumberedReport::of(report, &numbers))
 }

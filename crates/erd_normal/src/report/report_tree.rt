@@ -4,28 +4,27 @@ ghost use Rattle.serde_json.specs.Data.{number, put, string, unsigned};
 ghost use Rattle.serde_json.specs.View.{view, members_view};
 ghost use Rattle.erd_normal.specs.code.NormalTree.{in_envelope, normal_tree, with_envelope};
 
-use crate::report::election::election_array;
-use crate::objects::family_objects::family_array;
-use crate::objects::member_rule::MemberRule;
+use crate::numbers::numbered_report::NumberedReport;
 use crate::objects::built_object::object_by;
-use crate::values::value_rule::ValueRule;
-use erd_meaning::Report;
+use crate::objects::family_objects::family_array;
+use crate::objects::members::MemberRule;
+use crate::report::election::election_array;
+use crate::values::value_of_kind::value_of_kind;
 use erd_tables::{MemberKind, Role, is_envelope};
 use serde_json::{Map, Number, Value};
 use std::alloc::{AllocError, Global};
 
 /// What the members of a report become.
 #[derive(Drop)]
-struct ReportMembers<'a, V: ValueRule> {
-    values: &'a V,
-    report: &'a Report<'a>,
+struct ReportMembers<'a> {
+    numbered: &'a NumberedReport<'a>,
 }
 
-impl<'a, V: ValueRule> MemberRule for ReportMembers<'a, V> {
+impl<'a> MemberRule for ReportMembers<'a> {
     ghost use Rattle.serde_json.specs.View.{view};
     ghost use Rattle.erd_normal.specs.code.PlacedTree.{placed_report_value};
 
-    ghost value_of = { λ rule name kind d. placed_report_value (view rule.report.now) (V.report rule.values.now) name kind d };
+    ghost value_of = { λ rule name kind d. placed_report_value (view rule.numbered.now) name kind d };
 
     fn value(
         &self,
@@ -35,35 +34,28 @@ impl<'a, V: ValueRule> MemberRule for ReportMembers<'a, V> {
         member: &Value,
     ) -> Result<Option<Value>, AllocError> {
         match kind {
-            MemberKind::Keyed(family) => {
-                family_array(alloc, self.values, self.report, family, member)
-            }
+            MemberKind::Keyed(family) => { family_array(alloc, self.numbered, family, member) }
             MemberKind::Elections => {
-                let built = election_array(alloc, self.values, self.report, member)?;
+                let built = election_array(alloc, self.numbered, member)?;
                 Ok(Some(built))
             }
             _ => {
                 if is_envelope(name) {
                     Ok(None)
                 } else {
-                    self.values.value(alloc, kind, member)
+                    value_of_kind(alloc, self.numbered, kind, member)
                 }
             }
         }
     }
 }
 
-/// The tree that is built for a report, its values by the rule.
-pub(crate) fn report_tree<V: ValueRule>(
-    alloc: Global,
-    values: &V,
-    report: &Report,
-) -> Result<Value, AllocError>
-    requires same { V.report values.now ≡ view report.now }
-    ensures { IfOk result (λ tree. view tree ≡ normal_tree (view report.now)) }
+/// The tree that is built for a report, by the numbers of its objects.
+pub(crate) fn report_tree(alloc: Global, numbered: &NumberedReport) -> Result<Value, AllocError>
+    ensures { IfOk result (λ tree. view tree ≡ normal_tree (view numbered.now)) }
 {
-    let root = report.tree();
-    let built = object_by(alloc, &ReportMembers { values, report }, Role::Report, root)?;
+    let root = numbered.report().tree();
+    let built = object_by(alloc, &ReportMembers { numbered }, Role::Report, root)?;
     in_envelope(alloc, built)
 }
 

@@ -3,8 +3,8 @@ ghost use Rattle.serde_json.specs.View.{view};
 ghost use Rattle.serde_json.specs.Written.{has_float};
 ghost use Rattle.erd_meaning.specs.SelectionNames.{with_rising_text};
 
-use erd_check::values::entries_at;
 use crate::values::sorted_copies::rising_values;
+use erd_check::values::entries_at;
 use serde_json::Value;
 use std::alloc::{AllocError, Global};
 

@@ -6,12 +6,12 @@ ghost use Rattle.erd_meaning.specs.SelectionNames.{key_named, rising_list};
 ghost use Rattle.erd_normal.specs.code.Building.{beside_key, beside_named};
 ghost use Rattle.erd_normal.specs.code.NormalTree.{normal_reference, reference_cmp};
 ghost use Rattle.erd_check.specs.Values.{text_of};
-ghost use Rattle.erd_normal.specs.code.ObjectNumbers.{AreObjectNumbers};
 
-use erd_check::values::text_of;
-use crate::numbers::numbering::{is_same, reference};
+use crate::numbers::lookups::is_same;
+use crate::numbers::numbered_report::NumberedReport;
 use crate::order::stable_sort::in_order;
-use crate::numbers::object_numbers::ObjectNumbers;
+use crate::values::reference::reference;
+use erd_check::values::text_of;
 use erd_meaning::{Key, Report, key_of};
 use erd_tables::Family;
 use serde_json::Value;
@@ -20,19 +20,16 @@ use std::alloc::{AllocError, Global};
 /// What a set of references to objects of a family becomes, in the order of the keys of those objects.
 pub(crate) fn rising_references(
     alloc: Global,
-    report: &Report,
-    tables: &ObjectNumbers,
+    numbered: &NumberedReport,
     family: Family,
     values: &[Value],
 ) -> Result<Vec<Value>, AllocError>
-    requires { AreObjectNumbers (view report.now) tables.now }
     ensures { IfOk result (λ rising. map view rising.items
-        ≡ map (normal_reference (view report.now) family) (rising_list (reference_cmp (view report.now) family) (map view values.now))) }
+        ≡ map (normal_reference (view numbered.now) family) (rising_list (reference_cmp (view numbered.now) family) (map view values.now))) }
 {
-    let pairs = with_keys(alloc, report, family, values)?;
+    let pairs = with_keys(alloc, numbered.report(), family, values)?;
     let sorted = in_order(alloc, pairs)?;
-    let references = references_of(alloc, report, tables, family, &sorted)?;
-    Ok(references)
+    references_of(alloc, numbered, family, &sorted)
 }
 
 /// References with the keys of what they name.
@@ -55,18 +52,16 @@ fn with_keys<'a>(
 
 fn references_of(
     alloc: Global,
-    report: &Report,
-    tables: &ObjectNumbers,
+    numbered: &NumberedReport,
     family: Family,
     pairs: &[(Option<Key>, &Value)],
 ) -> Result<Vec<Value>, AllocError>
-    requires { AreObjectNumbers (view report.now) tables.now }
     ensures { IfOk result (λ built. map view built.items
-        ≡ map (λ p. normal_reference (view report.now) family (view p.1.now)) pairs.now) }
+        ≡ map (λ p. normal_reference (view numbered.now) family (view p.1.now)) pairs.now) }
 {
     let mut references = Vec::with_capacity(alloc, pairs.len())?;
     for pair in pairs {
-        references.push(reference(alloc, report, tables, family, pair.1)?)?;
+        references.push(reference(alloc, numbered, family, pair.1)?)?;
     }
     Ok(references)
 }

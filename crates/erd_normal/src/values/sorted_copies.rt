@@ -16,8 +16,7 @@ pub(crate) fn rising_values(alloc: Global, values: &[Value]) -> Result<Vec<Value
 {
     let pairs = with_texts(alloc, values)?;
     let sorted = in_order(alloc, pairs)?;
-    let copies = copied(alloc, &sorted)?;
-    Ok(copies)
+    copied(alloc, &sorted)
 }
 
 /// Values with their compact texts.

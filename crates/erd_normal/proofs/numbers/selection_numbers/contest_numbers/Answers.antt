@@ -1,4 +1,4 @@
-use Rattle.std.proofs.Common.{ap, ◌∙◌}
+use Rattle.std.proofs.Common.{◌≡◌, ℕ, List, IfOk, ap, subst, ◌∙◌}
 use Rattle.std.specs.Cmp.Lexicographic.{options_total}
 use Rattle.std.specs.Option.{option_cmp}
 use Rattle.erd_meaning.specs.Orders.{name_cmp_total}
@@ -9,8 +9,8 @@ use Rattle.erd_normal.proofs.numbers.selection_numbers.contest_numbers.Goals as 
 
 pub returns : goal.returns
 returns c =
-    c.in_ok-numbers.ensures
-    ∙ ap places_by
-    (c.deref.ensures.value
+    let order =
+    c.deref.ensures.value
     ∙ (rising_from_stable (option_cmp name_cmp) (options_total name_cmp_total) c.in_ok-named.named.items c.in_ok-sorted.sorted.items c.in_ok-sorted.ensures
-    ∙ ap (rising_list (by_first (option_cmp name_cmp))) c.in_ok-named.ensures))
+    ∙ ap (rising_list (by_first (option_cmp name_cmp))) c.in_ok-named.ensures) in
+    subst (λ (ns : List ℕ). IfOk c.numbers_by.result (λ numbers. numbers.items ≡ ns)) (ap places_by order) c.numbers_by.ensures

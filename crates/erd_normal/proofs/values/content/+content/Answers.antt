@@ -12,40 +12,40 @@ use Rattle.erd_normal.proofs.NormalMembers.{node_value, normal_node_members_each
 use Rattle.erd_normal.proofs.values.content.+content.Goals as goal
 
 pub content-returns-in_ok-nodes-in-Array : goal.content-returns-in_ok-nodes-in-Array
-content-returns-in_ok-nodes-in-Array g t c whole =
-    let report = g.V.ValueRule.report c.args.values.now in
+content-returns-in_ok-nodes-in-Array t c whole =
+    let report = view c.args.numbered.now in
     let seen = ap view c.in-Array.is ∙ view-Array c.in-Array.items in
     view-Array c.in_ok-nodes-in-Array.field-0
     ∙ (content_from_map report c.in_ok-nodes-in-Array.field-0.items c.in-Array.items.items (c.in_ok-nodes-in-Array.ensures (ap has_float (sym seen) ∙ whole))
     ∙ sym (ap (normal_content report) seen))
 
 pub nodes-loop-item-preserved : goal.nodes-loop-item-preserved
-nodes-loop-item-preserved g t c whole =
+nodes-loop-item-preserved t c whole =
     ap (map view) c.in_ok-push.ensures.items
-    ∙ one_more view (λ v. normal_node (g.V.ValueRule.report c.args.values.now) (view v)) c.loop-item.built.items c.deref-item-items.result.now c.loop-item.item-index c.item-item.result c.in_ok-node.field-0
+    ∙ one_more view (λ v. normal_node (view c.args.numbered.now) (view v)) c.loop-item.built.items c.deref-item-items.result.now c.loop-item.item-index c.item-item.result c.in_ok-node.field-0
     c.loop-item-test.true
     c.item-item.is
     (c.in_ok-node.ensures (whole_item c.deref-item-items.result.now c.loop-item.item-index c.item-item.result whole c.loop-item-test.true c.item-item.is))
     (c.loop-item.invariant whole)
 
 pub value_in_node-returns-in_default : goal.value_in_node-returns-in_default
-value_in_node-returns-in_default g t c =
-    let report = g.V.ValueRule.report c.args.values.now in
+value_in_node-returns-in_default t c =
+    let report = view c.args.numbered.now in
     let member = view c.args.member.now in
-    subst (λ (r : Option Data). IfOk c.value.result (λ built. has_float member ≡ false → option_map view built ≡ r))
+    subst (λ (r : Option Data). IfOk c.value_of_kind.result (λ built. has_float member ≡ false → option_map view built ≡ r))
     (sym (other_node_value report c.args.kind member (normal_content report member) c.in_default.not-Content))
-    c.value.ensures
+    c.value_of_kind.ensures
 
 pub node_members-returns : goal.node_members-returns
-node_members-returns g t c whole =
-    let value = node_value (g.V.ValueRule.report c.args.values.now) c.args.class in
+node_members-returns t c whole =
+    let value = node_value (view c.args.numbered.now) c.args.class in
     put_all_of value c.args.members.now.entries (members_view c.loop-name.built.entries) c.iter-name-items.ensures.ordered
     (ap (λ es. put_each value (members_view es) (members_view c.loop-name.built.entries)) (sym c.in-None.ensures.steps.0) ∙ c.loop-name.invariant.built whole)
-    ∙ sym (normal_node_members_each (g.V.ValueRule.report c.args.values.now) c.args.class (members_view c.args.members.now.entries))
+    ∙ sym (normal_node_members_each (view c.args.numbered.now) c.args.class (members_view c.args.members.now.entries))
 
 pub node_members-loop-name-preserved : goal.node_members-loop-name-preserved
-node_members-loop-name-preserved g t c =
-    let report = g.V.ValueRule.report c.args.values.now in
+node_members-loop-name-preserved t c =
+    let report = view c.args.numbered.now in
     let entry : Entry = (c.in-Some.name.now, c.in-Some.member.now) in
     let name = c.as_str-name.ensures.value in
     record {

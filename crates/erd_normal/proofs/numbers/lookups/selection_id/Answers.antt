@@ -8,12 +8,12 @@ use Rattle.erd_normal.proofs.SelectionReferences.{selection_elsewhere, selection
 use Rattle.erd_normal.specs.code.NormalTree.{normal_selection_reference}
 use Rattle.erd_normal.specs.code.PlacedTree.{selection_id_numbered}
 use Rattle.erd_normal.specs.code.ObjectNumbers.{number_in}
-use Rattle.erd_normal.proofs.values.selection_reference.selection_id.Goals as goal
+use Rattle.erd_normal.proofs.numbers.lookups.selection_id.Goals as goal
 
 pub returns-then-is_same : goal.returns-then-is_same
 returns-then-is_same c =
     let t = view c.args.report.now in
-    let n = c.args.tables.now in
+    let n = c.args.numbers.now in
     let i = c.in-Some.index in
     IfOk-weaker c.selection_id_at.result
     (λ built. string_bytes built ≡ option_map_or (λ s. selection_id_numbered (number_in n.contests.items s.0) (number_in n.selections.items i)) (selection_in t i) [])

@@ -3,7 +3,7 @@ use Rattle.serde_json.specs.Data.{string}
 use Rattle.serde_json.specs.View.{view}
 use Rattle.serde_json.specs.declared.value.Value.{String, the_lemmas}
 use Rattle.erd_normal.specs.code.NormalTree.{normal_id}
-use Rattle.erd_normal.proofs.numbers.numbering.reference.Goals as goal
+use Rattle.erd_normal.proofs.values.reference.reference.Goals as goal
 
 pub returns : goal.returns
 returns c =
@@ -11,4 +11,4 @@ returns c =
     seen
     ∙ ap string (c.in_ok-id_text.ensures
     ∙ (c.number_of-number.ensures
-    ∙ ap (normal_id (view c.args.report.now) c.args.family) c.text_of.ensures))
+    ∙ ap (normal_id (view c.args.numbered.now) c.args.family) c.text_of.ensures))
