@@ -16,8 +16,8 @@ use std::alloc::{AllocError, Global};
 /// than the report.
 ///
 /// First the objects get their numbers: those of each family are sorted by their keys, and the selections of each contest by
-/// their names. Then the tree is built in one pass, which sorts both once more, since it writes them in this order, and the
-/// entries of each set. It copies each text once, but for translations, which it copies in their old order and in the new.
+/// their names. Then the tree is built in one pass. It sorts both once more, since it writes them in this order, and it sorts
+/// the entries of each set. Each text is copied into the tree once, but translations are copied twice.
 pub fn normal_tree(alloc: Global, report: &Report) -> Result<Value, AllocError>
     ensures canonical { IfOk result (λ tree. IsCanonicalFormOf (view report.now) (view tree)) }
     ensures unique { IfOk result (λ tree. (u : Data) → IsTree u → IsCanonicalFormOf (view report.now) u → u ≡ view tree) }

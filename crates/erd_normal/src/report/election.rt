@@ -35,7 +35,7 @@ impl<'a> MemberRule for ElectionMembers<'a> {
         member: &Value,
     ) -> Result<Option<Value>, AllocError> {
         match kind {
-            MemberKind::Keyed(family) => { family_array(alloc, self.numbered, family, member) }
+            MemberKind::Keyed(family) => family_array(alloc, self.numbered, family, member),
             _ => value_of_kind(alloc, self.numbered, kind, member),
         }
     }

@@ -34,7 +34,7 @@ impl<'a> MemberRule for ReportMembers<'a> {
         member: &Value,
     ) -> Result<Option<Value>, AllocError> {
         match kind {
-            MemberKind::Keyed(family) => { family_array(alloc, self.numbered, family, member) }
+            MemberKind::Keyed(family) => family_array(alloc, self.numbered, family, member),
             MemberKind::Elections => {
                 let built = election_array(alloc, self.numbered, member)?;
                 Ok(Some(built))
