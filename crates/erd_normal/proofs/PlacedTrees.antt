@@ -35,7 +35,11 @@ use Rattle.erd_normal.proofs.Positions.{map_has}
 use Rattle.erd_normal.proofs.RisingLists.{has_rising}
 use Rattle.erd_normal.proofs.RisingReports.{object_ids, selection_ids}
 use Rattle.erd_normal.specs.code.NormalTree.{array_of, by_key, by_name, in_envelope, normal_election, normal_election_value, normal_members, normal_object, normal_object_value, normal_object_with, normal_report_value, normal_selection, normal_tree, normal_value, unless_no_entry, with_id}
-use Rattle.erd_normal.specs.code.PlacedTree.{map_from, placed_election, placed_election_value, placed_object, placed_object_value, placed_objects, placed_report_value, placed_selection, placed_tree}
+use Rattle.erd_normal.specs.code.PlacedTree.{map_from, placed_election, placed_election_value, placed_object, placed_object_value, placed_objects, placed_report_value, placed_selection}
+
+-- the report, with objects and selections numbered by their places
+abbrev pub placed_tree : Data → Data
+placed_tree t = in_envelope (normal_object_with (placed_report_value t) (class_of_object role.Report t) t)
 
 -- ---- lists and members
 
@@ -67,7 +71,7 @@ module _ (t : Data) (accepted : IsAccepted t) (tree : IsTree t) where
 
   module _ (f : Family) (i : ℕ) (o : Placed) (h : Has (objects f t) o) (e : slice_get (rising_list by_key (map (λ o. o.value) (objects f t))) i ≡ Some o.value) where
     object_value : (c : Class) (ms : Members) (name : List ℕ) (v : Data) → role_of_class c ≡ role.OfFamily f → o.value ≡ object ms → get_member name ms ≡ Some v
-        → (k : MemberKind) → kind_of_member c name ≡ k → placed_object_value t t (i + 1) k v ≡ normal_object_value t o.value k v
+        → (k : MemberKind) → kind_of_member c name ≡ k → placed_object_value t (i + 1) k v ≡ normal_object_value t o.value k v
     object_value c ms name v of is found (kind.Keyed family.Selection) named =
         let called : name ≡ codes "ContestSelection" = keyed_name c name family.Selection named in
         let contest : f ≡ family.Contest = contest_of_selections c f of (ap (kind_of_member c) (sym called) ∙ named) in
@@ -77,13 +81,13 @@ module _ (t : Data) (accepted : IsAccepted t) (tree : IsTree t) where
         (selections_agree i o (subst (λ g. Has (objects g t) o) contest h) (subst (λ g. slice_get (rising_list by_key (map (λ o. o.value) (objects g t))) i ≡ Some o.value) contest e)))
     object_value c ms name v of is found k named = refl
 
-    object_agrees : has_keys f ≡ true → placed_object t t f (i + 1) o.value ≡ normal_object t f o.value
+    object_agrees : has_keys f ≡ true → placed_object t f (i + 1) o.value ≡ normal_object t f o.value
     object_agrees keyed =
         let w : Within t (asked (Object (role.OfFamily f)) o.value) = record { place = o.place; is = stands t accepted f o h } in
         let x : ObjectIn t (role.OfFamily f) o.value = object_in t (no_shape_fault t accepted) (role.OfFamily f) o.value w in
         let trees : AreMembers x.ms = subst IsTree x.is_object (within-tree t (asked (Object (role.OfFamily f)) o.value) tree w) in
         let among : class_of_object (role.OfFamily f) o.value ≡ Some x.class = ap (class_of_object (role.OfFamily f)) x.is_object ∙ x.at.among in
-        let left : Builder = λ name k v. placed_object_value t t (i + 1) k v in
+        let left : Builder = λ name k v. placed_object_value t (i + 1) k v in
         let right : Builder = λ name k v. normal_object_value t o.value k v in
         let members : normal_object_with left (Some x.class) (object x.ms) ≡ normal_object_with right (Some x.class) (object x.ms) =
         ap object (members_agree left right x.class x.ms trees (λ name v found. object_value x.class x.ms name v x.role x.is_object found (kind_of_member x.class name) refl)) in
@@ -93,15 +97,15 @@ module _ (t : Data) (accepted : IsAccepted t) (tree : IsTree t) where
 
   -- ---- the objects of a family
 
-  objects_agree : (f : Family) → has_keys f ≡ true → (ds : List Data) → map (λ o. o.value) (objects f t) ≡ ds → placed_objects t t f ds ≡ map (normal_object t f) (rising_list by_key ds)
+  objects_agree : (f : Family) → has_keys f ≡ true → (ds : List Data) → map (λ o. o.value) (objects f t) ≡ ds → placed_objects t f ds ≡ map (normal_object t f) (rising_list by_key ds)
   objects_agree f keyed ds is =
-      subst (λ ds. placed_objects t t f ds ≡ map (normal_object t f) (rising_list by_key ds)) is
-      (map_by_place (placed_object t t f) (normal_object t f) 1 (rising_list by_key (map (λ o. o.value) (objects f t))) each)
+      subst (λ ds. placed_objects t f ds ≡ map (normal_object t f) (rising_list by_key ds)) is
+      (map_by_place (placed_object t f) (normal_object t f) 1 (rising_list by_key (map (λ o. o.value) (objects f t))) each)
     where
-      each : (i : ℕ) (d : Data) → slice_get (rising_list by_key (map (λ o. o.value) (objects f t))) i ≡ Some d → placed_object t t f (i + 1) d ≡ normal_object t f d
+      each : (i : ℕ) (d : Data) → slice_get (rising_list by_key (map (λ o. o.value) (objects f t))) i ≡ Some d → placed_object t f (i + 1) d ≡ normal_object t f d
       each i d at =
           let o = map_has (λ (o : Placed). o.value) (objects f t) d (has_rising by_key (map (λ o. o.value) (objects f t)) d (has_at (rising_list by_key (map (λ o. o.value) (objects f t))) i d at)) in
-          subst (λ x. placed_object t t f (i + 1) x ≡ normal_object t f x) o.2
+          subst (λ x. placed_object t f (i + 1) x ≡ normal_object t f x) o.2
           (object_agrees f i o.0 o.1 (at ∙ ap Some (sym o.2)) keyed)
 
   -- ---- the election
@@ -111,7 +115,7 @@ module _ (t : Data) (accepted : IsAccepted t) (tree : IsTree t) where
     keyed_in_election family.Selection is = cc
     keyed_in_election f is = refl
 
-    election_value : (name : List ℕ) (v : Data) → get_member name s.es ≡ Some v → (k : MemberKind) → kind_of_member class.Election name ≡ k → placed_election_value t t k v ≡ normal_election_value t k v
+    election_value : (name : List ℕ) (v : Data) → get_member name s.es ≡ Some v → (k : MemberKind) → kind_of_member class.Election name ≡ k → placed_election_value t k v ≡ normal_election_value t k v
     election_value name v found (kind.Keyed f) named =
         let called : name ≡ family_name f = keyed_name class.Election name f named in
         let is : kind_of_member class.Election (family_name f) ≡ kind.Keyed f = ap (kind_of_member class.Election) (sym called) ∙ named in
@@ -119,9 +123,9 @@ module _ (t : Data) (accepted : IsAccepted t) (tree : IsTree t) where
         (objects_agree f (keyed_in_election f is) (entries_of v) (election_objects_are t s f v is (ap (λ n. get_member n s.es) (sym called) ∙ found)))
     election_value name v found k named = refl
 
-    election_agrees : placed_election t t (object s.es) ≡ normal_election t (object s.es)
+    election_agrees : placed_election t (object s.es) ≡ normal_election t (object s.es)
     election_agrees =
-        let left : Builder = λ name k v. placed_election_value t t k v in
+        let left : Builder = λ name k v. placed_election_value t k v in
         let right : Builder = λ name k v. normal_election_value t k v in
         let trees : AreMembers s.es = within-tree t (asked (Object role.Election) (object s.es)) tree s.election.inside in
         let members : normal_object_with left (Some class.Election) (object s.es) ≡ normal_object_with right (Some class.Election) (object s.es) =
@@ -134,7 +138,7 @@ module _ (t : Data) (accepted : IsAccepted t) (tree : IsTree t) where
     keyed_in_report family.Selection is = cc
     keyed_in_report f is = refl
 
-    report_value : (name : List ℕ) (v : Data) → get_member name s.ms ≡ Some v → (k : MemberKind) → kind_of_member class.ElectionReport name ≡ k → placed_report_value t t name k v ≡ normal_report_value t name k v
+    report_value : (name : List ℕ) (v : Data) → get_member name s.ms ≡ Some v → (k : MemberKind) → kind_of_member class.ElectionReport name ≡ k → placed_report_value t name k v ≡ normal_report_value t name k v
     report_value name v found (kind.Keyed f) named =
         let called : name ≡ family_name f = keyed_name class.ElectionReport name f named in
         let is : kind_of_member class.ElectionReport (family_name f) ≡ kind.Keyed f = ap (kind_of_member class.ElectionReport) (sym called) ∙ named in
@@ -144,13 +148,13 @@ module _ (t : Data) (accepted : IsAccepted t) (tree : IsTree t) where
         let called : name ≡ codes "Election" = elections_name class.ElectionReport name named in
         let one : Some v ≡ Some (array (item (object s.es) no_items)) = sym found ∙ (ap (λ n. get_member n s.ms) called ∙ s.listed_election) in
         let same : v ≡ array (item (object s.es) no_items) = cc in
-        subst (λ x. Some (array_of (map (placed_election t t) (entries_of x))) ≡ Some (array_of (map (normal_election t) (entries_of x)))) (sym same)
+        subst (λ x. Some (array_of (map (placed_election t) (entries_of x))) ≡ Some (array_of (map (normal_election t) (entries_of x)))) (sym same)
         (ap (λ d. Some (array_of (d ∷ []))) election_agrees)
     report_value name v found k named = refl
 
-    report_agrees : placed_tree t t ≡ normal_tree t
+    report_agrees : placed_tree t ≡ normal_tree t
     report_agrees =
-        let left : Builder = placed_report_value t t in
+        let left : Builder = placed_report_value t in
         let right : Builder = normal_report_value t in
         let trees : AreMembers s.ms = subst IsTree s.is_object tree in
         let among : class_of_object role.Report t ≡ Some class.ElectionReport = ap (class_of_object role.Report) s.is_object ∙ s.report.among in
@@ -159,5 +163,5 @@ module _ (t : Data) (accepted : IsAccepted t) (tree : IsTree t) where
         ap in_envelope (ap₂ (normal_object_with left) among s.is_object ∙ (members ∙ sym (ap₂ (normal_object_with right) among s.is_object)))
 
   -- the tree with numbers by places is the tree that is built
-  pub placed_is_normal : placed_tree t t ≡ normal_tree t
+  pub placed_is_normal : placed_tree t ≡ normal_tree t
   placed_is_normal = report_agrees (skeleton t accepted)

@@ -37,7 +37,7 @@ use Rattle.erd_meaning.proofs.accepted.Phases.{no_shape_fault}
 use Rattle.erd_meaning.proofs.orders.Sets.{any-has}
 use Rattle.erd_normal.specs.Canonical.{keys_referred}
 use Rattle.erd_normal.specs.code.NormalTree.{normal_id, normal_reference, normal_selection_reference, normal_tree, reference_cmp}
-use Rattle.erd_normal.specs.code.Tables.{IsBounded}
+use Rattle.erd_normal.specs.code.ObjectNumbers.{IsBounded}
 use Rattle.erd_normal.proofs.BuiltLists.{all_map, all_rising}
 use Rattle.erd_normal.proofs.CleanSets.{AreUnlike, unlike_unrepeated}
 use Rattle.erd_normal.proofs.CleanValues.{entry_holds}

@@ -15,7 +15,7 @@ use Rattle.erd_meaning.specs.NameParts.{NameParts}
 use Rattle.erd_meaning.specs.SelectionNames.{rising_list, selection_role}
 use Rattle.erd_meaning.specs.declared.keys.key.Key.{Key}
 use Rattle.erd_normal.specs.Canonical.{id_prefix}
-use Rattle.erd_normal.specs.code.NormalTree.{array_of, by_key, by_name, in_envelope, normal_content, normal_object_with, normal_value, unless_no_entry, with_id}
+use Rattle.erd_normal.specs.code.NormalTree.{array_of, by_key, by_name, normal_content, normal_object_with, normal_value, unless_no_entry, with_id}
 
 -- what each becomes with its number, counted from n on
 abbrev pub map_from : {A B : Type 0} → (ℕ → A → B) → ℕ → List A → List B
@@ -42,7 +42,7 @@ id_numbered f n = option_map (λ letters. letters ++ decimal n) (id_prefix f)
 abbrev pub selection_id_numbered : ℕ → ℕ → List ℕ
 selection_id_numbered n m = codes "cs" ++ (decimal n ++ (codes "-" ++ decimal m))
 
--- ---- objects; selections are named in the report u, and references are those of t
+-- ---- objects of the report t
 
 -- selection m of contest n
 abbrev pub placed_selection : Data → ℕ → ℕ → Data → Data
@@ -50,41 +50,37 @@ placed_selection t n m d =
     with_id (Some (selection_id_numbered n m)) (normal_object_with (λ name k v. normal_value t k v) (class_of_object selection_role d) d)
 
 -- the selections of contest n, in the order of their names
-abbrev pub placed_selections : Data → Data → ℕ → List Data → List Data
-placed_selections u t n ds = map_from (placed_selection t n) 1 (rising_list (by_name u) ds)
+abbrev pub placed_selections : Data → ℕ → List Data → List Data
+placed_selections t n ds = map_from (placed_selection t n) 1 (rising_list (by_name t) ds)
 
 -- a member of object n of a family; the object holds selections, if it is a contest
-abbrev pub placed_object_value : Data → Data → ℕ → MemberKind → Data → Option Data
-placed_object_value u t n (kind.Keyed family.Selection) d = unless_no_entry d (array_of (placed_selections u t n (entries_of d)))
-placed_object_value u t n kind.Content d = unless_no_entry d (normal_content t d)
-placed_object_value u t n k d = normal_value t k d
+abbrev pub placed_object_value : Data → ℕ → MemberKind → Data → Option Data
+placed_object_value t n (kind.Keyed family.Selection) d = unless_no_entry d (array_of (placed_selections t n (entries_of d)))
+placed_object_value t n kind.Content d = unless_no_entry d (normal_content t d)
+placed_object_value t n k d = normal_value t k d
 
 -- object n of one of the first eight families
-abbrev pub placed_object : Data → Data → Family → ℕ → Data → Data
-placed_object u t f n d =
-    with_id (id_numbered f n) (normal_object_with (λ name k v. placed_object_value u t n k v) (class_of_object (role.OfFamily f) d) d)
+abbrev pub placed_object : Data → Family → ℕ → Data → Data
+placed_object t f n d =
+    with_id (id_numbered f n) (normal_object_with (λ name k v. placed_object_value t n k v) (class_of_object (role.OfFamily f) d) d)
 
 -- the objects of a family, in the order of their keys
-abbrev pub placed_objects : Data → Data → Family → List Data → List Data
-placed_objects u t f ds = map_from (placed_object u t f) 1 (rising_list by_key ds)
+abbrev pub placed_objects : Data → Family → List Data → List Data
+placed_objects t f ds = map_from (placed_object t f) 1 (rising_list by_key ds)
 
 -- ---- the election and the report
 
 -- a member of the election
-abbrev pub placed_election_value : Data → Data → MemberKind → Data → Option Data
-placed_election_value u t (kind.Keyed f) d = unless_no_entry d (array_of (placed_objects u t f (entries_of d)))
-placed_election_value u t k d = normal_value t k d
+abbrev pub placed_election_value : Data → MemberKind → Data → Option Data
+placed_election_value t (kind.Keyed f) d = unless_no_entry d (array_of (placed_objects t f (entries_of d)))
+placed_election_value t k d = normal_value t k d
 
 -- the election
-abbrev pub placed_election : Data → Data → Data → Data
-placed_election u t d = normal_object_with (λ name k v. placed_election_value u t k v) (class_of_object role.Election d) d
+abbrev pub placed_election : Data → Data → Data
+placed_election t d = normal_object_with (λ name k v. placed_election_value t k v) (class_of_object role.Election d) d
 
 -- a member of the report
-abbrev pub placed_report_value : Data → Data → List ℕ → MemberKind → Data → Option Data
-placed_report_value u t name (kind.Keyed f) d = unless_no_entry d (array_of (placed_objects u t f (entries_of d)))
-placed_report_value u t name kind.Elections d = Some (array_of (map (placed_election u t) (entries_of d)))
-placed_report_value u t name k d = if is_envelope_name name then None else normal_value t k d
-
--- the report
-abbrev pub placed_tree : Data → Data → Data
-placed_tree u t = in_envelope (normal_object_with (placed_report_value u t) (class_of_object role.Report u) u)
+abbrev pub placed_report_value : Data → List ℕ → MemberKind → Data → Option Data
+placed_report_value t name (kind.Keyed f) d = unless_no_entry d (array_of (placed_objects t f (entries_of d)))
+placed_report_value t name kind.Elections d = Some (array_of (map (placed_election t) (entries_of d)))
+placed_report_value t name k d = if is_envelope_name name then None else normal_value t k d

@@ -1,0 +1,34 @@
+ghost use Rattle.std.specs.Prelude.{◌≡◌, IfOk};
+ghost use Rattle.serde_json.specs.View.{view};
+ghost use Rattle.erd_normal.specs.code.NormalTree.{normal_reference, normal_selection_reference};
+
+use crate::numbers::id_texts::id_text;
+use crate::numbers::numbered_report::NumberedReport;
+use erd_check::values::text_of;
+use erd_tables::Family;
+use serde_json::Value;
+use std::alloc::{AllocError, Global};
+
+/// The reference to an object of a family that a value becomes.
+pub(crate) fn reference(
+    alloc: Global,
+    numbered: &NumberedReport,
+    family: Family,
+    value: &Value,
+) -> Result<Value, AllocError>
+    ensures { IfOk result (λ built. view built ≡ normal_reference (view numbered.now) family (view value.now)) }
+{
+    let number = numbered.number_of(family, text_of(value));
+    Ok(Value::String(id_text(alloc, family, number)?))
+}
+
+/// The reference to a selection that a value becomes.
+pub(crate) fn selection_reference(
+    alloc: Global,
+    numbered: &NumberedReport,
+    value: &Value,
+) -> Result<Value, AllocError>
+    ensures { IfOk result (λ built. view built ≡ normal_selection_reference (view numbered.now) (view value.now)) }
+{
+    Ok(Value::String(numbered.selection_id(alloc, text_of(value))?))
+}
