@@ -11,40 +11,41 @@ ghost use Rattle.erd_meaning.specs.SelectionNames.{key_named, name_named};
 ghost use Rattle.erd_compare.specs.code.Comparing.{Decides, IsWholeTree};
 ghost use Rattle.erd_compare.specs.code.ContentParts.{content_within};
 
-use erd_check::values::{class_of_object, entries_at, entries_of, text_at};
 use crate::carried::is_same_carried;
 use crate::references::{is_same_family, name_named};
+use crate::sides::Sides;
+use erd_check::values::{class_of_object, entries_at, entries_of, text_at};
 use erd_meaning::{Key, Report};
 use erd_tables::{Class, Family, Role};
 use serde_json::Value;
 
 /// Whether two lists of contests and headers are in one order, at every depth of headers.
 #[cycle(content)]
-pub(crate) fn is_same_content(left: &Report, right: &Report, one: &Value, other: &Value) -> bool
+pub(crate) fn is_same_content(sides: Sides, one: &Value, other: &Value) -> bool
     requires one { IsWholeTree (view one.now) }
     requires other { IsWholeTree (view other.now) }
-    ensures { Decides result (content_of (view left.now) (view one.now)) (content_of (view right.now) (view other.now)) }
+    ensures { Decides result (content_of (view sides.entry.left.now) (view one.now)) (content_of (view sides.entry.right.now) (view other.now)) }
 {
     match one {
-        Value::Array(ones) => are_same_nodes(left, right, ones, entries_of(other)),
-        _ => has_no_content(right, other),
+        Value::Array(ones) => are_same_nodes(sides, ones, entries_of(other)),
+        _ => has_no_content(sides.right, other),
     }
 }
 
 /// Whether two lists have the same contests and headers, one after another.
 #[cycle(content)]
-fn are_same_nodes(left: &Report, right: &Report, ones: &Vec<Value>, others: &[Value]) -> bool
+fn are_same_nodes(sides: Sides, ones: &Vec<Value>, others: &[Value]) -> bool
     requires ones { AllByRecursion (λ v. IsWholeTree (view v)) ones.now.items }
     requires others { AllByRecursion (λ v. IsWholeTree (view v)) others.now }
-    ensures { Decides result (map (λ v. node_of (view left.now) (view v)) ones.now.items)
-        (map (λ v. node_of (view right.now) (view v)) others.now) }
+    ensures { Decides result (map (λ v. node_of (view sides.entry.left.now) (view v)) ones.now.items)
+        (map (λ v. node_of (view sides.entry.right.now) (view v)) others.now) }
 {
     let mut rest = others.iter();
     for one in ones {
         let Some(other) = rest.next() else {
             return false;
         };
-        if !is_same_node(left, right, one, other) {
+        if !is_same_node(sides, one, other) {
             return false;
         }
     }
@@ -53,43 +54,43 @@ fn are_same_nodes(left: &Report, right: &Report, ones: &Vec<Value>, others: &[Va
 
 /// Whether two contests or headers mean the same.
 #[cycle(content)]
-fn is_same_node(left: &Report, right: &Report, one: &Value, other: &Value) -> bool
+fn is_same_node(sides: Sides, one: &Value, other: &Value) -> bool
     requires one { IsWholeTree (view one.now) }
     requires other { IsWholeTree (view other.now) }
-    ensures { Decides result (node_of (view left.now) (view one.now)) (node_of (view right.now) (view other.now)) }
+    ensures { Decides result (node_of (view sides.entry.left.now) (view one.now)) (node_of (view sides.entry.right.now) (view other.now)) }
 {
     match (is_header(one), is_header(other)) {
-        (true, true) => is_same_header(left, right, one, other),
+        (true, true) => is_same_header(sides, one, other),
         (true, false) => false,
         (false, true) => false,
-        (false, false) => is_same_contest(left, right, one, other),
+        (false, false) => is_same_contest(sides, one, other),
     }
 }
 
 /// Whether two headers mean the same.
 #[cycle(content)]
-fn is_same_header(left: &Report, right: &Report, one: &Value, other: &Value) -> bool
+fn is_same_header(sides: Sides, one: &Value, other: &Value) -> bool
     requires one { IsWholeTree (view one.now) }
     requires other { IsWholeTree (view other.now) }
-    ensures { Decides result (header_node (view left.now) (view one.now) (content_within (view left.now) (view one.now)))
-        (header_node (view right.now) (view other.now) (content_within (view right.now) (view other.now))) }
+    ensures { Decides result (header_node (view sides.entry.left.now) (view one.now) (content_within (view sides.entry.left.now) (view one.now)))
+        (header_node (view sides.entry.right.now) (view other.now) (content_within (view sides.entry.right.now) (view other.now))) }
 {
-    is_same_owner(left, right, Family::Header, "HeaderId", one, other)
+    is_same_owner(sides, Family::Header, "HeaderId", one, other)
         && is_same_rest(one, other)
-        && is_same_within(left, right, one, other)
+        && is_same_within(sides, one, other)
 }
 
 /// Whether the contents inside two headers are in one order.
 #[cycle(content)]
-fn is_same_within(left: &Report, right: &Report, one: &Value, other: &Value) -> bool
+fn is_same_within(sides: Sides, one: &Value, other: &Value) -> bool
     requires one { IsWholeTree (view one.now) }
     requires other { IsWholeTree (view other.now) }
-    ensures { Decides result (content_within (view left.now) (view one.now)) (content_within (view right.now) (view other.now)) }
+    ensures { Decides result (content_within (view sides.entry.left.now) (view one.now)) (content_within (view sides.entry.right.now) (view other.now)) }
 {
     match (one.get("OrderedContent"), other.get("OrderedContent")) {
-        (Some(one), Some(other)) => is_same_content(left, right, one, other),
-        (Some(one), None) => has_no_content(left, one),
-        (None, Some(other)) => has_no_content(right, other),
+        (Some(one), Some(other)) => is_same_content(sides, one, other),
+        (Some(one), None) => has_no_content(sides.left, one),
+        (None, Some(other)) => has_no_content(sides.right, other),
         (None, None) => true,
     }
 }
@@ -102,15 +103,15 @@ fn has_no_content(report: &Report, value: &Value) -> bool
 }
 
 /// Whether two contests in the order of a ballot mean the same.
-fn is_same_contest(left: &Report, right: &Report, one: &Value, other: &Value) -> bool
+fn is_same_contest(sides: Sides, one: &Value, other: &Value) -> bool
     requires one { IsWholeTree (view one.now) }
     requires other { IsWholeTree (view other.now) }
-    ensures { Decides result (contest_node (view left.now) (view one.now)) (contest_node (view right.now) (view other.now)) }
+    ensures { Decides result (contest_node (view sides.entry.left.now) (view one.now)) (contest_node (view sides.entry.right.now) (view other.now)) }
 {
     let name = "OrderedContestSelectionIds";
-    is_same_owner(left, right, Family::Contest, "ContestId", one, other)
+    is_same_owner(sides, Family::Contest, "ContestId", one, other)
         && is_same_rest(one, other)
-        && are_same_names(left, right, entries_at(one, name), entries_at(other, name))
+        && are_same_names(sides, entries_at(one, name), entries_at(other, name))
 }
 
 /// Whether two nodes of a ballot's order carry the same members.
@@ -124,16 +125,16 @@ fn is_same_rest(one: &Value, other: &Value) -> bool
 }
 
 /// Whether two lists of references name selections of the same names, one after another.
-fn are_same_names(left: &Report, right: &Report, ones: &[Value], others: &[Value]) -> bool
-    ensures { Decides result (map (λ v. option_and_then (name_named (view left.now)) (as_str (view v))) ones.now)
-        (map (λ v. option_and_then (name_named (view right.now)) (as_str (view v))) others.now) }
+fn are_same_names(sides: Sides, ones: &[Value], others: &[Value]) -> bool
+    ensures { Decides result (map (λ v. option_and_then (name_named (view sides.entry.left.now)) (as_str (view v))) ones.now)
+        (map (λ v. option_and_then (name_named (view sides.entry.right.now)) (as_str (view v))) others.now) }
 {
     let mut rest = others.iter();
     for one in ones {
         let Some(other) = rest.next() else {
             return false;
         };
-        if !is_same_name(left, right, one, other) {
+        if !is_same_name(sides, one, other) {
             return false;
         }
     }
@@ -141,27 +142,21 @@ fn are_same_names(left: &Report, right: &Report, ones: &[Value], others: &[Value
 }
 
 /// Whether two references name selections of one name.
-fn is_same_name(left: &Report, right: &Report, one: &Value, other: &Value) -> bool
-    ensures { Decides result (option_and_then (name_named (view left.now)) (as_str (view one.now)))
-        (option_and_then (name_named (view right.now)) (as_str (view other.now))) }
+fn is_same_name(sides: Sides, one: &Value, other: &Value) -> bool
+    ensures { Decides result (option_and_then (name_named (view sides.entry.left.now)) (as_str (view one.now)))
+        (option_and_then (name_named (view sides.entry.right.now)) (as_str (view other.now))) }
 {
-    name_named(left, one) == name_named(right, other)
+    name_named(sides.left, one) == name_named(sides.right, other)
 }
 
 /// Whether the members of a name refer to objects of a family with one key.
-fn is_same_owner(
-    left: &Report,
-    right: &Report,
-    family: Family,
-    name: &str,
-    one: &Value,
-    other: &Value,
-) -> bool
+fn is_same_owner(sides: Sides, family: Family, name: &str, one: &Value, other: &Value) -> bool
     requires keyed { has_keys family ≡ true }
-    ensures { Decides result (key_named (view left.now) family (text_at name.now (view one.now)))
-        (key_named (view right.now) family (text_at name.now (view other.now))) }
+    ensures { Decides result (key_named (view sides.entry.left.now) family (text_at name.now (view one.now)))
+        (key_named (view sides.entry.right.now) family (text_at name.now (view other.now))) }
 {
-    key_with_id(left, family, text_at(one, name)) == key_with_id(right, family, text_at(other, name))
+    key_with_id(sides.left, family, text_at(one, name))
+        == key_with_id(sides.right, family, text_at(other, name))
 }
 
 /// The key of the object of a family with the `@id`.
@@ -190,4 +185,3 @@ fn class_of_node(node: &Value) -> Option<Class>
 {
     class_of_object(Role::Content, node)
 }
-

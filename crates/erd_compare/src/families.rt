@@ -8,6 +8,7 @@ ghost use Rattle.erd_compare.specs.code.KeyedDifferences.{family_of_part, HasKey
 
 use crate::difference::{Difference, How, Part};
 use crate::record::object_difference;
+use crate::sides::Sides;
 use erd_meaning::{Key, Report};
 use erd_tables::{Family, Role};
 use serde_json::Value;
@@ -16,23 +17,22 @@ use std::alloc::{AllocError, Global};
 /// The first difference of two reports at a part.
 pub(crate) fn part_difference(
     alloc: Global,
-    left: &Report,
-    right: &Report,
+    sides: Sides,
     part: Part,
 ) -> Result<Option<Difference>, AllocError>
-    ensures { IfOk result (TellsPart (meaning (view left.now)) (meaning (view right.now)) part) }
+    ensures { IfOk result (TellsPart (meaning (view sides.entry.left.now)) (meaning (view sides.entry.right.now)) part) }
 {
-    let one = left.tree();
-    let other = right.tree();
+    let one = sides.left.tree();
+    let other = sides.right.tree();
     match family_of(part) {
-        Some(family) => family_difference(alloc, left, right, part, family),
+        Some(family) => family_difference(alloc, sides, part, family),
         None => match part {
             Part::Election => {
-                let one = left.election();
-                let other = right.election();
-                whole_difference(alloc, left, right, part, Role::Election, one, other)
+                let one = sides.left.election();
+                let other = sides.right.election();
+                whole_difference(alloc, sides, part, Role::Election, one, other)
             }
-            _ => whole_difference(alloc, left, right, part, Role::Report, one, other),
+            _ => whole_difference(alloc, sides, part, Role::Report, one, other),
         },
     }
 }
@@ -59,8 +59,7 @@ fn family_of(part: Part) -> Option<Family>
 /// How two objects without keys differ, as a difference at their part.
 fn whole_difference(
     alloc: Global,
-    left: &Report,
-    right: &Report,
+    sides: Sides,
     part: Part,
     role: Role,
     one: &Value,
@@ -68,9 +67,9 @@ fn whole_difference(
 ) -> Result<Option<Difference>, AllocError>
     requires one { IsWholeTree (view one.now) }
     requires other { IsWholeTree (view other.now) }
-    ensures { IfOk result (TellsWhole (object_record (view left.now) role (view one.now)) (object_record (view right.now) role (view other.now)) part) }
+    ensures { IfOk result (TellsWhole (object_record (view sides.entry.left.now) role (view one.now)) (object_record (view sides.entry.right.now) role (view other.now)) part) }
 {
-    match object_difference(alloc, left, right, role, one, other)? {
+    match object_difference(alloc, sides, role, one, other)? {
         Some(how) => Ok(Some(Difference {
             part,
             key: None,
@@ -92,17 +91,16 @@ struct KeyedDifference<'a> {
 /// The difference at the least key at which two reports differ in a family.
 fn family_difference(
     alloc: Global,
-    left: &Report,
-    right: &Report,
+    sides: Sides,
     part: Part,
     family: Family,
 ) -> Result<Option<Difference>, AllocError>
-    requires left { IsComparable (view left.now) }
-    requires right { IsComparable (view right.now) }
+    requires left { IsComparable (view sides.left.now) }
+    requires right { IsComparable (view sides.right.now) }
     requires keyed { has_keys family ≡ true }
-    ensures { IfOk result (TellsKeyed (records_of (view left.now) family) (records_of (view right.now) family) part) }
+    ensures { IfOk result (TellsKeyed (records_of (view sides.entry.left.now) family) (records_of (view sides.entry.right.now) family) part) }
 {
-    match least_difference(alloc, left, right, family)? {
+    match least_difference(alloc, sides, family)? {
         Some(KeyedDifference { key, how }) => {
             let key = Some(key.try_clone(alloc)?);
             Ok(Some(Difference { part, key, how }))
@@ -114,17 +112,16 @@ fn family_difference(
 /// The least key at which two reports differ in a family.
 fn least_difference<'a>(
     alloc: Global,
-    left: &'a Report,
-    right: &'a Report,
+    sides: Sides<'a>,
     family: Family,
 ) -> Result<Option<KeyedDifference<'a>>, AllocError>
-    requires left { IsComparable (view left.now) }
-    requires right { IsComparable (view right.now) }
+    requires left { IsComparable (view sides.left.now) }
+    requires right { IsComparable (view sides.right.now) }
     requires keyed { has_keys family ≡ true }
-    ensures { IfOk result (TellsAmong (records_of (view left.now) family) (records_of (view right.now) family) IsAnyKey) }
+    ensures { IfOk result (TellsAmong (records_of (view sides.entry.left.now) family) (records_of (view sides.entry.right.now) family) IsAnyKey) }
 {
-    let least = least_of_left(alloc, left, right, family)?;
-    match least_of_right(left, right, family) {
+    let least = least_of_left(alloc, sides, family)?;
+    match least_of_right(sides, family) {
         Some(other) => Ok(Some(lesser(least, other))),
         None => Ok(least),
     }
@@ -133,19 +130,18 @@ fn least_difference<'a>(
 /// The least key of the left report at which the two differ in a family.
 fn least_of_left<'a>(
     alloc: Global,
-    left: &'a Report,
-    right: &Report,
+    sides: Sides<'a>,
     family: Family,
 ) -> Result<Option<KeyedDifference<'a>>, AllocError>
-    requires left { IsComparable (view left.now) }
-    requires right { IsComparable (view right.now) }
+    requires left { IsComparable (view sides.left.now) }
+    requires right { IsComparable (view sides.right.now) }
     requires keyed { has_keys family ≡ true }
-    ensures { IfOk result (TellsAmong (records_of (view left.now) family) (records_of (view right.now) family) (HasKey (view left.now) family)) }
+    ensures { IfOk result (TellsAmong (records_of (view sides.entry.left.now) family) (records_of (view sides.entry.right.now) family) (HasKey (view sides.entry.left.now) family)) }
 {
     let mut least = None;
-    for index in 0..left.count(family) {
-        if let Some(key) = left.key_at(family, index) {
-            if let Some(how) = difference_at(alloc, left, right, family, index, key)? {
+    for index in 0..sides.left.count(family) {
+        if let Some(key) = sides.left.key_at(family, index) {
+            if let Some(how) = difference_at(alloc, sides, family, index, key)? {
                 least = Some(lesser(least, KeyedDifference { key, how }));
             }
         }
@@ -154,20 +150,16 @@ fn least_of_left<'a>(
 }
 
 /// The least key of the right report that the left one lacks in a family.
-fn least_of_right<'a>(
-    left: &Report,
-    right: &'a Report,
-    family: Family,
-) -> Option<KeyedDifference<'a>>
-    requires left { IsComparable (view left.now) }
-    requires right { IsComparable (view right.now) }
+fn least_of_right<'a>(sides: Sides<'a>, family: Family) -> Option<KeyedDifference<'a>>
+    requires left { IsComparable (view sides.left.now) }
+    requires right { IsComparable (view sides.right.now) }
     requires keyed { has_keys family ≡ true }
-    ensures { TellsAmong (records_of (view left.now) family) (records_of (view right.now) family) (HasKeyAlone (view left.now) (view right.now) family) result }
+    ensures { TellsAmong (records_of (view sides.entry.left.now) family) (records_of (view sides.entry.right.now) family) (HasKeyAlone (view sides.entry.left.now) (view sides.entry.right.now) family) result }
 {
     let mut least = None;
-    for index in 0..right.count(family) {
-        if let Some(key) = right.key_at(family, index) {
-            if left.find(family, key).is_none() {
+    for index in 0..sides.right.count(family) {
+        if let Some(key) = sides.right.key_at(family, index) {
+            if sides.left.find(family, key).is_none() {
                 let how = How::OnlyRight;
                 least = Some(lesser(least, KeyedDifference { key, how }));
             }
@@ -193,25 +185,24 @@ fn lesser<'a>(least: Option<KeyedDifference<'a>>, other: KeyedDifference<'a>) ->
 /// How the object of the left report at a position and the object of the right one with its key differ.
 fn difference_at(
     alloc: Global,
-    left: &Report,
-    right: &Report,
+    sides: Sides,
     family: Family,
     index: usize,
     key: &Key,
 ) -> Result<Option<How>, AllocError>
-    requires left { IsComparable (view left.now) }
-    requires right { IsComparable (view right.now) }
+    requires left { IsComparable (view sides.left.now) }
+    requires right { IsComparable (view sides.right.now) }
     requires keyed { has_keys family ≡ true }
-    requires its_key { key_in family (view left.now) index ≡ Some key.now }
-    ensures { IfOk result (TellsHow (records_of (view left.now) family key.now) (records_of (view right.now) family key.now)) }
+    requires its_key { key_in family (view sides.left.now) index ≡ Some key.now }
+    ensures { IfOk result (TellsHow (records_of (view sides.entry.left.now) family key.now) (records_of (view sides.entry.right.now) family key.now)) }
 {
     // a position that has a key has an object
-    let Some(one) = left.object(family, index) else {
+    let Some(one) = sides.left.object(family, index) else {
         return Ok(None);
     };
     let role = Role::OfFamily(family);
-    match object_of(right, family, key) {
-        Some(other) => object_difference(alloc, left, right, role, one, other),
+    match object_of(sides.right, family, key) {
+        Some(other) => object_difference(alloc, sides, role, one, other),
         None => Ok(Some(How::OnlyLeft)),
     }
 }

@@ -3,9 +3,9 @@ ghost use Rattle.erd_meaning.specs.Records.{label_of};
 ghost use Rattle.erd_compare.specs.code.Choices.{translated_label};
 ghost use Rattle.erd_compare.specs.code.Comparing.{Decides, IsWholeTree};
 
-use erd_check::values::{entries_at, text_of};
 use crate::choice::{Choice, is_same_choice};
 use crate::sets::is_same_set;
+use erd_check::values::{entries_at, text_of};
 use serde_json::Value;
 
 /// Whether two labels mean the same: one text, or the same translations with the same members beside them.
@@ -32,4 +32,3 @@ fn is_same_translated(one: &Value, other: &Value) -> bool
     is_same_choice(Choice::BesideText, one, Choice::BesideText, other)
         && is_same_set(entries_at(one, "Text"), entries_at(other, "Text"))
 }
-

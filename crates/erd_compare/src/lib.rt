@@ -15,6 +15,7 @@ mod record;
 mod references;
 mod selections;
 mod sets;
+mod sides;
 
 pub use difference::{Difference, How, Part};
 pub use first::first_difference;

@@ -5,56 +5,44 @@ ghost use Rattle.erd_meaning.specs.Records.{is_in_envelope, json_set, plain_memb
 ghost use Rattle.erd_compare.specs.code.Comparing.{Decides, IsWholeTree, NamesKeys};
 ghost use Rattle.erd_compare.specs.code.PlainParts.{means_nothing, meant_value};
 
-use erd_check::values::{entries_of, is_empty_array};
 use crate::content::is_same_content;
 use crate::label::is_same_label;
 use crate::references::{is_same_key_set, is_same_reference};
 use crate::sets::{is_same_set, is_same_value};
-use erd_meaning::Report;
+use crate::sides::Sides;
+use erd_check::values::{entries_of, is_empty_array};
 use erd_tables::{Class, MemberKind, is_envelope, member_kind};
 use serde_json::Value;
 
 /// Whether two values of members of one kind mean the same by themselves.
-pub(crate) fn is_same_plain(
-    left: &Report,
-    right: &Report,
-    kind: MemberKind,
-    one: &Value,
-    other: &Value,
-) -> bool
+pub(crate) fn is_same_plain(sides: Sides, kind: MemberKind, one: &Value, other: &Value) -> bool
     requires one { IsWholeTree (view one.now) }
     requires other { IsWholeTree (view other.now) }
     requires keyed { NamesKeys kind }
-    ensures { Decides result (plain_value (view left.now) kind (view one.now)) (plain_value (view right.now) kind (view other.now)) }
+    ensures { Decides result (plain_value (view sides.entry.left.now) kind (view one.now)) (plain_value (view sides.entry.right.now) kind (view other.now)) }
 {
     match (means_nothing(kind, one), means_nothing(kind, other)) {
         (true, true) => true,
-        (false, false) => is_same_meant(left, right, kind, one, other),
+        (false, false) => is_same_meant(sides, kind, one, other),
         _ => false,
     }
 }
 
 /// Whether two values of members of one kind, which both mean something, mean the same.
-fn is_same_meant(
-    left: &Report,
-    right: &Report,
-    kind: MemberKind,
-    one: &Value,
-    other: &Value,
-) -> bool
+fn is_same_meant(sides: Sides, kind: MemberKind, one: &Value, other: &Value) -> bool
     requires one { IsWholeTree (view one.now) }
     requires other { IsWholeTree (view other.now) }
     requires keyed { NamesKeys kind }
-    ensures { Decides result (meant_value (view left.now) kind (view one.now)) (meant_value (view right.now) kind (view other.now)) }
+    ensures { Decides result (meant_value (view sides.entry.left.now) kind (view one.now)) (meant_value (view sides.entry.right.now) kind (view other.now)) }
 {
     match kind {
         MemberKind::Label => is_same_label(one, other),
-        MemberKind::One(family) => is_same_reference(left, right, family, one, other),
+        MemberKind::One(family) => is_same_reference(sides, family, one, other),
         MemberKind::Many(family) => {
-            is_same_key_set(left, right, family, entries_of(one), entries_of(other))
+            is_same_key_set(sides, family, entries_of(one), entries_of(other))
         }
         MemberKind::Identifiers | MemberKind::Languages => is_same_array(one, other),
-        MemberKind::Content => is_same_content(left, right, one, other),
+        MemberKind::Content => is_same_content(sides, one, other),
         _ => is_same_value(one, other),
     }
 }
@@ -89,8 +77,7 @@ fn means_nothing(kind: MemberKind, value: &Value) -> bool
 
 /// Whether members of one name, of two objects of one class, mean the same by themselves.
 pub(crate) fn is_same_plain_member(
-    left: &Report,
-    right: &Report,
+    sides: Sides,
     class: Class,
     name: &str,
     one: &Value,
@@ -98,15 +85,15 @@ pub(crate) fn is_same_plain_member(
 ) -> bool
     requires one { IsWholeTree (view one.now) }
     requires other { IsWholeTree (view other.now) }
-    ensures { Decides result (plain_member (view left.now) (view one.now) class name.now)
-        (plain_member (view right.now) (view other.now) class name.now) }
+    ensures { Decides result (plain_member (view sides.entry.left.now) (view one.now) class name.now)
+        (plain_member (view sides.entry.right.now) (view other.now) class name.now) }
 {
     if is_in_envelope(class, name) {
         return true;
     }
     let kind = member_kind(class, name);
     match (one.get(name), other.get(name)) {
-        (Some(one), Some(other)) => is_same_plain(left, right, kind, one, other),
+        (Some(one), Some(other)) => is_same_plain(sides, kind, one, other),
         (Some(one), None) => means_nothing(kind, one),
         (None, Some(other)) => means_nothing(kind, other),
         (None, None) => true,

@@ -4,10 +4,10 @@ ghost use Rattle.erd_meaning.specs.Records.{member_of_class, object_record};
 ghost use Rattle.erd_compare.specs.code.Comparing.{IsWholeTree, TellsHow};
 ghost use Rattle.erd_compare.specs.code.LeastNames.{TellsAmong, lesser_name, record_of_class};
 
-use erd_check::values::class_of_object;
 use crate::difference::How;
 use crate::member::is_same_member;
-use erd_meaning::Report;
+use crate::sides::Sides;
+use erd_check::values::class_of_object;
 use erd_tables::{Class, Role, Text};
 use serde_json::Value;
 use std::alloc::{AllocError, Global};
@@ -15,15 +15,14 @@ use std::alloc::{AllocError, Global};
 /// How two objects with a role differ: another class before any member, else the least name of a member that differs.
 pub(crate) fn object_difference(
     alloc: Global,
-    left: &Report,
-    right: &Report,
+    sides: Sides,
     role: Role,
     one: &Value,
     other: &Value,
 ) -> Result<Option<How>, AllocError>
     requires one { IsWholeTree (view one.now) }
     requires other { IsWholeTree (view other.now) }
-    ensures { IfOk result (TellsHow (object_record (view left.now) role (view one.now)) (object_record (view right.now) role (view other.now))) }
+    ensures { IfOk result (TellsHow (object_record (view sides.entry.left.now) role (view one.now)) (object_record (view sides.entry.right.now) role (view other.now))) }
 {
     match (class_of_object(role, one), class_of_object(role, other)) {
         (None, None) => Ok(None),
@@ -31,7 +30,7 @@ pub(crate) fn object_difference(
         (None, Some(_)) => Ok(Some(How::OnlyRight)),
         (Some(class), Some(other_class)) => {
             if class == other_class {
-                member_difference(alloc, left, right, class, one, other)
+                member_difference(alloc, sides, class, one, other)
             } else {
                 Ok(Some(How::OtherClass))
             }
@@ -42,19 +41,18 @@ pub(crate) fn object_difference(
 /// How two objects of one class differ: the least name of a member that differs.
 fn member_difference(
     alloc: Global,
-    left: &Report,
-    right: &Report,
+    sides: Sides,
     class: Class,
     one: &Value,
     other: &Value,
 ) -> Result<Option<How>, AllocError>
     requires one { IsWholeTree (view one.now) }
     requires other { IsWholeTree (view other.now) }
-    ensures { IfOk result (TellsHow (Some (record_of_class (view left.now) class (view one.now)))
-        (Some (record_of_class (view right.now) class (view other.now)))) }
+    ensures { IfOk result (TellsHow (Some (record_of_class (view sides.entry.left.now) class (view one.now)))
+        (Some (record_of_class (view sides.entry.right.now) class (view other.now)))) }
 {
-    let first = first_name(alloc, left, right, class, one, one, other)?;
-    let second = first_name(alloc, left, right, class, other, one, other)?;
+    let first = first_name(alloc, sides, class, one, one, other)?;
+    let second = first_name(alloc, sides, class, other, one, other)?;
     match lesser(first, second) {
         Some(name) => {
             let name = String::from_str(alloc, name)?;
@@ -67,8 +65,7 @@ fn member_difference(
 /// The first of the names of a value, in their order, at which the members of two objects of one class differ.
 fn first_name<'a>(
     alloc: Global,
-    left: &Report,
-    right: &Report,
+    sides: Sides,
     class: Class,
     named: &'a Value,
     one: &Value,
@@ -77,15 +74,15 @@ fn first_name<'a>(
     requires named { IsWholeTree (view named.now) }
     requires one { IsWholeTree (view one.now) }
     requires other { IsWholeTree (view other.now) }
-    ensures { IfOk result (λ found. TellsAmong (member_of_class (view left.now) (view one.now) class)
-        (member_of_class (view right.now) (view other.now) class) (view named.now) (option_map (λ s. s.now) found)) }
+    ensures { IfOk result (λ found. TellsAmong (member_of_class (view sides.entry.left.now) (view one.now) class)
+        (member_of_class (view sides.entry.right.now) (view other.now) class) (view named.now) (option_map (λ s. s.now) found)) }
 {
     let Some(members) = named.as_object() else {
         return Ok(None);
     };
     for (name, _) in members.iter() {
         let name = name.as_str();
-        if !is_same_member(alloc, left, right, class, name, one, other)? {
+        if !is_same_member(alloc, sides, class, name, one, other)? {
             return Ok(Some(name));
         }
     }

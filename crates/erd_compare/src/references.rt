@@ -10,6 +10,7 @@ ghost use Rattle.erd_meaning.specs.Records.{key_set};
 ghost use Rattle.erd_meaning.specs.SelectionNames.{key_named, keys_named, name_named};
 ghost use Rattle.erd_compare.specs.code.Comparing.{Decides};
 
+use crate::sides::Sides;
 use erd_meaning::{Key, Report, SelectionName};
 use erd_tables::Family;
 use serde_json::Value;
@@ -59,34 +60,27 @@ pub(crate) fn is_same_family(found: Family, family: Family) -> bool
 }
 
 /// Whether two references to objects of a family name objects with one key.
-pub(crate) fn is_same_reference(
-    left: &Report,
-    right: &Report,
-    family: Family,
-    one: &Value,
-    other: &Value,
-) -> bool
+pub(crate) fn is_same_reference(sides: Sides, family: Family, one: &Value, other: &Value) -> bool
     requires keyed { has_keys family ≡ true }
-    ensures { Decides result (option_and_then (key_named (view left.now) family) (as_str (view one.now)))
-        (option_and_then (key_named (view right.now) family) (as_str (view other.now))) }
+    ensures { Decides result (option_and_then (key_named (view sides.entry.left.now) family) (as_str (view one.now)))
+        (option_and_then (key_named (view sides.entry.right.now) family) (as_str (view other.now))) }
 {
-    key_named(left, family, one) == key_named(right, family, other)
+    key_named(sides.left, family, one) == key_named(sides.right, family, other)
 }
 
 /// Whether two lists of references to objects of a family name objects with the same set of keys.
 pub(crate) fn is_same_key_set(
-    left: &Report,
-    right: &Report,
+    sides: Sides,
     family: Family,
     ones: &[Value],
     others: &[Value],
 ) -> bool
     requires keyed { has_keys family ≡ true }
-    ensures { Decides result (key_set (keys_named (view left.now) family (map view ones.now)))
-        (key_set (keys_named (view right.now) family (map view others.now))) }
+    ensures { Decides result (key_set (keys_named (view sides.entry.left.now) family (map view ones.now)))
+        (key_set (keys_named (view sides.entry.right.now) family (map view others.now))) }
 {
-    are_keys_among(left, right, family, ones, others)
-        && are_keys_among(right, left, family, others, ones)
+    are_keys_among(sides.left, sides.right, family, ones, others)
+        && are_keys_among(sides.right, sides.left, family, others, ones)
 }
 
 /// Whether each key that one list of references names is named by one of the other list.

@@ -9,23 +9,24 @@ ghost use Rattle.erd_meaning.specs.SelectionNames.{name_cmp, name_of};
 ghost use Rattle.erd_compare.specs.code.Comparing.{Decides, IsWholeTree};
 ghost use Rattle.erd_compare.specs.code.AgreeingSelections.{AgreeAtNames, AgreeAtOption, is_named};
 
-use erd_check::values::class_of_object;
 use crate::plain::is_same_plain_member;
+use crate::sides::Sides;
+use erd_check::values::class_of_object;
 use erd_meaning::{Report, SelectionName};
 use erd_tables::{Class, Family, Role};
 use serde_json::Value;
 use std::alloc::{AllocError, Global};
 
 /// Whether two selections mean the same.
-pub(crate) fn is_same_selection(left: &Report, right: &Report, one: &Value, other: &Value) -> bool
+pub(crate) fn is_same_selection(sides: Sides, one: &Value, other: &Value) -> bool
     requires one { IsWholeTree (view one.now) }
     requires other { IsWholeTree (view other.now) }
-    ensures { Decides result (selection_record (view left.now) (view one.now)) (selection_record (view right.now) (view other.now)) }
+    ensures { Decides result (selection_record (view sides.entry.left.now) (view one.now)) (selection_record (view sides.entry.right.now) (view other.now)) }
 {
     let role = Role::OfFamily(Family::Selection);
     match (class_of_object(role, one), class_of_object(role, other)) {
         (Some(class), Some(other_class)) => {
-            class == other_class && are_same_members(left, right, class, one, other)
+            class == other_class && are_same_members(sides, class, one, other)
         }
         (None, None) => true,
         _ => false,
@@ -33,35 +34,28 @@ pub(crate) fn is_same_selection(left: &Report, right: &Report, one: &Value, othe
 }
 
 /// Whether two selections of one class mean the same by their members.
-fn are_same_members(left: &Report, right: &Report, class: Class, one: &Value, other: &Value) -> bool
+fn are_same_members(sides: Sides, class: Class, one: &Value, other: &Value) -> bool
     requires one { IsWholeTree (view one.now) }
     requires other { IsWholeTree (view other.now) }
-    ensures { Decides result (plain_member (view left.now) (view one.now) class) (plain_member (view right.now) (view other.now) class) }
+    ensures { Decides result (plain_member (view sides.entry.left.now) (view one.now) class) (plain_member (view sides.entry.right.now) (view other.now) class) }
 {
-    are_same_at_names(left, right, class, one, other, one)
-        && are_same_at_names(left, right, class, one, other, other)
+    are_same_at_names(sides, class, one, other, one)
+        && are_same_at_names(sides, class, one, other, other)
 }
 
 /// Whether two selections of one class mean the same at the names of the members of a value.
-fn are_same_at_names(
-    left: &Report,
-    right: &Report,
-    class: Class,
-    one: &Value,
-    other: &Value,
-    named: &Value,
-) -> bool
+fn are_same_at_names(sides: Sides, class: Class, one: &Value, other: &Value, named: &Value) -> bool
     requires one { IsWholeTree (view one.now) }
     requires other { IsWholeTree (view other.now) }
     ensures { (result ≡ true)
         ↔ IfSome (as_object (view named.now))
-        (AgreeAtNames (plain_member (view left.now) (view one.now) class) (plain_member (view right.now) (view other.now) class)) }
+        (AgreeAtNames (plain_member (view sides.entry.left.now) (view one.now) class) (plain_member (view sides.entry.right.now) (view other.now) class)) }
 {
     let Some(members) = named.as_object() else {
         return true;
     };
     for (name, _) in members.iter() {
-        if !is_same_plain_member(left, right, class, name.as_str(), one, other) {
+        if !is_same_plain_member(sides, class, name.as_str(), one, other) {
             return false;
         }
     }
@@ -70,20 +64,20 @@ fn are_same_at_names(
 
 /// The selections of a contest, with the name of each in the report.
 #[derive(Drop)]
-struct NamedSelections<'a, 'b> {
-    report: &'a Report<'b>,
+struct NamedSelections<'a> {
+    report: &'a Report<'a>,
     selections: &'a [Value],
     names: Vec<Option<SelectionName>>,
     ghost named: { names.items ≡ map (λ v. name_of (view report.now) (view v)) selections.now },
 }
 
-impl<'a, 'b> NamedSelections<'a, 'b> {
+impl<'a> NamedSelections<'a> {
     /// The selections of a contest of the report.
     fn of(
         alloc: Global,
-        report: &'a Report<'b>,
+        report: &'a Report<'a>,
         selections: &'a [Value],
-    ) -> Result<NamedSelections<'a, 'b>, AllocError>
+    ) -> Result<NamedSelections<'a>, AllocError>
         requires { AllByRecursion (λ v. IsWholeTree (view v)) selections.now }
         ensures report { IfOk result (λ named. named.report.now ≡ report.now) }
         ensures selections { IfOk result (λ named. named.selections.now ≡ selections.now) }
@@ -136,7 +130,11 @@ fn is_same_at(one: &NamedSelections, other: &NamedSelections, name: &SelectionNa
 {
     match (one.find(name), other.find(name)) {
         (Some(selection), Some(other_selection)) => {
-            is_same_selection(one.report, other.report, selection, other_selection)
+            let sides = Sides {
+                left: one.report,
+                right: other.report,
+            };
+            is_same_selection(sides, selection, other_selection)
         }
         (None, None) => true,
         _ => false,
@@ -178,17 +176,16 @@ fn is_same_map(one: &NamedSelections, other: &NamedSelections) -> bool
 /// Whether the selections of two contests mean the same, each by its name.
 pub(crate) fn is_same_selection_map(
     alloc: Global,
-    left: &Report,
-    right: &Report,
+    sides: Sides,
     ones: &[Value],
     others: &[Value],
 ) -> Result<bool, AllocError>
     requires ones { AllByRecursion (λ v. IsWholeTree (view v)) ones.now }
     requires others { AllByRecursion (λ v. IsWholeTree (view v)) others.now }
-    ensures { IfOk result (λ answer. Decides answer (selection_map (view left.now) (map view ones.now))
-        (selection_map (view right.now) (map view others.now))) }
+    ensures { IfOk result (λ answer. Decides answer (selection_map (view sides.entry.left.now) (map view ones.now))
+        (selection_map (view sides.entry.right.now) (map view others.now))) }
 {
-    let one = NamedSelections::of(alloc, left, ones)?;
-    let other = NamedSelections::of(alloc, right, others)?;
+    let one = NamedSelections::of(alloc, sides.left, ones)?;
+    let other = NamedSelections::of(alloc, sides.right, others)?;
     Ok(is_same_map(&one, &other))
 }

@@ -12,10 +12,10 @@ abbrev pub invariant-are_same_nodes-loop-one : goal.invariant-are_same_nodes-loo
 invariant-are_same_nodes-loop-one l = record {
   same :
       AreSameIfLeft
-      (map (λ v. node_of (view l.left) (view v)) l.ones.items)
-      (map (λ v. node_of (view l.right) (view v)) l.others)
-      (map (λ v. node_of (view l.left) (view v)) (drop l.one-index l.ones.items))
-      (map (λ v. node_of (view l.right) (view v)) (iter_rest l.rest));
+      (map (λ v. node_of (view l.sides.left.now) (view v)) l.ones.items)
+      (map (λ v. node_of (view l.sides.right.now) (view v)) l.others)
+      (map (λ v. node_of (view l.sides.left.now) (view v)) (drop l.one-index l.ones.items))
+      (map (λ v. node_of (view l.sides.right.now) (view v)) (iter_rest l.rest));
   whole : AllByRecursion (λ v. IsWholeTree (view v)) (iter_rest l.rest);
 }
 

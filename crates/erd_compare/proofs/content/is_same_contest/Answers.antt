@@ -24,8 +24,8 @@ names_at t d vs is = sym (map-map (name_in t) view vs) ∙ ap (map (name_in t)) 
 
 pub returns-then-is_same_rest : goal.returns-then-is_same_rest
 returns-then-is_same_rest c =
-    let t = view c.args.left.now in
-    let u = view c.args.right.now in
+    let t = view c.args.sides.left.now in
+    let u = view c.args.sides.right.now in
     let d = view c.args.one.now in
     let e = view c.args.other.now in
     let k = key_named t family.Contest (text_at (codes "ContestId") d) in

@@ -4,9 +4,9 @@ use Rattle.erd_compare.proofs.families.least_difference.Goals as goal
 
 pub returns-in-Some : goal.returns-in-Some
 returns-in-Some c =
-    both_sides (view c.args.left.now) (view c.args.right.now) c.args.family c.requires.left c.requires.right c.requires.keyed c.in_ok-least.least c.in-Some.other c.lesser.result
+    both_sides (view c.args.sides.left.now) (view c.args.sides.right.now) c.args.family c.requires.left c.requires.right c.requires.keyed c.in_ok-least.least c.in-Some.other c.lesser.result
     c.in_ok-least.ensures c.in-Some.ensures c.lesser.ensures
 
 pub returns-in-None : goal.returns-in-None
 returns-in-None c =
-    one_side (view c.args.left.now) (view c.args.right.now) c.args.family c.requires.left c.requires.right c.requires.keyed c.in_ok-least.least c.in_ok-least.ensures c.in-None.ensures
+    one_side (view c.args.sides.left.now) (view c.args.sides.right.now) c.args.family c.requires.left c.requires.right c.requires.keyed c.in_ok-least.least c.in_ok-least.ensures c.in-None.ensures

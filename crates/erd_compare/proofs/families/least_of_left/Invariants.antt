@@ -5,4 +5,4 @@ use Rattle.erd_compare.proofs.families.least_of_left.Given as goal
 
 abbrev pub invariant-loop-index : goal.invariant-loop-index
 invariant-loop-index l =
-    TellsAmong (records_of (view l.left) l.family) (records_of (view l.right) l.family) (HasKeyAmong (view l.left) l.family l.index) l.least
+    TellsAmong (records_of (view l.sides.left.now) l.family) (records_of (view l.sides.right.now) l.family) (HasKeyAmong (view l.sides.left.now) l.family l.index) l.least

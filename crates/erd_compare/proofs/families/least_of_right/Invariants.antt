@@ -5,4 +5,4 @@ use Rattle.erd_compare.proofs.families.least_of_right.Given as goal
 
 abbrev pub invariant-loop-index : goal.invariant-loop-index
 invariant-loop-index l =
-    TellsAmong (records_of (view l.left) l.family) (records_of (view l.right) l.family) (HasKeyAloneAmong (view l.left) (view l.right) l.family l.index) l.least
+    TellsAmong (records_of (view l.sides.left.now) l.family) (records_of (view l.sides.right.now) l.family) (HasKeyAloneAmong (view l.sides.left.now) (view l.sides.right.now) l.family l.index) l.least

@@ -13,8 +13,8 @@ seen found = option_map (λ s. s.now) found
 
 pub returns-in_ok-name-in-Some : goal.returns-in_ok-name-in-Some
 returns-in_ok-name-in-Some c =
-    let t = view c.args.left.now in
-    let u = view c.args.right.now in
+    let t = view c.args.sides.left.now in
+    let u = view c.args.sides.right.now in
     let d = view c.args.one.now in
     let e = view c.args.other.now in
     let is : lesser_name (seen c.in_ok-first.first) (seen c.in_ok-second.second) ≡ Some c.of.result =
@@ -24,8 +24,8 @@ returns-in_ok-name-in-Some c =
 
 pub returns-in-None : goal.returns-in-None
 returns-in-None c =
-    let t = view c.args.left.now in
-    let u = view c.args.right.now in
+    let t = view c.args.sides.left.now in
+    let u = view c.args.sides.right.now in
     let d = view c.args.one.now in
     let e = view c.args.other.now in
     let is : lesser_name (seen c.in_ok-first.first) (seen c.in_ok-second.second) ≡ None = sym c.lesser.ensures ∙ ap seen c.in-None.is in
