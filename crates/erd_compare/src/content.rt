@@ -1,6 +1,5 @@
 ghost use Rattle.std.specs.Prelude.{◌≡◌, true, map, option_and_then};
 ghost use Rattle.std.specs.List.{AllByRecursion};
-ghost use Rattle.std.specs.Option.{option_copied};
 ghost use Rattle.serde_json.specs.Find.{as_str};
 ghost use Rattle.serde_json.specs.View.{view};
 ghost use Rattle.erd_meaning.specs.Keys.{has_keys};
@@ -12,10 +11,10 @@ ghost use Rattle.erd_compare.specs.code.Comparing.{Decides, IsWholeTree};
 ghost use Rattle.erd_compare.specs.code.ContentParts.{content_within};
 
 use crate::carried::is_same_carried;
-use crate::references::{is_same_family, name_named};
+use crate::references::{key_with_id, name_named};
 use crate::sides::Sides;
 use erd_check::values::{class_of_object, entries_at, entries_of, text_at};
-use erd_meaning::{Key, Report};
+use erd_meaning::Report;
 use erd_tables::{Class, Family, Role};
 use serde_json::Value;
 
@@ -157,19 +156,6 @@ fn is_same_owner(sides: Sides, family: Family, name: &str, one: &Value, other: &
 {
     key_with_id(sides.left, family, text_at(one, name))
         == key_with_id(sides.right, family, text_at(other, name))
-}
-
-/// The key of the object of a family with the `@id`.
-fn key_with_id<'a>(report: &'a Report, family: Family, id: &str) -> Option<&'a Key>
-    requires keyed { has_keys family ≡ true }
-    ensures { option_copied result ≡ key_named (view report.now) family id.now }
-{
-    let (found, index) = report.target(id)?;
-    if is_same_family(found, family) {
-        report.key_at(family, index)
-    } else {
-        None
-    }
 }
 
 /// Whether a node of a ballot's order is a header.

@@ -20,7 +20,14 @@ pub(crate) fn key_named<'a>(report: &'a Report, family: Family, value: &Value) -
     requires keyed { has_keys family ≡ true }
     ensures { option_copied result ≡ option_and_then (key_named (view report.now) family) (as_str (view value.now)) }
 {
-    let id = value.as_str()?;
+    key_with_id(report, family, value.as_str()?)
+}
+
+/// The key of the object of a family with the `@id`.
+pub(crate) fn key_with_id<'a>(report: &'a Report, family: Family, id: &str) -> Option<&'a Key>
+    requires keyed { has_keys family ≡ true }
+    ensures { option_copied result ≡ key_named (view report.now) family id.now }
+{
     let (found, index) = report.target(id)?;
     if is_same_family(found, family) {
         report.key_at(family, index)
@@ -53,7 +60,7 @@ fn selection_name<'a>(report: &'a Report, index: usize) -> Option<&'a SelectionN
 }
 
 /// Whether two families are one.
-pub(crate) fn is_same_family(found: Family, family: Family) -> bool
+fn is_same_family(found: Family, family: Family) -> bool
     ensures { result ≡ (family_number found == family_number family) }
 {
     found == family

@@ -2,7 +2,7 @@ use Rattle.std.proofs.Common.{sym, ap, ◌∙◌}
 use Rattle.std.specs.Option.{option_copied}
 use Rattle.serde_json.specs.View.{view}
 use Rattle.erd_compare.proofs.ReferencedKeys.{key_elsewhere, key_here, key_nowhere}
-use Rattle.erd_compare.proofs.content.key_with_id.Goals as goal
+use Rattle.erd_compare.proofs.references.key_with_id.Goals as goal
 
 pub returns-in_err-found : goal.returns-in_err-found
 returns-in_err-found c =
