@@ -3,6 +3,8 @@ ghost use Rattle.serde_json.specs.Data.{member, no_members};
 ghost use Rattle.serde_json.specs.View.{view, members_view};
 ghost use Rattle.erd_check.specs.Trees.{are_same_members};
 ghost use Rattle.erd_compare.specs.code.Choices.{takes_name, chosen_in, chosen_members};
+ghost use Rattle.erd_meaning.specs.Records.{carried_members};
+ghost use Rattle.erd_compare.specs.code.Comparing.{Decides, IsWholeTree};
 
 use erd_check::same_json;
 use erd_tables::{Class, MemberKind, member_kind};
@@ -98,4 +100,23 @@ fn next_chosen<'a>(
         }
     }
     None
+}
+
+/// Whether two objects of these classes carry the same members.
+pub(crate) fn is_same_carried(
+    one_class: Option<Class>,
+    one: &Value,
+    other_class: Option<Class>,
+    other: &Value,
+) -> bool
+    requires one { IsWholeTree (view one.now) }
+    requires other { IsWholeTree (view other.now) }
+    ensures { Decides result (carried_members one_class (view one.now)) (carried_members other_class (view other.now)) }
+{
+    is_same_choice(
+        Choice::Carried(one_class),
+        one,
+        Choice::Carried(other_class),
+        other,
+    )
 }

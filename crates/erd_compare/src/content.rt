@@ -10,7 +10,7 @@ ghost use Rattle.erd_meaning.specs.SelectionNames.{key_named, name_named};
 ghost use Rattle.erd_compare.specs.code.Comparing.{Decides, IsWholeTree};
 ghost use Rattle.erd_compare.specs.code.ContentParts.{content_within};
 
-use crate::carried::is_same_carried;
+use crate::choice::is_same_carried;
 use crate::references::{key_with_id, name_named};
 use crate::sides::Sides;
 use erd_check::values::{class_of_object, entries_at, entries_of, text_at};

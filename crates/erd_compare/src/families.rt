@@ -2,9 +2,9 @@ ghost use Rattle.std.specs.Prelude.{◌≡◌, true, option_map, IfOk};
 ghost use Rattle.serde_json.specs.View.{view};
 ghost use Rattle.erd_meaning.specs.Keys.{has_keys};
 ghost use Rattle.erd_meaning.specs.Lookups.{key_in};
-ghost use Rattle.erd_meaning.specs.Records.{meaning, object_record, object_with_key, records_of};
-ghost use Rattle.erd_compare.specs.code.Comparing.{IsWholeTree, TellsHow, TellsPart};
-ghost use Rattle.erd_compare.specs.code.KeyedDifferences.{family_of_part, HasKey, HasKeyAlone, IsAnyKey, IsComparable, lesser_difference, TellsAmong, TellsKeyed, TellsWhole};
+ghost use Rattle.erd_meaning.specs.Records.{object_with_key, records_of};
+ghost use Rattle.erd_compare.specs.code.Comparing.{TellsHow};
+ghost use Rattle.erd_compare.specs.code.KeyedDifferences.{HasKey, HasKeyAlone, IsAnyKey, IsComparable, lesser_difference, TellsAmong, TellsKeyed};
 
 use crate::difference::{Difference, How, Part};
 use crate::record::object_difference;
@@ -14,73 +14,6 @@ use erd_tables::{Family, Role};
 use serde_json::Value;
 use std::alloc::{AllocError, Global};
 
-/// The first difference of two reports at a part.
-pub(crate) fn part_difference(
-    alloc: Global,
-    sides: Sides,
-    part: Part,
-) -> Result<Option<Difference>, AllocError>
-    ensures { IfOk result (TellsPart (meaning (view sides.entry.left.now)) (meaning (view sides.entry.right.now)) part) }
-{
-    let one = sides.left.tree();
-    let other = sides.right.tree();
-    match family_of(part) {
-        Some(family) => family_difference(alloc, sides, part, family),
-        None => match part {
-            Part::Election => {
-                let one = sides.left.election();
-                let other = sides.right.election();
-                whole_difference(alloc, sides, part, Role::Election, one, other)
-            }
-            _ => whole_difference(alloc, sides, part, Role::Report, one, other),
-        },
-    }
-}
-
-/// The family whose objects a part holds.
-fn family_of(part: Part) -> Option<Family>
-    ensures { result ≡ family_of_part part }
-{
-    match part {
-        Part::Report | Part::Election => None,
-        Part::Unit => Some(Family::Unit),
-        Part::Party => Some(Family::Party),
-        Part::Person => Some(Family::Person),
-        Part::Office => Some(Family::Office),
-        Part::Header => Some(Family::Header),
-        Part::Candidate => Some(Family::Candidate),
-        Part::Contest => Some(Family::Contest),
-        Part::Style => Some(Family::Style),
-    }
-}
-
-// ---- the report and the election
-
-/// How two objects without keys differ, as a difference at their part.
-fn whole_difference(
-    alloc: Global,
-    sides: Sides,
-    part: Part,
-    role: Role,
-    one: &Value,
-    other: &Value,
-) -> Result<Option<Difference>, AllocError>
-    requires one { IsWholeTree (view one.now) }
-    requires other { IsWholeTree (view other.now) }
-    ensures { IfOk result (TellsWhole (object_record (view sides.entry.left.now) role (view one.now)) (object_record (view sides.entry.right.now) role (view other.now)) part) }
-{
-    match object_difference(alloc, sides, role, one, other)? {
-        Some(how) => Ok(Some(Difference {
-            part,
-            key: None,
-            how,
-        })),
-        None => Ok(None),
-    }
-}
-
-// ---- the families
-
 /// A difference of two reports at the objects of a family with a key.
 #[derive(Drop)]
 struct KeyedDifference<'a> {
@@ -89,7 +22,7 @@ struct KeyedDifference<'a> {
 }
 
 /// The difference at the least key at which two reports differ in a family.
-fn family_difference(
+pub(crate) fn family_difference(
     alloc: Global,
     sides: Sides,
     part: Part,

@@ -4,7 +4,7 @@ ghost use Rattle.erd_meaning.specs.Records.{meaning};
 ghost use Rattle.erd_compare.specs.Differences.{IsDifference};
 
 use crate::difference::{Difference, Part};
-use crate::families::part_difference;
+use crate::parts::part_difference;
 use crate::sides::Sides;
 use erd_meaning::Report;
 use std::alloc::{AllocError, Global};

@@ -1,15 +1,13 @@
 //! The first difference of two reports.
 #![tactic(auto)]
 
-mod carried;
 mod choice;
 mod content;
 pub mod difference;
 mod families;
 mod first;
 mod label;
-mod line;
-mod member;
+mod parts;
 mod plain;
 mod record;
 mod references;

@@ -1,14 +1,16 @@
 ghost use Rattle.std.specs.Prelude.{◌≡◌, option_map, IfOk, Some};
 ghost use Rattle.serde_json.specs.View.{view};
 ghost use Rattle.erd_meaning.specs.Records.{member_of_class, object_record};
-ghost use Rattle.erd_compare.specs.code.Comparing.{IsWholeTree, TellsHow};
+ghost use Rattle.erd_compare.specs.code.Comparing.{IsWholeTree, TellsHow, Decides};
 ghost use Rattle.erd_compare.specs.code.LeastNames.{TellsAmong, lesser_name, record_of_class};
+ghost use Rattle.erd_compare.specs.code.SelectionMembers.{is_selections};
 
 use crate::difference::How;
-use crate::member::is_same_member;
+use crate::plain::is_same_plain_member;
+use crate::selections::is_same_selections;
 use crate::sides::Sides;
 use erd_check::values::class_of_object;
-use erd_tables::{Class, Role, Text};
+use erd_tables::{Class, Family, MemberKind, Role, Text, member_kind};
 use serde_json::Value;
 use std::alloc::{AllocError, Global};
 
@@ -98,4 +100,32 @@ fn lesser<'a>(one: Option<&'a str>, other: Option<&'a str>) -> Option<&'a str>
         (Some(_), None) => one,
         (None, _) => other,
     }
+}
+
+/// Whether members of one name, of two objects of one class, mean the same.
+pub(crate) fn is_same_member(
+    alloc: Global,
+    sides: Sides,
+    class: Class,
+    name: &str,
+    one: &Value,
+    other: &Value,
+) -> Result<bool, AllocError>
+    requires one { IsWholeTree (view one.now) }
+    requires other { IsWholeTree (view other.now) }
+    ensures { IfOk result (λ answer. Decides answer (member_of_class (view sides.entry.left.now) (view one.now) class name.now)
+        (member_of_class (view sides.entry.right.now) (view other.now) class name.now)) }
+{
+    if is_selections(member_kind(class, name)) {
+        is_same_selections(alloc, sides, name, one, other)
+    } else {
+        Ok(is_same_plain_member(sides, class, name, one, other))
+    }
+}
+
+/// Whether members of this kind are selections.
+fn is_selections(kind: MemberKind) -> bool
+    ensures { result ≡ is_selections kind }
+{
+    matches!(kind, MemberKind::Keyed(Family::Selection))
 }

@@ -2,23 +2,57 @@ ghost use Rattle.std.specs.Prelude.{◌≡◌, ◌↔◌, true, Some, map, find,
 ghost use Rattle.std.specs.List.{position, AllByRecursion};
 ghost use Rattle.std.specs.Option.{option_cmp};
 ghost use Rattle.std.specs.Ordering.{is_eq};
-ghost use Rattle.serde_json.specs.Find.{as_object};
+ghost use Rattle.serde_json.specs.Find.{as_object, get};
 ghost use Rattle.serde_json.specs.View.{view};
 ghost use Rattle.erd_meaning.specs.Records.{plain_member, selection_map, selection_record};
 ghost use Rattle.erd_meaning.specs.SelectionNames.{name_cmp, name_of};
 ghost use Rattle.erd_compare.specs.code.Comparing.{Decides, IsWholeTree};
 ghost use Rattle.erd_compare.specs.code.AgreeingSelections.{AgreeAtNames, AgreeAtOption, is_named};
+ghost use Rattle.erd_compare.specs.code.SelectionMembers.{if_filled, selections_of};
 
 use crate::plain::is_same_plain_member;
 use crate::sides::Sides;
-use erd_check::values::class_of_object;
+use erd_check::values::{class_of_object, entries_of, is_empty_array};
 use erd_meaning::{Report, SelectionName};
 use erd_tables::{Class, Family, Role};
 use serde_json::Value;
 use std::alloc::{AllocError, Global};
 
+/// Whether the selections of two contests mean the same. A contest with an empty array of them is as one with none.
+pub(crate) fn is_same_selections(
+    alloc: Global,
+    sides: Sides,
+    name: &str,
+    one: &Value,
+    other: &Value,
+) -> Result<bool, AllocError>
+    requires one { IsWholeTree (view one.now) }
+    requires other { IsWholeTree (view other.now) }
+    ensures { IfOk result (λ answer. Decides answer (selections_of (view sides.entry.left.now) (get name.now (view one.now)))
+        (selections_of (view sides.entry.right.now) (get name.now (view other.now)))) }
+{
+    match (filled(one, name), filled(other, name)) {
+        (Some(ones), Some(others)) => {
+            let (ones, others) = (entries_of(ones), entries_of(others));
+            is_same_selection_map(alloc, sides, ones, others)
+        }
+        (None, None) => Ok(true),
+        _ => Ok(false),
+    }
+}
+
+/// The member of this name, unless it is an empty array.
+fn filled<'a>(value: &'a Value, name: &str) -> Option<&'a Value>
+    ensures { option_map (λ v. view v.now) result ≡ if_filled (get name.now (view value.now)) }
+{
+    match value.get(name) {
+        Some(member) if !is_empty_array(member) => Some(member),
+        _ => None,
+    }
+}
+
 /// Whether two selections mean the same.
-pub(crate) fn is_same_selection(sides: Sides, one: &Value, other: &Value) -> bool
+fn is_same_selection(sides: Sides, one: &Value, other: &Value) -> bool
     requires one { IsWholeTree (view one.now) }
     requires other { IsWholeTree (view other.now) }
     ensures { Decides result (selection_record (view sides.entry.left.now) (view one.now)) (selection_record (view sides.entry.right.now) (view other.now)) }
@@ -174,7 +208,7 @@ fn is_same_map(one: &NamedSelections, other: &NamedSelections) -> bool
 }
 
 /// Whether the selections of two contests mean the same, each by its name.
-pub(crate) fn is_same_selection_map(
+fn is_same_selection_map(
     alloc: Global,
     sides: Sides,
     ones: &[Value],

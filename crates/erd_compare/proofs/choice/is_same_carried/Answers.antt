@@ -12,7 +12,7 @@ use Rattle.erd_compare.specs.code.Choices.{is_carried_kind, takes_name}
 use Rattle.erd_compare.specs.code.Comparing.{Decides}
 use Rattle.erd_compare.specs.declared.choice.Choice.TheVariants.{Carried}
 use Rattle.erd_compare.proofs.ChosenMembers.{chosen-Decides}
-use Rattle.erd_compare.proofs.carried.is_same_carried.Goals as goal
+use Rattle.erd_compare.proofs.choice.is_same_carried.Goals as goal
 
 carried_kind : (k : MemberKind) (o : Option Data) → cond (is_carried_kind k) o None ≡ if_carried k o
 carried_kind kind.Carried o = refl

@@ -5,7 +5,7 @@ use Rattle.serde_json.specs.View.{view}
 use Rattle.erd_tables.specs.Table.{kind_of_member}
 use Rattle.erd_compare.specs.code.SelectionMembers.{is_selections}
 use Rattle.erd_compare.proofs.MemberValues.{other_kind-Decides}
-use Rattle.erd_compare.proofs.member.is_same_member.Goals as goal
+use Rattle.erd_compare.proofs.record.is_same_member.Goals as goal
 
 pub returns-else-is_selections : goal.returns-else-is_selections
 returns-else-is_selections c =

@@ -7,7 +7,7 @@ use Rattle.erd_compare.specs.code.Comparing.{TellsPart}
 use Rattle.erd_compare.specs.code.KeyedDifferences.{TellsKeyed, TellsWhole}
 use Rattle.erd_compare.proofs.FamilyTrees.{whole_election}
 use Rattle.erd_compare.proofs.PartsTold.{comparable, election_told, keyed_told, report_part, report_told}
-use Rattle.erd_compare.proofs.families.part_difference.Goals as goal
+use Rattle.erd_compare.proofs.parts.part_difference.Goals as goal
 
 pub returns-in-Some : goal.returns-in-Some
 returns-in-Some c =

@@ -5,7 +5,7 @@ use Rattle.serde_json.specs.View.{view}
 use Rattle.serde_json.specs.declared.value.Value.{Value}
 use Rattle.erd_compare.proofs.MemberValues.{selections-Decide, whole_tree-filled}
 use Rattle.erd_compare.proofs.WholeTrees.{whole_values-entries_of}
-use Rattle.erd_compare.proofs.member.is_same_selections.Goals as goal
+use Rattle.erd_compare.proofs.selections.is_same_selections.Goals as goal
 
 -- a value that was found, as its data
 abbrev seen : Option (Bor Value) → Option Data
