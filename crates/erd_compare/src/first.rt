@@ -3,8 +3,11 @@ ghost use Rattle.serde_json.specs.View.{view};
 ghost use Rattle.erd_meaning.specs.Records.{meaning};
 ghost use Rattle.erd_compare.specs.Differences.{IsDifference};
 
+mod families;
+mod parts;
+
 use crate::difference::{Difference, Part};
-use crate::parts::part_difference;
+use crate::first::parts::part_difference;
 use crate::sides::Sides;
 use erd_meaning::Report;
 use std::alloc::{AllocError, Global};
