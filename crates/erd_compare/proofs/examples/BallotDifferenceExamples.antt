@@ -1,5 +1,5 @@
 -- The first difference of the small ballot and of the ballot with its order exchanged is that order: all before it is the same.
-use Rattle.std.proofs.Common.{◌≡◌, ℕ, List, [], ◌∷◌, ◌++◌, codes, slice_get, Option, Some, None, Bool, true, false, refl, sym, ap, ◌∙◌, lit<}
+use Rattle.std.proofs.Common.{◌≡◌, ℕ, List, [], ◌∷◌, codes, slice_get, Option, Some, None, Bool, true, false, refl, sym, ap, ◌∙◌, lit<}
 use Rattle.std.specs.Prelude.{option_and_then, option_map, unwrap_or}
 use Rattle.std.specs.declared.cmp.Ordering.TheVariants.{Less}
 use Rattle.serde_json.specs.Data.{Data, null}
@@ -9,32 +9,22 @@ use Rattle.erd_tables.specs.declared.class.Class.TheVariants as class
 use Rattle.erd_tables.specs.declared.class.Family.{Family}
 use Rattle.erd_tables.specs.declared.class.Family.TheVariants as family
 use Rattle.erd_tables.specs.declared.class.Role.TheVariants as role
-use Rattle.erd_check.proofs.Reports.{tree_of, small_ballot, small_ballot_with, header_node, contest_node}
 use Rattle.erd_meaning.proofs.RecordExamples.{local_key}
 use Rattle.erd_meaning.proofs.WholeMeanings.{same_object, AreAmong, AgreeAt, ObjectsAgree, same_at_key, ObjectsAgreeButOne, SameMember, same_at_key_with, HaveKeys, keys_of_family, nothing_at, same_family, selection_with_name, SelectionsAgreeButOne, same_at_name, HaveNames, names_of_selections, same_selections}
 use Rattle.erd_meaning.specs.Keys.{has_keys, key_cmp}
 use Rattle.erd_check.specs.Values.{entries_at}
 use Rattle.erd_meaning.specs.Meaning.{a_selection_map}
 use Rattle.erd_meaning.specs.NameParts.{NameParts}
-use Rattle.erd_meaning.specs.Objects.{elections, contests}
+use Rattle.erd_meaning.specs.Objects.{contests}
 use Rattle.erd_meaning.specs.Records.{plain_member, object_record, selection_map, records_of, meaning}
 use Rattle.erd_meaning.specs.SelectionNames.{name_of}
 use Rattle.erd_meaning.specs.declared.key.Key.{Key}
-use Rattle.erd_compare.proofs.examples.FirstDifferenceExamples.{not_in}
-use Rattle.erd_compare.proofs.examples.OrderExamples.{first_member}
+use Rattle.erd_compare.proofs.examples.FirstDifferenceExamples.{election_in, not_in}
+use Rattle.erd_compare.proofs.examples.OrderExamples.{first_member, left, right}
 use Rattle.erd_compare.specs.Differences.{record_at, part_cmp, IsFirstDifference}
 use Rattle.erd_compare.specs.declared.difference.How.TheVariants.{Member}
 use Rattle.erd_compare.specs.declared.difference.Part.{Part}
 use Rattle.erd_compare.specs.declared.difference.Part.TheVariants as part
-
-abbrev left : Data
-left = tree_of small_ballot
-
-abbrev right : Data
-right = tree_of (small_ballot_with (codes "K3") (contest_node ++ codes "," ++ header_node))
-
-abbrev election_in : Data → Data
-election_in t = unwrap_or (option_map (λ o. o.value) (slice_get (elections t) 0)) null
 
 abbrev MeansTheSame : Family → List ℕ → Type 0
 MeansTheSame f key = records_of left f (local_key key) ≡ records_of right f (local_key key)

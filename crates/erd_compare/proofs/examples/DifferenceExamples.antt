@@ -8,6 +8,7 @@ use Rattle.erd_check.proofs.Reports.{tree_of, small_ballot, small_ballot_with, h
 use Rattle.erd_meaning.specs.Meaning.{Content, first_node, a_header, a_content, MemberValue, a_plain, ObjectRecord, Meaning}
 use Rattle.erd_meaning.specs.Records.{meaning}
 use Rattle.erd_meaning.specs.declared.key.Key.{Key}
+use Rattle.erd_meaning.proofs.RecordExamples.{local_key}
 use Rattle.erd_compare.specs.DifferenceLine.{difference_line}
 use Rattle.erd_compare.specs.Differences.{record_at, part_cmp, Differ}
 use Rattle.erd_compare.specs.declared.difference.Difference.{Difference}
@@ -15,9 +16,6 @@ use Rattle.erd_compare.specs.declared.difference.How.{How}
 use Rattle.erd_compare.specs.declared.difference.How.TheVariants.{OnlyLeft, OnlyRight, OtherClass, Member}
 use Rattle.erd_compare.specs.declared.difference.Part.{Part}
 use Rattle.erd_compare.specs.declared.difference.Part.TheVariants as part
-
-abbrev local_key : List ℕ → Key
-local_key value = record { kind = codes "local-level"; other = []; value = value }
 
 -- ---- lines
 

@@ -43,7 +43,8 @@ other_if_less name one itself less = at (bytes_eq name one) refl
 abbrev left : Data
 left = tree_of one_unit
 
-abbrev election_in : Data → Data
+-- the first election of a report
+abbrev pub election_in : Data → Data
 election_in t = unwrap_or (option_map (λ o. o.value) (slice_get (elections t) 0)) null
 
 abbrev unit_in : Data → Data

@@ -23,10 +23,11 @@ use Rattle.erd_compare.specs.declared.difference.Part.TheVariants as part
 abbrev style_key : Key
 style_key = record { kind = codes "local-level"; other = []; value = codes "S1" }
 
-abbrev left : Data
+-- the small ballot, and the same with its order exchanged
+abbrev pub left : Data
 left = tree_of small_ballot
 
-abbrev right : Data
+abbrev pub right : Data
 right = tree_of (small_ballot_with (codes "K3") (contest_node ++ codes "," ++ header_node))
 
 abbrev style : Data → Data

@@ -92,9 +92,6 @@ among_more t f i k h = at (which h.0 i h.1)
     at (inl low) = inl (h.0, low, h.2)
     at (inr same) = inr (subst (λ j. key_in f t j ≡ Some k) same h.2)
 
-pub among_none : (t : Data) (f : Family) (k : Key) → HasKeyAmong t f 0 k → ⊥
-among_none t f k h = absurd (omega (arith, h.1))
-
 low_at : {A : Type 0} (xs : List A) (i : ℕ) (x : A) → slice_get xs i ≡ Some x → i < length xs
 low_at [] i x e = cc
 low_at (y ∷ ys) zero x e = omega arith

@@ -17,8 +17,7 @@ use Rattle.erd_check.proofs.Members.{get_member-before}
 use Rattle.erd_meaning.specs.Meaning.{PlainValue, MemberValue, ObjectRecord}
 use Rattle.erd_meaning.specs.Records.{is_in_envelope, member_of_class, member_value, plain_value}
 use Rattle.erd_compare.specs.code.Comparing.{TellsHow}
-use Rattle.erd_compare.specs.code.LeastNames.{DifferAmongNames, MemberMap, TellsAmongNames, lesser_name, record_of_class}
-use Rattle.erd_compare.specs.declared.difference.How.{How}
+use Rattle.erd_compare.specs.code.LeastNames.{MemberMap, TellsAmongNames, lesser_name, record_of_class}
 use Rattle.erd_compare.specs.declared.difference.How.TheVariants.{Member}
 use Rattle.erd_compare.proofs.same_selections.MemberValues.{absent-value}
 

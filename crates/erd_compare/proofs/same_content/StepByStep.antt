@@ -1,5 +1,5 @@
 -- Two lists that are compared one entry after another: what is left of them is the same exactly if they are.
-use Rattle.std.proofs.Common.{◌≡◌, ◌<◌, ◌+◌, ℕ, List, [], ◌∷◌, map, drop, length, get_or, true, false, true≢false, add-one, refl, sym, ap, ap₂, ◌∙◌}
+use Rattle.std.proofs.Common.{◌≡◌, ◌<◌, ◌+◌, ℕ, List, ◌∷◌, map, drop, length, get_or, true, false, true≢false, add-one, sym, ap, ap₂, ◌∙◌}
 use Rattle.std.proofs.Math.Seq.{drop-cons}
 use Rattle.erd_compare.specs.code.Comparing.{Decides}
 
@@ -13,16 +13,6 @@ first_equal b c bs cs e = cc
 
 rest_equal : {B : Type 0} (b c : B) (bs cs : List B) → b ∷ bs ≡ c ∷ cs → bs ≡ cs
 rest_equal b c bs cs e = cc
-
-clash : {B : Type 0} (c : B) (cs : List B) → [] ≡ c ∷ cs → false ≡ true
-clash c cs e = cc
-
-clash' : {B : Type 0} (b : B) (bs : List B) → b ∷ bs ≡ [] → false ≡ true
-clash' b bs e = cc
-
--- nothing is gone over at the start
-pub from_start : {B : Type 0} (all all' : List B) → AreSameIfLeft all all' all all'
-from_start all all' = record { to_left = λ e. e; to_all = λ e. e }
 
 module _ {A B : Type 0} (f g : A → B) where
   -- the list that is left at an index
@@ -44,17 +34,3 @@ module _ {A B : Type 0} (f g : A → B) where
     λ e. absurd (true≢false (sym e)),
     λ e. differ (first_equal (f x) (g y) (map f (drop (i + 1) xs)) (map g left') (sym (left_at xs i x low here) ∙ (so_far.to_left e ∙ ap (map g) next))),
   )
-
-  -- they differ where the other list ends first
-  pub ends_first : (xs : List A) (i : ℕ) (x : A) (left : List A) (all all' : List B) → i < length xs → x ≡ get_or xs i x → left ≡ []
-      → AreSameIfLeft all all' (map f (drop i xs)) (map g left) → Decides false all all'
-  ends_first xs i x left all all' low here next so_far =
-      (λ e. absurd (true≢false (sym e)), λ e. clash' (f x) (map f (drop (i + 1) xs)) (sym (left_at xs i x low here) ∙ (so_far.to_left e ∙ ap (map g) next)))
-
-  -- the one list is gone over: they are the same if the other is
-  pub both_end : (left : List A) (all all' : List B) → left ≡ [] → AreSameIfLeft all all' [] (map g left) → Decides true all all'
-  both_end left all all' next so_far = (λ e. so_far.to_all (sym (ap (map g) next)), λ e. refl)
-
-  -- and differ if it is not
-  pub goes_on : (y : A) (left left' : List A) (all all' : List B) → left ≡ y ∷ left' → AreSameIfLeft all all' [] (map g left) → Decides false all all'
-  goes_on y left left' all all' next so_far = (λ e. absurd (true≢false (sym e)), λ e. clash (g y) (map g left') (so_far.to_left e ∙ ap (map g) next))

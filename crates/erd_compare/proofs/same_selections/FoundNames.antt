@@ -1,7 +1,6 @@
 -- The first selection with a name, found by its place among the names; and maps of selections that agree at each name.
-use Rattle.std.proofs.Common.{◌≡◌, ◌↔◌, ◌<◌, ◌+◌, ℕ, zero, suc, List, [], ◌∷◌, Bool, true, false, Option, Some, None, IfSome, cond, map, find, length, get_or, refl, sym, ap, ◌∙◌, subst, ◌⊎◌, inl, inr, arith}
+use Rattle.std.proofs.Common.{◌≡◌, ◌<◌, ◌+◌, ℕ, zero, suc, List, [], ◌∷◌, Bool, true, false, Option, Some, None, cond, map, find, length, get_or, refl, sym, ap, ◌∙◌, subst, ◌⊎◌, inl, inr, arith}
 use Rattle.std.proofs.Math.Path.{fun_ext}
-use Rattle.std.proofs.lemmas.Bool.{true≢false}
 use Rattle.std.proofs.lemmas.Iterator.Adapters.{position_from-zero}
 use Rattle.std.proofs.lemmas.List.{length-map}
 use Rattle.std.proofs.lemmas.List.Quantifiers.{position-Some}
@@ -15,7 +14,7 @@ use Rattle.serde_json.specs.declared.value.Value.{Value}
 use Rattle.erd_check.specs.Wants.{class_of_object}
 use Rattle.erd_meaning.proofs.EqualNames.{equal_names, options_exact}
 use Rattle.erd_meaning.proofs.References.{find-Some}
-use Rattle.erd_meaning.specs.Meaning.{PlainValue, Record, SelectionRecord}
+use Rattle.erd_meaning.specs.Meaning.{SelectionRecord}
 use Rattle.erd_meaning.specs.NameParts.{NameParts}
 use Rattle.erd_meaning.specs.Records.{plain_member, selection_map, selection_record}
 use Rattle.erd_tables.specs.declared.class.Class.{Class}

@@ -1,5 +1,5 @@
 -- What members mean: the selections of a contest, and all others, which mean what they do by themselves.
-use Rattle.std.proofs.Common.{◌≡◌, List, ℕ, Bool, true, false, Option, Some, None, Result, Ok, Err, IfOk, option_map, refl, sym, ap, ◌∙◌, subst}
+use Rattle.std.proofs.Common.{◌≡◌, List, ℕ, Bool, false, Option, Some, None, Result, Ok, Err, IfOk, option_map, refl, sym, ap, ◌∙◌, subst}
 use Rattle.serde_json.specs.Data.{Data, null, boolean, number, string, array, object, no_items, item}
 use Rattle.serde_json.specs.Find.{get}
 use Rattle.erd_check.specs.Values.{entries_of}
@@ -8,7 +8,7 @@ use Rattle.erd_tables.specs.declared.member.MemberKind.{MemberKind}
 use Rattle.erd_tables.specs.declared.member.MemberKind.TheVariants as kind
 use Rattle.erd_meaning.specs.Meaning.{PlainValue, MemberValue, SelectionRecord, a_plain, a_selection_map}
 use Rattle.erd_meaning.specs.NameParts.{NameParts}
-use Rattle.erd_meaning.specs.Records.{member_value, selection_map, unless_empty}
+use Rattle.erd_meaning.specs.Records.{member_value, selection_map}
 use Rattle.erd_compare.specs.code.Comparing.{Decides, IsWholeTree}
 use Rattle.erd_compare.specs.code.SelectionMembers.{if_filled, is_selections, selections_meant}
 use Rattle.erd_compare.proofs.whole_trees.WholeTrees.{whole_tree-get}

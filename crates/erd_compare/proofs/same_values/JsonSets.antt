@@ -1,10 +1,10 @@
 -- Two lists are the same set of values exactly if each value of either is in the other.
-use Rattle.std.proofs.Common.{◌≡◌, List, [], ◌∷◌, Bool, true, false, ◌&&◌, true≢false, refl, sym, ap, ◌∙◌, subst}
+use Rattle.std.proofs.Common.{◌≡◌, List, [], ◌∷◌, Bool, true, false, ◌&&◌, refl, sym, ap, ◌∙◌, subst}
 use Rattle.std.proofs.Math.Path.{fun_ext}
-use Rattle.std.specs.List.{AllByRecursion, list_all}
+use Rattle.std.proofs.lemmas.Bool.{and_from, and_parts}
+use Rattle.std.specs.List.{list_all}
 use Rattle.serde_json.specs.Data.{Data}
 use Rattle.erd_check.specs.Trees.{is_same_json}
-use Rattle.erd_check.proofs.Exact.{both_true}
 use Rattle.erd_check.proofs.Rising.{Has, here, later, all-Has}
 use Rattle.erd_meaning.specs.Records.{json_set}
 use Rattle.erd_meaning.proofs.Sets.{any-has, has-any}
@@ -14,15 +14,10 @@ use Rattle.erd_compare.proofs.whole_trees.WholeTrees.{AreWholeTrees, whole_tree-
 -- ---- tests
 
 -- tests that hold of the same are the same
-same_tests : (a b : Bool) → (a ≡ true → b ≡ true) → (b ≡ true → a ≡ true) → a ≡ b
+pub same_tests : (a b : Bool) → (a ≡ true → b ≡ true) → (b ≡ true → a ≡ true) → a ≡ b
 same_tests true b to from = sym (to refl)
 same_tests false true to from = from refl
 same_tests false false to from = refl
-
--- two tests that hold
-pub both_hold : (a b : Bool) → a ≡ true → b ≡ true → a && b ≡ true
-both_hold true b e f = f
-both_hold false b e f = absurd (true≢false (sym e))
 
 -- the answer of two tests, of which the second is made only if the first holds
 pub second_answer : (a b r s : Bool) → r ≡ a → s ≡ b → r ≡ true → a && b ≡ s
@@ -33,17 +28,14 @@ pub first_answer : (a b r : Bool) → r ≡ a → r ≡ false → a && b ≡ r
 first_answer a b r first fails = ap (λ x. x && b) (sym first ∙ fails) ∙ sym fails
 
 -- a test that holds of each entry holds of all
-all_hold : (test : Data → Bool) (ds : List Data) → ((d : Data) → Has ds d → test d ≡ true) → list_all test ds ≡ true
+pub all_hold : {A : Type 0} (test : A → Bool) (xs : List A) → ((x : A) → Has xs x → test x ≡ true) → list_all test xs ≡ true
 all_hold test [] each = refl
-all_hold test (d ∷ ds) each = both_hold (test d) (list_all test ds) (each d here) (all_hold test ds (λ e h. each e (later h)))
+all_hold test (x ∷ xs) each = and_from (test x) (list_all test xs) (each x here) (all_hold test xs (λ y h. each y (later h)))
 
 -- and the other way round
-each_holds : (test : Data → Bool) (ds : List Data) (d : Data) → list_all test ds ≡ true → Has ds d → test d ≡ true
-each_holds test ds d all h = all-Has (λ e. test e ≡ true) ds d (every ds all) h
-  where
-    every : (es : List Data) → list_all test es ≡ true → AllByRecursion (λ e. test e ≡ true) es
-    every [] all = tt
-    every (e ∷ es) all = let both = both_true (test e) (list_all test es) all in (both.0, every es both.1)
+pub each_holds : {A : Type 0} (test : A → Bool) (xs : List A) (x : A) → list_all test xs ≡ true → Has xs x → test x ≡ true
+each_holds test xs x all (here {xs = ys}) = (and_parts (test x) (list_all test ys) all).0
+each_holds test xs x all (later {y = y} {xs = ys} h) = each_holds test ys x (and_parts (test y) (list_all test ys) all).1 h
 
 -- ---- sets
 
@@ -65,9 +57,9 @@ all_in ds es left same =
 
 -- whether each value of either list is in the other decides whether the two are the same set
 pub json_set-Decides : (ds es : List Data) → AreWholeTrees ds → AreWholeTrees es → Decides (list_all (json_set es) ds && list_all (json_set ds) es) (json_set ds) (json_set es)
-json_set-Decides ds es left right = (forward, λ same. both_hold (list_all (json_set es) ds) (list_all (json_set ds) es) (all_in ds es left same) (all_in es ds right (sym same)))
+json_set-Decides ds es left right = (forward, λ same. and_from (list_all (json_set es) ds) (list_all (json_set ds) es) (all_in ds es left same) (all_in es ds right (sym same)))
   where
     forward : list_all (json_set es) ds && list_all (json_set ds) es ≡ true → json_set ds ≡ json_set es
     forward h =
-        let both = both_true (list_all (json_set es) ds) (list_all (json_set ds) es) h in
+        let both = and_parts (list_all (json_set es) ds) (list_all (json_set ds) es) h in
         fun_ext (λ d. same_tests (json_set ds d) (json_set es d) (within ds es d (λ e. entry_in ds es e left right both.0)) (within es ds d (λ e. entry_in es ds e right left both.1)))

@@ -1,5 +1,6 @@
 -- A reference of the table names objects that have keys: none names a selection.
 use Rattle.std.proofs.Common.{◌≡◌, ℕ, List, [], ◌∷◌, unwrap_or, Bool, true, false, cond, codes, refl}
+use Rattle.std.proofs.lemmas.Bool.{and_parts}
 use Rattle.std.specs.List.{list_all}
 use Rattle.std.specs.Option.{is_some}
 use Rattle.std.specs.Str.{bytes_eq}
@@ -10,7 +11,6 @@ use Rattle.erd_tables.specs.declared.class.Class.{Class}
 use Rattle.erd_tables.specs.declared.class.Class.TheVariants as class
 use Rattle.erd_tables.specs.declared.member.MemberKind.{MemberKind}
 use Rattle.erd_tables.specs.declared.member.MemberKind.TheVariants as kind
-use Rattle.erd_check.proofs.Exact.{both_true}
 use Rattle.erd_meaning.specs.Keys.{has_keys}
 use Rattle.erd_compare.specs.code.Comparing.{NamesKeys}
 
@@ -37,10 +37,10 @@ unlisted_keyed c name =
 
 listed_keyed : (name : List ℕ) (rows : List Row) (other : MemberKind) → list_all (λ row. names_keys row.kind) rows ≡ true → names_keys other ≡ true → names_keys (unwrap_or (kind_in_rows rows name) other) ≡ true
 listed_keyed name [] other all e = e
-listed_keyed name (row ∷ rows) other all e = at (bytes_eq name row.name) refl (listed_keyed name rows other (both_true (names_keys row.kind) (list_all (λ row. names_keys row.kind) rows) all).1 e)
+listed_keyed name (row ∷ rows) other all e = at (bytes_eq name row.name) refl (listed_keyed name rows other (and_parts (names_keys row.kind) (list_all (λ row. names_keys row.kind) rows) all).1 e)
   where
     at : (b : Bool) → bytes_eq name row.name ≡ b → names_keys (unwrap_or (kind_in_rows rows name) other) ≡ true → names_keys (unwrap_or (kind_in_rows (row ∷ rows) name) other) ≡ true
-    at true is rest = rw is (both_true (names_keys row.kind) (list_all (λ row. names_keys row.kind) rows) all).0
+    at true is rest = rw is (and_parts (names_keys row.kind) (list_all (λ row. names_keys row.kind) rows) all).0
     at false is rest = rw is rest
 
 -- so it is in the rows of each class

@@ -1,16 +1,15 @@
 -- Two labels that are objects mean the same exactly if they have the same members beside the same translations.
 use Rattle.std.proofs.Common.{◌≡◌, ℕ, List, Bool, true, false, cond, not, ◌&&◌, ◌||◌, Option, None, codes, refl, ap, ap₂}
 use Rattle.std.specs.Str.{bytes_eq}
+use Rattle.std.proofs.lemmas.Bool.{and_from, and_parts}
 use Rattle.serde_json.specs.Data.{Data}
 use Rattle.serde_json.specs.Find.{get}
-use Rattle.erd_check.proofs.Exact.{both_true}
 use Rattle.erd_check.specs.Values.{entries_at}
 use Rattle.erd_meaning.specs.Meaning.{JsonMap, JsonSet, Label, translated, untranslated}
 use Rattle.erd_meaning.specs.Records.{beside_text, json_set}
 use Rattle.erd_compare.specs.code.Choices.{takes_name, translated_label}
 use Rattle.erd_compare.specs.code.Comparing.{Decides}
 use Rattle.erd_compare.specs.declared.values.chosen_members.Choice.TheVariants.{BesideText}
-use Rattle.erd_compare.proofs.same_values.JsonSets.{both_hold}
 
 -- the members beside the translations
 abbrev beside_in : Label → JsonMap
@@ -34,6 +33,6 @@ chosen_beside d name = turned (bytes_eq name (codes "@type") || bytes_eq name (c
 pub translated-Decides : (a b : Bool) (d e : Data) → Decides a (beside_text d) (beside_text e) → Decides b (json_set (entries_at (codes "Text") d)) (json_set (entries_at (codes "Text") e))
     → Decides (a && b) (translated_label d) (translated_label e)
 translated-Decides a b d e beside texts = (
-  λ h. let both = both_true a b h in ap₂ translated (beside.0 both.0) (texts.0 both.1),
-  λ same. both_hold a b (beside.1 (ap beside_in same)) (texts.1 (ap texts_in same)),
+  λ h. let both = and_parts a b h in ap₂ translated (beside.0 both.0) (texts.0 both.1),
+  λ same. and_from a b (beside.1 (ap beside_in same)) (texts.1 (ap texts_in same)),
 )

@@ -1,5 +1,5 @@
 -- Two lists of references name the same set of keys if each key that one of them names is named by the other.
-use Rattle.std.proofs.Common.{◌≡◌, ◌<◌, ◌+◌, ℕ, List, [], ◌∷◌, map, drop, length, get_or, Bool, true, false, true≢false, ◌||◌, is_eq, Option, Some, None, option_and_then, refl, sym, ap, ◌∙◌, subst}
+use Rattle.std.proofs.Common.{◌≡◌, ◌<◌, ◌+◌, ℕ, List, ◌∷◌, map, drop, length, get_or, Bool, true, false, true≢false, ◌||◌, is_eq, Option, Some, None, option_and_then, refl, sym, ap, ◌∙◌, subst}
 use Rattle.std.proofs.Math.Path.{fun_ext}
 use Rattle.std.proofs.lemmas.Cmp.{tied_itself}
 use Rattle.std.proofs.lemmas.List.{drop_more}
@@ -10,8 +10,6 @@ use Rattle.serde_json.specs.Find.{as_str}
 use Rattle.serde_json.specs.View.{view}
 use Rattle.serde_json.specs.declared.value.Value.{Value}
 use Rattle.erd_tables.specs.declared.class.Family.{Family}
-use Rattle.erd_check.proofs.Reasons.{and_true, both_true}
-use Rattle.erd_check.proofs.Rising.{Has, here, later}
 use Rattle.erd_meaning.proofs.Sets.{any-has, has-any}
 use Rattle.erd_meaning.specs.Keys.{key_cmp}
 use Rattle.erd_meaning.specs.Orders.{key_cmp_exact, key_cmp_total}
@@ -19,16 +17,7 @@ use Rattle.erd_meaning.specs.Records.{key_set}
 use Rattle.erd_meaning.specs.SelectionNames.{key_named, keys_named}
 use Rattle.erd_meaning.specs.declared.key.Key.{Key}
 use Rattle.erd_compare.specs.code.Comparing.{Decides}
-
--- ---- tests of all
-
-all-from : {A : Type 0} (test : A → Bool) (xs : List A) → ((x : A) → Has xs x → test x ≡ true) → list_all test xs ≡ true
-all-from test [] h = refl
-all-from test (x ∷ xs) h = both_true (test x) (list_all test xs) (h x here) (all-from test xs (λ y i. h y (later i)))
-
-has-all : {A : Type 0} (test : A → Bool) (xs : List A) (x : A) → list_all test xs ≡ true → Has xs x → test x ≡ true
-has-all test xs x all (here {xs = ys}) = (and_true (test x) (list_all test ys) all).0
-has-all test xs x all (later {y = y} {xs = ys} h) = has-all test ys x (and_true (test y) (list_all test ys) all).1 h
+use Rattle.erd_compare.proofs.same_values.JsonSets.{all_hold, each_holds, same_tests}
 
 -- ---- sets of keys
 
@@ -42,21 +31,16 @@ one_key k l e = key_cmp_exact k l ((Equal-is (key_cmp k l)).0 e)
 inside : (ks ls : List Key) → list_all (key_set ls) ks ≡ true → (k : Key) → key_set ks k ≡ true → key_set ls k ≡ true
 inside ks ls all k h =
     let x = has-any (λ l. is_eq (key_cmp l k)) ks h in
-    subst (λ l. key_set ls l ≡ true) (one_key x.0 k x.2) (has-all (key_set ls) ks x.0 all x.1)
-
-both_tests : (a b : Bool) → (a ≡ true → b ≡ true) → (b ≡ true → a ≡ true) → a ≡ b
-both_tests true b f g = sym (f refl)
-both_tests false true f g = g refl
-both_tests false false f g = refl
+    subst (λ l. key_set ls l ≡ true) (one_key x.0 k x.2) (each_holds (key_set ls) ks x.0 all x.1)
 
 -- equal sets
 same_sets : (ks ls : List Key) → list_all (key_set ls) ks ≡ true → list_all (key_set ks) ls ≡ true → key_set ks ≡ key_set ls
-same_sets ks ls a b = fun_ext (λ k. both_tests (key_set ks k) (key_set ls k) (inside ks ls a k) (inside ls ks b k))
+same_sets ks ls a b = fun_ext (λ k. same_tests (key_set ks k) (key_set ls k) (inside ks ls a k) (inside ls ks b k))
 
 -- each key of a list is of an equal set
 all_inside : (ks ls : List Key) → key_set ks ≡ key_set ls → list_all (key_set ls) ks ≡ true
 all_inside ks ls e =
-    all-from (key_set ls) ks (λ k h. sym (ap (λ (s : Key → Bool). s k) e) ∙ any-has (λ l. is_eq (key_cmp l k)) ks k h (tied_key k))
+    all_hold (key_set ls) ks (λ k h. sym (ap (λ (s : Key → Bool). s k) e) ∙ any-has (λ l. is_eq (key_cmp l k)) ks k h (tied_key k))
 
 pub decided_by_both : (ks ls : List Key) (a b : Bool) → a ≡ list_all (key_set ls) ks → a ≡ true → b ≡ list_all (key_set ks) ls → Decides b (key_set ks) (key_set ls)
 decided_by_both ks ls a b is holds other = (λ h. same_sets ks ls (sym is ∙ holds) (sym other ∙ h), λ e. other ∙ all_inside ls ks (sym e))
@@ -74,7 +58,7 @@ values_left vs i v low is = ap (map view) (drop_more vs i v low ∙ ap (λ w. w 
 set-cons : (o : Option Key) (ks : List Key) (k : Key) (b : Bool) → Decides b o (Some k) → key_set (cons_option o ks) k ≡ b || key_set ks k
 set-cons None ks k true d = let none : None ≡ Some k = d.0 refl in cc
 set-cons None ks k false d = refl
-set-cons (Some l) ks k b d = ap (λ a. a || key_set ks k) (both_tests (is_eq (key_cmp l k)) b to from)
+set-cons (Some l) ks k b d = ap (λ a. a || key_set ks k) (same_tests (is_eq (key_cmp l k)) b to from)
   where
     to : is_eq (key_cmp l k) ≡ true → b ≡ true
     to h = d.1 (ap Some (one_key l k h))

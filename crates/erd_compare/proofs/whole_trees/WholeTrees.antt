@@ -1,5 +1,6 @@
 -- Whole trees: their members and entries are whole trees, and equality as JSON decides equality on them.
-use Rattle.std.proofs.Common.{◌≡◌, ◌<◌, ℕ, zero, suc, pos, List, [], ◌∷◌, Bool, true, false, ◌&&◌, ◌||◌, Option, Some, None, map, length, get_or, refl, sym, subst, arith}
+use Rattle.std.proofs.Common.{◌≡◌, ◌<◌, ℕ, zero, suc, pos, List, [], ◌∷◌, Bool, true, false, ◌&&◌, Option, Some, None, map, length, get_or, refl, sym, subst, arith}
+use Rattle.std.proofs.lemmas.Bool.{and_from, or_parts}
 use Rattle.std.proofs.lemmas.Bool.Decides.{Decides-int_eq}
 use Rattle.std.specs.List.{AllByRecursion}
 use Rattle.std.specs.Option.{option_map_or}
@@ -18,11 +19,6 @@ use Rattle.erd_compare.specs.code.Comparing.{Decides, IsWholeTree}
 -- values that are whole trees
 abbrev pub AreWholeTrees : List Data → Type 0
 AreWholeTrees ds = AllByRecursion IsWholeTree ds
-
--- two tests of which none holds
-neither : (a b : Bool) → a || b ≡ false → (a ≡ false) × (b ≡ false)
-neither true b e = cc
-neither false b e = (refl, e)
 
 -- ---- members
 
@@ -45,7 +41,7 @@ whole_tree-get name d v h e = record { is_tree = get-tree name d v h.is_tree e; 
 whole_trees-items : (ds : Items) → AreTrees ds → items_have_float ds ≡ false → AreWholeTrees (list_of_items ds)
 whole_trees-items no_items trees h = tt
 whole_trees-items (item d ds) trees h =
-    let both = neither (has_float d) (items_have_float ds) h in
+    let both = or_parts (has_float d) (items_have_float ds) h in
     (record { is_tree = trees.0; whole = both.0 }, whole_trees-items ds trees.1 both.1)
 
 -- the entries of a whole tree are whole trees
@@ -102,11 +98,6 @@ number_itself (unsigned n) h = (Decides-int_eq (pos n) (pos n)).1 refl
 number_itself (negative z) h = (Decides-int_eq z z).1 refl
 number_itself (float x) h = cc
 
--- two tests that hold
-both : (a b : Bool) → a ≡ true → b ≡ true → a && b ≡ true
-both true b e f = f
-both false b e f = cc
-
 mutual
   -- a value that holds no fraction is equal to itself
   itself : (d : Data) → has_float d ≡ false → is_same_json d d ≡ true
@@ -121,15 +112,15 @@ mutual
   items_themselves : (ds : Items) → items_have_float ds ≡ false → are_same_items ds ds ≡ true
   items_themselves no_items h = refl
   items_themselves (item d ds) h =
-      let parts = neither (has_float d) (items_have_float ds) h in
-      both (is_same_json d d) (are_same_items ds ds) (itself d parts.0) (items_themselves ds parts.1)
+      let parts = or_parts (has_float d) (items_have_float ds) h in
+      and_from (is_same_json d d) (are_same_items ds ds) (itself d parts.0) (items_themselves ds parts.1)
 
   -- members that hold no fraction are equal to themselves
   pub members_themselves : (ms : Members) → members_have_float ms ≡ false → are_same_members ms ms ≡ true
   members_themselves no_members h = refl
   members_themselves (member k d ms) h =
-      let parts = neither (has_float d) (members_have_float ms) h in
-      both _ (is_same_json d d && are_same_members ms ms) (text_itself k) (both (is_same_json d d) (are_same_members ms ms) (itself d parts.0) (members_themselves ms parts.1))
+      let parts = or_parts (has_float d) (members_have_float ms) h in
+      and_from _ (is_same_json d d && are_same_members ms ms) (text_itself k) (and_from (is_same_json d d) (are_same_members ms ms) (itself d parts.0) (members_themselves ms parts.1))
 
 -- a whole tree is equal to itself as JSON
 pub whole_tree-itself : (d : Data) → IsWholeTree d → is_same_json d d ≡ true

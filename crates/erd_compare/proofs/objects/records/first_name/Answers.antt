@@ -1,5 +1,5 @@
 -- The names are passed by as long as the members agree; the first at which they do not is the least, since names rise.
-use Rattle.std.proofs.Common.{◌≡◌, List, ◌∷◌, Some, true, true≢false, sym, ap, ◌∙◌, subst}
+use Rattle.std.proofs.Common.{◌≡◌, List, Some, true≢false, sym, ap, ◌∙◌, subst}
 use Rattle.serde_json.specs.View.{members_view, view}
 use Rattle.serde_json.proofs.Views.{Entry}
 use Rattle.erd_check.specs.Trees.{AreMembers}

@@ -1,4 +1,4 @@
-use Rattle.std.proofs.Common.{map, sym, ◌∙◌}
+use Rattle.std.proofs.Common.{map, sym}
 use Rattle.serde_json.specs.View.{view}
 use Rattle.erd_compare.proofs.same_selections.FoundNames.{ones_alone, others_alone}
 use Rattle.erd_compare.proofs.objects.selections.is_same_at.Goals as goal

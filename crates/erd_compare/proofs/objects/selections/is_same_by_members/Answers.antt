@@ -1,4 +1,3 @@
-use Rattle.std.proofs.Common.{sym, ◌∙◌}
 use Rattle.serde_json.specs.View.{view}
 use Rattle.erd_compare.proofs.same_selections.SameSelections.{agree_at_names, same_members}
 use Rattle.erd_compare.proofs.objects.selections.is_same_by_members.Goals as goal
