@@ -17,7 +17,7 @@ use Rattle.erd_meaning.specs.Records.{meaning, object_record}
 use Rattle.erd_meaning.specs.declared.key.Key.{Key}
 use Rattle.erd_compare.specs.code.Comparing.{TellsPart}
 use Rattle.erd_compare.specs.Differences.{Differ, record_at, record_with_key, record_without_key}
-use Rattle.erd_compare.specs.code.KeyedDifferences.{IsComparable, TellsKeyed, TellsWhole, family_of_part}
+use Rattle.erd_compare.specs.code.KeyedDifferences.{IsComparable, TellsKeyed, TellsKeyless, family_of_part}
 use Rattle.erd_compare.specs.declared.difference.Difference.{Difference}
 use Rattle.erd_compare.specs.declared.difference.How.{How}
 use Rattle.erd_compare.specs.declared.difference.Part.{Part}
@@ -65,20 +65,20 @@ none_below None less = cc
 none_below (Some k) less = cc
 
 -- at a part without keys
-whole_told : (m n : Meaning) (p : Part) (a b : Option ObjectRecord) → ((k : Option Key) → record_at m p k ≡ record_without_key a k) → ((k : Option Key) → record_at n p k ≡ record_without_key b k)
-    → (result : Option Difference) → TellsWhole a b p result → TellsPart m n p result
-whole_told m n p a b left right None h = λ k. left k ∙ (ap (λ x. record_without_key x k) h ∙ sym (right k))
-whole_told m n p a b left right (Some d) h = record {
+keyless_told : (m n : Meaning) (p : Part) (a b : Option ObjectRecord) → ((k : Option Key) → record_at m p k ≡ record_without_key a k) → ((k : Option Key) → record_at n p k ≡ record_without_key b k)
+    → (result : Option Difference) → TellsKeyless a b p result → TellsPart m n p result
+keyless_told m n p a b left right None h = λ k. left k ∙ (ap (λ x. record_without_key x k) h ∙ sym (right k))
+keyless_told m n p a b left right (Some d) h = record {
   its_part = h.its_part;
   differ = differ_along (record_at m p d.key) (record_at n p d.key) a b d.how (ap (record_at m p) h.keyless ∙ left None) (ap (record_at n p) h.keyless ∙ right None) h.differ;
   least = λ k less. absurd (none_below k (subst (λ x. option_cmp key_cmp k x ≡ Less) h.keyless less));
 }
 
 pub report_told : (t u d e : Data) (p : Part) → d ≡ t → e ≡ u → p ≡ part.Report → (result : Option Difference)
-    → TellsWhole (object_record t role.Report d) (object_record u role.Report e) p result → TellsPart (meaning t) (meaning u) p result
+    → TellsKeyless (object_record t role.Report d) (object_record u role.Report e) p result → TellsPart (meaning t) (meaning u) p result
 report_told t u d e p left right is result =
-    subst (λ q. TellsWhole (object_record t role.Report d) (object_record u role.Report e) q result → TellsPart (meaning t) (meaning u) q result) (sym is)
-    (whole_told (meaning t) (meaning u) part.Report (object_record t role.Report d) (object_record u role.Report e)
+    subst (λ q. TellsKeyless (object_record t role.Report d) (object_record u role.Report e) q result → TellsPart (meaning t) (meaning u) q result) (sym is)
+    (keyless_told (meaning t) (meaning u) part.Report (object_record t role.Report d) (object_record u role.Report e)
     (λ k. ap (λ x. record_without_key (object_record t role.Report x) k) (sym left)) (λ k. ap (λ x. record_without_key (object_record u role.Report x) k) (sym right)) result)
 
 -- the election is the only one
@@ -90,10 +90,10 @@ election_record t d is = at (elections t) is
     at (o ∷ os) e = let same : o.value ≡ d = cc in ap (object_record t role.Election) same
 
 pub election_told : (t u d e : Data) (p : Part) → map (λ o. o.value) (elections t) ≡ d ∷ [] → map (λ o. o.value) (elections u) ≡ e ∷ [] → p ≡ part.Election → (result : Option Difference)
-    → TellsWhole (object_record t role.Election d) (object_record u role.Election e) p result → TellsPart (meaning t) (meaning u) p result
+    → TellsKeyless (object_record t role.Election d) (object_record u role.Election e) p result → TellsPart (meaning t) (meaning u) p result
 election_told t u d e p left right is result =
-    subst (λ q. TellsWhole (object_record t role.Election d) (object_record u role.Election e) q result → TellsPart (meaning t) (meaning u) q result) (sym is)
-    (whole_told (meaning t) (meaning u) part.Election (object_record t role.Election d) (object_record u role.Election e)
+    subst (λ q. TellsKeyless (object_record t role.Election d) (object_record u role.Election e) q result → TellsPart (meaning t) (meaning u) q result) (sym is)
+    (keyless_told (meaning t) (meaning u) part.Election (object_record t role.Election d) (object_record u role.Election e)
     (λ k. ap (λ r. record_without_key r k) (election_record t d left)) (λ k. ap (λ r. record_without_key r k) (election_record u e right)) result)
 
 -- a part of no family that is not the election is the report

@@ -72,15 +72,15 @@ lesser_difference (Some one) other = if is_lt (key_cmp one.key.now other.key.now
 -- ---- told by part
 
 -- the difference has this part and no key
-pub record DifferWhole (a b : Option ObjectRecord) (part : Part) (d : Difference) : Type 0 where
+pub record DifferKeyless (a b : Option ObjectRecord) (part : Part) (d : Difference) : Type 0 where
   pub its_part : d.part ≡ part
   pub keyless : d.key ≡ None
   pub differ : Differ a b d.how
 
 -- how two records differ at a part without keys
-abbrev pub TellsWhole : Option ObjectRecord → Option ObjectRecord → Part → Option Difference → Type 0
-TellsWhole a b whole None = a ≡ b
-TellsWhole a b whole (Some d) = DifferWhole a b whole d
+abbrev pub TellsKeyless : Option ObjectRecord → Option ObjectRecord → Part → Option Difference → Type 0
+TellsKeyless a b p None = a ≡ b
+TellsKeyless a b p (Some d) = DifferKeyless a b p d
 
 -- the difference has this part, and the least key at which the maps differ
 pub record DifferKeyed (m n : Key → Option ObjectRecord) (part : Part) (d : Difference) : Type 0 where
@@ -91,5 +91,5 @@ pub record DifferKeyed (m n : Key → Option ObjectRecord) (part : Part) (d : Di
 
 -- how two maps differ at a part
 abbrev pub TellsKeyed : (Key → Option ObjectRecord) → (Key → Option ObjectRecord) → Part → Option Difference → Type 0
-TellsKeyed m n keyed None = (k : Key) → m k ≡ n k
-TellsKeyed m n keyed (Some d) = DifferKeyed m n keyed d
+TellsKeyed m n p None = (k : Key) → m k ≡ n k
+TellsKeyed m n p (Some d) = DifferKeyed m n p d

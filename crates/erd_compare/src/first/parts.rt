@@ -2,7 +2,7 @@ ghost use Rattle.std.specs.Prelude.{◌≡◌, IfOk};
 ghost use Rattle.serde_json.specs.View.{view};
 ghost use Rattle.erd_meaning.specs.Records.{meaning, object_record};
 ghost use Rattle.erd_compare.specs.code.Comparing.{IsWholeTree, TellsPart};
-ghost use Rattle.erd_compare.specs.code.KeyedDifferences.{family_of_part, TellsWhole};
+ghost use Rattle.erd_compare.specs.code.KeyedDifferences.{family_of_part, TellsKeyless};
 
 use crate::difference::{Difference, How, Part};
 use crate::first::families::family_difference;
@@ -29,9 +29,9 @@ pub(crate) fn part_difference(
             Part::Election => {
                 let one = sides.left.election();
                 let other = sides.right.election();
-                whole_difference(alloc, sides, part, Role::Election, one, other)
+                keyless_difference(alloc, sides, part, Role::Election, one, other)
             }
-            _ => whole_difference(alloc, sides, part, Role::Report, one, other),
+            _ => keyless_difference(alloc, sides, part, Role::Report, one, other),
         },
     }
 }
@@ -54,7 +54,7 @@ fn family_of(part: Part) -> Option<Family>
 }
 
 /// How two objects without keys differ, as a difference at their part.
-fn whole_difference(
+fn keyless_difference(
     alloc: Global,
     sides: Sides,
     part: Part,
@@ -64,7 +64,7 @@ fn whole_difference(
 ) -> Result<Option<Difference>, AllocError>
     requires one { IsWholeTree (view one.now) }
     requires other { IsWholeTree (view other.now) }
-    ensures { IfOk result (TellsWhole (object_record (view sides.entry.left.now) role (view one.now)) (object_record (view sides.entry.right.now) role (view other.now)) part) }
+    ensures { IfOk result (TellsKeyless (object_record (view sides.entry.left.now) role (view one.now)) (object_record (view sides.entry.right.now) role (view other.now)) part) }
 {
     match object_difference(alloc, sides, role, one, other)? {
         Some(how) => Ok(Some(Difference {

@@ -14,8 +14,44 @@ use erd_check::values::{entries_of, is_empty_array};
 use erd_tables::{Class, MemberKind, is_envelope, member_kind};
 use serde_json::Value;
 
+/// Whether members of one name, of two objects of one class, mean the same by themselves, which is without the objects that
+/// stand in them.
+pub(crate) fn is_same_plain_member(
+    sides: Sides,
+    class: Class,
+    name: &str,
+    one: &Value,
+    other: &Value,
+) -> bool
+    requires one { IsWholeTree (view one.now) }
+    requires other { IsWholeTree (view other.now) }
+    ensures { Decides result (plain_member (view sides.entry.left.now) (view one.now) class name.now)
+        (plain_member (view sides.entry.right.now) (view other.now) class name.now) }
+{
+    if is_in_envelope(class, name) {
+        return true;
+    }
+    let kind = member_kind(class, name);
+    match (one.get(name), other.get(name)) {
+        (Some(one), Some(other)) => is_same_plain(sides, kind, one, other),
+        (Some(one), None) => means_nothing(kind, one),
+        (None, Some(other)) => means_nothing(kind, other),
+        (None, None) => true,
+    }
+}
+
+/// Whether members of this name, of objects of the class, are no part of what a report means.
+fn is_in_envelope(class: Class, name: &str) -> bool
+    ensures { result ≡ is_in_envelope class name.now }
+{
+    match class {
+        Class::ElectionReport => is_envelope(name),
+        _ => false,
+    }
+}
+
 /// Whether two values of members of one kind mean the same by themselves.
-pub(crate) fn is_same_plain(sides: Sides, kind: MemberKind, one: &Value, other: &Value) -> bool
+fn is_same_plain(sides: Sides, kind: MemberKind, one: &Value, other: &Value) -> bool
     requires one { IsWholeTree (view one.now) }
     requires other { IsWholeTree (view other.now) }
     requires keyed { NamesKeys kind }
@@ -72,40 +108,5 @@ fn means_nothing(kind: MemberKind, value: &Value) -> bool
         | MemberKind::Languages
         | MemberKind::Content => is_empty_array(value),
         _ => true,
-    }
-}
-
-/// Whether members of one name, of two objects of one class, mean the same by themselves.
-pub(crate) fn is_same_plain_member(
-    sides: Sides,
-    class: Class,
-    name: &str,
-    one: &Value,
-    other: &Value,
-) -> bool
-    requires one { IsWholeTree (view one.now) }
-    requires other { IsWholeTree (view other.now) }
-    ensures { Decides result (plain_member (view sides.entry.left.now) (view one.now) class name.now)
-        (plain_member (view sides.entry.right.now) (view other.now) class name.now) }
-{
-    if is_in_envelope(class, name) {
-        return true;
-    }
-    let kind = member_kind(class, name);
-    match (one.get(name), other.get(name)) {
-        (Some(one), Some(other)) => is_same_plain(sides, kind, one, other),
-        (Some(one), None) => means_nothing(kind, one),
-        (None, Some(other)) => means_nothing(kind, other),
-        (None, None) => true,
-    }
-}
-
-/// Whether members of this name, of objects of the class, are no part of what a report means.
-fn is_in_envelope(class: Class, name: &str) -> bool
-    ensures { result ≡ is_in_envelope class name.now }
-{
-    match class {
-        Class::ElectionReport => is_envelope(name),
-        _ => false,
     }
 }

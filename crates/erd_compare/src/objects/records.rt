@@ -53,8 +53,8 @@ fn member_difference(
     ensures { IfOk result (TellsHow (Some (record_of_class (view sides.entry.left.now) class (view one.now)))
         (Some (record_of_class (view sides.entry.right.now) class (view other.now)))) }
 {
-    let first = first_name(alloc, sides, class, one, one, other)?;
-    let second = first_name(alloc, sides, class, other, one, other)?;
+    let first = first_differing_name(alloc, sides, class, one, one, other)?;
+    let second = first_differing_name(alloc, sides, class, other, one, other)?;
     match lesser_name(first, second) {
         Some(name) => {
             let name = String::from_str(alloc, name)?;
@@ -65,7 +65,7 @@ fn member_difference(
 }
 
 /// The first of the names of a value, in their order, at which the members of two objects of one class differ.
-fn first_name<'a>(
+fn first_differing_name<'a>(
     alloc: Global,
     sides: Sides,
     class: Class,
@@ -103,7 +103,7 @@ fn lesser_name<'a>(one: Option<&'a str>, other: Option<&'a str>) -> Option<&'a s
 }
 
 /// Whether members of one name, of two objects of one class, mean the same.
-pub(crate) fn is_same_member(
+fn is_same_member(
     alloc: Global,
     sides: Sides,
     class: Class,

@@ -11,12 +11,12 @@ use erd_tables::{Class, MemberKind, member_kind};
 use serde_json::{Map, Value};
 use std::collections::btree_map::Iter;
 
-/// Which members of an object are compared.
+/// Which members of an object are compared as JSON, one after another.
 #[derive(Clone, Copy)]
 pub(crate) enum Choice {
     /// Those of a label beside its class and its translations.
     BesideText,
-    /// Those that an object of the class carries.
+    /// Those that an object of the class carries: members of no other kind, which mean what stands there.
     Carried(Option<Class>),
 }
 

@@ -4,7 +4,7 @@ use Rattle.serde_json.specs.View.{view, members_view}
 use Rattle.erd_check.specs.Trees.{AreMembers}
 use Rattle.erd_meaning.specs.Records.{member_of_class}
 use Rattle.erd_compare.specs.code.LeastNames.{TellsAmongNames}
-use Rattle.erd_compare.proofs.objects.records.first_name.Given as goal
+use Rattle.erd_compare.proofs.objects.records.first_differing_name.Given as goal
 
 abbrev pub invariant-loop-name : goal.invariant-loop-name
 invariant-loop-name l = record {

@@ -6,7 +6,7 @@ use Rattle.erd_check.specs.Trees.{AreMembers}
 use Rattle.erd_meaning.specs.Records.{member_of_class}
 use Rattle.erd_compare.specs.code.LeastNames.{MemberMap, TellsAmongNames}
 use Rattle.erd_compare.proofs.least_difference.LesserNames.{TellsOfAll, all-left, entries-rise, none-left, one-found, one-passed}
-use Rattle.erd_compare.proofs.objects.records.first_name.Goals as goal
+use Rattle.erd_compare.proofs.objects.records.first_differing_name.Goals as goal
 
 pub loop-name-init : goal.loop-name-init
 loop-name-init c =
