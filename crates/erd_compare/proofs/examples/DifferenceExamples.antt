@@ -1,14 +1,15 @@
 -- Differences of the small ballot and edits of it, and the lines that tell them, by computation.
-use Rattle.std.proofs.Common.{◌≡◌, ℕ, List, [], ◌∷◌, ◌++◌, Option, Some, None, map, codes, Bool, true, false, refl}
+use Rattle.std.proofs.Common.{◌≡◌, ℕ, List, [], ◌∷◌, ◌++◌, Option, Some, None, map, codes, true, false, refl}
 use Rattle.std.specs.Prelude.{option_map, is_some}
 use Rattle.std.specs.declared.cmp.Ordering.TheVariants.{Less}
 use Rattle.serde_json.proofs.OnLiterals.{serde_json_on_literals}
 use Rattle.erd_tables.specs.declared.class.Class.TheVariants as class
 use Rattle.erd_check.proofs.Reports.{tree_of, small_ballot, small_ballot_with, header_node, contest_node}
-use Rattle.erd_meaning.specs.Meaning.{Content, first_node, a_header, a_content, MemberValue, a_plain, ObjectRecord, Meaning}
+use Rattle.erd_meaning.specs.Meaning.{MemberValue, ObjectRecord, Meaning}
 use Rattle.erd_meaning.specs.Records.{meaning}
 use Rattle.erd_meaning.specs.declared.key.Key.{Key}
 use Rattle.erd_meaning.proofs.RecordExamples.{local_key}
+use Rattle.erd_compare.proofs.examples.OrderExamples.{begins_with_header}
 use Rattle.erd_compare.specs.DifferenceLine.{difference_line}
 use Rattle.erd_compare.specs.Differences.{record_at, part_cmp, Differ}
 use Rattle.erd_compare.specs.declared.difference.Difference.{Difference}
@@ -46,20 +47,12 @@ right = meaning (tree_of (small_ballot_with (codes "K3") (contest_node ++ codes 
 abbrev members_at : Meaning → Part → Key → List (List ℕ) → Option (List (Option MemberValue))
 members_at m p k names = option_map (λ r. map (λ name. r.members name) names) (record_at m p (Some k))
 
-abbrev begins_with_header : Content → Bool
-begins_with_header (first_node (a_header k c carried) rest) = true
-begins_with_header c = false
-
-abbrev header_first : Option MemberValue → Bool
-header_first (Some (a_plain (a_content c))) = begins_with_header c
-header_first v = false
-
 -- the style is of one class and has the same identifiers, parties and units; its content begins with the header, and then with the contest
 other_order : (let k = local_key (codes "S1") in
     (option_map (λ r. r.class) (record_at left part.Style (Some k)) ≡ option_map (λ r. r.class) (record_at right part.Style (Some k)))
     × (members_at left part.Style k (codes "@type" ∷ codes "ExternalIdentifier" ∷ codes "GpUnitIds" ∷ codes "PartyIds" ∷ []) ≡ members_at right part.Style k (codes "@type" ∷ codes "ExternalIdentifier" ∷ codes "GpUnitIds" ∷ codes "PartyIds" ∷ []))
-    × (option_map (λ r. header_first (r.members (codes "OrderedContent"))) (record_at left part.Style (Some k)) ≡ Some true)
-    × (option_map (λ r. header_first (r.members (codes "OrderedContent"))) (record_at right part.Style (Some k)) ≡ Some false))
+    × (option_map (λ r. begins_with_header (r.members (codes "OrderedContent"))) (record_at left part.Style (Some k)) ≡ Some true)
+    × (option_map (λ r. begins_with_header (r.members (codes "OrderedContent"))) (record_at right part.Style (Some k)) ≡ Some false))
 unfolding serde_json_on_literals
 other_order = (refl, refl, refl, refl)
 

@@ -36,7 +36,8 @@ style t = unwrap_or (object_with_key t family.Style style_key) null
 abbrev style_member : Data → List ℕ → Option MemberValue
 style_member t = member_of_class t (style t) class.BallotStyle
 
-abbrev begins_with_header : Option MemberValue → Bool
+-- whether a member is an order that begins with a header
+abbrev pub begins_with_header : Option MemberValue → Bool
 begins_with_header (Some (a_plain (a_content (first_node (a_header k c carried) rest)))) = true
 begins_with_header v = false
 

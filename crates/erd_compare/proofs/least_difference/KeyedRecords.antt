@@ -1,5 +1,5 @@
 -- The object of a family with a key, and its record: each object of an accepted report has a record, and no two have one key.
-use Rattle.std.proofs.Common.{◌≡◌, ℕ, suc, ◌⊎◌, inl, inr, List, [], ◌∷◌, true, Option, Some, None, option_and_then, option_map, find, refl, sym, ap, ◌∙◌, subst}
+use Rattle.std.proofs.Common.{◌≡◌, ℕ, ◌⊎◌, inl, inr, true, Option, Some, None, option_and_then, option_map, find, refl, sym, ap, ◌∙◌, subst}
 use Rattle.std.specs.Cmp.{Equal-is}
 use Rattle.std.specs.List.{slice_get}
 use Rattle.std.specs.Option.{option_cmp}
@@ -14,7 +14,7 @@ use Rattle.erd_check.specs.Wants.{asked, class_of_object}
 use Rattle.erd_check.specs.declared.want.Want.TheVariants.{Object}
 use Rattle.erd_check.proofs.ObjectsAt.{ObjectIn, object_in}
 use Rattle.erd_check.proofs.Order.{any_at}
-use Rattle.erd_check.proofs.Rising.{Has, Has-cases}
+use Rattle.erd_check.proofs.Rising.{Has}
 use Rattle.erd_check.proofs.Shapes.{Within}
 use Rattle.erd_meaning.specs.Keys.{has_keys, key_cmp, key_of, kept_key}
 use Rattle.erd_meaning.specs.Lookups.{key_in}
@@ -33,18 +33,8 @@ use Rattle.erd_compare.specs.code.Comparing.{IsWholeTree}
 use Rattle.erd_compare.specs.Differences.{Differ}
 use Rattle.erd_compare.specs.code.KeyedDifferences.{HasKey, IsComparable}
 use Rattle.erd_compare.specs.declared.difference.How.TheVariants.{OnlyLeft, OnlyRight}
+use Rattle.erd_compare.proofs.same_values.ReferencedKeys.{position_of}
 use Rattle.erd_compare.proofs.whole_trees.FamilyTrees.{whole_object}
-
--- ---- positions in lists
-
--- an entry of a list stands at a position
-position_of : {A : Type 0} (xs : List A) (x : A) → Has xs x → (i : ℕ) × (slice_get xs i ≡ Some x)
-position_of [] x h = elim h [ ]
-position_of (y ∷ ys) x h = at (Has-cases y x ys h) (position_of ys x)
-  where
-    at : (y ≡ x) ⊎ Has ys x → (Has ys x → (i : ℕ) × (slice_get ys i ≡ Some x)) → (i : ℕ) × (slice_get (y ∷ ys) i ≡ Some x)
-    at (inl e) rest = (0, ap Some e)
-    at (inr h) rest = let r = rest h in (suc r.0, r.1)
 
 -- what is made of a value
 part_of : {A B : Type 0} (g : A → Option B) (o : Option A) (b : B) → option_and_then g o ≡ Some b → (a : A) × (o ≡ Some a) × (g a ≡ Some b)

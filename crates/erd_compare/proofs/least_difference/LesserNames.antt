@@ -1,5 +1,5 @@
 -- The least name at which two objects of one class differ is the lesser of the two found among their names.
-use Rattle.std.proofs.Common.{◌≡◌, ◌≢◌, List, [], ◌∷◌, ℕ, String, Global, string_bytes, Bool, true, false, cond, Option, Some, None, option_map, option_and_then, Ordering, Less, Equal, Greater, refl, sym, ap, ◌∙◌, subst}
+use Rattle.std.proofs.Common.{◌≡◌, ◌≢◌, List, [], ◌∷◌, ℕ, String, Global, string_bytes, cond, Option, Some, None, option_map, Ordering, Less, Equal, Greater, refl, sym, ap, ◌∙◌, subst}
 use Rattle.std.proofs.Math.Path.{fun_ext}
 use Rattle.std.proofs.lemmas.Cmp.{nat_list_cmp_total}
 use Rattle.std.proofs.lemmas.Map.Lookups.{exact_bytes}
@@ -9,17 +9,16 @@ use Rattle.serde_json.specs.Find.{as_object, get, get_member}
 use Rattle.serde_json.specs.View.{members_view, view}
 use Rattle.serde_json.specs.declared.value.Value.{Value}
 use Rattle.serde_json.proofs.Views.{Entry}
-use Rattle.erd_tables.specs.Table.{kind_of_member}
 use Rattle.erd_tables.specs.Texts.{text_cmp}
 use Rattle.erd_tables.specs.declared.class.Class.{Class}
 use Rattle.erd_check.specs.Trees.{IsTree, AreMembers}
 use Rattle.erd_check.proofs.Members.{get_member-before}
-use Rattle.erd_meaning.specs.Meaning.{PlainValue, MemberValue, ObjectRecord}
-use Rattle.erd_meaning.specs.Records.{is_in_envelope, member_of_class, member_value, plain_value}
+use Rattle.erd_meaning.specs.Meaning.{ObjectRecord}
+use Rattle.erd_meaning.specs.Records.{member_of_class}
+use Rattle.erd_meaning.proofs.WholeRecords.{absent_member}
 use Rattle.erd_compare.specs.code.Comparing.{TellsHow}
 use Rattle.erd_compare.specs.code.LeastNames.{MemberMap, TellsAmongNames, lesser_name, record_of_class}
 use Rattle.erd_compare.specs.declared.difference.How.TheVariants.{Member}
-use Rattle.erd_compare.proofs.same_selections.MemberValues.{absent-value}
 
 -- ---- the names of one object, in their order
 
@@ -87,17 +86,6 @@ none-left m n d es end all = subst (TellsOfAll m n d) end all None (λ k v e. cc
 
 -- ---- the names of both
 
--- a member that an object does not have means nothing
-absent-member : (t d : Data) (c : Class) (k : List ℕ) → get k d ≡ None → member_of_class t d c k ≡ None
-absent-member t d c k e = ap meant e ∙ ap (member_value t (kind_of_member c k) None) (nothing (is_in_envelope c k) None) ∙ absent-value t (kind_of_member c k)
-  where
-    meant : Option Data → Option MemberValue
-    meant o = member_value t (kind_of_member c k) o (cond (is_in_envelope c k) None (option_and_then (plain_value t (kind_of_member c k)) o))
-
-    nothing : (b : Bool) (o : Option PlainValue) → cond b o o ≡ o
-    nothing true o = refl
-    nothing false o = refl
-
 -- two objects agree at a name if they do so where either has it
 agree-at : (t u d e : Data) (c : Class) (k : List ℕ) → ((v : Data) → get k d ≡ Some v → member_of_class t d c k ≡ member_of_class u e c k)
     → ((v : Data) → get k e ≡ Some v → member_of_class t d c k ≡ member_of_class u e c k) → member_of_class t d c k ≡ member_of_class u e c k
@@ -106,7 +94,7 @@ agree-at t u d e c k left right = at (get k d) (get k e) refl refl
     at : (o p : Option Data) → get k d ≡ o → get k e ≡ p → member_of_class t d c k ≡ member_of_class u e c k
     at (Some v) p here there = left v here
     at None (Some v) here there = right v there
-    at None None here there = absent-member t d c k here ∙ sym (absent-member u e c k there)
+    at None None here there = absent_member t d c k here ∙ sym (absent_member u e c k there)
 
 -- the lesser of the two names is the least at which two objects of one class differ
 pub least-told : (t u d e : Data) (c : Class) (first second : Option (List ℕ)) → TellsAmongNames (member_of_class t d c) (member_of_class u e c) d first → TellsAmongNames (member_of_class t d c) (member_of_class u e c) e second

@@ -74,8 +74,3 @@ pub other_kind-Decides : (answer : Bool) (t u : Data) (k : MemberKind) (found ot
     → Decides answer p q → Decides answer (member_value t k found p) (member_value u k other q)
 other_kind-Decides answer t u (kind.Keyed family.Selection) found other p q is h = cc
 other_kind-Decides answer t u k found other p q is h = plain-Decides answer p q h
-
--- a member that an object does not have means nothing
-pub absent-value : (t : Data) (k : MemberKind) → member_value t k None None ≡ None
-absent-value t (kind.Keyed family.Selection) = refl
-absent-value t k = refl

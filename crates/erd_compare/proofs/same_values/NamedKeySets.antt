@@ -3,16 +3,16 @@ use Rattle.std.proofs.Common.{◌≡◌, ◌<◌, ◌+◌, ℕ, List, ◌∷◌,
 use Rattle.std.proofs.Math.Path.{fun_ext}
 use Rattle.std.proofs.lemmas.Cmp.{tied_itself}
 use Rattle.std.proofs.lemmas.List.{drop_more}
-use Rattle.std.specs.Cmp.{Equal-is}
 use Rattle.std.specs.List.{cons_option, list_all}
 use Rattle.serde_json.specs.Data.{Data}
 use Rattle.serde_json.specs.Find.{as_str}
 use Rattle.serde_json.specs.View.{view}
 use Rattle.serde_json.specs.declared.value.Value.{Value}
 use Rattle.erd_tables.specs.declared.class.Family.{Family}
+use Rattle.erd_meaning.proofs.EqualNames.{equal_keys}
 use Rattle.erd_meaning.proofs.Sets.{any-has, has-any}
 use Rattle.erd_meaning.specs.Keys.{key_cmp}
-use Rattle.erd_meaning.specs.Orders.{key_cmp_exact, key_cmp_total}
+use Rattle.erd_meaning.specs.Orders.{key_cmp_total}
 use Rattle.erd_meaning.specs.Records.{key_set}
 use Rattle.erd_meaning.specs.SelectionNames.{key_named, keys_named}
 use Rattle.erd_meaning.specs.declared.key.Key.{Key}
@@ -24,14 +24,11 @@ use Rattle.erd_compare.proofs.same_values.JsonSets.{all_hold, each_holds, same_t
 tied_key : (k : Key) → is_eq (key_cmp k k) ≡ true
 tied_key k = ap is_eq (tied_itself key_cmp_total k)
 
-one_key : (k l : Key) → is_eq (key_cmp k l) ≡ true → k ≡ l
-one_key k l e = key_cmp_exact k l ((Equal-is (key_cmp k l)).0 e)
-
 -- a key of the set is one of the other
 inside : (ks ls : List Key) → list_all (key_set ls) ks ≡ true → (k : Key) → key_set ks k ≡ true → key_set ls k ≡ true
 inside ks ls all k h =
     let x = has-any (λ l. is_eq (key_cmp l k)) ks h in
-    subst (λ l. key_set ls l ≡ true) (one_key x.0 k x.2) (each_holds (key_set ls) ks x.0 all x.1)
+    subst (λ l. key_set ls l ≡ true) (equal_keys x.0 k x.2) (each_holds (key_set ls) ks x.0 all x.1)
 
 -- equal sets
 same_sets : (ks ls : List Key) → list_all (key_set ls) ks ≡ true → list_all (key_set ks) ls ≡ true → key_set ks ≡ key_set ls
@@ -61,7 +58,7 @@ set-cons None ks k false d = refl
 set-cons (Some l) ks k b d = ap (λ a. a || key_set ks k) (same_tests (is_eq (key_cmp l k)) b to from)
   where
     to : is_eq (key_cmp l k) ≡ true → b ≡ true
-    to h = d.1 (ap Some (one_key l k h))
+    to h = d.1 (ap Some (equal_keys l k h))
 
     from : b ≡ true → is_eq (key_cmp l k) ≡ true
     from h = let same : Some l ≡ Some k = d.0 h in let one : l ≡ k = cc in ap (λ x. is_eq (key_cmp x k)) one ∙ tied_key k

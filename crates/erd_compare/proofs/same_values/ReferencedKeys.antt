@@ -23,7 +23,8 @@ has_at [] i x e = cc
 has_at (y ∷ ys) zero x e = let same : y ≡ x = cc in subst (Has (y ∷ ys)) same here
 has_at (y ∷ ys) (suc i) x e = later (has_at ys i x e)
 
-position_of : {A : Type 0} (xs : List A) (x : A) → Has xs x → (i : ℕ) × (slice_get xs i ≡ Some x)
+-- an entry of a list stands at a position
+pub position_of : {A : Type 0} (xs : List A) (x : A) → Has xs x → (i : ℕ) × (slice_get xs i ≡ Some x)
 position_of xs x (here {xs = ys}) = (0, refl)
 position_of xs x (later {y = y} {xs = ys} h) = let r = position_of ys x h in (suc r.0, r.1)
 
