@@ -1,25 +1,12 @@
-mod DifferenceExamples
-pub mod OrderExamples
-pub mod FirstDifferenceExamples
-mod BallotDifferenceExamples
-pub mod WholeTrees
-pub mod JsonSets
-pub mod ChosenMembers
-pub mod Labels
-pub mod ReferencedKeys
-pub mod ReferencedNames
-pub mod NamedKeySets
-pub mod SameSelections
-pub mod FoundNames
-pub mod MemberValues
-pub mod LesserNames
-pub mod FamilyTrees
-pub mod KeyedRecords
-pub mod LeastDifferences
-pub mod PartsTold
-pub mod PartsInOrder
-pub mod EqualOptions
-pub mod StepByStep
-pub mod SameContents
-pub mod NodeParts
-pub mod KeyedKinds
+-- parts of whole trees are whole trees, and equality as JSON decides equality on them
+pub mod whole_trees
+-- whether labels, sets, references and carried members are the same is decided
+pub mod same_values
+-- whether the orders of two ballots are the same is decided
+pub mod same_content
+-- whether the selections of two contests are the same is decided
+pub mod same_selections
+-- what is told is the first difference: the least part, key and name
+pub mod least_difference
+-- differences of small reports and edits of them, by computation
+pub mod examples

@@ -3,8 +3,12 @@ ghost use Rattle.serde_json.specs.View.{view};
 ghost use Rattle.erd_meaning.specs.Records.{meaning};
 ghost use Rattle.erd_compare.specs.Differences.{IsDifference};
 
+mod families;
+mod parts;
+
 use crate::difference::{Difference, Part};
-use crate::families::part_difference;
+use crate::first::parts::part_difference;
+use crate::sides::Sides;
 use erd_meaning::Report;
 use std::alloc::{AllocError, Global};
 
@@ -35,8 +39,9 @@ pub fn first_difference(
 ) -> Result<Option<Difference>, AllocError>
     ensures { IfOk result (IsDifference (meaning (view left.now)) (meaning (view right.now))) }
 {
+    let sides = Sides { left, right };
     for part in PARTS {
-        if let Some(difference) = part_difference(alloc, left, right, part)? {
+        if let Some(difference) = part_difference(alloc, sides, part)? {
             return Ok(Some(difference));
         }
     }

@@ -1,20 +1,11 @@
 //! The first difference of two reports.
 #![tactic(auto)]
 
-mod carried;
-mod choice;
-mod content;
 pub mod difference;
-mod families;
 mod first;
-mod label;
-mod line;
-mod member;
-mod plain;
-mod record;
-mod references;
-mod selections;
-mod sets;
+mod objects;
+mod sides;
+mod values;
 
 pub use difference::{Difference, How, Part};
 pub use first::first_difference;

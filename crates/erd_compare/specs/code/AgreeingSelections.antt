@@ -18,5 +18,5 @@ abbrev pub AgreeAtOption : (NameParts → Option SelectionRecord) → (NameParts
 AgreeAtOption m n name = IfSome name (λ parts. m parts ≡ n parts)
 
 -- whether a selection has the name
-abbrev pub is_named : Data → NameParts → Data → Bool
-is_named t name d = is_eq (option_cmp name_cmp (name_of t d) (Some name))
+abbrev pub has_name : Data → NameParts → Data → Bool
+has_name t name d = is_eq (option_cmp name_cmp (name_of t d) (Some name))

@@ -8,8 +8,8 @@ use Rattle.erd_tables.specs.declared.member.MemberKind.TheVariants as kind
 use Rattle.erd_check.specs.Values.{entries_at}
 use Rattle.erd_meaning.specs.Meaning.{Label, translated}
 use Rattle.erd_meaning.specs.Records.{label_beside_text, json_set}
-use Rattle.erd_compare.specs.declared.choice.Choice.{Choice}
-use Rattle.erd_compare.specs.declared.choice.Choice.TheVariants.{BesideText, Carried}
+use Rattle.erd_compare.specs.declared.values.chosen_members.Choice.{Choice}
+use Rattle.erd_compare.specs.declared.values.chosen_members.Choice.TheVariants.{BesideText, Carried}
 
 -- whether members of this kind are carried
 abbrev pub is_carried_kind : MemberKind → Bool

@@ -1,5 +1,5 @@
 -- The least key at which two reports differ in a family, among the keys that were gone over.
-use Rattle.std.specs.Prelude.{◌≡◌, ℕ, ◌<◌, if◌then◌else◌, Option, Some, None, ⊤}
+use Rattle.std.specs.Prelude.{◌≡◌, ℕ, if◌then◌else◌, Option, Some, None, ⊤}
 use Rattle.std.specs.Ordering.{is_lt}
 use Rattle.std.specs.declared.cmp.Ordering.TheVariants.{Less}
 use Rattle.serde_json.specs.Data.{Data}
@@ -16,7 +16,7 @@ use Rattle.erd_compare.specs.declared.difference.Difference.{Difference}
 use Rattle.erd_compare.specs.declared.difference.How.{How}
 use Rattle.erd_compare.specs.declared.difference.Part.{Part}
 use Rattle.erd_compare.specs.declared.difference.Part.TheVariants as part
-use Rattle.erd_compare.specs.declared.families.KeyedDifference.{KeyedDifference}
+use Rattle.erd_compare.specs.declared.first.families.KeyedDifference.{KeyedDifference}
 
 -- ---- reports
 
@@ -44,17 +44,9 @@ family_of_part part.Style = Some family.Style
 abbrev pub HasKey : Data → Family → Key → Type 0
 HasKey t f k = (i : ℕ) × (key_in f t i ≡ Some k)
 
--- one of the first n objects of the family has the key
-abbrev pub HasKeyAmong : Data → Family → ℕ → Key → Type 0
-HasKeyAmong t f n k = (i : ℕ) × (i < n) × (key_in f t i ≡ Some k)
-
 -- an object of the family has the key in the second report, and none in the first
 abbrev pub HasKeyAlone : Data → Data → Family → Key → Type 0
 HasKeyAlone t u f k = HasKey u f k × (HasKey t f k → ⊥)
-
--- one of the first n objects of the second report
-abbrev pub HasKeyAloneAmong : Data → Data → Family → ℕ → Key → Type 0
-HasKeyAloneAmong t u f n k = HasKeyAmong u f n k × (HasKey t f k → ⊥)
 
 -- any key
 abbrev pub IsAnyKey : Key → Type 0
@@ -63,14 +55,14 @@ IsAnyKey k = ⊤
 -- ---- the least of them at which two maps differ
 
 -- the maps differ at the key, and at no lesser one of these
-pub record DifferAmong (m n : Key → Option ObjectRecord) (Among : Key → Type 0) (key : Key) (how : How) : Type 0 where
+pub record DifferAmongKeys (m n : Key → Option ObjectRecord) (Among : Key → Type 0) (key : Key) (how : How) : Type 0 where
   pub differ : Differ (m key) (n key) how
   pub least : (k : Key) → Among k → key_cmp k key ≡ Less → m k ≡ n k
 
 -- the least of these keys at which the maps differ, and none exactly if they differ at none
-abbrev pub TellsAmong : (Key → Option ObjectRecord) → (Key → Option ObjectRecord) → (Key → Type 0) → Option KeyedDifference → Type 0
-TellsAmong m n Among None = (k : Key) → Among k → m k ≡ n k
-TellsAmong m n Among (Some d) = DifferAmong m n Among d.key.now d.how
+abbrev pub TellsAmongKeys : (Key → Option ObjectRecord) → (Key → Option ObjectRecord) → (Key → Type 0) → Option KeyedDifference → Type 0
+TellsAmongKeys m n Among None = (k : Key) → Among k → m k ≡ n k
+TellsAmongKeys m n Among (Some d) = DifferAmongKeys m n Among d.key.now d.how
 
 -- the one with the lesser key
 abbrev pub lesser_difference : Option KeyedDifference → KeyedDifference → KeyedDifference
@@ -80,15 +72,15 @@ lesser_difference (Some one) other = if is_lt (key_cmp one.key.now other.key.now
 -- ---- told by part
 
 -- the difference has this part and no key
-pub record DifferWhole (a b : Option ObjectRecord) (part : Part) (d : Difference) : Type 0 where
+pub record DifferKeyless (a b : Option ObjectRecord) (part : Part) (d : Difference) : Type 0 where
   pub its_part : d.part ≡ part
   pub keyless : d.key ≡ None
   pub differ : Differ a b d.how
 
 -- how two records differ at a part without keys
-abbrev pub TellsWhole : Option ObjectRecord → Option ObjectRecord → Part → Option Difference → Type 0
-TellsWhole a b whole None = a ≡ b
-TellsWhole a b whole (Some d) = DifferWhole a b whole d
+abbrev pub TellsKeyless : Option ObjectRecord → Option ObjectRecord → Part → Option Difference → Type 0
+TellsKeyless a b p None = a ≡ b
+TellsKeyless a b p (Some d) = DifferKeyless a b p d
 
 -- the difference has this part, and the least key at which the maps differ
 pub record DifferKeyed (m n : Key → Option ObjectRecord) (part : Part) (d : Difference) : Type 0 where
@@ -99,5 +91,5 @@ pub record DifferKeyed (m n : Key → Option ObjectRecord) (part : Part) (d : Di
 
 -- how two maps differ at a part
 abbrev pub TellsKeyed : (Key → Option ObjectRecord) → (Key → Option ObjectRecord) → Part → Option Difference → Type 0
-TellsKeyed m n keyed None = (k : Key) → m k ≡ n k
-TellsKeyed m n keyed (Some d) = DifferKeyed m n keyed d
+TellsKeyed m n p None = (k : Key) → m k ≡ n k
+TellsKeyed m n p (Some d) = DifferKeyed m n p d

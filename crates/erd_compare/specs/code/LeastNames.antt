@@ -18,14 +18,14 @@ abbrev pub record_of_class : Data → Class → Data → ObjectRecord
 record_of_class t c d = record { class = c; members = member_of_class t d c }
 
 -- the maps differ at the name, and agree at each lesser name of the object
-pub record DifferAmong (m n : MemberMap) (d : Data) (name : List ℕ) : Type 0 where
+pub record DifferAmongNames (m n : MemberMap) (d : Data) (name : List ℕ) : Type 0 where
   pub differ : m name ≢ n name
   pub least : (k : List ℕ) (v : Data) → get k d ≡ Some v → text_cmp k name ≡ Less → m k ≡ n k
 
 -- the least of the names of the object at which the maps differ, and none where they agree at all of them
-abbrev pub TellsAmong : MemberMap → MemberMap → Data → Option (List ℕ) → Type 0
-TellsAmong m n d None = (k : List ℕ) (v : Data) → get k d ≡ Some v → m k ≡ n k
-TellsAmong m n d (Some name) = DifferAmong m n d name
+abbrev pub TellsAmongNames : MemberMap → MemberMap → Data → Option (List ℕ) → Type 0
+TellsAmongNames m n d None = (k : List ℕ) (v : Data) → get k d ≡ Some v → m k ≡ n k
+TellsAmongNames m n d (Some name) = DifferAmongNames m n d name
 
 -- the lesser of two names, where there are any
 abbrev pub lesser_name : Option (List ℕ) → Option (List ℕ) → Option (List ℕ)

@@ -18,5 +18,5 @@ abbrev pub if_filled : Option Data → Option Data
 if_filled found = option_and_then (λ d. unless_empty d d) found
 
 -- what the selections of a contest mean, where it has any
-abbrev pub selections_of : Data → Option Data → Option MemberValue
-selections_of t found = option_and_then (λ d. unless_empty (a_selection_map (selection_map t (entries_of d))) d) found
+abbrev pub selections_meant : Data → Option Data → Option MemberValue
+selections_meant t found = option_and_then (λ d. unless_empty (a_selection_map (selection_map t (entries_of d))) d) found

@@ -2,7 +2,7 @@ use Rattle.std.proofs.Common.{arith, subst}
 use Rattle.serde_json.specs.View.{view}
 use Rattle.erd_meaning.specs.Records.{meaning}
 use Rattle.erd_compare.specs.code.Comparing.{TellsPart}
-use Rattle.erd_compare.proofs.PartsInOrder.{equal_meanings, equal_more, first_told, part_at}
+use Rattle.erd_compare.proofs.least_difference.PartsInOrder.{equal_meanings, equal_more, first_told, part_at}
 use Rattle.erd_compare.proofs.first.first_difference.Goals as goal
 
 pub loop-part-preserved : goal.loop-part-preserved

@@ -1,6 +1,0 @@
-use Rattle.serde_json.specs.View.{view}
-use Rattle.erd_compare.proofs.SameContents.{none-Decides}
-use Rattle.erd_compare.proofs.content.has_no_content.Goals as goal
-
-pub returns : goal.returns
-returns c = none-Decides (view c.args.report.now) (view c.args.value.now) c.entries_of.result.now c.is_empty.result c.entries_of.ensures c.is_empty.ensures

@@ -1,0 +1,4 @@
+mod DifferenceExamples
+pub mod OrderExamples
+pub mod FirstDifferenceExamples
+mod BallotDifferenceExamples

@@ -1,0 +1,239 @@
+-- The first difference of whole reports, each of one unit: none, and one for each of some edits.
+use Rattle.std.proofs.Common.{◌≡◌, ◌≢◌, ℕ, List, [], ◌∷◌, codes, slice_get, Bool, true, false, true≢false, Option, Some, None, refl, sym, ap, ◌∙◌, Equal}
+use Rattle.std.proofs.lemmas.Slice.Eq.{bytes_eq-Decides}
+use Rattle.std.specs.Ordering.{is_eq, is_lt}
+use Rattle.std.specs.Prelude.{option_and_then, option_map, unwrap_or, is_some}
+use Rattle.std.specs.Str.{bytes_eq}
+use Rattle.std.specs.declared.cmp.Ordering.TheVariants.{Less}
+use Rattle.serde_json.specs.Data.{Data, null, string}
+use Rattle.serde_json.proofs.OnLiterals.{serde_json_on_literals}
+use Rattle.erd_tables.specs.Texts.{text_cmp}
+use Rattle.erd_tables.specs.declared.class.Class.TheVariants as class
+use Rattle.erd_tables.specs.declared.class.Family.{Family}
+use Rattle.erd_tables.specs.declared.class.Family.TheVariants as family
+use Rattle.erd_tables.specs.declared.class.Role.TheVariants as role
+use Rattle.erd_check.proofs.Reports.{tree_of, one_unit_report, status, unit, election, one_unit}
+use Rattle.erd_meaning.specs.Keys.{key_cmp}
+use Rattle.erd_meaning.specs.Meaning.{ObjectRecord, MemberValue, a_plain, a_label, a_json, untranslated}
+use Rattle.erd_meaning.specs.Objects.{objects, elections}
+use Rattle.erd_meaning.specs.Records.{member_of_class, object_record, records_of, meaning}
+use Rattle.erd_meaning.specs.declared.keys.key.Key.{Key}
+use Rattle.erd_meaning.proofs.examples.RecordExamples.{local_key}
+use Rattle.erd_meaning.proofs.orders.EqualNames.{equal_keys}
+use Rattle.erd_meaning.proofs.meanings.WholeMeanings.{same_but_one, same_object, is_key_in, same_at_every_key, no_record, same_meaning}
+use Rattle.erd_meaning.proofs.meanings.WholeRecords.{absent_member}
+use Rattle.erd_compare.specs.Differences.{record_at, part_cmp, IsFirstDifference, IsDifference}
+use Rattle.erd_compare.specs.declared.difference.How.{How}
+use Rattle.erd_compare.specs.declared.difference.How.TheVariants.{OnlyLeft, OnlyRight, Member}
+use Rattle.erd_compare.specs.declared.difference.Part.{Part}
+use Rattle.erd_compare.specs.declared.difference.Part.TheVariants as part
+
+-- ---- members
+
+-- a name that is less is another
+other_if_less : (name one : List ℕ) → text_cmp one one ≡ Equal → text_cmp name one ≡ Less → bytes_eq name one ≡ false
+other_if_less name one itself less = at (bytes_eq name one) refl
+  where
+    at : (b : Bool) → bytes_eq name one ≡ b → bytes_eq name one ≡ false
+    at true is = let same : Equal ≡ Less = sym itself ∙ (ap (λ n. text_cmp n one) (sym ((bytes_eq-Decides name one).0 is)) ∙ less) in absurd (cc same)
+    at false is = is
+
+-- ---- reports of one unit
+
+abbrev left : Data
+left = tree_of one_unit
+
+-- the first election of a report
+abbrev pub election_in : Data → Data
+election_in t = unwrap_or (option_map (λ o. o.value) (slice_get (elections t) 0)) null
+
+abbrev unit_in : Data → Data
+unit_in t = unwrap_or (option_map (λ o. o.value) (slice_get (objects family.Unit t) 0)) null
+
+abbrev key : Key
+key = local_key (codes "U1")
+
+-- with another `@id`, other orders of members, an envelope and empty arrays
+abbrev respelled : Data
+respelled = tree_of (codes "{\"Election\":[{\"ElectionScopeId\":\"k\",\"Name\":\"Test\",\"EndDate\":\"2026-11-03\",\"StartDate\":\"2026-11-03\",\"Type\":\"general\",\"@type\":\"ElectionResults.Election\",\"Contest\":[]}],\"Issuer\":\"Vendor A\",\"SequenceStart\":1,\"Status\":\"pre-election\",\"Party\":[],\"GpUnit\":[{\"Type\":\"county\",\"ComposingGpUnitIds\":[],\"ExternalIdentifier\":[{\"Value\":\"U1\",\"Type\":\"local-level\",\"@type\":\"ElectionResults.ExternalIdentifier\"}],\"@type\":\"ElectionResults.ReportingUnit\",\"@id\":\"k\"}],\"@type\":\"ElectionResults.ElectionReport\"}")
+
+respelled_report : object_record left role.Report left ≡ object_record respelled role.Report respelled
+unfolding serde_json_on_literals
+respelled_report = same_object left respelled left respelled role.Report class.ElectionReport refl refl refl
+
+respelled_election : (meaning left).election ≡ (meaning respelled).election
+unfolding serde_json_on_literals
+respelled_election = same_object left respelled (election_in left) (election_in respelled) role.Election class.Election refl refl refl
+
+respelled_unit : records_of left family.Unit key ≡ records_of respelled family.Unit key
+unfolding serde_json_on_literals
+respelled_unit = same_object left respelled (unit_in left) (unit_in respelled) (role.OfFamily family.Unit) class.ReportingUnit refl refl refl
+
+respelled_objects : (f : Family) (k : Key) → records_of left f k ≡ records_of respelled f k
+unfolding serde_json_on_literals
+respelled_objects family.Unit k =
+    same_at_every_key (records_of left family.Unit) (records_of respelled family.Unit) (key ∷ []) (respelled_unit, tt) (no_record left family.Unit) (no_record respelled family.Unit) k
+respelled_objects f k = refl
+
+-- no difference
+no_difference : IsDifference (meaning left) (meaning respelled) None
+no_difference = same_meaning left respelled respelled_report respelled_election respelled_objects
+
+-- ---- another name of the election
+
+abbrev renamed : Data
+renamed = tree_of (one_unit_report status unit (codes "\"@type\":\"ElectionResults.Election\",\"Name\":\"Trial\",\"Type\":\"general\",\"StartDate\":\"2026-11-03\",\"EndDate\":\"2026-11-03\",\"ElectionScopeId\":\"u7\""))
+
+abbrev election_member : Data → List ℕ → Option MemberValue
+election_member t = member_of_class t (election_in t) class.Election
+
+-- the label is this text
+abbrev is_labelled : List ℕ → Option MemberValue → Bool
+is_labelled text (Some (a_plain (a_label (untranslated s)))) = bytes_eq s text
+is_labelled text v = false
+
+old_name : is_labelled (codes "Test") (election_member left (codes "Name")) ≡ true
+unfolding serde_json_on_literals
+old_name = refl
+
+new_name : is_labelled (codes "Test") (election_member renamed (codes "Name")) ≡ false
+unfolding serde_json_on_literals
+new_name = refl
+
+other_name : election_member left (codes "Name") ≢ election_member renamed (codes "Name")
+other_name e = true≢false (sym old_name ∙ ap (is_labelled (codes "Test")) e ∙ new_name)
+
+same_but_name : (name : List ℕ) → bytes_eq name (codes "Name") ≡ false → election_member left name ≡ election_member renamed name
+unfolding serde_json_on_literals
+same_but_name =
+    same_but_one (election_member left) (election_member renamed) (election_in left) (election_in renamed) (codes "Name") (absent_member left (election_in left) class.Election) (absent_member renamed (election_in renamed) class.Election) refl
+
+renamed_report : object_record left role.Report left ≡ object_record renamed role.Report renamed
+unfolding serde_json_on_literals
+renamed_report = same_object left renamed left renamed role.Report class.ElectionReport refl refl refl
+
+renamed_unit : records_of left family.Unit key ≡ records_of renamed family.Unit key
+unfolding serde_json_on_literals
+renamed_unit = same_object left renamed (unit_in left) (unit_in renamed) (role.OfFamily family.Unit) class.ReportingUnit refl refl refl
+
+renamed_units : (k : Key) → records_of left family.Unit k ≡ records_of renamed family.Unit k
+unfolding serde_json_on_literals
+renamed_units = same_at_every_key (records_of left family.Unit) (records_of renamed family.Unit) (key ∷ []) (renamed_unit, tt) (no_record left family.Unit) (no_record renamed family.Unit)
+
+-- all that comes before the election is the same
+before_election : (p : Part) (k : Option Key) → part_cmp p k part.Election None ≡ Less → record_at (meaning left) p k ≡ record_at (meaning renamed) p k
+unfolding serde_json_on_literals
+before_election part.Report None less = renamed_report
+before_election part.Report (Some k) less = refl
+before_election part.Unit None less = refl
+before_election part.Unit (Some k) less = renamed_units k
+before_election part.Party None less = refl
+before_election part.Party (Some k) less = refl
+before_election part.Person None less = refl
+before_election part.Person (Some k) less = refl
+before_election part.Office None less = refl
+before_election part.Office (Some k) less = refl
+before_election part.Header None less = refl
+before_election part.Header (Some k) less = refl
+before_election p None less = absurd (cc less)
+before_election p (Some k) less = absurd (cc less)
+
+first_is_name : IsFirstDifference (meaning left) (meaning renamed) (record { part = part.Election; key = None; how = Member (codes "Name") })
+unfolding serde_json_on_literals
+first_is_name = record {
+  differ = record {
+    same_class = refl;
+    differ = other_name;
+    least = λ name less. same_but_name name (other_if_less name (codes "Name") refl less);
+  };
+  least = before_election;
+}
+
+-- a later member is not the first; the two are not equal
+not_a_later_member : IsFirstDifference (meaning left) (meaning renamed) (record { part = part.Election; key = None; how = Member (codes "Type") }) → ⊥
+unfolding serde_json_on_literals
+not_a_later_member h = other_name (h.differ.least (codes "Name") refl)
+
+some_difference : IsDifference (meaning left) (meaning renamed) None → ⊥
+unfolding serde_json_on_literals
+some_difference h = other_name (ap (λ m. option_and_then (λ r. r.members (codes "Name")) m.election) h)
+
+-- ---- another type of unit besides
+
+abbrev in_city : List ℕ
+in_city = codes "\"@type\":\"ElectionResults.ReportingUnit\",\"Type\":\"city\",\"ExternalIdentifier\":[{\"@type\":\"ElectionResults.ExternalIdentifier\",\"Type\":\"local-level\",\"Value\":\"U1\"}]"
+
+-- the unit has another type and the election another name
+abbrev both_changed : Data
+both_changed = tree_of (one_unit_report status in_city (codes "\"@type\":\"ElectionResults.Election\",\"Name\":\"Trial\",\"Type\":\"general\",\"StartDate\":\"2026-11-03\",\"EndDate\":\"2026-11-03\",\"ElectionScopeId\":\"u7\""))
+
+abbrev is_county : Option MemberValue → Bool
+is_county (Some (a_plain (a_json (string s)))) = bytes_eq s (codes "county")
+is_county v = false
+
+abbrev unit_type : Option ObjectRecord → Bool
+unit_type r = is_county (option_and_then (λ r. r.members (codes "Type")) r)
+
+county : unit_type (records_of left family.Unit key) ≡ true
+unfolding serde_json_on_literals
+county = refl
+
+no_county : unit_type (records_of both_changed family.Unit key) ≡ false
+unfolding serde_json_on_literals
+no_county = refl
+
+-- the difference of the election is not the first
+not_the_election : (h : How) → IsFirstDifference (meaning left) (meaning both_changed) (record { part = part.Election; key = None; how = h }) → ⊥
+not_the_election h d = true≢false (sym county ∙ ap unit_type (d.least part.Unit (Some key) refl) ∙ no_county)
+
+-- ---- another key of the unit
+
+abbrev other_key : Key
+other_key = local_key (codes "U2")
+
+abbrev rekeyed : Data
+rekeyed = tree_of (one_unit_report status (codes "\"@type\":\"ElectionResults.ReportingUnit\",\"Type\":\"county\",\"ExternalIdentifier\":[{\"@type\":\"ElectionResults.ExternalIdentifier\",\"Type\":\"local-level\",\"Value\":\"U2\"}]") election)
+
+rekeyed_report : object_record left role.Report left ≡ object_record rekeyed role.Report rekeyed
+unfolding serde_json_on_literals
+rekeyed_report = same_object left rekeyed left rekeyed role.Report class.ElectionReport refl refl refl
+
+-- a key below a bound is none that is not below it
+pub not_in : (l k bound : Key) → key_cmp k bound ≡ Less → is_lt (key_cmp l bound) ≡ false → is_key_in (l ∷ []) k ≡ false
+not_in l k bound less not_less = at (is_eq (key_cmp l k)) refl
+  where
+    at : (b : Bool) → is_eq (key_cmp l k) ≡ b → is_key_in (l ∷ []) k ≡ false
+    at true is = absurd (true≢false (sym (ap is_lt less) ∙ (ap (λ q. is_lt (key_cmp q bound)) (sym (equal_keys l k is)) ∙ not_less)))
+    at false is = rw is
+
+units_below : (k : Key) → key_cmp k key ≡ Less → records_of left family.Unit k ≡ records_of rekeyed family.Unit k
+unfolding serde_json_on_literals
+units_below k less = no_record left family.Unit k (not_in key k key less refl) ∙ sym (no_record rekeyed family.Unit k (not_in other_key k key less refl))
+
+before_unit : (p : Part) (k : Option Key) → part_cmp p k part.Unit (Some key) ≡ Less → record_at (meaning left) p k ≡ record_at (meaning rekeyed) p k
+unfolding serde_json_on_literals
+before_unit part.Report None less = rekeyed_report
+before_unit part.Report (Some k) less = refl
+before_unit part.Unit None less = refl
+before_unit part.Unit (Some k) less = units_below k less
+before_unit p None less = absurd (cc less)
+before_unit p (Some k) less = absurd (cc less)
+
+first_is_unit : IsFirstDifference (meaning left) (meaning rekeyed) (record { part = part.Unit; key = Some key; how = OnlyLeft })
+unfolding serde_json_on_literals
+first_is_unit = record {
+  differ = refl;
+  least = before_unit;
+}
+
+first_is_unit_right : IsFirstDifference (meaning rekeyed) (meaning left) (record { part = part.Unit; key = Some key; how = OnlyRight })
+unfolding serde_json_on_literals
+first_is_unit_right = record {
+  differ = refl;
+  least = λ p k less. sym (before_unit p k less);
+}
+
+-- the unit that the right side alone has comes later
+not_the_later_unit : IsFirstDifference (meaning left) (meaning rekeyed) (record { part = part.Unit; key = Some other_key; how = OnlyRight }) → ⊥
+unfolding serde_json_on_literals
+not_the_later_unit h = true≢false (ap is_some (h.least part.Unit (Some key) refl))

@@ -1,8 +1,0 @@
-use Rattle.serde_json.specs.View.{view}
-use Rattle.erd_meaning.specs.Records.{records_of}
-use Rattle.erd_compare.specs.code.KeyedDifferences.{HasKeyAloneAmong, TellsAmong}
-use Rattle.erd_compare.proofs.families.least_of_right.Given as goal
-
-abbrev pub invariant-loop-index : goal.invariant-loop-index
-invariant-loop-index l =
-    TellsAmong (records_of (view l.left) l.family) (records_of (view l.right) l.family) (HasKeyAloneAmong (view l.left) (view l.right) l.family l.index) l.least

@@ -1,0 +1,5 @@
+pub mod LesserNames
+pub mod KeyedRecords
+pub mod LeastDifferences
+pub mod PartsTold
+pub mod PartsInOrder

@@ -1,0 +1,3 @@
+pub mod SameContents
+pub mod NodeParts
+pub mod StepByStep

@@ -1,0 +1,3 @@
+pub mod MemberValues
+pub mod SameSelections
+pub mod FoundNames

@@ -1,0 +1,8 @@
+pub mod JsonSets
+pub mod ChosenMembers
+pub mod Labels
+pub mod ReferencedKeys
+pub mod ReferencedNames
+pub mod NamedKeySets
+pub mod EqualOptions
+pub mod KeyedKinds

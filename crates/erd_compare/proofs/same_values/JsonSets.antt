@@ -1,0 +1,65 @@
+-- Two lists are the same set of values exactly if each value of either is in the other.
+use Rattle.std.proofs.Common.{◌≡◌, List, [], ◌∷◌, Bool, true, false, ◌&&◌, refl, sym, ap, ◌∙◌, subst}
+use Rattle.std.proofs.Math.Path.{fun_ext}
+use Rattle.std.proofs.lemmas.Bool.{and_from, and_parts}
+use Rattle.std.specs.List.{list_all}
+use Rattle.serde_json.specs.Data.{Data}
+use Rattle.erd_check.specs.Trees.{is_same_json}
+use Rattle.erd_check.proofs.Rising.{Has, here, later, all-Has}
+use Rattle.erd_meaning.specs.Records.{json_set}
+use Rattle.erd_meaning.proofs.orders.Sets.{any-has, has-any}
+use Rattle.erd_compare.specs.code.Comparing.{Decides, IsWholeTree}
+use Rattle.erd_compare.proofs.whole_trees.WholeTrees.{AreWholeTrees, whole_tree-exact, whole_tree-itself}
+
+-- ---- tests
+
+-- tests that hold of the same are the same
+pub same_tests : (a b : Bool) → (a ≡ true → b ≡ true) → (b ≡ true → a ≡ true) → a ≡ b
+same_tests true b to from = sym (to refl)
+same_tests false true to from = from refl
+same_tests false false to from = refl
+
+-- the answer of two tests, of which the second is made only if the first holds
+pub second_answer : (a b r s : Bool) → r ≡ a → s ≡ b → r ≡ true → a && b ≡ s
+second_answer a b r s first second holds = ap (λ x. x && b) (sym first ∙ holds) ∙ sym second
+
+-- the same, where the first does not hold
+pub first_answer : (a b r : Bool) → r ≡ a → r ≡ false → a && b ≡ r
+first_answer a b r first fails = ap (λ x. x && b) (sym first ∙ fails) ∙ sym fails
+
+-- a test that holds of each entry holds of all
+pub all_hold : {A : Type 0} (test : A → Bool) (xs : List A) → ((x : A) → Has xs x → test x ≡ true) → list_all test xs ≡ true
+all_hold test [] each = refl
+all_hold test (x ∷ xs) each = and_from (test x) (list_all test xs) (each x here) (all_hold test xs (λ y h. each y (later h)))
+
+-- and the other way round
+pub each_holds : {A : Type 0} (test : A → Bool) (xs : List A) (x : A) → list_all test xs ≡ true → Has xs x → test x ≡ true
+each_holds test xs x all (here {xs = ys}) = (and_parts (test x) (list_all test ys) all).0
+each_holds test xs x all (later {y = y} {xs = ys} h) = each_holds test ys x (and_parts (test y) (list_all test ys) all).1 h
+
+-- ---- sets
+
+-- each entry that the other list has as JSON is an entry of it
+entry_in : (ds es : List Data) (d : Data) → AreWholeTrees ds → AreWholeTrees es → list_all (json_set es) ds ≡ true → Has ds d → Has es d
+entry_in ds es d left right all h =
+    let r = has-any (is_same_json d) es (each_holds (json_set es) ds d all h) in
+    let same : d ≡ r.0 = whole_tree-exact d r.0 (all-Has IsWholeTree ds d left h) (all-Has IsWholeTree es r.0 right r.1) r.2 in
+    subst (Has es) (sym same) r.1
+
+-- the set of a list whose entries are all in another is within the set of the other
+within : (ds es : List Data) (d : Data) → ((e : Data) → Has ds e → Has es e) → json_set ds d ≡ true → json_set es d ≡ true
+within ds es d each h = let r = has-any (is_same_json d) ds h in any-has (is_same_json d) es r.0 (each r.0 r.1) r.2
+
+-- the entries of a list are in each set that is the same as its own
+all_in : (ds es : List Data) → AreWholeTrees ds → json_set ds ≡ json_set es → list_all (json_set es) ds ≡ true
+all_in ds es left same =
+    all_hold (json_set es) ds (λ d h. sym (ap (λ (set : Data → Bool). set d) same) ∙ any-has (is_same_json d) ds d h (whole_tree-itself d (all-Has IsWholeTree ds d left h)))
+
+-- whether each value of either list is in the other decides whether the two are the same set
+pub json_set-Decides : (ds es : List Data) → AreWholeTrees ds → AreWholeTrees es → Decides (list_all (json_set es) ds && list_all (json_set ds) es) (json_set ds) (json_set es)
+json_set-Decides ds es left right = (forward, λ same. and_from (list_all (json_set es) ds) (list_all (json_set ds) es) (all_in ds es left same) (all_in es ds right (sym same)))
+  where
+    forward : list_all (json_set es) ds && list_all (json_set ds) es ≡ true → json_set ds ≡ json_set es
+    forward h =
+        let both = and_parts (list_all (json_set es) ds) (list_all (json_set ds) es) h in
+        fun_ext (λ d. same_tests (json_set ds d) (json_set es d) (within ds es d (λ e. entry_in ds es e left right both.0)) (within es ds d (λ e. entry_in es ds e right left both.1)))

@@ -1,0 +1,38 @@
+-- Two labels that are objects mean the same exactly if they have the same members beside the same translations.
+use Rattle.std.proofs.Common.{◌≡◌, ℕ, List, Bool, true, false, cond, not, ◌&&◌, ◌||◌, Option, None, codes, refl, ap, ap₂}
+use Rattle.std.specs.Str.{bytes_eq}
+use Rattle.std.proofs.lemmas.Bool.{and_from, and_parts}
+use Rattle.serde_json.specs.Data.{Data}
+use Rattle.serde_json.specs.Find.{get}
+use Rattle.erd_check.specs.Values.{entries_at}
+use Rattle.erd_meaning.specs.Meaning.{JsonMap, JsonSet, Label, translated, untranslated}
+use Rattle.erd_meaning.specs.Records.{label_beside_text, json_set}
+use Rattle.erd_compare.specs.code.Choices.{takes_name, translated_label}
+use Rattle.erd_compare.specs.code.Comparing.{Decides}
+use Rattle.erd_compare.specs.declared.values.chosen_members.Choice.TheVariants.{BesideText}
+
+-- the members beside the translations
+abbrev beside_in : Label → JsonMap
+beside_in (translated beside texts) = beside
+beside_in (untranslated text) = λ name. None
+
+-- the translations
+abbrev texts_in : Label → JsonSet
+texts_in (translated beside texts) = texts
+texts_in (untranslated text) = λ d. false
+
+-- the members beside the translations are the chosen ones
+pub chosen_beside : (d : Data) (name : List ℕ) → cond (takes_name BesideText name) (get name d) None ≡ label_beside_text d name
+chosen_beside d name = turned (bytes_eq name (codes "@type") || bytes_eq name (codes "Text")) (get name d)
+  where
+    turned : (b : Bool) (o : Option Data) → cond (not b) o None ≡ cond b None o
+    turned true o = refl
+    turned false o = refl
+
+-- the same members beside the same translations
+pub translated-Decides : (a b : Bool) (d e : Data) → Decides a (label_beside_text d) (label_beside_text e) → Decides b (json_set (entries_at (codes "Text") d)) (json_set (entries_at (codes "Text") e))
+    → Decides (a && b) (translated_label d) (translated_label e)
+translated-Decides a b d e beside texts = (
+  λ h. let both = and_parts a b h in ap₂ translated (beside.0 both.0) (texts.0 both.1),
+  λ same. and_from a b (beside.1 (ap beside_in same)) (texts.1 (ap texts_in same)),
+)

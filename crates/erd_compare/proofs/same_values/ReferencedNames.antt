@@ -1,0 +1,58 @@
+-- The name of the selection that is found by an `@id` is the name that a reference names.
+use Rattle.std.proofs.Common.{◌≡◌, ◌==◌, ◌+◌, ◌++◌, ℕ, List, [], ◌∷◌, map, true, false, Option, Some, None, option_and_then, option_map, refl, sym, ap, ap₂, ◌∙◌}
+use Rattle.std.proofs.lemmas.List.{map-append}
+use Rattle.std.proofs.lemmas.Option.{slice_get-map}
+use Rattle.std.specs.List.{enumerate_from, flat_map, slice_get}
+use Rattle.serde_json.specs.Data.{Data}
+use Rattle.erd_tables.specs.Classes.{family_number}
+use Rattle.erd_tables.specs.declared.class.Family.{Family}
+use Rattle.erd_tables.specs.declared.class.Family.TheVariants as family
+use Rattle.erd_meaning.proofs.selections.NamesTold.{Numbered}
+use Rattle.erd_meaning.specs.Lookups.{FindsId, selection_in}
+use Rattle.erd_meaning.specs.NameParts.{NameParts}
+use Rattle.erd_meaning.specs.Objects.{Placed, contests, numbered_selections, numbered_selections_of, objects, selections_of_contest}
+use Rattle.erd_meaning.specs.SelectionNames.{name_named, name_of}
+use Rattle.erd_compare.proofs.same_values.ReferencedKeys.{owner_elsewhere, owner_here, owner_nowhere}
+
+-- ---- the selections of a report, without the numbers of their contests
+
+of_contest : (k : ℕ) (os : List Placed) → map {A = Numbered} (λ s. s.1) (map {B = Numbered} (λ o. (k, o)) os) ≡ os
+of_contest k [] = refl
+of_contest k (o ∷ os) = ap (λ xs. o ∷ xs) (of_contest k os)
+
+of_contests : (k : ℕ) (cs : List Placed) → map {A = Numbered} (λ s. s.1) (flat_map numbered_selections_of (enumerate_from k cs)) ≡ flat_map selections_of_contest cs
+of_contests k [] = refl
+of_contests k (c ∷ cs) =
+    map-append {A = Numbered} (λ s. s.1) (numbered_selections_of (k, c)) (flat_map numbered_selections_of (enumerate_from (k + 1) cs))
+    ∙ ap₂ ◌++◌ (of_contest k (selections_of_contest c)) (of_contests (k + 1) cs)
+
+-- the selection at a position
+numbered_at : (t : Data) (i : ℕ) → option_map (λ (s : Numbered). s.1) (slice_get (numbered_selections t) i) ≡ slice_get (objects family.Selection t) i
+numbered_at t i = sym (slice_get-map {A = Numbered} (λ s. s.1) (numbered_selections t) i) ∙ ap (λ xs. slice_get xs i) (of_contests 0 (contests t))
+
+-- ---- its name
+
+-- the name of what is owned
+abbrev name_owned : Data → Option Placed → Option NameParts
+name_owned t o = option_and_then (name_of t) (option_map (λ o. o.value) o)
+
+name_alone : (c : ℕ) (n : Option NameParts) → option_map (λ (s : ℕ × NameParts). s.1) (option_map (λ n. (c, n)) n) ≡ n
+name_alone c None = refl
+name_alone c (Some n) = refl
+
+name_at : (t : Data) (s : Option Numbered)
+    → option_map (λ (s : ℕ × NameParts). s.1) (option_and_then (λ (s : Numbered). option_map (λ n. (s.0, n)) (name_of t s.1.value)) s) ≡ name_owned t (option_map (λ (s : Numbered). s.1) s)
+name_at t None = refl
+name_at t (Some s) = name_alone s.0 (name_of t s.1.value)
+
+module _ (t : Data) (id : List ℕ) where
+  pub name_here : (g : Family) (i : ℕ) → FindsId t id (Some (g, i)) → (family_number g == family_number family.Selection) ≡ true
+      → option_map (λ (s : ℕ × NameParts). s.1) (selection_in t i) ≡ name_named t id
+  name_here g i finds same =
+      name_at t (slice_get (numbered_selections t) i) ∙ (ap (name_owned t) (numbered_at t i) ∙ ap (name_owned t) (sym (owner_here t family.Selection id g i finds same)))
+
+  pub name_elsewhere : (g : Family) (i : ℕ) → FindsId t id (Some (g, i)) → (family_number g == family_number family.Selection) ≡ false → None ≡ name_named t id
+  name_elsewhere g i finds other = sym (ap (name_owned t) (owner_elsewhere t family.Selection id g i finds other))
+
+  pub name_nowhere : FindsId t id None → None ≡ name_named t id
+  name_nowhere finds = sym (ap (name_owned t) (owner_nowhere t family.Selection id finds))

@@ -1,9 +1,0 @@
-use Rattle.std.proofs.Common.{◌≡◌, map, drop}
-use Rattle.std.specs.List.{list_all}
-use Rattle.serde_json.specs.View.{view}
-use Rattle.erd_meaning.specs.Records.{json_set}
-use Rattle.erd_compare.proofs.sets.are_among.Given as goal
-
-abbrev pub invariant-loop-value : goal.invariant-loop-value
-invariant-loop-value l =
-    list_all (json_set (map view l.others)) (map view l.values) ≡ list_all (json_set (map view l.others)) (map view (drop l.value-index l.values))

@@ -1,0 +1,169 @@
+use Rattle.std.proofs.Common.{◌≡◌, ◌<◌, ◌≤◌, ◌+◌, ◌*◌, ℕ, suc, List, [], ◌∷◌, map, length, get_or, arith, rules, true≢false, refl, codes, sym, ap, subst, ◌∙◌}
+use Rattle.std.specs.List.{AllByRecursion}
+use Rattle.std.specs.Slice.Iter.{iter_rest}
+use Rattle.serde_json.specs.Data.{depth, items_depth}
+use Rattle.serde_json.specs.View.{items_view, view}
+use Rattle.serde_json.specs.declared.value.Value.{Value, the_lemmas}
+use Rattle.serde_json.proofs.Views.{view-Array}
+use Rattle.erd_check.specs.Values.{entries_of, text_at}
+use Rattle.erd_tables.specs.declared.class.Family.TheVariants as family
+use Rattle.erd_meaning.specs.Records.{carried_members, class_of_node, node_of}
+use Rattle.erd_meaning.specs.SelectionNames.{key_named}
+use Rattle.erd_compare.specs.code.ContentParts.{content_within}
+use Rattle.erd_check.proofs.Lists.{list_of_items-items_of}
+use Rattle.erd_compare.specs.code.Comparing.{IsWholeTree}
+use Rattle.erd_compare.proofs.same_values.EqualOptions.{decides_as}
+use Rattle.erd_compare.proofs.same_content.NodeParts.{decides_swap, entry_depth, get_depth, node_contest, node_header, within_none, within_some}
+use Rattle.erd_compare.proofs.same_content.SameContents.{content-Decides, content_of-none, contest-header, header-contest, header-Decides}
+use Rattle.erd_compare.proofs.same_content.StepByStep.{differ_here, one_further}
+use Rattle.erd_compare.proofs.whole_trees.WholeTrees.{whole_tree-get, whole_value-index, whole_values-entries_of}
+use Rattle.erd_compare.proofs.values.content.+content.Goals as goal
+use Rattle.erd_compare.proofs.values.content.+content.Goals.{is_same_header-then-is_same_owner, is_same_header-else-is_same_owner}
+
+-- the entry at an index, where the list is lent
+item_at : (vs ws : List Value) (i : ℕ) (v : Value) → ws ≡ vs → i < length ws → v ≡ get_or ws i v → (i < length vs) × (v ≡ get_or vs i v)
+item_at vs ws i v lent low here = (subst (λ (xs : List Value). i < length xs) lent low, here ∙ ap (λ (xs : List Value). get_or xs i v) lent)
+
+-- the first of the values that are left
+first_whole : (v : Value) (left left' : List Value) → left ≡ v ∷ left' → AllByRecursion (λ v. IsWholeTree (view v)) left → IsWholeTree (view v) × AllByRecursion (λ v. IsWholeTree (view v)) left'
+first_whole v left left' next h = subst (AllByRecursion (λ (v : Value). IsWholeTree (view v))) next h
+
+pub is_same_content-are_same_nodes-requires : goal.is_same_content-are_same_nodes-requires
+is_same_content-are_same_nodes-requires t c =
+    let d : 4 * depth (view c.args.one.now) ≡ t = c.decreases in
+    let seen = ap view c.in-Array.is ∙ view-Array c.in-Array.ones in
+    let deep : depth (view c.args.one.now) ≡ suc (items_depth (items_view c.in-Array.ones.items)) = ap depth seen in
+    let small : 4 * items_depth (items_view c.in-Array.ones.items) + 3 < t = omega arith in (
+      small,
+      (
+        whole_values-entries_of (view c.args.one.now) c.in-Array.ones.items c.requires.one (sym (list_of_items-items_of (map view c.in-Array.ones.items)) ∙ sym (ap entries_of seen)),
+        whole_values-entries_of (view c.args.other.now) c.entries_of.result.now c.requires.other c.entries_of.ensures,
+      ),
+    )
+
+pub is_same_content-returns-in-Array : goal.is_same_content-returns-in-Array
+is_same_content-returns-in-Array t c =
+    let seen = ap view c.in-Array.is ∙ view-Array c.in-Array.ones in
+    content-Decides (view c.args.sides.left.now) (view c.args.sides.right.now) (view c.args.one.now) (view c.args.other.now) c.in-Array.ones.items c.entries_of.result.now c.are_same_nodes.result
+    (sym (list_of_items-items_of (map view c.in-Array.ones.items)) ∙ sym (ap entries_of seen))
+    c.entries_of.ensures
+    c.are_same_nodes.ensures
+
+pub is_same_content-returns-in_default : goal.is_same_content-returns-in_default
+is_same_content-returns-in_default t c =
+    let none : [] ≡ entries_of (view c.args.one.now) = search (rules, the_lemmas) in
+    decides_as refl (sym (content_of-none (view c.args.sides.left.now) (view c.args.one.now) none)) refl c.has_no_content.ensures
+
+pub are_same_nodes-is_same_node-requires : goal.are_same_nodes-is_same_node-requires
+are_same_nodes-is_same_node-requires t c =
+    let d : 4 * items_depth (items_view c.args.ones.now.items) + 3 ≡ t = c.decreases in
+    let item = item_at c.args.ones.now.items c.deref-one-items.result.now c.loop-one.one-index c.one-item.result c.deref-one-items.ensures.value c.loop-one-test.true c.one-item.is in
+    let deep : depth (view c.one-item.result) ≤ items_depth (items_view c.args.ones.now.items) = entry_depth c.args.ones.now.items c.loop-one.one-index c.one-item.result item.0 item.1 in
+    let small : 4 * depth (view c.one-item.result) + 2 < t = omega arith in (
+      small,
+      (
+        whole_value-index c.args.ones.now.items c.loop-one.one-index c.one-item.result c.requires.ones item.0 item.1,
+        (first_whole c.in-Some.other.now (iter_rest c.loop-one.rest) (iter_rest c.next.new.self) c.in-Some.ensures.steps c.loop-one.invariant.whole).0,
+      ),
+    )
+
+pub are_same_nodes-loop-one-preserved : goal.are_same_nodes-loop-one-preserved
+are_same_nodes-loop-one-preserved t c =
+    let f = λ (v : Value). node_of (view c.args.sides.left.now) (view v) in
+    let g = λ (v : Value). node_of (view c.args.sides.right.now) (view v) in
+    let item = item_at c.args.ones.now.items c.deref-one-items.result.now c.loop-one.one-index c.one-item.result c.deref-one-items.ensures.value c.loop-one-test.true c.one-item.is in
+    record {
+      same = one_further f g c.args.ones.now.items c.loop-one.one-index c.one-item.result c.in-Some.other.now (iter_rest c.loop-one.rest) (iter_rest c.next.new.self)
+          (map f c.args.ones.now.items) (map g c.args.others.now) item.0 item.1 c.in-Some.ensures.steps
+          (c.is_same_node.ensures.0 c.if-not-is_same_node.false)
+          c.loop-one.invariant.same;
+      whole = (first_whole c.in-Some.other.now (iter_rest c.loop-one.rest) (iter_rest c.next.new.self) c.in-Some.ensures.steps c.loop-one.invariant.whole).1;
+    }
+
+pub are_same_nodes-returns-then-not-is_same_node : goal.are_same_nodes-returns-then-not-is_same_node
+are_same_nodes-returns-then-not-is_same_node t c =
+    let f = λ (v : Value). node_of (view c.args.sides.left.now) (view v) in
+    let g = λ (v : Value). node_of (view c.args.sides.right.now) (view v) in
+    let item = item_at c.args.ones.now.items c.deref-one-items.result.now c.loop-one.one-index c.one-item.result c.deref-one-items.ensures.value c.loop-one-test.true c.one-item.is in
+    differ_here f g c.args.ones.now.items c.loop-one.one-index c.one-item.result c.in-Some.other.now (iter_rest c.loop-one.rest) (iter_rest c.next.new.self)
+    (map f c.args.ones.now.items) (map g c.args.others.now) item.0 item.1 c.in-Some.ensures.steps
+    (λ e. sym c.if-not-is_same_node.true ∙ c.is_same_node.ensures.1 e)
+    c.loop-one.invariant.same
+
+pub is_same_node-returns-in-true-true : goal.is_same_node-returns-in-true-true
+is_same_node-returns-in-true-true t c =
+    decides_as refl (sym (node_header (view c.args.sides.left.now) (view c.args.one.now) (sym c.in-true-true.ensures))) (sym (node_header (view c.args.sides.right.now) (view c.args.other.now) (sym c.in-true-true.ensures')))
+    c.is_same_header.ensures
+
+pub is_same_node-returns-in-false-false : goal.is_same_node-returns-in-false-false
+is_same_node-returns-in-false-false t c =
+    decides_as refl (sym (node_contest (view c.args.sides.left.now) (view c.args.one.now) (sym c.in-false-false.ensures))) (sym (node_contest (view c.args.sides.right.now) (view c.args.other.now) (sym c.in-false-false.ensures')))
+    c.is_same_contest.ensures
+
+pub is_same_node-returns-in-true-false : goal.is_same_node-returns-in-true-false
+is_same_node-returns-in-true-false t c =
+    decides_as refl (sym (node_header (view c.args.sides.left.now) (view c.args.one.now) (sym c.in-true-false.ensures))) (sym (node_contest (view c.args.sides.right.now) (view c.args.other.now) (sym c.in-true-false.ensures')))
+    header-contest
+
+pub is_same_node-returns-in-false-true : goal.is_same_node-returns-in-false-true
+is_same_node-returns-in-false-true t c =
+    decides_as refl (sym (node_contest (view c.args.sides.left.now) (view c.args.one.now) (sym c.in-false-true.ensures))) (sym (node_header (view c.args.sides.right.now) (view c.args.other.now) (sym c.in-false-true.ensures')))
+    contest-header
+
+pub is_same_within-is_same_content-requires : goal.is_same_within-is_same_content-requires
+is_same_within-is_same_content-requires t c =
+    let d : 4 * depth (view c.args.one.now) ≡ t = c.decreases in
+    let deep : suc (depth (view c.in-Some-Some.one.now)) ≤ depth (view c.args.one.now) = get_depth (codes "OrderedContent") (view c.args.one.now) (view c.in-Some-Some.one.now) (sym c.in-Some-Some.ensures) in
+    let small : 4 * depth (view c.in-Some-Some.one.now) < t = omega arith in (
+      small,
+      (
+        whole_tree-get (codes "OrderedContent") (view c.args.one.now) (view c.in-Some-Some.one.now) c.requires.one (sym c.in-Some-Some.ensures),
+        whole_tree-get (codes "OrderedContent") (view c.args.other.now) (view c.in-Some-Some.other.now) c.requires.other (sym c.in-Some-Some.ensures'),
+      ),
+    )
+
+pub is_same_within-returns-in-Some-Some : goal.is_same_within-returns-in-Some-Some
+is_same_within-returns-in-Some-Some t c =
+    decides_as refl
+    (sym (within_some (view c.args.sides.left.now) (view c.args.one.now) (view c.in-Some-Some.one.now) (sym c.in-Some-Some.ensures)))
+    (sym (within_some (view c.args.sides.right.now) (view c.args.other.now) (view c.in-Some-Some.other.now) (sym c.in-Some-Some.ensures')))
+    c.is_same_content.ensures
+
+pub is_same_within-returns-in-Some-None : goal.is_same_within-returns-in-Some-None
+is_same_within-returns-in-Some-None t c =
+    decides_as refl
+    (sym (within_some (view c.args.sides.left.now) (view c.args.one.now) (view c.in-Some-None.one.now) (sym c.in-Some-None.ensures)))
+    (sym (within_none (view c.args.sides.right.now) (view c.args.other.now) (sym c.in-Some-None.ensures')))
+    (decides_swap c.has_no_content.ensures)
+
+pub is_same_within-returns-in-None-Some : goal.is_same_within-returns-in-None-Some
+is_same_within-returns-in-None-Some t c =
+    decides_as refl
+    (sym (within_none (view c.args.sides.left.now) (view c.args.one.now) (sym c.in-None-Some.ensures)))
+    (sym (within_some (view c.args.sides.right.now) (view c.args.other.now) (view c.in-None-Some.other.now) (sym c.in-None-Some.ensures')))
+    c.has_no_content-in-None-Some.ensures
+
+pub is_same_within-returns-in-None-None : goal.is_same_within-returns-in-None-None
+is_same_within-returns-in-None-None t c = (
+  λ h. within_none (view c.args.sides.left.now) (view c.args.one.now) (sym c.in-None-None.ensures) ∙ sym (within_none (view c.args.sides.right.now) (view c.args.other.now) (sym c.in-None-None.ensures')),
+  λ h. refl,
+)
+
+pub is_same_header-returns-then-is_same_rest : goal.is_same_header-returns-then-is_same_rest
+is_same_header-returns-then-is_same_rest t c =
+    let left = view c.args.sides.left.now in
+    let right = view c.args.sides.right.now in
+    let d = view c.args.one.now in
+    let e = view c.args.other.now in
+    let k = key_named left family.Header (text_at (codes "HeaderId") d) in
+    let l = key_named right family.Header (text_at (codes "HeaderId") e) in
+    let m = carried_members (class_of_node d) d in
+    let n = carried_members (class_of_node e) e in
+    let both : (k ≡ l) × (m ≡ n) =
+    elim c.if-is_same_owner.branch [
+      | is_same_header-then-is_same_owner w ↦ (c.is_same_owner.ensures.0 w.if-is_same_owner.true, w.is_same_rest.ensures.0 (sym w.value-is ∙ c.if-is_same_rest.true))
+      | is_same_header-else-is_same_owner w ↦ absurd (true≢false (sym c.if-is_same_rest.true ∙ (w.value-is ∙ w.if-is_same_owner.false)))
+    ] in
+    header-Decides c.is_same_within.result k l (content_within left d) (content_within right e) m n
+    (λ h. (both.0, both.1, c.is_same_within.ensures.0 h))
+    (λ a b s. c.is_same_within.ensures.1 s)

@@ -1,0 +1,15 @@
+use Rattle.std.proofs.Common.{map, drop, option_and_then}
+use Rattle.std.specs.Slice.Iter.{iter_rest}
+use Rattle.serde_json.specs.Find.{as_str}
+use Rattle.serde_json.specs.View.{view}
+use Rattle.erd_meaning.specs.SelectionNames.{name_named}
+use Rattle.erd_compare.proofs.same_content.StepByStep.{AreSameIfLeft}
+use Rattle.erd_compare.proofs.values.content.are_same_names.Given as goal
+
+abbrev pub invariant-loop-one : goal.invariant-loop-one
+invariant-loop-one l =
+    AreSameIfLeft
+    (map (λ v. option_and_then (name_named (view l.sides.left.now)) (as_str (view v))) l.ones)
+    (map (λ v. option_and_then (name_named (view l.sides.right.now)) (as_str (view v))) l.others)
+    (map (λ v. option_and_then (name_named (view l.sides.left.now)) (as_str (view v))) (drop l.one-index l.ones))
+    (map (λ v. option_and_then (name_named (view l.sides.right.now)) (as_str (view v))) (iter_rest l.rest))

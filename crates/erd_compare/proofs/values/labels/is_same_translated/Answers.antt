@@ -1,0 +1,46 @@
+-- The members beside the translations, then the translations.
+use Rattle.std.proofs.Common.{Bool, codes, map, refl, subst}
+use Rattle.serde_json.specs.Data.{Data}
+use Rattle.serde_json.specs.View.{view}
+use Rattle.erd_check.specs.Trees.{are_same_members}
+use Rattle.erd_check.specs.Values.{entries_at}
+use Rattle.erd_meaning.specs.Records.{label_beside_text, json_set}
+use Rattle.erd_compare.specs.code.Choices.{chosen_in, translated_label}
+use Rattle.erd_compare.specs.code.Comparing.{Decides, IsWholeTree}
+use Rattle.erd_compare.specs.declared.values.chosen_members.Choice.TheVariants.{BesideText}
+use Rattle.erd_compare.proofs.same_values.ChosenMembers.{chosen-Decides}
+use Rattle.erd_compare.proofs.same_values.JsonSets.{first_answer, json_set-Decides, second_answer}
+use Rattle.erd_compare.proofs.same_values.Labels.{chosen_beside, translated-Decides}
+use Rattle.erd_compare.proofs.whole_trees.WholeTrees.{whole_trees-entries_at, whole_values-entries_at}
+use Rattle.erd_compare.proofs.values.labels.is_same_translated.Goals as goal
+
+pub is_same_set-requires-clause-ones : goal.is_same_set-requires-clause-ones
+is_same_set-requires-clause-ones c = whole_values-entries_at (codes "Text") (view c.args.one.now) c.entries_at.result.now c.requires.one c.entries_at.ensures
+
+pub is_same_set-requires-clause-others : goal.is_same_set-requires-clause-others
+is_same_set-requires-clause-others c =
+    whole_values-entries_at (codes "Text") (view c.args.other.now) c.entries_at-then-is_same_choice.result.now c.requires.other c.entries_at-then-is_same_choice.ensures
+
+-- the members beside the translations
+same_beside : (d e : Data) → IsWholeTree d → IsWholeTree e → Decides (are_same_members (chosen_in BesideText d) (chosen_in BesideText e)) (label_beside_text d) (label_beside_text e)
+same_beside d e left right = chosen-Decides BesideText BesideText d e (label_beside_text d) (label_beside_text e) left right (chosen_beside d) (chosen_beside e)
+
+pub returns-then-is_same_choice : goal.returns-then-is_same_choice
+returns-then-is_same_choice c =
+    let one = view c.args.one.now in
+    let other = view c.args.other.now in
+    let sets : Decides c.is_same_set.result (json_set (entries_at (codes "Text") one)) (json_set (entries_at (codes "Text") other)) =
+    subst (λ x. Decides c.is_same_set.result (json_set x) (json_set (entries_at (codes "Text") other))) c.entries_at.ensures
+    (subst (λ x. Decides c.is_same_set.result (json_set (map view c.entries_at.result.now)) (json_set x)) c.entries_at-then-is_same_choice.ensures c.is_same_set.ensures) in
+    subst (λ (answer : Bool). Decides answer (translated_label one) (translated_label other))
+    (second_answer _ c.is_same_set.result _ c.is_same_set.result c.is_same_choice.ensures refl c.if-is_same_choice.true)
+    (translated-Decides _ c.is_same_set.result one other (same_beside one other c.requires.one c.requires.other) sets)
+
+pub returns-else-is_same_choice : goal.returns-else-is_same_choice
+returns-else-is_same_choice c =
+    let one = view c.args.one.now in
+    let other = view c.args.other.now in
+    subst (λ (answer : Bool). Decides answer (translated_label one) (translated_label other))
+    (first_answer _ _ _ c.is_same_choice.ensures c.if-is_same_choice.false)
+    (translated-Decides _ _ one other (same_beside one other c.requires.one c.requires.other)
+    (json_set-Decides (entries_at (codes "Text") one) (entries_at (codes "Text") other) (whole_trees-entries_at (codes "Text") one c.requires.one) (whole_trees-entries_at (codes "Text") other c.requires.other)))

@@ -1,0 +1,11 @@
+-- Equality as JSON decides equality of whole trees.
+use Rattle.std.proofs.Common.{sym, subst, Bool}
+use Rattle.serde_json.specs.View.{view}
+use Rattle.erd_compare.specs.code.Comparing.{Decides}
+use Rattle.erd_compare.proofs.whole_trees.WholeTrees.{is_same_json-Decides}
+use Rattle.erd_compare.proofs.values.sets.is_same_value.Goals as goal
+
+pub returns : goal.returns
+returns c =
+    subst (λ (answer : Bool). Decides answer (view c.args.one.now) (view c.args.other.now)) (sym c.same_json.ensures)
+    (is_same_json-Decides (view c.args.one.now) (view c.args.other.now) c.requires.one c.requires.other)

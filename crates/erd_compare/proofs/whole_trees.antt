@@ -1,0 +1,2 @@
+pub mod WholeTrees
+pub mod FamilyTrees

@@ -1,0 +1,135 @@
+-- Whole trees: their members and entries are whole trees, and equality as JSON decides equality on them.
+use Rattle.std.proofs.Common.{◌≡◌, ◌<◌, ℕ, zero, suc, pos, List, [], ◌∷◌, Bool, true, false, ◌&&◌, Option, Some, None, map, length, get_or, refl, sym, subst, arith}
+use Rattle.std.proofs.lemmas.Bool.{and_from, or_parts}
+use Rattle.std.proofs.lemmas.Bool.Decides.{Decides-int_eq}
+use Rattle.std.specs.List.{AllByRecursion}
+use Rattle.std.specs.Option.{option_map_or}
+use Rattle.serde_json.specs.Data.{Num, unsigned, negative, float, Data, null, boolean, number, string, array, object, Items, no_items, item, Members, no_members, member}
+use Rattle.serde_json.specs.Find.{get, is_float}
+use Rattle.serde_json.specs.View.{view}
+use Rattle.serde_json.specs.Written.{has_float, items_have_float, members_have_float}
+use Rattle.serde_json.specs.declared.value.Value.{Value}
+use Rattle.erd_check.specs.Trees.{IsTree, AreTrees, is_same_json, are_same_items, are_same_members, same_flag, same_number}
+use Rattle.erd_check.specs.Values.{entries_of, list_of_items, entries_at}
+use Rattle.erd_check.proofs.Exact.{is_same_exact, text_itself}
+use Rattle.erd_check.proofs.Members.{get_member-tree}
+use Rattle.erd_meaning.proofs.selections.WholeParts.{whole_get}
+use Rattle.erd_compare.specs.code.Comparing.{Decides, IsWholeTree}
+
+-- values that are whole trees
+abbrev pub AreWholeTrees : List Data → Type 0
+AreWholeTrees ds = AllByRecursion IsWholeTree ds
+
+-- ---- members
+
+-- a member of a tree is one
+get-tree : (name : List ℕ) (d v : Data) → IsTree d → get name d ≡ Some v → IsTree v
+get-tree name null v h e = cc
+get-tree name (boolean b) v h e = cc
+get-tree name (number n) v h e = cc
+get-tree name (string s) v h e = cc
+get-tree name (array ds) v h e = cc
+get-tree name (object ms) v h e = get_member-tree name v ms h e
+
+-- a member of a whole tree is one
+pub whole_tree-get : (name : List ℕ) (d v : Data) → IsWholeTree d → get name d ≡ Some v → IsWholeTree v
+whole_tree-get name d v h e = record { is_tree = get-tree name d v h.is_tree e; whole = whole_get name d v h.whole e }
+
+-- ---- entries
+
+-- the items of an array
+whole_trees-items : (ds : Items) → AreTrees ds → items_have_float ds ≡ false → AreWholeTrees (list_of_items ds)
+whole_trees-items no_items trees h = tt
+whole_trees-items (item d ds) trees h =
+    let both = or_parts (has_float d) (items_have_float ds) h in
+    (record { is_tree = trees.0; whole = both.0 }, whole_trees-items ds trees.1 both.1)
+
+-- the entries of a whole tree are whole trees
+pub whole_trees-entries_of : (d : Data) → IsWholeTree d → AreWholeTrees (entries_of d)
+whole_trees-entries_of null h = tt
+whole_trees-entries_of (boolean b) h = tt
+whole_trees-entries_of (number n) h = tt
+whole_trees-entries_of (string s) h = tt
+whole_trees-entries_of (array ds) h = whole_trees-items ds h.is_tree h.whole
+whole_trees-entries_of (object ms) h = tt
+
+-- the entries of the array of a member
+pub whole_trees-entries_at : (name : List ℕ) (d : Data) → IsWholeTree d → AreWholeTrees (entries_at name d)
+whole_trees-entries_at name d h = at (get name d) refl
+  where
+    at : (o : Option Data) → get name d ≡ o → AreWholeTrees (option_map_or entries_of o [])
+    at None e = tt
+    at (Some v) e = whole_trees-entries_of v (whole_tree-get name d v h e)
+
+-- values whose trees are known to be whole
+pub whole_trees-values : (vs : List Value) → AreWholeTrees (map view vs) → AllByRecursion (λ v. IsWholeTree (view v)) vs
+whole_trees-values [] h = tt
+whole_trees-values (v ∷ vs) h = (h.0, whole_trees-values vs h.1)
+
+-- the trees of such values
+pub whole_trees-views : (vs : List Value) → AllByRecursion (λ v. IsWholeTree (view v)) vs → AreWholeTrees (map view vs)
+whole_trees-views [] h = tt
+whole_trees-views (v ∷ vs) h = (h.0, whole_trees-views vs h.1)
+
+-- values that are the entries of a whole tree
+pub whole_values-entries_of : (d : Data) (vs : List Value) → IsWholeTree d → map view vs ≡ entries_of d → AllByRecursion (λ v. IsWholeTree (view v)) vs
+whole_values-entries_of d vs h is = whole_trees-values vs (subst AreWholeTrees (sym is) (whole_trees-entries_of d h))
+
+-- values that are the entries of the array of a member
+pub whole_values-entries_at : (name : List ℕ) (d : Data) (vs : List Value) → IsWholeTree d → map view vs ≡ entries_at name d → AllByRecursion (λ v. IsWholeTree (view v)) vs
+whole_values-entries_at name d vs h is = whole_trees-values vs (subst AreWholeTrees (sym is) (whole_trees-entries_at name d h))
+
+-- the value at an index
+pub whole_value-index : (vs : List Value) (i : ℕ) (v : Value) → AllByRecursion (λ w. IsWholeTree (view w)) vs → i < length vs → v ≡ get_or vs i v → IsWholeTree (view v)
+whole_value-index [] i v h low e = absurd (omega arith)
+whole_value-index (w ∷ vs) zero v h low e = subst (λ u. IsWholeTree (view u)) (sym e) h.0
+whole_value-index (w ∷ vs) (suc i) v h low e = whole_value-index vs i v h.1 (omega arith) e
+
+-- ---- equality
+
+-- a truth value is equal to itself
+flag_itself : (b : Bool) → same_flag b b ≡ true
+flag_itself true = refl
+flag_itself false = refl
+
+-- a whole number is equal to itself
+number_itself : (n : Num) → is_float n ≡ false → same_number n n ≡ true
+number_itself (unsigned n) h = (Decides-int_eq (pos n) (pos n)).1 refl
+number_itself (negative z) h = (Decides-int_eq z z).1 refl
+number_itself (float x) h = cc
+
+mutual
+  -- a value that holds no fraction is equal to itself
+  itself : (d : Data) → has_float d ≡ false → is_same_json d d ≡ true
+  itself null h = refl
+  itself (boolean b) h = flag_itself b
+  itself (number n) h = number_itself n h
+  itself (string s) h = text_itself s
+  itself (array ds) h = items_themselves ds h
+  itself (object ms) h = members_themselves ms h
+
+  -- items that hold no fraction are equal to themselves
+  items_themselves : (ds : Items) → items_have_float ds ≡ false → are_same_items ds ds ≡ true
+  items_themselves no_items h = refl
+  items_themselves (item d ds) h =
+      let parts = or_parts (has_float d) (items_have_float ds) h in
+      and_from (is_same_json d d) (are_same_items ds ds) (itself d parts.0) (items_themselves ds parts.1)
+
+  -- members that hold no fraction are equal to themselves
+  pub members_themselves : (ms : Members) → members_have_float ms ≡ false → are_same_members ms ms ≡ true
+  members_themselves no_members h = refl
+  members_themselves (member k d ms) h =
+      let parts = or_parts (has_float d) (members_have_float ms) h in
+      and_from _ (is_same_json d d && are_same_members ms ms) (text_itself k) (and_from (is_same_json d d) (are_same_members ms ms) (itself d parts.0) (members_themselves ms parts.1))
+
+-- a whole tree is equal to itself as JSON
+pub whole_tree-itself : (d : Data) → IsWholeTree d → is_same_json d d ≡ true
+whole_tree-itself d h = itself d h.whole
+
+-- whole trees that are equal as JSON are one
+pub whole_tree-exact : (d e : Data) → IsWholeTree d → IsWholeTree e → is_same_json d e ≡ true → d ≡ e
+whole_tree-exact d e g h same = is_same_exact d e g.is_tree h.is_tree same
+
+-- equality as JSON decides equality of whole trees
+pub is_same_json-Decides : (d e : Data) → IsWholeTree d → IsWholeTree e → Decides (is_same_json d e) d e
+is_same_json-Decides d e g h = (whole_tree-exact d e g h, λ is. subst (λ x. is_same_json d x ≡ true) is (whole_tree-itself d g))

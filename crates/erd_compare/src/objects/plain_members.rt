@@ -1,0 +1,112 @@
+ghost use Rattle.std.specs.Prelude.{◌≡◌};
+ghost use Rattle.serde_json.specs.View.{view};
+ghost use Rattle.erd_check.specs.Values.{entries_of};
+ghost use Rattle.erd_meaning.specs.Records.{is_in_envelope, json_set, plain_member, plain_value};
+ghost use Rattle.erd_compare.specs.code.Comparing.{Decides, IsWholeTree, NamesKeys};
+ghost use Rattle.erd_compare.specs.code.PlainParts.{means_nothing, meant_value};
+
+use crate::sides::Sides;
+use crate::values::content::is_same_content;
+use crate::values::labels::is_same_label;
+use crate::values::references::{is_same_key_set, is_same_reference};
+use crate::values::sets::{is_same_set, is_same_value};
+use erd_check::values::{entries_of, is_empty_array};
+use erd_tables::{Class, MemberKind, is_envelope, member_kind};
+use serde_json::Value;
+
+/// Whether members of one name, of two objects of one class, mean the same by themselves, which is without the objects that
+/// stand in them.
+pub(crate) fn is_same_plain_member(
+    sides: Sides,
+    class: Class,
+    name: &str,
+    one: &Value,
+    other: &Value,
+) -> bool
+    requires one { IsWholeTree (view one.now) }
+    requires other { IsWholeTree (view other.now) }
+    ensures { Decides result (plain_member (view sides.entry.left.now) (view one.now) class name.now)
+        (plain_member (view sides.entry.right.now) (view other.now) class name.now) }
+{
+    if is_in_envelope(class, name) {
+        return true;
+    }
+    let kind = member_kind(class, name);
+    match (one.get(name), other.get(name)) {
+        (Some(one), Some(other)) => is_same_plain(sides, kind, one, other),
+        (Some(one), None) => means_nothing(kind, one),
+        (None, Some(other)) => means_nothing(kind, other),
+        (None, None) => true,
+    }
+}
+
+/// Whether members of this name, of objects of the class, are no part of what a report means.
+fn is_in_envelope(class: Class, name: &str) -> bool
+    ensures { result ≡ is_in_envelope class name.now }
+{
+    match class {
+        Class::ElectionReport => is_envelope(name),
+        _ => false,
+    }
+}
+
+/// Whether two values of members of one kind mean the same by themselves.
+fn is_same_plain(sides: Sides, kind: MemberKind, one: &Value, other: &Value) -> bool
+    requires one { IsWholeTree (view one.now) }
+    requires other { IsWholeTree (view other.now) }
+    requires keyed { NamesKeys kind }
+    ensures { Decides result (plain_value (view sides.entry.left.now) kind (view one.now)) (plain_value (view sides.entry.right.now) kind (view other.now)) }
+{
+    match (means_nothing(kind, one), means_nothing(kind, other)) {
+        (true, true) => true,
+        (false, false) => is_same_meant(sides, kind, one, other),
+        _ => false,
+    }
+}
+
+/// Whether two values of members of one kind, which both mean something, mean the same.
+fn is_same_meant(sides: Sides, kind: MemberKind, one: &Value, other: &Value) -> bool
+    requires one { IsWholeTree (view one.now) }
+    requires other { IsWholeTree (view other.now) }
+    requires keyed { NamesKeys kind }
+    ensures { Decides result (meant_value (view sides.entry.left.now) kind (view one.now)) (meant_value (view sides.entry.right.now) kind (view other.now)) }
+{
+    match kind {
+        MemberKind::Label => is_same_label(one, other),
+        MemberKind::One(family) => is_same_reference(sides, family, one, other),
+        MemberKind::Many(family) => {
+            is_same_key_set(sides, family, entries_of(one), entries_of(other))
+        }
+        MemberKind::Identifiers | MemberKind::Languages => is_same_array(one, other),
+        MemberKind::Content => is_same_content(sides, one, other),
+        _ => is_same_value(one, other),
+    }
+}
+
+/// Whether two arrays are the same set of values.
+fn is_same_array(one: &Value, other: &Value) -> bool
+    requires one { IsWholeTree (view one.now) }
+    requires other { IsWholeTree (view other.now) }
+    ensures { Decides result (json_set (entries_of (view one.now))) (json_set (entries_of (view other.now))) }
+{
+    is_same_set(entries_of(one), entries_of(other))
+}
+
+/// Whether a value of this kind means nothing by itself: an empty array, or a value that holds objects.
+fn means_nothing(kind: MemberKind, value: &Value) -> bool
+    ensures { result ≡ means_nothing kind (view value.now) }
+{
+    match kind {
+        MemberKind::Word
+        | MemberKind::Flag
+        | MemberKind::Whole
+        | MemberKind::Carried
+        | MemberKind::Label
+        | MemberKind::One(_) => false,
+        MemberKind::Many(_)
+        | MemberKind::Identifiers
+        | MemberKind::Languages
+        | MemberKind::Content => is_empty_array(value),
+        _ => true,
+    }
+}

@@ -1,0 +1,131 @@
+ghost use Rattle.std.specs.Prelude.{◌≡◌, option_map, IfOk, Some};
+ghost use Rattle.serde_json.specs.View.{view};
+ghost use Rattle.erd_meaning.specs.Records.{member_of_class, object_record};
+ghost use Rattle.erd_compare.specs.code.Comparing.{IsWholeTree, TellsHow, Decides};
+ghost use Rattle.erd_compare.specs.code.LeastNames.{TellsAmongNames, lesser_name, record_of_class};
+ghost use Rattle.erd_compare.specs.code.SelectionMembers.{is_selections};
+
+use crate::difference::How;
+use crate::objects::plain_members::is_same_plain_member;
+use crate::objects::selections::is_same_selections;
+use crate::sides::Sides;
+use erd_check::values::class_of_object;
+use erd_tables::{Class, Family, MemberKind, Role, Text, member_kind};
+use serde_json::Value;
+use std::alloc::{AllocError, Global};
+
+/// How two objects with a role differ: another class before any member, else the least name of a member that differs.
+pub(crate) fn object_difference(
+    alloc: Global,
+    sides: Sides,
+    role: Role,
+    one: &Value,
+    other: &Value,
+) -> Result<Option<How>, AllocError>
+    requires one { IsWholeTree (view one.now) }
+    requires other { IsWholeTree (view other.now) }
+    ensures { IfOk result (TellsHow (object_record (view sides.entry.left.now) role (view one.now)) (object_record (view sides.entry.right.now) role (view other.now))) }
+{
+    match (class_of_object(role, one), class_of_object(role, other)) {
+        (None, None) => Ok(None),
+        (Some(_), None) => Ok(Some(How::OnlyLeft)),
+        (None, Some(_)) => Ok(Some(How::OnlyRight)),
+        (Some(class), Some(other_class)) => {
+            if class == other_class {
+                member_difference(alloc, sides, class, one, other)
+            } else {
+                Ok(Some(How::OtherClass))
+            }
+        }
+    }
+}
+
+/// How two objects of one class differ: the least name of a member that differs.
+fn member_difference(
+    alloc: Global,
+    sides: Sides,
+    class: Class,
+    one: &Value,
+    other: &Value,
+) -> Result<Option<How>, AllocError>
+    requires one { IsWholeTree (view one.now) }
+    requires other { IsWholeTree (view other.now) }
+    ensures { IfOk result (TellsHow (Some (record_of_class (view sides.entry.left.now) class (view one.now)))
+        (Some (record_of_class (view sides.entry.right.now) class (view other.now)))) }
+{
+    let first = first_differing_name(alloc, sides, class, one, one, other)?;
+    let second = first_differing_name(alloc, sides, class, other, one, other)?;
+    match lesser_name(first, second) {
+        Some(name) => {
+            let name = String::from_str(alloc, name)?;
+            Ok(Some(How::Member(Text::of(name))))
+        }
+        None => Ok(None),
+    }
+}
+
+/// The first of the names of a value, in their order, at which the members of two objects of one class differ.
+fn first_differing_name<'a>(
+    alloc: Global,
+    sides: Sides,
+    class: Class,
+    named: &'a Value,
+    one: &Value,
+    other: &Value,
+) -> Result<Option<&'a str>, AllocError>
+    requires named { IsWholeTree (view named.now) }
+    requires one { IsWholeTree (view one.now) }
+    requires other { IsWholeTree (view other.now) }
+    ensures { IfOk result (λ found. TellsAmongNames (member_of_class (view sides.entry.left.now) (view one.now) class)
+        (member_of_class (view sides.entry.right.now) (view other.now) class) (view named.now) (option_map (λ s. s.now) found)) }
+{
+    let Some(members) = named.as_object() else {
+        return Ok(None);
+    };
+    for (name, _) in members.iter() {
+        let name = name.as_str();
+        if !is_same_member(alloc, sides, class, name, one, other)? {
+            return Ok(Some(name));
+        }
+    }
+    Ok(None)
+}
+
+/// The lesser of two names, where there are any.
+fn lesser_name<'a>(one: Option<&'a str>, other: Option<&'a str>) -> Option<&'a str>
+    ensures { option_map (λ s. s.now) result ≡ lesser_name (option_map (λ s. s.now) one.entry) (option_map (λ s. s.now) other.entry) }
+{
+    match (one, other) {
+        (Some(first), Some(second)) => Some(first.min(second)),
+        (Some(_), None) => one,
+        (None, _) => other,
+    }
+}
+
+/// Whether members of one name, of two objects of one class, mean the same.
+fn is_same_member(
+    alloc: Global,
+    sides: Sides,
+    class: Class,
+    name: &str,
+    one: &Value,
+    other: &Value,
+) -> Result<bool, AllocError>
+    requires one { IsWholeTree (view one.now) }
+    requires other { IsWholeTree (view other.now) }
+    ensures { IfOk result (λ answer. Decides answer (member_of_class (view sides.entry.left.now) (view one.now) class name.now)
+        (member_of_class (view sides.entry.right.now) (view other.now) class name.now)) }
+{
+    if is_selections(member_kind(class, name)) {
+        is_same_selections(alloc, sides, name, one, other)
+    } else {
+        Ok(is_same_plain_member(sides, class, name, one, other))
+    }
+}
+
+/// Whether members of this kind are selections.
+fn is_selections(kind: MemberKind) -> bool
+    ensures { result ≡ is_selections kind }
+{
+    matches!(kind, MemberKind::Keyed(Family::Selection))
+}

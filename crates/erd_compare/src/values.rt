@@ -1,0 +1,7 @@
+//! Whether two values of members mean the same.
+
+mod chosen_members;
+pub(crate) mod content;
+pub(crate) mod labels;
+pub(crate) mod references;
+pub(crate) mod sets;

@@ -1,0 +1,173 @@
+ghost use Rattle.std.specs.Prelude.{◌≡◌, true, map, option_and_then};
+ghost use Rattle.std.specs.List.{AllByRecursion};
+ghost use Rattle.serde_json.specs.Find.{as_str};
+ghost use Rattle.serde_json.specs.View.{view};
+ghost use Rattle.erd_meaning.specs.Keys.{has_keys};
+ghost use Rattle.erd_check.specs.Values.{text_at};
+ghost use Rattle.erd_meaning.specs.Meaning.{no_content};
+ghost use Rattle.erd_meaning.specs.Records.{carried_members, content_of, node_of, contest_node, header_node, class_of_node, is_header_class};
+ghost use Rattle.erd_meaning.specs.SelectionNames.{key_named, name_named};
+ghost use Rattle.erd_compare.specs.code.Comparing.{Decides, IsWholeTree};
+ghost use Rattle.erd_compare.specs.code.ContentParts.{content_within};
+
+use crate::sides::Sides;
+use crate::values::chosen_members::is_same_carried;
+use crate::values::references::{key_with_id, name_named};
+use erd_check::values::{class_of_object, entries_at, entries_of, text_at};
+use erd_meaning::Report;
+use erd_tables::{Class, Family, Role};
+use serde_json::Value;
+
+/// Whether two lists of contests and headers are in one order, at every depth of headers.
+#[cycle(content)]
+pub(crate) fn is_same_content(sides: Sides, one: &Value, other: &Value) -> bool
+    requires one { IsWholeTree (view one.now) }
+    requires other { IsWholeTree (view other.now) }
+    ensures { Decides result (content_of (view sides.entry.left.now) (view one.now)) (content_of (view sides.entry.right.now) (view other.now)) }
+{
+    match one {
+        Value::Array(ones) => are_same_nodes(sides, ones, entries_of(other)),
+        _ => has_no_content(sides.right, other),
+    }
+}
+
+/// Whether two lists have the same contests and headers, one after another.
+#[cycle(content)]
+fn are_same_nodes(sides: Sides, ones: &Vec<Value>, others: &[Value]) -> bool
+    requires ones { AllByRecursion (λ v. IsWholeTree (view v)) ones.now.items }
+    requires others { AllByRecursion (λ v. IsWholeTree (view v)) others.now }
+    ensures { Decides result (map (λ v. node_of (view sides.entry.left.now) (view v)) ones.now.items)
+        (map (λ v. node_of (view sides.entry.right.now) (view v)) others.now) }
+{
+    let mut rest = others.iter();
+    for one in ones {
+        let Some(other) = rest.next() else {
+            return false;
+        };
+        if !is_same_node(sides, one, other) {
+            return false;
+        }
+    }
+    rest.next().is_none()
+}
+
+/// Whether two contests or headers mean the same.
+#[cycle(content)]
+fn is_same_node(sides: Sides, one: &Value, other: &Value) -> bool
+    requires one { IsWholeTree (view one.now) }
+    requires other { IsWholeTree (view other.now) }
+    ensures { Decides result (node_of (view sides.entry.left.now) (view one.now)) (node_of (view sides.entry.right.now) (view other.now)) }
+{
+    match (is_header(one), is_header(other)) {
+        (true, true) => is_same_header(sides, one, other),
+        (true, false) => false,
+        (false, true) => false,
+        (false, false) => is_same_contest(sides, one, other),
+    }
+}
+
+/// Whether two headers mean the same.
+#[cycle(content)]
+fn is_same_header(sides: Sides, one: &Value, other: &Value) -> bool
+    requires one { IsWholeTree (view one.now) }
+    requires other { IsWholeTree (view other.now) }
+    ensures { Decides result (header_node (view sides.entry.left.now) (view one.now) (content_within (view sides.entry.left.now) (view one.now)))
+        (header_node (view sides.entry.right.now) (view other.now) (content_within (view sides.entry.right.now) (view other.now))) }
+{
+    is_same_owner(sides, Family::Header, "HeaderId", one, other)
+        && is_same_rest(one, other)
+        && is_same_within(sides, one, other)
+}
+
+/// Whether the contents inside two headers are in one order.
+#[cycle(content)]
+fn is_same_within(sides: Sides, one: &Value, other: &Value) -> bool
+    requires one { IsWholeTree (view one.now) }
+    requires other { IsWholeTree (view other.now) }
+    ensures { Decides result (content_within (view sides.entry.left.now) (view one.now)) (content_within (view sides.entry.right.now) (view other.now)) }
+{
+    match (one.get("OrderedContent"), other.get("OrderedContent")) {
+        (Some(one), Some(other)) => is_same_content(sides, one, other),
+        (Some(one), None) => has_no_content(sides.left, one),
+        (None, Some(other)) => has_no_content(sides.right, other),
+        (None, None) => true,
+    }
+}
+
+/// Whether a list of contests and headers is empty.
+fn has_no_content(report: &Report, value: &Value) -> bool
+    ensures { Decides result no_content (content_of (view report.now) (view value.now)) }
+{
+    entries_of(value).is_empty()
+}
+
+/// Whether two contests in the order of a ballot mean the same.
+fn is_same_contest(sides: Sides, one: &Value, other: &Value) -> bool
+    requires one { IsWholeTree (view one.now) }
+    requires other { IsWholeTree (view other.now) }
+    ensures { Decides result (contest_node (view sides.entry.left.now) (view one.now)) (contest_node (view sides.entry.right.now) (view other.now)) }
+{
+    let name = "OrderedContestSelectionIds";
+    is_same_owner(sides, Family::Contest, "ContestId", one, other)
+        && is_same_rest(one, other)
+        && are_same_names(sides, entries_at(one, name), entries_at(other, name))
+}
+
+/// Whether two nodes of a ballot's order carry the same members.
+fn is_same_rest(one: &Value, other: &Value) -> bool
+    requires one { IsWholeTree (view one.now) }
+    requires other { IsWholeTree (view other.now) }
+    ensures { Decides result (carried_members (class_of_node (view one.now)) (view one.now))
+        (carried_members (class_of_node (view other.now)) (view other.now)) }
+{
+    is_same_carried(class_of_node(one), one, class_of_node(other), other)
+}
+
+/// Whether two lists of references name selections of the same names, one after another.
+fn are_same_names(sides: Sides, ones: &[Value], others: &[Value]) -> bool
+    ensures { Decides result (map (λ v. option_and_then (name_named (view sides.entry.left.now)) (as_str (view v))) ones.now)
+        (map (λ v. option_and_then (name_named (view sides.entry.right.now)) (as_str (view v))) others.now) }
+{
+    let mut rest = others.iter();
+    for one in ones {
+        let Some(other) = rest.next() else {
+            return false;
+        };
+        if !is_same_name(sides, one, other) {
+            return false;
+        }
+    }
+    rest.next().is_none()
+}
+
+/// Whether two references name selections of one name.
+fn is_same_name(sides: Sides, one: &Value, other: &Value) -> bool
+    ensures { Decides result (option_and_then (name_named (view sides.entry.left.now)) (as_str (view one.now)))
+        (option_and_then (name_named (view sides.entry.right.now)) (as_str (view other.now))) }
+{
+    name_named(sides.left, one) == name_named(sides.right, other)
+}
+
+/// Whether the members of a name refer to objects of a family with one key.
+fn is_same_owner(sides: Sides, family: Family, name: &str, one: &Value, other: &Value) -> bool
+    requires keyed { has_keys family ≡ true }
+    ensures { Decides result (key_named (view sides.entry.left.now) family (text_at name.now (view one.now)))
+        (key_named (view sides.entry.right.now) family (text_at name.now (view other.now))) }
+{
+    key_with_id(sides.left, family, text_at(one, name))
+        == key_with_id(sides.right, family, text_at(other, name))
+}
+
+/// Whether a node of a ballot's order is a header.
+fn is_header(node: &Value) -> bool
+    ensures { result ≡ is_header_class (class_of_node (view node.now)) }
+{
+    matches!(class_of_node(node), Some(Class::OrderedHeader))
+}
+
+/// The class of a node of a ballot's order.
+fn class_of_node(node: &Value) -> Option<Class>
+    ensures { result ≡ class_of_node (view node.now) }
+{
+    class_of_object(Role::Content, node)
+}
