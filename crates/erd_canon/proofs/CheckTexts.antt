@@ -4,10 +4,11 @@ use Rattle.std.specs.Prelude.{IfOk}
 use Rattle.erd_tables.specs.Faults.{fault_line}
 use Rattle.erd_canon.proofs.Refusing.{refused_is_none}
 use Rattle.erd_canon.specs.EngineTexts.{IsCheckText, IsCanonicalOutput, IsCanonicalErrors}
-use Rattle.erd_canon.specs.Run.{IsAnswered, IsAnswerWritten, IsChecked, IsCheckWritten, IsReadWhole, IsToldCheck, IsToldRun, IsWholeCheck, IsWholeRun}
-use Rattle.erd_canon.specs.declared.outcome.Outcome.{Outcome}
-use Rattle.erd_canon.specs.declared.outcome.RunFault.{RunFault}
-use Rattle.erd_canon.specs.declared.outcome.Outcome.TheVariants.{Good, Bad, NotJson}
+use Rattle.erd_canon.specs.Run.{IsAnswered, IsAnswerWritten, IsChecked, IsCheckWritten, IsToldCheck, IsToldRun, IsWholeCheck, IsWholeRun}
+use Rattle.erd_canon.specs.Reading.{IsReadWhole}
+use Rattle.erd_canon.specs.declared.engines.outcome.Outcome.{Outcome}
+use Rattle.erd_canon.specs.declared.engines.outcome.RunFault.{RunFault}
+use Rattle.erd_canon.specs.declared.engines.outcome.Outcome.TheVariants.{Good, Bad, NotJson}
 
 -- the text of a check
 pub checked_text : (bytes : List ℕ) (outcome : Outcome) (text : List ℕ) → IsChecked bytes outcome text → IsCheckText bytes text

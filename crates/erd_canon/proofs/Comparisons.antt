@@ -12,12 +12,14 @@ use Rattle.erd_compare.specs.declared.difference.Difference.{Difference}
 use Rattle.erd_canon.specs.Bytes.{IsTreeOf}
 use Rattle.erd_canon.specs.EngineTexts.{IsCompareText, IsComparison, IsRefusal, lines_of_side, text_of_lines}
 use Rattle.erd_canon.specs.Refused.{IsSomeReport, RefusedAs}
-use Rattle.erd_canon.specs.Run.{IsCompared, IsCompareWritten, IsReadWhole, IsRefusalWritten, IsSideRefused, IsToldCompare, TellsRefusal}
-use Rattle.erd_canon.specs.declared.outcome.Outcome.{Outcome}
-use Rattle.erd_canon.specs.declared.outcome.RunFault.{RunFault}
-use Rattle.erd_canon.specs.declared.outcome.Outcome.TheVariants.{Good, Bad, NotJson}
-use Rattle.erd_canon.specs.declared.refusal.Refusal.{Refusal}
-use Rattle.erd_canon.specs.declared.refusal.Refusal.TheVariants as refusal
+use Rattle.erd_canon.specs.Run.{IsCompared, IsCompareWritten, IsSideRefused, IsToldCompare}
+use Rattle.erd_canon.specs.code.SideRefusals.{IsRefusalWritten, TellsRefusal}
+use Rattle.erd_canon.specs.Reading.{IsReadWhole}
+use Rattle.erd_canon.specs.declared.engines.outcome.Outcome.{Outcome}
+use Rattle.erd_canon.specs.declared.engines.outcome.RunFault.{RunFault}
+use Rattle.erd_canon.specs.declared.engines.outcome.Outcome.TheVariants.{Good, Bad, NotJson}
+use Rattle.erd_canon.specs.declared.bytes.refusal.Refusal.{Refusal}
+use Rattle.erd_canon.specs.declared.bytes.refusal.Refusal.TheVariants as refusal
 
 -- the first difference of the meanings of two trees that bytes are
 pub compared : (left right : List ℕ) (t u r s : Data) (found : Option Difference) → IsTreeOf left t → IsAccepted t → r ≡ t → IsTreeOf right u → IsAccepted u → s ≡ u

@@ -16,7 +16,7 @@ use Rattle.erd_meaning.specs.Accepted.{IsFault}
 use Rattle.erd_canon.specs.Bytes.{IsAcceptedReport, IsNotJson}
 use Rattle.erd_canon.specs.EngineTexts.{IsRefusal, IsRefusedReport, IsCheckText, IsCanonicalOutput, IsCanonicalErrors, IsCompareText}
 use Rattle.erd_canon.specs.Run.{IsCompared}
-use Rattle.erd_canon.specs.declared.outcome.Outcome.TheVariants.{Good, Bad, NotJson}
+use Rattle.erd_canon.specs.declared.engines.outcome.Outcome.TheVariants.{Good, Bad, NotJson}
 
 -- ---- no bytes are no JSON
 

@@ -4,7 +4,7 @@ use Rattle.clap.specs.Words.{takes}
 use Rattle.clap.proofs.OnLiterals.{clap_on_literals}
 use Rattle.erd_canon.specs.ExactLines.{HasFileNames, words_of}
 use Rattle.erd_canon.specs.code.Subcommands.{program}
-use Rattle.erd_canon.specs.declared.request.Request.TheVariants.{Filter, Check, Canon, Compare}
+use Rattle.erd_canon.specs.declared.commands.request.Request.TheVariants.{Filter, Check, Canon, Compare}
 
 -- the rows of the program's table
 no_words : words_of Filter ≡ []

@@ -6,11 +6,11 @@ use Rattle.clap.specs.Simple.{Shape}
 use Rattle.clap.specs.Takes.{default_passes, is_valid, level_passes, settle_passes, step_passes, turn_passes}
 use Rattle.clap.specs.Walk.{Held, Walk, arg_by_index, finished, nothing_held, rows_after, to_positional, value, walked}
 use Rattle.clap.proofs.OnLiterals.{clap_on_literals}
-use Rattle.erd_canon.specs.code.Subcommands.{program}
+use Rattle.erd_canon.specs.code.Subcommands.{program, IsAskedBy}
 use Rattle.erd_canon.proofs.PlainWords.{IsPlainWord, at, plain_word, walked_plain, turn_plain}
-use Rattle.erd_canon.specs.ExactLines.{HasFileNames, IsAskedBy, IsFileName, words_of}
-use Rattle.erd_canon.specs.declared.request.Request.{Request}
-use Rattle.erd_canon.specs.declared.request.Request.TheVariants.{Filter, Check, Canon, Compare}
+use Rattle.erd_canon.specs.ExactLines.{HasFileNames, IsFileName, words_of}
+use Rattle.erd_canon.specs.declared.commands.request.Request.{Request}
+use Rattle.erd_canon.specs.declared.commands.request.Request.TheVariants.{Filter, Check, Canon, Compare}
 
 -- a subcommand as built, by its place
 abbrev subcommand : ℕ → Shape
