@@ -13,7 +13,7 @@ use serde_json::Value;
 use std::alloc::Global;
 
 /// Whether the bytes are an accepted report, and if not, why.
-#[tactic(auto, using(crate::proofs::Refusing::refused_tree))]
+#[tactic(auto, using(crate::proofs::forms::Refusing::refused_tree))]
 pub fn check_bytes(alloc: Global, bytes: &[u8]) -> Result<(), Refusal>
     ensures ok { OnOk result (IsSomeReport bytes.now) }
     ensures refused { IfErr result (RefusedAs bytes.now) }
@@ -43,7 +43,7 @@ pub(crate) fn tree_of(alloc: Global, bytes: &[u8]) -> Result<Value, Refusal>
 
 /// The tree as an accepted report, or why it is refused: first the shape is judged, and only a report whose shape has no
 /// fault is judged further.
-#[tactic(auto, using(crate::proofs::Refusing::refused_shape))]
+#[tactic(auto, using(crate::proofs::forms::Refusing::refused_shape))]
 pub(crate) fn accepted<'a>(alloc: Global, tree: &'a Value) -> Result<Report<'a>, CheckError>
     requires nests { IsShallow (view tree.now) }
     ensures tree { IfOk result (λ report. report ≡ tree.now) }

@@ -12,7 +12,7 @@ use std::alloc::Global;
 ///
 /// They are the text without blanks of the one canonical report that means what the given one means. So two reports have
 /// equal canonical bytes exactly if they mean the same, and canonical bytes are their own.
-#[tactic(auto, using(crate::proofs::Refusing::refused_tree))]
+#[tactic(auto, using(crate::proofs::forms::Refusing::refused_tree))]
 pub fn canonical(alloc: Global, bytes: &[u8]) -> Result<Vec<u8>, Refusal>
     ensures ok { IfOk result (λ text. IsCanonicalBytes bytes.now text.items) }
     ensures unique { IfOk result (λ text. TellsMeanings bytes.now text.items) }

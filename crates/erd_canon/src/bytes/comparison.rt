@@ -11,7 +11,7 @@ use std::alloc::Global;
 /// The first difference of what two reports mean, and none exactly if they mean the same; or which report is refused, and why.
 ///
 /// The right report is judged only if the left one is accepted. Each is refused as `canonical` refuses it.
-#[tactic(auto, using(crate::proofs::Refusing::refused_tree))]
+#[tactic(auto, using(crate::proofs::forms::Refusing::refused_tree))]
 pub fn compare_bytes(alloc: Global, left: &[u8], right: &[u8]) -> Result<Option<Difference>, Side>
     ensures ok { IfOk result (IsComparison left.now right.now) }
     ensures refused { IfErr result (RefusedSide left.now right.now) }

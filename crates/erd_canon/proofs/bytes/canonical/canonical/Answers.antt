@@ -1,7 +1,7 @@
 use Rattle.std.proofs.Common.{ap}
 use Rattle.serde_json.specs.View.{view}
-use Rattle.erd_canon.proofs.CanonicalTexts.{canonical_text}
-use Rattle.erd_canon.proofs.FormLaws.{one_form_for_one_meaning, is_its_own_form}
+use Rattle.erd_canon.proofs.forms.CanonicalTexts.{canonical_text}
+use Rattle.erd_canon.proofs.forms.FormLaws.{one_form_for_one_meaning, is_its_own_form}
 use Rattle.erd_canon.proofs.bytes.canonical.canonical.Goals as goal
 
 pub returns-clause-ok : goal.returns-clause-ok

@@ -1,7 +1,7 @@
 use Rattle.std.proofs.Common.{rules, ◌≡◌, sym, subst, ap}
 use Rattle.serde_json.specs.View.{view}
-use Rattle.erd_canon.proofs.Comparisons.{compared}
-use Rattle.erd_canon.proofs.Refusing.{refused_tree}
+use Rattle.erd_canon.proofs.runs.Comparisons.{compared}
+use Rattle.erd_canon.proofs.forms.Refusing.{refused_tree}
 use Rattle.erd_canon.specs.Bytes.{IsTreeOf}
 use Rattle.erd_canon.specs.Refused.{RefusedAs, refusal_for}
 use Rattle.erd_canon.proofs.bytes.comparison.compare_bytes.Goals as goal

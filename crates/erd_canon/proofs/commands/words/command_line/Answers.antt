@@ -2,7 +2,7 @@ use Rattle.std.proofs.Common.{◌≡◌, ◌∙◌, ◌∷◌, Option, List, ap,
 use Rattle.clap.specs.Words.{Row, Text, is_simple, subcommand_of, subcommand_rows_of, takes}
 use Rattle.erd_canon.specs.code.Subcommands.{program, IsAskedBy}
 use Rattle.erd_canon.specs.ExactLines.{words_of}
-use Rattle.erd_canon.proofs.LineReadings.{program_simple, line_found, takes-line}
+use Rattle.erd_canon.proofs.lines.LineReadings.{program_simple, line_found, takes-line}
 use Rattle.erd_canon.proofs.commands.words.command_line.Goals as goal
 
 pub returns-in-Ok-try_get_matches_from : goal.returns-in-Ok-try_get_matches_from

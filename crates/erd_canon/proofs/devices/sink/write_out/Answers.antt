@@ -1,6 +1,6 @@
 use Rattle.std.proofs.Common.{◌≡◌, ◌-◌, length, take, drop, ◌∙◌, arith}
 use Rattle.std.proofs.lemmas.Grind.{common_steps}
-use Rattle.erd_canon.proofs.Bytes.{Appends-more}
+use Rattle.erd_canon.proofs.runs.KnownBytes.{Appends-more}
 use Rattle.erd_canon.proofs.devices.sink.write_out.Goals as goal
 
 pub loop-at-preserved : goal.loop-at-preserved

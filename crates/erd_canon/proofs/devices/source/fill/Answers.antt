@@ -1,6 +1,6 @@
 use Rattle.std.proofs.Common.{◌≡◌, ap, Err}
 use Rattle.erd_canon.specs.declared.engines.outcome.RunFault.TheVariants.{TooLong}
-use Rattle.erd_canon.proofs.Bytes.{Exceeds-more}
+use Rattle.erd_canon.proofs.runs.KnownBytes.{Exceeds-more}
 use Rattle.erd_canon.proofs.devices.source.fill.Goals as goal
 
 pub returns-in-Err-clause-too_long : goal.returns-in-Err-clause-too_long

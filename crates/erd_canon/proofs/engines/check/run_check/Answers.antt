@@ -1,7 +1,7 @@
 use Rattle.std.proofs.Common.{◌≤◌, sym, subst}
 use Rattle.erd_canon.specs.Reading.{IsReadWhole}
 use Rattle.erd_canon.specs.declared.devices.source.TheConstants.{MOST_BYTES}
-use Rattle.erd_canon.proofs.CheckTexts.{told_of_check}
+use Rattle.erd_canon.proofs.runs.CheckTexts.{told_of_check}
 use Rattle.erd_canon.proofs.engines.check.run_check.Goals as goal
 
 pub returns-clause-told : goal.returns-clause-told

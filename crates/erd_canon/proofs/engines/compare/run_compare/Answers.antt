@@ -1,7 +1,7 @@
 use Rattle.std.proofs.Common.{◌≤◌, sym, subst}
 use Rattle.erd_canon.specs.Reading.{IsReadWhole}
 use Rattle.erd_canon.specs.declared.devices.source.TheConstants.{MOST_BYTES}
-use Rattle.erd_canon.proofs.Comparisons.{told_of_compare}
+use Rattle.erd_canon.proofs.runs.Comparisons.{told_of_compare}
 use Rattle.erd_canon.proofs.engines.compare.run_compare.Goals as goal
 
 pub returns-clause-told : goal.returns-clause-told

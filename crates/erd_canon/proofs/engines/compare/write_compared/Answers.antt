@@ -1,5 +1,5 @@
 use Rattle.std.proofs.Common.{◌∙◌, subst}
-use Rattle.erd_canon.proofs.Comparisons.{difference_written, right_refusal_written}
+use Rattle.erd_canon.proofs.runs.Comparisons.{difference_written, right_refusal_written}
 use Rattle.erd_canon.specs.EngineTexts.{IsComparison}
 use Rattle.erd_canon.specs.Refused.{RefusedSide}
 use Rattle.erd_canon.proofs.engines.compare.write_compared.Goals as goal

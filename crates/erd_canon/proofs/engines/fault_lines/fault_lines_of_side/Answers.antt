@@ -1,6 +1,6 @@
 use Rattle.std.proofs.Common.{arith, sym, ap, ◌∙◌}
 use Rattle.std.specs.Option.{option_copied}
-use Rattle.erd_canon.proofs.FaultText.{get_within, one_more_line}
+use Rattle.erd_canon.proofs.runs.FaultText.{get_within, one_more_line}
 use Rattle.erd_canon.proofs.engines.fault_lines.fault_lines_of_side.Goals as goal
 
 pub unwrap-fault-requires : goal.unwrap-fault-requires

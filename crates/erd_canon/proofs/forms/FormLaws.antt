@@ -6,7 +6,7 @@ use Rattle.erd_check.proofs.ReadTrees.{read_is_tree}
 use Rattle.erd_meaning.specs.Records.{meaning}
 use Rattle.erd_normal.proofs.Unique.{unique}
 use Rattle.erd_normal.specs.Laws.{MeanAlike}
-use Rattle.erd_canon.proofs.Refusing.{one_tree}
+use Rattle.erd_canon.proofs.forms.Refusing.{one_tree}
 use Rattle.erd_canon.specs.ByteLaws.{OneFormForOneMeaning, IsItsOwnForm}
 use Rattle.erd_canon.specs.Bytes.{IsTreeOf, IsCanonicalBytes}
 

@@ -7,7 +7,7 @@ use Rattle.clap.specs.Takes.{default_passes, is_valid, level_passes, settle_pass
 use Rattle.clap.specs.Walk.{Held, Walk, arg_by_index, finished, nothing_held, rows_after, to_positional, value, walked}
 use Rattle.clap.proofs.OnLiterals.{clap_on_literals}
 use Rattle.erd_canon.specs.code.Subcommands.{program, IsAskedBy}
-use Rattle.erd_canon.proofs.PlainWords.{IsPlainWord, at, plain_word, walked_plain, turn_plain}
+use Rattle.erd_canon.proofs.lines.PlainWords.{IsPlainWord, at, plain_word, walked_plain, turn_plain}
 use Rattle.erd_canon.specs.ExactLines.{HasFileNames, IsFileName, words_of}
 use Rattle.erd_canon.specs.declared.commands.request.Request.{Request}
 use Rattle.erd_canon.specs.declared.commands.request.Request.TheVariants.{Filter, Check, Canon, Compare}

@@ -2,7 +2,7 @@
 use Rattle.std.proofs.Common.{ℕ, List, [], ◌∷◌, map, codes, Option, Result, Ok, Err, inl, inr, refl}
 use Rattle.std.specs.Prelude.{IfOk}
 use Rattle.erd_tables.specs.Faults.{fault_line}
-use Rattle.erd_canon.proofs.Refusing.{refused_is_none}
+use Rattle.erd_canon.proofs.forms.Refusing.{refused_is_none}
 use Rattle.erd_canon.specs.EngineTexts.{IsCheckText, IsCanonicalOutput, IsCanonicalErrors}
 use Rattle.erd_canon.specs.Run.{IsAnswered, IsAnswerWritten, IsChecked, IsCheckWritten, IsToldCheck, IsToldRun, IsWholeCheck, IsWholeRun}
 use Rattle.erd_canon.specs.Reading.{IsReadWhole}
