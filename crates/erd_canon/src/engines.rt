@@ -3,6 +3,6 @@
 pub(crate) mod canon;
 pub(crate) mod check;
 pub(crate) mod compare;
-pub(crate) mod fault_lines;
+pub(crate) mod lines;
 pub(crate) mod outcome;
 pub(crate) mod write_and_flush;

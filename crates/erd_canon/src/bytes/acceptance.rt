@@ -31,13 +31,8 @@ pub(crate) fn tree_of(alloc: Global, bytes: &[u8]) -> Result<Value, Refusal>
 {
     match Value::from_slice(alloc, bytes) {
         Ok(tree) => Ok(tree),
-        Err(error) => {
-            if error.is_memory() {
-                Err(Refusal::Memory)
-            } else {
-                Err(Refusal::NotJson)
-            }
-        }
+        Err(error) if error.is_memory() => Err(Refusal::Memory),
+        Err(_) => Err(Refusal::NotJson),
     }
 }
 

@@ -3,8 +3,7 @@ ghost use Rattle.erd_canon.specs.EngineTexts.{IsComparison};
 ghost use Rattle.erd_canon.specs.Refused.{RefusedSide};
 
 use crate::bytes::acceptance::{accepted, tree_of};
-use crate::bytes::refusal::Refusal;
-use crate::bytes::refusal::Side;
+use crate::bytes::refusal::{Refusal, Side};
 use erd_compare::{Difference, first_difference};
 use std::alloc::Global;
 

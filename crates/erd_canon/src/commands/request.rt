@@ -1,4 +1,5 @@
 use erd_tables::Text;
+use std::alloc::AllocError;
 
 /// The name of a file, as it was written.
 pub type FileName = Text;
@@ -25,4 +26,15 @@ pub enum LineFault {
     Usage(Text),
     /// Memory was refused.
     Memory,
+}
+
+impl From<AllocError> for LineFault {
+    ghost use Rattle.std.specs.Prelude.{◌≡◌};
+    ghost use Rattle.erd_canon.specs.declared.commands.request.LineFault.TheVariants.{Memory};
+
+    ghost from_gives = { λ _ r. r ≡ Memory };
+
+    fn from(_: AllocError) -> LineFault {
+        LineFault::Memory
+    }
 }

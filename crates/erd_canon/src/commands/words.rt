@@ -20,10 +20,7 @@ pub fn command_line(alloc: Global, words: &[String]) -> Result<Request, LineFaul
         → map string_bytes words.now ≡ name ∷ words_of request
         → MatchResult result (λ answer. answer ≡ request) (λ fault. fault ≡ LineFault.Memory) }
 {
-    let command = match program_command(alloc) {
-        Ok(command) => command,
-        Err(_) => return Err(LineFault::Memory),
-    };
+    let command = program_command(alloc)?;
     match command.try_get_matches_from(words) {
         Ok(matches) => request_of(alloc, &matches),
         Err(error) => Err(fault_of(alloc, &error)),
@@ -51,22 +48,13 @@ fn subcommand_request(
         → MatchResult result (λ answer. answer ≡ request) (λ fault. fault ≡ LineFault.Memory) }
 {
     match name {
-        "check" => match file_name(alloc, matches, "FILE") {
-            Ok(file) => Ok(Request::Check(file)),
-            Err(fault) => Err(fault),
-        },
-        "canon" => match file_name(alloc, matches, "FILE") {
-            Ok(file) => Ok(Request::Canon(file)),
-            Err(fault) => Err(fault),
-        },
-        _ => match (
-            file_name(alloc, matches, "LEFT"),
-            file_name(alloc, matches, "RIGHT"),
-        ) {
-            (Ok(left), Ok(right)) => Ok(Request::Compare(left, right)),
-            (Err(fault), _) => Err(fault),
-            (_, Err(fault)) => Err(fault),
-        },
+        "check" => Ok(Request::Check(file_name(alloc, matches, "FILE")?)),
+        "canon" => Ok(Request::Canon(file_name(alloc, matches, "FILE")?)),
+        _ => {
+            let left = file_name(alloc, matches, "LEFT")?;
+            let right = file_name(alloc, matches, "RIGHT")?;
+            Ok(Request::Compare(left, right))
+        }
     }
 }
 
@@ -75,10 +63,8 @@ fn file_name(alloc: Global, matches: &ArgMatches<'_>, id: &str) -> Result<FileNa
     ensures { (file : List ℕ) → first_of id.now (rows_of (found_of matches.now)) ≡ Some file
         → MatchResult result (λ answer. answer ≡ file) (λ fault. fault ≡ LineFault.Memory) }
 {
-    match String::from_str(alloc, matches.get_str(id).unwrap_or("")) {
-        Ok(name) => Ok(Text::of(name)),
-        Err(_) => Err(LineFault::Memory),
-    }
+    let name = String::from_str(alloc, matches.get_str(id).unwrap_or(""))?;
+    Ok(Text::of(name))
 }
 
 // What is answered where there are no matches.

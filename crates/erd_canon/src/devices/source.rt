@@ -63,15 +63,10 @@ pub(crate) fn read_all<S: Source>(alloc: Global, source: &mut S) -> Result<Vec<u
     ensures calls { S.reads source.new ≤ S.reads source.old + 2 ^ 27 }
     ensures no_write { result ≢ Err RunFault.Write }
 {
-    let mut chunk = match zeros(alloc, CHUNK) {
-        Ok(chunk) => chunk,
-        Err(_) => return Err(RunFault::Memory),
-    };
+    let mut chunk = zeros(alloc, CHUNK)?;
     let mut bytes = Vec::new(alloc);
-    match fill(source, chunk.as_mut_slice(), &mut bytes) {
-        Ok(()) => Ok(bytes),
-        Err(fault) => Err(fault),
-    }
+    fill(source, chunk.as_mut_slice(), &mut bytes)?;
+    Ok(bytes)
 }
 
 fn zeros(alloc: Global, count: usize) -> Result<Vec<u8>, AllocError>
@@ -127,18 +122,13 @@ fn read_chunk<S: Source>(
     ensures calls { S.reads source.new ≡ S.reads source.old + 1 }
     ensures no_write { result ≢ Err RunFault.Write }
 {
-    let count = match source.read(chunk) {
-        Ok(count) => count,
-        Err(_) => return Err(RunFault::Read),
-    };
+    let count = source.read(chunk).map_err(|_| RunFault::Read)?;
     if count == 0 {
         return Ok(true);
     }
     if count > MOST_BYTES - bytes.len() {
         return Err(RunFault::TooLong);
     }
-    match bytes.extend_from_slice(&chunk[..count]) {
-        Ok(()) => Ok(false),
-        Err(_) => Err(RunFault::Memory),
-    }
+    bytes.extend_from_slice(&chunk[..count])?;
+    Ok(false)
 }

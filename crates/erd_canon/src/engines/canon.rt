@@ -3,11 +3,11 @@ ghost use Rattle.erd_canon.specs.Reading.{Exceeds};
 ghost use Rattle.erd_canon.specs.Run.{IsAnswerWritten, IsToldRun, IsWholeRun};
 
 use crate::bytes::canonical::canonical;
-use crate::engines::fault_lines::fault_lines;
-use crate::engines::outcome::{Outcome, RunFault};
 use crate::bytes::refusal::Refusal;
 use crate::devices::sink::Sink;
 use crate::devices::source::{MOST_BYTES, Source, read_all};
+use crate::engines::lines::fault_lines;
+use crate::engines::outcome::{Outcome, RunFault};
 use crate::engines::write_and_flush::write_both;
 use std::alloc::Global;
 
@@ -54,10 +54,7 @@ pub fn run_canon<S: Source, O: Sink, E: Sink>(
         → S.given reader.old + MOST_BYTES < S.given reader.new }
     ensures calls { S.reads reader.new ≤ S.reads reader.old + 2 ^ 27 }
 {
-    let bytes = match read_all(alloc, reader) {
-        Ok(bytes) => bytes,
-        Err(fault) => return Err(fault),
-    };
+    let bytes = read_all(alloc, reader)?;
     write_answer(alloc, bytes.as_slice(), out, err)
 }
 
@@ -85,10 +82,10 @@ fn write_answer<O: Sink, E: Sink>(
 {
     match canonical(alloc, bytes) {
         Ok(text) => write_both(out, err, Outcome::Good, text.as_slice(), &[]),
-        Err(Refusal::Faults(faults)) => match fault_lines(alloc, &faults) {
-            Ok(lines) => write_both(out, err, Outcome::Bad, &[], lines.as_slice()),
-            Err(_) => Err(RunFault::Memory),
-        },
+        Err(Refusal::Faults(faults)) => {
+            let lines = fault_lines(alloc, &faults)?;
+            write_both(out, err, Outcome::Bad, &[], lines.as_slice())
+        }
         Err(Refusal::NotJson) => write_both(out, err, Outcome::NotJson, &[], b"not JSON\n"),
         Err(Refusal::Memory) => Err(RunFault::Memory),
     }

@@ -3,11 +3,11 @@ ghost use Rattle.erd_canon.specs.Reading.{Exceeds};
 ghost use Rattle.erd_canon.specs.Run.{IsCheckWritten, IsToldCheck, IsWholeCheck};
 
 use crate::bytes::acceptance::check_bytes;
-use crate::engines::fault_lines::fault_lines;
-use crate::engines::outcome::{Outcome, RunFault};
 use crate::bytes::refusal::Refusal;
 use crate::devices::sink::Sink;
 use crate::devices::source::{MOST_BYTES, Source, read_all};
+use crate::engines::lines::fault_lines;
+use crate::engines::outcome::{Outcome, RunFault};
 use crate::engines::write_and_flush::write_one;
 use std::alloc::Global;
 
@@ -43,10 +43,7 @@ pub fn run_check<S: Source, O: Sink>(
         → S.given reader.old + MOST_BYTES < S.given reader.new }
     ensures calls { S.reads reader.new ≤ S.reads reader.old + 2 ^ 27 }
 {
-    let bytes = match read_all(alloc, reader) {
-        Ok(bytes) => bytes,
-        Err(fault) => return Err(fault),
-    };
+    let bytes = read_all(alloc, reader)?;
     write_checked(alloc, bytes.as_slice(), out)
 }
 
@@ -62,10 +59,10 @@ fn write_checked<O: Sink>(alloc: Global, bytes: &[u8], out: &mut O) -> Result<Ou
 {
     match check_bytes(alloc, bytes) {
         Ok(()) => write_one(out, Outcome::Good, b"accepted\n"),
-        Err(Refusal::Faults(faults)) => match fault_lines(alloc, &faults) {
-            Ok(lines) => write_one(out, Outcome::Bad, lines.as_slice()),
-            Err(_) => Err(RunFault::Memory),
-        },
+        Err(Refusal::Faults(faults)) => {
+            let lines = fault_lines(alloc, &faults)?;
+            write_one(out, Outcome::Bad, lines.as_slice())
+        }
         Err(Refusal::NotJson) => write_one(out, Outcome::NotJson, b"not JSON\n"),
         Err(Refusal::Memory) => Err(RunFault::Memory),
     }

@@ -1,18 +1,17 @@
 ghost use Rattle.std.specs.Prelude.{◌≡◌, ◌≢◌, ◌↔◌, ◌⊎◌, ◌+◌, ◌^◌, ◌<◌, ◌≤◌, [], ◌∷◌, false, true, Err, IfErr, IfOk, OnOk, IsErrOf};
 ghost use Rattle.std.specs.Io.KnownBytes.{IsAtEnd};
 ghost use Rattle.erd_compare.specs.DifferenceLine.{difference_line};
-ghost use Rattle.erd_canon.specs.EngineTexts.{lines_of_side, text_of_lines};
+ghost use Rattle.erd_canon.specs.EngineTexts.{text_of_lines};
 ghost use Rattle.erd_canon.specs.Reading.{Exceeds};
 ghost use Rattle.erd_canon.specs.Run.{IsCompareWritten, IsToldCompare, IsWholeCompare};
 ghost use Rattle.erd_canon.specs.code.SideRefusals.{IsRefusalWritten};
 
 use crate::bytes::comparison::compare_bytes;
-use crate::engines::fault_lines::fault_lines_of_side;
-use crate::engines::outcome::{Outcome, RunFault};
-use crate::bytes::refusal::Refusal;
-use crate::bytes::refusal::Side;
+use crate::bytes::refusal::{Refusal, Side};
 use crate::devices::sink::Sink;
 use crate::devices::source::{MOST_BYTES, Source, read_all};
+use crate::engines::lines::{fault_lines_of_side, line_of_side};
+use crate::engines::outcome::{Outcome, RunFault};
 use crate::engines::write_and_flush::write_one;
 use erd_compare::Difference;
 use std::alloc::{AllocError, Global};
@@ -60,14 +59,8 @@ pub fn run_compare<S: Source, T: Source, O: Sink>(
     ensures left_calls { S.reads left.new ≤ S.reads left.old + 2 ^ 27 }
     ensures right_calls { T.reads right.new ≤ T.reads right.old + 2 ^ 27 }
 {
-    let left_bytes = match read_all(alloc, left) {
-        Ok(bytes) => bytes,
-        Err(fault) => return Err(fault),
-    };
-    let right_bytes = match read_all(alloc, right) {
-        Ok(bytes) => bytes,
-        Err(fault) => return Err(fault),
-    };
+    let left_bytes = read_all(alloc, left)?;
+    let right_bytes = read_all(alloc, right)?;
     write_compared(alloc, left_bytes.as_slice(), right_bytes.as_slice(), out)
 }
 
@@ -114,14 +107,11 @@ fn write_refusal<O: Sink>(
     ensures faults { IfErr result (λ fault. (fault ≡ RunFault.Memory) ⊎ (fault ≡ RunFault.Write)) }
 {
     let (outcome, text) = match refusal {
-        Refusal::Faults(faults) => (Outcome::Bad, fault_lines_of_side(alloc, side, faults)),
-        Refusal::NotJson => (Outcome::NotJson, line_of_side(alloc, side, b"not JSON")),
+        Refusal::Faults(faults) => (Outcome::Bad, fault_lines_of_side(alloc, side, faults)?),
+        Refusal::NotJson => (Outcome::NotJson, line_of_side(alloc, side, b"not JSON")?),
         Refusal::Memory => return Err(RunFault::Memory),
     };
-    match text {
-        Ok(text) => write_one(out, outcome, text.as_slice()),
-        Err(_) => Err(RunFault::Memory),
-    }
+    write_one(out, outcome, text.as_slice())
 }
 
 // The line of a difference, ended by a line feed.
@@ -130,15 +120,4 @@ fn difference_text(alloc: Global, difference: &Difference) -> Result<Vec<u8>, Al
 {
     let line = difference.line(alloc)?;
     line_of_side(alloc, &[], line.as_bytes())
-}
-
-// The words for a side and a line behind them, ended by a line feed.
-fn line_of_side(alloc: Global, side: &[u8], line: &[u8]) -> Result<Vec<u8>, AllocError>
-    ensures { IfOk result (λ text. text.items ≡ text_of_lines (lines_of_side side.now (line.now ∷ []))) }
-{
-    let mut text = Vec::new(alloc);
-    text.extend_from_slice(side)?;
-    text.extend_from_slice(line)?;
-    text.push(b'\n')?;
-    Ok(text)
 }

@@ -1,6 +1,7 @@
 ghost use Rattle.std.specs.Prelude.{◌≡◌};
 ghost use Rattle.erd_canon.specs.Statuses.{outcome_status, fault_status, fault_words};
 
+use std::alloc::AllocError;
 use thiserror::Error;
 
 /// What a run answers of what it read.
@@ -65,5 +66,15 @@ impl RunFault {
             RunFault::Write => "write failed",
             RunFault::Memory => "no memory",
         }
+    }
+}
+
+impl From<AllocError> for RunFault {
+    ghost use Rattle.erd_canon.specs.declared.engines.outcome.RunFault.TheVariants.{Memory};
+
+    ghost from_gives = { λ _ r. r ≡ Memory };
+
+    fn from(_: AllocError) -> RunFault {
+        RunFault::Memory
     }
 }

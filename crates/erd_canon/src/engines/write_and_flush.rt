@@ -1,8 +1,8 @@
 ghost use Rattle.std.specs.Prelude.{◌≡◌, ◌⊎◌, false, true, IfErr, IfOk, OnOk, OnErr};
 ghost use Rattle.std.specs.Io.KnownBytes.{Appends};
 
-use crate::engines::outcome::{Outcome, RunFault};
 use crate::devices::sink::{Sink, write_out};
+use crate::engines::outcome::{Outcome, RunFault};
 
 /// Writes the text, then flushes, and gives the outcome.
 pub(crate) fn write_one<O: Sink>(
@@ -18,12 +18,8 @@ pub(crate) fn write_one<O: Sink>(
     ensures works { OnOk result (O.has_failed out.new ≡ false) }
     ensures failed { OnErr result (O.has_failed out.new ≡ true) }
 {
-    if write_out(out, text).is_err() {
-        return Err(RunFault::Write);
-    }
-    if out.flush().is_err() {
-        return Err(RunFault::Write);
-    }
+    write_out(out, text).map_err(|_| RunFault::Write)?;
+    out.flush().map_err(|_| RunFault::Write)?;
     Ok(outcome)
 }
 
@@ -49,17 +45,9 @@ pub(crate) fn write_both<O: Sink, E: Sink>(
         → O.flushes out.new ≡ O.flushes out.old }
     ensures flush_order { (E.flushes err.new ≡ E.flushes err.old) ⊎ (O.is_flushed out.new ≡ true) }
 {
-    if write_out(out, out_text).is_err() {
-        return Err(RunFault::Write);
-    }
-    if write_out(err, err_text).is_err() {
-        return Err(RunFault::Write);
-    }
-    if out.flush().is_err() {
-        return Err(RunFault::Write);
-    }
-    if err.flush().is_err() {
-        return Err(RunFault::Write);
-    }
+    write_out(out, out_text).map_err(|_| RunFault::Write)?;
+    write_out(err, err_text).map_err(|_| RunFault::Write)?;
+    out.flush().map_err(|_| RunFault::Write)?;
+    err.flush().map_err(|_| RunFault::Write)?;
     Ok(outcome)
 }

@@ -33,3 +33,13 @@ returns-in-Ok-first_difference-clause-ok c =
     compared c.args.left.now c.args.right.now left_tree right_tree (view c.in-Ok.report) (view c.in-Ok-accepted.report) c.in-Ok-first_difference.found
     left_read c.in-Ok.ensures.accepted (ap view c.in-Ok.ensures.tree) right_read c.in-Ok-accepted.ensures.accepted (ap view c.in-Ok-accepted.ensures.tree)
     c.in-Ok-first_difference.ensures
+
+pub returns-clause-refused : goal.returns-clause-refused
+returns-clause-refused c =
+    let left_tree = view c.in_ok-left_tree.left_tree in
+    let left_read : IsTreeOf c.args.left.now left_tree = search rules in
+    let right_tree = view c.in_ok-right_tree.right_tree in
+    let right_read : IsTreeOf c.args.right.now right_tree = search rules in (
+      (left_tree, record { read = left_read; accepted = c.in-Ok.ensures.accepted }),
+      (right_tree, record { read = right_read; accepted = c.in-Ok-accepted.ensures.accepted }),
+    )

@@ -5,17 +5,17 @@ use Rattle.erd_canon.specs.ExactLines.{words_of}
 use Rattle.erd_canon.proofs.lines.LineReadings.{program_simple, line_found, takes-line}
 use Rattle.erd_canon.proofs.commands.words.command_line.Goals as goal
 
-pub returns-in-Ok-try_get_matches_from : goal.returns-in-Ok-try_get_matches_from
-returns-in-Ok-try_get_matches_from c = record {
+pub returns-in-Ok : goal.returns-in-Ok
+returns-in-Ok c = record {
   exact = λ request name names e.
-      let matches = c.in-Ok-try_get_matches_from.matches in
+      let matches = c.in-Ok.matches in
       let found : subcommand_rows_of matches ≡ subcommand_of program (name ∷ words_of request) =
-      (c.in-Ok-try_get_matches_from.ensures.matches (ap is_simple c.in-Ok.ensures ∙ program_simple)).1 ∙ ap₂ subcommand_of c.in-Ok.ensures e in
+      (c.in-Ok.ensures.matches (ap is_simple c.in_ok-command.ensures ∙ program_simple)).1 ∙ ap₂ subcommand_of c.in_ok-command.ensures e in
       c.request_of.ensures request (subst (λ (o : Option (Text × List Row)). IsAskedBy o request) (sym found) (line_found request name names));
 }
 
-pub returns-in-Err-try_get_matches_from : goal.returns-in-Err-try_get_matches_from
-returns-in-Err-try_get_matches_from c = record {
+pub returns-in-Err : goal.returns-in-Err
+returns-in-Err c = record {
   exact = λ request name names e.
-      c.fault_of.ensures (c.in-Err-try_get_matches_from.ensures.passes (ap₂ takes c.in-Ok.ensures e ∙ takes-line request name names));
+      c.fault_of.ensures (c.in-Err.ensures.passes (ap₂ takes c.in_ok-command.ensures e ∙ takes-line request name names));
 }

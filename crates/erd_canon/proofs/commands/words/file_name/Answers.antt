@@ -8,8 +8,8 @@ unwrap_or-now : (o : Option (Bor (List ℕ))) (d : Bor (List ℕ)) (t : List ℕ
 unwrap_or-now None d t e = cc
 unwrap_or-now (Some s) d t e = cc
 
-pub returns-in-Ok : goal.returns-in-Ok
-returns-in-Ok c = λ file e.
+pub returns : goal.returns
+returns c = λ file e.
     let is_file : option_map (λ s. s.now) c.get_str.result ≡ Some file =
     c.get_str.ensures ∙ first_value-rows (found_of c.args.matches.now) c.args.id.now ∙ e in
-    c.of.ensures ∙ c.in-Ok.ensures.ok ∙ ap (λ (s : Bor (List ℕ)). s.now) c.unwrap_or.ensures ∙ unwrap_or-now c.get_str.result _ file is_file
+    c.of.ensures ∙ c.in_ok-name.ensures.ok ∙ ap (λ (s : Bor (List ℕ)). s.now) c.unwrap_or.ensures ∙ unwrap_or-now c.get_str.result _ file is_file

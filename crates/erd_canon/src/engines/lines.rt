@@ -2,7 +2,7 @@ ghost use Rattle.std.specs.Prelude.{◌≡◌, [], ◌∷◌, ◌++◌, map, IfO
 ghost use Rattle.erd_tables.specs.Faults.{fault_line};
 ghost use Rattle.erd_canon.specs.EngineTexts.{lines_of_side, text_of_lines};
 
-use erd_tables::{Fault, FaultList};
+use erd_tables::FaultList;
 use std::alloc::{AllocError, Global};
 
 /// The lines that tell the faults, each ended by one line feed.
@@ -24,23 +24,27 @@ pub(crate) fn fault_lines_of_side(
     let mut text = Vec::new(alloc);
     for at in 0..faults.len() {
         let fault = faults.get(at).unwrap();
-        push_line(alloc, &mut text, side, fault)?;
+        let line = fault.line(alloc)?;
+        push_line(&mut text, side, line.as_bytes())?;
     }
     Ok(text)
 }
 
-// Adds the words for the side, the line of a fault, and a line feed.
-fn push_line(
-    alloc: Global,
-    text: &mut Vec<u8>,
-    side: &[u8],
-    fault: &Fault,
-) -> Result<(), AllocError>
-    ensures { OnOk result (text.new.items ≡ text.old.items ++ ((side.now ++ fault_line fault.now) ++ 10 ∷ [])) }
+/// The words for a side and a line behind them, ended by one line feed.
+pub(crate) fn line_of_side(alloc: Global, side: &[u8], line: &[u8]) -> Result<Vec<u8>, AllocError>
+    ensures { IfOk result (λ text. text.items ≡ text_of_lines (lines_of_side side.now (line.now ∷ []))) }
 {
-    let line = fault.line(alloc)?;
+    let mut text = Vec::new(alloc);
+    push_line(&mut text, side, line)?;
+    Ok(text)
+}
+
+// Adds the words for a side, a line, and a line feed.
+fn push_line(text: &mut Vec<u8>, side: &[u8], line: &[u8]) -> Result<(), AllocError>
+    ensures { OnOk result (text.new.items ≡ text.old.items ++ ((side.now ++ line.now) ++ 10 ∷ [])) }
+{
     text.extend_from_slice(side)?;
-    text.extend_from_slice(line.as_bytes())?;
+    text.extend_from_slice(line)?;
     text.push(b'\n')?;
     Ok(())
 }

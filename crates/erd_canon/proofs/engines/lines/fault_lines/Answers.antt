@@ -2,7 +2,7 @@ use Rattle.std.proofs.Common.{map, subst, IfOk, ◌≡◌}
 use Rattle.erd_tables.specs.Faults.{fault_line}
 use Rattle.erd_canon.specs.EngineTexts.{text_of_lines}
 use Rattle.erd_canon.proofs.runs.FaultText.{no_side}
-use Rattle.erd_canon.proofs.engines.fault_lines.fault_lines.Goals as goal
+use Rattle.erd_canon.proofs.engines.lines.fault_lines.Goals as goal
 
 pub returns : goal.returns
 returns c =
