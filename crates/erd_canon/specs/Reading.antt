@@ -1,12 +1,12 @@
--- What reads do to the bytes that came so far.
-use Rattle.std.specs.Prelude.{◌≡◌, ◌<◌, ℕ, Bool, true, false, List, [], ◌++◌, length, Option}
+-- What came from a reader.
+use Rattle.std.specs.Prelude.{◌<◌, ◌≤◌, ℕ, List, length, Option}
 use Rattle.std.specs.Io.KnownBytes.{Consumes, IsAtEnd}
 
--- some more bytes came and stand behind the earlier ones, or none came and that was the end
-abbrev pub TakesChunk : List ℕ → Option (List ℕ) → Bool → List ℕ → Option (List ℕ) → Type 0
-TakesChunk old before true new after = (new ≡ old) × Consumes before after [] × IsAtEnd after
-TakesChunk old before false new after =
-    (more : List ℕ) × (new ≡ old ++ more) × Consumes before after more × (0 < length more)
+-- where the reader tells its bytes: they were read to their end, and are no more than the limit
+pub record IsReadWhole (limit : ℕ) (before after : Option (List ℕ)) (input : List ℕ) : Type 0 where
+  pub came : Consumes before after input
+  pub ended : IsAtEnd after
+  pub in_limit : length input ≤ limit
 
 -- more bytes came than the limit
 abbrev pub Exceeds : ℕ → Option (List ℕ) → Option (List ℕ) → Type 0

@@ -1,16 +1,15 @@
 -- What a run does that ends with an outcome.
-use Rattle.std.specs.Prelude.{◌≡◌, ◌≤◌, ◌⊎◌, ℕ, List, [], ◌∷◌, length, map, codes, Option, Some, None}
-use Rattle.std.specs.Io.KnownBytes.{Appends, Consumes, IsAtEnd}
+use Rattle.std.specs.Prelude.{◌≡◌, ◌⊎◌, ℕ, List, [], ◌∷◌, map, codes, Option, Some, None}
+use Rattle.std.specs.Io.KnownBytes.{Appends}
 use Rattle.erd_tables.specs.Faults.{fault_line}
 use Rattle.erd_tables.specs.declared.fault.Fault.{Fault}
 use Rattle.erd_compare.specs.declared.difference.Difference.{Difference}
-use Rattle.erd_canon.specs.declared.outcome.Outcome.{Outcome}
-use Rattle.erd_canon.specs.declared.outcome.Outcome.TheVariants.{Good, Bad, NotJson}
+use Rattle.erd_canon.specs.declared.engines.outcome.Outcome.{Outcome}
+use Rattle.erd_canon.specs.declared.engines.outcome.Outcome.TheVariants.{Good, Bad, NotJson}
 use Rattle.erd_canon.specs.Bytes.{IsNotJson, IsCanonicalBytes}
 use Rattle.erd_canon.specs.EngineTexts.{IsCanonicalErrors, IsCanonicalOutput, IsCheckText, IsCompareText, IsComparison, IsRefusedReport, comparison_line, lines_of_side, text_of_lines}
+use Rattle.erd_canon.specs.Reading.{IsReadWhole}
 use Rattle.erd_canon.specs.Refused.{IsSomeReport}
-use Rattle.erd_canon.specs.declared.refusal.Refusal.{Refusal}
-use Rattle.erd_canon.specs.declared.refusal.Refusal.TheVariants as refusal
 
 -- the bytes have faults, and the text has one line for each
 abbrev pub IsToldFaults : List ℕ → List ℕ → Type 0
@@ -50,18 +49,6 @@ IsCompared left right outcome out =
     ⊎ ((IsSomeReport left × IsSideRefused (codes "right: ") right outcome out)
     ⊎ ((found : Option Difference) × IsComparison left right found × (outcome ≡ comparison_outcome found) × (out ≡ text_of_lines (comparison_line found ∷ []))))
 
--- what is written of a refusal on one side, and the outcome; for want of memory nothing is written
-abbrev pub TellsRefusal : List ℕ → Refusal → Outcome → List ℕ → Type 0
-TellsRefusal side (refusal.Faults faults) Bad out = out ≡ text_of_lines (lines_of_side side (map fault_line faults))
-TellsRefusal side refusal.NotJson NotJson out = out ≡ text_of_lines (lines_of_side side (codes "not JSON" ∷ []))
-TellsRefusal side refused outcome out = ⊥
-
--- where the writer tells its bytes: what is written of a refusal on one side was written, and nothing else
-pub record IsRefusalWritten (side : List ℕ) (refused : Refusal) (outcome : Outcome) (before after : Option (List ℕ)) : Type 0 where
-  pub text : List ℕ
-  pub tells : TellsRefusal side refused outcome text
-  pub wrote : Appends before after text
-
 -- where the writer tells its bytes: what checking writes for the bytes was written, and nothing else
 pub record IsCheckWritten (bytes : List ℕ) (outcome : Outcome) (before after : Option (List ℕ)) : Type 0 where
   pub text : List ℕ
@@ -81,12 +68,6 @@ pub record IsCompareWritten (left right : List ℕ) (outcome : Outcome) (before 
   pub text : List ℕ
   pub compared : IsCompared left right outcome text
   pub wrote : Appends before after text
-
--- where the reader tells its bytes: they were read to their end, and are no more than the limit
-pub record IsReadWhole (limit : ℕ) (before after : Option (List ℕ)) (input : List ℕ) : Type 0 where
-  pub came : Consumes before after input
-  pub ended : IsAtEnd after
-  pub in_limit : length input ≤ limit
 
 -- where the devices tell their bytes: the reader was read to its end and held no more than the limit, and what checking
 -- writes for its bytes was written, and nothing else

@@ -1,9 +1,9 @@
 -- The exit statuses and the words of what a run answers (this project's program).
 use Rattle.std.specs.Prelude.{ℕ, List, codes}
-use Rattle.erd_canon.specs.declared.outcome.Outcome.{Outcome}
-use Rattle.erd_canon.specs.declared.outcome.Outcome.TheVariants.{Good, Bad, NotJson}
-use Rattle.erd_canon.specs.declared.outcome.RunFault.{RunFault}
-use Rattle.erd_canon.specs.declared.outcome.RunFault.TheVariants.{TooLong, Read, Write, Memory}
+use Rattle.erd_canon.specs.declared.engines.outcome.Outcome.{Outcome}
+use Rattle.erd_canon.specs.declared.engines.outcome.Outcome.TheVariants.{Good, Bad, NotJson}
+use Rattle.erd_canon.specs.declared.engines.outcome.RunFault.{RunFault}
+use Rattle.erd_canon.specs.declared.engines.outcome.RunFault.TheVariants.{TooLong, Read, Write, Memory}
 
 -- accepted or the same, faults or a difference, not JSON
 abbrev pub outcome_status : Outcome → ℕ

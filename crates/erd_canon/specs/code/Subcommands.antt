@@ -1,6 +1,8 @@
 -- The command line, as the parser of command lines sees it.
-use Rattle.std.specs.Prelude.{true, List, ℕ, codes}
-use Rattle.clap.specs.Words.{App, Rule, new_app, new_rule, with_rule, with_subcommand}
+use Rattle.std.specs.Prelude.{◌≡◌, true, List, ℕ, Option, Some, None, codes}
+use Rattle.clap.specs.Words.{App, Row, Rule, first_of, new_app, new_rule, with_rule, with_subcommand}
+use Rattle.erd_canon.specs.declared.commands.request.Request.{Request}
+use Rattle.erd_canon.specs.declared.commands.request.Request.TheVariants.{Filter, Check, Canon, Compare}
 
 -- an argument that has to be there
 abbrev pub file_rule : List ℕ → Rule
@@ -21,3 +23,12 @@ compare_subcommand = with_rule (with_rule (new_app (codes "compare")) (file_rule
 -- the program
 abbrev pub program : App
 program = with_subcommand (with_subcommand (with_subcommand (new_app (codes "erd")) check_subcommand.top) canon_subcommand.top) compare_subcommand.top
+
+-- a parse that met this subcommand, with these matches, asks for this
+abbrev pub IsAskedBy : Option (List ℕ × List Row) → Request → Type 0
+IsAskedBy None Filter = Unit {0}
+IsAskedBy (Some met) (Check file) = (met.0 ≡ codes "check") × (first_of (codes "FILE") met.1 ≡ Some file)
+IsAskedBy (Some met) (Canon file) = (met.0 ≡ codes "canon") × (first_of (codes "FILE") met.1 ≡ Some file)
+IsAskedBy (Some met) (Compare left right) = (met.0 ≡ codes "compare")
+    × ((first_of (codes "LEFT") met.1 ≡ Some left) × (first_of (codes "RIGHT") met.1 ≡ Some right))
+IsAskedBy _ _ = ⊥

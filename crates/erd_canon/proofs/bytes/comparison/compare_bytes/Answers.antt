@@ -1,0 +1,45 @@
+use Rattle.std.proofs.Common.{rules, ◌≡◌, sym, subst, ap}
+use Rattle.serde_json.specs.View.{view}
+use Rattle.erd_canon.proofs.runs.Comparisons.{compared}
+use Rattle.erd_canon.proofs.forms.Refusing.{refused_tree}
+use Rattle.erd_canon.specs.Bytes.{IsTreeOf}
+use Rattle.erd_canon.specs.Refused.{RefusedAs, refusal_for}
+use Rattle.erd_canon.proofs.bytes.comparison.compare_bytes.Goals as goal
+
+pub returns-in-Err-clause-refused : goal.returns-in-Err-clause-refused
+returns-in-Err-clause-refused c =
+    let tree = view c.in_ok-left_tree.left_tree in
+    let read : IsTreeOf c.args.left.now tree = search rules in
+    let gives : c.from.result ≡ refusal_for c.in-Err.error = c.from.ensures in
+    subst (RefusedAs c.args.left.now) (sym gives) (refused_tree c.args.left.now tree c.in-Err.error read c.in-Err.ensures.refused)
+
+pub returns-in-Err-accepted-clause-refused : goal.returns-in-Err-accepted-clause-refused
+returns-in-Err-accepted-clause-refused c =
+    let tree = view c.in_ok-left_tree.left_tree in
+    let read : IsTreeOf c.args.left.now tree = search rules in
+    let right_tree = view c.in_ok-right_tree.right_tree in
+    let right_read : IsTreeOf c.args.right.now right_tree = search rules in
+    let gives : c.from-in-Err-accepted.result ≡ refusal_for c.in-Err-accepted.error = c.from-in-Err-accepted.ensures in (
+      (tree, record { read = read; accepted = c.in-Ok.ensures.accepted }),
+      subst (RefusedAs c.args.right.now) (sym gives) (refused_tree c.args.right.now right_tree c.in-Err-accepted.error right_read c.in-Err-accepted.ensures.refused),
+    )
+
+pub returns-in-Ok-first_difference-clause-ok : goal.returns-in-Ok-first_difference-clause-ok
+returns-in-Ok-first_difference-clause-ok c =
+    let left_tree = view c.in_ok-left_tree.left_tree in
+    let left_read : IsTreeOf c.args.left.now left_tree = search rules in
+    let right_tree = view c.in_ok-right_tree.right_tree in
+    let right_read : IsTreeOf c.args.right.now right_tree = search rules in
+    compared c.args.left.now c.args.right.now left_tree right_tree (view c.in-Ok.report) (view c.in-Ok-accepted.report) c.in-Ok-first_difference.found
+    left_read c.in-Ok.ensures.accepted (ap view c.in-Ok.ensures.tree) right_read c.in-Ok-accepted.ensures.accepted (ap view c.in-Ok-accepted.ensures.tree)
+    c.in-Ok-first_difference.ensures
+
+pub returns-clause-refused : goal.returns-clause-refused
+returns-clause-refused c =
+    let left_tree = view c.in_ok-left_tree.left_tree in
+    let left_read : IsTreeOf c.args.left.now left_tree = search rules in
+    let right_tree = view c.in_ok-right_tree.right_tree in
+    let right_read : IsTreeOf c.args.right.now right_tree = search rules in (
+      (left_tree, record { read = left_read; accepted = c.in-Ok.ensures.accepted }),
+      (right_tree, record { read = right_read; accepted = c.in-Ok-accepted.ensures.accepted }),
+    )

@@ -1,0 +1,14 @@
+use Rattle.std.proofs.Common.{length, ◌-◌, ◌≡◌, take, ◌≤◌, false}
+use Rattle.std.specs.Io.KnownBytes.{Appends}
+use Rattle.erd_canon.proofs.devices.sink.write_out.Given as goal
+
+abbrev pub invariant-loop-at : goal.invariant-loop-at
+invariant-loop-at g l = record {
+  in_range : l.at ≤ length l.bytes;
+  works : g.W.Sink.has_failed l.sink ≡ false;
+  counted : g.W.Sink.flushes l.sink ≡ g.W.Sink.flushes l.fn.sink;
+  written : Appends (g.W.Sink.contents l.fn.sink) (g.W.Sink.contents l.sink) (take l.at l.bytes);
+}
+
+abbrev pub decreases-loop-at : goal.decreases-loop-at
+decreases-loop-at g l = length l.bytes - l.at

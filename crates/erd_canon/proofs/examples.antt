@@ -1,0 +1,4 @@
+mod TextExamples
+mod EngineExamples
+mod ReportExamples
+mod LineExamples

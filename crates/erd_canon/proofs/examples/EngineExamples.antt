@@ -1,0 +1,110 @@
+-- What the engines write for bytes that are no JSON, and for the JSON `null`, which has one fault.
+use Rattle.std.proofs.Common.{◌≡◌, ℕ, zero, suc, List, [], ◌∷◌, None, codes, refl, subst, lit<, inl, inr}
+use Rattle.std.proofs.lemmas.Option.{none-some}
+use native.Mathlib.Omega.{arith}
+use Rattle.std.specs.List.{Contains}
+use Rattle.std.specs.List.Sorted.{IsStrictlySortedBy}
+use Rattle.serde_json.specs.Data.{Data, null}
+use Rattle.serde_json.proofs.OnLiterals.{serde_json_on_literals}
+use Rattle.erd_tables.specs.Faults.{fault_cmp}
+use Rattle.erd_tables.specs.declared.fault.Fault.{Fault}
+use Rattle.erd_tables.specs.declared.fault.Reason.{Reason}
+use Rattle.erd_tables.specs.declared.fault.Reason.TheVariants as reason
+use Rattle.erd_tables.specs.declared.place.Step.{Step}
+use Rattle.erd_check.specs.Faults.{ShapeFault}
+use Rattle.erd_meaning.specs.Accepted.{IsFault}
+use Rattle.erd_canon.specs.Bytes.{IsAcceptedReport, IsNotJson}
+use Rattle.erd_canon.specs.EngineTexts.{IsRefusal, IsRefusedReport, IsCheckText, IsCanonicalOutput, IsCanonicalErrors, IsCompareText}
+use Rattle.erd_canon.specs.Run.{IsCompared}
+use Rattle.erd_canon.specs.declared.engines.outcome.Outcome.TheVariants.{Good, Bad, NotJson}
+
+-- ---- no bytes are no JSON
+
+no_bytes : IsNotJson []
+unfolding serde_json_on_literals
+no_bytes t is = none-some t is.1
+
+not_json : IsRefusal [] (codes "not JSON" ∷ [])
+not_json = inl (no_bytes, refl)
+
+checked : IsCheckText [] (codes "not JSON\n")
+checked = inr (codes "not JSON" ∷ [], not_json, refl)
+
+canonical_errors : IsCanonicalErrors [] (codes "not JSON\n")
+canonical_errors = inr (codes "not JSON" ∷ [], not_json, refl)
+
+canonical_output : IsCanonicalOutput [] []
+canonical_output = inr ((λ t accepted. no_bytes t accepted.read), refl)
+
+-- the left report is judged first, whatever the right one is
+compared : (right : List ℕ) → IsCompareText [] right (codes "left: not JSON\n")
+compared right = inl (codes "not JSON" ∷ [], not_json, refl)
+
+compared_so : (right : List ℕ) → IsCompared [] right NotJson (codes "left: not JSON\n")
+compared_so right = inl (no_bytes, refl)
+
+-- the right report is judged where the left one is accepted
+compared_right : (left : List ℕ) (t : Data) → IsAcceptedReport left t → IsCompared left [] NotJson (codes "right: not JSON\n")
+compared_right left t accepted = inr (inl ((t, accepted), (no_bytes, refl)))
+
+-- an accepted report means the same as itself
+compared_same : (b : List ℕ) (t : Data) → IsAcceptedReport b t → IsCompared b b Good (codes "same\n")
+compared_same b t accepted =
+    inr (inr (None, record { left_tree = t; right_tree = t; left_accepted = accepted; right_accepted = accepted; difference = refl }, refl, refl))
+
+-- ---- `null` is of a wrong kind, and nothing else is at fault
+
+root_kind : Fault
+root_kind = record { place = []; reason = reason.WrongKind }
+
+fault_is : (p : List Step) (r : Reason) → ShapeFault null p r → root_kind ≡ record { place = p; reason = r }
+unfolding root_kind
+fault_is [] reason.WrongKind h = refl
+fault_is [] (reason.MissingMember name) h = absurd (cc h)
+fault_is [] reason.WrongClassText h = absurd (cc h)
+fault_is [] reason.NotWhole h = absurd (cc h)
+fault_is [] reason.OutsideProfile h = absurd (cc h)
+fault_is [] reason.UnknownReference h = absurd (cc h)
+fault_is [] reason.CarriedIdentity h = absurd (cc h)
+fault_is [] reason.NotPreElection h = absurd (cc h)
+fault_is [] reason.ElectionCount h = absurd (cc h)
+fault_is [] reason.EmptyArray h = absurd (cc h)
+fault_is [] reason.Repeated h = absurd (cc h)
+fault_is [] reason.NoIdentifier h = absurd (cc h)
+fault_is [] reason.TwinIdentifier h = absurd (cc h)
+fault_is [] reason.DuplicateId h = absurd (cc h)
+fault_is [] reason.Unresolved h = absurd (cc h)
+fault_is [] reason.WrongFamily h = absurd (cc h)
+fault_is [] reason.SelectionOfOtherContest h = absurd (cc h)
+fault_is [] reason.TwinSelection h = absurd (cc h)
+fault_is (s ∷ ss) r h = absurd h
+
+listed : (f : Fault) → Contains (root_kind ∷ []) f → IsFault null f.place f.reason
+unfolding root_kind
+listed f (zero, less, is) = subst (λ g. IsFault null g.place g.reason) is (inl refl)
+listed f (suc k, less, is) = absurd (omega (arith, less))
+
+found : (f : Fault) → IsFault null f.place f.reason → Contains (root_kind ∷ []) f
+found f (inl h) = (0, lit< tt, fault_is f.place f.reason h)
+found f (inr (none, h)) = absurd (none [] reason.WrongKind refl)
+
+one_sorted : IsStrictlySortedBy fault_cmp (root_kind ∷ [])
+unfolding IsStrictlySortedBy
+one_sorted = (tt, tt)
+
+null_refused : IsRefusedReport (codes "null") (root_kind ∷ [])
+unfolding serde_json_on_literals
+null_refused = record {
+  tree = null;
+  read = ((codes "null", (refl, refl)), refl);
+  all = record { rising = one_sorted; each = λ f. (listed f, found f) };
+  some = λ e. absurd (cc e);
+}
+
+null_checked : IsCheckText (codes "null") (codes ": wrong kind\n")
+unfolding root_kind
+null_checked = inr (codes ": wrong kind" ∷ [], inr (root_kind ∷ [], null_refused, refl), refl)
+
+null_compared : (right : List ℕ) → IsCompared (codes "null") right Bad (codes "left: : wrong kind\n")
+unfolding root_kind
+null_compared right = inl (root_kind ∷ [], null_refused, refl)

@@ -1,5 +1,0 @@
-use Rattle.erd_canon.proofs.FormLaws.{is_its_own_form}
-use Rattle.erd_canon.proofs.laws.is_its_own_form.Goals as goal
-
-pub returns : goal.returns
-returns c = record { law = is_its_own_form }

@@ -1,0 +1,2 @@
+pub mod PlainWords
+pub mod LineReadings

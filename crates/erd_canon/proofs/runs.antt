@@ -1,0 +1,4 @@
+pub mod KnownBytes
+pub mod FaultText
+pub mod CheckTexts
+pub mod Comparisons

@@ -1,0 +1,32 @@
+ghost use Rattle.std.specs.Prelude.{◌≡◌, IfErr, IfOk};
+ghost use Rattle.erd_canon.specs.EngineTexts.{IsComparison};
+ghost use Rattle.erd_canon.specs.Refused.{RefusedSide};
+
+use crate::bytes::acceptance::{accepted, tree_of};
+use crate::bytes::refusal::{Refusal, Side};
+use erd_compare::{Difference, first_difference};
+use std::alloc::Global;
+
+/// The first difference of what two reports mean, and none exactly if they mean the same; or which report is refused, and why.
+///
+/// The right report is judged only if the left one is accepted. Each is refused as `canonical` refuses it.
+#[tactic(auto, using(crate::proofs::forms::Refusing::refused_tree))]
+pub fn compare_bytes(alloc: Global, left: &[u8], right: &[u8]) -> Result<Option<Difference>, Side>
+    ensures ok { IfOk result (IsComparison left.now right.now) }
+    ensures refused { IfErr result (RefusedSide left.now right.now) }
+{
+    let left_tree = tree_of(alloc, left).map_err(Side::Left)?;
+    let left_report = match accepted(alloc, &left_tree) {
+        Ok(report) => report,
+        Err(error) => return Err(Side::Left(Refusal::from(error))),
+    };
+    let right_tree = tree_of(alloc, right).map_err(Side::Right)?;
+    let right_report = match accepted(alloc, &right_tree) {
+        Ok(report) => report,
+        Err(error) => return Err(Side::Right(Refusal::from(error))),
+    };
+    match first_difference(alloc, &left_report, &right_report) {
+        Ok(found) => Ok(found),
+        Err(_) => Err(Side::Memory),
+    }
+}

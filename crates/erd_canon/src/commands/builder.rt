@@ -1,0 +1,66 @@
+ghost use Rattle.std.specs.Prelude.{◌≡◌, IfOk, false, map};
+ghost use Rattle.erd_canon.specs.code.Subcommands.{canon_subcommand, check_subcommand, compare_subcommand, file_rule, program};
+ghost use Rattle.clap.specs.Words.{app_of, rule_of};
+ghost use Rattle.clap.specs.declared.builder.command.Command.TheViews.{out-Command};
+
+use crate::commands::help;
+use clap::{Arg, Command};
+use std::alloc::{AllocError, Global};
+
+/// The program with its three subcommands.
+pub(crate) fn program_command<'a>(alloc: Global) -> Result<Command<'a>, AllocError>
+    ensures { IfOk result (λ command. app_of command ≡ program) }
+{
+    Command::new(alloc, "erd")
+        .about(help::PROGRAM)
+        .long_about(help::PROGRAM_AT_LENGTH)
+        .after_help(help::PROGRAM_ENDS)
+        .subcommand(check_command(alloc)?)?
+        .subcommand(canon_command(alloc)?)?
+        .subcommand(compare_command(alloc)?)
+}
+
+// `check FILE`.
+fn check_command<'a>(alloc: Global) -> Result<Command<'a>, AllocError>
+    ensures app { IfOk result (λ command. app_of command ≡ check_subcommand) }
+    ensures local { IfOk result (λ command. (out-Command command).has_globals ≡ false) }
+{
+    Command::new(alloc, "check")
+        .about(help::CHECK)
+        .long_about(help::CHECK_AT_LENGTH)
+        .after_help(help::CHECK_ENDS)
+        .arg(file_argument(alloc, "FILE", help::FILE))
+}
+
+// `canon FILE`.
+fn canon_command<'a>(alloc: Global) -> Result<Command<'a>, AllocError>
+    ensures app { IfOk result (λ command. app_of command ≡ canon_subcommand) }
+    ensures local { IfOk result (λ command. (out-Command command).has_globals ≡ false) }
+{
+    Command::new(alloc, "canon")
+        .about(help::CANON)
+        .long_about(help::CANON_AT_LENGTH)
+        .after_help(help::CANON_ENDS)
+        .arg(file_argument(alloc, "FILE", help::FILE))
+}
+
+// `compare LEFT RIGHT`.
+fn compare_command<'a>(alloc: Global) -> Result<Command<'a>, AllocError>
+    ensures app { IfOk result (λ command. app_of command ≡ compare_subcommand) }
+    ensures local { IfOk result (λ command. (out-Command command).has_globals ≡ false) }
+{
+    Command::new(alloc, "compare")
+        .about(help::COMPARE)
+        .long_about(help::COMPARE_AT_LENGTH)
+        .after_help(help::COMPARE_ENDS)
+        .arg(file_argument(alloc, "LEFT", help::LEFT))?
+        .arg(file_argument(alloc, "RIGHT", help::RIGHT))
+}
+
+// A word that has to be there, and names a file.
+fn file_argument<'a>(alloc: Global, id: &'a str, text: &'a str) -> Arg<'a>
+    ensures rule { rule_of result ≡ file_rule id.entry.now }
+    ensures local { result.global ≡ false }
+{
+    Arg::new(alloc, id).required(true).help(text)
+}

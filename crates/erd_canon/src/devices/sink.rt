@@ -1,0 +1,59 @@
+ghost use Rattle.std.specs.Prelude.{◌≡◌, ◌↔◌, ℕ, ◌+◌, ◌<◌, List, length, Bool, true, false, Option, None, IfOk, OnOk, OnErr, IsErr};
+ghost use Rattle.std.specs.Io.{WritesAtMost};
+ghost use Rattle.std.specs.Io.KnownBytes.{WriteAppends, Appends, Keeps};
+
+use crate::devices::source::Failed;
+
+/// A writer that remembers whether it has failed. One that has failed is not written to or flushed again.
+pub trait Sink {
+    // The bytes that it holds, where they are known.
+    ghost contents: { Self → Option (List ℕ) } = { λ _. None };
+
+    // A write or a flush has answered `Failed`.
+    ghost has_failed: { Self → Bool };
+
+    // It was flushed, and nothing was written since.
+    ghost is_flushed: { Self → Bool };
+
+    // How often a flush was asked of it.
+    ghost flushes: { Self → ℕ };
+
+    /// Takes bytes from the front, and answers how many: of some bytes one at least, or it fails.
+    fn write(&mut self, bytes: &[u8]) -> Result<usize, Failed>
+        requires { has_failed self.old ≡ false }
+        ensures bound { WritesAtMost result bytes.now }
+        ensures bytes { WriteAppends (contents self.old) (contents self.new) result bytes.now }
+        ensures taken { IfOk result (λ count. 0 < length bytes.now → 0 < count) }
+        ensures written { is_flushed self.new ≡ false }
+        ensures counted { flushes self.new ≡ flushes self.old }
+        ensures ok { OnOk result (has_failed self.new ≡ has_failed self.old) }
+        ensures err { OnErr result (has_failed self.new ≡ true) };
+
+    /// Passes on what it holds back.
+    fn flush(&mut self) -> Result<(), Failed>
+        requires { has_failed self.old ≡ false }
+        ensures flushed { OnOk result (is_flushed self.new ≡ true) }
+        ensures counted { flushes self.new ≡ flushes self.old + 1 }
+        ensures bytes { Keeps (contents self.old) (contents self.new) }
+        ensures ok { OnOk result (has_failed self.new ≡ has_failed self.old) }
+        ensures err { OnErr result (has_failed self.new ≡ true) };
+
+    /// Whether a write or a flush has failed.
+    fn failed(&self) -> bool
+        ensures { result ≡ has_failed self.now };
+}
+
+/// Writes all of the bytes. An empty slice is not written.
+pub(crate) fn write_out<W: Sink>(sink: &mut W, bytes: &[u8]) -> Result<(), Failed>
+    requires { W.has_failed sink.old ≡ false }
+    ensures written { OnOk result (Appends (W.contents sink.old) (W.contents sink.new) bytes.now) }
+    ensures failed { IsErr result ↔ (W.has_failed sink.new ≡ true) }
+    ensures works { OnOk result (W.has_failed sink.new ≡ false) }
+    ensures counted { W.flushes sink.new ≡ W.flushes sink.old }
+{
+    let mut at = 0;
+    while at < bytes.len() {
+        at += sink.write(&bytes[at..])?;
+    }
+    Ok(())
+}

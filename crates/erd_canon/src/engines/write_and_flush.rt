@@ -1,0 +1,53 @@
+ghost use Rattle.std.specs.Prelude.{◌≡◌, ◌⊎◌, false, true, IfErr, IfOk, OnOk, OnErr};
+ghost use Rattle.std.specs.Io.KnownBytes.{Appends};
+
+use crate::devices::sink::{Sink, write_out};
+use crate::engines::outcome::{Outcome, RunFault};
+
+/// Writes the text, then flushes, and gives the outcome.
+pub(crate) fn write_one<O: Sink>(
+    out: &mut O,
+    outcome: Outcome,
+    text: &[u8],
+) -> Result<Outcome, RunFault>
+    requires { O.has_failed out.old ≡ false }
+    ensures outcome { IfOk result (λ answer. answer ≡ outcome) }
+    ensures fault { IfErr result (λ fault. fault ≡ RunFault.Write) }
+    ensures wrote { OnOk result (Appends (O.contents out.old) (O.contents out.new) text.now) }
+    ensures flushed { OnOk result (O.is_flushed out.new ≡ true) }
+    ensures works { OnOk result (O.has_failed out.new ≡ false) }
+    ensures failed { OnErr result (O.has_failed out.new ≡ true) }
+{
+    write_out(out, text).map_err(|_| RunFault::Write)?;
+    out.flush().map_err(|_| RunFault::Write)?;
+    Ok(outcome)
+}
+
+/// Writes to both, then flushes both, and gives the outcome.
+pub(crate) fn write_both<O: Sink, E: Sink>(
+    out: &mut O,
+    err: &mut E,
+    outcome: Outcome,
+    out_text: &[u8],
+    err_text: &[u8],
+) -> Result<Outcome, RunFault>
+    requires out_works { O.has_failed out.old ≡ false }
+    requires err_works { E.has_failed err.old ≡ false }
+    ensures outcome { IfOk result (λ answer. answer ≡ outcome) }
+    ensures fault { IfErr result (λ fault. fault ≡ RunFault.Write) }
+    ensures wrote_out { OnOk result (Appends (O.contents out.old) (O.contents out.new) out_text.now) }
+    ensures wrote_err { OnOk result (Appends (E.contents err.old) (E.contents err.new) err_text.now) }
+    ensures flushed { OnOk result ((O.is_flushed out.new ≡ true) × (E.is_flushed err.new ≡ true)) }
+    ensures works { OnOk result ((O.has_failed out.new ≡ false) × (E.has_failed err.new ≡ false)) }
+    ensures failed { OnErr result ((O.has_failed out.new ≡ true) ⊎ (E.has_failed err.new ≡ true)) }
+    ensures out_first { O.has_failed out.new ≡ true → O.flushes out.new ≡ O.flushes out.old → err.new ≡ err.old }
+    ensures writes_first { E.has_failed err.new ≡ true → E.flushes err.new ≡ E.flushes err.old
+        → O.flushes out.new ≡ O.flushes out.old }
+    ensures flush_order { (E.flushes err.new ≡ E.flushes err.old) ⊎ (O.is_flushed out.new ≡ true) }
+{
+    write_out(out, out_text).map_err(|_| RunFault::Write)?;
+    write_out(err, err_text).map_err(|_| RunFault::Write)?;
+    out.flush().map_err(|_| RunFault::Write)?;
+    err.flush().map_err(|_| RunFault::Write)?;
+    Ok(outcome)
+}
