@@ -65,14 +65,8 @@ pub mod FittingNumbers
 pub mod RisingReports
 pub mod RisingAgain
 pub mod RisingLabels
-pub mod CleanValues
-pub mod CleanSets
-pub mod CleanMembers
 pub mod BuiltFrom
 pub mod BuiltObjects
-pub mod CleanContents
-pub mod CleanFamilies
-pub mod CleanReports
 pub mod ThroughoutValues
 pub mod ThroughoutMembers
 pub mod FamilyNames
@@ -108,3 +102,5 @@ pub mod SelectionReferences
 pub mod KeyPlaces
 pub mod NumberedParts
 pub mod SelectionPlaces
+pub mod UnrepeatedEntries
+pub mod NoShapeFaults

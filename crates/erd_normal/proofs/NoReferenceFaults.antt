@@ -2,7 +2,6 @@
 use Rattle.std.proofs.Common.{◌≡◌, ℕ, zero, suc, List, [], ◌∷◌, ◌++◌, Option, Some, None, option_and_then, option_map, Bool, true, false, ◌&&◌, true≢false, refl, sym, ap, ◌∙◌, subst}
 use Rattle.std.specs.List.{AllByRecursion}
 use Rattle.std.specs.Option.{option_map_or}
-use Rattle.std.specs.Prelude.{IsSomeAnd, IsTrue}
 use Rattle.serde_json.specs.Data.{Data, array, object, Items, no_items, item, Members}
 use Rattle.serde_json.specs.Find.{get_item, get_member}
 use Rattle.erd_tables.specs.Classes.{role_of_class}
@@ -11,7 +10,6 @@ use Rattle.erd_tables.specs.declared.class.Class.TheVariants as class
 use Rattle.erd_tables.specs.declared.class.Family.TheVariants as family
 use Rattle.erd_tables.specs.declared.class.Role.{Role}
 use Rattle.erd_tables.specs.declared.class.Role.TheVariants as role
-use Rattle.erd_tables.specs.declared.fault.Reason.{Reason}
 use Rattle.erd_tables.specs.declared.fault.Reason.TheVariants as reason
 use Rattle.erd_tables.specs.declared.member.MemberKind.TheVariants as kind
 use Rattle.erd_tables.specs.declared.place.Step.{Step}
@@ -33,7 +31,7 @@ use Rattle.erd_normal.proofs.ReferenceLists.{IsListSound, list_name, list_sound}
 use Rattle.erd_normal.proofs.ReferencesBuilt.{references_sound}
 use Rattle.erd_normal.proofs.ThroughoutMembers.{HoldsOfMembers}
 use Rattle.erd_normal.proofs.ThroughoutObjects.{HoldsOfObjects}
-use Rattle.erd_normal.proofs.ThroughoutReports.{HoldsOfBuilt, holds_of_built}
+use Rattle.erd_normal.proofs.ThroughoutReports.{HoldsOfBuilt, holds_of_built, none_found}
 use Rattle.erd_normal.proofs.ThroughoutValues.{is_apart}
 
 -- ---- the lists of a report
@@ -193,7 +191,7 @@ module _ (t : Data) (accepted : IsAccepted t) (tree : IsTree t) (bounded : IsBou
   members : HoldsOfMembers t (IsListed u)
   members = record {
     kept = λ a w apart. record { sound = λ e among. absurd (true≢false (sym apart ∙ ap is_apart e)) };
-    class_text = λ r text. unlisted u _ _ false (λ e. cc);
+    class_text = λ r c text named. unlisted u _ _ false (λ e. cc);
     label = λ required d w. unlisted u _ _ false (λ e. cc);
     one = λ f named d w. unlisted u _ _ false (λ e. cc);
     many = λ f named required d w full. unlisted u _ _ false (λ e. cc);
@@ -226,14 +224,7 @@ module _ (t : Data) (accepted : IsAccepted t) (tree : IsTree t) (bounded : IsBou
     report = unlisted u _ _ false (λ e. let x : role.Report ≡ role.Content = cc in cc);
   }
 
-  faultless : (p : List Step) (r : Reason) → IsSomeAnd (asked_at (normal_tree t) p) (λ a. IsTrue (is_reference_fault (normal_tree t) a r)) → ⊥
-  faultless p r = at (asked_at (normal_tree t) p) refl
-    where
-      at : (o : Option Asked) → asked_at (normal_tree t) p ≡ o → IsSomeAnd o (λ a. IsTrue (is_reference_fault (normal_tree t) a r)) → ⊥
-      at None is h = h
-      at (Some a) is h = true≢false (sym h ∙ references_sound t accepted tree bounded p a r is)
-
   -- the report that is built has no fault of references
   pub no_reference_fault_built : NoneOf (ReferenceFault (normal_tree t))
   no_reference_fault_built p reason.SelectionOfOtherContest h = none_elsewhere (normal_tree t) (λ p a e. holds_of_built t (no_shape_fault t accepted) tree (IsListed u) built p a e) p h
-  no_reference_fault_built p r h = faultless p r h
+  no_reference_fault_built p r h = none_found (normal_tree t) (is_reference_fault (normal_tree t)) (references_sound t accepted tree bounded) p r h

@@ -157,7 +157,7 @@ module _ (t : Data) (accepted : IsAccepted t) (tree : IsTree t) (bounded : IsBou
   members : HoldsOfMembers t (IsRisingIn u)
   members = record {
     kept = λ a w apart. record { rises = λ k e. kept_rises u a.want a.value k apart e };
-    class_text = λ r text. record { rises = λ k e. cc };
+    class_text = λ r c text named. record { rises = λ k e. cc };
     label = λ required d w. rising_value u kind.Label required _ tt;
     one = λ f named d w. record { rises = λ k e. cc };
     many = λ f named required d w full.

@@ -32,9 +32,8 @@ use Rattle.erd_meaning.specs.SelectionNames.{rising_list, selection_role}
 use Rattle.erd_normal.specs.code.NormalTree.{array_of, by_key, by_name, id_of_selection, normal_content, normal_node, normal_node_value, normal_nodes, normal_object, normal_object_value, normal_objects, normal_selection, normal_value}
 use Rattle.erd_normal.proofs.AskedMembers.{entries_asked, entry_asked}
 use Rattle.erd_normal.proofs.BuiltFrom.{Builder, BuiltFrom, BuiltObject, inside_built, member_holds}
-use Rattle.erd_normal.proofs.BuiltLists.{all_map, all_rising}
+use Rattle.erd_normal.proofs.BuiltLists.{all_map, all_rising, given_unless}
 use Rattle.erd_normal.proofs.BuiltObjects.{built_node, built_object, built_selection, is_id, no_name, node_builder, object_builder, object_id, plain_builder, selection_id}
-use Rattle.erd_normal.proofs.CleanSets.{given_unless}
 use Rattle.erd_normal.proofs.FamilyNames.{contest_of_selections, family_name, keyed_name}
 use Rattle.erd_normal.proofs.NormalGets.{kind_of_family_id}
 use Rattle.erd_normal.proofs.Positions.{map_has}

@@ -20,7 +20,7 @@ use Rattle.erd_check.specs.declared.want.Want.{Want}
 use Rattle.erd_check.specs.declared.want.Want.TheVariants.{Object, ClassText, Reference, Status, Member, Carried}
 use Rattle.erd_check.proofs.Shapes.{Within, Within-step}
 use Rattle.erd_check.proofs.TableKinds.{kind_of_class}
-use Rattle.erd_normal.proofs.CleanValues.{entry_holds}
+use Rattle.erd_normal.proofs.BuiltLists.{entry_holds}
 use Rattle.erd_normal.proofs.NormalGets.{class_has_role}
 
 -- it holds of a value, and of all that is asked inside it

@@ -1,11 +1,9 @@
-use Rattle.std.proofs.Common.{◌≡◌, false, ap, sym, ◌∙◌, subst}
-use Rattle.serde_json.specs.Data.{Data}
+use Rattle.std.proofs.Common.{◌≡◌, ap, sym, ◌∙◌, subst}
 use Rattle.serde_json.specs.View.{view}
 use Rattle.serde_json.specs.Written.{has_float}
 use Rattle.erd_check.specs.Trees.{IsNoDeeper, IsTree}
 use Rattle.erd_meaning.proofs.Phases.{no_shape_fault}
 use Rattle.erd_normal.specs.Canonical.{IsCanonicalFormOf}
-use Rattle.erd_normal.specs.code.NormalTree.{normal_tree}
 use Rattle.erd_check.specs.Numbers.{HasFittingNumbers}
 use Rattle.erd_normal.proofs.NormalDepths.{normal_tree-depth}
 use Rattle.erd_normal.proofs.NormalFormsOnly.{form_built, only_form_built, whole_built}

@@ -3,4 +3,4 @@ use Rattle.erd_normal.proofs.WholeEntries.{whole_list}
 use Rattle.erd_normal.proofs.family_objects.ObjectMembersMemberRule.value.Goals as goal
 
 pub contest_selections-requires : goal.contest_selections-requires
-contest_selections-requires g c = record { whole = whole_list (view c.args.member.now) c.entries_of-entries_at.result.now c.requires.whole c.entries_of-entries_at.ensures }
+contest_selections-requires g c = record { whole = whole_list (view c.args.member.now) c.entries_of-entries.result.now c.requires.whole c.entries_of-entries.ensures }
