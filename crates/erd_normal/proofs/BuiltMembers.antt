@@ -14,7 +14,7 @@ use Rattle.serde_json.proofs.Views.{Entry}
 use Rattle.erd_tables.specs.Texts.{text_cmp}
 use Rattle.erd_check.specs.Values.{names}
 use Rattle.erd_check.proofs.Lists.{names_sorted}
-use Rattle.erd_normal.specs.code.Building.{put_each, put_if}
+use Rattle.erd_normal.specs.code.Building.{put_if}
 use Rattle.erd_normal.proofs.NormalMembers.{each_member}
 
 -- ---- whole numbers
@@ -34,6 +34,11 @@ later_whole k d ms h = at (has_float d) h
     at false e = e
 
 -- ---- one after another
+
+-- the members that were built, with what the others become put among them
+abbrev pub put_each : (List ℕ → Data → Option Data) → Members → Members → Members
+put_each value no_members built = built
+put_each value (member k d ms) built = put_each value ms (put_if k (value k d) built)
 
 -- members, and then others
 abbrev joined : Members → Members → Members

@@ -16,7 +16,7 @@ use Rattle.erd_meaning.proofs.Sets.{any-has, has-any}
 use Rattle.erd_meaning.proofs.Standing.{flat-has, has_id-Some, has_id-from, one_object, one_placed, owned_by}
 use Rattle.erd_normal.specs.code.NormalTree.{id_of_selection, normal_object, normal_selection_reference, normal_tree}
 use Rattle.erd_check.specs.Values.{text_of}
-use Rattle.erd_normal.specs.code.Tables.{IsBounded}
+use Rattle.erd_normal.specs.code.ObjectNumbers.{IsBounded}
 use Rattle.erd_normal.proofs.FoundInParts.{FoundSelection}
 use Rattle.erd_normal.proofs.NormalGets.{id_of_built_selection}
 use Rattle.erd_normal.proofs.NormalIdentity.{never_before_itself}

@@ -25,7 +25,7 @@ use Rattle.erd_meaning.specs.LaterFaults.{NamesOtherContest, ReferenceFault, is_
 use Rattle.erd_meaning.specs.Records.{class_of_node}
 use Rattle.erd_meaning.proofs.Phases.{no_shape_fault}
 use Rattle.erd_normal.specs.code.NormalTree.{normal_tree}
-use Rattle.erd_normal.specs.code.Tables.{IsBounded}
+use Rattle.erd_normal.specs.code.ObjectNumbers.{IsBounded}
 use Rattle.erd_normal.proofs.NormalGets.{class_has_role}
 use Rattle.erd_normal.proofs.ReferenceLists.{IsListSound, list_name, list_sound}
 use Rattle.erd_normal.proofs.ReferencesBuilt.{references_sound}

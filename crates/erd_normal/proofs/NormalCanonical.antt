@@ -6,7 +6,7 @@ use Rattle.erd_meaning.specs.Accepted.{IsAccepted}
 use Rattle.erd_meaning.proofs.Phases.{accepted_by_phases, no_shape_fault}
 use Rattle.erd_normal.specs.Canonical.{IsCanonical}
 use Rattle.erd_normal.specs.code.NormalTree.{normal_tree}
-use Rattle.erd_normal.specs.code.Tables.{IsBounded}
+use Rattle.erd_normal.specs.code.ObjectNumbers.{IsBounded}
 use Rattle.erd_normal.proofs.NoEmptyArrays.{no_empty_array_built}
 use Rattle.erd_normal.proofs.NoReferenceFaults.{no_reference_fault_built}
 use Rattle.erd_normal.proofs.NoShapeFaults.{no_shape_fault_built}

@@ -5,7 +5,7 @@ use Rattle.erd_check.specs.Trees.{IsTree}
 use Rattle.erd_meaning.specs.Accepted.{IsAccepted}
 use Rattle.erd_normal.specs.Canonical.{IsCanonicalFormOf}
 use Rattle.erd_normal.specs.code.NormalTree.{normal_tree}
-use Rattle.erd_normal.specs.code.Tables.{IsBounded}
+use Rattle.erd_normal.specs.code.ObjectNumbers.{IsBounded}
 use Rattle.erd_normal.proofs.NormalCanonical.{normal_is_canonical}
 use Rattle.erd_normal.proofs.NormalMeaning.{same_meaning_built}
 

@@ -11,7 +11,7 @@ use Rattle.erd_meaning.specs.Accepted.{IsAccepted}
 use Rattle.erd_meaning.proofs.Phases.{no_shape_fault}
 use Rattle.erd_normal.specs.Canonical.{IsCanonicalFormOf}
 use Rattle.erd_normal.specs.code.NormalTree.{normal_tree}
-use Rattle.erd_normal.specs.code.Tables.{IsBounded}
+use Rattle.erd_normal.specs.code.ObjectNumbers.{IsBounded}
 use Rattle.erd_check.specs.Numbers.{HasFittingNumbers}
 use Rattle.erd_normal.proofs.NormalForms.{normal_is_canonical_form}
 use Rattle.erd_normal.proofs.NormalTrees.{normal_tree-tree}

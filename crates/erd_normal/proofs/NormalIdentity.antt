@@ -18,7 +18,7 @@ use Rattle.erd_meaning.specs.SelectionNames.{rising_list}
 use Rattle.erd_meaning.proofs.References.{Has-Contains, has_identifier}
 use Rattle.erd_meaning.proofs.Standing.{has-flat}
 use Rattle.erd_normal.specs.code.NormalTree.{by_key, normal_tree, rank_of}
-use Rattle.erd_normal.specs.code.Tables.{IsBounded}
+use Rattle.erd_normal.specs.code.ObjectNumbers.{IsBounded}
 use Rattle.erd_normal.proofs.CanonicalIds.{canonical_id_exact, selection_id_apart}
 use Rattle.erd_normal.proofs.LeastKeys.{key_of_object}
 use Rattle.erd_normal.proofs.NormalKeys.{IsClassed, built_at, ids_by_rank, object_classed, rank_is, rising_classed}

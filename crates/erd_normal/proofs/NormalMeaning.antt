@@ -8,7 +8,7 @@ use Rattle.erd_meaning.specs.Objects.{owner}
 use Rattle.erd_meaning.specs.Records.{meaning}
 use Rattle.erd_normal.specs.code.NormalTree.{normal_tree}
 use Rattle.erd_check.specs.Values.{text_of}
-use Rattle.erd_normal.specs.code.Tables.{IsBounded}
+use Rattle.erd_normal.specs.code.ObjectNumbers.{IsBounded}
 use Rattle.erd_normal.proofs.MeantObjects.{Facts}
 use Rattle.erd_normal.proofs.MeantReports.{meaning_of_normal_tree}
 use Rattle.erd_normal.proofs.NormalNames.{Refers, name_built_within, reference_refers}

@@ -33,7 +33,7 @@ use Rattle.erd_meaning.proofs.Standing.{flat-has, stands}
 use Rattle.erd_normal.specs.Canonical.{id_prefix}
 use Rattle.erd_normal.specs.code.NormalTree.{normal_label, normal_value, normal_reference, normal_selection, normal_tree, reference_cmp}
 use Rattle.erd_normal.proofs.AskedMembers.{AskedAs, all_items, asked_as}
-use Rattle.erd_normal.specs.code.Tables.{IsBounded}
+use Rattle.erd_normal.specs.code.ObjectNumbers.{IsBounded}
 use Rattle.erd_normal.proofs.BuiltLists.{all_rising}
 use Rattle.erd_normal.proofs.LeastKeys.{key_of_selection}
 use Rattle.erd_normal.proofs.NormalEntries.{selection_references}

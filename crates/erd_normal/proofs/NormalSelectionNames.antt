@@ -16,7 +16,7 @@ use Rattle.erd_meaning.specs.Objects.{Placed, objects, selections_of}
 use Rattle.erd_meaning.specs.SelectionNames.{name_cmp, name_of, rising_list}
 use Rattle.erd_meaning.proofs.References.{Has-Contains, option_map-Some}
 use Rattle.erd_normal.specs.code.NormalTree.{by_name, normal_object, normal_selection, normal_tree, rank_of_name}
-use Rattle.erd_normal.specs.code.Tables.{IsBounded}
+use Rattle.erd_normal.specs.code.ObjectNumbers.{IsBounded}
 use Rattle.erd_normal.proofs.NormalIdentity.{never_before_itself}
 use Rattle.erd_normal.proofs.NormalNames.{name_built}
 use Rattle.erd_normal.proofs.NormalSelections.{has_at}

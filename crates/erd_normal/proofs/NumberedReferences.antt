@@ -19,8 +19,8 @@ use Rattle.erd_normal.proofs.RisingSets.{has_from_In, In-from_has}
 use Rattle.erd_normal.specs.code.Building.{AreNumbers, numbered_id}
 use Rattle.erd_normal.specs.Canonical.{id_prefix}
 use Rattle.erd_normal.specs.code.NormalTree.{normal_id, rank_of}
-use Rattle.erd_normal.specs.code.Tables.{AreSelectionNumbers, AreTables, number_in, table_of}
-use Rattle.erd_normal.specs.declared.tables.Tables.{Tables}
+use Rattle.erd_normal.specs.code.ObjectNumbers.{AreSelectionNumbers, AreObjectNumbers, number_in, numbers_of_family}
+use Rattle.erd_normal.specs.declared.numbers.object_numbers.ObjectNumbers.{ObjectNumbers}
 
 -- the `@id` text of a rank
 numbered_rank : (f : Family) (n : ℕ) → numbered_id f (n + 1) ≡ unwrap_or (option_map (λ letters. letters ++ decimal (n + 1)) (id_prefix f)) []
@@ -42,7 +42,7 @@ none_lesser (o ∷ os) = at (key_of o.value) (none_lesser os)
 
 module _ (t : Data) (f : Family) (id : List ℕ) where
   -- an object of the family has the `@id`
-  found_in : (n : Tables) (i : ℕ) → AreTables t n → has_keys f ≡ true → id_in f t i ≡ Some id → numbered_id f (number_in (table_of f n) i) ≡ normal_id t f id
+  found_in : (n : ObjectNumbers) (i : ℕ) → AreObjectNumbers t n → has_keys f ≡ true → id_in f t i ≡ Some id → numbered_id f (number_in (numbers_of_family f n) i) ≡ normal_id t f id
   found_in n i tables keyed here =
       let hit = with_part (λ o. id_of o.value) f t i id here in
       let o : ObjectIn f t i = hit.0 in
@@ -70,8 +70,8 @@ module _ (t : Data) (f : Family) (id : List ℕ) where
       numbered_rank f 0 ∙ ap (λ n. unwrap_or (option_map (λ letters. letters ++ decimal (n + 1)) (id_prefix f)) []) (sym rank)
 
 -- the family's object is found
-pub named_here : (t : Data) (f : Family) (id : List ℕ) (n : Tables) (g : Family) (i : ℕ) → AreTables t n → FindsId t id (Some (g, i)) → (family_number g == family_number f) ≡ true
-    → numbered_id f (number_in (table_of f n) i) ≡ normal_id t f id
+pub named_here : (t : Data) (f : Family) (id : List ℕ) (n : ObjectNumbers) (g : Family) (i : ℕ) → AreObjectNumbers t n → FindsId t id (Some (g, i)) → (family_number g == family_number f) ≡ true
+    → numbered_id f (number_in (numbers_of_family f n) i) ≡ normal_id t f id
 named_here t family.Selection id n g i tables finds same = refl
 named_here t f id n g i tables finds same =
     let one : g ≡ f = family_exact g f same in
@@ -91,18 +91,18 @@ named_nowhere t f id finds = unnamed t f id (λ j e. let none : None ≡ Some (f
 
 -- ---- the tables
 
-tables_by : (t : Data) (n : Tables) → AreNumbers t family.Unit n.units.items → AreNumbers t family.Party n.parties.items → AreNumbers t family.Person n.persons.items
+numbers_by_family : (t : Data) (n : ObjectNumbers) → AreNumbers t family.Unit n.units.items → AreNumbers t family.Party n.parties.items → AreNumbers t family.Person n.persons.items
     → AreNumbers t family.Office n.offices.items → AreNumbers t family.Header n.headers.items → AreNumbers t family.Candidate n.candidates.items
-    → AreNumbers t family.Contest n.contests.items → AreNumbers t family.Style n.styles.items → (f : Family) → has_keys f ≡ true → AreNumbers t f (table_of f n)
-tables_by t n u p e o h c k s family.Unit keyed = u
-tables_by t n u p e o h c k s family.Party keyed = p
-tables_by t n u p e o h c k s family.Person keyed = e
-tables_by t n u p e o h c k s family.Office keyed = o
-tables_by t n u p e o h c k s family.Header keyed = h
-tables_by t n u p e o h c k s family.Candidate keyed = c
-tables_by t n u p e o h c k s family.Contest keyed = k
-tables_by t n u p e o h c k s family.Style keyed = s
-tables_by t n u p e o h c k s family.Selection keyed = absurd (cc)
+    → AreNumbers t family.Contest n.contests.items → AreNumbers t family.Style n.styles.items → (f : Family) → has_keys f ≡ true → AreNumbers t f (numbers_of_family f n)
+numbers_by_family t n u p e o h c k s family.Unit keyed = u
+numbers_by_family t n u p e o h c k s family.Party keyed = p
+numbers_by_family t n u p e o h c k s family.Person keyed = e
+numbers_by_family t n u p e o h c k s family.Office keyed = o
+numbers_by_family t n u p e o h c k s family.Header keyed = h
+numbers_by_family t n u p e o h c k s family.Candidate keyed = c
+numbers_by_family t n u p e o h c k s family.Contest keyed = k
+numbers_by_family t n u p e o h c k s family.Style keyed = s
+numbers_by_family t n u p e o h c k s family.Selection keyed = absurd (cc)
 
 bounded_by : (t : Data) → length (objects family.Unit t) < 2 ^ 64 → length (objects family.Party t) < 2 ^ 64 → length (objects family.Person t) < 2 ^ 64
     → length (objects family.Office t) < 2 ^ 64 → length (objects family.Header t) < 2 ^ 64 → length (objects family.Candidate t) < 2 ^ 64
@@ -123,14 +123,14 @@ pub record AreFew (t : Data) (f : Family) (ns : List ℕ) : Type 0 where
   pub numbers : AreNumbers t f ns
   pub few : length (objects f t) < 2 ^ 64
 
-pub tables_made : (t : Data) (n : Tables) → IsAccepted t → AreFew t family.Unit n.units.items → AreFew t family.Party n.parties.items → AreFew t family.Person n.persons.items
+pub object_numbers_made : (t : Data) (n : ObjectNumbers) → IsAccepted t → AreFew t family.Unit n.units.items → AreFew t family.Party n.parties.items → AreFew t family.Person n.persons.items
     → AreFew t family.Office n.offices.items → AreFew t family.Header n.headers.items → AreFew t family.Candidate n.candidates.items
     → AreFew t family.Contest n.contests.items → AreFew t family.Style n.styles.items → AreSelectionNumbers t n.selections.items → length (objects family.Selection t) < 2 ^ 64
-    → AreTables t n
-tables_made t n accepted u p e o h c k s selections few = record {
+    → AreObjectNumbers t n
+object_numbers_made t n accepted u p e o h c k s selections few = record {
   accepted = accepted;
   bounded = record { few = bounded_by t u.few p.few e.few o.few h.few c.few k.few s.few few };
-  numbers = tables_by t n u.numbers p.numbers e.numbers o.numbers h.numbers c.numbers k.numbers s.numbers;
+  numbers = numbers_by_family t n u.numbers p.numbers e.numbers o.numbers h.numbers c.numbers k.numbers s.numbers;
   selections = selections;
 }
 

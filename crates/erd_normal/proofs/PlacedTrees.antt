@@ -35,7 +35,11 @@ use Rattle.erd_normal.proofs.Positions.{map_has}
 use Rattle.erd_normal.proofs.RisingLists.{has_rising}
 use Rattle.erd_normal.proofs.RisingReports.{object_ids, selection_ids}
 use Rattle.erd_normal.specs.code.NormalTree.{array_of, by_key, by_name, in_envelope, normal_election, normal_election_value, normal_members, normal_object, normal_object_value, normal_object_with, normal_report_value, normal_selection, normal_tree, normal_value, unless_no_entry, with_id}
-use Rattle.erd_normal.specs.code.PlacedTree.{map_from, placed_election, placed_election_value, placed_object, placed_object_value, placed_objects, placed_report_value, placed_selection, placed_tree}
+use Rattle.erd_normal.specs.code.PlacedTree.{map_from, placed_election, placed_election_value, placed_object, placed_object_value, placed_objects, placed_report_value, placed_selection}
+
+-- the report, with objects and selections numbered by their places
+abbrev pub placed_tree : Data → Data → Data
+placed_tree u t = in_envelope (normal_object_with (placed_report_value u t) (class_of_object role.Report u) u)
 
 -- ---- lists and members
 

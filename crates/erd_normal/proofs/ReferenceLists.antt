@@ -26,7 +26,7 @@ use Rattle.erd_meaning.proofs.References.{selected}
 use Rattle.erd_meaning.proofs.Standing.{owned_by}
 use Rattle.erd_normal.specs.code.NormalTree.{normal_content, normal_id, normal_node, normal_node_value, normal_object, normal_selection_reference, normal_tree}
 use Rattle.erd_normal.proofs.AskedMembers.{all_items}
-use Rattle.erd_normal.specs.code.Tables.{IsBounded}
+use Rattle.erd_normal.specs.code.ObjectNumbers.{IsBounded}
 use Rattle.erd_normal.proofs.BuiltLists.{all_map}
 use Rattle.erd_normal.proofs.ContestSelections.{reference_in_built}
 use Rattle.erd_normal.proofs.NormalEntries.{entries_built}

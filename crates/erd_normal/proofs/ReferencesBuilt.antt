@@ -37,7 +37,7 @@ use Rattle.erd_meaning.proofs.Phases.{no_shape_fault}
 use Rattle.erd_meaning.proofs.Sets.{any-has}
 use Rattle.erd_normal.specs.Canonical.{keys_referred}
 use Rattle.erd_normal.specs.code.NormalTree.{normal_id, normal_reference, normal_selection_reference, normal_tree, reference_cmp}
-use Rattle.erd_normal.specs.code.Tables.{IsBounded}
+use Rattle.erd_normal.specs.code.ObjectNumbers.{IsBounded}
 use Rattle.erd_normal.proofs.BuiltLists.{all_map, all_rising, entry_holds}
 use Rattle.erd_normal.proofs.UnrepeatedEntries.{AreUnlike, unlike_unrepeated}
 use Rattle.erd_normal.proofs.NormalNames.{Refers, reference_refers, references_refer}

@@ -21,7 +21,7 @@ use Rattle.erd_meaning.proofs.Standing.{flat-has, has-flat, has_id-Some, has_id-
 use Rattle.erd_normal.specs.Canonical.{HasCanonicalIds, canonical_selection_id}
 use Rattle.erd_normal.specs.code.NormalTree.{by_key, by_name, id_of_selection, normal_object, normal_selection, normal_selection_reference, normal_tree, selection_with}
 use Rattle.erd_normal.proofs.Bounds.{few_selections}
-use Rattle.erd_normal.specs.code.Tables.{IsBounded}
+use Rattle.erd_normal.specs.code.ObjectNumbers.{IsBounded}
 use Rattle.erd_normal.proofs.FoundInParts.{FoundSelection, owner_found}
 use Rattle.erd_normal.proofs.NormalGets.{id_of_built_selection}
 use Rattle.erd_normal.proofs.NormalKeys.{IsClassed, object_classed}

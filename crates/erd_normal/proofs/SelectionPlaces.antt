@@ -25,9 +25,17 @@ use Rattle.erd_normal.proofs.KeyPlaces.{length_places, place_is}
 use Rattle.erd_normal.proofs.NumberedParts.{in_part}
 use Rattle.erd_normal.proofs.RisingRanks.{rank_map}
 use Rattle.erd_normal.proofs.RisingSets.{has_from_In}
-use Rattle.erd_normal.specs.code.KeyRanks.{numbers_in_contest, numbers_in_election, numbers_in_report}
+use Rattle.erd_normal.specs.code.KeyRanks.{numbers_in_contest}
 use Rattle.erd_normal.specs.code.NormalTree.{rank_of_name}
-use Rattle.erd_normal.specs.code.Tables.{AreSelectionNumbers}
+use Rattle.erd_normal.specs.code.ObjectNumbers.{AreSelectionNumbers}
+
+-- the numbers of the selections of an election, contest by contest
+abbrev pub numbers_in_election : Data → Data → List ℕ
+numbers_in_election t election = flat_map (numbers_in_contest t) (entries_at (codes "Contest") election)
+
+-- those of a report
+abbrev pub numbers_in_report : Data → List ℕ
+numbers_in_report t = flat_map (numbers_in_election t) (entries_at (codes "Election") t)
 
 module _ (t : Data) where
   -- the numbers of the selections of a contest

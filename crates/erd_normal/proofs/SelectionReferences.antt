@@ -29,8 +29,8 @@ use Rattle.erd_normal.proofs.RisingSets.{has_from_In, In-from_has}
 use Rattle.erd_normal.proofs.Selections.{has_name}
 use Rattle.erd_normal.specs.code.NormalTree.{contest_with, id_of_selection, normal_selection_reference, rank_of, rank_of_name, selection_with}
 use Rattle.erd_normal.specs.code.PlacedTree.{selection_id_numbered}
-use Rattle.erd_normal.specs.code.Tables.{AreTables, number_in}
-use Rattle.erd_normal.specs.declared.tables.Tables.{Tables}
+use Rattle.erd_normal.specs.code.ObjectNumbers.{AreObjectNumbers, number_in}
+use Rattle.erd_normal.specs.declared.numbers.object_numbers.ObjectNumbers.{ObjectNumbers}
 
 -- ---- the selections of a report, without the numbers of their contests
 
@@ -114,7 +114,7 @@ module _ (t : Data) (id : List ℕ) where
           absurd (inside c found.0 (find (λ o. has_id id o.value) (selections_of c)) refl found.1)
 
 -- a selection is found
-pub selection_here : (t : Data) (id : List ℕ) (n : Tables) (g : Family) (i : ℕ) → AreTables t n → FindsId t id (Some (g, i)) → (family_number g == family_number family.Selection) ≡ true
+pub selection_here : (t : Data) (id : List ℕ) (n : ObjectNumbers) (g : Family) (i : ℕ) → AreObjectNumbers t n → FindsId t id (Some (g, i)) → (family_number g == family_number family.Selection) ≡ true
     → string (option_map_or (λ s. selection_id_numbered (number_in n.contests.items s.0) (number_in n.selections.items i)) (selection_in t i) []) ≡ normal_selection_reference t (string id)
 selection_here t id n g i tables finds same =
     let one : g ≡ family.Selection = family_exact g family.Selection same in

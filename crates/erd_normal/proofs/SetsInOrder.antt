@@ -28,7 +28,7 @@ use Rattle.erd_meaning.proofs.Phases.{no_shape_fault}
 use Rattle.erd_normal.specs.Canonical.{AreSetsInOrder, RisesAs, id_prefix, keys_of, keys_referred, kind_wanted}
 use Rattle.erd_normal.specs.code.NormalTree.{array_of, by_key, by_name, normal_object, normal_objects, normal_reference, normal_selection, normal_tree, reference_cmp}
 use Rattle.erd_normal.proofs.AskedMembers.{entries_asked}
-use Rattle.erd_normal.specs.code.Tables.{IsBounded}
+use Rattle.erd_normal.specs.code.ObjectNumbers.{IsBounded}
 use Rattle.erd_normal.proofs.BuiltLists.{all_rising}
 use Rattle.erd_normal.proofs.FittingNumbers.{within-fitting}
 use Rattle.erd_normal.proofs.LeastKeys.{key_of_object}

@@ -4,4 +4,4 @@ pub mod KeyRanks
 pub mod NameOrders
 pub mod NormalTree
 pub mod PlacedTree
-pub mod Tables
+pub mod ObjectNumbers

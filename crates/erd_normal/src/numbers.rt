@@ -1,62 +1,7 @@
-ghost use Rattle.std.specs.Prelude.{◌≡◌, ◌<◌, ◌^◌, true, length, replicate, IfOk, OnOk};
-ghost use Rattle.serde_json.specs.View.{view};
-ghost use Rattle.erd_meaning.specs.Accepted.{IsAccepted};
-ghost use Rattle.erd_meaning.specs.Keys.{has_keys};
-ghost use Rattle.erd_meaning.specs.Objects.{objects};
-ghost use Rattle.erd_normal.specs.code.Building.{AreNumbers, key_positions, numbered};
+//! The number of each object among those of its family, and the `@id` texts that say it.
 
-use crate::sorting::in_order;
-use erd_meaning::{Key, Report, key_of};
-use erd_tables::Family;
-use std::alloc::{AllocError, Global};
-
-/// The number of each object of a family, by its position: its rank among the keys of the family, counted from 1.
-pub(crate) fn family_numbers(
-    alloc: Global,
-    report: &Report,
-    family: Family,
-) -> Result<Vec<usize>, AllocError>
-    requires accepted { IsAccepted (view report.now) }
-    requires keyed { has_keys family ≡ true }
-    ensures numbers { IfOk result (λ numbers. AreNumbers (view report.now) family numbers.items) }
-    ensures few { OnOk result (length (objects family (view report.now)) < 2 ^ 64) }
-{
-    let keyed = keyed_positions(alloc, report, family)?;
-    let sorted = in_order(alloc, keyed)?;
-    let numbers = numbers_by(alloc, &sorted)?;
-    Ok(numbers)
-}
-
-/// The keys of the objects of a family, with their positions.
-fn keyed_positions(
-    alloc: Global,
-    report: &Report,
-    family: Family,
-) -> Result<Vec<(Option<Key>, usize)>, AllocError>
-    ensures pairs { IfOk result (λ pairs. pairs.items ≡ key_positions 0 (objects family (view report.now))) }
-    ensures few { OnOk result (length (objects family (view report.now)) < 2 ^ 64) }
-{
-    let mut pairs = Vec::new(alloc);
-    let count = report.count(family);
-    for index in 0..count {
-        match report.object(family, index) {
-            Some(object) => pairs.push((key_of(alloc, object)?, index))?,
-            None => {}
-        }
-    }
-    Ok(pairs)
-}
-
-/// The places of pairs, counted from 1, at the positions that they name.
-pub(crate) fn numbers_by<K>(alloc: Global, sorted: &[(K, usize)]) -> Result<Vec<usize>, AllocError>
-    ensures { IfOk result (λ numbers. numbers.items ≡ numbered 0 sorted.now (replicate (length sorted.now) 0)) }
-{
-    let mut numbers = vec![in alloc; 0; sorted.len()]?;
-    for (rank, pair) in sorted.iter().enumerate() {
-        let position = pair.1;
-        if position < numbers.len() {
-            numbers[position] = rank + 1;
-        }
-    }
-    Ok(numbers)
-}
+pub(crate) mod family_numbers;
+pub(crate) mod id_texts;
+pub(crate) mod numbering;
+pub(crate) mod object_numbers;
+pub(crate) mod selection_numbers;

@@ -2,7 +2,7 @@
 use Rattle.std.specs.Prelude.{◌≡◌, ℕ, ◌+◌, List, [], ◌∷◌, ◌++◌, Option, Some, None, decimal, slice_set}
 use Rattle.std.specs.List.{slice_get}
 use Rattle.std.specs.Option.{option_map_or}
-use Rattle.serde_json.specs.Data.{Data, Members, no_members, member, put}
+use Rattle.serde_json.specs.Data.{Data, Members, put}
 use Rattle.serde_json.specs.Written.{compact_text}
 use Rattle.erd_tables.specs.declared.class.Family.{Family}
 use Rattle.erd_meaning.specs.Keys.{key_of}
@@ -18,18 +18,13 @@ abbrev pub put_if : List ℕ → Option Data → Members → Members
 put_if k None ms = ms
 put_if k (Some v) ms = put k v ms
 
--- the members that were built, with what the others become put among them
-abbrev pub put_each : (List ℕ → Data → Option Data) → Members → Members → Members
-put_each value no_members built = built
-put_each value (member k d ms) built = put_each value ms (put_if k (value k d) built)
-
 -- a value beside a text
 abbrev pub beside : List ℕ → Data → List ℕ × Data
 beside text d = (text, d)
 
 -- a value beside its compact text
-abbrev pub beside_text : Data → List ℕ × Data
-beside_text d = beside (compact_text d) d
+abbrev pub beside_compact_text : Data → List ℕ × Data
+beside_compact_text d = beside (compact_text d) d
 
 -- ---- numbers of objects
 
@@ -60,7 +55,3 @@ beside_key key d = (key, d)
 -- a reference beside the key of the object of the family that it names
 abbrev pub beside_named : Data → Family → Data → Option Key × Data
 beside_named t f d = beside_key (key_named t f (text_of d)) d
-
--- an object beside its key
-abbrev pub beside_own_key : Data → Option Key × Data
-beside_own_key d = beside_key (key_of d) d

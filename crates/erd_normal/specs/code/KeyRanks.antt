@@ -1,6 +1,5 @@
 -- The places of keys among the sorted ones, by the positions of the keys, and so the numbers of selections in the order of the code.
 use Rattle.std.specs.Prelude.{ℕ, ◌+◌, List, [], ◌∷◌, length, map, codes, replicate}
-use Rattle.std.specs.List.{flat_map}
 use Rattle.std.specs.Option.{option_cmp}
 use Rattle.std.specs.declared.cmp.Ordering.{Ordering}
 use Rattle.serde_json.specs.Data.{Data}
@@ -28,11 +27,3 @@ numbers_of_selections t ds = places_of (option_cmp name_cmp) (map (name_of t) ds
 -- the numbers of the selections of a contest
 abbrev pub numbers_in_contest : Data → Data → List ℕ
 numbers_in_contest t contest = numbers_of_selections t (entries_at (codes "ContestSelection") contest)
-
--- those of an election, contest by contest
-abbrev pub numbers_in_election : Data → Data → List ℕ
-numbers_in_election t election = flat_map (numbers_in_contest t) (entries_at (codes "Contest") election)
-
--- those of a report
-abbrev pub numbers_in_report : Data → List ℕ
-numbers_in_report t = flat_map (numbers_in_election t) (entries_at (codes "Election") t)

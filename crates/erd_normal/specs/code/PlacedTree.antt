@@ -15,7 +15,7 @@ use Rattle.erd_meaning.specs.NameParts.{NameParts}
 use Rattle.erd_meaning.specs.SelectionNames.{rising_list, selection_role}
 use Rattle.erd_meaning.specs.declared.key.Key.{Key}
 use Rattle.erd_normal.specs.Canonical.{id_prefix}
-use Rattle.erd_normal.specs.code.NormalTree.{array_of, by_key, by_name, in_envelope, normal_content, normal_object_with, normal_value, unless_no_entry, with_id}
+use Rattle.erd_normal.specs.code.NormalTree.{array_of, by_key, by_name, normal_content, normal_object_with, normal_value, unless_no_entry, with_id}
 
 -- what each becomes with its number, counted from n on
 abbrev pub map_from : {A B : Type 0} → (ℕ → A → B) → ℕ → List A → List B
@@ -84,7 +84,3 @@ abbrev pub placed_report_value : Data → Data → List ℕ → MemberKind → D
 placed_report_value u t name (kind.Keyed f) d = unless_no_entry d (array_of (placed_objects u t f (entries_of d)))
 placed_report_value u t name kind.Elections d = Some (array_of (map (placed_election u t) (entries_of d)))
 placed_report_value u t name k d = if is_envelope_name name then None else normal_value t k d
-
--- the report
-abbrev pub placed_tree : Data → Data → Data
-placed_tree u t = in_envelope (normal_object_with (placed_report_value u t) (class_of_object role.Report u) u)

@@ -1,0 +1,21 @@
+use Rattle.std.proofs.Common.{map, ap, ◌∙◌}
+use Rattle.serde_json.specs.View.{view}
+use Rattle.erd_normal.proofs.PlacedEntries.{objects_in_order, whole_in_order}
+use Rattle.erd_normal.specs.code.NormalTree.{by_key}
+use Rattle.erd_normal.specs.code.PlacedTree.{map_from, placed_object}
+use Rattle.erd_normal.proofs.objects.family_objects.family_objects.Goals as goal
+
+pub numbered_objects-requires : goal.numbered_objects-requires
+numbered_objects-requires g c = record {
+  whole = whole_in_order (λ p. view p.1.now) by_key c.deref.result.now c.args.objects.now
+      (ap (map (λ p. view p.1.now)) c.deref.ensures.value
+      ∙ objects_in_order (λ r. view r.now) c.in_ok-pairs.pairs.items c.in_ok-sorted.sorted.items c.args.objects.now c.in_ok-sorted.ensures c.in_ok-pairs.ensures)
+      c.requires.whole;
+}
+
+pub returns : goal.returns
+returns g c =
+    c.in_ok-built.ensures
+    ∙ ap (map_from (placed_object (view c.args.report.now) (g.V.ValueRule.report c.args.values.now) c.args.family) 1)
+    (ap (map (λ p. view p.1.now)) c.deref.ensures.value
+    ∙ objects_in_order (λ r. view r.now) c.in_ok-pairs.pairs.items c.in_ok-sorted.sorted.items c.args.objects.now c.in_ok-sorted.ensures c.in_ok-pairs.ensures)

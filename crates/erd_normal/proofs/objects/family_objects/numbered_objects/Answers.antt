@@ -1,0 +1,15 @@
+use Rattle.std.proofs.Common.{map, ap, ◌∙◌}
+use Rattle.serde_json.specs.View.{view}
+use Rattle.erd_normal.proofs.PlacedEntries.{placed_more}
+use Rattle.erd_normal.specs.code.PlacedTree.{placed_object}
+use Rattle.erd_normal.proofs.objects.family_objects.numbered_objects.Goals as goal
+
+pub loop-index-preserved : goal.loop-index-preserved
+loop-index-preserved g c =
+    ap (map view) c.in_ok-push.ensures.items
+    ∙ placed_more view (λ p. view p.1.now) (placed_object (view c.args.report.now) (g.V.ValueRule.report c.args.values.now) c.args.family) c.loop-index.built.items c.args.sorted.now c.loop-index.index c.index-sorted-index.result
+    c.in_ok-object.field-0
+    c.loop-index-test.true
+    c.index-sorted-index.is
+    c.in_ok-object.ensures
+    c.loop-index.invariant

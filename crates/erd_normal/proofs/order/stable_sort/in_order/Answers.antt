@@ -1,0 +1,17 @@
+use Rattle.std.proofs.Common.{rules, ◌≡◌, ◌++◌, length, sym, subst, arith}
+use Rattle.std.proofs.Math.Seq.{take-append_seam}
+use Rattle.erd_normal.proofs.StableSorts.{sorted_by_keys}
+use Rattle.erd_normal.specs.StableOrder.{IsStablySorted}
+use Rattle.erd_normal.proofs.order.stable_sort.in_order.Goals as goal
+use lib.ListN.{drop, take}
+
+pub returns : goal.returns
+returns g c =
+    let cmp = g.K.SetOrder.cmp in
+    let given = c.as_mut_slice.result.now in
+    let new = c.sort_by.new.self in
+    let rest = drop (length new) c.args.pairs.items in
+    let long : length new ≡ c.args.pairs.len = omega (arith, c.in_ok-sort_by.ensures.len, c.as_mut_slice.ensures.len) in
+    let whole : take c.args.pairs.len (new ++ rest) ≡ new = subst (λ n. take n (new ++ rest) ≡ new) long (take-append_seam new rest) in
+    let sorted = sorted_by_keys cmp g.met.K.SetOrder.total given new c.in_ok-sort_by.ensures.sorted c.in_ok-sort_by.ensures.stable (λ a r f' call. search rules) in
+    subst (IsStablySorted cmp c.args.pairs.items) (sym whole) (subst (λ pairs. IsStablySorted cmp pairs new) c.as_mut_slice.ensures.value sorted)

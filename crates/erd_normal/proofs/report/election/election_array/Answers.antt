@@ -1,0 +1,17 @@
+use Rattle.std.proofs.Common.{map, ap, ◌∙◌}
+use Rattle.serde_json.specs.Data.{array}
+use Rattle.serde_json.specs.View.{items_of, view}
+use Rattle.serde_json.proofs.Views.{view-Array}
+use Rattle.erd_normal.proofs.StableRising.{map_after}
+use Rattle.erd_normal.proofs.WholeEntries.{whole_list}
+use Rattle.erd_normal.specs.code.PlacedTree.{placed_election}
+use Rattle.erd_normal.proofs.report.election.election_array.Goals as goal
+
+pub elections-requires : goal.elections-requires
+elections-requires g c = record { whole = whole_list (view c.args.value.now) c.entries_of-entries.result.now c.requires.whole c.entries_of-entries.ensures }
+
+pub returns : goal.returns
+returns g c =
+    let each = placed_election (view c.args.report.now) (g.V.ValueRule.report c.args.values.now) in
+    view-Array c.in_ok-built.built
+    ∙ ap (λ ds. array (items_of ds)) (c.in_ok-built.ensures ∙ (map_after view each c.entries_of-entries.result.now ∙ ap (map each) c.entries_of-entries.ensures))

@@ -1,0 +1,22 @@
+use Rattle.std.proofs.Common.{◌≡◌, IfOk, ap, ap₂, ◌∙◌, subst}
+use Rattle.serde_json.specs.Data.{Data}
+use Rattle.serde_json.specs.View.{view}
+use Rattle.erd_tables.specs.declared.class.Role.TheVariants as role
+use Rattle.erd_check.specs.Trees.{IsTree}
+use Rattle.erd_check.specs.Wants.{class_of_object}
+use Rattle.erd_meaning.specs.Accepted.{IsAccepted}
+use Rattle.erd_normal.proofs.PlacedTrees.{placed_is_normal}
+use Rattle.erd_normal.specs.code.NormalTree.{in_envelope, normal_object_with, normal_tree}
+use Rattle.erd_normal.specs.code.PlacedTree.{placed_report_value}
+use Rattle.erd_normal.proofs.report.report_tree.report_tree.Goals as goal
+
+pub returns : goal.returns
+returns g c =
+    let t = view c.args.report.now in
+    let is = ap view c.tree-root.ensures.tree in
+    let accepted : IsAccepted t = subst IsAccepted is c.tree-root.ensures.accepted in
+    let tree : IsTree t = subst IsTree is c.tree-root.ensures.is_tree in
+    let same : in_envelope (view c.in_ok-built.built) ≡ normal_tree t =
+    ap in_envelope (c.in_ok-built.ensures ∙ ap₂ (λ r x. normal_object_with (placed_report_value t r) (class_of_object role.Report x) x) c.requires.same is)
+    ∙ placed_is_normal t accepted tree in
+    subst (λ (d : Data). IfOk c.in_envelope.result (λ tree. view tree ≡ d)) same c.in_envelope.ensures

@@ -1,0 +1,21 @@
+use Rattle.std.proofs.Common.{◌≡◌, false, map, take}
+use Rattle.serde_json.specs.Data.{no_members}
+use Rattle.serde_json.specs.View.{items_view, members_view, view}
+use Rattle.serde_json.specs.Written.{items_have_float, members_have_float}
+use Rattle.erd_normal.proofs.BuiltMembers.{put_each}
+use Rattle.erd_normal.specs.code.NormalTree.{normal_node}
+use Rattle.erd_normal.proofs.NormalMembers.{node_value}
+use Rattle.erd_normal.proofs.values.content.+content.Given as goal
+
+abbrev pub invariant-node_members-loop-name : goal.invariant-node_members-loop-name
+invariant-node_members-loop-name g l = record {
+  built : members_have_float (members_view l.members.entries) ≡ false
+      → put_each (node_value (g.V.ValueRule.report l.values) l.class) (members_view l.name-iterator) (members_view l.built.entries)
+      ≡ put_each (node_value (g.V.ValueRule.report l.values) l.class) (members_view l.members.entries) no_members;
+  whole : members_have_float (members_view l.members.entries) ≡ false → members_have_float (members_view l.name-iterator) ≡ false;
+}
+
+abbrev pub invariant-nodes-loop-item : goal.invariant-nodes-loop-item
+invariant-nodes-loop-item g l =
+    items_have_float (items_view l.item-items) ≡ false
+    → map view l.built.items ≡ map (λ v. normal_node (g.V.ValueRule.report l.values) (view v)) (take l.item-index l.item-items)

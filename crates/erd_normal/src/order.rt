@@ -1,0 +1,5 @@
+//! Sets and their order: what their entries are ordered by, and the one sort.
+
+pub(crate) mod compact_text;
+pub(crate) mod set_order;
+pub(crate) mod stable_sort;

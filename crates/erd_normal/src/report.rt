@@ -1,0 +1,5 @@
+//! The report, with its elections and its envelope.
+
+pub(crate) mod canonical_form;
+pub(crate) mod election;
+pub(crate) mod report_tree;

@@ -1,0 +1,111 @@
+ghost use Rattle.std.specs.Prelude.{◌≡◌, IfOk};
+ghost use Rattle.std.specs.Result.{OnOk};
+ghost use Rattle.serde_json.specs.Data.{number, put, string, unsigned};
+ghost use Rattle.serde_json.specs.View.{view, members_view};
+ghost use Rattle.erd_normal.specs.code.NormalTree.{in_envelope, normal_tree, with_envelope};
+
+use crate::report::election::election_array;
+use crate::objects::family_objects::family_array;
+use crate::objects::member_rule::MemberRule;
+use crate::objects::built_object::object_by;
+use crate::values::value_rule::ValueRule;
+use erd_meaning::Report;
+use erd_tables::{MemberKind, Role, is_envelope};
+use serde_json::{Map, Number, Value};
+use std::alloc::{AllocError, Global};
+
+/// What the members of a report become.
+#[derive(Drop)]
+struct ReportMembers<'a, V: ValueRule> {
+    values: &'a V,
+    report: &'a Report<'a>,
+}
+
+impl<'a, V: ValueRule> MemberRule for ReportMembers<'a, V> {
+    ghost use Rattle.serde_json.specs.View.{view};
+    ghost use Rattle.erd_normal.specs.code.PlacedTree.{placed_report_value};
+
+    ghost value_of = { λ rule name kind d. placed_report_value (view rule.report.now) (V.report rule.values.now) name kind d };
+
+    fn value(
+        &self,
+        alloc: Global,
+        name: &str,
+        kind: MemberKind,
+        member: &Value,
+    ) -> Result<Option<Value>, AllocError> {
+        match kind {
+            MemberKind::Keyed(family) => {
+                family_array(alloc, self.values, self.report, family, member)
+            }
+            MemberKind::Elections => {
+                let built = election_array(alloc, self.values, self.report, member)?;
+                Ok(Some(built))
+            }
+            _ => {
+                if is_envelope(name) {
+                    Ok(None)
+                } else {
+                    self.values.value(alloc, kind, member)
+                }
+            }
+        }
+    }
+}
+
+/// The tree that is built for a report, its values by the rule.
+pub(crate) fn report_tree<V: ValueRule>(
+    alloc: Global,
+    values: &V,
+    report: &Report,
+) -> Result<Value, AllocError>
+    requires same { V.report values.now ≡ view report.now }
+    ensures { IfOk result (λ tree. view tree ≡ normal_tree (view report.now)) }
+{
+    let root = report.tree();
+    let built = object_by(alloc, &ReportMembers { values, report }, Role::Report, root)?;
+    in_envelope(alloc, built)
+}
+
+/// The report with the canonical envelope.
+fn in_envelope(alloc: Global, value: Value) -> Result<Value, AllocError>
+    ensures { IfOk result (λ built. view built ≡ in_envelope (view value)) }
+{
+    match value {
+        Value::Object(mut members) => {
+            put_envelope(alloc, &mut members)?;
+            Ok(Value::Object(members))
+        }
+        other => Ok(other),
+    }
+}
+
+fn put_envelope(alloc: Global, members: &mut Map<String, Value>) -> Result<(), AllocError>
+    ensures { OnOk result (members_view members.new.entries ≡ with_envelope (members_view members.old.entries)) }
+{
+    put_one(alloc, members, "SequenceEnd")?;
+    put_one(alloc, members, "SequenceStart")?;
+    put_text(alloc, members, "VendorApplicationId", "canonical")?;
+    put_text(alloc, members, "IssuerAbbreviation", "canonical")?;
+    put_text(alloc, members, "Issuer", "canonical")?;
+    put_text(alloc, members, "GeneratedDate", "2000-01-01T00:00:00Z")?;
+    put_text(alloc, members, "Format", "summary-contest")
+}
+
+fn put_one(alloc: Global, members: &mut Map<String, Value>, name: &str) -> Result<(), AllocError>
+    ensures { OnOk result (members_view members.new.entries ≡ put name.now (number (unsigned 1)) (members_view members.old.entries)) }
+{
+    serde_json::put(members, alloc, name, Value::Number(Number::from(1_u64)))
+}
+
+fn put_text(
+    alloc: Global,
+    members: &mut Map<String, Value>,
+    name: &str,
+    text: &str,
+) -> Result<(), AllocError>
+    ensures { OnOk result (members_view members.new.entries ≡ put name.now (string text.now) (members_view members.old.entries)) }
+{
+    let text = String::from_str(alloc, text)?;
+    serde_json::put(members, alloc, name, Value::String(text))
+}

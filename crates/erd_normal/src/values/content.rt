@@ -1,0 +1,124 @@
+ghost use Rattle.std.specs.Prelude.{◌≡◌, false, Some, map, option_map, IfOk};
+ghost use Rattle.serde_json.specs.View.{view, items_view, members_view};
+ghost use Rattle.serde_json.specs.Written.{has_float, items_have_float, members_have_float};
+ghost use Rattle.erd_tables.specs.Table.{kind_of_member};
+ghost use Rattle.erd_normal.specs.code.NormalTree.{normal_content, normal_node, normal_node_members, normal_node_value};
+
+use erd_check::values::{class_of_object, is_empty_array};
+use crate::objects::members::put_built;
+use crate::values::value_rule::ValueRule;
+use erd_tables::{Class, MemberKind, Role, member_kind};
+use serde_json::{Map, Value};
+use std::alloc::{AllocError, Global};
+
+/// What a list of contests and headers becomes, at every depth of headers.
+#[cycle(content)]
+pub(crate) fn content<V: ValueRule>(
+    alloc: Global,
+    values: &V,
+    value: &Value,
+) -> Result<Value, AllocError>
+    ensures { IfOk result (λ built. has_float (view value.now) ≡ false → view built ≡ normal_content (V.report values.now) (view value.now)) }
+{
+    match value {
+        Value::Array(items) => Ok(Value::Array(nodes(alloc, values, items)?)),
+        other => other.clone(),
+    }
+}
+
+#[cycle(content)]
+fn nodes<V: ValueRule>(
+    alloc: Global,
+    values: &V,
+    items: &Vec<Value>,
+) -> Result<Vec<Value>, AllocError>
+    ensures { IfOk result (λ built. items_have_float (items_view items.now.items) ≡ false → map view built.items
+        ≡ map (λ v. normal_node (V.report values.now) (view v)) items.now.items) }
+{
+    let mut built = Vec::with_capacity(alloc, items.len())?;
+    for item in items {
+        built.push(node(alloc, values, item)?)?;
+    }
+    Ok(built)
+}
+
+/// What a contest or a header becomes.
+#[cycle(content)]
+fn node<V: ValueRule>(alloc: Global, values: &V, value: &Value) -> Result<Value, AllocError>
+    ensures { IfOk result (λ built. has_float (view value.now) ≡ false → view built ≡ normal_node (V.report values.now) (view value.now)) }
+{
+    match value {
+        Value::Object(members) => {
+            let class = class_of_object(Role::Content, value);
+            Ok(Value::Object(node_members(alloc, values, class, members)?))
+        }
+        other => other.clone(),
+    }
+}
+
+#[cycle(content)]
+fn node_members<V: ValueRule>(
+    alloc: Global,
+    values: &V,
+    class: Option<Class>,
+    members: &Map<String, Value>,
+) -> Result<Map<String, Value>, AllocError>
+    ensures { IfOk result (λ built. members_have_float (members_view members.now.entries) ≡ false → members_view built.entries
+        ≡ normal_node_members (V.report values.now) class (members_view members.now.entries)) }
+{
+    let mut built = Map::new(alloc);
+    for (name, member) in members.iter() {
+        let name = name.as_str();
+        let value = node_value(alloc, values, kind_in(class, name), member)?;
+        put_built(alloc, &mut built, name, value)?;
+    }
+    Ok(built)
+}
+
+/// What a member of a contest or a header becomes, if it stays.
+#[cycle(content)]
+fn node_value<V: ValueRule>(
+    alloc: Global,
+    values: &V,
+    kind: Option<MemberKind>,
+    member: &Value,
+) -> Result<Option<Value>, AllocError>
+    ensures { IfOk result (λ built. has_float (view member.now) ≡ false → option_map view built
+        ≡ normal_node_value (V.report values.now) kind (view member.now) (normal_content (V.report values.now) (view member.now))) }
+{
+    match kind {
+        Some(kind) => value_in_node(alloc, values, kind, member),
+        None => Ok(Some(member.clone()?)),
+    }
+}
+
+#[cycle(content)]
+fn value_in_node<V: ValueRule>(
+    alloc: Global,
+    values: &V,
+    kind: MemberKind,
+    member: &Value,
+) -> Result<Option<Value>, AllocError>
+    ensures { IfOk result (λ built. has_float (view member.now) ≡ false → option_map view built
+        ≡ normal_node_value (V.report values.now) (Some kind) (view member.now) (normal_content (V.report values.now) (view member.now))) }
+{
+    match kind {
+        MemberKind::Content => {
+            if is_empty_array(member) {
+                return Ok(None);
+            }
+            Ok(Some(content(alloc, values, member)?))
+        }
+        _ => values.value(alloc, kind, member),
+    }
+}
+
+/// What the table asks of a member of an object, where the object is of a class.
+fn kind_in(class: Option<Class>, name: &str) -> Option<MemberKind>
+    ensures { result ≡ option_map (λ c. kind_of_member c name.now) class }
+{
+    match class {
+        Some(class) => Some(member_kind(class, name)),
+        None => None,
+    }
+}
