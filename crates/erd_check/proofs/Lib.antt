@@ -26,3 +26,4 @@ pub mod ReadTrees
 mod AskedExamples
 mod FaultExamples
 pub mod WholeExamples
+pub mod Positions

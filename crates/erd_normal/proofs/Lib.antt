@@ -22,7 +22,6 @@ pub mod Lists
 pub mod CanonicalReports
 pub mod EqualTrees
 mod StableSorts
-pub mod StableOrders
 pub mod NormalMembers
 pub mod PutMembers
 pub mod NormalEnvelope
@@ -35,23 +34,19 @@ pub mod NormalReports
 pub mod NormalEntries
 pub mod NormalObjects
 pub mod LeastKeys
-pub mod RisingLists
 pub mod NormalKeys
 pub mod CanonicalIds
 pub mod NormalSelections
 pub mod NormalOwners
-pub mod SortedAgain
 pub mod Bounds
 pub mod NormalNames
 pub mod SelectionTexts
 pub mod FoundInParts
-pub mod Positions
 pub mod SelectionIds
 pub mod NormalIdentity
 pub mod NormalSelectionNames
 pub mod ContestSelections
 mod NormalTreeExamples
-pub mod MovedPairs
 pub mod RisingSets
 pub mod RisingOrders
 pub mod RisingRanks

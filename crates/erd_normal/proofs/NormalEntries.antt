@@ -12,14 +12,14 @@ use Rattle.erd_tables.specs.declared.class.Family.{Family}
 use Rattle.erd_tables.specs.declared.class.Family.TheVariants as family
 use Rattle.erd_tables.specs.declared.class.Role.TheVariants as role
 use Rattle.erd_tables.specs.declared.member.MemberKind.TheVariants as kind
-use Rattle.erd_check.specs.Faults.{is_empty_array, is_object, NoneOf, ShapeFault}
+use Rattle.erd_check.specs.Faults.{is_empty_array, NoneOf, ShapeFault}
 use Rattle.erd_check.specs.Trees.{IsTree}
 use Rattle.erd_check.specs.Values.{entries_of, list_of_items, entries_at}
 use Rattle.erd_check.specs.Wants.{class_of_object}
 use Rattle.erd_check.proofs.Entries.{entries_in}
-use Rattle.erd_meaning.specs.SelectionNames.{compact_cmp, rising_list, selection_role, with_rising_text}
+use Rattle.erd_meaning.specs.SelectionNames.{compact_cmp, rising_list, selection_role}
 use Rattle.erd_normal.specs.code.NormalTree.{array_of, by_key, by_name, normal_election, normal_object, normal_reference, normal_report_value, normal_selection, normal_tree, reference_cmp, unless_no_entry}
-use Rattle.erd_normal.proofs.NormalGets.{get_election, get_label-text, get_object, get_selection}
+use Rattle.erd_normal.proofs.NormalGets.{get_election, get_object, get_selection}
 use Rattle.erd_normal.proofs.NormalReports.{get_report}
 
 -- ---- arrays that are built
@@ -59,10 +59,6 @@ module _ (t : Data) (f : Family) (c : Class) (d : Data) (tree : IsTree d) (among
   pub entries_of_identifiers : kind_of_member c name ≡ kind.Identifiers → entries_at name (normal_object t f d) ≡ rising_list compact_cmp (entries_at name d)
   entries_of_identifiers is = entries_built (rising_list compact_cmp) refl name d (normal_object t f d) (get_object t f c d tree among name other ∙ rw is refl)
 
-  pub entries_of_references : (q : Family) → kind_of_member c name ≡ kind.Many q → entries_at name (normal_object t f d) ≡ map (normal_reference t q) (rising_list (reference_cmp t q) (entries_at name d))
-  entries_of_references q is =
-      entries_built (λ ds. map (normal_reference t q) (rising_list (reference_cmp t q) ds)) refl name d (normal_object t f d) (get_object t f c d tree among name other ∙ rw is refl)
-
   pub entries_of_selections : kind_of_member c name ≡ kind.Keyed family.Selection → entries_at name (normal_object t f d) ≡ map (normal_selection t d) (rising_list (by_name t) (entries_at name d))
   entries_of_selections is =
       entries_built (λ ds. map (normal_selection t d) (rising_list (by_name t) ds)) refl name d (normal_object t f d) (get_object t f c d tree among name other ∙ rw is refl)
@@ -76,11 +72,6 @@ module _ (t contest : Data) (c : Class) (d : Data) (tree : IsTree d) (among : cl
   pub selection_references : (q : Family) → kind_of_member c name ≡ kind.Many q → entries_at name (normal_selection t contest d) ≡ map (normal_reference t q) (rising_list (reference_cmp t q) (entries_at name d))
   selection_references q is =
       entries_built (λ ds. map (normal_reference t q) (rising_list (reference_cmp t q) ds)) refl name d (normal_selection t contest d) (get_selection t contest c d tree among name other ∙ rw is refl)
-
--- ---- of a label
-
-pub label_entries : (d : Data) → is_object d ≡ true → entries_at (codes "Text") (with_rising_text d) ≡ rising_list compact_cmp (entries_at (codes "Text") d)
-label_entries d is = ap entries_in (get_label-text d is) ∙ listed_again (rising_list compact_cmp (entries_at (codes "Text") d))
 
 -- ---- of the report and the election
 

@@ -123,11 +123,3 @@ module _ (t : Data) (c : Option Class) where
 
   pub normal_node_members-before : (k : List ℕ) (ms : Members) → AreMembers ms → IsBeforeFirst k ms → IsBeforeFirst k (normal_node_members t c ms)
   normal_node_members-before k ms rise below = rw (normal_node_members_each ms) (before_each node_value k ms rise below)
-
-  pub normal_node_members-trees : (ms : Members) → AreMembers ms
-      → ((name : List ℕ) (d v : Data) → get_member name ms ≡ Some d → IsTree d → node_value name d ≡ Some v → IsTree v) → AreMembers (normal_node_members t c ms)
-  normal_node_members-trees ms rise each = rw (normal_node_members_each ms) (trees_of_each node_value ms rise each)
-
-  pub normal_node_members-depth : (ms : Members) → AreMembers ms
-      → ((name : List ℕ) (d v : Data) → get_member name ms ≡ Some d → node_value name d ≡ Some v → depth v ≤ depth d) → members_depth (normal_node_members t c ms) ≤ members_depth ms
-  normal_node_members-depth ms rise each = rw (normal_node_members_each ms) (depth_of_each node_value ms rise each)

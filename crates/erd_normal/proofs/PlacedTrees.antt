@@ -30,12 +30,11 @@ use Rattle.erd_meaning.specs.SelectionNames.{rising_list, selection_role}
 use Rattle.erd_normal.proofs.BuiltFrom.{Builder}
 use Rattle.erd_normal.proofs.FamilyNames.{contest_of_selections, election_objects_are, elections_name, family_name, keyed_name, report_objects}
 use Rattle.erd_normal.proofs.NormalMembers.{stands_still}
-use Rattle.erd_normal.proofs.NormalSelections.{has_at}
-use Rattle.erd_normal.proofs.Positions.{map_has}
-use Rattle.erd_normal.proofs.RisingLists.{has_rising}
 use Rattle.erd_normal.proofs.RisingReports.{object_ids, selection_ids}
 use Rattle.erd_normal.specs.code.NormalTree.{array_of, by_key, by_name, in_envelope, normal_election, normal_election_value, normal_members, normal_object, normal_object_value, normal_object_with, normal_report_value, normal_selection, normal_tree, normal_value, unless_no_entry, with_id}
 use Rattle.erd_normal.specs.code.PlacedTree.{map_from, placed_election, placed_election_value, placed_object, placed_object_value, placed_objects, placed_report_value, placed_selection}
+use Rattle.erd_check.proofs.Positions.{map_has, has_at}
+use Rattle.erd_normal.proofs.RisingSets.{has_rising}
 
 -- the report, with objects and selections numbered by their places
 abbrev pub placed_tree : Data → Data → Data

@@ -1,5 +1,5 @@
 -- A list in the order of an exact comparison is the same, in whichever order its entries came.
-use Rattle.std.proofs.Common.{◌≡◌, List, [], ◌∷◌, map, filter_map, Bool, true, false, cond, Option, Some, None, option_and_then, Ordering, Less, Equal, Greater, is_lt, refl, sym, ap, ◌∙◌}
+use Rattle.std.proofs.Common.{◌≡◌, List, [], ◌∷◌, filter_map, Bool, true, false, cond, Option, Some, None, option_and_then, Ordering, Less, Equal, Greater, is_lt, refl, sym, ap, ◌∙◌}
 use Rattle.std.specs.Cmp.{IsTotalOrder}
 use Rattle.std.specs.List.{cons_option}
 use Rattle.std.proofs.lemmas.Map.Lookups.{CmpEqualImpliesEq}
@@ -55,12 +55,6 @@ module _ {A : Type 0} {cmp : A → A → Ordering} (order : IsTotalOrder cmp) wh
     inserted_exchange x y zs = exchanged_at x y zs (cmp x y) refl
 
     -- ---- lists
-
-    pub rising_again : (other : A → A → Ordering) (xs : List A) → rising_list cmp (rising_list other xs) ≡ rising_list cmp xs
-    rising_again other = whole-rising (rising_list cmp) (with_inserted cmp) (λ x xs. refl) inserted_exchange other
-
-    pub rising_map_again : {B : Type 0} (f : B → A) (other : B → B → Ordering) (xs : List B) → rising_list cmp (map f (rising_list other xs)) ≡ rising_list cmp (map f xs)
-    rising_map_again f other = whole-rising (λ xs. rising_list cmp (map f xs)) (λ x. with_inserted cmp (f x)) (λ x xs. refl) (λ x y. inserted_exchange (f x) (f y)) other
 
     abbrev with_kept : Option A → List A → List A
     with_kept None zs = zs

@@ -27,9 +27,6 @@ use Rattle.erd_normal.proofs.NormalGets.{class_has_role}
 pub record Throughout (P : Asked → Type 0) (a : Asked) : Type 0 where
   pub each : (p : List Step) (b : Asked) → asked_from a p ≡ Some b → P b
 
-pub throughout_here : (P : Asked → Type 0) (a : Asked) → Throughout P a → P a
-throughout_here P a h = h.each [] a refl
-
 -- by what is asked one step inside
 pub throughout_by_steps : (P : Asked → Type 0) (a : Asked) → P a → ((s : Step) (b : Asked) → asked_inside a.want a.value s ≡ Some b → Throughout P b) → Throughout P a
 throughout_by_steps P a here inside = record { each = at }
