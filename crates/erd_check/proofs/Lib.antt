@@ -27,3 +27,4 @@ mod AskedExamples
 mod FaultExamples
 pub mod WholeExamples
 pub mod Positions
+pub mod Options

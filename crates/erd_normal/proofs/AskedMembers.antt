@@ -44,7 +44,7 @@ pub kind_of_type : (c : Class) → kind_of_member c (codes "@type") ≡ kind.Cla
 kind_of_type class.ElectionReport = refl
 kind_of_type c = refl
 
-status_kind : (c : Class) → is_report_class c ≡ true → kind_of_member c (codes "Status") ≡ kind.Word
+pub status_kind : (c : Class) → is_report_class c ≡ true → kind_of_member c (codes "Status") ≡ kind.Word
 status_kind class.ElectionReport e = refl
 status_kind c e = cc
 

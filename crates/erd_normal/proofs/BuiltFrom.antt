@@ -25,7 +25,7 @@ use Rattle.erd_check.proofs.Shapes.{AsksObject, Within, faultless, lacks_none, m
 use Rattle.erd_check.proofs.TableKinds.{want_by_kind, want_unless_status}
 use Rattle.erd_check.proofs.Whole.{not_true}
 use Rattle.erd_normal.specs.code.NormalTree.{normal_value}
-use Rattle.erd_normal.proofs.AskedMembers.{MemberAsked, TypeAsked, asked_in_object}
+use Rattle.erd_normal.proofs.AskedMembers.{MemberAsked, TypeAsked, asked_in_object, status_kind}
 
 -- what gives the value of a member, by its name and kind
 abbrev pub Builder : Type 0
@@ -125,10 +125,6 @@ names_of_object : (w : Want) (r : Role) (c : Class) (ms : Members) → AsksObjec
 names_of_object w r c ms of_role among = rw among refl
 names_of_object w r c ms of_label among = rw among refl
 
-status_word : (c : Class) → is_report_class c ≡ true → kind_of_member c (codes "Status") ≡ kind.Word
-status_word class.ElectionReport e = refl
-status_word c e = cc
-
 module _ (t : Data) (clean : NoneOf (ShapeFault t)) where
   pub built_from : (value_of : Builder) (w : Want) (r : Role) (c : Class) (ms : Members) → ObjectAt t w r c ms → (name : List ℕ) (v : Data) → bytes_eq name (codes "@type") ≡ false
       → option_and_then (value_of name (kind_of_member c name)) (get_member name ms) ≡ Some v → BuiltFrom t value_of c ms name v
@@ -148,7 +144,7 @@ module _ (t : Data) (clean : NoneOf (ShapeFault t)) where
       at : (apart : Bool) → (is_report_class c && bytes_eq name (codes "Status")) ≡ apart → Q (asked (member_want c name) v)
       at true is =
           let both = both_true (is_report_class c) (bytes_eq name (codes "Status")) is in
-          let kept : kind_of_member c name ≡ kind.Word = ap (kind_of_member c) (text_exact name (codes "Status") both.1) ∙ status_word c both.0 in
+          let kept : kind_of_member c name ≡ kind.Word = ap (kind_of_member c) (text_exact name (codes "Status") both.1) ∙ status_kind c both.0 in
           let want : member_want c name ≡ Status = rw is refl in
           subst (λ w. Q (asked w v)) (sym want) (subst (λ x. Q (asked Status x)) (word kept) (status b.from (subst (λ w. Within t (asked w b.from)) want b.inside)))
       at false is =

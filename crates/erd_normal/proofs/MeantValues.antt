@@ -27,11 +27,12 @@ use Rattle.erd_normal.specs.Canonical.{id_prefix}
 use Rattle.erd_normal.specs.code.NormalTree.{array_of, normal_id, normal_reference, normal_tree, normal_value, reference_cmp, unless_no_entry}
 use Rattle.erd_normal.proofs.AskedMembers.{AskedAs, all_items}
 use Rattle.erd_normal.proofs.BuiltLists.{all_rising}
-use Rattle.erd_normal.proofs.NormalEntries.{listed_again, no_entry}
+use Rattle.erd_normal.proofs.NormalEntries.{no_entry}
 use Rattle.erd_normal.proofs.NormalOwners.{key_named_built}
 use Rattle.erd_normal.proofs.RisingMeanings.{json_set-rising, keys_named-rising, label_of-rising}
 use Rattle.erd_normal.proofs.RisingSets.{length-rising}
 use Rattle.std.proofs.lemmas.List.{length-map}
+use Rattle.erd_check.proofs.Lists.{list_of_items-items_of}
 
 -- ---- kinds
 
@@ -75,7 +76,7 @@ kept_map g h n (x ∷ xs) all = ap₂ cons_option all.0 (kept_map g h n xs all.1
 
 full_meant : {V : Type 0} (F : List Data → V) (ys : List Data) (n : ℕ) → length ys ≡ suc n → unless_empty (F (entries_of (array_of ys))) (array_of ys) ≡ Some (F ys)
 full_meant F [] n long = absurd (omega arith)
-full_meant F (y ∷ ys) n long = ap (λ xs. Some (F (y ∷ xs))) (listed_again ys)
+full_meant F (y ∷ ys) n long = ap (λ xs. Some (F (y ∷ xs))) (list_of_items-items_of ys)
 
 pub filled_array : (d : Data) (ds : Items) → is_empty_array (array (item d ds)) ≡ false
 filled_array d ds = at (is_empty_array (array (item d ds))) refl

@@ -33,6 +33,7 @@ use Rattle.erd_normal.proofs.ThroughoutMembers.{HoldsOfMembers}
 use Rattle.erd_normal.proofs.ThroughoutObjects.{HoldsOfObjects}
 use Rattle.erd_normal.proofs.ThroughoutReports.{HoldsOfBuilt, holds_of_built, none_found}
 use Rattle.erd_normal.proofs.ThroughoutValues.{is_apart}
+use Rattle.erd_check.proofs.Options.{and_then-Some}
 
 -- ---- the lists of a report
 
@@ -44,10 +45,6 @@ unlisted : (u : Data) (w : Want) (d : Data) (b : Bool) → (w ≡ Object role.Co
 unlisted u w d b other = record { sound = λ e among. absurd (other e) }
 
 -- ---- the steps into a list
-
-then_from : {A B : Type 0} (f : A → Option B) (o : Option A) (y : B) → option_and_then f o ≡ Some y → (x : A) × (o ≡ Some x) × (f x ≡ Some y)
-then_from f None y e = cc
-then_from f (Some x) y e = (x, refl, e)
 
 asked_from-append : (a : Asked) (p q : List Step) → asked_from a (p ++ q) ≡ option_and_then (λ b. asked_from b q) (asked_from a p)
 asked_from-append a [] q = refl
@@ -169,8 +166,8 @@ none_elsewhere u listed p h =
     let inside : asked_from h.contest (Name list_name ∷ At h.position ∷ []) ≡ Some h.entry =
     ap (option_and_then (λ b. asked_from b (Name list_name ∷ At h.position ∷ []))) (sym h.contest_stands)
     ∙ sym (asked_from-append (asked (Object role.Report) u) h.object_place (Name list_name ∷ At h.position ∷ [])) ∙ steps in
-    let b = then_from (λ b. asked_from b (At h.position ∷ [])) (asked_inside h.contest.want h.contest.value (Name list_name)) h.entry inside in
-    let c = then_from (λ c. asked_from c []) (asked_inside b.0.want b.0.value (At h.position)) h.entry b.2 in
+    let b = and_then-Some (λ b. asked_from b (At h.position ∷ [])) (asked_inside h.contest.want h.contest.value (Name list_name)) h.entry inside in
+    let c = and_then-Some (λ c. asked_from c []) (asked_inside b.0.want b.0.value (At h.position)) h.entry b.2 in
     let wants : h.entry.want ≡ Reference family.Selection = elsewhere_wants u h.contest.value h.entry.want h.entry.value h.elsewhere in
     let entry : EntryOf b.0.want b.0.value h.position h.entry = entry_of b.0.want b.0.value h.position h.entry (c.1 ∙ c.2) wants in
     let owner : OfContest h.contest.want h.contest.value b.0 = list_owner h.contest.want h.contest.value b.0 b.1 entry.lists in

@@ -12,6 +12,11 @@ use Rattle.erd_normal.proofs.RisingSets.{In-inserted, In-rising}
 
 -- ---- answers of a comparison
 
+pub is_less : (o : Ordering) → is_lt o ≡ true → o ≡ Less
+is_less Less e = refl
+is_less Equal e = cc
+is_less Greater e = cc
+
 level : (o : Ordering) → is_eq o ≡ false → o ≡ Equal → ⊥
 level o e is = let h : true ≡ false = ap is_eq (sym is) ∙ e in cc
 
