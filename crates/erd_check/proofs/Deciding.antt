@@ -86,7 +86,7 @@ mutual
 
 -- ---- trees are in order
 
-before_later : (k l : List ℕ) (ms : Members) → text_cmp k l ≡ Less → IsBeforeFirst l ms → IsBeforeFirst k ms
+pub before_later : (k l : List ℕ) (ms : Members) → text_cmp k l ≡ Less → IsBeforeFirst l ms → IsBeforeFirst k ms
 before_later k l no_members e h = tt
 before_later k l (member m d ms) e h = nat_list_cmp_total.trans k l m e h
 

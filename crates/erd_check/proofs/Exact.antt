@@ -17,7 +17,7 @@ text_exact a b e = (bytes_eq-Decides a b).0 e
 pub text_itself : (a : List ℕ) → bytes_eq a a ≡ true
 text_itself a = (bytes_eq-Decides a a).1 refl
 
-same_flag_exact : (a b : Bool) → same_flag a b ≡ true → a ≡ b
+pub same_flag_exact : (a b : Bool) → same_flag a b ≡ true → a ≡ b
 same_flag_exact true true e = refl
 same_flag_exact true false e = cc
 same_flag_exact false true e = cc

@@ -27,3 +27,5 @@ pub mod ReadTrees
 mod AskedExamples
 mod FaultExamples
 pub mod WholeExamples
+pub mod Positions
+pub mod Options

@@ -27,7 +27,7 @@ use Rattle.erd_check.proofs.Shapes.{Within, Within-step, faultless, wanted_withi
 use Rattle.erd_check.proofs.TableKinds.{kind_of_class, want_unless_status}
 
 -- a member of the rest is a member
-get_member-later : (k q : List ℕ) (d v : Data) (ms : Members) → AreMembers (member k d ms) → get_member q ms ≡ Some v → get_member q (member k d ms) ≡ Some v
+pub get_member-later : (k q : List ℕ) (d v : Data) (ms : Members) → AreMembers (member k d ms) → get_member q ms ≡ Some v → get_member q (member k d ms) ≡ Some v
 get_member-later k q d v ms rise e = at (text_cmp q k) refl
   where
     at : (o : Ordering) → text_cmp q k ≡ o → get_member q (member k d ms) ≡ Some v

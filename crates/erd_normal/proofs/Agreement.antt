@@ -1,5 +1,5 @@
 -- References of two canonical reports that mean the same agree.
-use Rattle.std.proofs.Common.{◌≡◌, ℕ, zero, suc, List, [], ◌∷◌, Option, Some, None, option_map, option_and_then, map, true, false, ◌||◌, codes, slice_get, refl, sym, ap, ap₂, ◌∙◌, subst, ⊎_elim}
+use Rattle.std.proofs.Common.{◌≡◌, ℕ, List, [], ◌∷◌, Option, Some, None, option_map, option_and_then, map, true, false, ◌||◌, codes, refl, sym, ap, ap₂, ◌∙◌, ⊎_elim}
 use Rattle.std.specs.List.{list_any}
 use Rattle.std.specs.Str.{bytes_eq}
 use Rattle.std.specs.Option.{option_map_or}
@@ -22,10 +22,8 @@ use Rattle.erd_normal.proofs.Selections.{ObjectPair, SelectionPair, find_paired,
 use Rattle.erd_normal.proofs.Paired.{Paired}
 use Rattle.erd_normal.proofs.Contents.{SameNames}
 use Rattle.erd_normal.proofs.Families.{family_paired}
-
-and_then-Some : {A B : Type 0} (f : A → Option B) (o : Option A) (y : B) → option_and_then f o ≡ Some y → (x : A) × (o ≡ Some x) × (f x ≡ Some y)
-and_then-Some f None y e = cc
-and_then-Some f (Some x) y e = (x, refl, e)
+use Rattle.erd_check.proofs.Positions.{has_at}
+use Rattle.erd_check.proofs.Options.{and_then-Some}
 
 pub names_of : (t : Data) → IsCanonical t → Names t
 names_of t canonical = record {
@@ -73,11 +71,6 @@ selection_named t canonical o r h e =
     let id : id_of x.0.value ≡ Some r = ap id_of x.2 ∙ has_id-Some r d.0 d.2 in
     (x.0, x.1, id, ap (option_and_then (name_of t)) (owner_is t canonical.accepted family.Selection x.0 r (flat-has selections_of_contest (contests t) o x.0 h x.1) id))
 
-pub slice_get-has : {A : Type 0} (xs : List A) (i : ℕ) (x : A) → slice_get xs i ≡ Some x → Has xs x
-slice_get-has [] i x e = cc
-slice_get-has (y ∷ ys) zero x e = let h : y ≡ x = cc in subst (Has (y ∷ ys)) h here
-slice_get-has (y ∷ ys) (suc i) x e = later (slice_get-has ys i x e)
-
 module _ (t u : Data) (canonical : IsCanonical t) (canonical' : IsCanonical u) (same : meaning t ≡ meaning u) where
   pub pairs_of : (f : Family) → has_keys f ≡ true → Paired (ObjectPair t u f) (objects f t) (objects f u)
   pairs_of f h = object_pairs t u canonical canonical' f h (family_paired t u canonical canonical' same f h)
@@ -86,7 +79,7 @@ module _ (t u : Data) (canonical : IsCanonical t) (canonical' : IsCanonical u) (
   contest_pairs = paired_at (ObjectPair t u family.Contest) (ContestPair t u) (objects family.Contest t) (objects family.Contest u) (pairs_of family.Contest refl)
       (λ i o p e g r. record {
         pair = r;
-        selections = selection_pairs t u canonical canonical' i o p e g (selections_paired t u canonical canonical' o.value p.value (record { place = o.place; is = stands t canonical.accepted family.Contest o (slice_get-has (objects family.Contest t) i o e) }) (record { place = p.place; is = stands u canonical'.accepted family.Contest p (slice_get-has (objects family.Contest u) i p g) }) r.alike.1);
+        selections = selection_pairs t u canonical canonical' i o p e g (selections_paired t u canonical canonical' o.value p.value (record { place = o.place; is = stands t canonical.accepted family.Contest o (has_at (objects family.Contest t) i o e) }) (record { place = p.place; is = stands u canonical'.accepted family.Contest p (has_at (objects family.Contest u) i p g) }) r.alike.1);
       })
 
   pub all_selections : Paired (SelectionPair t u) (objects family.Selection t) (objects family.Selection u)

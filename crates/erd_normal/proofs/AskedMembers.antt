@@ -1,10 +1,10 @@
--- What is asked of a value that stands in an object of a known class, by the kind of its member.
-use Rattle.std.proofs.Common.{◌≡◌, ℕ, zero, suc, List, Option, Some, None, Bool, true, false, ◌&&◌, codes, refl, sym, ap, ◌∙◌, subst}
+-- What is asked of a value that stands in an object of a known class, by the kind of its member, and one step inside an object.
+use Rattle.std.proofs.Common.{◌≡◌, ◌⊎◌, inl, inr, ℕ, zero, suc, List, Option, Some, None, Bool, true, false, ◌&&◌, if◌then◌else◌, codes, refl, sym, ap, ◌∙◌, subst}
 use Rattle.std.specs.Bool.{⊤}
 use Rattle.std.specs.List.{AllByRecursion}
 use Rattle.std.specs.Str.{bytes_eq}
 use Rattle.serde_json.specs.Data.{Data, array, object, Items, no_items, item, Members}
-use Rattle.serde_json.specs.Find.{get_item, get_member}
+use Rattle.serde_json.specs.Find.{get, get_item, get_member}
 use Rattle.erd_tables.specs.Classes.{role_of_class}
 use Rattle.erd_tables.specs.Table.{is_required, kind_of_member}
 use Rattle.erd_tables.specs.declared.class.Class.{Class}
@@ -13,16 +13,17 @@ use Rattle.erd_tables.specs.declared.class.Role.{Role}
 use Rattle.erd_tables.specs.declared.class.Role.TheVariants as role
 use Rattle.erd_tables.specs.declared.member.MemberKind.{MemberKind}
 use Rattle.erd_tables.specs.declared.member.MemberKind.TheVariants as kind
-use Rattle.erd_tables.specs.declared.place.Step.TheVariants.{At}
+use Rattle.erd_tables.specs.declared.place.Step.{Step}
+use Rattle.erd_tables.specs.declared.place.Step.TheVariants.{Name, At}
 use Rattle.erd_check.specs.Faults.{NoneOf, ShapeFault}
 use Rattle.erd_check.specs.Values.{list_of_items}
-use Rattle.erd_check.specs.Wants.{asked, class_of_object, entry_want, is_compared_set, is_report_class, want_of_kind}
+use Rattle.erd_check.specs.Wants.{Asked, asked, asked_inside, asked_of_member, class_of_object, entry_want, is_compared_set, is_report_class, member_want, want_of_kind}
 use Rattle.erd_check.specs.declared.want.Want.{Want}
-use Rattle.erd_check.specs.declared.want.Want.TheVariants.{Member}
+use Rattle.erd_check.specs.declared.want.Want.TheVariants.{ClassText, Member}
 use Rattle.erd_check.proofs.Entries.{array_from}
 use Rattle.erd_check.proofs.Exact.{both_true, text_exact}
 use Rattle.erd_check.proofs.ObjectsAt.{ObjectAt}
-use Rattle.erd_check.proofs.Shapes.{Classed, Within, Within-step, classed, lacks_none, member_within, of_label, wanted_within}
+use Rattle.erd_check.proofs.Shapes.{AsksObject, Classed, Within, Within-step, classed, lacks_none, member_within, of_label, of_role, wanted_within}
 use Rattle.erd_check.proofs.TableKinds.{want_unless_status}
 
 -- ---- members
@@ -43,7 +44,7 @@ pub kind_of_type : (c : Class) → kind_of_member c (codes "@type") ≡ kind.Cla
 kind_of_type class.ElectionReport = refl
 kind_of_type c = refl
 
-status_kind : (c : Class) → is_report_class c ≡ true → kind_of_member c (codes "Status") ≡ kind.Word
+pub status_kind : (c : Class) → is_report_class c ≡ true → kind_of_member c (codes "Status") ≡ kind.Word
 status_kind class.ElectionReport e = refl
 status_kind c e = cc
 
@@ -73,7 +74,8 @@ asked_as t clean w q c ms o name v found = at (bytes_eq name (codes "@type")) re
 
 -- ---- labels
 
-label_class : (c : Class) → role_of_class c ≡ role.Label → c ≡ class.InternationalizedText
+-- a class of labels is that of translated texts
+pub label_class : (c : Class) → role_of_class c ≡ role.Label → c ≡ class.InternationalizedText
 label_class class.InternationalizedText e = refl
 label_class c e = cc
 
@@ -114,3 +116,46 @@ entry_asked t w v ds want apart inside i d found = Within-step t (asked w (array
 pub entries_asked : (t : Data) (w v : Want) (ds : Items) → entry_want w ≡ Some v → is_compared_set w ≡ false → Within t (asked w (array ds))
     → AllByRecursion (λ d. Within t (asked v d)) (list_of_items ds)
 entries_asked t w v ds want apart inside = all_items (λ d. Within t (asked v d)) ds (entry_asked t w v ds want apart inside)
+
+-- ---- one step inside an object
+
+-- `@type` of an object is asked for
+pub record TypeAsked (r : Role) (d : Data) (s : Step) (b : Asked) : Type 0 where
+  pub text : Data
+  pub stands : get (codes "@type") d ≡ Some text
+  pub step : s ≡ Name (codes "@type")
+  pub is : b ≡ asked (ClassText r) text
+
+-- another member of an object of the class is asked for
+pub record MemberAsked (c : Class) (d : Data) (s : Step) (b : Asked) : Type 0 where
+  pub name : List ℕ
+  pub other : bytes_eq name (codes "@type") ≡ false
+  pub found : Data
+  pub stands : get name d ≡ Some found
+  pub step : s ≡ Name name
+  pub is : b ≡ asked (member_want c name) found
+
+-- what is asked of the member of this name
+asked_of_name : (w : Want) (r : Role) (c : Class) (n : List ℕ) (ms : Members) → AsksObject w r → class_of_object r (object ms) ≡ Some c
+    → asked_inside w (object ms) (Name n) ≡ asked_of_member (if bytes_eq n (codes "@type") then Some (ClassText r) else Some (member_want c n)) (get_member n ms)
+asked_of_name w r c n ms of_role among = rw among refl
+asked_of_name w r c n ms of_label among = rw among refl
+
+-- what is asked one step inside an object
+pub asked_in_object : (w : Want) (r : Role) (c : Class) (d : Data) (s : Step) (b : Asked) → AsksObject w r → class_of_object r d ≡ Some c → asked_inside w d s ≡ Some b
+    → TypeAsked r d s b ⊎ MemberAsked c d s b
+asked_in_object w r c (object ms) (Name n) b asks among e = at (bytes_eq n (codes "@type")) refl (get_member n ms) refl (sym (asked_of_name w r c n ms asks among) ∙ e)
+  where
+    at : (type : Bool) → bytes_eq n (codes "@type") ≡ type → (o : Option Data) → get_member n ms ≡ o
+        → asked_of_member (if type then Some (ClassText r) else Some (member_want c n)) o ≡ Some b → TypeAsked r (object ms) (Name n) b ⊎ MemberAsked c (object ms) (Name n) b
+    at true type None found e = cc
+    at true type (Some v) found e =
+        let same : asked (ClassText r) v ≡ b = cc in
+        let named : n ≡ codes "@type" = text_exact n (codes "@type") type in
+        inl (record { text = v; stands = subst (λ q. get_member q ms ≡ Some v) named found; step = ap Name named; is = sym same })
+    at false type None found e = cc
+    at false type (Some v) found e =
+        let same : asked (member_want c n) v ≡ b = cc in
+        inr (record { name = n; other = type; found = v; stands = found; step = refl; is = sym same })
+asked_in_object w r c (object ms) (At i) b asks among e = cc
+asked_in_object w r c d s b asks among e = cc

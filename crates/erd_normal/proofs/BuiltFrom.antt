@@ -15,11 +15,9 @@ use Rattle.erd_tables.specs.declared.member.MemberKind.TheVariants as kind
 use Rattle.erd_tables.specs.declared.place.Step.{Step}
 use Rattle.erd_tables.specs.declared.place.Step.TheVariants.{Name}
 use Rattle.erd_check.specs.Faults.{is_empty_array, names_wanted, NoneOf, ShapeFault}
-use Rattle.erd_check.specs.Trees.{IsTree}
 use Rattle.erd_check.specs.Wants.{Asked, asked, asked_inside, class_of_object, is_report_class, member_want, scope_inside, want_of_kind}
 use Rattle.erd_check.specs.declared.want.Want.{Want}
 use Rattle.erd_check.specs.declared.want.Want.TheVariants.{Member, Object, Status}
-use Rattle.erd_check.proofs.Clean.{IsClean}
 use Rattle.erd_check.proofs.Exact.{both_true, text_exact, text_itself}
 use Rattle.erd_check.proofs.ObjectsAt.{ObjectAt}
 use Rattle.erd_check.proofs.Order.{or_true}
@@ -27,8 +25,7 @@ use Rattle.erd_check.proofs.Shapes.{AsksObject, Within, faultless, lacks_none, m
 use Rattle.erd_check.proofs.TableKinds.{want_by_kind, want_unless_status}
 use Rattle.erd_check.proofs.Whole.{not_true}
 use Rattle.erd_normal.specs.code.NormalTree.{normal_value}
-use Rattle.erd_normal.proofs.CleanMembers.{normal_value-clean}
-use Rattle.erd_normal.proofs.CleanValues.{MemberAsked, TypeAsked, asked_in_object, clean_object, clean_within}
+use Rattle.erd_normal.proofs.AskedMembers.{MemberAsked, TypeAsked, asked_in_object, status_kind}
 
 -- what gives the value of a member, by its name and kind
 abbrev pub Builder : Type 0
@@ -101,11 +98,6 @@ pub record BuiltFrom (t : Data) (value_of : Builder) (c : Class) (ms : Members) 
   pub inside : Within t (asked (member_want c name) from)
   pub given : value_of name (kind_of_member c name) from ≡ Some v
 
--- what a builder gives has no fault where the value stands that it is built of, and it keeps texts
-pub record BuildsClean (t : Data) (value_of : Builder) : Type 0 where
-  pub built : (name : List ℕ) (k : MemberKind) (required : Bool) (d v : Data) → Within t (asked (want_of_kind k required) d) → value_of name k d ≡ Some v → IsClean (asked (want_of_kind k required) v)
-  pub word : (name : List ℕ) (d v : Data) → value_of name kind.Word d ≡ Some v → d ≡ v
-
 -- an object that is built: it keeps its class, and has under each name that is not special what is built of the value there
 pub record BuiltObject (t : Data) (value_of : Builder) (special : List ℕ → Bool) (r : Role) (c : Class) (ms : Members) (d : Data) : Type 0 where
   pub at : ObjectAt t (Object r) r c ms
@@ -133,10 +125,6 @@ names_of_object : (w : Want) (r : Role) (c : Class) (ms : Members) → AsksObjec
 names_of_object w r c ms of_role among = rw among refl
 names_of_object w r c ms of_label among = rw among refl
 
-status_word : (c : Class) → is_report_class c ≡ true → kind_of_member c (codes "Status") ≡ kind.Word
-status_word class.ElectionReport e = refl
-status_word c e = cc
-
 module _ (t : Data) (clean : NoneOf (ShapeFault t)) where
   pub built_from : (value_of : Builder) (w : Want) (r : Role) (c : Class) (ms : Members) → ObjectAt t w r c ms → (name : List ℕ) (v : Data) → bytes_eq name (codes "@type") ≡ false
       → option_and_then (value_of name (kind_of_member c name)) (get_member name ms) ≡ Some v → BuiltFrom t value_of c ms name v
@@ -156,25 +144,12 @@ module _ (t : Data) (clean : NoneOf (ShapeFault t)) where
       at : (apart : Bool) → (is_report_class c && bytes_eq name (codes "Status")) ≡ apart → Q (asked (member_want c name) v)
       at true is =
           let both = both_true (is_report_class c) (bytes_eq name (codes "Status")) is in
-          let kept : kind_of_member c name ≡ kind.Word = ap (kind_of_member c) (text_exact name (codes "Status") both.1) ∙ status_word c both.0 in
+          let kept : kind_of_member c name ≡ kind.Word = ap (kind_of_member c) (text_exact name (codes "Status") both.1) ∙ status_kind c both.0 in
           let want : member_want c name ≡ Status = rw is refl in
           subst (λ w. Q (asked w v)) (sym want) (subst (λ x. Q (asked Status x)) (word kept) (status b.from (subst (λ w. Within t (asked w b.from)) want b.inside)))
       at false is =
           let want : member_want c name ≡ want_of_kind (kind_of_member c name) (is_required c name) = want_unless_status c name is in
           subst (λ w. Q (asked w v)) (sym want) (built (is_required c name) (subst (λ w. Within t (asked w b.from)) want b.inside))
-
-  -- it has no fault, if what is built of the value has none where that value stands, and texts stay
-  pub member_clean : (value_of : Builder) (c : Class) (ms : Members) (name : List ℕ) (v : Data) → (b : BuiltFrom t value_of c ms name v)
-      → ((required : Bool) → Within t (asked (want_of_kind (kind_of_member c name) required) b.from) → IsClean (asked (want_of_kind (kind_of_member c name) required) v))
-      → (kind_of_member c name ≡ kind.Word → b.from ≡ v) → IsClean (asked (member_want c name) v)
-  member_clean = member_holds IsClean (λ d w. clean_within t clean (asked Status d) w)
-
-  -- the same for a builder whose values have no fault
-  pub member_of_builder : (value_of : Builder) → BuildsClean t value_of → (c : Class) (ms : Members) (name : List ℕ) (v : Data) → BuiltFrom t value_of c ms name v → IsClean (asked (member_want c name) v)
-  member_of_builder value_of builds c ms name v b =
-      member_clean value_of c ms name v b
-      (λ required w. builds.built name (kind_of_member c name) required b.from v w b.given)
-      (λ word. builds.word name b.from v (ap (λ k. value_of name k b.from) (sym word) ∙ b.given))
 
   filled : (c : Class) (name : List ℕ) (d : Data) → is_required c name ≡ true → Within t (asked (member_want c name) d) → (k : MemberKind) → kind_of_member c name ≡ k → IsFilled k d
   filled c name d required w (kind.Many f) is =
@@ -226,32 +201,8 @@ module _ (t : Data) (clean : NoneOf (ShapeFault t)) where
       member_kept value_of (Object r) r c ms o.at name wanted (λ v full e. keeps name v wanted (required_kind c name wanted) full e)
       (sym (o.gets name (required name wanted)) ∙ none)
 
-  -- an object that is built has no fault, if its special members and what is built of members have none, and required ones are kept
-  pub clean_built : (value_of : Builder) (special : List ℕ → Bool) (r : Role) (c : Class) (ms : Members) (d : Data) → BuiltObject t value_of special r c ms d
-      → ((name : List ℕ) (v : Data) → special name ≡ true → get name d ≡ Some v → IsClean (asked (member_want c name) v))
-      → ((name : List ℕ) (v : Data) → BuiltFrom t value_of c ms name v → IsClean (asked (member_want c name) v))
-      → ((name : List ℕ) → list_any (bytes_eq name) (required_names c) ≡ true → special name ≡ false)
-      → ((name : List ℕ) (v : Data) → list_any (bytes_eq name) (required_names c) ≡ true → is_kept (kind_of_member c name) ≡ true → IsFilled (kind_of_member c name) v
-      → value_of name (kind_of_member c name) v ≡ None → ⊥)
-      → IsClean (asked (Object r) d)
-  clean_built value_of special r c ms d o specials built required keeps =
-      clean_object (Object r) r c d of_role o.among (has_required value_of special r c ms d o required keeps) each
-    where
-      each : (name : List ℕ) (v : Data) → bytes_eq name (codes "@type") ≡ false → get name d ≡ Some v → IsClean (asked (member_want c name) v)
-      each name v other found = at (special name) refl
-        where
-          at : (b : Bool) → special name ≡ b → IsClean (asked (member_want c name) v)
-          at true is = specials name v is found
-          at false is = built name v (built_from value_of (Object r) r c ms o.at name v other (sym (o.gets name is) ∙ found))
-
 pub normal_value-kept : (t : Data) (k : MemberKind) (d : Data) → is_kept k ≡ true → IsFilled k d → normal_value t k d ≡ None → ⊥
 normal_value-kept t kind.Label d kept full e = cc
 normal_value-kept t (kind.Many f) d kept full e = let x : Some _ ≡ None = rw full at e in cc
 normal_value-kept t kind.Languages d kept full e = let x : Some _ ≡ None = rw full at e in cc
 normal_value-kept t k d kept full e = cc
-
-pub normal_value-builds : (t : Data) → NoneOf (ShapeFault t) → IsTree t → BuildsClean t (λ name k d. normal_value t k d)
-normal_value-builds t clean tree = record {
-  built = λ name k required d v. normal_value-clean t clean tree k required d v;
-  word = λ name d v given. let same : d ≡ v = cc in same;
-}

@@ -15,8 +15,8 @@ use Rattle.erd_check.specs.Trees.{IsTree}
 use Rattle.erd_check.specs.Wants.{asked, class_of_object}
 use Rattle.erd_check.specs.declared.want.Want.TheVariants.{Object}
 use Rattle.erd_check.proofs.Exact.{text_exact}
-use Rattle.erd_check.proofs.ObjectsAt.{ObjectAt, ObjectIn, object_in}
-use Rattle.erd_check.proofs.Shapes.{Within, within-tree}
+use Rattle.erd_check.proofs.ObjectsAt.{ObjectAt, ObjectIn}
+use Rattle.erd_check.proofs.Shapes.{within-tree}
 use Rattle.erd_meaning.proofs.accepted.Skeleton.{Skeleton}
 use Rattle.erd_meaning.specs.Keys.{key_of}
 use Rattle.erd_meaning.specs.SelectionNames.{selection_role}
@@ -61,13 +61,6 @@ text_there (Some id) v e = let same : v ≡ string id = cc in (id, refl, same)
 -- ---- the objects
 
 module _ (t : Data) (clean : NoneOf (ShapeFault t)) (tree : IsTree t) where
-  -- an object that is asked for, by its own members
-  pub object_here : (r : Role) (ms : Members) → Within t (asked (Object r) (object ms)) → (c : Class) × ObjectAt t (Object r) r c ms
-  object_here r ms w =
-      let o : ObjectIn t r (object ms) = object_in t clean r (object ms) w in
-      let is : object ms ≡ object o.ms = o.is_object in
-      let same : o.ms ≡ ms = cc in
-      (o.class, subst (ObjectAt t (Object r) r o.class) same o.at)
 
   object_tree : (r : Role) (c : Class) (ms : Members) (d : Data) → d ≡ object ms → ObjectAt t (Object r) r c ms → IsTree d
   object_tree r c ms d is o = subst IsTree (sym is) (within-tree t (asked (Object r) (object ms)) tree o.inside)

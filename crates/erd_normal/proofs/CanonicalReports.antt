@@ -1,5 +1,5 @@
 -- Whole reports that are canonical, and the canonical forms of two, by tests that compute.
-use Rattle.std.proofs.Common.{◌≡◌, List, [], ◌∷◌, Bool, true, false, not, ◌&&◌, true≢false, Ordering, Less, Equal, Greater, is_lt, Option, Some, None, length, map, refl, sym, subst, arith}
+use Rattle.std.proofs.Common.{◌≡◌, List, [], ◌∷◌, Bool, true, false, not, ◌&&◌, true≢false, Ordering, Less, is_lt, Option, Some, None, length, map, refl, sym, subst, arith}
 use Rattle.std.specs.List.{AllByRecursion, list_all}
 use Rattle.std.specs.List.Sorted.{IsStrictlySortedBy}
 use Rattle.std.specs.Option.{option_cmp}
@@ -31,13 +31,9 @@ use Rattle.erd_normal.proofs.BallotMeaningExamples.{canonical_ballot_means_the_s
 use Rattle.erd_normal.proofs.CanonicalExamples.{canonical_envelope}
 use Rattle.erd_normal.proofs.CanonicalPartExamples.{envelope_of_one_unit, ids_of_one_unit, ids_of_small_ballot}
 use Rattle.erd_normal.proofs.MeaningExamples.{one_unit_canonical, canonical_means_the_same}
+use Rattle.erd_normal.proofs.RisingOrders.{is_less}
 
 -- ---- tests
-
-is_less : (o : Ordering) → is_lt o ≡ true → o ≡ Less
-is_less Less e = refl
-is_less Equal e = absurd (true≢false (sym e))
-is_less Greater e = absurd (true≢false (sym e))
 
 -- each entry is below each later one
 abbrev rises : {A : Type 0} → (A → A → Ordering) → List A → Bool

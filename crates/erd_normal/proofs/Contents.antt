@@ -40,13 +40,13 @@ use Rattle.erd_meaning.proofs.accepted.Phases.{no_shape_fault}
 use Rattle.erd_normal.specs.Canonical.{IsCanonical}
 use Rattle.erd_normal.proofs.Arrays.{Names, texts_same}
 
-content_at : Data → Option Data → Content
+-- the content that a member gives, if it is there
+abbrev pub content_at : Data → Option Data → Content
 content_at t None = no_content
 content_at t (Some v) = content_of t v
 
 -- what stands inside a header is its member's
-content_inside-get : (t : Data) (ms : Members) → content_inside t ms ≡ content_at t (get_member (codes "OrderedContent") ms)
-unfolding content_at
+pub content_inside-get : (t : Data) (ms : Members) → content_inside t ms ≡ content_at t (get_member (codes "OrderedContent") ms)
 content_inside-get t no_members = refl
 content_inside-get t (member k d ms) = at (text_cmp (codes "OrderedContent") k) refl (content_inside-get t ms)
   where
@@ -299,7 +299,7 @@ data NodeView (t : Data) : Data → Type 0 where
   contest_view : {ms : Members} → ContestNode t ms → NodeView t (object ms)
   header_view : {ms : Members} → HeaderNode t ms → NodeView t (object ms)
 
-content_class : (c : Class) → role_of_class c ≡ role.Content → (c ≡ class.OrderedContest) ⊎ (c ≡ class.OrderedHeader)
+pub content_class : (c : Class) → role_of_class c ≡ role.Content → (c ≡ class.OrderedContest) ⊎ (c ≡ class.OrderedHeader)
 content_class class.OrderedContest e = inl refl
 content_class class.OrderedHeader e = inr refl
 content_class c e = cc
@@ -337,7 +337,6 @@ Nodes t u n = (ds es : Items) → items_depth ds ≤ n → AreTrees ds → AreTr
 inside_same : (t u : Data) (n : ℕ) → Nodes t u n → (o p : Option Data) → ((v : Data) → o ≡ Some v → depth v ≤ suc n) → ((v : Data) → o ≡ Some v → IsTree v) → ((v : Data) → p ≡ Some v → IsTree v)
     → Filled (λ ds. Within t (asked (Member kind.Content false) (array ds))) o → Filled (λ ds. Within u (asked (Member kind.Content false) (array ds))) p
     → content_at t o ≡ content_at u p → o ≡ p
-unfolding content_at
 inside_same t u n deeper o p small tree tree' absent absent same = refl
 inside_same t u n deeper o p small tree tree' absent (filled {ds = no_items} full w) same = cc
 inside_same t u n deeper o p small tree tree' absent (filled {ds = item d ds} full w) same = cc

@@ -1,7 +1,6 @@
 -- A reference to a selection of a contest is built to one to a selection of the contest that is built.
-use Rattle.std.proofs.Common.{◌≡◌, ◌+◌, ℕ, zero, suc, List, [], ◌∷◌, ◌++◌, true, Some, option_and_then, codes, slice_get, refl, sym, ap, ap₂, ◌∙◌, subst}
+use Rattle.std.proofs.Common.{◌≡◌, ◌+◌, ℕ, zero, suc, List, [], ◌∷◌, ◌++◌, true, Some, codes, slice_get, refl, sym, ap, ap₂, ◌∙◌, subst}
 use Rattle.serde_json.specs.Data.{Data}
-use Rattle.serde_json.specs.Find.{as_str}
 use Rattle.erd_tables.specs.Places.{place_cmp}
 use Rattle.erd_tables.specs.declared.class.Family.TheVariants as family
 use Rattle.erd_tables.specs.declared.place.Step.{Step}
@@ -11,19 +10,17 @@ use Rattle.erd_check.proofs.Rising.{Has}
 use Rattle.erd_meaning.specs.Accepted.{IsAccepted}
 use Rattle.erd_meaning.specs.LaterFaults.{IsBefore, is_selection_in}
 use Rattle.erd_meaning.specs.Objects.{Placed, contests, has_id, id_of, objects, owner, placed_from, selections_of_contest}
-use Rattle.erd_meaning.specs.SelectionNames.{name_named}
 use Rattle.erd_meaning.proofs.orders.Sets.{any-has, has-any}
 use Rattle.erd_meaning.proofs.accepted.Standing.{flat-has, has_id-Some, has_id-from, one_object, one_placed, owned_by}
-use Rattle.erd_normal.specs.code.NormalTree.{id_of_selection, normal_object, normal_selection_reference, normal_tree}
+use Rattle.erd_normal.specs.code.NormalTree.{id_of_selection, normal_object, normal_selection_reference}
 use Rattle.erd_check.specs.Values.{text_of}
 use Rattle.erd_normal.specs.code.ObjectNumbers.{IsBounded}
 use Rattle.erd_normal.proofs.FoundInParts.{FoundSelection}
 use Rattle.erd_normal.proofs.NormalGets.{id_of_built_selection}
 use Rattle.erd_normal.proofs.NormalIdentity.{never_before_itself}
 use Rattle.erd_normal.proofs.NormalKeys.{IsClassed, object_classed}
-use Rattle.erd_normal.proofs.NormalNames.{Refers}
-use Rattle.erd_normal.proofs.Positions.{has_mapped, map_has, position_of}
-use Rattle.erd_normal.proofs.SelectionIds.{built_stands, listed, name_named_built, named, selection_stands, selection_values, text_built}
+use Rattle.erd_normal.proofs.SelectionIds.{built_stands, listed, named, selection_stands, selection_values, text_built}
+use Rattle.erd_check.proofs.Positions.{has_mapped, map_has, position_of}
 
 -- ---- places
 
@@ -106,9 +103,3 @@ module _ (t : Data) (accepted : IsAccepted t) where
         ap (λ x. is_selection_in (normal_object t family.Contest x.value) (text_of (normal_selection_reference t r))) here
         ∙ ap (is_selection_in (normal_object t family.Contest s.contest.value)) (text_built t accepted tree bounded r d owned)
         ∙ selection_in_built s.contest s.selection s.of_report s.of_contest
-
-    -- a reference that is built names a selection with the same name
-    pub reference_name_built : (r : Data) → Refers t family.Selection r → option_and_then (name_named (normal_tree t)) (as_str (normal_selection_reference t r)) ≡ option_and_then (name_named t) (as_str r)
-    reference_name_built r h =
-        let owned : owner t family.Selection (text_of r) ≡ Some h.2.0 = ap (λ x. owner t family.Selection (text_of x)) h.1 ∙ h.2.1 in
-        name_named_built t accepted tree bounded r h.2.0 owned ∙ ap (λ x. name_named t (text_of x)) h.1 ∙ sym (ap (λ x. option_and_then (name_named t) (as_str x)) h.1)

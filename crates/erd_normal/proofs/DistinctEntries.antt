@@ -9,6 +9,7 @@ use Rattle.erd_check.specs.Trees.{is_same_json}
 use Rattle.erd_check.specs.Values.{list_of_items}
 use Rattle.erd_check.specs.Wants.{is_repeated}
 use Rattle.erd_check.proofs.Order.{In, In-all, In-map_from, all_from_In, any_at}
+use Rattle.erd_check.proofs.Shapes.{false_unless}
 
 -- where an entry of a list stands
 pub place_of : {A : Type 0} (x : A) (xs : List A) → In x xs → (i : ℕ) × (slice_get xs i ≡ Some x)
@@ -25,10 +26,6 @@ distinct_from_places test (x ∷ xs) h = (
   all_from_In (λ y. test x y ≡ false) xs (λ y i. let p = place_of y xs i in h 0 (suc p.0) x y (omega arith) refl p.1),
   distinct_from_places test xs (λ i j y z l. h (suc i) (suc j) y z (omega arith)),
 )
-
-false_unless : (b : Bool) → (b ≡ true → ⊥) → b ≡ false
-false_unless true h = absurd (h refl)
-false_unless false h = refl
 
 -- entries that pass stand at one place
 pub distinct_from_one_place : {A : Type 0} (test : A → A → Bool) (xs : List A)

@@ -1,5 +1,5 @@
 -- In an accepted report no two objects of a family have one key, and no two selections of a contest one name.
-use Rattle.std.proofs.Common.{◌≡◌, ◌+◌, ◌++◌, ℕ, zero, suc, List, [], ◌∷◌, map, true, cond, codes, Some, None, option_and_then, option_map, is_eq, slice_get, refl, sym, ap, ap₂, ◌∙◌, subst, arith}
+use Rattle.std.proofs.Common.{◌≡◌, ◌+◌, ◌++◌, ℕ, zero, suc, List, [], ◌∷◌, map, true, cond, codes, Some, None, option_and_then, option_map, is_eq, slice_get, sym, ap, ap₂, ◌∙◌, subst, arith}
 use Rattle.std.specs.Cmp.{Equal-is}
 use Rattle.std.specs.List.{IsDistinct}
 use Rattle.std.specs.Option.{option_cmp}
@@ -27,6 +27,7 @@ use Rattle.erd_normal.specs.code.NormalTree.{by_key, by_name}
 use Rattle.erd_normal.proofs.DistinctEntries.{distinct_from_one_place, distinct_map}
 use Rattle.erd_normal.proofs.RisingSets.{has_from_In}
 use Rattle.erd_normal.proofs.Selections.{has_name}
+use Rattle.erd_meaning.proofs.accepted.Skeleton.{values-placed_from}
 
 -- ---- objects by their keys
 
@@ -43,10 +44,6 @@ objects_distinct t accepted f keyed = distinct_from_one_place (λ o p. eq_by_cmp
 -- the values of a family's objects
 pub values_distinct : (t : Data) → IsAccepted t → (f : Family) → has_keys f ≡ true → IsDistinct (eq_by_cmp by_key) (map (λ o. o.value) (objects f t))
 values_distinct t accepted f keyed = distinct_map (λ o. o.value) (eq_by_cmp by_key) (objects f t) (objects_distinct t accepted f keyed)
-
-pub values_placed : (p : List Step) (i : ℕ) (ds : List Data) → map (λ o. o.value) (placed_from p i ds) ≡ ds
-values_placed p i [] = refl
-values_placed p i (d ∷ ds) = ap (λ es. d ∷ es) (values_placed p (i + 1) ds)
 
 -- ---- selections by their names
 
@@ -83,5 +80,5 @@ selections_distinct t accepted contest c = distinct_from_one_place (λ o p. eq_b
 -- the values of a contest's selections
 pub selection_values_distinct : (t : Data) → IsAccepted t → (contest : Placed) → Has (objects family.Contest t) contest → IsDistinct (eq_by_cmp (by_name t)) (entries_at (codes "ContestSelection") contest.value)
 selection_values_distinct t accepted contest c =
-    subst (IsDistinct (eq_by_cmp (by_name t))) (values_placed _ 0 (entries_at (codes "ContestSelection") contest.value))
+    subst (IsDistinct (eq_by_cmp (by_name t))) (values-placed_from _ 0 (entries_at (codes "ContestSelection") contest.value))
     (distinct_map (λ o. o.value) (eq_by_cmp (by_name t)) (selections_of_contest contest) (selections_distinct t accepted contest c))

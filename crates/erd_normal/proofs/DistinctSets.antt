@@ -1,5 +1,5 @@
 -- No two entries of a set of an accepted report are alike: references by the keys of what they name, other entries as JSON.
-use Rattle.std.proofs.Common.{◌≡◌, ℕ, List, Bool, true, false, ◌&&◌, Option, Some, None, option_and_then, Equal, refl, sym, ap, ap₂, ◌∙◌, subst}
+use Rattle.std.proofs.Common.{◌≡◌, ℕ, List, Bool, true, false, ◌&&◌, Some, Equal, refl, sym, ap, ap₂, ◌∙◌, subst}
 use Rattle.std.specs.List.{IsDistinct}
 use Rattle.std.specs.Option.{option_cmp}
 use Rattle.std.specs.Ordering.{eq_by_cmp}
@@ -40,12 +40,9 @@ use Rattle.erd_normal.specs.code.NormalTree.{reference_cmp}
 use Rattle.erd_normal.proofs.Arrays.{Names}
 use Rattle.erd_normal.proofs.DistinctEntries.{unrepeated_by_cmp}
 use Rattle.erd_normal.proofs.RisingSets.{has_from_In}
+use Rattle.erd_check.proofs.Options.{and_then-Some}
 
 -- ---- sets of references
-
-and_then-Some : {A B : Type 0} (f : A → Option B) (o : Option A) (y : B) → option_and_then f o ≡ Some y → (x : A) × (o ≡ Some x) × (f x ≡ Some y)
-and_then-Some f None y e = cc
-and_then-Some f (Some x) y e = (x, refl, e)
 
 -- how the references of an accepted report say what they name
 pub names_accepted : (t : Data) → IsAccepted t → Names t

@@ -1,12 +1,13 @@
 -- A test of equal trees.
-use Rattle.std.proofs.Common.{◌≡◌, Bool, true, false, ◌&&◌, refl, sym, ap}
-use Rattle.std.proofs.lemmas.Bool.{and_parts, not-true}
+use Rattle.std.proofs.Common.{◌≡◌, Bool, true, false, ◌&&◌, refl, ap}
+use Rattle.std.proofs.lemmas.Bool.{and_parts}
 use Rattle.std.proofs.lemmas.Bool.Decides.{Decides-eqb}
 use Rattle.std.proofs.lemmas.Slice.Eq.{bytes_eq-Decides}
 use Rattle.std.specs.Prelude.{◌==◌}
 use Rattle.std.specs.Str.{bytes_eq}
 use Rattle.serde_json.specs.Data.{Num, unsigned, Data, null, boolean, number, string, array, object, Items, no_items, item, Members, no_members, member}
 use Rattle.erd_check.specs.Trees.{same_flag}
+use Rattle.erd_check.proofs.Exact.{same_flag_exact}
 
 -- equal numbers that are not negative; a number of another kind is equal to none
 abbrev same_whole_number : Num → Num → Bool
@@ -34,10 +35,6 @@ abbrev mutual
   same_members (member k d ms) (member l e ns) = bytes_eq k l && (same_tree d e && same_members ms ns)
   same_members ms ns = false
 
-equal_flags : (a b : Bool) → same_flag a b ≡ true → a ≡ b
-equal_flags true b h = sym h
-equal_flags false b h = sym (not-true b h)
-
 equal_numbers : (m n : Num) → same_whole_number m n ≡ true → m ≡ n
 equal_numbers (unsigned m) (unsigned n) h = ap unsigned ((Decides-eqb m n).0 h)
 equal_numbers m n h = absurd (cc h)
@@ -45,7 +42,7 @@ equal_numbers m n h = absurd (cc h)
 mutual
   pub equal_trees : (d e : Data) → same_tree d e ≡ true → d ≡ e
   equal_trees null null h = refl
-  equal_trees (boolean a) (boolean b) h = ap boolean (equal_flags a b h)
+  equal_trees (boolean a) (boolean b) h = ap boolean (same_flag_exact a b h)
   equal_trees (number m) (number n) h = ap number (equal_numbers m n h)
   equal_trees (string a) (string b) h = ap string ((bytes_eq-Decides a b).0 h)
   equal_trees (array ds) (array es) h = ap array (equal_items ds es h)

@@ -1,8 +1,8 @@
 -- What stands in a value whose numbers fit has numbers that fit.
 use Rattle.std.proofs.Common.{◌≡◌, Bool, true, false, ◌||◌, ℕ, zero, suc, List, [], ◌∷◌, Option, Some, None, option_and_then, option_map, inl, inr, ◌&&◌, ◌∙◌, Ordering, Less, Equal, Greater, refl, ap, subst, sym}
 use Rattle.std.specs.Cmp.Lexicographic.{slice_cmp}
-use Rattle.std.specs.Ordering.{match_ordering, nat_cmp}
-use Rattle.serde_json.specs.Data.{Num, unsigned, negative, float, Data, null, boolean, number, string, array, object, put, Items, no_items, item, Members, no_members, member}
+use Rattle.std.specs.Ordering.{nat_cmp}
+use Rattle.serde_json.specs.Data.{Num, unsigned, negative, float, Data, null, boolean, number, string, array, object, Items, no_items, item, Members, no_members, member}
 use Rattle.serde_json.specs.Find.{get_item, get_member, is_float}
 use Rattle.serde_json.specs.Written.{has_float, items_have_float, members_have_float}
 use Rattle.erd_tables.specs.declared.class.Role.TheVariants as role
@@ -87,14 +87,3 @@ mutual
   members_fitting-no_float : (ms : Members) → MembersHaveFittingNumbers ms → members_have_float ms ≡ false
   members_fitting-no_float no_members h = refl
   members_fitting-no_float (member k d ms) h = neither (has_float d) (members_have_float ms) (fitting-no_float d h.0) (members_fitting-no_float ms h.1)
-
--- ---- members put in place
-
-pub put-fitting : (k : List ℕ) (d : Data) (ms : Members) → HasFittingNumbers d → MembersHaveFittingNumbers ms → MembersHaveFittingNumbers (put k d ms)
-put-fitting k d no_members fits h = (fits, tt)
-put-fitting k d (member l e ms) fits h = at (slice_cmp nat_cmp k l) (put-fitting k d ms fits h.1)
-  where
-    at : (o : Ordering) → MembersHaveFittingNumbers (put k d ms) → MembersHaveFittingNumbers (match_ordering o (member k d (member l e ms)) (member l d ms) (member l e (put k d ms)))
-    at Less more = (fits, h)
-    at Equal more = (fits, h.1)
-    at Greater more = (h.0, more)

@@ -1,11 +1,12 @@
 -- What is found among values that are built of others and put in order is built of what is found among the others, if no two of these pass the test.
-use Rattle.std.proofs.Common.{◌≡◌, List, [], ◌∷◌, map, find, Bool, true, false, cond, if◌then◌else◌, is_lt, Ordering, Equal, Option, Some, option_and_then, option_map, refl, ap, ◌∙◌}
+use Rattle.std.proofs.Common.{◌≡◌, List, [], ◌∷◌, map, find, Bool, true, false, true≢false, cond, if◌then◌else◌, is_eq, is_lt, Ordering, Equal, Option, Some, option_and_then, option_map, refl, sym, ap, ◌∙◌}
 use Rattle.std.specs.Bool.{⊤}
-use Rattle.std.specs.List.{AllByRecursion}
+use Rattle.std.specs.List.{AllByRecursion, IsDistinct}
 use Rattle.erd_check.proofs.Shapes.{false_unless}
 use Rattle.erd_meaning.specs.SelectionNames.{rising_list, with_inserted}
 use Rattle.erd_normal.proofs.BuiltLists.{all_rising}
-use Rattle.erd_normal.proofs.RisingLists.{AreUntied, all_weakened}
+use Rattle.erd_check.proofs.Positions.{all_weakened}
+use Rattle.std.specs.Ordering.{eq_by_cmp}
 
 -- no two entries pass the test
 abbrev pub AreApart : {A : Type 0} → (A → Bool) → List A → Type 0
@@ -32,10 +33,11 @@ find_rising test cmp (x ∷ xs) apart =
     find_inserted test cmp x (rising_list cmp xs) (λ h. all_rising (λ y. test y ≡ false) cmp xs (apart.0 h)) ∙ ap (cond (test x) (Some x)) (find_rising test cmp xs apart.1)
 
 -- values that are not tied don't pass a test that ties them
-pub apart_untied : {A : Type 0} (test : A → Bool) (cmp : A → A → Ordering) (xs : List A) → ((x y : A) → test x ≡ true → test y ≡ true → cmp x y ≡ Equal) → AreUntied cmp xs → AreApart test xs
+pub apart_untied : {A : Type 0} (test : A → Bool) (cmp : A → A → Ordering) (xs : List A) → ((x y : A) → test x ≡ true → test y ≡ true → cmp x y ≡ Equal) → IsDistinct (eq_by_cmp cmp) xs → AreApart test xs
+unfolding IsDistinct
 apart_untied test cmp [] tied untied = tt
 apart_untied test cmp (x ∷ xs) tied untied = (
-  λ h. all_weakened (λ y. cmp x y ≡ Equal → ⊥) (λ y. test y ≡ false) xs (λ y no. false_unless (test y) (λ g. no (tied x y h g))) untied.0,
+  λ h. all_weakened (λ y. eq_by_cmp cmp x y ≡ false) (λ y. test y ≡ false) xs (λ y no. false_unless (test y) (λ g. true≢false (sym (ap is_eq (tied x y h g)) ∙ no))) untied.0,
   apart_untied test cmp xs tied untied.1,
 )
 
@@ -54,7 +56,7 @@ module _ {A R : Type 0} (test passes : A → Bool) (n : A → A) (f g : A → Op
       at true later = all.0.1
       at false later = later
 
-  pub found_in_order : (cmp : A → A → Ordering) (xs : List A) → ((x y : A) → test x ≡ true → test y ≡ true → cmp x y ≡ Equal) → AreUntied cmp xs → AllByRecursion IsKept xs
+  pub found_in_order : (cmp : A → A → Ordering) (xs : List A) → ((x y : A) → test x ≡ true → test y ≡ true → cmp x y ≡ Equal) → IsDistinct (eq_by_cmp cmp) xs → AllByRecursion IsKept xs
       → option_and_then g (find passes (map n (rising_list cmp xs))) ≡ option_and_then f (find test xs)
   found_in_order cmp xs tied untied all =
       found_built (rising_list cmp xs) (all_rising IsKept cmp xs all) ∙ ap (option_and_then f) (find_rising test cmp xs (apart_untied test cmp xs tied untied))

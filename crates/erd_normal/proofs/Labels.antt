@@ -23,6 +23,7 @@ use Rattle.erd_meaning.specs.Records.{json_set, label_of}
 use Rattle.erd_meaning.proofs.accepted.Phases.{no_shape_fault}
 use Rattle.erd_normal.specs.Canonical.{IsCanonical}
 use Rattle.erd_normal.proofs.Arrays.{json_set_same}
+use Rattle.erd_normal.proofs.AskedMembers.{label_class}
 
 -- an accepted label that is an object
 record LabelObject (t : Data) (ms : Members) : Type 0 where
@@ -38,10 +39,6 @@ label_texts t canonical r ms w v e among typed =
     let inside : Within t (asked (Member kind.Languages true) v) = member_within t (no_shape_fault t canonical.accepted) (Member kind.Label r) role.Label ms class.InternationalizedText (codes "Text") v of_label among refl w e in
     let ds = array_from v (wanted_within t (no_shape_fault t canonical.accepted) (asked (Member kind.Languages true) v) inside) in
     record { typed = typed; texts = ds.0; text = e ∙ ap Some ds.1; inside = subst (λ x. Within t (asked (Member kind.Languages true) x)) ds.1 inside }
-
-label_class : (c : Class) → role_of_class c ≡ role.Label → c ≡ class.InternationalizedText
-label_class class.InternationalizedText e = refl
-label_class c e = cc
 
 -- the classes of the entries of sets that are compared as JSON
 pub language_simple : (c : Class) → role_of_class c ≡ role.Language → is_simple_class c ≡ true

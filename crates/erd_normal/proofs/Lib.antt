@@ -22,7 +22,6 @@ pub mod Lists
 pub mod CanonicalReports
 pub mod EqualTrees
 mod StableSorts
-pub mod StableOrders
 pub mod NormalMembers
 pub mod PutMembers
 pub mod NormalEnvelope
@@ -35,23 +34,19 @@ pub mod NormalReports
 pub mod NormalEntries
 pub mod NormalObjects
 pub mod LeastKeys
-pub mod RisingLists
 pub mod NormalKeys
 pub mod CanonicalIds
 pub mod NormalSelections
 pub mod NormalOwners
-pub mod SortedAgain
 pub mod Bounds
 pub mod NormalNames
 pub mod SelectionTexts
 pub mod FoundInParts
-pub mod Positions
 pub mod SelectionIds
 pub mod NormalIdentity
 pub mod NormalSelectionNames
 pub mod ContestSelections
 mod NormalTreeExamples
-pub mod MovedPairs
 pub mod RisingSets
 pub mod RisingOrders
 pub mod RisingRanks
@@ -65,14 +60,8 @@ pub mod FittingNumbers
 pub mod RisingReports
 pub mod RisingAgain
 pub mod RisingLabels
-pub mod CleanValues
-pub mod CleanSets
-pub mod CleanMembers
 pub mod BuiltFrom
 pub mod BuiltObjects
-pub mod CleanContents
-pub mod CleanFamilies
-pub mod CleanReports
 pub mod ThroughoutValues
 pub mod ThroughoutMembers
 pub mod FamilyNames
@@ -108,3 +97,5 @@ pub mod SelectionReferences
 pub mod KeyPlaces
 pub mod NumberedParts
 pub mod SelectionPlaces
+pub mod UnrepeatedEntries
+pub mod NoShapeFaults

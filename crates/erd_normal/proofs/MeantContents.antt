@@ -1,12 +1,11 @@
 -- What is built of the order of a ballot means what the order means.
 use mathlib.Core.Path.{fun_ext}
-use Rattle.std.proofs.Common.{◌≡◌, ◌<◌, ◌^◌, ℕ, zero, suc, List, [], ◌∷◌, map, length, unwrap_or, Bool, true, false, Ordering, Less, Equal, Greater, is_eq, ◌⊎◌, inl, inr, Option, Some, None, option_and_then, codes, refl, sym, ap, ap₂, ◌∙◌, subst}
-use Rattle.std.proofs.lemmas.Map.Text.{is_eq-slice_cmp}
+use Rattle.std.proofs.Common.{◌≡◌, ◌<◌, ◌^◌, ℕ, zero, suc, List, [], ◌∷◌, map, length, unwrap_or, Bool, true, false, Ordering, Less, Equal, Greater, ◌⊎◌, inl, inr, Option, Some, None, option_and_then, codes, refl, sym, ap, ap₂, ◌∙◌, subst}
 use Rattle.std.specs.List.{AllByRecursion}
 use Rattle.std.specs.Ordering.{match_ordering}
 use Rattle.serde_json.specs.Data.{Data, null, boolean, number, string, array, object, Items, no_items, item, Members, no_members, member}
 use Rattle.serde_json.specs.Find.{as_str, get, get_item, get_member}
-use Rattle.erd_tables.specs.Classes.{role_of_class, text_of_class}
+use Rattle.erd_tables.specs.Classes.{text_of_class}
 use Rattle.erd_tables.specs.Table.{kind_of_member}
 use Rattle.erd_tables.specs.Texts.{text_cmp}
 use Rattle.erd_tables.specs.declared.class.Class.{Class}
@@ -26,7 +25,7 @@ use Rattle.erd_check.proofs.ObjectsAt.{ObjectIn, object_in}
 use Rattle.erd_check.proofs.Shapes.{Within, lacks_none, member_within, of_role, wanted_within, within-tree}
 use Rattle.erd_meaning.specs.Accepted.{IsAccepted}
 use Rattle.erd_meaning.specs.declared.keys.key.Key.{Key}
-use Rattle.erd_meaning.specs.Meaning.{Content, JsonMap, a_contest, a_content, a_header, first_node, no_content}
+use Rattle.erd_meaning.specs.Meaning.{Content, JsonMap, a_contest, a_content, a_header, first_node}
 use Rattle.erd_meaning.specs.NameParts.{NameParts}
 use Rattle.erd_meaning.specs.Objects.{objects}
 use Rattle.erd_meaning.specs.Records.{carried_members, class_of_node, contest_node, content_inside, content_of, header_node, if_carried, node_of, nodes_of, plain_value}
@@ -37,6 +36,7 @@ use Rattle.erd_normal.proofs.AskedMembers.{all_items, entry_asked}
 use Rattle.erd_normal.proofs.MeantValues.{filled_array, is_referred, reference_meant}
 use Rattle.erd_normal.proofs.NormalEntries.{entries_built}
 use Rattle.erd_normal.proofs.NormalGets.{class_of_built_node, get_node, same_value}
+use Rattle.erd_normal.proofs.Contents.{content_at, content_class, content_inside-get}
 
 -- ---- lists
 
@@ -44,26 +44,7 @@ mapped_alike : {A B : Type 0} (f g : A → B) (n : A → A) (xs : List A) → Al
 mapped_alike f g n [] all = refl
 mapped_alike f g n (x ∷ xs) all = ap₂ (◌∷◌) all.0 (mapped_alike f g n xs all.1)
 
-content_class : (c : Class) → role_of_class c ≡ role.Content → (c ≡ class.OrderedContest) ⊎ (c ≡ class.OrderedHeader)
-content_class class.OrderedContest e = inl refl
-content_class class.OrderedHeader e = inr refl
-content_class c e = cc
-
 -- ---- what stands inside a header
-
-abbrev content_at : Data → Option Data → Content
-content_at t None = no_content
-content_at t (Some v) = content_of t v
-
-inside_at : (t : Data) (ms : Members) → content_inside t ms ≡ content_at t (get_member (codes "OrderedContent") ms)
-inside_at t no_members = refl
-inside_at t (member k d ms) = at (text_cmp (codes "OrderedContent") k) refl (inside_at t ms)
-  where
-    at : (o : Ordering) → text_cmp (codes "OrderedContent") k ≡ o → content_inside t ms ≡ content_at t (get_member (codes "OrderedContent") ms)
-        → content_inside t (member k d ms) ≡ content_at t (get_member (codes "OrderedContent") (member k d ms))
-    at Less is h = rw (is, sym (is_eq-slice_cmp (codes "OrderedContent") k) ∙ ap is_eq is) h
-    at Equal is h = rw (is, sym (is_eq-slice_cmp (codes "OrderedContent") k) ∙ ap is_eq is)
-    at Greater is h = rw (is, sym (is_eq-slice_cmp (codes "OrderedContent") k) ∙ ap is_eq is) h
 
 -- what holds of a member that stands here or later
 found_here : (P : Data → Type 0) (o : Ordering) (rest : Option Data) (e d : Data) → (e ≡ d → P d) → (rest ≡ Some d → P d) → match_ordering o rest (Some e) rest ≡ Some d → P d
@@ -206,10 +187,10 @@ module _ (t : Data) (accepted : IsAccepted t) (tree : IsTree t) (few : (f : Fami
         let e : Data = object ns in
         let built = get_node t class.OrderedHeader (codes "HeaderId") d its_members among ∙ ap (option_and_then (λ x. Some (normal_reference t family.Header x))) v.1 in
         let keys = key_kept family.Header (get (codes "HeaderId") d) (get (codes "HeaderId") e) v.0 refl v.1 built v.2 in
-        let contents = inside_at (normal_tree t) ns ∙ ap (content_at (normal_tree t)) (get_node t class.OrderedHeader (codes "OrderedContent") d its_members among)
+        let contents = content_inside-get (normal_tree t) ns ∙ ap (content_at (normal_tree t)) (get_node t class.OrderedHeader (codes "OrderedContent") d its_members among)
         ∙ content_kept (get_member (codes "OrderedContent") ms)
         (λ x f. member_within t (no_shape_fault t accepted) (Object role.Content) role.Content ms class.OrderedHeader (codes "OrderedContent") x of_role among refl w f) inside
-        ∙ sym (inside_at t ms) in
+        ∙ sym (content_inside-get t ms) in
         header_is (normal_tree t) ns (class_of_built_node t class.OrderedHeader d its_members among)
         ∙ header_alike (key_named (normal_tree t) family.Header (text_at (codes "HeaderId") e)) (key_named t family.Header (text_at (codes "HeaderId") d))
         (content_inside (normal_tree t) ns) (content_inside t ms) (carried_members (class_of_node e) e) (carried_members (class_of_node d) d)

@@ -3,9 +3,9 @@ use mathlib.Core.Path.{fun_ext}
 use Rattle.std.proofs.Common.{◌≡◌, ◌<◌, ◌^◌, ℕ, List, map, length, Bool, true, false, if◌then◌else◌, Equal, Option, Some, None, option_and_then, option_map, codes, refl, sym, ap, ap₂, ◌∙◌, subst}
 use Rattle.std.proofs.lemmas.Cmp.{tied_itself}
 use Rattle.std.specs.Cmp.Lexicographic.{options_total}
-use Rattle.std.specs.List.{AllByRecursion}
+use Rattle.std.specs.List.{AllByRecursion, IsDistinct}
 use Rattle.std.specs.Option.{option_cmp}
-use Rattle.std.specs.Ordering.{is_eq}
+use Rattle.std.specs.Ordering.{is_eq, eq_by_cmp}
 use Rattle.std.specs.Str.{bytes_eq}
 use Rattle.serde_json.specs.Data.{Data, array}
 use Rattle.serde_json.specs.Find.{get}
@@ -43,12 +43,13 @@ use Rattle.erd_normal.proofs.AskedMembers.{AskedAs, asked_as, entries_asked}
 use Rattle.erd_normal.proofs.FoundBuilt.{IsKept, found_in_order}
 use Rattle.erd_normal.proofs.MeantContents.{content_value_meant}
 use Rattle.erd_normal.proofs.MeantKinds.{is_selections, kind_is_flat, kind_refers_well, selection_class_flat, selections_family, selections_kind, selections_name}
-use Rattle.erd_normal.proofs.MeantValues.{arranged_meant, as_long, nothing_of, refers_well, value_meant}
+use Rattle.erd_normal.proofs.MeantValues.{arranged_meant, nothing_of, refers_well, value_meant}
 use Rattle.erd_normal.proofs.NormalGets.{class_of_built, class_of_built_selection, get_object, get_selection, kind_of_family_id}
-use Rattle.erd_normal.proofs.NormalOwners.{length_rising}
-use Rattle.erd_normal.proofs.NormalSelections.{names_untied}
 use Rattle.erd_normal.proofs.Records.{record_with-Some}
-use Rattle.erd_normal.proofs.RisingLists.{AreUntied, all_by_entry}
+use Rattle.erd_check.proofs.Positions.{all_by_entry}
+use Rattle.erd_normal.proofs.RisingSets.{length-rising}
+use Rattle.erd_normal.proofs.DistinctObjects.{selection_values_distinct}
+use Rattle.std.proofs.lemmas.List.{length-map}
 
 -- ---- records
 
@@ -196,14 +197,14 @@ module _ (t : Data) (facts : Facts t) where
         let w : Within t (asked (Object selection_role) d) = all-Has (λ d. Within t (asked (Object selection_role) d)) (entries_of v) d (entries_within v listed asks) h in
         (ap (λ n. is_eq (option_cmp name_cmp n (Some name))) (facts.names contest of_report d (subst (λ xs. Has xs d) (sym its_entries) h) w), selection_meant contest.value d w)
 
-    untied : AreUntied (by_name t) (entries_of v)
-    untied = subst (AreUntied (by_name t)) its_entries (names_untied t facts.accepted facts.tree contest of_report)
+    apart : IsDistinct (eq_by_cmp (by_name t)) (entries_of v)
+    apart = subst (IsDistinct (eq_by_cmp (by_name t))) its_entries (selection_values_distinct t facts.accepted contest of_report)
 
     map_meant : selection_map (normal_tree t) (map (normal_selection t contest.value) (rising_list (by_name t) (entries_of v))) ≡ selection_map t (entries_of v)
     map_meant =
         fun_ext (λ name.
         found_in_order (is_named t name) (is_named (normal_tree t) name) (normal_selection t contest.value) (selection_record t) (selection_record (normal_tree t)) (by_name t) (entries_of v)
-        (named_tied t name) untied
+        (named_tied t name) apart
         (all_by_entry (IsKept (is_named t name) (is_named (normal_tree t) name) (normal_selection t contest.value) (selection_record t) (selection_record (normal_tree t))) (entries_of v) (kept name)))
 
     pub selections_meant : option_and_then (λ v. unless_empty (a_selection_map (selection_map (normal_tree t) (entries_of v))) v)
@@ -211,7 +212,7 @@ module _ (t : Data) (facts : Facts t) where
         ≡ unless_empty (a_selection_map (selection_map t (entries_of v))) v
     selections_meant =
         arranged_meant (λ ds. a_selection_map (selection_map (normal_tree t) ds)) (λ ds. a_selection_map (selection_map t ds)) (λ ds. map (normal_selection t contest.value) (rising_list (by_name t) ds)) v listed
-        (as_long (normal_selection t contest.value) (rising_list (by_name t) (entries_of v)) ∙ length_rising (by_name t) (entries_of v)) (ap a_selection_map map_meant)
+        (length-map (rising_list (by_name t) (entries_of v)) (normal_selection t contest.value) ∙ length-rising (by_name t) (entries_of v)) (ap a_selection_map map_meant)
 
   -- ---- an object of a family
 

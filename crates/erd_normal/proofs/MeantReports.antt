@@ -40,10 +40,11 @@ use Rattle.erd_normal.proofs.MeantKinds.{flat_no_selections, kind_is_flat}
 use Rattle.erd_normal.proofs.MeantObjects.{Facts, member_alike, object_meant, plain_kept, plain_members, record_alike}
 use Rattle.erd_normal.proofs.MeantValues.{is_flat, nothing_of, value_meant}
 use Rattle.erd_normal.proofs.NormalGets.{get_election, get_election-type}
-use Rattle.erd_normal.proofs.NormalKeys.{IsClassed, keys_untied, object_classed}
+use Rattle.erd_normal.proofs.NormalKeys.{IsClassed, object_classed}
 use Rattle.erd_normal.proofs.NormalObjects.{elections_built, objects_built, values_of}
 use Rattle.erd_normal.proofs.NormalReports.{class_of_built_report, class_of_report, get_report}
-use Rattle.erd_normal.proofs.RisingLists.{all_by_entry}
+use Rattle.erd_check.proofs.Positions.{all_by_entry}
+use Rattle.erd_normal.proofs.DistinctObjects.{values_distinct}
 
 -- an object has the key
 abbrev is_of_key : Key → Data → Bool
@@ -89,7 +90,7 @@ module _ (t : Data) (facts : Facts t) where
     records_keyed keyed =
         ap (option_and_then (object_record (normal_tree t) (role.OfFamily f))) (found_by_key (normal_tree t) ∙ ap (find (is_of_key k)) (objects_built t clean facts.tree f keyed))
         ∙ found_in_order (is_of_key k) (is_of_key k) (normal_object t f) (object_record t (role.OfFamily f)) (object_record (normal_tree t) (role.OfFamily f)) by_key (values_of f t)
-        (keys_tied k) (keys_untied t facts.accepted facts.tree f keyed) all_kept
+        (keys_tied k) (values_distinct t facts.accepted f keyed) all_kept
         ∙ sym (ap (option_and_then (object_record t (role.OfFamily f))) (found_by_key t))
 
   pub records_meant : (f : Family) (k : Key) → records_of (normal_tree t) f k ≡ records_of t f k

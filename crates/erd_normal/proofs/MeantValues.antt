@@ -27,9 +27,12 @@ use Rattle.erd_normal.specs.Canonical.{id_prefix}
 use Rattle.erd_normal.specs.code.NormalTree.{array_of, normal_id, normal_reference, normal_tree, normal_value, reference_cmp, unless_no_entry}
 use Rattle.erd_normal.proofs.AskedMembers.{AskedAs, all_items}
 use Rattle.erd_normal.proofs.BuiltLists.{all_rising}
-use Rattle.erd_normal.proofs.NormalEntries.{listed_again, no_entry}
-use Rattle.erd_normal.proofs.NormalOwners.{key_named_built, length_rising}
+use Rattle.erd_normal.proofs.NormalEntries.{no_entry}
+use Rattle.erd_normal.proofs.NormalOwners.{key_named_built}
 use Rattle.erd_normal.proofs.RisingMeanings.{json_set-rising, keys_named-rising, label_of-rising}
+use Rattle.erd_normal.proofs.RisingSets.{length-rising}
+use Rattle.std.proofs.lemmas.List.{length-map}
+use Rattle.erd_check.proofs.Lists.{list_of_items-items_of}
 
 -- ---- kinds
 
@@ -71,13 +74,9 @@ kept_map : {A B : Type 0} (g h : A → Option B) (n : A → A) (xs : List A) →
 kept_map g h n [] all = refl
 kept_map g h n (x ∷ xs) all = ap₂ cons_option all.0 (kept_map g h n xs all.1)
 
-pub as_long : {A B : Type 0} (f : A → B) (xs : List A) → length (map f xs) ≡ length xs
-as_long f [] = refl
-as_long f (x ∷ xs) = ap suc (as_long f xs)
-
 full_meant : {V : Type 0} (F : List Data → V) (ys : List Data) (n : ℕ) → length ys ≡ suc n → unless_empty (F (entries_of (array_of ys))) (array_of ys) ≡ Some (F ys)
 full_meant F [] n long = absurd (omega arith)
-full_meant F (y ∷ ys) n long = ap (λ xs. Some (F (y ∷ xs))) (listed_again ys)
+full_meant F (y ∷ ys) n long = ap (λ xs. Some (F (y ∷ xs))) (list_of_items-items_of ys)
 
 pub filled_array : (d : Data) (ds : Items) → is_empty_array (array (item d ds)) ≡ false
 filled_array d ds = at (is_empty_array (array (item d ds))) refl
@@ -138,7 +137,7 @@ module _ (t : Data) (accepted : IsAccepted t) (tree : IsTree t) (few : (f : Fami
       let rising : List Data = rising_list (reference_cmp t f) (entries_of d) in
       arranged_meant (λ ds. a_key_set (key_set (keys_named (normal_tree t) f ds))) (λ ds. a_key_set (key_set (keys_named t f ds)))
       (λ ds. map (normal_reference t f) (rising_list (reference_cmp t f) ds)) d listed
-      (as_long (normal_reference t f) rising ∙ length_rising (reference_cmp t f) (entries_of d))
+      (length-map rising (normal_reference t f) ∙ length-rising (reference_cmp t f) (entries_of d))
       (ap a_key_set (keys_meant f r d is listed w))
 
   -- a set of JSON values in order
@@ -146,7 +145,7 @@ module _ (t : Data) (accepted : IsAccepted t) (tree : IsTree t) (few : (f : Fami
       → option_and_then (λ v. unless_empty (a_json_set (json_set (entries_of v))) v) (unless_no_entry d (array_of (rising_list compact_cmp (entries_of d)))) ≡ unless_empty (a_json_set (json_set (entries_of d))) d
   set_meant d listed =
       arranged_meant (λ ds. a_json_set (json_set ds)) (λ ds. a_json_set (json_set ds)) (rising_list compact_cmp) d listed
-      (length_rising compact_cmp (entries_of d)) (ap a_json_set (json_set-rising compact_cmp (entries_of d)))
+      (length-rising compact_cmp (entries_of d)) (ap a_json_set (json_set-rising compact_cmp (entries_of d)))
 
   -- a value that is asked for as a member of the kind
   pub value_meant : (k : MemberKind) (d : Data) → is_flat k ≡ true → AskedAs t k d → option_and_then (plain_value (normal_tree t) k) (normal_value t k d) ≡ plain_value t k d

@@ -19,8 +19,7 @@ use Rattle.erd_meaning.specs.Accepted.{IsAccepted}
 use Rattle.erd_meaning.specs.SelectionNames.{compact_cmp, rising_list, with_rising_text}
 use Rattle.erd_normal.specs.Canonical.{HasNoEmptyArray, kind_wanted}
 use Rattle.erd_normal.specs.code.NormalTree.{array_of, by_key, by_name, normal_content, normal_election, normal_nodes, normal_object, normal_reference, normal_selection, normal_selection_reference, normal_tree, reference_cmp}
-use Rattle.erd_normal.proofs.CleanReports.{as_one}
-use Rattle.erd_normal.proofs.CleanSets.{as_empty}
+use Rattle.erd_normal.proofs.BuiltLists.{as_empty, as_one}
 use Rattle.erd_normal.proofs.RisingSets.{length-rising}
 use Rattle.erd_normal.proofs.ThroughoutMembers.{HoldsOfMembers}
 use Rattle.erd_normal.proofs.ThroughoutObjects.{HoldsOfObjects}
@@ -89,10 +88,10 @@ module _ (t : Data) (clean : NoneOf (ShapeFault t)) (tree : IsTree t) where
       at (Member k required) d b q w apart e = apart_full k required d apart (unrepeated t clean (Member k required) d b refl w)
       at want d b q w apart e = cc
 
-  members : HoldsOfMembers t IsNotEmpty
+  pub members : HoldsOfMembers t IsNotEmpty
   members = record {
     kept = kept_full;
-    class_text = λ r text. full_value _ refl;
+    class_text = λ r c text named. full_value _ refl;
     label = λ required d w. full_value _ (label_full required d w);
     one = λ f named d w. full_value _ refl;
     many = λ f named required d w full. full_value _ (full_list d (normal_reference t f) (rising_list (reference_cmp t f)) (length-rising (reference_cmp t f)) (wanted_within t clean (asked (Member (kind.Many f) required) d) w) full);
@@ -103,7 +102,7 @@ module _ (t : Data) (clean : NoneOf (ShapeFault t)) (tree : IsTree t) where
     ordered_entry = λ e w. full_value _ refl;
   }
 
-  objects : HoldsOfObjects t IsNotEmpty
+  pub objects : HoldsOfObjects t IsNotEmpty
   objects = record {
     members = members;
     identity = λ required id. full_value _ refl;
@@ -114,7 +113,7 @@ module _ (t : Data) (clean : NoneOf (ShapeFault t)) (tree : IsTree t) where
     object = λ f d w. record { full = λ k e. cc };
   }
 
-  built : HoldsOfBuilt t IsNotEmpty
+  pub built : HoldsOfBuilt t IsNotEmpty
   built = record {
     parts = objects;
     word = λ required text. full_value _ refl;

@@ -2,7 +2,6 @@
 use Rattle.std.proofs.Common.{◌≡◌, ℕ, zero, suc, List, [], ◌∷◌, ◌++◌, Option, Some, None, option_and_then, option_map, Bool, true, false, ◌&&◌, true≢false, refl, sym, ap, ◌∙◌, subst}
 use Rattle.std.specs.List.{AllByRecursion}
 use Rattle.std.specs.Option.{option_map_or}
-use Rattle.std.specs.Prelude.{IsSomeAnd, IsTrue}
 use Rattle.serde_json.specs.Data.{Data, array, object, Items, no_items, item, Members}
 use Rattle.serde_json.specs.Find.{get_item, get_member}
 use Rattle.erd_tables.specs.Classes.{role_of_class}
@@ -11,7 +10,6 @@ use Rattle.erd_tables.specs.declared.class.Class.TheVariants as class
 use Rattle.erd_tables.specs.declared.class.Family.TheVariants as family
 use Rattle.erd_tables.specs.declared.class.Role.{Role}
 use Rattle.erd_tables.specs.declared.class.Role.TheVariants as role
-use Rattle.erd_tables.specs.declared.fault.Reason.{Reason}
 use Rattle.erd_tables.specs.declared.fault.Reason.TheVariants as reason
 use Rattle.erd_tables.specs.declared.member.MemberKind.TheVariants as kind
 use Rattle.erd_tables.specs.declared.place.Step.{Step}
@@ -33,8 +31,9 @@ use Rattle.erd_normal.proofs.ReferenceLists.{IsListSound, list_name, list_sound}
 use Rattle.erd_normal.proofs.ReferencesBuilt.{references_sound}
 use Rattle.erd_normal.proofs.ThroughoutMembers.{HoldsOfMembers}
 use Rattle.erd_normal.proofs.ThroughoutObjects.{HoldsOfObjects}
-use Rattle.erd_normal.proofs.ThroughoutReports.{HoldsOfBuilt, holds_of_built}
+use Rattle.erd_normal.proofs.ThroughoutReports.{HoldsOfBuilt, holds_of_built, none_found}
 use Rattle.erd_normal.proofs.ThroughoutValues.{is_apart}
+use Rattle.erd_check.proofs.Options.{and_then-Some}
 
 -- ---- the lists of a report
 
@@ -46,10 +45,6 @@ unlisted : (u : Data) (w : Want) (d : Data) (b : Bool) → (w ≡ Object role.Co
 unlisted u w d b other = record { sound = λ e among. absurd (other e) }
 
 -- ---- the steps into a list
-
-then_from : {A B : Type 0} (f : A → Option B) (o : Option A) (y : B) → option_and_then f o ≡ Some y → (x : A) × (o ≡ Some x) × (f x ≡ Some y)
-then_from f None y e = cc
-then_from f (Some x) y e = (x, refl, e)
 
 asked_from-append : (a : Asked) (p q : List Step) → asked_from a (p ++ q) ≡ option_and_then (λ b. asked_from b q) (asked_from a p)
 asked_from-append a [] q = refl
@@ -171,9 +166,9 @@ none_elsewhere u listed p h =
     let inside : asked_from h.ordered_contest (Name list_name ∷ At h.position ∷ []) ≡ Some h.entry =
     ap (option_and_then (λ b. asked_from b (Name list_name ∷ At h.position ∷ []))) (sym h.ordered_contest_stands)
     ∙ sym (asked_from-append (asked (Object role.Report) u) h.object_place (Name list_name ∷ At h.position ∷ [])) ∙ steps in
-    let b = then_from (λ b. asked_from b (At h.position ∷ [])) (asked_inside h.ordered_contest.want h.ordered_contest.value (Name list_name)) h.entry inside in
-    let c = then_from (λ c. asked_from c []) (asked_inside b.0.want b.0.value (At h.position)) h.entry b.2 in
-    let wants : h.entry.want ≡ Reference family.Selection = elsewhere_wants u h.ordered_contest.value h.entry.want h.entry.value h.elsewhere in
+    let b = and_then-Some (λ b. asked_from b (At h.position ∷ [])) (asked_inside h.contest.want h.contest.value (Name list_name)) h.entry inside in
+    let c = and_then-Some (λ c. asked_from c []) (asked_inside b.0.want b.0.value (At h.position)) h.entry b.2 in
+    let wants : h.entry.want ≡ Reference family.Selection = elsewhere_wants u h.contest.value h.entry.want h.entry.value h.elsewhere in
     let entry : EntryOf b.0.want b.0.value h.position h.entry = entry_of b.0.want b.0.value h.position h.entry (c.1 ∙ c.2) wants in
     let owner : OfContest h.ordered_contest.want h.ordered_contest.value b.0 = list_owner h.ordered_contest.want h.ordered_contest.value b.0 b.1 entry.lists in
     let all : IsListSound u h.ordered_contest.value = (listed h.object_place h.ordered_contest h.ordered_contest_stands).sound owner.content owner.among in
@@ -193,7 +188,7 @@ module _ (t : Data) (accepted : IsAccepted t) (tree : IsTree t) (bounded : IsBou
   members : HoldsOfMembers t (IsListed u)
   members = record {
     kept = λ a w apart. record { sound = λ e among. absurd (true≢false (sym apart ∙ ap is_apart e)) };
-    class_text = λ r text. unlisted u _ _ false (λ e. cc);
+    class_text = λ r c text named. unlisted u _ _ false (λ e. cc);
     label = λ required d w. unlisted u _ _ false (λ e. cc);
     one = λ f named d w. unlisted u _ _ false (λ e. cc);
     many = λ f named required d w full. unlisted u _ _ false (λ e. cc);
@@ -226,14 +221,7 @@ module _ (t : Data) (accepted : IsAccepted t) (tree : IsTree t) (bounded : IsBou
     report = unlisted u _ _ false (λ e. let x : role.Report ≡ role.Content = cc in cc);
   }
 
-  faultless : (p : List Step) (r : Reason) → IsSomeAnd (asked_at (normal_tree t) p) (λ a. IsTrue (is_reference_fault (normal_tree t) a r)) → ⊥
-  faultless p r = at (asked_at (normal_tree t) p) refl
-    where
-      at : (o : Option Asked) → asked_at (normal_tree t) p ≡ o → IsSomeAnd o (λ a. IsTrue (is_reference_fault (normal_tree t) a r)) → ⊥
-      at None is h = h
-      at (Some a) is h = true≢false (sym h ∙ references_sound t accepted tree bounded p a r is)
-
   -- the report that is built has no fault of references
   pub no_reference_fault_built : NoneOf (ReferenceFault (normal_tree t))
   no_reference_fault_built p reason.SelectionOfOtherContest h = none_elsewhere (normal_tree t) (λ p a e. holds_of_built t (no_shape_fault t accepted) tree (IsListed u) built p a e) p h
-  no_reference_fault_built p r h = faultless p r h
+  no_reference_fault_built p r h = none_found (normal_tree t) (is_reference_fault (normal_tree t)) (references_sound t accepted tree bounded) p r h

@@ -7,9 +7,9 @@ use Rattle.erd_meaning.proofs.accepted.Phases.{accepted_by_phases, no_shape_faul
 use Rattle.erd_normal.specs.Canonical.{IsCanonical}
 use Rattle.erd_normal.specs.code.NormalTree.{normal_tree}
 use Rattle.erd_normal.specs.code.ObjectNumbers.{IsBounded}
-use Rattle.erd_normal.proofs.CleanReports.{no_shape_fault_built}
 use Rattle.erd_normal.proofs.NoEmptyArrays.{no_empty_array_built}
 use Rattle.erd_normal.proofs.NoReferenceFaults.{no_reference_fault_built}
+use Rattle.erd_normal.proofs.NoShapeFaults.{no_shape_fault_built}
 use Rattle.erd_normal.proofs.NormalIdentity.{no_identity_fault_built}
 use Rattle.erd_normal.proofs.NormalReports.{has_canonical_envelope}
 use Rattle.erd_normal.proofs.NormalSelectionNames.{no_selection_fault_built}

@@ -29,8 +29,9 @@ use Rattle.erd_normal.specs.code.NormalTree.{array_of, by_key, by_name, id_of_ke
 use Rattle.erd_normal.proofs.AskedMembers.{AskedAs, asked_as, entries_asked, entry_asked, label_texts}
 use Rattle.erd_normal.proofs.BuiltLists.{IfSome, if_some_is, all_rising, all_map, all_of, items_of-depth, listed_depth, unless_no_entry-holds}
 use Rattle.erd_normal.proofs.NormalEnvelope.{with_envelope-depth}
-use Rattle.erd_normal.proofs.NormalMembers.{normal_members-depth, stands_still}
+use Rattle.erd_normal.proofs.NormalMembers.{normal_members-depth}
 use Rattle.erd_normal.proofs.PutMembers.{put-depth}
+use Rattle.erd_check.proofs.Whole.{get_member-later}
 
 -- ---- arrays
 
@@ -193,7 +194,7 @@ module _ (t : Data) (clean : NoneOf (ShapeFault t)) (tree : IsTree t) where
     node_members_depth : (ms : Members) (c : Option Class) → AreMembers ms → ((name : List ℕ) (d : Data) → get_member name ms ≡ Some d → IsNodeMember c name d) → members_depth (normal_node_members t c ms) ≤ members_depth ms
     node_members_depth no_members c rise each = omega arith
     node_members_depth (member k d ms) c rise each =
-        let rest : members_depth (normal_node_members t c ms) ≤ members_depth ms = node_members_depth ms c rise.2 (λ name e found. each name e (stands_still k name d e ms rise found)) in
+        let rest : members_depth (normal_node_members t c ms) ≤ members_depth ms = node_members_depth ms c rise.2 (λ name e found. each name e (get_member-later k name d e ms rise found)) in
         let first = node_member_depth c k d (normal_content t d) (each k d (get_member-first k d ms)) (normal_content-depth d) in
         with_first_depth k d (normal_node_value t (option_map (λ c. kind_of_member c k) c) d (normal_content t d)) (normal_node_members t c ms) (members_depth (member k d ms)) first (omega arith) (omega arith)
 

@@ -4,7 +4,6 @@ use Rattle.std.proofs.lemmas.Bool.Decides.{Decides-eqb}
 use Rattle.std.specs.Str.{bytes_eq}
 use Rattle.serde_json.specs.Data.{Data, array}
 use Rattle.serde_json.specs.Find.{get}
-use Rattle.serde_json.specs.View.{items_of}
 use Rattle.erd_tables.specs.Table.{is_envelope_name, kind_of_member}
 use Rattle.erd_tables.specs.declared.class.Class.{Class}
 use Rattle.erd_tables.specs.declared.class.Class.TheVariants as class
@@ -12,21 +11,18 @@ use Rattle.erd_tables.specs.declared.class.Family.{Family}
 use Rattle.erd_tables.specs.declared.class.Family.TheVariants as family
 use Rattle.erd_tables.specs.declared.class.Role.TheVariants as role
 use Rattle.erd_tables.specs.declared.member.MemberKind.TheVariants as kind
-use Rattle.erd_check.specs.Faults.{is_empty_array, is_object, NoneOf, ShapeFault}
+use Rattle.erd_check.specs.Faults.{is_empty_array, NoneOf, ShapeFault}
 use Rattle.erd_check.specs.Trees.{IsTree}
 use Rattle.erd_check.specs.Values.{entries_of, list_of_items, entries_at}
 use Rattle.erd_check.specs.Wants.{class_of_object}
 use Rattle.erd_check.proofs.Entries.{entries_in}
-use Rattle.erd_meaning.specs.SelectionNames.{compact_cmp, rising_list, selection_role, with_rising_text}
+use Rattle.erd_meaning.specs.SelectionNames.{compact_cmp, rising_list, selection_role}
 use Rattle.erd_normal.specs.code.NormalTree.{array_of, by_key, by_name, normal_election, normal_object, normal_reference, normal_report_value, normal_selection, normal_tree, reference_cmp, unless_no_entry}
-use Rattle.erd_normal.proofs.NormalGets.{get_election, get_label-text, get_object, get_selection}
+use Rattle.erd_normal.proofs.NormalGets.{get_election, get_object, get_selection}
 use Rattle.erd_normal.proofs.NormalReports.{get_report}
+use Rattle.erd_check.proofs.Lists.{list_of_items-items_of}
 
 -- ---- arrays that are built
-
-pub listed_again : (ds : List Data) → list_of_items (items_of ds) ≡ ds
-listed_again [] = refl
-listed_again (d ∷ ds) = ap (◌∷◌ d) (listed_again ds)
 
 none_listed : (ds : List Data) → length ds ≡ 0 → ds ≡ []
 none_listed [] e = refl
@@ -42,7 +38,7 @@ entries_unless g none d = at (is_empty_array d) refl
   where
     at : (b : Bool) → is_empty_array d ≡ b → entries_in (if b then None else Some (array_of (g (entries_of d)))) ≡ g (entries_of d)
     at true is = sym (ap g (no_entry d is) ∙ none)
-    at false is = listed_again (g (entries_of d))
+    at false is = list_of_items-items_of (g (entries_of d))
 
 entries_of_built : (g : List Data → List Data) → g [] ≡ [] → (o : Option Data) → entries_in (option_and_then (λ d. unless_no_entry d (array_of (g (entries_of d)))) o) ≡ g (entries_in o)
 entries_of_built g none None = sym none
@@ -59,10 +55,6 @@ module _ (t : Data) (f : Family) (c : Class) (d : Data) (tree : IsTree d) (among
   pub entries_of_identifiers : kind_of_member c name ≡ kind.Identifiers → entries_at name (normal_object t f d) ≡ rising_list compact_cmp (entries_at name d)
   entries_of_identifiers is = entries_built (rising_list compact_cmp) refl name d (normal_object t f d) (get_object t f c d tree among name other ∙ rw is refl)
 
-  pub entries_of_references : (q : Family) → kind_of_member c name ≡ kind.Many q → entries_at name (normal_object t f d) ≡ map (normal_reference t q) (rising_list (reference_cmp t q) (entries_at name d))
-  entries_of_references q is =
-      entries_built (λ ds. map (normal_reference t q) (rising_list (reference_cmp t q) ds)) refl name d (normal_object t f d) (get_object t f c d tree among name other ∙ rw is refl)
-
   pub entries_of_selections : kind_of_member c name ≡ kind.Keyed family.Selection → entries_at name (normal_object t f d) ≡ map (normal_selection t d) (rising_list (by_name t) (entries_at name d))
   entries_of_selections is =
       entries_built (λ ds. map (normal_selection t d) (rising_list (by_name t) ds)) refl name d (normal_object t f d) (get_object t f c d tree among name other ∙ rw is refl)
@@ -76,11 +68,6 @@ module _ (t contest : Data) (c : Class) (d : Data) (tree : IsTree d) (among : cl
   pub selection_references : (q : Family) → kind_of_member c name ≡ kind.Many q → entries_at name (normal_selection t contest d) ≡ map (normal_reference t q) (rising_list (reference_cmp t q) (entries_at name d))
   selection_references q is =
       entries_built (λ ds. map (normal_reference t q) (rising_list (reference_cmp t q) ds)) refl name d (normal_selection t contest d) (get_selection t contest c d tree among name other ∙ rw is refl)
-
--- ---- of a label
-
-pub label_entries : (d : Data) → is_object d ≡ true → entries_at (codes "Text") (with_rising_text d) ≡ rising_list compact_cmp (entries_at (codes "Text") d)
-label_entries d is = ap entries_in (get_label-text d is) ∙ listed_again (rising_list compact_cmp (entries_at (codes "Text") d))
 
 -- ---- of the report and the election
 
@@ -99,7 +86,7 @@ module _ (t : Data) (clean : NoneOf (ShapeFault t)) (tree : IsTree t) where
 
   elections_listed : (o : Option Data) → entries_in (option_and_then (λ v. Some (array_of (map (normal_election t) (entries_of v)))) o) ≡ map (normal_election t) (entries_in o)
   elections_listed None = refl
-  elections_listed (Some d) = listed_again (map (normal_election t) (entries_of d))
+  elections_listed (Some d) = list_of_items-items_of (map (normal_election t) (entries_of d))
 
   pub entries_of_elections : entries_at (codes "Election") (normal_tree t) ≡ map (normal_election t) (entries_at (codes "Election") t)
   entries_of_elections = ap entries_in (get_report t clean tree (codes "Election") refl) ∙ elections_listed (get (codes "Election") t)

@@ -69,27 +69,6 @@ envelope_values =
 pub get_with_envelope : (name : List ℕ) (ms : Members) → get_member name (with_envelope ms) ≡ put_value envelope_values name (get_member name ms)
 get_with_envelope name ms = get_put_each envelope_values name ms
 
-pub get_with_envelope-format : (ms : Members) → get_member (codes "Format") (with_envelope ms) ≡ Some (string (codes "summary-contest"))
-get_with_envelope-format ms = get_with_envelope (codes "Format") ms
-
-pub get_with_envelope-date : (ms : Members) → get_member (codes "GeneratedDate") (with_envelope ms) ≡ Some (string (codes "2000-01-01T00:00:00Z"))
-get_with_envelope-date ms = get_with_envelope (codes "GeneratedDate") ms
-
-pub get_with_envelope-issuer : (ms : Members) → get_member (codes "Issuer") (with_envelope ms) ≡ Some (string (codes "canonical"))
-get_with_envelope-issuer ms = get_with_envelope (codes "Issuer") ms
-
-pub get_with_envelope-abbreviation : (ms : Members) → get_member (codes "IssuerAbbreviation") (with_envelope ms) ≡ Some (string (codes "canonical"))
-get_with_envelope-abbreviation ms = get_with_envelope (codes "IssuerAbbreviation") ms
-
-pub get_with_envelope-application : (ms : Members) → get_member (codes "VendorApplicationId") (with_envelope ms) ≡ Some (string (codes "canonical"))
-get_with_envelope-application ms = get_with_envelope (codes "VendorApplicationId") ms
-
-pub get_with_envelope-start : (ms : Members) → get_member (codes "SequenceStart") (with_envelope ms) ≡ Some (number (unsigned 1))
-get_with_envelope-start ms = get_with_envelope (codes "SequenceStart") ms
-
-pub get_with_envelope-end : (ms : Members) → get_member (codes "SequenceEnd") (with_envelope ms) ≡ Some (number (unsigned 1))
-get_with_envelope-end ms = get_with_envelope (codes "SequenceEnd") ms
-
 pub get_with_envelope-other : (name : List ℕ) (ms : Members) → is_envelope_name name ≡ false → get_member name (with_envelope ms) ≡ get_member name ms
 get_with_envelope-other name ms other = get_with_envelope name ms ∙ put_value-other envelope_values name (get_member name ms) refl other
 

@@ -21,13 +21,13 @@ use Rattle.erd_normal.specs.code.NormalTree.{by_key, normal_tree, rank_of}
 use Rattle.erd_normal.specs.code.ObjectNumbers.{IsBounded}
 use Rattle.erd_normal.proofs.CanonicalIds.{canonical_id_exact, selection_id_apart}
 use Rattle.erd_normal.proofs.LeastKeys.{key_of_object}
-use Rattle.erd_normal.proofs.NormalKeys.{IsClassed, built_at, ids_by_rank, object_classed, rank_is, rising_classed}
+use Rattle.erd_normal.proofs.NormalKeys.{IsClassed, built_at, ids_by_rank, object_classed, rising_classed}
 use Rattle.erd_normal.proofs.NormalObjects.{values_of}
 use Rattle.erd_normal.proofs.NormalOwners.{as_many}
 use Rattle.erd_normal.proofs.NormalSelections.{has_canonical_ids}
-use Rattle.erd_normal.proofs.Positions.{position_low, position_of, same_in_some}
-use Rattle.erd_normal.proofs.RisingLists.{all_at}
 use Rattle.erd_normal.proofs.SelectionIds.{object_from, one_selection}
+use Rattle.erd_check.proofs.Positions.{same_in_some, position_of, position_low, all_at}
+use Rattle.erd_normal.proofs.RisingReports.{object_ranks}
 
 pub never_before_itself : (o : Placed) → IsBefore o o → ⊥
 never_before_itself o before = let h : Equal ≡ Less = sym (tied_itself place_cmp_total o.place) ∙ before in cc
@@ -53,7 +53,7 @@ module _ (t : Data) (accepted : IsAccepted t) (tree : IsTree t) where
     position_by_key i o at =
         let d = built_at t accepted tree f keyed i o at in
         let k : IsClassed f d.0 = all_at (IsClassed f) (rising_list by_key (values_of f t)) i d.0 (rising_classed t accepted tree f) d.1 in
-        ap (rank_of t f) (ap key_of (sym d.2) ∙ key_of_object t f k.0 d.0 k.2 k.1) ∙ rank_is t accepted tree f keyed i d.0 d.1
+        ap (rank_of t f) (ap key_of (sym d.2) ∙ key_of_object t f k.0 d.0 k.2 k.1) ∙ object_ranks t accepted f i d.0 keyed d.1
 
     pub one_keyed_built : (o p : Placed) → Has (objects f (normal_tree t)) o → Has (objects f (normal_tree t)) p → key_of o.value ≡ key_of p.value → o ≡ p
     one_keyed_built o p in_o in_p same =

@@ -1,6 +1,5 @@
 -- The members that are built from those of an object: under each name what is built of the value there.
 use Rattle.std.proofs.Common.{◌≡◌, ◌≤◌, ℕ, max, List, Ordering, Less, Equal, Greater, Option, Some, None, option_and_then, option_map, refl, sym, ap, ◌∙◌, arith}
-use Rattle.std.proofs.lemmas.Cmp.{nat_list_cmp_total}
 use Rattle.std.proofs.lemmas.Map.Lookups.{exact_bytes}
 use Rattle.std.specs.Option.{option_map_or}
 use Rattle.std.specs.Ordering.{match_ordering}
@@ -13,17 +12,10 @@ use Rattle.erd_tables.specs.declared.member.MemberKind.{MemberKind}
 use Rattle.erd_check.specs.Trees.{IsTree, AreMembers, IsBeforeFirst}
 use Rattle.erd_check.proofs.Members.{get_member-before, get_member-first}
 use Rattle.erd_normal.specs.code.NormalTree.{normal_members, normal_node_members, normal_node_value, normal_content}
+use Rattle.erd_check.proofs.Whole.{get_member-later}
+use Rattle.erd_check.proofs.Deciding.{before_later}
 
 -- ---- of any value by name
-
--- what stands among the later members stands among all
-pub stands_still : (k q : List ℕ) (d v : Data) (ms : Members) → AreMembers (member k d ms) → get_member q ms ≡ Some v → get_member q (member k d ms) ≡ Some v
-stands_still k q d v ms rise e = at (text_cmp q k) refl
-  where
-    at : (o : Ordering) → text_cmp q k ≡ o → get_member q (member k d ms) ≡ Some v
-    at Less is = rw is e
-    at Equal is = let h : None ≡ Some v = sym (get_member-before k ms rise.2 rise.0) ∙ ap (λ x. get_member x ms) (sym (exact_bytes q k is)) ∙ e in cc
-    at Greater is = rw is e
 
 -- the members for which there is a value
 abbrev pub each_member : (List ℕ → Data → Option Data) → Members → Members
@@ -50,13 +42,9 @@ get_each value name no_members rise = refl
 get_each value name (member l d ms) rise =
     get_each_at value name l d ms (each_member value ms) (text_cmp name l) (value l d) refl refl rise (get_each value name ms rise.2)
 
-before_rest : (k l : List ℕ) (ms : Members) → text_cmp k l ≡ Less → IsBeforeFirst l ms → IsBeforeFirst k ms
-before_rest k l no_members low below = tt
-before_rest k l (member m e ms) low below = nat_list_cmp_total.trans k l m low below
-
 before_each : (value : List ℕ → Data → Option Data) (k : List ℕ) (ms : Members) → AreMembers ms → IsBeforeFirst k ms → IsBeforeFirst k (each_member value ms)
 before_each value k no_members rise below = tt
-before_each value k (member l d ms) rise below = at (value l d) (before_each value k ms rise.2 (before_rest k l ms below rise.0))
+before_each value k (member l d ms) rise below = at (value l d) (before_each value k ms rise.2 (before_later k l ms below rise.0))
   where
     at : (r : Option Data) → IsBeforeFirst k (each_member value ms) → IsBeforeFirst k (option_map_or (λ v. member l v (each_member value ms)) r (each_member value ms))
     at None h = h
@@ -66,7 +54,7 @@ trees_of_each : (value : List ℕ → Data → Option Data) (ms : Members) → A
     → ((name : List ℕ) (d v : Data) → get_member name ms ≡ Some d → IsTree d → value name d ≡ Some v → IsTree v) → AreMembers (each_member value ms)
 trees_of_each value no_members rise each = tt
 trees_of_each value (member l d ms) rise each =
-    at (value l d) refl (trees_of_each value ms rise.2 (λ name e v found. each name e v (stands_still l name d e ms rise found)))
+    at (value l d) refl (trees_of_each value ms rise.2 (λ name e v found. each name e v (get_member-later l name d e ms rise found)))
   where
     at : (r : Option Data) → value l d ≡ r → AreMembers (each_member value ms) → AreMembers (option_map_or (λ v. member l v (each_member value ms)) r (each_member value ms))
     at None given h = h
@@ -76,7 +64,7 @@ depth_of_each : (value : List ℕ → Data → Option Data) (ms : Members) → A
     → ((name : List ℕ) (d v : Data) → get_member name ms ≡ Some d → value name d ≡ Some v → depth v ≤ depth d) → members_depth (each_member value ms) ≤ members_depth ms
 depth_of_each value no_members rise each = omega arith
 depth_of_each value (member l d ms) rise each =
-    at (value l d) refl (depth_of_each value ms rise.2 (λ name e v found. each name e v (stands_still l name d e ms rise found)))
+    at (value l d) refl (depth_of_each value ms rise.2 (λ name e v found. each name e v (get_member-later l name d e ms rise found)))
   where
     at : (r : Option Data) → value l d ≡ r → members_depth (each_member value ms) ≤ members_depth ms
         → members_depth (option_map_or (λ v. member l v (each_member value ms)) r (each_member value ms)) ≤ max (depth d) (members_depth ms)
@@ -123,11 +111,3 @@ module _ (t : Data) (c : Option Class) where
 
   pub normal_node_members-before : (k : List ℕ) (ms : Members) → AreMembers ms → IsBeforeFirst k ms → IsBeforeFirst k (normal_node_members t c ms)
   normal_node_members-before k ms rise below = rw (normal_node_members_each ms) (before_each node_value k ms rise below)
-
-  pub normal_node_members-trees : (ms : Members) → AreMembers ms
-      → ((name : List ℕ) (d v : Data) → get_member name ms ≡ Some d → IsTree d → node_value name d ≡ Some v → IsTree v) → AreMembers (normal_node_members t c ms)
-  normal_node_members-trees ms rise each = rw (normal_node_members_each ms) (trees_of_each node_value ms rise each)
-
-  pub normal_node_members-depth : (ms : Members) → AreMembers ms
-      → ((name : List ℕ) (d v : Data) → get_member name ms ≡ Some d → node_value name d ≡ Some v → depth v ≤ depth d) → members_depth (normal_node_members t c ms) ≤ members_depth ms
-  normal_node_members-depth ms rise each = rw (normal_node_members_each ms) (depth_of_each node_value ms rise each)

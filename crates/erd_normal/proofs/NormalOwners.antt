@@ -1,14 +1,14 @@
 -- A reference that is built names what is built of the object that the reference names, in a report whose objects a word counts.
-use Rattle.std.proofs.Common.{◌≡◌, ◌<◌, ◌+◌, ◌^◌, ℕ, zero, suc, List, [], ◌∷◌, ◌++◌, map, length, Bool, true, false, if◌then◌else◌, is_lt, Ordering, Some, option_map, option_and_then, unwrap_or, decimal, slice_get, refl, sym, ap, ◌∙◌, subst, arith, ⊎_elim}
+use Rattle.std.proofs.Common.{◌≡◌, ◌<◌, ◌+◌, ◌^◌, ℕ, List, [], ◌++◌, length, true, Some, option_map, option_and_then, unwrap_or, decimal, slice_get, sym, ap, ◌∙◌, subst, arith}
 use Rattle.std.proofs.lemmas.Option.{slice_get-map}
 use Rattle.serde_json.specs.Data.{Data}
 use Rattle.erd_tables.specs.declared.class.Family.{Family}
 use Rattle.erd_check.specs.Trees.{IsTree}
-use Rattle.erd_check.proofs.Rising.{Has, Has-cases, here, later}
+use Rattle.erd_check.proofs.Rising.{Has}
 use Rattle.erd_meaning.specs.Accepted.{IsAccepted}
 use Rattle.erd_meaning.specs.Keys.{has_keys, key_of}
 use Rattle.erd_meaning.specs.Objects.{Placed, has_id, id_of, objects, owner}
-use Rattle.erd_meaning.specs.SelectionNames.{key_named, rising_list, with_inserted}
+use Rattle.erd_meaning.specs.SelectionNames.{key_named, rising_list}
 use Rattle.erd_meaning.proofs.accepted.Phases.{no_shape_fault}
 use Rattle.erd_meaning.proofs.accepted.References.{find-any, option_map-Some}
 use Rattle.erd_meaning.proofs.orders.Sets.{any-has}
@@ -17,50 +17,19 @@ use Rattle.erd_normal.specs.Canonical.{canonical_id, id_prefix}
 use Rattle.erd_normal.specs.code.NormalTree.{by_key, id_of_key, normal_id, normal_object, normal_tree}
 use Rattle.erd_normal.proofs.CanonicalIds.{canonical_id_exact}
 use Rattle.erd_normal.proofs.LeastKeys.{key_of_object}
-use Rattle.erd_normal.proofs.NormalKeys.{IsClassed, ids_by_rank, rank_is, values_classed}
+use Rattle.erd_normal.proofs.NormalKeys.{IsClassed, ids_by_rank, values_classed}
 use Rattle.erd_normal.proofs.NormalObjects.{objects_built, values_of}
-use Rattle.erd_normal.proofs.NormalSelections.{has_at}
-use Rattle.erd_normal.proofs.RisingLists.{rising_has}
 use Rattle.erd_check.proofs.Rising.{all-Has}
-
--- ---- lists
-
-position_of : {A : Type 0} (xs : List A) (x : A) → Has xs x → (i : ℕ) × (slice_get xs i ≡ Some x)
-position_of [] x h = elim h [ ]
-position_of (y ∷ ys) x h = ⊎_elim (λ same. (zero, ap Some same)) (λ k. let r = position_of ys x k in (suc r.0, r.1)) (Has-cases y x ys h)
-
-position_low : {A : Type 0} (xs : List A) (i : ℕ) (x : A) → slice_get xs i ≡ Some x → i < length xs
-position_low [] i x is = absurd (cc is)
-position_low (y ∷ ys) zero x is = omega arith
-position_low (y ∷ ys) (suc i) x is = let low : i < length ys = position_low ys i x is in omega arith
-
-has_mapped : {A B : Type 0} (f : A → B) (xs : List A) (x : A) → Has xs x → Has (map f xs) (f x)
-has_mapped f xs x (here {xs = ys}) = here
-has_mapped f xs x (later {y = y} {xs = ys} h) = later (has_mapped f ys x h)
-
-as_long : {A B : Type 0} (f : A → B) (xs : List A) → length (map f xs) ≡ length xs
-as_long f [] = refl
-as_long f (x ∷ xs) = ap suc (as_long f xs)
-
-length_inserted : {A : Type 0} (cmp : A → A → Ordering) (x : A) (ys : List A) → length (with_inserted cmp x ys) ≡ suc (length ys)
-length_inserted cmp x [] = refl
-length_inserted {A} cmp x (y ∷ ys) = at (is_lt (cmp y x)) (length_inserted cmp x ys)
-  where
-    at : (b : Bool) → length (with_inserted cmp x ys) ≡ suc (length ys) → length (if b then y ∷ with_inserted cmp x ys else x ∷ (y ∷ ys)) ≡ suc (suc (length ys))
-    at true h = ap suc h
-    at false h = refl
-
-pub length_rising : {A : Type 0} (cmp : A → A → Ordering) (xs : List A) → length (rising_list cmp xs) ≡ length xs
-length_rising cmp [] = refl
-length_rising cmp (x ∷ xs) = length_inserted cmp x (rising_list cmp xs) ∙ ap suc (length_rising cmp xs)
-
--- ---- owners
+use Rattle.erd_check.proofs.Positions.{has_mapped, has_at, position_of, position_low}
+use Rattle.erd_normal.proofs.RisingSets.{rising_has, length-rising}
+use Rattle.erd_normal.proofs.RisingReports.{object_ranks}
+use Rattle.std.proofs.lemmas.List.{length-map}
 
 module _ (t : Data) (accepted : IsAccepted t) (tree : IsTree t) (f : Family) (keyed : has_keys f ≡ true) (few : length (objects f t) < 2 ^ 64) where
   pub as_many : length (objects f (normal_tree t)) ≡ length (objects f t)
   as_many =
-      sym (as_long (λ o. o.value) (objects f (normal_tree t))) ∙ ap length (objects_built t (no_shape_fault t accepted) tree f keyed)
-      ∙ as_long (normal_object t f) (rising_list by_key (values_of f t)) ∙ length_rising by_key (values_of f t) ∙ as_long (λ o. o.value) (objects f t)
+      sym (length-map (objects f (normal_tree t)) (λ o. o.value)) ∙ ap length (objects_built t (no_shape_fault t accepted) tree f keyed)
+      ∙ length-map (rising_list by_key (values_of f t)) (normal_object t f) ∙ length-rising by_key (values_of f t) ∙ length-map (objects f t) (λ o. o.value)
 
   low : (i : ℕ) (o : Placed) → slice_get (objects f (normal_tree t)) i ≡ Some o → i + 1 < 2 ^ 64
   low i o at =
@@ -86,7 +55,7 @@ module _ (t : Data) (accepted : IsAccepted t) (tree : IsTree t) (f : Family) (ke
       let i = position_of (rising_list by_key (values_of f t)) d (rising_has by_key (values_of f t) d stands_in) in
       let text : canonical_id f i.0 ≡ Some (letters ++ decimal (i.0 + 1)) = ap (option_map (λ x. x ++ decimal (i.0 + 1))) prefix in
       let named : id_of_key t f (key_named t f id) ≡ Some (letters ++ decimal (i.0 + 1)) =
-      ap (λ x. id_of_key t f (option_and_then key_of x)) owned ∙ ap (canonical_id f) (rank_is t accepted tree f keyed i.0 d i.1) ∙ text in
+      ap (λ x. id_of_key t f (option_and_then key_of x)) owned ∙ ap (canonical_id f) (object_ranks t accepted f i.0 d keyed i.1) ∙ text in
       let at_built : slice_get (values_of f (normal_tree t)) i.0 ≡ Some (normal_object t f d) =
       ap (λ xs. slice_get xs i.0) (objects_built t (no_shape_fault t accepted) tree f keyed)
       ∙ slice_get-map (normal_object t f) (rising_list by_key (values_of f t)) i.0 ∙ ap (option_map (normal_object t f)) i.1 in

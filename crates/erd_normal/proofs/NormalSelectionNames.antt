@@ -1,29 +1,26 @@
 -- The selections of a contest that is built rise by name, so that the report that is built has no fault of selections.
-use Rattle.std.proofs.Common.{◌≡◌, ℕ, List, [], ◌∷◌, map, Some, option_map, slice_get, refl, sym, ap, ap₂, ◌∙◌, subst}
+use Rattle.std.proofs.Common.{◌≡◌, ℕ, List, Some, option_map, slice_get, refl, sym, ap, ◌∙◌, subst}
 use Rattle.std.proofs.lemmas.Option.{slice_get-map}
-use Rattle.std.specs.List.Sorted.{IsStrictlySortedBy}
-use Rattle.std.specs.Option.{option_cmp}
 use Rattle.serde_json.specs.Data.{Data}
 use Rattle.erd_tables.specs.declared.class.Family.TheVariants as family
 use Rattle.erd_tables.specs.declared.fault.Reason.TheVariants as reason
 use Rattle.erd_tables.specs.declared.place.Step.{Step}
 use Rattle.erd_check.specs.Faults.{NoneOf}
 use Rattle.erd_check.specs.Trees.{IsTree}
-use Rattle.erd_check.proofs.Rising.{Has, here, later}
+use Rattle.erd_check.proofs.Rising.{Has}
 use Rattle.erd_meaning.specs.Accepted.{IsAccepted}
 use Rattle.erd_meaning.specs.LaterFaults.{IsBefore, RepeatsName, SelectionFault}
 use Rattle.erd_meaning.specs.Objects.{Placed, objects, selections_of_contest}
-use Rattle.erd_meaning.specs.SelectionNames.{name_cmp, name_of, rising_list}
+use Rattle.erd_meaning.specs.SelectionNames.{name_of, rising_list}
 use Rattle.erd_meaning.proofs.accepted.References.{Has-Contains, option_map-Some}
 use Rattle.erd_normal.specs.code.NormalTree.{by_name, normal_object, normal_selection, normal_tree, rank_of_name}
 use Rattle.erd_normal.specs.code.ObjectNumbers.{IsBounded}
 use Rattle.erd_normal.proofs.NormalIdentity.{never_before_itself}
 use Rattle.erd_normal.proofs.NormalNames.{name_built}
-use Rattle.erd_normal.proofs.NormalSelections.{has_at}
-use Rattle.erd_normal.proofs.Positions.{map_has, position_of, same_in_some}
-use Rattle.erd_normal.proofs.RisingLists.{has_rising}
-use Rattle.erd_normal.proofs.RisingReports.{selection_ranks, selections_rise}
+use Rattle.erd_normal.proofs.RisingReports.{selection_ranks}
 use Rattle.erd_normal.proofs.SelectionIds.{listed, object_from, selection_values, selections_there}
+use Rattle.erd_check.proofs.Positions.{same_in_some, map_has, has_at, position_of}
+use Rattle.erd_normal.proofs.RisingSets.{has_rising}
 
 module _ (t : Data) (accepted : IsAccepted t) (tree : IsTree t) (bounded : IsBounded t) where
   module _ (contest p : Placed) (of_report : Has (objects family.Contest t) contest) (is : normal_object t family.Contest contest.value ≡ p.value) where
@@ -36,17 +33,6 @@ module _ (t : Data) (accepted : IsAccepted t) (tree : IsTree t) (bounded : IsBou
         let there : Has (selection_values contest) d = has_rising (by_name t) (selection_values contest) d h in
         let o = map_has (λ (x : Placed). x.value) (selections_of_contest contest) d (subst (λ xs. Has xs d) (sym (listed contest)) there) in
         subst (λ x. name_of (normal_tree t) (normal_selection t contest.value x) ≡ name_of t x) o.2 (name_built t accepted tree bounded contest o.0 of_report o.1)
-
-    names_kept : (ds : List Data) → ((d : Data) → Has ds d → Has in_order d) → map (name_of (normal_tree t)) (map (normal_selection t contest.value) ds) ≡ map (name_of t) ds
-    names_kept [] within = refl
-    names_kept (d ∷ ds) within = ap₂ (λ x xs. x ∷ xs) (name_kept d (within d here)) (names_kept ds (λ e h. within e (later h)))
-
-    -- the names of the selections rise
-    pub names_rise_built : IsStrictlySortedBy (option_cmp name_cmp) (map (name_of (normal_tree t)) (selection_values p))
-    names_rise_built =
-        let same : map (name_of (normal_tree t)) (selection_values p) ≡ map (name_of t) in_order =
-        ap (map (name_of (normal_tree t))) (selections_there t accepted tree contest p of_report is) ∙ names_kept in_order (λ d h. h) in
-        subst (IsStrictlySortedBy (option_cmp name_cmp)) (sym same) (selections_rise t accepted contest of_report)
 
     -- the rank of a selection by its name is its position
     position_by_name : (j : ℕ) (q : Placed) → slice_get (selections_of_contest p) j ≡ Some q → rank_of_name t (selection_values contest) (name_of (normal_tree t) q.value) ≡ j

@@ -1,10 +1,10 @@
 -- In two canonical reports that mean the same, objects with equal records and equal `@id` texts are equal.
-use Rattle.std.proofs.Common.{◌≡◌, ℕ, zero, suc, List, [], Some, true, slice_get, refl, sym, ap, ◌∙◌, subst}
+use Rattle.std.proofs.Common.{◌≡◌, [], true, refl, sym, ap, ◌∙◌, subst}
 use Rattle.serde_json.specs.Data.{Data}
 use Rattle.erd_tables.specs.declared.class.Family.{Family}
 use Rattle.erd_tables.specs.declared.class.Family.TheVariants as family
 use Rattle.erd_tables.specs.declared.class.Role.TheVariants as role
-use Rattle.erd_check.proofs.Rising.{Has, here, later}
+use Rattle.erd_check.proofs.Rising.{Has}
 use Rattle.erd_meaning.specs.Keys.{has_keys}
 use Rattle.erd_meaning.specs.Objects.{Placed, IsObject, id_of, objects}
 use Rattle.erd_meaning.specs.Records.{object_record}
@@ -13,16 +13,12 @@ use Rattle.erd_meaning.proofs.accepted.Standing.{one_object}
 use Rattle.erd_normal.specs.Canonical.{IsCanonical}
 use Rattle.erd_normal.specs.Laws.{MeanAlike, ObjectsAgree}
 use Rattle.erd_normal.proofs.Unique.{leaves, object_unique, selection_same, unique, within_t, within_u}
-
--- where an entry of a list stands
-index_of : {A : Type 0} (xs : List A) (x : A) → Has xs x → (i : ℕ) × (slice_get xs i ≡ Some x)
-index_of xs x (here {xs = ys}) = (zero, refl)
-index_of xs x (later {y = y} {xs = ys} h) = let r = index_of ys x h in (suc r.0, r.1)
+use Rattle.erd_check.proofs.Positions.{position_of}
 
 -- contests are told apart by their `@id` texts
 one_contest : (t : Data) → IsCanonical t → (one other : Placed) → Has (objects family.Contest t) one → Has (objects family.Contest t) other → id_of one.value ≡ id_of other.value → one.value ≡ other.value
 one_contest t canonical one other h k ids =
-    let i = index_of (objects family.Contest t) one h in
+    let i = position_of (objects family.Contest t) one h in
     let its_id = canonical.ids.families family.Contest i.0 one refl i.1 in
     ap (λ o. o.value) (one_object t canonical.accepted family.Contest family.Contest one other _ h k its_id (sym ids ∙ its_id))
 

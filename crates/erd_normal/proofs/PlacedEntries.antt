@@ -75,8 +75,3 @@ pub whole_in_order : {X : Type 0} (g : X → Data) (cmp : Data → Data → Orde
 whole_in_order g cmp xs vs is h =
     unmapped (λ d. has_float d ≡ false) g xs
     (subst (AllByRecursion (λ d. has_float d ≡ false)) (sym is) (all_rising (λ d. has_float d ≡ false) cmp (map view vs) (all_whole (map view vs) h)))
-
-pub holds_here : {X : Type 0} (P : X → Type 0) (xs : List X) (i : ℕ) (x : X) → AllByRecursion P xs → i < length xs → x ≡ get_or xs i x → P x
-holds_here P [] i x all low e = absurd (omega arith)
-holds_here P (y ∷ xs) zero x all low e = subst P (sym e) all.0
-holds_here P (y ∷ xs) (suc i) x all low e = holds_here P xs i x all.1 (omega arith) e

@@ -29,13 +29,12 @@ use Rattle.erd_meaning.specs.Objects.{Placed, objects}
 use Rattle.erd_meaning.specs.SelectionNames.{rising_list, selection_role}
 use Rattle.erd_normal.proofs.BuiltFrom.{Builder}
 use Rattle.erd_normal.proofs.FamilyNames.{contest_of_selections, election_objects_are, elections_name, family_name, keyed_name, report_objects}
-use Rattle.erd_normal.proofs.NormalMembers.{stands_still}
-use Rattle.erd_normal.proofs.NormalSelections.{has_at}
-use Rattle.erd_normal.proofs.Positions.{map_has}
-use Rattle.erd_normal.proofs.RisingLists.{has_rising}
 use Rattle.erd_normal.proofs.RisingReports.{object_ids, selection_ids}
 use Rattle.erd_normal.specs.code.NormalTree.{array_of, by_key, by_name, in_envelope, normal_election, normal_election_value, normal_members, normal_object, normal_object_value, normal_object_with, normal_report_value, normal_selection, normal_tree, normal_value, unless_no_entry, with_id}
 use Rattle.erd_normal.specs.code.PlacedTree.{map_from, placed_election, placed_election_value, placed_object, placed_object_value, placed_objects, placed_report_value, placed_selection}
+use Rattle.erd_check.proofs.Positions.{map_has, has_at}
+use Rattle.erd_normal.proofs.RisingSets.{has_rising}
+use Rattle.erd_check.proofs.Whole.{get_member-later}
 
 -- the report, with objects and selections numbered by their places
 abbrev pub placed_tree : Data → Data
@@ -55,7 +54,7 @@ members_agree : (f g : Builder) (c : Class) (ms : Members) → AreMembers ms →
 members_agree f g c no_members rise each = refl
 members_agree f g c (member k d ms) rise each =
     ap₂ (λ r rest. option_map_or (λ v. member k v rest) r rest) (each k d (get_member-first k d ms))
-    (members_agree f g c ms rise.2 (λ name e found. each name e (stands_still k name d e ms rise found)))
+    (members_agree f g c ms rise.2 (λ name e found. each name e (get_member-later k name d e ms rise found)))
 
 module _ (t : Data) (accepted : IsAccepted t) (tree : IsTree t) where
   -- ---- the selections of a contest

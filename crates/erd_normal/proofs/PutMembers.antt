@@ -1,5 +1,5 @@
 -- The members of an object with a value put at a name: what stands at the other names, and how deep they nest.
-use Rattle.std.proofs.Common.{◌≡◌, ◌≤◌, ℕ, max, List, Ordering, Less, Equal, Greater, true, false, true≢false, sym, ◌∙◌, subst, arith}
+use Rattle.std.proofs.Common.{◌≡◌, ◌≤◌, ℕ, List, Ordering, Less, Equal, Greater, true, false, true≢false, sym, ◌∙◌, subst, arith}
 use Rattle.std.specs.Ordering.{match_ordering}
 use Rattle.std.specs.Str.{bytes_eq}
 use Rattle.serde_json.specs.Data.{Data, Members, no_members, member, put, depth, members_depth}
@@ -28,6 +28,3 @@ put-depth k v (member l d ms) n new low =
     let rest : members_depth ms ≤ n = omega arith in
     let later : members_depth (put k v ms) ≤ n = put-depth k v ms n new rest in
     deepest (text_cmp k l) (member k v (member l d ms)) (member l v ms) (member l d (put k v ms)) n (omega arith) (omega arith) (omega arith)
-
-pub put-depth_most : (k : List ℕ) (v : Data) (ms : Members) → members_depth (put k v ms) ≤ max (depth v) (members_depth ms)
-put-depth_most k v ms = put-depth k v ms (max (depth v) (members_depth ms)) (omega arith) (omega arith)

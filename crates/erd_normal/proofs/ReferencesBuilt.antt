@@ -38,9 +38,8 @@ use Rattle.erd_meaning.proofs.orders.Sets.{any-has}
 use Rattle.erd_normal.specs.Canonical.{keys_referred}
 use Rattle.erd_normal.specs.code.NormalTree.{normal_id, normal_reference, normal_selection_reference, normal_tree, reference_cmp}
 use Rattle.erd_normal.specs.code.ObjectNumbers.{IsBounded}
-use Rattle.erd_normal.proofs.BuiltLists.{all_map, all_rising}
-use Rattle.erd_normal.proofs.CleanSets.{AreUnlike, unlike_unrepeated}
-use Rattle.erd_normal.proofs.CleanValues.{entry_holds}
+use Rattle.erd_normal.proofs.BuiltLists.{all_map, all_rising, entry_holds}
+use Rattle.erd_normal.proofs.UnrepeatedEntries.{AreUnlike, unlike_unrepeated}
 use Rattle.erd_normal.proofs.NormalNames.{Refers, reference_refers, references_refer}
 use Rattle.erd_normal.proofs.NormalOwners.{owner_built}
 use Rattle.erd_normal.proofs.SelectionIds.{owner_of_reference}
@@ -175,7 +174,7 @@ module _ (t : Data) (accepted : IsAccepted t) (tree : IsTree t) (bounded : IsBou
   members : HoldsOfMembers t (IsSoundIn u)
   members = record {
     kept = λ a w apart. kept_sound u a apart;
-    class_text = λ r text. no_reference u _ _ refl;
+    class_text = λ r c text named. no_reference u _ _ refl;
     label = λ required d w. no_reference u _ _ refl;
     one = one_sound;
     many = λ f named required d w full. no_reference u _ _ refl;

@@ -1,5 +1,5 @@
 -- A list in the order of an exact comparison is the same, in whichever order its entries came.
-use Rattle.std.proofs.Common.{◌≡◌, List, [], ◌∷◌, map, filter_map, Bool, true, false, cond, Option, Some, None, option_and_then, Ordering, Less, Equal, Greater, is_lt, refl, sym, ap, ◌∙◌}
+use Rattle.std.proofs.Common.{◌≡◌, List, [], ◌∷◌, filter_map, Bool, true, false, cond, Option, Some, None, option_and_then, Ordering, Less, Equal, Greater, is_lt, refl, sym, ap, ◌∙◌}
 use Rattle.std.specs.Cmp.{IsTotalOrder}
 use Rattle.std.specs.List.{cons_option}
 use Rattle.std.proofs.lemmas.Map.Lookups.{CmpEqualImpliesEq}
@@ -9,7 +9,7 @@ use Rattle.erd_tables.specs.declared.class.Family.{Family}
 use Rattle.erd_meaning.specs.Keys.{key_cmp}
 use Rattle.erd_meaning.specs.code.Orders.{key_cmp_exact, key_cmp_total}
 use Rattle.erd_meaning.specs.SelectionNames.{key_named, keys_named, rising_list, with_inserted}
-use Rattle.erd_normal.proofs.RisingOrders.{greater_turned, less_turned}
+use Rattle.erd_normal.proofs.RisingOrders.{is_less, greater_turned, less_turned}
 use Rattle.erd_normal.proofs.RisingSets.{whole-rising}
 
 -- ---- two values go in, one after the other
@@ -21,11 +21,6 @@ module _ {A : Type 0} {cmp : A → A → Ordering} (order : IsTotalOrder cmp) wh
   goes_before : (x z : A) (zs : List A) → is_lt (cmp z x) ≡ false → with_inserted cmp x (z ∷ zs) ≡ x ∷ (z ∷ zs)
   goes_before x z zs e = ap (λ b. cond b (z ∷ with_inserted cmp x zs) (x ∷ (z ∷ zs))) e
 
-  less_is : (o : Ordering) → is_lt o ≡ true → o ≡ Less
-  less_is Less e = refl
-  less_is Equal e = cc
-  less_is Greater e = cc
-
   lesser_at : (x y z : A) (zs : List A) (p q : Bool) → cmp x y ≡ Less → is_lt (cmp z x) ≡ p → is_lt (cmp z y) ≡ q
       → with_inserted cmp x (with_inserted cmp y zs) ≡ with_inserted cmp y (with_inserted cmp x zs)
       → with_inserted cmp x (with_inserted cmp y (z ∷ zs)) ≡ with_inserted cmp y (with_inserted cmp x (z ∷ zs))
@@ -33,7 +28,7 @@ module _ {A : Type 0} {cmp : A → A → Ordering} (order : IsTotalOrder cmp) wh
       ap (with_inserted cmp x) (goes_after y z zs q) ∙ goes_after x z (with_inserted cmp y zs) p ∙ ap (λ ws. z ∷ ws) more
       ∙ sym (ap (with_inserted cmp y) (goes_after x z zs p) ∙ goes_after y z (with_inserted cmp x zs) q)
   lesser_at x y z zs true false e p q more =
-      let h : true ≡ false = sym (ap is_lt (order.trans z x y (less_is (cmp z x) p) e)) ∙ q in cc
+      let h : true ≡ false = sym (ap is_lt (order.trans z x y (is_less (cmp z x) p) e)) ∙ q in cc
   lesser_at x y z zs false true e p q more =
       ap (with_inserted cmp x) (goes_after y z zs q) ∙ goes_before x z (with_inserted cmp y zs) p
       ∙ sym (ap (with_inserted cmp y) (goes_before x z zs p) ∙ goes_after y x (z ∷ zs) (ap is_lt e) ∙ ap (λ ws. x ∷ ws) (goes_after y z zs q))
@@ -55,12 +50,6 @@ module _ {A : Type 0} {cmp : A → A → Ordering} (order : IsTotalOrder cmp) wh
     inserted_exchange x y zs = exchanged_at x y zs (cmp x y) refl
 
     -- ---- lists
-
-    pub rising_again : (other : A → A → Ordering) (xs : List A) → rising_list cmp (rising_list other xs) ≡ rising_list cmp xs
-    rising_again other = whole-rising (rising_list cmp) (with_inserted cmp) (λ x xs. refl) inserted_exchange other
-
-    pub rising_map_again : {B : Type 0} (f : B → A) (other : B → B → Ordering) (xs : List B) → rising_list cmp (map f (rising_list other xs)) ≡ rising_list cmp (map f xs)
-    rising_map_again f other = whole-rising (λ xs. rising_list cmp (map f xs)) (λ x. with_inserted cmp (f x)) (λ x xs. refl) (λ x y. inserted_exchange (f x) (f y)) other
 
     abbrev with_kept : Option A → List A → List A
     with_kept None zs = zs

@@ -7,19 +7,18 @@ use Rattle.std.specs.List.Sorted.{IsStrictlySortedBy}
 use Rattle.std.specs.Ordering.{eq_by_cmp, ordering_reverse}
 use Rattle.std.proofs.lemmas.Cmp.{tied_back, upto}
 use Rattle.erd_check.proofs.Order.{In, In-all, all_from_In}
-use Rattle.erd_check.proofs.Rising.{rising_unique}
 use Rattle.erd_meaning.specs.SelectionNames.{rising_list, with_inserted}
-use Rattle.erd_normal.proofs.RisingSets.{In-from_has, In-inserted, In-rising, has_from_In, rising-In}
+use Rattle.erd_normal.proofs.RisingSets.{In-inserted, In-rising}
 
 -- ---- answers of a comparison
 
+pub is_less : (o : Ordering) → is_lt o ≡ true → o ≡ Less
+is_less Less e = refl
+is_less Equal e = cc
+is_less Greater e = cc
+
 level : (o : Ordering) → is_eq o ≡ false → o ≡ Equal → ⊥
 level o e is = let h : true ≡ false = ap is_eq (sym is) ∙ e in cc
-
-unequal : (o : Ordering) → (o ≡ Equal → ⊥) → is_eq o ≡ false
-unequal Less h = refl
-unequal Equal h = absurd (h refl)
-unequal Greater h = refl
 
 -- no entry is above a later one
 abbrev pub NeverFalls : {A : Type 0} → (A → A → Ordering) → List A → Type 0
@@ -32,9 +31,6 @@ module _ {A : Type 0} {cmp : A → A → Ordering} (order : IsTotalOrder cmp) wh
 
   pub less_turned : (x y : A) → cmp x y ≡ Less → cmp y x ≡ Greater
   less_turned x y e = order.antisymm y x ∙ ap ordering_reverse e
-
-  pub unequal_turned : (x y : A) → eq_by_cmp cmp x y ≡ false → eq_by_cmp cmp y x ≡ false
-  unequal_turned x y e = unequal (cmp y x) (λ is. level (cmp x y) e (tied_back order y x is))
 
   -- ---- lists that rise strictly
 
@@ -88,33 +84,3 @@ module _ {A : Type 0} {cmp : A → A → Ordering} (order : IsTotalOrder cmp) wh
   pub rising_never_falls : (xs : List A) → NeverFalls cmp (rising_list cmp xs)
   rising_never_falls [] = tt
   rising_never_falls (x ∷ xs) = inserted_no_fall x (rising_list cmp xs) (rising_never_falls xs)
-
-  -- ---- a list that rises already
-
-  strictly_itself_at : (x y : A) (ys : List A) (o : Ordering) → cmp y x ≡ o → cmp x y ≡ Less → cond (is_lt o) (y ∷ with_inserted cmp x ys) (x ∷ (y ∷ ys)) ≡ x ∷ (y ∷ ys)
-  strictly_itself_at x y ys Less is e = let h : Greater ≡ Less = sym (less_turned x y e) ∙ is in cc
-  strictly_itself_at x y ys Equal is e = refl
-  strictly_itself_at x y ys Greater is e = refl
-
-  first_inserted : (x : A) (ys : List A) → AllByRecursion (λ z. cmp x z ≡ Less) ys → with_inserted cmp x ys ≡ x ∷ ys
-  first_inserted x [] h = refl
-  first_inserted x (y ∷ ys) h = strictly_itself_at x y ys (cmp y x) refl h.0
-
-  pub strictly_itself : (xs : List A) → IsStrictlySortedBy cmp xs → rising_list cmp xs ≡ xs
-  unfolding IsStrictlySortedBy
-  strictly_itself [] h = refl
-  strictly_itself (x ∷ xs) h = ap (with_inserted cmp x) (strictly_itself xs h.1) ∙ first_inserted x xs h.0
-
-  -- in order twice is in order once
-  pub rising_twice : (xs : List A) → IsDistinct (eq_by_cmp cmp) xs → rising_list cmp (rising_list cmp xs) ≡ rising_list cmp xs
-  rising_twice xs h = strictly_itself (rising_list cmp xs) (rising_strictly xs h)
-
-  -- lists that rise strictly and have the same entries are one
-  pub strictly_unique : (xs ys : List A) → IsStrictlySortedBy cmp xs → IsStrictlySortedBy cmp ys → ((x : A) → In x xs → In x ys) → ((x : A) → In x ys → In x xs) → xs ≡ ys
-  strictly_unique xs ys rise rise' to from =
-      rising_unique cmp order xs ys rise rise' (λ x h. has_from_In x ys (to x (In-from_has x xs h))) (λ y h. has_from_In y xs (from y (In-from_has y ys h)))
-
-  -- a list that rises strictly and has the entries of another is that one in order
-  pub strictly_is_rising : (xs ys : List A) → IsDistinct (eq_by_cmp cmp) xs → IsStrictlySortedBy cmp ys → ((x : A) → In x xs → In x ys) → ((x : A) → In x ys → In x xs) → rising_list cmp xs ≡ ys
-  strictly_is_rising xs ys apart rise to from =
-      strictly_unique (rising_list cmp xs) ys (rising_strictly xs apart) rise (λ x i. to x (In-rising cmp x xs i)) (λ x i. rising-In cmp x xs (from x i))

@@ -1,7 +1,7 @@
 -- A list in rising order has the same entries, each as often, and is ordered before or after a map alike.
 use Rattle.std.proofs.Common.{◌≡◌, ℕ, suc, ◌⊎◌, inl, inr, List, [], ◌∷◌, map, filter, filter_map, length, Bool, true, false, ◌||◌, cond, Option, Some, None, Ordering, is_lt, refl, sym, ap, ◌∙◌, subst}
-use Rattle.std.specs.List.{AllByRecursion, Contains, cons_option, list_any}
-use Rattle.erd_check.proofs.Order.{In, In-all, In-from_contains, all_from_In, contains_from_In}
+use Rattle.std.specs.List.{cons_option, list_any}
+use Rattle.erd_check.proofs.Order.{In}
 use Rattle.erd_check.proofs.Rising.{Has, Has-cases, here, later}
 use Rattle.erd_meaning.specs.SelectionNames.{rising_list, with_inserted}
 
@@ -31,10 +31,6 @@ or_exchanges false false c = refl
 -- whether an entry passes a test
 pub any-rising : {A : Type 0} (cmp : A → A → Ordering) (test : A → Bool) (xs : List A) → list_any test (rising_list cmp xs) ≡ list_any test xs
 any-rising cmp test = whole-rising (list_any test) (λ x b. test x || b) (λ x xs. refl) (λ x y b. or_exchanges (test x) (test y) b) cmp
-
--- the same of the entries' values
-pub any_map-rising : {A B : Type 0} (cmp : A → A → Ordering) (f : A → B) (test : B → Bool) (xs : List A) → list_any test (map f (rising_list cmp xs)) ≡ list_any test (map f xs)
-any_map-rising cmp f test = whole-rising (λ xs. list_any test (map f xs)) (λ x b. test (f x) || b) (λ x xs. refl) (λ x y b. or_exchanges (test (f x)) (test (f y)) b) cmp
 
 -- and of the values that there are
 abbrev any_kept : {B : Type 0} (test : B → Bool) → Option B → Bool → Bool
@@ -129,40 +125,9 @@ has_from_In z [] h = absurd h
 has_from_In z (x ∷ xs) (inl e) = subst (Has (x ∷ xs)) e here
 has_from_In z (x ∷ xs) (inr i) = later (has_from_In z xs i)
 
-pub has-rising : {A : Type 0} (cmp : A → A → Ordering) (z : A) (xs : List A) → Has (rising_list cmp xs) z → Has xs z
-has-rising cmp z xs h = has_from_In z xs (In-rising cmp z xs (In-from_has z (rising_list cmp xs) h))
+-- the same of the entries that a list has
+pub has_rising : {A : Type 0} (cmp : A → A → Ordering) (xs : List A) (x : A) → Has (rising_list cmp xs) x → Has xs x
+has_rising cmp xs x h = has_from_In x xs (In-rising cmp x xs (In-from_has x (rising_list cmp xs) h))
 
-pub rising-has : {A : Type 0} (cmp : A → A → Ordering) (z : A) (xs : List A) → Has xs z → Has (rising_list cmp xs) z
-rising-has cmp z xs h = has_from_In z (rising_list cmp xs) (rising-In cmp z xs (In-from_has z xs h))
-
-pub contains-rising : {A : Type 0} (cmp : A → A → Ordering) (z : A) (xs : List A) → Contains (rising_list cmp xs) z → Contains xs z
-contains-rising cmp z xs h = contains_from_In z xs (In-rising cmp z xs (In-from_contains z (rising_list cmp xs) h))
-
-pub rising-contains : {A : Type 0} (cmp : A → A → Ordering) (z : A) (xs : List A) → Contains xs z → Contains (rising_list cmp xs) z
-rising-contains cmp z xs h = contains_from_In z (rising_list cmp xs) (rising-In cmp z xs (In-from_contains z xs h))
-
--- what holds of each entry
-pub all-rising : {A : Type 0} (cmp : A → A → Ordering) (P : A → Type 0) (xs : List A) → AllByRecursion P xs → AllByRecursion P (rising_list cmp xs)
-all-rising cmp P xs h = all_from_In P (rising_list cmp xs) (λ z i. In-all P z xs h (In-rising cmp z xs i))
-
--- a list is empty exactly if it is so in order
-pub rising-empty : {A : Type 0} (cmp : A → A → Ordering) (xs : List A) → rising_list cmp xs ≡ [] → xs ≡ []
-rising-empty cmp [] e = refl
-rising-empty cmp (x ∷ xs) e = absurd (subst (In x) e (rising-In cmp x (x ∷ xs) (inl refl)))
-
--- ---- in order before a map, and after it
-
-map_at : {A B : Type 0} (f : A → B) (cmp : B → B → Ordering) (x y : A) (ys : List A) (b : Bool)
-    → map f (with_inserted (λ a b. cmp (f a) (f b)) x ys) ≡ with_inserted cmp (f x) (map f ys)
-    → map f (cond b (y ∷ with_inserted (λ a b. cmp (f a) (f b)) x ys) (x ∷ (y ∷ ys))) ≡ cond b (f y ∷ with_inserted cmp (f x) (map f ys)) (f x ∷ (f y ∷ map f ys))
-map_at f cmp x y ys true h = ap (λ zs. f y ∷ zs) h
-map_at f cmp x y ys false h = refl
-
-pub map-inserted : {A B : Type 0} (f : A → B) (cmp : B → B → Ordering) (x : A) (ys : List A) → map f (with_inserted (λ a b. cmp (f a) (f b)) x ys) ≡ with_inserted cmp (f x) (map f ys)
-map-inserted f cmp x [] = refl
-map-inserted f cmp x (y ∷ ys) = map_at f cmp x y ys (is_lt (cmp (f y) (f x))) (map-inserted f cmp x ys)
-
-pub map-rising : {A B : Type 0} (f : A → B) (cmp : B → B → Ordering) (xs : List A) → map f (rising_list (λ a b. cmp (f a) (f b)) xs) ≡ rising_list cmp (map f xs)
-map-rising f cmp [] = refl
-map-rising f cmp (x ∷ xs) =
-    map-inserted f cmp x (rising_list (λ a b. cmp (f a) (f b)) xs) ∙ ap (with_inserted cmp (f x)) (map-rising f cmp xs)
+pub rising_has : {A : Type 0} (cmp : A → A → Ordering) (xs : List A) (x : A) → Has xs x → Has (rising_list cmp xs) x
+rising_has cmp xs x h = has_from_In x (rising_list cmp xs) (rising-In cmp x xs (In-from_has x xs h))

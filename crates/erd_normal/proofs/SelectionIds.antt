@@ -27,11 +27,11 @@ use Rattle.erd_normal.proofs.NormalGets.{id_of_built_selection}
 use Rattle.erd_normal.proofs.NormalKeys.{IsClassed, object_classed}
 use Rattle.erd_normal.proofs.NormalNames.{name_built}
 use Rattle.erd_normal.proofs.NormalObjects.{objects_built, selections_built, values_of}
-use Rattle.erd_normal.proofs.NormalOwners.{as_many, length_rising}
+use Rattle.erd_normal.proofs.NormalOwners.{as_many}
 use Rattle.erd_normal.proofs.NormalSelections.{has_canonical_ids}
-use Rattle.erd_normal.proofs.Positions.{has_mapped, map_has, position_low, position_of, same_in_some}
-use Rattle.erd_normal.proofs.RisingLists.{has_rising, rising_has}
 use Rattle.erd_normal.proofs.SelectionTexts.{canonical_selection_id_exact}
+use Rattle.erd_check.proofs.Positions.{same_in_some, has_mapped, map_has, position_of, position_low}
+use Rattle.erd_normal.proofs.RisingSets.{has_rising, rising_has, length-rising}
 
 -- ---- what stands in the report that is built
 
@@ -71,15 +71,6 @@ module _ (t : Data) (accepted : IsAccepted t) (tree : IsTree t) where
         let k : IsClassed family.Contest contest.value = object_classed t accepted tree family.Contest contest of_report in
         ap (entries_at (codes "ContestSelection")) (sym is) ∙ selections_built t k.0 contest.value k.2 k.1
 
-    pub selection_from : (q : Placed) → Has (selections_of_contest p) q → (o : Placed) × Has (selections_of_contest contest) o × (normal_selection t contest.value o.value ≡ q.value)
-    selection_from q h =
-        let value : Has (selection_values p) q.value = subst (λ xs. Has xs q.value) (listed p) (has_mapped (λ (x : Placed). x.value) (selections_of_contest p) q h) in
-        let es : List Data = rising_list (by_name t) (selection_values contest) in
-        let d = map_has (normal_selection t contest.value) es q.value (subst (λ xs. Has xs q.value) selections_there value) in
-        let there : Has (selection_values contest) d.0 = has_rising (by_name t) (selection_values contest) d.0 d.1 in
-        let o = map_has (λ (x : Placed). x.value) (selections_of_contest contest) d.0 (subst (λ xs. Has xs d.0) (sym (listed contest)) there) in
-        (o.0, o.1, ap (normal_selection t contest.value) o.2 ∙ d.2)
-
     pub selection_stands : (o : Placed) → Has (selections_of_contest contest) o → (q : Placed) × Has (selections_of_contest p) q × (q.value ≡ normal_selection t contest.value o.value)
     selection_stands o h =
         let value : Has (selection_values contest) o.value = subst (λ xs. Has xs o.value) (listed contest) (has_mapped (λ (x : Placed). x.value) (selections_of_contest contest) o h) in
@@ -92,7 +83,7 @@ module _ (t : Data) (accepted : IsAccepted t) (tree : IsTree t) where
     pub as_many_selections : length (selections_of_contest p) ≡ length (selections_of_contest contest)
     as_many_selections =
         let es : List Data = rising_list (by_name t) (selection_values contest) in
-        counted p ∙ ap length selections_there ∙ length-map es (normal_selection t contest.value) ∙ length_rising (by_name t) (selection_values contest) ∙ sym (counted contest)
+        counted p ∙ ap length selections_there ∙ length-map es (normal_selection t contest.value) ∙ length-rising (by_name t) (selection_values contest) ∙ sym (counted contest)
 
   -- ---- `@id` texts
 

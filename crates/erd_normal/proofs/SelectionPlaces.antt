@@ -20,7 +20,7 @@ use Rattle.erd_meaning.specs.Objects.{Placed, contests, objects, placed_entries,
 use Rattle.erd_meaning.specs.code.Orders.{name_cmp_total}
 use Rattle.erd_meaning.specs.SelectionNames.{name_cmp, name_of}
 use Rattle.erd_normal.proofs.DistinctEntries.{distinct_map}
-use Rattle.erd_normal.proofs.DistinctObjects.{selection_values_distinct, values_placed}
+use Rattle.erd_normal.proofs.DistinctObjects.{selection_values_distinct}
 use Rattle.erd_normal.proofs.KeyPlaces.{length_places, place_is}
 use Rattle.erd_normal.proofs.NumberedParts.{in_part}
 use Rattle.erd_normal.proofs.RisingRanks.{rank_map}
@@ -28,6 +28,7 @@ use Rattle.erd_normal.proofs.RisingSets.{has_from_In}
 use Rattle.erd_normal.specs.code.KeyRanks.{numbers_in_contest}
 use Rattle.erd_normal.specs.code.NormalTree.{rank_of_name}
 use Rattle.erd_normal.specs.code.ObjectNumbers.{AreSelectionNumbers}
+use Rattle.erd_meaning.proofs.accepted.Skeleton.{values-placed_from}
 
 -- the numbers of the selections of an election, contest by contest
 abbrev pub numbers_in_election : Data → Data → List ℕ
@@ -45,7 +46,7 @@ module _ (t : Data) where
   -- ---- contest by contest
 
   values_gathered : (h : Data → List ℕ) (p : List Step) (i : ℕ) (ds : List Data) → flat_map (λ o. h o.value) (placed_from p i ds) ≡ flat_map h ds
-  values_gathered h p i ds = sym (flat_map-map h (λ (o : Placed). o.value) (placed_from p i ds)) ∙ ap (flat_map h) (values_placed p i ds)
+  values_gathered h p i ds = sym (flat_map-map h (λ (o : Placed). o.value) (placed_from p i ds)) ∙ ap (flat_map h) (values-placed_from p i ds)
 
   elections_gathered : (p : List Step) (i : ℕ) (ds : List Data) → flat_map numbers_at (flat_map (placed_entries (codes "Contest")) (placed_from p i ds)) ≡ flat_map (numbers_in_election t) ds
   elections_gathered p i [] = refl
@@ -63,7 +64,7 @@ module _ (t : Data) where
       let ds = entries_at (codes "ContestSelection") contest.value in
       length_places (option_cmp name_cmp) (map (name_of t) ds)
       ∙ (length-map ds (name_of t)
-      ∙ (sym (ap length (values_placed (contest.place ++ Name (codes "ContestSelection") ∷ []) 0 ds))
+      ∙ (sym (ap length (values-placed_from (contest.place ++ Name (codes "ContestSelection") ∷ []) 0 ds))
       ∙ length-map (selections_of_contest contest) (λ o. o.value)))
 
   name_at : (contest : Placed) (m : ℕ) (o : Placed) → slice_get (selections_of_contest contest) m ≡ Some o → slice_get (map (name_of t) (entries_at (codes "ContestSelection") contest.value)) m ≡ Some (name_of t o.value)
@@ -71,7 +72,7 @@ module _ (t : Data) where
       let ds = entries_at (codes "ContestSelection") contest.value in
       slice_get-map (name_of t) ds m
       ∙ ap (option_map (name_of t))
-      (ap (λ xs. slice_get xs m) (sym (values_placed (contest.place ++ Name (codes "ContestSelection") ∷ []) 0 ds))
+      (ap (λ xs. slice_get xs m) (sym (values-placed_from (contest.place ++ Name (codes "ContestSelection") ∷ []) 0 ds))
       ∙ (slice_get-map (λ (o : Placed). o.value) (selections_of_contest contest) m
       ∙ ap (option_map (λ o. o.value)) at))
 

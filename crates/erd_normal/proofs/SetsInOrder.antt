@@ -32,7 +32,6 @@ use Rattle.erd_normal.specs.code.ObjectNumbers.{IsBounded}
 use Rattle.erd_normal.proofs.BuiltLists.{all_rising}
 use Rattle.erd_normal.proofs.FittingNumbers.{within-fitting}
 use Rattle.erd_normal.proofs.LeastKeys.{key_of_object}
-use Rattle.erd_normal.proofs.NormalEntries.{listed_again}
 use Rattle.erd_normal.proofs.NormalKeys.{IsClassed, values_classed}
 use Rattle.erd_normal.proofs.NormalNames.{Refers, name_built_within, reference_key_built, references_refer}
 use Rattle.erd_normal.proofs.RisingReports.{identifiers_rise, languages_rise, objects_rise, references_rise, selections_rise}
@@ -40,6 +39,7 @@ use Rattle.erd_normal.proofs.ThroughoutMembers.{HoldsOfMembers, built_references
 use Rattle.erd_normal.proofs.ThroughoutObjects.{HoldsOfObjects}
 use Rattle.erd_normal.proofs.ThroughoutReports.{HoldsOfBuilt, holds_of_built}
 use Rattle.erd_normal.proofs.ThroughoutValues.{is_apart}
+use Rattle.erd_check.proofs.Lists.{list_of_items-items_of}
 
 -- ---- what has to hold of a value
 
@@ -89,7 +89,7 @@ module _ (t : Data) (accepted : IsAccepted t) (tree : IsTree t) where
   objects_rising : (f : Family) → has_keys f ≡ true → (ds : List Data) → map (λ o. o.value) (objects f t) ≡ ds → RisesAs (normal_tree t) (kind.Keyed f) (entries_of (normal_objects t f ds))
   objects_rising f keyed ds all =
       keyed_rises (normal_tree t) f (entries_of (normal_objects t f ds)) keyed
-      (subst (λ xs. IsStrictlySortedBy (option_cmp key_cmp) (keys_of xs)) (sym (listed_again (map (normal_object t f) (rising_list by_key ds))))
+      (subst (λ xs. IsStrictlySortedBy (option_cmp key_cmp) (keys_of xs)) (sym (list_of_items-items_of (map (normal_object t f) (rising_list by_key ds))))
       (subst (IsStrictlySortedBy (option_cmp key_cmp)) (sym (keys_kept f (rising_list by_key ds) (all_rising (IsClassed f) by_key ds (subst (AllByRecursion (IsClassed f)) all (values_classed t accepted tree f)))))
       (subst (λ xs. IsStrictlySortedBy (option_cmp key_cmp) (keys_of (rising_list by_key xs))) all (objects_rise t accepted f keyed))))
 
@@ -157,19 +157,19 @@ module _ (t : Data) (accepted : IsAccepted t) (tree : IsTree t) (bounded : IsBou
   members : HoldsOfMembers t (IsRisingIn u)
   members = record {
     kept = λ a w apart. record { rises = λ k e. kept_rises u a.want a.value k apart e };
-    class_text = λ r text. record { rises = λ k e. cc };
+    class_text = λ r c text named. record { rises = λ k e. cc };
     label = λ required d w. rising_value u kind.Label required _ tt;
     one = λ f named d w. record { rises = λ k e. cc };
     many = λ f named required d w full.
         rising_value u (kind.Many f) required (array_of (built_references t f d))
-        (subst (λ xs. IsStrictlySortedBy (option_cmp key_cmp) (keys_referred u f xs)) (sym (listed_again (built_references t f d))) (references_rising t accepted tree bounded f named required d w));
+        (subst (λ xs. IsStrictlySortedBy (option_cmp key_cmp) (keys_referred u f xs)) (sym (list_of_items-items_of (built_references t f d))) (references_rising t accepted tree bounded f named required d w));
     many_entry = λ f named required d w i e found. record { rises = λ k h. cc };
     identifiers = λ required d w full.
         rising_value u kind.Identifiers required (array_of (rising_list compact_cmp (entries_of d)))
-        (subst (IsStrictlySortedBy compact_cmp) (sym (listed_again (rising_list compact_cmp (entries_of d)))) (identifiers_rising t accepted tree fits required d w));
+        (subst (IsStrictlySortedBy compact_cmp) (sym (list_of_items-items_of (rising_list compact_cmp (entries_of d)))) (identifiers_rising t accepted tree fits required d w));
     languages = λ required d w full.
         rising_value u kind.Languages required (array_of (rising_list compact_cmp (entries_of d)))
-        (subst (IsStrictlySortedBy compact_cmp) (sym (listed_again (rising_list compact_cmp (entries_of d)))) (languages_rising t accepted tree fits required d w));
+        (subst (IsStrictlySortedBy compact_cmp) (sym (list_of_items-items_of (rising_list compact_cmp (entries_of d)))) (languages_rising t accepted tree fits required d w));
     ordered = λ required d w full. rising_value u kind.Ordered required _ tt;
     ordered_entry = λ e w. record { rises = λ k h. cc };
   }
@@ -183,7 +183,7 @@ module _ (t : Data) (accepted : IsAccepted t) (tree : IsTree t) (bounded : IsBou
     selections = λ contest required d of_report stands w full.
         let ds : List Data = map (normal_selection t contest.value) (rising_list (by_name t) (entries_of d)) in
         rising_value u (kind.Keyed family.Selection) required (array_of ds)
-        (subst (λ xs. IsStrictlySortedBy (option_cmp name_cmp) (map (name_of u) xs)) (sym (listed_again ds)) (selections_rising t accepted tree bounded contest required d of_report stands w));
+        (subst (λ xs. IsStrictlySortedBy (option_cmp name_cmp) (map (name_of u) xs)) (sym (list_of_items-items_of ds)) (selections_rising t accepted tree bounded contest required d of_report stands w));
     selection = λ contest d w. record { rises = λ k e. cc };
     object = λ f d w. record { rises = λ k e. cc };
   }

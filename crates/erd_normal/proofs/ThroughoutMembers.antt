@@ -2,10 +2,10 @@
 use Rattle.std.proofs.Common.{◌≡◌, inl, inr, ℕ, List, [], ◌∷◌, map, Some, option_and_then, is_some, Bool, true, false, codes, refl, sym, ap, ◌∙◌, subst}
 use Rattle.std.specs.List.{AllByRecursion}
 use Rattle.std.specs.Str.{bytes_eq}
-use Rattle.serde_json.specs.Data.{Data, string, array, object, Items}
-use Rattle.serde_json.specs.Find.{as_str, get, get_item, get_member}
+use Rattle.serde_json.specs.Data.{Data, string, array, object, Items, Members}
+use Rattle.serde_json.specs.Find.{as_str, get, get_item}
 use Rattle.serde_json.specs.View.{items_of}
-use Rattle.erd_tables.specs.Classes.{class_in_role, role_of_class}
+use Rattle.erd_tables.specs.Classes.{class_in_role}
 use Rattle.erd_tables.specs.Table.{kind_of_member}
 use Rattle.erd_tables.specs.declared.class.Class.{Class}
 use Rattle.erd_tables.specs.declared.class.Class.TheVariants as class
@@ -28,10 +28,9 @@ use Rattle.erd_check.proofs.TableKinds.{kind_of_unlisted_has}
 use Rattle.erd_meaning.specs.SelectionNames.{compact_cmp, rising_list, with_rising_text}
 use Rattle.erd_normal.specs.Canonical.{id_prefix}
 use Rattle.erd_normal.specs.code.NormalTree.{array_of, normal_id, normal_reference, normal_selection_reference, normal_value, reference_cmp}
-use Rattle.erd_normal.proofs.AskedMembers.{entries_asked, label_texts}
-use Rattle.erd_normal.proofs.BuiltLists.{all_map}
-use Rattle.erd_normal.proofs.CleanSets.{given_unless, rising_entry}
-use Rattle.erd_normal.proofs.CleanValues.{asked_in_object, entry_holds}
+use Rattle.erd_normal.proofs.AskedMembers.{asked_in_object, entries_asked, label_class, label_texts}
+use Rattle.erd_normal.proofs.BuiltLists.{all_map, entry_holds, given_unless}
+use Rattle.erd_normal.proofs.UnrepeatedEntries.{rising_entry}
 use Rattle.erd_normal.proofs.NormalGets.{get_label-other, get_label-text}
 use Rattle.erd_normal.proofs.ThroughoutValues.{Throughout, apart_by_kind, is_apart, is_apart_kind, throughout_array, throughout_by_steps, throughout_kept, throughout_list, throughout_text}
 
@@ -48,7 +47,7 @@ is_prefixed f = is_some (id_prefix f)
 -- what has to hold for what is built of the members without objects, each by the value that it is built of
 pub record HoldsOfMembers (t : Data) (P : Asked → Type 0) : Type 0 where
   pub kept : (a : Asked) → Within t a → is_apart a.want ≡ true → P a
-  pub class_text : (r : Role) (s : List ℕ) → P (asked (ClassText r) (string s))
+  pub class_text : (r : Role) (c : Class) (s : List ℕ) → class_in_role r s ≡ Some c → P (asked (ClassText r) (string s))
   pub label : (required : Bool) (d : Data) → Within t (asked (Member kind.Label required) d) → P (asked (Member kind.Label required) (with_rising_text d))
   pub one : (f : Family) → is_prefixed f ≡ true → (d : Data) → Within t (asked (Reference f) d) → P (asked (Reference f) (normal_reference t f d))
   pub many : (f : Family) → is_prefixed f ≡ true → (required : Bool) (d : Data) → Within t (asked (Member (kind.Many f) required) d) → is_empty_array d ≡ false
@@ -73,29 +72,51 @@ is_plain_kind kind.Elections = false
 is_plain_kind kind.Content = false
 is_plain_kind k = true
 
-label_class : (c : Class) → role_of_class c ≡ role.Label → c ≡ class.InternationalizedText
-label_class class.InternationalizedText e = refl
-label_class c e = cc
-
 -- beside its translations a label has members that stay as they are
 label_member : (name : List ℕ) → bytes_eq name (codes "@type") ≡ false → bytes_eq name (codes "Text") ≡ false → is_apart (member_want class.InternationalizedText name) ≡ true
 label_member name other beside =
     apart_by_kind (kind_of_member class.InternationalizedText name) _
     (rw beside (kind_of_unlisted_has is_apart_kind class.InternationalizedText name other refl refl refl))
 
--- the `@type` of an object whose class has the role is a text
-pub type_text : (r : Role) (c : Class) (d v : Data) → class_of_object r d ≡ Some c → get (codes "@type") d ≡ Some v → (s : List ℕ) × (v ≡ string s)
+-- the `@type` of an object whose class has the role is the text of a class
+pub type_text : (r : Role) (c : Class) (d v : Data) → class_of_object r d ≡ Some c → get (codes "@type") d ≡ Some v → (s : List ℕ) × (v ≡ string s) × (class_in_role r s ≡ Some c)
 type_text r c d v among stands = at v (subst (λ o. option_and_then (class_in_role r) (option_and_then as_str o) ≡ Some c) stands among)
   where
-    at : (v : Data) → option_and_then (class_in_role r) (as_str v) ≡ Some c → (s : List ℕ) × (v ≡ string s)
-    at (string s) e = (s, refl)
+    at : (v : Data) → option_and_then (class_in_role r) (as_str v) ≡ Some c → (s : List ℕ) × (v ≡ string s) × (class_in_role r s ≡ Some c)
+    at (string s) e = (s, refl, e)
     at v e = cc
+
+-- references that are built are texts
+pub built_texts : (t : Data) (f : Family) (ds : List Data) → AllByRecursion (λ x. (s : List ℕ) × (x ≡ string s)) (map (normal_reference t f) ds)
+built_texts t f [] = tt
+built_texts t f (x ∷ xs) = ((normal_id t f (text_of x), refl), built_texts t f xs)
+
+-- a label that is an object, and the one that is built of it, whose translations rise
+pub record BuiltLabel (t : Data) (ms : Members) : Type 0 where
+  pub texts : Items
+  pub inside : Within t (asked (Member kind.Languages true) (array texts))
+  pub kept : class_of_object role.Label (object ms) ≡ Some class.InternationalizedText
+  pub among : class_of_object role.Label (with_rising_text (object ms)) ≡ Some class.InternationalizedText
+  pub stands : get (codes "Text") (with_rising_text (object ms)) ≡ Some (array_of (rising_list compact_cmp (list_of_items texts)))
+
+pub built_label : (t : Data) → NoneOf (ShapeFault t) → (required : Bool) (ms : Members) → Within t (asked (Member kind.Label required) (object ms)) → BuiltLabel t ms
+built_label t clean required ms w =
+    let texts = label_texts t clean required ms w in
+    let cl : Classed role.Label (object ms) = classed t clean (Member kind.Label required) role.Label (object ms) of_label refl w in
+    let kept : class_of_object role.Label (object ms) ≡ Some class.InternationalizedText = cl.among ∙ ap Some (label_class cl.class cl.role) in
+    record {
+      texts = texts.0;
+      inside = texts.2;
+      kept = kept;
+      among = ap (λ o. option_and_then (class_in_role role.Label) (option_and_then as_str o)) (get_label-other (codes "@type") (object ms) refl) ∙ kept;
+      stands = get_label-text (object ms) refl ∙ rw texts.1 refl;
+    }
 
 module _ (t : Data) (clean : NoneOf (ShapeFault t)) (tree : IsTree t) (P : Asked → Type 0) (holds : HoldsOfMembers t P) where
   pub throughout_type : (r : Role) (c : Class) (d v : Data) → class_of_object r d ≡ Some c → get (codes "@type") d ≡ Some v → Throughout P (asked (ClassText r) v)
   throughout_type r c d v among stands =
       let text = type_text r c d v among stands in
-      subst (λ x. Throughout P (asked (ClassText r) x)) (sym text.1) (throughout_text P (ClassText r) text.0 false (holds.class_text r text.0))
+      subst (λ x. Throughout P (asked (ClassText r) x)) (sym text.1) (throughout_text P (ClassText r) text.0 false (holds.class_text r c text.0 text.2))
 
   -- ---- sets
 
@@ -104,13 +125,9 @@ module _ (t : Data) (clean : NoneOf (ShapeFault t)) (tree : IsTree t) (P : Asked
   references f named required d filled w =
       throughout_array P (Member (kind.Many f) required) (Reference f) (items_of (built_references t f d)) refl (holds.many f named required d w filled)
       (λ i e found.
-      let text = entry_holds (λ x. (s : List ℕ) × (x ≡ string s)) (built_references t f d) i e (texts (rising_list (reference_cmp t f) (entries_of d))) found in
+      let text = entry_holds (λ x. (s : List ℕ) × (x ≡ string s)) (built_references t f d) i e (built_texts t f (rising_list (reference_cmp t f) (entries_of d))) found in
       at i e text.0 text.1 (holds.many_entry f named required d w i e found))
     where
-      texts : (ds : List Data) → AllByRecursion (λ x. (s : List ℕ) × (x ≡ string s)) (map (normal_reference t f) ds)
-      texts [] = tt
-      texts (x ∷ xs) = ((normal_id t f (text_of x), refl), texts xs)
-
       at : (i : ℕ) (e : Data) (s : List ℕ) → e ≡ string s → P (record { want = Reference f; value = e; repeated = is_repeated (items_of (built_references t f d)) i e })
           → Throughout P (record { want = Reference f; value = e; repeated = is_repeated (items_of (built_references t f d)) i e })
       at i e s is h =
@@ -157,28 +174,16 @@ module _ (t : Data) (clean : NoneOf (ShapeFault t)) (tree : IsTree t) (P : Asked
   label : (required : Bool) (d : Data) → Within t (asked (Member kind.Label required) d) → Throughout P (asked (Member kind.Label required) (with_rising_text d))
   label required (object ms) w =
       throughout_by_steps P (asked (Member kind.Label required) (with_rising_text (object ms))) (holds.label required (object ms) w)
-      (λ s b e. elim (asked_in_object (Member kind.Label required) role.Label class.InternationalizedText (with_rising_text (object ms)) s b of_label among e) [
-        | inl type ↦ subst (Throughout P) (sym type.is) (throughout_type role.Label class.InternationalizedText (with_rising_text (object ms)) type.text among type.stands)
+      (λ s b e. elim (asked_in_object (Member kind.Label required) role.Label class.InternationalizedText (with_rising_text (object ms)) s b of_label l.among e) [
+        | inl type ↦ subst (Throughout P) (sym type.is) (throughout_type role.Label class.InternationalizedText (with_rising_text (object ms)) type.text l.among type.stands)
         | inr m ↦ subst (Throughout P) (sym m.is) (each m.name m.found m.other m.stands)
       ])
     where
-      texts : (texts : Items) × (get_member (codes "Text") ms ≡ Some (array texts)) × Within t (asked (Member kind.Languages true) (array texts))
-      texts = label_texts t clean required ms w
+      l : BuiltLabel t ms
+      l = built_label t clean required ms w
 
-      cl : Classed role.Label (object ms)
-      cl = classed t clean (Member kind.Label required) role.Label (object ms) of_label refl w
-
-      kept : class_of_object role.Label (object ms) ≡ Some class.InternationalizedText
-      kept = cl.among ∙ ap Some (label_class cl.class cl.role)
-
-      among : class_of_object role.Label (with_rising_text (object ms)) ≡ Some class.InternationalizedText
-      among = ap (λ o. option_and_then (class_in_role role.Label) (option_and_then as_str o)) (get_label-other (codes "@type") (object ms) refl) ∙ kept
-
-      stands : get (codes "Text") (with_rising_text (object ms)) ≡ Some (array_of (rising_list compact_cmp (list_of_items texts.0)))
-      stands = get_label-text (object ms) refl ∙ rw texts.1 refl
-
-      new : Throughout P (asked (Member kind.Languages true) (array_of (rising_list compact_cmp (list_of_items texts.0))))
-      new = languages true (array texts.0) (faultless t clean (asked (Member kind.Languages true) (array texts.0)) reason.EmptyArray texts.2) texts.2
+      new : Throughout P (asked (Member kind.Languages true) (array_of (rising_list compact_cmp (list_of_items l.texts))))
+      new = languages true (array l.texts) (faultless t clean (asked (Member kind.Languages true) (array l.texts)) reason.EmptyArray l.inside) l.inside
 
       each : (name : List ℕ) (v : Data) → bytes_eq name (codes "@type") ≡ false → get name (with_rising_text (object ms)) ≡ Some v → Throughout P (asked (member_want class.InternationalizedText name) v)
       each name v other found = at (bytes_eq name (codes "Text")) refl
@@ -186,12 +191,12 @@ module _ (t : Data) (clean : NoneOf (ShapeFault t)) (tree : IsTree t) (P : Asked
           at : (b : Bool) → bytes_eq name (codes "Text") ≡ b → Throughout P (asked (member_want class.InternationalizedText name) v)
           at true is =
               let named : codes "Text" ≡ name = sym (text_exact name (codes "Text") is) in
-              let x : Some (array_of (rising_list compact_cmp (list_of_items texts.0))) ≡ Some v = sym stands ∙ ap (λ n. get n (with_rising_text (object ms))) named ∙ found in
-              let same : array_of (rising_list compact_cmp (list_of_items texts.0)) ≡ v = cc in
+              let x : Some (array_of (rising_list compact_cmp (list_of_items l.texts))) ≡ Some v = sym l.stands ∙ ap (λ n. get n (with_rising_text (object ms))) named ∙ found in
+              let same : array_of (rising_list compact_cmp (list_of_items l.texts)) ≡ v = cc in
               subst (λ n. Throughout P (asked (member_want class.InternationalizedText n) v)) named (subst (λ x. Throughout P (asked (Member kind.Languages true) x)) same new)
           at false is =
               throughout_kept t P holds.kept (asked (member_want class.InternationalizedText name) v)
-              (member_within t clean (Member kind.Label required) role.Label ms class.InternationalizedText name v of_label kept other w (sym (get_label-other name (object ms) is) ∙ found))
+              (member_within t clean (Member kind.Label required) role.Label ms class.InternationalizedText name v of_label l.kept other w (sym (get_label-other name (object ms) is) ∙ found))
               (label_member name other is)
   label required (string s) w = throughout_text P (Member kind.Label required) s false (holds.label required (string s) w)
   label required d w = let x : false ≡ true = wanted_within t clean (asked (Member kind.Label required) d) w in cc

@@ -32,15 +32,13 @@ use Rattle.erd_meaning.specs.SelectionNames.{rising_list, selection_role}
 use Rattle.erd_normal.specs.code.NormalTree.{array_of, by_key, by_name, id_of_selection, normal_content, normal_node, normal_node_value, normal_nodes, normal_object, normal_object_value, normal_objects, normal_selection, normal_value}
 use Rattle.erd_normal.proofs.AskedMembers.{entries_asked, entry_asked}
 use Rattle.erd_normal.proofs.BuiltFrom.{Builder, BuiltFrom, BuiltObject, inside_built, member_holds}
-use Rattle.erd_normal.proofs.BuiltLists.{all_map, all_rising}
+use Rattle.erd_normal.proofs.BuiltLists.{all_map, all_rising, given_unless}
 use Rattle.erd_normal.proofs.BuiltObjects.{built_node, built_object, built_selection, is_id, no_name, node_builder, object_builder, object_id, plain_builder, selection_id}
-use Rattle.erd_normal.proofs.CleanSets.{given_unless}
 use Rattle.erd_normal.proofs.FamilyNames.{contest_of_selections, family_name, keyed_name}
 use Rattle.erd_normal.proofs.NormalGets.{kind_of_family_id}
-use Rattle.erd_normal.proofs.Positions.{map_has}
-use Rattle.erd_normal.proofs.RisingLists.{all_by_entry}
 use Rattle.erd_normal.proofs.ThroughoutMembers.{HoldsOfMembers, is_plain_kind, is_prefixed, throughout_type, throughout_value}
 use Rattle.erd_normal.proofs.ThroughoutValues.{Throughout, throughout_array, throughout_by_steps, throughout_kept, throughout_list, throughout_text}
+use Rattle.erd_check.proofs.Positions.{map_has, all_by_entry}
 
 -- what has to hold for what is built of objects below the election and the report, each by the value that it is built of
 pub record HoldsOfObjects (t : Data) (P : Asked → Type 0) : Type 0 where

@@ -1,13 +1,16 @@
 -- What holds of all that is asked in the report that is built: it is enough that it holds of each part that is built, by the value that it is built of.
-use Rattle.std.proofs.Common.{◌≡◌, ℕ, List, [], ◌∷◌, map, Some, None, Bool, true, false, if◌then◌else◌, codes, refl, sym, ap, ◌∙◌, subst}
+use Rattle.std.proofs.Common.{◌≡◌, ℕ, List, [], ◌∷◌, map, Option, Some, None, is_some, IsSomeAnd, Bool, true, false, true≢false, if◌then◌else◌, codes, refl, sym, ap, ◌∙◌, subst}
 use Rattle.std.specs.List.{AllByRecursion}
+use Rattle.std.specs.Prelude.{IsTrue}
+use Rattle.std.specs.Str.{bytes_eq}
 use Rattle.serde_json.specs.Data.{Data, string, number, unsigned, array, object, no_items, item}
 use Rattle.serde_json.specs.Find.{get, get_member}
-use Rattle.erd_tables.specs.Rows.{envelope_rows}
-use Rattle.erd_tables.specs.Table.{is_envelope_name, kind_of_member}
+use Rattle.erd_tables.specs.Rows.{Row, envelope_rows}
+use Rattle.erd_tables.specs.Table.{is_envelope_name, kind_in_rows, kind_of_member}
 use Rattle.erd_tables.specs.declared.class.Class.TheVariants as class
 use Rattle.erd_tables.specs.declared.class.Family.{Family}
 use Rattle.erd_tables.specs.declared.class.Role.TheVariants as role
+use Rattle.erd_tables.specs.declared.fault.Reason.{Reason}
 use Rattle.erd_tables.specs.declared.member.MemberKind.{MemberKind}
 use Rattle.erd_tables.specs.declared.member.MemberKind.TheVariants as kind
 use Rattle.erd_tables.specs.declared.place.Step.{Step}
@@ -16,6 +19,7 @@ use Rattle.erd_check.specs.Trees.{IsTree}
 use Rattle.erd_check.specs.Values.{entries_of}
 use Rattle.erd_check.specs.Wants.{Asked, asked, asked_at, asked_inside, member_want, want_of_kind}
 use Rattle.erd_check.specs.declared.want.Want.TheVariants.{Member, Object}
+use Rattle.erd_check.proofs.Exact.{text_exact}
 use Rattle.erd_check.proofs.Shapes.{Within}
 use Rattle.erd_check.proofs.TableKinds.{kind_of_class}
 use Rattle.erd_meaning.proofs.accepted.Skeleton.{Skeleton, skeleton_of_shape}
@@ -24,8 +28,7 @@ use Rattle.erd_meaning.specs.Objects.{objects}
 use Rattle.erd_normal.specs.code.NormalTree.{array_of, normal_election, normal_election_value, normal_objects, normal_report_value, normal_tree, normal_value}
 use Rattle.erd_normal.proofs.BuiltFrom.{BuiltFrom, member_holds}
 use Rattle.erd_normal.proofs.BuiltObjects.{built_election, built_report, election_builder, no_name}
-use Rattle.erd_normal.proofs.CleanReports.{row_named}
-use Rattle.erd_normal.proofs.CleanSets.{given_unless}
+use Rattle.erd_normal.proofs.BuiltLists.{given_unless}
 use Rattle.erd_normal.proofs.FamilyNames.{election_objects_are, elections_name, family_name, keyed_name, report_objects}
 use Rattle.erd_normal.proofs.NormalReports.{has_canonical_envelope}
 use Rattle.erd_normal.proofs.ThroughoutMembers.{HoldsOfMembers, is_plain_kind, is_prefixed, throughout_value}
@@ -71,6 +74,15 @@ report_word t name k d v is e = at (is_envelope_name name) (ap (λ q. normal_rep
     at : (b : Bool) → (if b then None else Some d) ≡ Some v → d ≡ v
     at true e = cc
     at false e = let same : d ≡ v = cc in same
+
+-- what holds of the name of each row holds of a name that a row has
+row_named : (P : List ℕ → Type 0) (rows : List Row) (name : List ℕ) → AllByRecursion (λ row. P row.name) rows → is_some (kind_in_rows rows name) ≡ true → P name
+row_named P [] name all named = cc
+row_named P (row ∷ rows) name all named = at (bytes_eq name row.name) refl (row_named P rows name all.1)
+  where
+    at : (b : Bool) → bytes_eq name row.name ≡ b → (is_some (kind_in_rows rows name) ≡ true → P name) → P name
+    at true is h = subst P (sym (text_exact name row.name is)) all.0
+    at false is h = h (rw is at named)
 
 module _ (t : Data) (clean : NoneOf (ShapeFault t)) (tree : IsTree t) (P : Asked → Type 0) (holds : HoldsOfBuilt t P) where
   abbrev s : Skeleton t
@@ -216,3 +228,12 @@ module _ (t : Data) (clean : NoneOf (ShapeFault t)) (tree : IsTree t) (P : Asked
   -- it holds of whatever is asked at a place of the report that is built
   pub holds_of_built : (p : List Step) (a : Asked) → asked_at (normal_tree t) p ≡ Some a → P a
   holds_of_built p a e = throughout_report.each p a e
+
+-- a test that nothing passes which is asked for finds nothing at any place
+pub none_found : (u : Data) (is_fault : Asked → Reason → Bool) → ((p : List Step) (a : Asked) (r : Reason) → asked_at u p ≡ Some a → is_fault a r ≡ false) → (p : List Step) (r : Reason)
+    → IsSomeAnd (asked_at u p) (λ a. IsTrue (is_fault a r)) → ⊥
+none_found u is_fault none p r = at (asked_at u p) refl
+  where
+    at : (o : Option Asked) → asked_at u p ≡ o → IsSomeAnd o (λ a. IsTrue (is_fault a r)) → ⊥
+    at None is h = h
+    at (Some a) is h = true≢false (sym h ∙ none p a r is)

@@ -20,15 +20,12 @@ use Rattle.erd_check.specs.declared.want.Want.{Want}
 use Rattle.erd_check.specs.declared.want.Want.TheVariants.{Object, ClassText, Reference, Status, Member, Carried}
 use Rattle.erd_check.proofs.Shapes.{Within, Within-step}
 use Rattle.erd_check.proofs.TableKinds.{kind_of_class}
-use Rattle.erd_normal.proofs.CleanValues.{entry_holds}
+use Rattle.erd_normal.proofs.BuiltLists.{entry_holds}
 use Rattle.erd_normal.proofs.NormalGets.{class_has_role}
 
 -- it holds of a value, and of all that is asked inside it
 pub record Throughout (P : Asked → Type 0) (a : Asked) : Type 0 where
   pub each : (p : List Step) (b : Asked) → asked_from a p ≡ Some b → P b
-
-pub throughout_here : (P : Asked → Type 0) (a : Asked) → Throughout P a → P a
-throughout_here P a h = h.each [] a refl
 
 -- by what is asked one step inside
 pub throughout_by_steps : (P : Asked → Type 0) (a : Asked) → P a → ((s : Step) (b : Asked) → asked_inside a.want a.value s ≡ Some b → Throughout P b) → Throughout P a

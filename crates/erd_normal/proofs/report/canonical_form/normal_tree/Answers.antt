@@ -1,14 +1,10 @@
-use Rattle.std.proofs.Common.{◌≡◌, false, IfOk, ap, sym, ◌∙◌, subst}
-use Rattle.std.proofs.lemmas.Result.{IfOk-weaker}
-use Rattle.std.specs.declared.result.Result.{Result}
-use Rattle.serde_json.specs.Data.{Data}
+use Rattle.std.proofs.Common.{◌≡◌, ap, sym, ◌∙◌, subst}
 use Rattle.serde_json.specs.View.{view}
 use Rattle.serde_json.specs.Written.{has_float}
 use Rattle.serde_json.specs.declared.value.Value.{Value}
 use Rattle.erd_check.specs.Trees.{IsNoDeeper, IsTree}
 use Rattle.erd_meaning.proofs.accepted.Phases.{no_shape_fault}
 use Rattle.erd_normal.specs.Canonical.{IsCanonicalFormOf}
-use Rattle.erd_normal.specs.code.NormalTree.{normal_tree}
 use Rattle.erd_check.specs.Numbers.{HasFittingNumbers}
 use Rattle.erd_normal.proofs.NormalDepths.{normal_tree-depth}
 use Rattle.erd_normal.proofs.NormalFormsOnly.{form_built, only_form_built, whole_built}

@@ -1,30 +1,23 @@
--- Arrays that are put in order, or built of references, have no fault of the shape: no entry of a set repeats an earlier one.
-use Rattle.std.proofs.Common.{◌≡◌, inl, inr, ℕ, zero, suc, List, [], ◌∷◌, map, length, take, Ordering, Some, None, Bool, true, false, not, ◌&&◌, ◌==◌, cond, if◌then◌else◌, is_lt, refl, sym, ap, ◌∙◌, subst, true≢false}
-use Rattle.std.specs.Bool.{⊤}
+-- A set that is put in order repeats no entry, where the set itself repeats none.
+use Rattle.std.proofs.Common.{◌≡◌, inl, inr, ℕ, zero, suc, List, [], ◌∷◌, take, Ordering, Some, Bool, true, false, not, ◌&&◌, cond, is_lt, refl, sym, ap, ◌∙◌, subst, true≢false}
 use Rattle.std.specs.List.{AllByRecursion, IsDistinct, list_any}
-use Rattle.serde_json.specs.Data.{Data, string, array, Items}
+use Rattle.serde_json.specs.Data.{Data, array, Items}
 use Rattle.serde_json.specs.Find.{get_item}
 use Rattle.serde_json.specs.View.{items_of}
-use Rattle.erd_tables.specs.declared.class.Family.{Family}
-use Rattle.erd_tables.specs.declared.fault.Reason.{Reason}
 use Rattle.erd_tables.specs.declared.fault.Reason.TheVariants as reason
 use Rattle.erd_tables.specs.declared.place.Step.TheVariants.{At}
-use Rattle.erd_check.specs.Faults.{is_array, is_empty_array, is_reference, is_shape_fault, NoneOf, ShapeFault}
+use Rattle.erd_check.specs.Faults.{is_reference, NoneOf, ShapeFault}
 use Rattle.erd_check.specs.Trees.{IsTree, is_same_json}
-use Rattle.erd_check.specs.Values.{entries_of, list_of_items}
+use Rattle.erd_check.specs.Values.{list_of_items}
 use Rattle.erd_check.specs.Wants.{Asked, asked, entry_want, is_compared_set, is_repeated}
 use Rattle.erd_check.specs.declared.want.Want.{Want}
-use Rattle.erd_check.specs.declared.want.Want.TheVariants.{Reference}
-use Rattle.erd_check.proofs.Clean.{IsClean}
 use Rattle.erd_check.proofs.Exact.{is_same_exact}
 use Rattle.erd_check.proofs.Order.{In, In-all, all_from_In}
 use Rattle.erd_check.proofs.Shapes.{Within, Within-step, false_unless, faultless, within-tree}
 use Rattle.erd_check.proofs.Lists.{list_of_items-items_of}
 use Rattle.erd_meaning.specs.SelectionNames.{rising_list, with_inserted}
-use Rattle.erd_normal.specs.code.NormalTree.{array_of, unless_no_entry}
 use Rattle.erd_normal.proofs.AskedMembers.{all_items}
-use Rattle.erd_normal.proofs.BuiltLists.{all_map, all_of, all_rising, trees_listed}
-use Rattle.erd_normal.proofs.CleanValues.{clean_array, clean_reference, clean_within, entry_holds}
+use Rattle.erd_normal.proofs.BuiltLists.{all_rising, entry_holds, trees_listed}
 use Rattle.erd_normal.proofs.DistinctEntries.{unrepeated_distinct}
 use Rattle.erd_normal.proofs.RisingSets.{In-inserted, In-rising}
 
@@ -89,43 +82,7 @@ none_taken (e ∷ ds) (suc i) d all found =
 pub unlike_unrepeated : (ds : List Data) (i : ℕ) (d : Data) → AreUnlike ds → get_item i (items_of ds) ≡ Some d → is_repeated (items_of ds) i d ≡ false
 unlike_unrepeated ds i d all found = ap (λ es. list_any (is_same_json d) (take i es)) (list_of_items-items_of ds) ∙ none_taken ds i d all found
 
--- ---- arrays that are not empty
-
--- an array has as many entries as another
-pub as_empty : (d : Data) (es : List Data) → is_array d ≡ true → length es ≡ length (entries_of d) → is_empty_array (array_of es) ≡ is_empty_array d
-as_empty (array ds) es is same = ap (λ n. n == 0) (ap length (list_of_items-items_of es) ∙ same)
-as_empty d es is same = cc
-
-pub given_unless : (d v v' : Data) → unless_no_entry d v ≡ Some v' → (is_empty_array d ≡ false) × (v ≡ v')
-given_unless d v v' = at (is_empty_array d) refl
-  where
-    at : (b : Bool) → is_empty_array d ≡ b → (if b then None else Some v) ≡ Some v' → (is_empty_array d ≡ false) × (v ≡ v')
-    at true is e = cc
-    at false is e = let same : v ≡ v' = cc in (is, same)
-
--- ---- arrays of what is asked of their entries
-
--- an array of references
-pub clean_references : (w : Want) (f : Family) (g : Data → List ℕ) (ds : List Data) → entry_want w ≡ Some (Reference f)
-    → ((r : Reason) → is_shape_fault (asked w (array_of (map (λ d. string (g d)) ds))) r ≡ false) → IsClean (asked w (array_of (map (λ d. string (g d)) ds)))
-clean_references w f g ds want local = clean_array w (Reference f) (items_of (map (λ d. string (g d)) ds)) want local each
-  where
-    IsReference : Data → Type 0
-    IsReference e = (b : Bool) → IsClean (record { want = Reference f; value = e; repeated = b })
-
-    each : (i : ℕ) (d : Data) → get_item i (items_of (map (λ d. string (g d)) ds)) ≡ Some d
-        → IsClean (record { want = Reference f; value = d; repeated = is_compared_set w && is_repeated (items_of (map (λ d. string (g d)) ds)) i d })
-    each i d found =
-        entry_holds IsReference (map (λ d. string (g d)) ds) i d
-        (all_map (λ e. ⊤) IsReference (λ d. string (g d)) ds (λ e h b. clean_reference f (g e) b) (all_of (λ e. ⊤) ds (λ e. tt))) found
-        (is_compared_set w && is_repeated (items_of (map (λ d. string (g d)) ds)) i d)
-
--- an array whose entries are not compared with one another
-pub clean_list : (w v : Want) (es : List Data) → entry_want w ≡ Some v → is_compared_set w ≡ false
-    → ((r : Reason) → is_shape_fault (asked w (array_of es)) r ≡ false) → AllByRecursion (λ e. IsClean (asked v e)) es → IsClean (asked w (array_of es))
-clean_list w v es want apart local all =
-    clean_array w v (items_of es) want local
-    (λ i d found. subst (λ b. IsClean (record { want = v; value = d; repeated = b })) (sym (ap (λ b. b && is_repeated (items_of es) i d) apart)) (entry_holds (λ e. IsClean (asked v e)) es i d all found))
+-- ---- sets of a report
 
 module _ (t : Data) (clean : NoneOf (ShapeFault t)) (tree : IsTree t) where
   -- an entry of a set in which nothing is repeated
@@ -165,10 +122,3 @@ module _ (t : Data) (clean : NoneOf (ShapeFault t)) (tree : IsTree t) where
       subst (λ b. P (record { want = v; value = d; repeated = b }))
       (sym (ap (λ b. b && is_repeated (items_of es) i d) set ∙ unlike_unrepeated es i d (rising_unlike w v cmp ds want set other inside) found))
       (each d (entry_holds (λ e. Within t (asked v e)) es i d (rising_within w v cmp ds want set other inside) found))
-
-  -- a set in order has no fault
-  pub clean_rising_set : (w v : Want) (cmp : Data → Data → Ordering) (ds : Items) → entry_want w ≡ Some v → is_compared_set w ≡ true → is_reference v ≡ false → Within t (asked w (array ds))
-      → ((r : Reason) → is_shape_fault (asked w (array_of (rising_list cmp (list_of_items ds)))) r ≡ false) → IsClean (asked w (array_of (rising_list cmp (list_of_items ds))))
-  clean_rising_set w v cmp ds want set other inside local =
-      clean_array w v (items_of (rising_list cmp (list_of_items ds))) want local
-      (rising_entry w v cmp ds want set other inside IsClean (λ e within. clean_within t clean (asked v e) within))
