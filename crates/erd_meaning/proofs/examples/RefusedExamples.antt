@@ -1,12 +1,10 @@
 -- Whole reports that are refused, each with the list of all its faults: one for each phase, by computation.
 use Rattle.std.proofs.Common.{◌≡◌, ℕ, List, [], ◌∷◌, ◌++◌, codes, true, length, refl, lit<}
 use Rattle.std.specs.List.Sorted.{IsStrictlySortedBy}
-use Rattle.std.specs.Prelude.{slice_get, unwrap_or}
 use Rattle.serde_json.specs.Data.{Data}
 use Rattle.serde_json.proofs.OnLiterals.{serde_json_on_literals}
 use Rattle.erd_tables.specs.Faults.{fault_cmp, ListsAll}
 use Rattle.erd_tables.specs.declared.class.Class.TheVariants as class
-use Rattle.erd_tables.specs.declared.class.Family.{Family}
 use Rattle.erd_tables.specs.declared.class.Family.TheVariants as family
 use Rattle.erd_tables.specs.declared.class.Role.TheVariants as role
 use Rattle.erd_tables.specs.declared.fault.Fault.{Fault}
@@ -21,14 +19,10 @@ use Rattle.erd_check.proofs.Reports.{tree_of, small_ballot_with, header_node, co
 use Rattle.erd_check.proofs.WholeExamples.{faulty, faulty_faults, faulty_has_all}
 use Rattle.erd_meaning.specs.Accepted.{IsFault}
 use Rattle.erd_meaning.specs.LaterFaults.{IdentityFault, ReferenceFault, SelectionFault}
-use Rattle.erd_meaning.specs.Objects.{Placed, objects, report_of}
 use Rattle.erd_meaning.specs.SelectionNames.{name_in_class}
 use Rattle.erd_meaning.proofs.LaterFaultLists.{identity_faults, reference_faults, selection_faults, no_identity_fault_listed, no_reference_fault_listed}
+use Rattle.erd_meaning.proofs.examples.LaterFaultExamples.{object_at}
 use Rattle.erd_meaning.proofs.refused.RefusedLists.{Each, refused_by_shape, refused_by_identity, refused_by_references, refused_by_selections}
-
--- the object at this position of its family
-abbrev object_at : Data → Family → ℕ → Placed
-object_at t f i = unwrap_or (slice_get (objects f t) i) (report_of t)
 
 -- ---- the shape: a report with many faults
 
