@@ -14,7 +14,7 @@ use Rattle.erd_check.specs.Values.{entries_at}
 
 -- ---- where objects stand
 
--- an object and its place
+-- an object, which is a value of the report, and its place
 pub record Placed : Type 0 where
   pub place : List Step
   pub value : Data

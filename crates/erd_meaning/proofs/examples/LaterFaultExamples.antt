@@ -19,7 +19,7 @@ use Rattle.erd_meaning.specs.Records.{selection_record}
 use Rattle.erd_meaning.specs.SelectionNames.{name_of, name_in_class}
 
 -- the object at this position of its family
-abbrev object_at : Data → Family → ℕ → Placed
+abbrev pub object_at : Data → Family → ℕ → Placed
 object_at t f i = unwrap_or (slice_get (objects f t) i) (report_of t)
 
 -- an empty array of identifiers is none, and a style needs one too

@@ -10,9 +10,7 @@ use Rattle.erd_meaning.specs.NameParts.{NameParts}
 use Rattle.erd_meaning.specs.Objects.{objects}
 use Rattle.erd_meaning.specs.SelectionNames.{name_of, name_cmp}
 use Rattle.erd_meaning.specs.declared.keys.key.Key.{Key}
-
-abbrev local_key : List ℕ → Key
-local_key value = record { kind = codes "local-level"; other = []; value = value }
+use Rattle.erd_meaning.proofs.examples.RecordExamples.{local_key}
 
 abbrev names_in : Data → List (Option NameParts)
 names_in t = map (λ o. name_of t o.value) (objects family.Selection t)

@@ -19,10 +19,11 @@ use Rattle.erd_check.proofs.Reports.{tree_of, small_ballot, small_ballot_canonic
 use Rattle.erd_check.specs.Values.{entries_of}
 use Rattle.erd_check.specs.Wants.{asked_at}
 use Rattle.erd_meaning.specs.Keys.{key_cmp}
-use Rattle.erd_meaning.specs.Meaning.{Label, Content, no_content, first_node, Node, a_contest, a_header, a_json, a_label, untranslated, a_key, a_key_set, MemberValue, a_plain, Record}
+use Rattle.erd_meaning.specs.Meaning.{Label, Content, no_content, first_node, Node, a_contest, a_header, a_json, a_label, untranslated, a_key, a_key_set, MemberValue, a_plain}
 use Rattle.erd_meaning.specs.Records.{selection_record, object_with_key, member_of_class, plain_member, label_of, content_of, json_set, plain_value, records_of, label_beside_text, carried_members, meaning}
 use Rattle.erd_meaning.specs.SelectionNames.{name_named}
 use Rattle.erd_meaning.specs.declared.keys.key.Key.{Key}
+use Rattle.erd_meaning.proofs.meanings.WholeMeanings.{record_of_members}
 use Rattle.erd_meaning.proofs.meanings.WholeRecords.{names_in, absent_plain, absent_member, same_at_every_name}
 
 abbrev pub local_key : List ℕ → Key
@@ -30,9 +31,6 @@ local_key value = record { kind = codes "local-level"; other = []; value = value
 
 abbrev value_at : Data → List Step → Data
 value_at t p = unwrap_or (option_map (λ a. a.value) (asked_at t p)) null
-
-abbrev record_of_members : {V : Type 0} → Class → (List ℕ → Option V) → Option (Record V)
-record_of_members c members = Some (record { class = c; members = members })
 
 -- ---- the order of a ballot
 

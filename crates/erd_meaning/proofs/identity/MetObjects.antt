@@ -8,17 +8,18 @@ use Rattle.erd_tables.specs.declared.place.Step.{Step}
 use Rattle.erd_tables.specs.declared.place.Step.TheVariants.{At}
 use Rattle.erd_tables.specs.declared.class.Family.TheVariants.{Contest, Selection}
 use Rattle.erd_meaning.specs.Objects.{Placed, placed_from, selections_of_contest}
-use Rattle.erd_meaning.specs.code.ObjectWalk.{Located, Met, located, located_one, contest_located, met_one, met_all}
+use Rattle.erd_meaning.specs.code.ObjectWalk.{Located, ObjectsMet, located, located_one, contest_located, met_one, met_all}
 
-pub met_all_append : (m : Met) (xs ys : List Located) → met_all m (xs ++ ys) ≡ met_all (met_all m xs) ys
+pub met_all_append : (m : ObjectsMet) (xs ys : List Located) → met_all m (xs ++ ys) ≡ met_all (met_all m xs) ys
 met_all_append m [] ys = refl
 met_all_append m (x ∷ xs) ys = met_all_append (met_one m x) xs ys
 
-abbrev entry : List Step → ℕ → Value → Placed
+-- a value in an array, with its place
+abbrev pub entry : List Step → ℕ → Value → Placed
 entry p i v = record { place = p ++ At i ∷ []; value = view v }
 
 -- one entry after another, each with the objects inside it
-pub met_inside : (f : Placed → List Located) (p : List Step) (vs : List Value) (i : ℕ) (v : Value) (m n whole : Met) → i < length vs
+pub met_inside : (f : Placed → List Located) (p : List Step) (vs : List Value) (i : ℕ) (v : Value) (m n whole : ObjectsMet) → i < length vs
     → v ≡ get_or vs i v → met_all m (flat_map f (placed_from p i (map view (drop i vs)))) ≡ whole → n ≡ met_all m (f (entry p i v))
     → met_all n (flat_map f (placed_from p (i + 1) (map view (drop (i + 1) vs)))) ≡ whole
 met_inside f p vs i v m n whole inside is before more =
@@ -28,6 +29,6 @@ met_inside f p vs i v m n whole inside is before more =
     ap (λ k. met_all k rest) more ∙ sym (met_all_append m (f (entry p i v)) rest) ∙ sym first ∙ before
 
 -- a contest, and then its selections
-pub contest_met : (o : Placed) (m k n : Met) → k ≡ met_one m (located_one Contest o)
+pub contest_met : (o : Placed) (m k n : ObjectsMet) → k ≡ met_one m (located_one Contest o)
     → n ≡ met_all k (located Selection (selections_of_contest o)) → n ≡ met_all m (contest_located o)
 contest_met o m k n first rest = rest ∙ ap (λ j. met_all j (located Selection (selections_of_contest o))) first

@@ -6,7 +6,7 @@ use Rattle.erd_tables.specs.declared.fault.Fault.{Fault}
 use Rattle.erd_check.specs.Faults.{NoneOf}
 use Rattle.erd_check.proofs.FaultLists.{none_from_empty}
 use Rattle.erd_meaning.specs.LaterFaults.{IdentityFault}
-use Rattle.erd_meaning.specs.code.ObjectWalk.{Met, all_located, kept_objects, met_all}
+use Rattle.erd_meaning.specs.code.ObjectWalk.{ObjectsMet, all_located, kept_objects, met_all}
 use Rattle.erd_meaning.specs.code.Shown.{met_of, shown}
 use Rattle.erd_meaning.specs.declared.objects.object.Object.{Object}
 use Rattle.erd_meaning.specs.declared.objects.object_walk.ObjectWalk.{ObjectWalk}
@@ -21,11 +21,11 @@ pub record Walked (w v : ObjectWalk) (t : Data) : Type 0 where
 
 pub walked_objects : (w v : ObjectWalk) (t : Data) → Walked w v t → map shown v.objects.items ≡ kept_objects t
 walked_objects w v t h =
-    ap (λ (m : Met). m.objects) h.met ∙ met_objects (met_of w) (all_located t) ∙ ap (λ (os : List Object). map shown os ++ kept_objects t) h.no_object
+    ap (λ (m : ObjectsMet). m.objects) h.met ∙ met_objects (met_of w) (all_located t) ∙ ap (λ (os : List Object). map shown os ++ kept_objects t) h.no_object
 
 pub walked_faults : (w v : ObjectWalk) (t : Data) → Walked w v t → v.faults.items ≡ identity_told t
 walked_faults w v t h =
-    ap (λ (m : Met). m.faults) h.met ∙ met_faults (met_of w) (all_located t)
+    ap (λ (m : ObjectsMet). m.faults) h.met ∙ met_faults (met_of w) (all_located t)
     ∙ ap₂ (λ (fs : List Fault) (os : List Object). fs ++ told (map shown os) (all_located t)) h.no_fault h.no_object
 
 pub all_told : (w v : ObjectWalk) (t : Data) → Walked w v t → (fs : List Fault) → fs ≡ v.faults.items → ListsAll (IdentityFault t) fs

@@ -11,7 +11,7 @@ use Rattle.erd_tables.proofs.PlaceOrder.{place_cmp_total, place_same, start_less
 use Rattle.erd_check.specs.code.Paths.{fault_at}
 use Rattle.erd_check.proofs.Order.{In, In-append, In-append_left, In-append_right, In-all, Below, sorted_append}
 use Rattle.erd_meaning.specs.Keys.{has_keys}
-use Rattle.erd_meaning.specs.code.ObjectWalk.{Kept, Located, Met, fault_if, faults_after, has_same_id, has_same_key, met_all, met_one}
+use Rattle.erd_meaning.specs.code.ObjectWalk.{Kept, Located, ObjectsMet, fault_if, faults_after, has_same_id, has_same_key, met_all, met_one}
 use Rattle.erd_meaning.proofs.identity.ObjectPlaces.{AreApart, apart, id_place}
 
 -- ---- the walk as lists
@@ -20,11 +20,11 @@ abbrev pub told : List Kept → List Located → List Fault
 told earlier [] = []
 told earlier (x ∷ xs) = faults_after earlier x.place x.object ++ told (earlier ++ x.object ∷ []) xs
 
-pub met_objects : (m : Met) (xs : List Located) → (met_all m xs).objects ≡ m.objects ++ map (λ x. x.object) xs
+pub met_objects : (m : ObjectsMet) (xs : List Located) → (met_all m xs).objects ≡ m.objects ++ map (λ x. x.object) xs
 met_objects m [] = sym (append-nil m.objects)
 met_objects m (x ∷ xs) = met_objects (met_one m x) xs ∙ append_assoc m.objects (x.object ∷ []) (map (λ x. x.object) xs)
 
-pub met_faults : (m : Met) (xs : List Located) → (met_all m xs).faults ≡ m.faults ++ told m.objects xs
+pub met_faults : (m : ObjectsMet) (xs : List Located) → (met_all m xs).faults ≡ m.faults ++ told m.objects xs
 met_faults m [] = sym (append-nil m.faults)
 met_faults m (x ∷ xs) =
     met_faults (met_one m x) xs ∙ append_assoc m.faults (faults_after m.objects x.place x.object) (told (m.objects ++ x.object ∷ []) xs)

@@ -81,7 +81,7 @@ same_with_one f g d e one no_f no_g agree at_one = fun_ext (λ name. at name (by
 abbrev made_with : {V : Type 0} → (Class → List ℕ → Option V) → Class → Record V
 made_with members_of c = record { class = c; members = members_of c }
 
-abbrev record_of_members : {V : Type 0} → Class → (List ℕ → Option V) → Option (Record V)
+abbrev pub record_of_members : {V : Type 0} → Class → (List ℕ → Option V) → Option (Record V)
 record_of_members c members = Some (record { class = c; members = members })
 
 same_record : {V : Type 0} (f g : Class → List ℕ → Option V) (r : Role) (d e : Data) (c : Class) → class_of_object r d ≡ Some c → class_of_object r e ≡ Some c → f c ≡ g c

@@ -13,13 +13,11 @@ use Rattle.erd_meaning.specs.NameParts.{NameParts}
 use Rattle.erd_meaning.specs.Objects.{Placed, contests, elections, numbered_selections, numbered_selections_of, placed_entries, placed_from}
 use Rattle.erd_meaning.specs.code.SelectionWalk.{NamesMet, named_all, named_one}
 use Rattle.erd_meaning.proofs.accepted.Skeleton.{one_election}
+use Rattle.erd_meaning.proofs.identity.MetObjects.{entry}
 
 pub named_all_append : (name : Data → Option NameParts) (m : NamesMet) (xs ys : List (ℕ × Placed)) → named_all name m (xs ++ ys) ≡ named_all name (named_all name m xs) ys
 named_all_append name m [] ys = refl
 named_all_append name m (x ∷ xs) ys = named_all_append name (named_one name m x) xs ys
-
-abbrev entry : List Step → ℕ → Value → Placed
-entry p i v = record { place = p ++ At i ∷ []; value = view v }
 
 -- the selections of contests, from the one with this number on
 abbrev pub of_contests_from : List Step → ℕ → List Value → List (ℕ × Placed)

@@ -1,6 +1,6 @@
 -- The names of selections, with look-ups among the objects that are kept. It is no definition of the profile: that the names
 -- are those of `SelectionNames` is proved in `AmongNames`.
-use Rattle.std.specs.Prelude.{ℕ, List, [], ◌&&◌, Option, option_and_then, option_map, find, codes}
+use Rattle.std.specs.Prelude.{ℕ, List, [], Option, option_and_then, option_map, codes}
 use Rattle.std.specs.List.{filter_map}
 use Rattle.serde_json.specs.Data.{Data}
 use Rattle.serde_json.specs.Find.{as_str}
@@ -11,7 +11,7 @@ use Rattle.erd_tables.specs.declared.class.Family.TheVariants as family
 use Rattle.erd_check.specs.Wants.{class_of_object}
 use Rattle.erd_meaning.specs.Keys.{key_cmp, key_of}
 use Rattle.erd_check.specs.Values.{entries_at}
-use Rattle.erd_meaning.specs.code.ObjectLookups.{is_of_family, keeps_id}
+use Rattle.erd_meaning.specs.code.ObjectLookups.{object_among}
 use Rattle.erd_meaning.specs.NameParts.{NameParts}
 use Rattle.erd_meaning.specs.code.ObjectWalk.{Kept}
 use Rattle.erd_meaning.specs.SelectionNames.{is_write_in, label_of_selection, order_of_selection, rising_list, selection_role}
@@ -19,7 +19,7 @@ use Rattle.erd_meaning.specs.declared.keys.key.Key.{Key}
 
 -- the key of the object of a family with the `@id`
 abbrev pub key_among : List Kept → Family → List ℕ → Option Key
-key_among ks f id = option_and_then (λ k. k.key) (find (λ k. is_of_family f k && keeps_id id k) ks)
+key_among ks f id = option_and_then (λ k. k.key) (object_among ks f id)
 
 -- the keys that the references of an array name
 abbrev pub keys_among : List Kept → Family → List Data → List Key

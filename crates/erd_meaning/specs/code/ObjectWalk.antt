@@ -20,23 +20,24 @@ use Rattle.erd_meaning.specs.declared.keys.key.Key.{Key}
 
 -- ---- objects
 
--- what is kept of an object: its family, its value, its key if the family has keys, its `@id`
+-- what the program keeps of an object for its look-ups (its struct `Object`): the family, the value, the key if the family
+-- has keys, the `@id`
 pub record Kept : Type 0 where
   pub family : Family
   pub value : Data
   pub key : Option Key
   pub id : Option (List ℕ)
 
--- an object of a family
+-- what is kept of a value that is an object of the family
 abbrev pub kept : Family → Data → Kept
 kept f d = record { family = f; value = d; key = key_of_family_object f d; id = id_of d }
 
--- an object and its place
+-- what is kept of an object, and its place; the value alone with its place is `Placed`
 pub record Located : Type 0 where
   pub place : List Step
   pub object : Kept
 
--- an object of a family at its place
+-- what is kept of an object of a family at its place
 abbrev pub located_one : Family → Placed → Located
 located_one f o = record { place = o.place; object = kept f o.value }
 
@@ -103,16 +104,16 @@ faults_after earlier p k =
 
 -- ---- the walk
 
--- the objects that were met, and their faults
-pub record Met : Type 0 where
+-- how far the walk has come: what is kept of the objects that it has met, and their faults
+pub record ObjectsMet : Type 0 where
   pub objects : List Kept
   pub faults : List Fault
 
 -- one more object
-abbrev pub met_one : Met → Located → Met
+abbrev pub met_one : ObjectsMet → Located → ObjectsMet
 met_one m x = record { objects = m.objects ++ x.object ∷ []; faults = m.faults ++ faults_after m.objects x.place x.object }
 
 -- more objects, one after another
-abbrev pub met_all : Met → List Located → Met
+abbrev pub met_all : ObjectsMet → List Located → ObjectsMet
 met_all m [] = m
 met_all m (x ∷ xs) = met_all (met_one m x) xs

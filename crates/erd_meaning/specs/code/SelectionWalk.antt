@@ -31,7 +31,7 @@ is_taken names c n = list_any (is_selection_named c n) names
 
 -- ---- the walk
 
--- the names that were met, and the faults
+-- how far the walk has come: the names that it has met, and the faults
 pub record NamesMet : Type 0 where
   pub names : List NumberedName
   pub faults : List Fault

@@ -1,7 +1,7 @@
--- What the objects that the program keeps stand for.
+-- What clauses see of the structs of the program: the value of a pointer, the texts of an `@id`, the steps of a path.
 use Rattle.std.specs.Prelude.{map, option_map}
 use Rattle.serde_json.specs.View.{view}
-use Rattle.erd_meaning.specs.code.ObjectWalk.{Kept, Met}
+use Rattle.erd_meaning.specs.code.ObjectWalk.{Kept, ObjectsMet}
 use Rattle.erd_check.specs.code.Paths.{steps_of}
 use Rattle.erd_check.specs.declared.path.Path.{Path}
 use Rattle.serde_json.specs.declared.value.Value.{Value}
@@ -12,19 +12,19 @@ use Rattle.erd_meaning.specs.declared.objects.object.Object.{Object}
 use Rattle.erd_meaning.specs.declared.objects.object_walk.ObjectWalk.{ObjectWalk}
 use Rattle.erd_meaning.specs.declared.names.selection_walk.SelectionWalk.{SelectionWalk}
 
--- an object as it is kept
+-- what clauses see of an `Object`: what is kept of it
 abbrev pub shown : Object → Kept
 shown o = record { family = o.family; value = view o.value.now; key = o.key; id = option_map (λ s. s.now) o.id }
 
--- what the walk has met
-abbrev pub met_of : ObjectWalk → Met
+-- what clauses see of the walk over the objects: how far it has come
+abbrev pub met_of : ObjectWalk → ObjectsMet
 met_of w = record { objects = map shown w.objects.items; faults = w.faults.items }
 
--- the name of a selection as it is kept
+-- what clauses see of the name of a selection with the number of its contest
 abbrev pub name_shown : NamedSelection → NumberedName
 name_shown s = (s.contest, s.name)
 
--- what the walk over the selections has met
+-- what clauses see of the walk over the selections: how far it has come
 abbrev pub names_met : SelectionWalk → NamesMet
 names_met w = record { names = map name_shown w.names.items; faults = w.faults.items }
 

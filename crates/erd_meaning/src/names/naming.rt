@@ -1,10 +1,8 @@
-ghost use Rattle.std.specs.Prelude.{◌≡◌, false, map, option_and_then, IfOk};
-ghost use Rattle.std.specs.Option.{option_copied};
-ghost use Rattle.serde_json.specs.Find.{as_str};
+ghost use Rattle.std.specs.Prelude.{◌≡◌, false, map, IfOk};
 ghost use Rattle.serde_json.specs.View.{view};
 ghost use Rattle.serde_json.specs.Written.{has_float};
 ghost use Rattle.erd_meaning.specs.Keys.{key_cmp};
-ghost use Rattle.erd_meaning.specs.code.NamesAmong.{key_among, keys_among, name_among, selection_keys_among};
+ghost use Rattle.erd_meaning.specs.code.NamesAmong.{keys_among, name_among, selection_keys_among};
 ghost use Rattle.erd_meaning.specs.SelectionNames.{is_write_in, label_of_selection, order_of_selection, rising_list};
 ghost use Rattle.erd_meaning.specs.code.Shown.{shown};
 
@@ -12,7 +10,7 @@ use crate::keys::key_of::key_of;
 use crate::keys::shared_key::SharedKey;
 use crate::names::label::label_text;
 use crate::names::selection_name::SelectionName;
-use crate::objects::lookup::key_among;
+use crate::objects::lookup::key_referred;
 use crate::objects::object::Object;
 use erd_check::values::{class_of_object, entries_at};
 use erd_tables::{Class, Family, Role, Text};
@@ -106,21 +104,6 @@ fn keys_among(
         }
     }
     Ok(keys)
-}
-
-/// The key of what a reference names.
-fn key_referred<'b>(
-    objects: &'b [Object],
-    family: Family,
-    reference: &Value,
-) -> Option<&'b SharedKey>
-    ensures { option_copied result
-        ≡ option_and_then (key_among (map shown objects.now) family) (as_str (view reference.now)) }
-{
-    match reference.as_str() {
-        Some(id) => key_among(objects, family, id),
-        None => None,
-    }
 }
 
 /// Whether a selection is for a write-in.

@@ -25,12 +25,9 @@ impl NamedSelection {
 pub(crate) fn is_taken(names: &[NamedSelection], contest: usize, name: &SelectionName) -> bool
     ensures { result ≡ is_taken (map name_shown names.now) contest name.now }
 {
-    for selection in names {
-        if selection.is_named(contest, name) {
-            return true;
-        }
-    }
-    false
+    names
+        .iter()
+        .any(|selection| selection.is_named(contest, name))
 }
 
 /// Where the selection of the contest with the name stands among all.

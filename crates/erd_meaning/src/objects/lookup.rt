@@ -1,8 +1,9 @@
-ghost use Rattle.std.specs.Prelude.{◌≡◌, length, map, option_map, slice_get};
+ghost use Rattle.std.specs.Prelude.{◌≡◌, length, map, option_and_then, option_map, slice_get};
 ghost use Rattle.std.specs.List.{position};
 ghost use Rattle.std.specs.Option.{option_copied};
+ghost use Rattle.serde_json.specs.Find.{as_str};
 ghost use Rattle.serde_json.specs.View.{view};
-ghost use Rattle.erd_meaning.specs.code.ObjectLookups.{is_keyed, keeps_id, those_of};
+ghost use Rattle.erd_meaning.specs.code.ObjectLookups.{is_keyed, keeps_id, object_among, those_of};
 ghost use Rattle.erd_meaning.specs.code.ReferenceWalk.{is_known, owner_among};
 ghost use Rattle.erd_meaning.specs.code.NamesAmong.{key_among};
 ghost use Rattle.erd_meaning.specs.code.Shown.{shown};
@@ -66,38 +67,41 @@ pub(crate) fn place_of_id(objects: &[Object], id: &str) -> Option<usize>
 pub(crate) fn is_id_known(objects: &[Object], id: &str) -> bool
     ensures { result ≡ is_known (map shown objects.now) id.now }
 {
-    for object in objects {
-        if object.keeps_id(id) {
-            return true;
-        }
-    }
-    false
+    objects.iter().any(|object| object.keeps_id(id))
 }
 
 /// The first object of the family with the `@id`.
-pub(crate) fn owner_of<'a>(objects: &[Object<'a>], family: Family, id: &str) -> Option<&'a Value>
-    ensures { option_map (λ v. view v.now) result ≡ owner_among (map shown objects.now) family id.now }
+fn object_with_id<'b, 'a>(
+    objects: &'b [Object<'a>],
+    family: Family,
+    id: &str,
+) -> Option<&'b Object<'a>>
+    ensures { option_map (λ o. shown o.now) result ≡ object_among (map shown objects.now) family id.now }
 {
     for object in objects {
         if object.is_of(family) && object.keeps_id(id) {
-            return Some(object.value);
+            return Some(object);
         }
     }
     None
 }
 
-/// The key of the first object of the family with the `@id`, if it has one.
-pub(crate) fn key_among<'b>(
+/// The value of the first object of the family with the `@id`.
+pub(crate) fn owner_of<'a>(objects: &[Object<'a>], family: Family, id: &str) -> Option<&'a Value>
+    ensures { option_map (λ v. view v.now) result ≡ owner_among (map shown objects.now) family id.now }
+{
+    Some(object_with_id(objects, family, id)?.value)
+}
+
+/// The key of the object of the family that a reference names, if it names one that has a key.
+pub(crate) fn key_referred<'b>(
     objects: &'b [Object],
     family: Family,
-    id: &str,
+    reference: &Value,
 ) -> Option<&'b SharedKey>
-    ensures { option_copied result ≡ key_among (map shown objects.now) family id.now }
+    ensures { option_copied result
+        ≡ option_and_then (key_among (map shown objects.now) family) (as_str (view reference.now)) }
 {
-    for object in objects {
-        if object.is_of(family) && object.keeps_id(id) {
-            return object.key.as_ref();
-        }
-    }
-    None
+    let id = reference.as_str()?;
+    object_with_id(objects, family, id)?.key.as_ref()
 }

@@ -187,22 +187,12 @@ fn push_identity_faults(
 fn has_twin(object: &Object, earlier: &[Object]) -> bool
     ensures { result ≡ list_any (has_same_key (shown object.now)) (map shown earlier.now) }
 {
-    for other in earlier {
-        if object.is_twin(other) {
-            return true;
-        }
-    }
-    false
+    earlier.iter().any(|other| object.is_twin(other))
 }
 
 /// Whether an earlier object has the `@id`.
 fn is_named_before(object: &Object, earlier: &[Object]) -> bool
     ensures { result ≡ list_any (has_same_id (shown object.now)) (map shown earlier.now) }
 {
-    for other in earlier {
-        if object.has_id_of(other) {
-            return true;
-        }
-    }
-    false
+    earlier.iter().any(|other| object.has_id_of(other))
 }

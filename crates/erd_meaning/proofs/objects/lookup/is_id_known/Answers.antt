@@ -1,0 +1,12 @@
+use Rattle.std.proofs.Common.{map, sym, ◌∙◌, rules, tests}
+use Rattle.std.proofs.lemmas.Iterator.{YieldsList-from_slice}
+use Rattle.std.proofs.lemmas.Iterator.Search.{any_from_yields_List}
+use Rattle.erd_tables.proofs.Lists.{list_any-map}
+use Rattle.erd_meaning.specs.code.ObjectLookups.{keeps_id}
+use Rattle.erd_meaning.specs.code.Shown.{shown}
+use Rattle.erd_meaning.proofs.objects.lookup.is_id_known.Goals as goal
+
+pub returns : goal.returns
+returns c =
+    any_from_yields_List (λ o. keeps_id c.args.id.now (shown o)) _ _ _ c.any.ensures.ran (YieldsList-from_slice c.args.objects.now cc) (λ x b q k. search (rules, tests))
+    ∙ sym (list_any-map (keeps_id c.args.id.now) shown c.args.objects.now)

@@ -1,9 +1,0 @@
-use Rattle.std.proofs.Common.{◌≡◌, drop, map}
-use Rattle.std.specs.List.{list_any}
-use Rattle.erd_meaning.specs.code.ObjectWalk.{has_same_id}
-use Rattle.erd_meaning.specs.code.Shown.{shown}
-use Rattle.erd_meaning.proofs.objects.object_walk.is_named_before.Given as goal
-
-abbrev pub invariant-loop-other : goal.invariant-loop-other
-invariant-loop-other l =
-    list_any (has_same_id (shown l.object)) (map shown l.earlier) ≡ list_any (has_same_id (shown l.object)) (map shown (drop l.other-index l.earlier))
