@@ -149,8 +149,6 @@ fn object_of<'a>(report: &'a Report, family: Family, key: &Key) -> Option<&'a Va
     requires keyed { has_keys family ≡ true }
     ensures { option_map (λ v. view v.now) result ≡ object_with_key (view report.now) family key.now }
 {
-    match report.find(family, key) {
-        Some(place) => report.object(family, place),
-        None => None,
-    }
+    let place = report.find(family, key)?;
+    report.object(family, place)
 }

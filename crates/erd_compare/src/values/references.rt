@@ -53,10 +53,8 @@ pub(crate) fn name_named<'a>(report: &'a Report, value: &Value) -> Option<&'a Se
 fn selection_name<'a>(report: &'a Report, index: usize) -> Option<&'a SelectionName>
     ensures { option_map (λ name. name.now) result ≡ option_map (λ s. s.1) (selection_in (view report.now) index) }
 {
-    match report.selection_at(index) {
-        Some((_, name)) => Some(name),
-        None => None,
-    }
+    let (_, name) = report.selection_at(index)?;
+    Some(name)
 }
 
 /// Whether two families are one.
