@@ -1,8 +1,4 @@
 pub mod identity
-pub mod ReferenceFaultLists
-pub mod SelectionEntries
-pub mod ReferenceLookups
-pub mod ReferenceWalks
 pub mod selections
 pub mod refused
 pub mod accepted
@@ -10,3 +6,4 @@ pub mod finding
 pub mod orders
 pub mod meanings
 pub mod examples
+pub mod references

@@ -11,8 +11,8 @@ pub mod NameHashes
 pub mod ObjectWalk
 -- look-ups among the objects that are kept
 pub mod ObjectLookups
--- the faults of references in the order in which the program meets them
-pub mod ReferenceWalk
+-- the reasons of a reference, as the program tells them
+pub mod ReferenceReasons
 -- the names of selections by these look-ups
 pub mod NamesAmong
 -- the names of selections in the order in which the program meets them, with the faults of selections

@@ -4,7 +4,6 @@
 pub mod keys;
 pub mod names;
 mod objects;
-mod reference_walk;
 mod report;
 
 pub use keys::key::Key;

@@ -11,6 +11,7 @@ ghost use Rattle.erd_meaning.specs.code.Resolved.{IsResolved};
 ghost use Rattle.erd_meaning.specs.SelectionNames.{name_of};
 
 pub(crate) mod resolving;
+pub(crate) mod reference_judge;
 
 use crate::keys::key::Key;
 use crate::names::naming::name_of_selection;

@@ -6,7 +6,7 @@ use Rattle.erd_check.proofs.WholeExamples.{one_unit_is_faultless, one_unit_is_tr
 use Rattle.erd_meaning.specs.Accepted.{IsAccepted}
 use Rattle.erd_meaning.proofs.identity.IdentityFaults.{identity_told}
 use Rattle.erd_meaning.proofs.refused.RefusedLists.{accepted_by_lists}
-use Rattle.erd_meaning.proofs.SelectionEntries.{reference_faults}
+use Rattle.erd_meaning.proofs.references.SelectionEntries.{reference_faults}
 use Rattle.erd_meaning.proofs.selections.SelectionFaults.{selections_told}
 
 unit_identity : length (identity_told (tree_of one_unit)) ≡ 0

@@ -13,7 +13,7 @@ use Rattle.erd_check.proofs.Reports.{tree_of, small_ballot_with, header_node, co
 use Rattle.erd_check.proofs.WholeExamples.{faulty, faulty_faults, faulty_has_all}
 use Rattle.erd_meaning.specs.Accepted.{IsFault}
 use Rattle.erd_meaning.proofs.identity.IdentityFaults.{identity_told}
-use Rattle.erd_meaning.proofs.SelectionEntries.{reference_faults}
+use Rattle.erd_meaning.proofs.references.SelectionEntries.{reference_faults}
 use Rattle.erd_meaning.proofs.selections.SelectionFaults.{selections_told}
 use Rattle.erd_meaning.proofs.refused.RefusedLists.{refused_by_shape, refused_by_identity, refused_by_references, refused_by_selections}
 

@@ -14,7 +14,7 @@ use Rattle.erd_meaning.specs.Accepted.{IsAccepted, IsFault, OrElse}
 use Rattle.erd_meaning.specs.LaterFaults.{IdentityFault, ReferenceFault, SelectionFault}
 use Rattle.erd_meaning.proofs.identity.IdentityFaults.{identity_listed, identity_told}
 use Rattle.erd_meaning.proofs.accepted.Phases.{accepted_by_phases}
-use Rattle.erd_meaning.proofs.SelectionEntries.{reference_faults, reference_faults_listed}
+use Rattle.erd_meaning.proofs.references.SelectionEntries.{reference_faults, reference_faults_listed}
 use Rattle.erd_meaning.proofs.selections.SelectionFaults.{selections_listed, selections_told}
 
 -- where the first phase has faults, they are all

@@ -16,7 +16,7 @@ use Rattle.erd_meaning.specs.Objects.{Placed, has_id, id_of, objects}
 use Rattle.erd_meaning.specs.code.ObjectWalk.{Kept, kept, kept_objects}
 use Rattle.erd_meaning.specs.SelectionNames.{is_write_in, key_named, keys_named, keys_of_selection, label_of_selection, name_in_class, name_of, order_of_selection, rising_list, selection_role}
 use Rattle.erd_meaning.proofs.finding.Lookups.{kept_of, those_kept}
-use Rattle.erd_meaning.proofs.ReferenceLookups.{find_both, named_same}
+use Rattle.erd_meaning.proofs.references.ReferenceLookups.{find_both, named_same}
 
 -- ---- the key of what an `@id` names
 

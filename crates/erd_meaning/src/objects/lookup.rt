@@ -4,7 +4,7 @@ ghost use Rattle.std.specs.Option.{option_copied};
 ghost use Rattle.serde_json.specs.Find.{as_str};
 ghost use Rattle.serde_json.specs.View.{view};
 ghost use Rattle.erd_meaning.specs.code.ObjectLookups.{is_keyed, keeps_id, object_among, those_of};
-ghost use Rattle.erd_meaning.specs.code.ReferenceWalk.{is_known, owner_among};
+ghost use Rattle.erd_meaning.specs.code.ReferenceReasons.{is_known, owner_among};
 ghost use Rattle.erd_meaning.specs.code.NamesAmong.{key_among};
 ghost use Rattle.erd_meaning.specs.code.Shown.{shown};
 

@@ -14,7 +14,7 @@ use crate::names::numbered_name::NamedSelection;
 use crate::names::selection_walk::{SelectionWalk, meet_selections};
 use crate::objects::object::Object;
 use crate::objects::object_walk::{ObjectWalk, meet_report};
-use crate::reference_walk::reference_faults;
+use crate::report::reference_judge::reference_faults;
 use crate::report::Report;
 use erd_check::{CheckError, Shaped};
 use erd_tables::FaultList;

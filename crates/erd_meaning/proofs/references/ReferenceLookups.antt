@@ -13,7 +13,7 @@ use Rattle.erd_check.proofs.Reasons.{both_true}
 use Rattle.erd_meaning.specs.code.ObjectLookups.{is_of_family, keeps_id}
 use Rattle.erd_meaning.specs.Objects.{Placed, has_id, id_of, is_owned, objects, owner}
 use Rattle.erd_meaning.specs.code.ObjectWalk.{Kept, kept, kept_objects, same_id}
-use Rattle.erd_meaning.specs.code.ReferenceWalk.{is_known, owner_among}
+use Rattle.erd_meaning.specs.code.ReferenceReasons.{is_known, owner_among}
 use Rattle.erd_meaning.proofs.identity.IdentityFaults.{any_from}
 use Rattle.erd_meaning.proofs.finding.Lookups.{kept_of, those_kept}
 use Rattle.erd_meaning.proofs.identity.ObjectFamilies.{itself}

@@ -4,9 +4,9 @@ use Rattle.erd_tables.specs.Faults.{ListsAll}
 use Rattle.erd_check.specs.code.Walk.{told_of_report}
 use Rattle.erd_meaning.specs.LaterFaults.{ReferenceFault}
 use Rattle.erd_meaning.specs.code.ObjectWalk.{Kept}
-use Rattle.erd_meaning.specs.code.ReferenceWalk.{reference_reasons_told}
-use Rattle.erd_meaning.proofs.ReferenceWalks.{references_all}
-use Rattle.erd_meaning.proofs.reference_walk.reference_faults.Goals as goal
+use Rattle.erd_meaning.specs.code.ReferenceReasons.{reference_reasons_told}
+use Rattle.erd_meaning.proofs.references.ReferenceWalks.{references_all}
+use Rattle.erd_meaning.proofs.report.reference_judge.reference_faults.Goals as goal
 
 pub returns : goal.returns
 returns c =

@@ -6,7 +6,7 @@ ghost use Rattle.erd_check.specs.code.Walk.{faults_of};
 ghost use Rattle.erd_meaning.specs.LaterFaults.{ReferenceFault, is_selection_in};
 ghost use Rattle.erd_meaning.specs.Objects.{has_id};
 ghost use Rattle.erd_meaning.specs.code.ObjectWalk.{kept_objects};
-ghost use Rattle.erd_meaning.specs.code.ReferenceWalk.{id_reasons, is_elsewhere, is_of_others, reason_if};
+ghost use Rattle.erd_meaning.specs.code.ReferenceReasons.{id_reasons, is_elsewhere, is_of_others, reason_if};
 ghost use Rattle.erd_meaning.specs.code.Shown.{shown};
 
 use crate::objects::lookup::{is_id_known, owner_of};
@@ -45,7 +45,7 @@ struct ReferenceJudge<'b, 'a> {
 
 impl<'b, 'a> Visitor for ReferenceJudge<'b, 'a> {
     ghost use Rattle.std.specs.Prelude.{map, ⊤};
-    ghost use Rattle.erd_meaning.specs.code.ReferenceWalk.{reference_reasons_told};
+    ghost use Rattle.erd_meaning.specs.code.ReferenceReasons.{reference_reasons_told};
     ghost use Rattle.erd_meaning.specs.code.Shown.{shown};
 
     ghost tells = { λ j. reference_reasons_told (map shown j.objects.now) };

@@ -19,10 +19,10 @@ use Rattle.erd_check.proofs.Walks.{walk_lists, Agrees, Around}
 use Rattle.erd_meaning.specs.LaterFaults.{is_in_other_contest, is_other_selection, is_selection_in, ReferenceFault}
 use Rattle.erd_meaning.specs.Objects.{is_owned, owner}
 use Rattle.erd_meaning.specs.code.ObjectWalk.{kept_objects}
-use Rattle.erd_meaning.specs.code.ReferenceWalk.{id_reasons, is_elsewhere, is_known, is_of_others, is_selection_family, reason_if, reference_reasons_told}
-use Rattle.erd_meaning.proofs.ReferenceFaultLists.{reference_reasons}
-use Rattle.erd_meaning.proofs.ReferenceLookups.{known_same, owner_same}
-use Rattle.erd_meaning.proofs.SelectionEntries.{has_reference_fault, reasons_all, reasons_there}
+use Rattle.erd_meaning.specs.code.ReferenceReasons.{id_reasons, is_elsewhere, is_known, is_of_others, is_selection_family, reason_if, reference_reasons_told}
+use Rattle.erd_meaning.proofs.references.ReferenceFaultLists.{reference_reasons}
+use Rattle.erd_meaning.proofs.references.ReferenceLookups.{known_same, owner_same}
+use Rattle.erd_meaning.proofs.references.SelectionEntries.{has_reference_fault, reasons_all, reasons_there}
 
 -- ---- at one place
 

@@ -35,7 +35,7 @@ use Rattle.erd_check.proofs.Reasons.{and_true, both_true}
 use Rattle.erd_check.proofs.TableKinds.{kind_of_name, kind_of_id}
 use Rattle.erd_meaning.specs.LaterFaults.{is_other_selection, is_reference_fault, ReferenceFault}
 use Rattle.erd_check.proofs.Walks.{outer_place}
-use Rattle.erd_meaning.proofs.ReferenceFaultLists.{are_entry_steps, fault_of_reason, has_reference_reason, is_elsewhere, last_steps, reason_of_fault, reference_reasons, reference_reasons_rise}
+use Rattle.erd_meaning.proofs.references.ReferenceFaultLists.{are_entry_steps, fault_of_reason, has_reference_reason, is_elsewhere, last_steps, reason_of_fault, reference_reasons, reference_reasons_rise}
 
 -- ---- the table
 

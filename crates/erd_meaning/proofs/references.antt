@@ -1,0 +1,5 @@
+-- The walk that judges references tells exactly the faults of references.
+pub mod ReferenceFaultLists
+pub mod SelectionEntries
+pub mod ReferenceLookups
+pub mod ReferenceWalks
