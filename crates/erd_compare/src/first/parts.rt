@@ -66,12 +66,10 @@ fn keyless_difference(
     requires other { IsWholeTree (view other.now) }
     ensures { IfOk result (TellsKeyless (object_record (view sides.entry.left.now) role (view one.now)) (object_record (view sides.entry.right.now) role (view other.now)) part) }
 {
-    match object_difference(alloc, sides, role, one, other)? {
-        Some(how) => Ok(Some(Difference {
-            part,
-            key: None,
-            how,
-        })),
-        None => Ok(None),
-    }
+    let how = object_difference(alloc, sides, role, one, other)?;
+    Ok(how.map(|how| Difference {
+        part,
+        key: None,
+        how,
+    }))
 }
