@@ -13,8 +13,8 @@ ghost use Rattle.erd_meaning.specs.SelectionNames.{name_of};
 pub(crate) mod resolving;
 
 use crate::keys::key::Key;
+use crate::names::name_in_contest::{NameInContest, place_of_name};
 use crate::names::naming::name_of_selection;
-use crate::names::numbered_name::{NamedSelection, place_of_name};
 use crate::names::selection_name::SelectionName;
 use crate::objects::lookup::{count_of, nth_of, place_of_id, place_of_key};
 use crate::objects::object::Object;
@@ -32,7 +32,7 @@ use std::marker::Model;
 pub struct Report<'a> {
     tree: &'a Value,
     objects: Vec<Object<'a>>,
-    names: Vec<NamedSelection>,
+    names: Vec<NameInContest>,
 }
 
 impl<'a> Model for Report<'a> {
@@ -55,7 +55,7 @@ impl<'a> Report<'a> {
     pub(crate) fn of(
         tree: &'a Value,
         objects: Vec<Object<'a>>,
-        names: Vec<NamedSelection>,
+        names: Vec<NameInContest>,
     ) -> Report<'a>
         requires { IsResolved tree.now objects.items names.items }
         ensures { result ≡ tree.now }

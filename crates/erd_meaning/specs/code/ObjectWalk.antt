@@ -1,7 +1,7 @@
 -- The objects of a report in the order of their places, as the program goes over them, with the faults of identity that it
 -- tells on the way. It is no definition of the profile: that the objects are those of `objects`, and the faults those of
 -- `IdentityFault`, is proved in `IdentityFaults`.
-use Rattle.std.specs.Prelude.{ℕ, List, [], ◌∷◌, ◌++◌, Bool, false, ◌&&◌, ◌==◌, if◌then◌else◌, Option, Some, None, map, codes, is_none, flat_map}
+use Rattle.std.specs.Prelude.{ℕ, List, [], ◌∷◌, ◌++◌, Bool, false, ◌&&◌, ◌==◌, if◌then◌else◌, Option, Some, map, codes, is_none, flat_map}
 use Rattle.std.specs.List.{list_any}
 use Rattle.std.specs.Ordering.{is_eq}
 use Rattle.std.specs.Str.{bytes_eq}
