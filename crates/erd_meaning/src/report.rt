@@ -14,8 +14,8 @@ pub(crate) mod resolving;
 pub(crate) mod reference_judge;
 
 use crate::keys::key::Key;
+use crate::names::name_in_contest::{NameInContest, place_of_name};
 use crate::names::naming::name_of_selection;
-use crate::names::numbered_name::{NamedSelection, place_of_name};
 use crate::names::selection_name::SelectionName;
 use crate::objects::lookup::{count_of, nth_of, place_of_id, place_of_key};
 use crate::objects::object::Object;
@@ -33,7 +33,7 @@ use std::marker::Model;
 pub struct Report<'a> {
     tree: &'a Value,
     objects: Vec<Object<'a>>,
-    names: Vec<NamedSelection>,
+    names: Vec<NameInContest>,
 }
 
 impl<'a> Model for Report<'a> {
@@ -56,7 +56,7 @@ impl<'a> Report<'a> {
     pub(crate) fn of(
         tree: &'a Value,
         objects: Vec<Object<'a>>,
-        names: Vec<NamedSelection>,
+        names: Vec<NameInContest>,
     ) -> Report<'a>
         requires { IsResolved tree.now objects.items names.items }
         ensures { result ≡ tree.now }

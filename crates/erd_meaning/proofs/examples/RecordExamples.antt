@@ -8,7 +8,6 @@ use Rattle.serde_json.specs.Data.{Data, null, boolean, string}
 use Rattle.serde_json.proofs.OnLiterals.{serde_json_on_literals}
 use Rattle.erd_tables.specs.Classes.{families}
 use Rattle.erd_tables.specs.Rows.{unit_rows, party_rows, person_rows, office_rows, header_rows, candidate_rows, rows_of_class}
-use Rattle.erd_tables.specs.declared.class.Class.{Class}
 use Rattle.erd_tables.specs.declared.class.Class.TheVariants as class
 use Rattle.erd_tables.specs.declared.class.Family.{Family}
 use Rattle.erd_tables.specs.declared.class.Family.TheVariants as family

@@ -17,7 +17,7 @@ use Rattle.erd_meaning.specs.code.ObjectWalk.{Kept, same_id, same_key}
 use Rattle.erd_meaning.specs.code.Resolved.{IsResolved}
 use Rattle.erd_meaning.specs.code.Shown.{shown}
 use Rattle.erd_meaning.specs.declared.keys.key.Key.{Key}
-use Rattle.erd_meaning.specs.declared.names.numbered_name.NamedSelection.{NamedSelection}
+use Rattle.erd_meaning.specs.declared.names.name_in_contest.NameInContest.{NameInContest}
 use Rattle.erd_meaning.specs.declared.objects.object.Object.{Object}
 use Rattle.erd_meaning.proofs.finding.OneObject.{Hit, hit, in_at, missed, one_id, one_key}
 use Rattle.erd_meaning.proofs.identity.IdentityFaults.{same_id_from, same_key_from}
@@ -54,14 +54,14 @@ standing {A} g os f i a e = at (slice_get (those_of f (map shown os)) i) refl e
 
 -- ---- by a key
 
-key_here : (v : Value) (os : List Object) (ns : List NamedSelection) (f : Family) (key : Key) (n : ℕ) → IsResolved v os ns → Hit (λ o. is_keyed f key (shown o)) os n
+key_here : (v : Value) (os : List Object) (ns : List NameInContest) (f : Family) (key : Key) (n : ℕ) → IsResolved v os ns → Hit (λ o. is_keyed f key (shown o)) os n
     → key_in f (view v) (rank f os n) ≡ Some key
 key_here v os ns f key n r h =
     let both = and_true (is_of_family f (shown h.one)) (same_key (shown h.one).key (Some key)) h.passes in
     let same = same_key_from (shown h.one).key (Some key) both.1 in
     sym (part_at (λ k. k.key) v os ns f (rank f os n) r) ∙ ap (option_and_then (λ (k : Kept). k.key)) (ranked f os n h.one h.at both.0) ∙ same.1 ∙ sym same.2
 
-pub key_found : (v : Value) (os : List Object) (ns : List NamedSelection) (f : Family) (key : Key) (n i : ℕ) → IsResolved v os ns → position (λ o. is_keyed f key (shown o)) os ≡ Some n
+pub key_found : (v : Value) (os : List Object) (ns : List NameInContest) (f : Family) (key : Key) (n i : ℕ) → IsResolved v os ns → position (λ o. is_keyed f key (shown o)) os ≡ Some n
     → i ≡ rank f os n → FindsKey (view v) f key (Some i)
 key_found v os ns f key n i r e is j =
     let here : key_in f (view v) i ≡ Some key = subst (λ m. key_in f (view v) m ≡ Some key) (sym is) (key_here v os ns f key n r (hit (λ o. is_keyed f key (shown o)) os n e)) in (
@@ -69,7 +69,7 @@ key_found v os ns f key n i r e is j =
       λ there. ap Some (one_key (view v) f key i j r.identified here there),
     )
 
-pub key_missed : (v : Value) (os : List Object) (ns : List NamedSelection) (f : Family) (key : Key) → IsResolved v os ns → position (λ o. is_keyed f key (shown o)) os ≡ None
+pub key_missed : (v : Value) (os : List Object) (ns : List NameInContest) (f : Family) (key : Key) → IsResolved v os ns → position (λ o. is_keyed f key (shown o)) os ≡ None
     → FindsKey (view v) f key None
 key_missed v os ns f key r e j = (λ same. cc, λ there. absurd (nowhere there))
   where
@@ -81,14 +81,14 @@ key_missed v os ns f key r e j = (λ same. cc, λ there. absurd (nowhere there))
 
 -- ---- by an `@id`
 
-id_here : (v : Value) (os : List Object) (ns : List NamedSelection) (id : List ℕ) (n : ℕ) → IsResolved v os ns → (h : Hit (λ o. keeps_id id (shown o)) os n)
+id_here : (v : Value) (os : List Object) (ns : List NameInContest) (id : List ℕ) (n : ℕ) → IsResolved v os ns → (h : Hit (λ o. keeps_id id (shown o)) os n)
     → id_in h.one.family (view v) (rank h.one.family os n) ≡ Some id
 id_here v os ns id n r h =
     let f = h.one.family in
     let same = same_id_from (shown h.one).id (Some id) h.passes in
     sym (part_at (λ k. k.id) v os ns f (rank f os n) r) ∙ ap (option_and_then (λ (k : Kept). k.id)) (ranked f os n h.one h.at (itself (family_number f))) ∙ same.1 ∙ sym same.2
 
-pub id_found : (v : Value) (os : List Object) (ns : List NamedSelection) (id : List ℕ) (n i : ℕ) (o : Object) → IsResolved v os ns → position (λ o. keeps_id id (shown o)) os ≡ Some n
+pub id_found : (v : Value) (os : List Object) (ns : List NameInContest) (id : List ℕ) (n i : ℕ) (o : Object) → IsResolved v os ns → position (λ o. keeps_id id (shown o)) os ≡ Some n
     → o ≡ get_or os n o → i ≡ rank o.family os n → FindsId (view v) id (Some (o.family, i))
 id_found v os ns id n i o r e at is g j =
     let h = hit (λ o. keeps_id id (shown o)) os n e in
@@ -103,7 +103,7 @@ id_found v os ns id n i o r e at is g j =
           ap₂ (λ f m. Some (f, m)) parts.0 parts.1,
     )
 
-pub id_missed : (v : Value) (os : List Object) (ns : List NamedSelection) (id : List ℕ) → IsResolved v os ns → position (λ o. keeps_id id (shown o)) os ≡ None → FindsId (view v) id None
+pub id_missed : (v : Value) (os : List Object) (ns : List NameInContest) (id : List ℕ) → IsResolved v os ns → position (λ o. keeps_id id (shown o)) os ≡ None → FindsId (view v) id None
 id_missed v os ns id r e f j = (λ same. cc, λ there. absurd (nowhere there))
   where
     nowhere : id_in f (view v) j ≡ Some id → ⊥

@@ -10,16 +10,16 @@ use Rattle.erd_meaning.specs.NameParts.{NameParts}
 use Rattle.erd_meaning.specs.code.Resolved.{IsResolved}
 use Rattle.erd_meaning.specs.code.SelectionWalk.{NumberedName, is_selection_named}
 use Rattle.erd_meaning.specs.code.Shown.{name_shown}
-use Rattle.erd_meaning.specs.declared.names.numbered_name.NamedSelection.{NamedSelection}
+use Rattle.erd_meaning.specs.declared.names.name_in_contest.NameInContest.{NameInContest}
 use Rattle.erd_meaning.specs.declared.objects.object.Object.{Object}
 use Rattle.erd_meaning.proofs.selections.NamesTold.{is_named_from, is_named_itself}
 use Rattle.erd_meaning.proofs.finding.OneObject.{hit, in_at, missed}
 use Rattle.erd_meaning.proofs.selections.SelectionsMet.{one_selection}
 
-pub name_at : (v : Value) (os : List Object) (ns : List NamedSelection) (i : ℕ) → IsResolved v os ns → option_map name_shown (slice_get ns i) ≡ selection_in (view v) i
+pub name_at : (v : Value) (os : List Object) (ns : List NameInContest) (i : ℕ) → IsResolved v os ns → option_map name_shown (slice_get ns i) ≡ selection_in (view v) i
 name_at v os ns i r = sym (slice_get-map {B = NumberedName} name_shown ns i) ∙ r.named i
 
-pub selection_found : (v : Value) (os : List Object) (ns : List NamedSelection) (c : ℕ) (n : NameParts) (found : Option ℕ) → IsResolved v os ns
+pub selection_found : (v : Value) (os : List Object) (ns : List NameInContest) (c : ℕ) (n : NameParts) (found : Option ℕ) → IsResolved v os ns
     → position (λ s. is_selection_named c n (name_shown s)) ns ≡ found → FindsSelection (view v) c n found
 selection_found v os ns c n None r e i = (λ same. cc, λ there. absurd (nowhere there))
   where

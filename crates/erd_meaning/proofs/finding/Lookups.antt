@@ -11,7 +11,7 @@ use Rattle.erd_meaning.specs.Objects.{Placed, objects}
 use Rattle.erd_meaning.specs.code.ObjectWalk.{Kept, Located, all_located, kept, kept_objects, located}
 use Rattle.erd_meaning.specs.code.Resolved.{IsResolved}
 use Rattle.erd_meaning.specs.code.Shown.{shown}
-use Rattle.erd_meaning.specs.declared.names.numbered_name.NamedSelection.{NamedSelection}
+use Rattle.erd_meaning.specs.declared.names.name_in_contest.NameInContest.{NameInContest}
 use Rattle.erd_meaning.specs.declared.objects.object.Object.{Object}
 use Rattle.erd_meaning.proofs.identity.ObjectFamilies.{is_of, objects_met, pick}
 
@@ -34,10 +34,10 @@ objects_located f (o ∷ os) = ap (λ ks. kept f o.value ∷ ks) (objects_locate
 pub those_kept : (f : Family) (t : Data) → those_of f (kept_objects t) ≡ kept_of f (objects f t)
 those_kept f t = those_located f (all_located t) ∙ ap (map (λ (x : Located). x.object)) (objects_met f t) ∙ objects_located f (objects f t)
 
-pub those_shown : (v : Value) (os : List Object) (ns : List NamedSelection) (f : Family) → IsResolved v os ns → those_of f (map shown os) ≡ kept_of f (objects f (view v))
+pub those_shown : (v : Value) (os : List Object) (ns : List NameInContest) (f : Family) → IsResolved v os ns → those_of f (map shown os) ≡ kept_of f (objects f (view v))
 those_shown v os ns f r = ap (those_of f) r.kept ∙ those_kept f (view v)
 
-pub counted : (v : Value) (os : List Object) (ns : List NamedSelection) (f : Family) → IsResolved v os ns → length (those_of f (map shown os)) ≡ length (objects f (view v))
+pub counted : (v : Value) (os : List Object) (ns : List NameInContest) (f : Family) → IsResolved v os ns → length (those_of f (map shown os)) ≡ length (objects f (view v))
 counted v os ns f r = ap length (those_shown v os ns f r) ∙ length-map (objects f (view v)) (λ (o : Placed). kept f o.value)
 
 -- ---- at a position
@@ -54,11 +54,11 @@ value_get f (o ∷ os) zero = refl
 value_get f (o ∷ os) (suc i) = value_get f os i
 
 -- what is known of the object that is kept at a position
-pub part_at : {A : Type 0} (g : Kept → Option A) (v : Value) (os : List Object) (ns : List NamedSelection) (f : Family) (i : ℕ) → IsResolved v os ns
+pub part_at : {A : Type 0} (g : Kept → Option A) (v : Value) (os : List Object) (ns : List NameInContest) (f : Family) (i : ℕ) → IsResolved v os ns
     → option_and_then g (slice_get (those_of f (map shown os)) i) ≡ option_and_then (λ o. g (kept f o.value)) (slice_get (objects f (view v)) i)
 part_at g v os ns f i r = ap (λ (ks : List Kept). option_and_then g (slice_get ks i)) (those_shown v os ns f r) ∙ kept_get g f (objects f (view v)) i
 
-pub value_at : (v : Value) (os : List Object) (ns : List NamedSelection) (f : Family) (i : ℕ) → IsResolved v os ns
+pub value_at : (v : Value) (os : List Object) (ns : List NameInContest) (f : Family) (i : ℕ) → IsResolved v os ns
     → option_map (λ k. k.value) (slice_get (those_of f (map shown os)) i) ≡ option_map (λ o. o.value) (slice_get (objects f (view v)) i)
 value_at v os ns f i r = ap (λ (ks : List Kept). option_map (λ k. k.value) (slice_get ks i)) (those_shown v os ns f r) ∙ value_get f (objects f (view v)) i
 

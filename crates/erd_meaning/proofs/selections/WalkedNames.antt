@@ -14,7 +14,7 @@ use Rattle.erd_meaning.specs.code.Resolved.{AreNames}
 use Rattle.erd_meaning.specs.SelectionNames.{name_of}
 use Rattle.erd_meaning.specs.code.SelectionWalk.{NamesMet, named_all}
 use Rattle.erd_meaning.specs.code.Shown.{name_shown, names_met}
-use Rattle.erd_meaning.specs.declared.names.numbered_name.NamedSelection.{NamedSelection}
+use Rattle.erd_meaning.specs.declared.names.name_in_contest.NameInContest.{NameInContest}
 use Rattle.erd_meaning.specs.declared.names.selection_walk.SelectionWalk.{SelectionWalk}
 use Rattle.erd_meaning.proofs.selections.AmongNames.{name_same}
 use Rattle.erd_meaning.proofs.selections.NamesTold.{all_faults, all_names, name_list, names_told}
@@ -36,12 +36,12 @@ met_by_name w v ks t h =
 walked_names : (w v : SelectionWalk) (ks : List Kept) (t : Data) → NamesWalked w v ks t → map name_shown v.names.items ≡ flat_map (name_list (name_of t)) (numbered_selections t)
 walked_names w v ks t h =
     ap (λ (m : NamesMet). m.names) (met_by_name w v ks t h) ∙ all_names (name_of t) (names_met w) (numbered_selections t)
-    ∙ ap (λ (ns : List NamedSelection). map name_shown ns ++ flat_map (name_list (name_of t)) (numbered_selections t)) h.no_name
+    ∙ ap (λ (ns : List NameInContest). map name_shown ns ++ flat_map (name_list (name_of t)) (numbered_selections t)) h.no_name
 
 walked_faults : (w v : SelectionWalk) (ks : List Kept) (t : Data) → NamesWalked w v ks t → v.faults.items ≡ selections_told t
 walked_faults w v ks t h =
     ap (λ (m : NamesMet). m.faults) (met_by_name w v ks t h) ∙ all_faults (name_of t) (names_met w) (numbered_selections t)
-    ∙ ap₂ (λ (fs : List Fault) (ns : List NamedSelection). fs ++ names_told (name_of t) (map name_shown ns) (numbered_selections t)) h.no_fault h.no_name
+    ∙ ap₂ (λ (fs : List Fault) (ns : List NameInContest). fs ++ names_told (name_of t) (map name_shown ns) (numbered_selections t)) h.no_fault h.no_name
 
 pub names_left : (w v : SelectionWalk) (ks : List Kept) (t : Data) → NamesWalked w v ks t → NoneOf (ShapeFault t) → AreNames t (map name_shown v.names.items)
 names_left w v ks t h none = subst (AreNames t) (sym (walked_names w v ks t h)) (names_listed t none)

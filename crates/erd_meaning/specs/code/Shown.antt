@@ -7,7 +7,7 @@ use Rattle.erd_check.specs.declared.path.Path.{Path}
 use Rattle.serde_json.specs.declared.value.Value.{Value}
 use Rattle.erd_meaning.specs.Objects.{Placed}
 use Rattle.erd_meaning.specs.code.SelectionWalk.{NamesMet, NumberedName}
-use Rattle.erd_meaning.specs.declared.names.numbered_name.NamedSelection.{NamedSelection}
+use Rattle.erd_meaning.specs.declared.names.name_in_contest.NameInContest.{NameInContest}
 use Rattle.erd_meaning.specs.declared.objects.object.Object.{Object}
 use Rattle.erd_meaning.specs.declared.objects.object_walk.ObjectWalk.{ObjectWalk}
 use Rattle.erd_meaning.specs.declared.names.selection_walk.SelectionWalk.{SelectionWalk}
@@ -21,7 +21,7 @@ abbrev pub met_of : ObjectWalk → ObjectsMet
 met_of w = record { objects = map shown w.objects.items; faults = w.faults.items }
 
 -- what clauses see of the name of a selection with the number of its contest
-abbrev pub name_shown : NamedSelection → NumberedName
+abbrev pub name_shown : NameInContest → NumberedName
 name_shown s = (s.contest, s.name)
 
 -- what clauses see of the walk over the selections: how far it has come

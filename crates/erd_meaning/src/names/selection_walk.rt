@@ -8,8 +8,8 @@ ghost use Rattle.erd_meaning.specs.Objects.{numbered_selections, numbered_select
 ghost use Rattle.erd_meaning.specs.code.SelectionWalk.{named_all, named_one, with_name};
 ghost use Rattle.erd_meaning.specs.code.Shown.{names_met, placed_at, shown};
 
+use crate::names::name_in_contest::{NameInContest, is_taken};
 use crate::names::naming::name_of_selection;
-use crate::names::numbered_name::{NamedSelection, is_taken};
 use crate::names::selection_name::SelectionName;
 use crate::objects::object::Object;
 use erd_check::path::{Path, push_fault};
@@ -21,7 +21,7 @@ use std::alloc::{AllocError, Global};
 /// The names of the selections that were met, in the order of their places, and the faults of selections.
 #[derive(Drop)]
 pub(crate) struct SelectionWalk {
-    pub(crate) names: Vec<NamedSelection>,
+    pub(crate) names: Vec<NameInContest>,
     pub(crate) faults: Vec<Fault>,
 }
 
@@ -100,6 +100,6 @@ fn meet_name(
     if is_taken(&walk.names, contest, &name) {
         push_fault(alloc, path, Reason::TwinSelection, &mut walk.faults)?;
     }
-    walk.names.push(NamedSelection { contest, name })?;
+    walk.names.push(NameInContest { contest, name })?;
     Ok(())
 }

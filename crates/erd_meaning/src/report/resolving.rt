@@ -10,7 +10,7 @@ ghost use Rattle.erd_meaning.specs.code.ObjectWalk.{kept_objects};
 ghost use Rattle.erd_meaning.specs.code.Resolved.{AreNames, IsIdentified, IsReferred, IsToldApart};
 ghost use Rattle.erd_meaning.specs.code.Shown.{name_shown, shown};
 
-use crate::names::numbered_name::NamedSelection;
+use crate::names::name_in_contest::NameInContest;
 use crate::names::selection_walk::{SelectionWalk, meet_selections};
 use crate::objects::object::Object;
 use crate::objects::object_walk::{ObjectWalk, meet_report};
@@ -79,7 +79,7 @@ fn names_told_apart(
     alloc: Global,
     tree: &Value,
     objects: &[Object],
-) -> Result<Vec<NamedSelection>, CheckError>
+) -> Result<Vec<NameInContest>, CheckError>
     requires kept { map shown objects.now ≡ kept_objects (view tree.now) }
     requires faultless { IsFaultless tree.now }
     requires whole { has_float (view tree.now) ≡ false }

@@ -1,10 +1,10 @@
-use Rattle.std.proofs.Common.{map, sym, ◌∙◌, rules, tests}
+use Rattle.std.proofs.Common.{sym, ◌∙◌, rules, tests}
 use Rattle.std.proofs.lemmas.Iterator.{YieldsList-from_slice}
 use Rattle.std.proofs.lemmas.Iterator.Search.{any_from_yields_List}
 use Rattle.erd_tables.proofs.Lists.{list_any-map}
 use Rattle.erd_meaning.specs.code.SelectionWalk.{is_selection_named}
 use Rattle.erd_meaning.specs.code.Shown.{name_shown}
-use Rattle.erd_meaning.proofs.names.numbered_name.is_taken.Goals as goal
+use Rattle.erd_meaning.proofs.names.name_in_contest.is_taken.Goals as goal
 
 pub returns : goal.returns
 returns c =

@@ -7,12 +7,12 @@ use crate::names::selection_name::SelectionName;
 
 /// The name of a selection, with the position of its contest.
 #[derive(Debug, Drop)]
-pub(crate) struct NamedSelection {
+pub(crate) struct NameInContest {
     pub(crate) contest: usize,
     pub(crate) name: SelectionName,
 }
 
-impl NamedSelection {
+impl NameInContest {
     /// Whether it is the selection of the contest with the name.
     pub(crate) fn is_named(&self, contest: usize, name: &SelectionName) -> bool
         ensures { result ≡ is_selection_named contest name.now (name_shown self.now) }
@@ -22,7 +22,7 @@ impl NamedSelection {
 }
 
 /// Whether a selection of the contest has the name.
-pub(crate) fn is_taken(names: &[NamedSelection], contest: usize, name: &SelectionName) -> bool
+pub(crate) fn is_taken(names: &[NameInContest], contest: usize, name: &SelectionName) -> bool
     ensures { result ≡ is_taken (map name_shown names.now) contest name.now }
 {
     names
@@ -32,7 +32,7 @@ pub(crate) fn is_taken(names: &[NamedSelection], contest: usize, name: &Selectio
 
 /// Where the selection of the contest with the name stands among all.
 pub(crate) fn place_of_name(
-    names: &[NamedSelection],
+    names: &[NameInContest],
     contest: usize,
     name: &SelectionName,
 ) -> Option<usize>
