@@ -125,29 +125,6 @@ pub fn type_text(class: Class) -> &'static str
     }
 }
 
-/// The family of the objects of a class, or none for a class whose objects no `@id` names.
-pub fn family_of(class: Class) -> Option<Family>
-    ensures { result ≡ family_of_class class }
-{
-    match class {
-        Class::ReportingUnit => Some(Family::Unit),
-        Class::Party | Class::Coalition => Some(Family::Party),
-        Class::Person => Some(Family::Person),
-        Class::Office => Some(Family::Office),
-        Class::Header => Some(Family::Header),
-        Class::Candidate => Some(Family::Candidate),
-        Class::CandidateContest
-        | Class::BallotMeasureContest
-        | Class::RetentionContest
-        | Class::PartyContest => Some(Family::Contest),
-        Class::BallotStyle => Some(Family::Style),
-        Class::CandidateSelection | Class::BallotMeasureSelection | Class::PartySelection => {
-            Some(Family::Selection)
-        }
-        _ => None,
-    }
-}
-
 /// What the objects of a class stand for.
 pub fn role_of(class: Class) -> Role
     ensures { result ≡ role_of_class class }
@@ -173,6 +150,16 @@ pub fn role_of(class: Class) -> Role
         Class::ExternalIdentifier => Role::Identifier,
         Class::InternationalizedText => Role::Label,
         Class::LanguageString => Role::Language,
+    }
+}
+
+/// The family of the objects of a class, or none for a class whose objects no `@id` names.
+pub fn family_of(class: Class) -> Option<Family>
+    ensures { result ≡ family_of_class class }
+{
+    match role_of(class) {
+        Role::OfFamily(family) => Some(family),
+        _ => None,
     }
 }
 
