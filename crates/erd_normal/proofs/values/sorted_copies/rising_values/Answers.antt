@@ -3,7 +3,7 @@ use Rattle.std.proofs.lemmas.Cmp.{nat_list_cmp_total}
 use Rattle.serde_json.specs.View.{view}
 use Rattle.serde_json.specs.Written.{compact_text}
 use Rattle.erd_tables.specs.Texts.{text_cmp}
-use Rattle.erd_normal.proofs.StableRising.{rising_by_part}
+use Rattle.erd_normal.proofs.lists.StableRising.{rising_by_part}
 use Rattle.erd_normal.proofs.values.sorted_copies.rising_values.Goals as goal
 
 pub returns : goal.returns
