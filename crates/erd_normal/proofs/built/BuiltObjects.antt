@@ -61,7 +61,6 @@ text_there (Some id) v e = let same : v ≡ string id = cc in (id, refl, same)
 -- ---- the objects
 
 module _ (t : Data) (clean : NoneOf (ShapeFault t)) (tree : IsTree t) where
-
   object_tree : (r : Role) (c : Class) (ms : Members) (d : Data) → d ≡ object ms → ObjectAt t (Object r) r c ms → IsTree d
   object_tree r c ms d is o = subst IsTree (sym is) (within-tree t (asked (Object r) (object ms)) tree o.inside)
 
