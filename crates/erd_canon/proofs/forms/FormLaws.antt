@@ -4,7 +4,7 @@ use Rattle.serde_json.specs.Data.{Data}
 use Rattle.serde_json.specs.Written.{compact_text}
 use Rattle.erd_check.proofs.ReadTrees.{read_is_tree}
 use Rattle.erd_meaning.specs.Records.{meaning}
-use Rattle.erd_normal.proofs.Unique.{unique}
+use Rattle.erd_normal.proofs.unique.Unique.{unique}
 use Rattle.erd_normal.specs.Laws.{MeanAlike}
 use Rattle.erd_canon.proofs.forms.Refusing.{one_tree}
 use Rattle.erd_canon.specs.ByteLaws.{OneFormForOneMeaning, IsItsOwnForm}

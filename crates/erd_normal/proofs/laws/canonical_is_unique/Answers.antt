@@ -1,4 +1,4 @@
-use Rattle.erd_normal.proofs.Unique.{unique}
+use Rattle.erd_normal.proofs.unique.Unique.{unique}
 use Rattle.erd_normal.proofs.laws.canonical_is_unique.Goals as goal
 
 pub returns : goal.returns

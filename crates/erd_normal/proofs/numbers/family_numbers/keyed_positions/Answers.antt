@@ -3,7 +3,7 @@ use Rattle.serde_json.specs.View.{view}
 use Rattle.erd_meaning.specs.Objects.{objects}
 use Rattle.erd_meaning.specs.declared.keys.key.Key.{Key}
 use Rattle.erd_normal.specs.code.Building.{key_positions}
-use Rattle.erd_normal.proofs.KeyPositions.{positions_all, positions_none, positions_some}
+use Rattle.erd_normal.proofs.ranks.KeyPositions.{positions_all, positions_none, positions_some}
 use Rattle.erd_normal.proofs.numbers.family_numbers.keyed_positions.Goals as goal
 use Rattle.erd_normal.proofs.numbers.family_numbers.keyed_positions.Goals.{in-Some+in_ok-key_of-in-Some+in_ok-push-in-Some, in-None}
 

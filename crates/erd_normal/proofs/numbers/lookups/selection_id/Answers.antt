@@ -4,7 +4,7 @@ use Rattle.std.specs.Option.{option_map_or}
 use Rattle.serde_json.specs.Data.{string}
 use Rattle.serde_json.specs.View.{view}
 use Rattle.erd_meaning.specs.Lookups.{selection_in}
-use Rattle.erd_normal.proofs.SelectionReferences.{selection_elsewhere, selection_here, selection_nowhere}
+use Rattle.erd_normal.proofs.ranks.SelectionReferences.{selection_elsewhere, selection_here, selection_nowhere}
 use Rattle.erd_normal.specs.code.NormalTree.{normal_selection_reference}
 use Rattle.erd_normal.specs.code.PlacedTree.{selection_id_numbered}
 use Rattle.erd_normal.specs.code.ObjectNumbers.{number_in}

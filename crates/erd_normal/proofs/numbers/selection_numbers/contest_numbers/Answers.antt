@@ -3,7 +3,7 @@ use Rattle.std.specs.Cmp.Lexicographic.{options_total}
 use Rattle.std.specs.Option.{option_cmp}
 use Rattle.erd_meaning.specs.code.Orders.{name_cmp_total}
 use Rattle.erd_meaning.specs.SelectionNames.{name_cmp, rising_list}
-use Rattle.erd_normal.proofs.StableRising.{by_first, rising_from_stable}
+use Rattle.erd_normal.proofs.lists.StableRising.{by_first, rising_from_stable}
 use Rattle.erd_normal.specs.code.KeyRanks.{places_by}
 use Rattle.erd_normal.proofs.numbers.selection_numbers.contest_numbers.Goals as goal
 

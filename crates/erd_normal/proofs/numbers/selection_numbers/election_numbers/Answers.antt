@@ -1,7 +1,7 @@
 use Rattle.std.proofs.Common.{codes}
 use Rattle.serde_json.specs.View.{view}
-use Rattle.erd_normal.proofs.ContentParts.{whole_item}
-use Rattle.erd_normal.proofs.WholeEntries.{whole_list_at}
+use Rattle.erd_normal.proofs.built.ContentParts.{whole_item}
+use Rattle.erd_normal.proofs.texts.WholeEntries.{whole_list_at}
 use Rattle.erd_normal.proofs.numbers.selection_numbers.election_numbers.Goals as goal
 
 pub contest_numbers-requires : goal.contest_numbers-requires

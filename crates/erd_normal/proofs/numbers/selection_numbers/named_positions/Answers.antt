@@ -1,4 +1,4 @@
-use Rattle.erd_normal.proofs.ContentParts.{whole_item}
+use Rattle.erd_normal.proofs.built.ContentParts.{whole_item}
 use Rattle.erd_normal.proofs.numbers.selection_numbers.named_positions.Goals as goal
 
 pub name_of-requires : goal.name_of-requires

@@ -3,9 +3,9 @@ use Rattle.std.proofs.Math.Seq.{take-length}
 use Rattle.std.specs.List.{flat_map}
 use Rattle.serde_json.specs.View.{view}
 use Rattle.erd_check.specs.Values.{entries_at}
-use Rattle.erd_normal.proofs.ContentParts.{whole_item}
-use Rattle.erd_normal.proofs.SelectionPlaces.{numbers_in_election, selection_numbered}
-use Rattle.erd_normal.proofs.WholeEntries.{whole_list_at}
+use Rattle.erd_normal.proofs.built.ContentParts.{whole_item}
+use Rattle.erd_normal.proofs.ranks.SelectionPlaces.{numbers_in_election, selection_numbered}
+use Rattle.erd_normal.proofs.texts.WholeEntries.{whole_list_at}
 use Rattle.erd_normal.proofs.numbers.selection_numbers.selection_numbers.Goals as goal
 
 pub election_numbers-requires : goal.election_numbers-requires

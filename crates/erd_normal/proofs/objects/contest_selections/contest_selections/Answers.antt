@@ -1,8 +1,7 @@
 use Rattle.std.proofs.Common.{List, map, IfOk, ap, subst, ◌≡◌, ◌∙◌}
 use Rattle.serde_json.specs.Data.{Data}
 use Rattle.serde_json.specs.View.{view}
-use Rattle.erd_meaning.specs.SelectionNames.{rising_list}
-use Rattle.erd_normal.proofs.PlacedEntries.{selections_in_order, whole_in_order}
+use Rattle.erd_normal.proofs.ranks.PlacedEntries.{selections_in_order, whole_in_order}
 use Rattle.erd_normal.specs.code.NormalTree.{by_name}
 use Rattle.erd_normal.specs.code.PlacedTree.{map_from, placed_selection}
 use Rattle.erd_normal.proofs.objects.contest_selections.contest_selections.Goals as goal

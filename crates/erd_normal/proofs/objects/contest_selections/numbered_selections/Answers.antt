@@ -1,6 +1,6 @@
 use Rattle.std.proofs.Common.{map, ap, ◌∙◌}
 use Rattle.serde_json.specs.View.{view}
-use Rattle.erd_normal.proofs.PlacedEntries.{placed_more}
+use Rattle.erd_normal.proofs.ranks.PlacedEntries.{placed_more}
 use Rattle.erd_normal.specs.code.PlacedTree.{placed_selection}
 use Rattle.erd_normal.proofs.objects.contest_selections.numbered_selections.Goals as goal
 

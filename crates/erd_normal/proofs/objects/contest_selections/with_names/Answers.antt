@@ -1,4 +1,4 @@
-use Rattle.erd_normal.proofs.ContentParts.{whole_item}
+use Rattle.erd_normal.proofs.built.ContentParts.{whole_item}
 use Rattle.erd_normal.proofs.objects.contest_selections.with_names.Goals as goal
 
 pub name_of-requires : goal.name_of-requires

@@ -1,7 +1,7 @@
 use Rattle.std.proofs.Common.{◌≡◌, List, map, IfOk, ap, subst, ◌∙◌}
 use Rattle.serde_json.specs.Data.{Data}
 use Rattle.serde_json.specs.View.{view}
-use Rattle.erd_normal.proofs.PlacedEntries.{objects_in_order, whole_in_order}
+use Rattle.erd_normal.proofs.ranks.PlacedEntries.{objects_in_order, whole_in_order}
 use Rattle.erd_normal.specs.code.NormalTree.{by_key}
 use Rattle.erd_normal.specs.code.PlacedTree.{map_from, placed_object}
 use Rattle.erd_normal.proofs.objects.family_objects.family_objects.Goals as goal

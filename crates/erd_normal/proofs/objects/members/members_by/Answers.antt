@@ -2,8 +2,8 @@ use Rattle.std.proofs.Common.{option_map, ap, ap₂, sym, ◌∙◌}
 use Rattle.serde_json.specs.View.{members_view, view}
 use Rattle.serde_json.proofs.Views.{Entry}
 use Rattle.erd_tables.specs.Table.{kind_of_member}
-use Rattle.erd_normal.proofs.BuiltMembers.{put_each, put_all_of, put_one, whole_first, whole_rest}
-use Rattle.erd_normal.proofs.NormalMembers.{normal_members_each, value_in_class}
+use Rattle.erd_normal.proofs.built.BuiltMembers.{put_each, put_all_of, put_one, whole_first, whole_rest}
+use Rattle.erd_normal.proofs.built.NormalMembers.{normal_members_each, value_in_class}
 use Rattle.erd_normal.proofs.objects.members.members_by.Goals as goal
 
 pub returns : goal.returns

@@ -2,8 +2,8 @@ use Rattle.std.proofs.Common.{◌≡◌, false}
 use Rattle.serde_json.specs.Data.{no_members}
 use Rattle.serde_json.specs.View.{members_view}
 use Rattle.serde_json.specs.Written.{members_have_float}
-use Rattle.erd_normal.proofs.BuiltMembers.{put_each}
-use Rattle.erd_normal.proofs.NormalMembers.{value_in_class}
+use Rattle.erd_normal.proofs.built.BuiltMembers.{put_each}
+use Rattle.erd_normal.proofs.built.NormalMembers.{value_in_class}
 use Rattle.erd_normal.proofs.objects.members.members_by.Given as goal
 
 abbrev pub invariant-loop-name : goal.invariant-loop-name

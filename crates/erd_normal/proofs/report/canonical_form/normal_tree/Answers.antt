@@ -10,9 +10,9 @@ use Rattle.erd_normal.specs.Canonical.{IsCanonicalFormOf}
 use Rattle.erd_normal.specs.code.NormalTree.{normal_tree}
 use Rattle.erd_normal.specs.code.ObjectNumbers.{IsBounded}
 use Rattle.erd_check.specs.Numbers.{HasFittingNumbers}
-use Rattle.erd_normal.proofs.NormalDepths.{normal_tree-depth}
-use Rattle.erd_normal.proofs.NormalFormsOnly.{form_built, only_form_built, whole_built}
-use Rattle.erd_normal.proofs.NormalTrees.{normal_tree-tree}
+use Rattle.erd_normal.proofs.built.NormalDepths.{normal_tree-depth}
+use Rattle.erd_normal.proofs.canonical.NormalFormsOnly.{form_built, only_form_built, whole_built}
+use Rattle.erd_normal.proofs.built.NormalTrees.{normal_tree-tree}
 use Rattle.erd_normal.proofs.report.canonical_form.normal_tree.Goals as goal
 
 -- what holds of the tree that is built for a report holds of the answer

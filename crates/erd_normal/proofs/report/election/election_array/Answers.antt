@@ -2,8 +2,8 @@ use Rattle.std.proofs.Common.{map, ap, ◌∙◌}
 use Rattle.serde_json.specs.Data.{array}
 use Rattle.serde_json.specs.View.{items_of, view}
 use Rattle.serde_json.proofs.Views.{view-Array}
-use Rattle.erd_normal.proofs.StableRising.{map_after}
-use Rattle.erd_normal.proofs.WholeEntries.{whole_list}
+use Rattle.erd_normal.proofs.lists.StableRising.{map_after}
+use Rattle.erd_normal.proofs.texts.WholeEntries.{whole_list}
 use Rattle.erd_normal.specs.code.PlacedTree.{placed_election}
 use Rattle.erd_normal.proofs.report.election.election_array.Goals as goal
 

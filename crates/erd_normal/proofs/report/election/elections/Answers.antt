@@ -1,4 +1,4 @@
-use Rattle.erd_normal.proofs.ContentParts.{whole_item}
+use Rattle.erd_normal.proofs.built.ContentParts.{whole_item}
 use Rattle.erd_normal.proofs.report.election.elections.Goals as goal
 
 pub election-requires : goal.election-requires

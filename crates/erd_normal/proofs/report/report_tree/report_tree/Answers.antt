@@ -5,7 +5,7 @@ use Rattle.erd_tables.specs.declared.class.Role.TheVariants as role
 use Rattle.erd_check.specs.Trees.{IsTree}
 use Rattle.erd_check.specs.Wants.{class_of_object}
 use Rattle.erd_meaning.specs.Accepted.{IsAccepted}
-use Rattle.erd_normal.proofs.PlacedTrees.{placed_is_normal}
+use Rattle.erd_normal.proofs.ranks.PlacedTrees.{placed_is_normal}
 use Rattle.erd_normal.specs.code.NormalTree.{in_envelope, normal_object_with, normal_tree}
 use Rattle.erd_normal.specs.code.PlacedTree.{placed_report_value}
 use Rattle.erd_normal.proofs.report.report_tree.report_tree.Goals as goal

@@ -5,10 +5,10 @@ use Rattle.serde_json.specs.Written.{has_float}
 use Rattle.serde_json.proofs.Views.{Entry, view-Array}
 use Rattle.erd_tables.specs.Table.{kind_of_member}
 use Rattle.erd_normal.specs.code.NormalTree.{normal_content, normal_node, normal_node_value}
-use Rattle.erd_normal.proofs.BuiltEntries.{one_more}
-use Rattle.erd_normal.proofs.BuiltMembers.{put_each, put_all_of, put_one, whole_first, whole_rest}
-use Rattle.erd_normal.proofs.ContentParts.{content_from_map, other_node_value, whole_item}
-use Rattle.erd_normal.proofs.NormalMembers.{node_value, normal_node_members_each}
+use Rattle.erd_normal.proofs.built.BuiltEntries.{one_more}
+use Rattle.erd_normal.proofs.built.BuiltMembers.{put_each, put_all_of, put_one, whole_first, whole_rest}
+use Rattle.erd_normal.proofs.built.ContentParts.{content_from_map, other_node_value, whole_item}
+use Rattle.erd_normal.proofs.built.NormalMembers.{node_value, normal_node_members_each}
 use Rattle.erd_normal.proofs.values.content.+content.Goals as goal
 
 pub content-returns-in_ok-nodes-in-Array : goal.content-returns-in_ok-nodes-in-Array

@@ -2,9 +2,9 @@ use Rattle.std.proofs.Common.{◌≡◌, false, map, take}
 use Rattle.serde_json.specs.Data.{no_members}
 use Rattle.serde_json.specs.View.{items_view, members_view, view}
 use Rattle.serde_json.specs.Written.{items_have_float, members_have_float}
-use Rattle.erd_normal.proofs.BuiltMembers.{put_each}
+use Rattle.erd_normal.proofs.built.BuiltMembers.{put_each}
 use Rattle.erd_normal.specs.code.NormalTree.{normal_node}
-use Rattle.erd_normal.proofs.NormalMembers.{node_value}
+use Rattle.erd_normal.proofs.built.NormalMembers.{node_value}
 use Rattle.erd_normal.proofs.values.content.+content.Given as goal
 
 abbrev pub invariant-node_members-loop-name : goal.invariant-node_members-loop-name

@@ -4,7 +4,7 @@ use Rattle.serde_json.specs.View.{items_of, members_view, view}
 use Rattle.serde_json.proofs.Views.{view-Array, view-Object}
 use Rattle.erd_check.specs.Values.{entries_at}
 use Rattle.erd_meaning.specs.SelectionNames.{compact_cmp, rising_list, with_rising_text}
-use Rattle.erd_normal.proofs.WholeEntries.{whole_list_at}
+use Rattle.erd_normal.proofs.texts.WholeEntries.{whole_list_at}
 use Rattle.erd_normal.proofs.values.label.with_rising_text.Goals as goal
 
 pub returns-in_ok-put-in-Object : goal.returns-in_ok-put-in-Object

@@ -3,7 +3,7 @@ use Rattle.serde_json.specs.View.{view}
 use Rattle.erd_meaning.specs.Keys.{key_of}
 use Rattle.erd_meaning.specs.SelectionNames.{key_named}
 use Rattle.erd_meaning.specs.declared.keys.key.Key.{Key}
-use Rattle.erd_normal.proofs.NumberedReferences.{key_elsewhere, key_here, key_nowhere}
+use Rattle.erd_normal.proofs.ranks.NumberedReferences.{key_elsewhere, key_here, key_nowhere}
 use Rattle.erd_normal.proofs.values.reference_set.key_referred.Goals as goal
 
 pub returns-then-is_same : goal.returns-then-is_same

@@ -1,7 +1,7 @@
 use Rattle.std.proofs.Common.{map, ap, ◌∙◌}
 use Rattle.serde_json.specs.View.{view}
 use Rattle.erd_normal.specs.code.NormalTree.{normal_reference}
-use Rattle.erd_normal.proofs.BuiltEntries.{one_more}
+use Rattle.erd_normal.proofs.built.BuiltEntries.{one_more}
 use Rattle.erd_normal.proofs.values.reference_set.references_of.Goals as goal
 
 pub loop-pair-preserved : goal.loop-pair-preserved

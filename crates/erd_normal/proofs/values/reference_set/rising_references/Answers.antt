@@ -9,7 +9,7 @@ use Rattle.erd_meaning.specs.SelectionNames.{key_named}
 use Rattle.erd_normal.specs.code.Building.{beside_key, beside_named}
 use Rattle.erd_normal.specs.code.NormalTree.{normal_reference}
 use Rattle.erd_check.specs.Values.{text_of}
-use Rattle.erd_normal.proofs.StableRising.{map_after, rising_by_part}
+use Rattle.erd_normal.proofs.lists.StableRising.{map_after, rising_by_part}
 use Rattle.erd_normal.proofs.values.reference_set.rising_references.Goals as goal
 
 pub returns : goal.returns

@@ -1,7 +1,7 @@
 use Rattle.std.proofs.Common.{map, ap, ◌∙◌}
 use Rattle.serde_json.specs.View.{view}
 use Rattle.erd_normal.specs.code.Building.{beside_key, beside_named}
-use Rattle.erd_normal.proofs.BuiltEntries.{one_more}
+use Rattle.erd_normal.proofs.built.BuiltEntries.{one_more}
 use Rattle.erd_normal.proofs.values.reference_set.with_keys.Goals as goal
 
 pub loop-value-preserved : goal.loop-value-preserved

@@ -1,8 +1,8 @@
 use Rattle.std.proofs.Common.{map, ap, ◌∙◌}
 use Rattle.serde_json.specs.View.{view}
 use Rattle.erd_normal.specs.code.Building.{beside, beside_compact_text}
-use Rattle.erd_normal.proofs.BuiltEntries.{one_more}
-use Rattle.erd_normal.proofs.ContentParts.{whole_item}
+use Rattle.erd_normal.proofs.built.BuiltEntries.{one_more}
+use Rattle.erd_normal.proofs.built.ContentParts.{whole_item}
 use Rattle.erd_normal.proofs.values.sorted_copies.with_texts.Goals as goal
 
 pub loop-value-preserved : goal.loop-value-preserved

@@ -1,5 +1,5 @@
 use Rattle.serde_json.specs.View.{view}
-use Rattle.erd_normal.proofs.WholeEntries.{whole_list}
+use Rattle.erd_normal.proofs.texts.WholeEntries.{whole_list}
 use Rattle.erd_normal.proofs.objects.family_objects.ObjectMembersMemberRule.value.Goals as goal
 
 pub contest_selections-requires : goal.contest_selections-requires

@@ -1,0 +1,123 @@
+-- Members that are put one after another, in the order of their names, stand in that order.
+use Rattle.std.proofs.Common.{◌≡◌, ℕ, List, ◌∷◌, Bool, true, false, ◌||◌, Less, Option, Some, None, string_bytes, string_cmp, refl, sym, ap, ap₂, ◌∙◌}
+use Rattle.std.proofs.lemmas.Cmp.{nat_list_cmp_total}
+use Rattle.std.specs.Bool.{⊤}
+use Rattle.std.specs.List.{AllByRecursion}
+use Rattle.std.specs.List.Sorted.{IsStrictlySortedBy}
+use Rattle.std.specs.Map.{keys_of}
+use Rattle.std.specs.Option.{option_map_or}
+use Rattle.std.specs.Ordering.{ordering_reverse}
+use Rattle.serde_json.specs.Data.{Data, Members, no_members, member, put}
+use Rattle.serde_json.specs.View.{members_view, view}
+use Rattle.serde_json.specs.Written.{has_float, members_have_float}
+use Rattle.serde_json.proofs.Views.{Entry}
+use Rattle.erd_tables.specs.Texts.{text_cmp}
+use Rattle.erd_check.specs.Values.{names}
+use Rattle.erd_check.proofs.Lists.{names_sorted}
+use Rattle.erd_normal.specs.code.Building.{put_if}
+use Rattle.erd_normal.proofs.built.NormalMembers.{each_member}
+
+-- ---- whole numbers
+
+first_whole : (k : List ℕ) (d : Data) (ms : Members) → members_have_float (member k d ms) ≡ false → has_float d ≡ false
+first_whole k d ms h = at (has_float d) h
+  where
+    at : (b : Bool) → b || members_have_float ms ≡ false → b ≡ false
+    at true e = e
+    at false e = refl
+
+later_whole : (k : List ℕ) (d : Data) (ms : Members) → members_have_float (member k d ms) ≡ false → members_have_float ms ≡ false
+later_whole k d ms h = at (has_float d) h
+  where
+    at : (b : Bool) → b || members_have_float ms ≡ false → members_have_float ms ≡ false
+    at true e = cc
+    at false e = e
+
+-- ---- one after another
+
+-- the members that were built, with what the others become put among them
+abbrev pub put_each : (List ℕ → Data → Option Data) → Members → Members → Members
+put_each value no_members built = built
+put_each value (member k d ms) built = put_each value ms (put_if k (value k d) built)
+
+-- members, and then others
+abbrev joined : Members → Members → Members
+joined no_members ns = ns
+joined (member k d ms) ns = member k d (joined ms ns)
+
+-- the names of the members are all below a name
+abbrev IsBelow : Members → List ℕ → Type 0
+IsBelow no_members l = ⊤
+IsBelow (member k d ms) l = (text_cmp k l ≡ Less) × IsBelow ms l
+
+-- the names of the members are all below those of others
+abbrev AreBelow : Members → Members → Type 0
+AreBelow ms no_members = ⊤
+AreBelow ms (member k d ns) = IsBelow ms k × AreBelow ms ns
+
+joined_none : (ms : Members) → joined ms no_members ≡ ms
+joined_none no_members = refl
+joined_none (member k d ms) = ap (member k d) (joined_none ms)
+
+joined_one : (ms : Members) (k : List ℕ) (d : Data) (ns : Members) → joined (joined ms (member k d no_members)) ns ≡ joined ms (member k d ns)
+joined_one no_members k d ns = refl
+joined_one (member l e ms) k d ns = ap (member l e) (joined_one ms k d ns)
+
+-- a name above all goes last
+put_above : (k : List ℕ) (d : Data) (ms : Members) → IsBelow ms k → put k d ms ≡ joined ms (member k d no_members)
+put_above k d no_members h = refl
+put_above k d (member l e ms) h =
+    let turned = nat_list_cmp_total.antisymm k l ∙ ap ordering_reverse h.0 in
+    rw turned (ap (member l e) (put_above k d ms h.1))
+
+below_one : (ms : Members) (k : List ℕ) (d : Data) (l : List ℕ) → IsBelow ms l → text_cmp k l ≡ Less → IsBelow (joined ms (member k d no_members)) l
+below_one no_members k d l h e = (e, tt)
+below_one (member j v ms) k d l h e = (h.0, below_one ms k d l h.1 e)
+
+are_below_one : (ms : Members) (k : List ℕ) (d : Data) (ns : Members) → AreBelow ms ns → AllByRecursion (λ l. text_cmp k l ≡ Less) (names ns) → AreBelow (joined ms (member k d no_members)) ns
+are_below_one ms k d no_members h e = tt
+are_below_one ms k d (member l v ns) h e = (below_one ms k d l h.0 e.0, are_below_one ms k d ns h.1 e.1)
+
+none_below : (ns : Members) → AreBelow no_members ns
+none_below no_members = tt
+none_below (member k d ns) = (tt, none_below ns)
+
+module _ (value : List ℕ → Data → Option Data) where
+  put_after : (ms built : Members) → AreBelow built ms → IsStrictlySortedBy text_cmp (names ms) → put_each value ms built ≡ joined built (each_member value ms)
+  unfolding IsStrictlySortedBy
+  put_after no_members built low rise = sym (joined_none built)
+  put_after (member k d ms) built low rise = at (value k d) (put_after ms)
+    where
+      at : (r : Option Data)
+          → ((next : Members) → AreBelow next ms → IsStrictlySortedBy text_cmp (names ms) → put_each value ms next ≡ joined next (each_member value ms))
+          → put_each value ms (put_if k r built) ≡ joined built (option_map_or (λ v. member k v (each_member value ms)) r (each_member value ms))
+      at None rest = rest built low.1 rise.1
+      at (Some v) rest =
+          ap (put_each value ms) (put_above k v built low.0)
+          ∙ (rest (joined built (member k v no_members)) (are_below_one built k v ms low.1 rise.0) rise.1
+          ∙ joined_one built k v (each_member value ms))
+
+  -- what is put for each of the members stands in their order
+  put_all : (ms : Members) → IsStrictlySortedBy text_cmp (names ms) → put_each value ms no_members ≡ each_member value ms
+  put_all ms rise = put_after ms no_members (none_below ms) rise
+
+  -- where none of the members of a map is left
+  pub put_all_of : (es : List Entry) (built : Members) → IsStrictlySortedBy string_cmp (keys_of es) → put_each value no_members built ≡ put_each value (members_view es) no_members
+      → built ≡ each_member value (members_view es)
+  put_all_of es built rise done = done ∙ put_all (members_view es) (names_sorted es rise)
+
+  -- where one of those that are left is put
+  pub put_one : (all : Members) (left rest : List Entry) (e : Entry) (name : List ℕ) (was : Members) (r : Option Data) (built : Members)
+      → left ≡ e ∷ rest → name ≡ string_bytes e.0 → r ≡ value (string_bytes e.0) (view e.1) → built ≡ put_if name r was
+      → put_each value (members_view left) was ≡ put_each value all no_members → put_each value (members_view rest) built ≡ put_each value all no_members
+  put_one all left rest e name was r built split named given put before =
+      ap (put_each value (members_view rest)) (put ∙ ap₂ (λ n v. put_if n v was) named given)
+      ∙ (ap (λ es. put_each value (members_view es) was) (sym split)
+      ∙ before)
+
+-- what is left is whole, and so are the first and those after it
+pub whole_first : (left rest : List Entry) (e : Entry) → left ≡ e ∷ rest → members_have_float (members_view left) ≡ false → has_float (view e.1) ≡ false
+whole_first left rest e split h = first_whole (string_bytes e.0) (view e.1) (members_view rest) (ap (λ es. members_have_float (members_view es)) (sym split) ∙ h)
+
+pub whole_rest : (left rest : List Entry) (e : Entry) → left ≡ e ∷ rest → members_have_float (members_view left) ≡ false → members_have_float (members_view rest) ≡ false
+whole_rest left rest e split h = later_whole (string_bytes e.0) (view e.1) (members_view rest) (ap (λ es. members_have_float (members_view es)) (sym split) ∙ h)

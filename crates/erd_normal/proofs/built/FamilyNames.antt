@@ -1,0 +1,91 @@
+-- The names of the members that hold objects: what stands there is the array of the objects of the family.
+use Rattle.std.proofs.Common.{◌≡◌, ℕ, List, Some, map, Bool, true, false, codes, refl, sym, ap, ◌∙◌, subst}
+use Rattle.std.specs.List.{list_all}
+use Rattle.std.specs.Str.{bytes_eq}
+use Rattle.serde_json.specs.Data.{Data}
+use Rattle.serde_json.specs.Find.{get_member}
+use Rattle.erd_tables.specs.Classes.{role_of_class}
+use Rattle.erd_tables.specs.Rows.{rows_of_class}
+use Rattle.erd_tables.specs.Table.{kind_of_identity, kind_of_member}
+use Rattle.erd_tables.specs.declared.class.Class.{Class}
+use Rattle.erd_tables.specs.declared.class.Class.TheVariants as class
+use Rattle.erd_tables.specs.declared.class.Family.{Family}
+use Rattle.erd_tables.specs.declared.class.Family.TheVariants as family
+use Rattle.erd_tables.specs.declared.class.Role.TheVariants as role
+use Rattle.erd_tables.specs.declared.member.MemberKind.{MemberKind}
+use Rattle.erd_tables.specs.declared.member.MemberKind.TheVariants as kind
+use Rattle.erd_check.specs.Values.{entries_of}
+use Rattle.erd_check.proofs.Entries.{entries_in}
+use Rattle.erd_check.proofs.Exact.{text_exact}
+use Rattle.erd_check.proofs.TableKinds.{kind_of_id, kind_of_name}
+use Rattle.erd_meaning.proofs.accepted.Skeleton.{Skeleton}
+use Rattle.erd_meaning.specs.Objects.{objects}
+use Rattle.erd_normal.proofs.built.AskedMembers.{kind_of_type}
+use Rattle.erd_normal.proofs.unique.FamilyArrays.{values_of}
+
+-- the name of the member that holds the objects of a family
+abbrev pub family_name : Family → List ℕ
+family_name family.Unit = codes "GpUnit"
+family_name family.Party = codes "Party"
+family_name family.Person = codes "Person"
+family_name family.Office = codes "Office"
+family_name family.Header = codes "Header"
+family_name family.Candidate = codes "Candidate"
+family_name family.Contest = codes "Contest"
+family_name family.Style = codes "BallotStyle"
+family_name family.Selection = codes "ContestSelection"
+
+-- a member of this kind has this name, if it holds objects of a family or the elections
+abbrev is_named : List ℕ → MemberKind → Bool
+is_named name (kind.Keyed f) = bytes_eq name (family_name f)
+is_named name kind.Elections = bytes_eq name (codes "Election")
+is_named name k = true
+
+named_rows : (c : Class) → list_all (λ m. is_named m.name m.kind) (rows_of_class c) ≡ true
+named_rows class.ElectionReport = refl
+named_rows c = refl
+
+named_identity : (c : Class) (name : List ℕ) → is_named name (kind_of_identity c) ≡ true
+named_identity class.ElectionReport name = refl
+named_identity c name = refl
+
+holds_objects : (c : Class) (name : List ℕ) → is_named name (kind_of_member c name) ≡ true
+holds_objects c name = at (bytes_eq name (codes "@type")) refl (bytes_eq name (codes "@id")) refl
+  where
+    at : (type : Bool) → bytes_eq name (codes "@type") ≡ type → (id : Bool) → bytes_eq name (codes "@id") ≡ id → is_named name (kind_of_member c name) ≡ true
+    at true is id is' = ap (is_named name) (ap (kind_of_member c) (text_exact name (codes "@type") is) ∙ kind_of_type c)
+    at false is true is' = ap (is_named name) (ap (kind_of_member c) (text_exact name (codes "@id") is') ∙ kind_of_id c) ∙ named_identity c name
+    at false is false is' =
+        kind_of_name (λ m. is_named m.name m.kind) (is_named name) c name is is' (named_rows c) (λ m h e. subst (λ n. is_named n m.kind ≡ true) (sym (text_exact name m.name e)) h) refl refl
+
+pub keyed_name : (c : Class) (name : List ℕ) (f : Family) → kind_of_member c name ≡ kind.Keyed f → name ≡ family_name f
+keyed_name c name f is = text_exact name (family_name f) (subst (λ k. is_named name k ≡ true) is (holds_objects c name))
+
+pub elections_name : (c : Class) (name : List ℕ) → kind_of_member c name ≡ kind.Elections → name ≡ codes "Election"
+elections_name c name is = text_exact name (codes "Election") (subst (λ k. is_named name k ≡ true) is (holds_objects c name))
+
+-- contests alone hold selections
+pub contest_of_selections : (c : Class) (f : Family) → role_of_class c ≡ role.OfFamily f → kind_of_member c (family_name family.Selection) ≡ kind.Keyed family.Selection → f ≡ family.Contest
+contest_of_selections class.CandidateContest f r is = cc
+contest_of_selections class.BallotMeasureContest f r is = cc
+contest_of_selections class.RetentionContest f r is = cc
+contest_of_selections class.PartyContest f r is = cc
+contest_of_selections c f r is = cc
+
+-- ---- the objects of families
+
+pub report_objects : (t : Data) (s : Skeleton t) (f : Family) (d : Data) → kind_of_member class.ElectionReport (family_name f) ≡ kind.Keyed f → get_member (family_name f) s.ms ≡ Some d
+    → map (λ o. o.value) (objects f t) ≡ entries_of d
+report_objects t s family.Unit d is stands = values_of t s family.Unit refl ∙ ap entries_in stands
+report_objects t s family.Party d is stands = values_of t s family.Party refl ∙ ap entries_in stands
+report_objects t s family.Person d is stands = values_of t s family.Person refl ∙ ap entries_in stands
+report_objects t s family.Office d is stands = values_of t s family.Office refl ∙ ap entries_in stands
+report_objects t s family.Header d is stands = values_of t s family.Header refl ∙ ap entries_in stands
+report_objects t s f d is stands = cc
+
+pub election_objects_are : (t : Data) (s : Skeleton t) (f : Family) (d : Data) → kind_of_member class.Election (family_name f) ≡ kind.Keyed f → get_member (family_name f) s.es ≡ Some d
+    → map (λ o. o.value) (objects f t) ≡ entries_of d
+election_objects_are t s family.Candidate d is stands = values_of t s family.Candidate refl ∙ ap entries_in stands
+election_objects_are t s family.Contest d is stands = values_of t s family.Contest refl ∙ ap entries_in stands
+election_objects_are t s family.Style d is stands = values_of t s family.Style refl ∙ ap entries_in stands
+election_objects_are t s f d is stands = cc

@@ -1,0 +1,165 @@
+-- What stands under each name of an object that is built from an object of a class.
+use Rattle.std.proofs.Common.{◌≡◌, ℕ, List, true, false, Option, Some, None, option_and_then, option_map, codes, refl, ap, ◌∙◌}
+use Rattle.std.specs.Str.{bytes_eq}
+use Rattle.serde_json.specs.Data.{Data, string, object}
+use Rattle.serde_json.specs.Find.{as_str, get, get_member}
+use Rattle.serde_json.proofs.Views.{get_member-put}
+use Rattle.erd_tables.specs.Classes.{class_in_role, role_of_class}
+use Rattle.erd_tables.specs.Table.{kind_of_member}
+use Rattle.erd_tables.specs.declared.class.Class.{Class}
+use Rattle.erd_tables.specs.declared.class.Class.TheVariants as class
+use Rattle.erd_tables.specs.declared.class.Family.{Family}
+use Rattle.erd_tables.specs.declared.class.Role.{Role}
+use Rattle.erd_tables.specs.declared.class.Role.TheVariants as role
+use Rattle.erd_tables.specs.declared.member.MemberKind.{MemberKind}
+use Rattle.erd_tables.specs.declared.member.MemberKind.TheVariants as kind
+use Rattle.erd_tables.proofs.Roles.{class_in_role_named}
+use Rattle.erd_check.specs.Faults.{is_object}
+use Rattle.erd_check.specs.Trees.{IsTree}
+use Rattle.erd_check.specs.Wants.{class_of_object}
+use Rattle.erd_check.proofs.TableKinds.{kind_of_id}
+use Rattle.erd_meaning.specs.Keys.{key_of}
+use Rattle.erd_check.specs.Values.{entries_at}
+use Rattle.erd_meaning.specs.Objects.{id_of}
+use Rattle.erd_meaning.specs.Records.{class_of_node}
+use Rattle.erd_meaning.specs.SelectionNames.{compact_cmp, rising_list, selection_role, with_rising_text}
+use Rattle.erd_normal.specs.code.NormalTree.{array_of, id_of_key, id_of_selection, normal_content, normal_election, normal_election_value, normal_node, normal_node_value, normal_object, normal_object_value, normal_object_with, normal_selection, normal_value, with_id}
+use Rattle.erd_normal.proofs.built.AskedMembers.{kind_of_type}
+use Rattle.erd_normal.proofs.built.NormalMembers.{get_normal, get_normal_node, node_value}
+use Rattle.erd_normal.proofs.built.PutMembers.{put_elsewhere}
+
+-- ---- an object of a class
+
+pub class_has_role : (r : Role) (c : Class) (d : Data) → class_of_object r d ≡ Some c → role_of_class c ≡ r
+class_has_role r c d among = at (option_and_then as_str (get (codes "@type") d)) among
+  where
+    at : (o : Option (List ℕ)) → option_and_then (class_in_role r) o ≡ Some c → role_of_class c ≡ r
+    at None e = cc
+    at (Some s) e = (class_in_role_named r s c e).role
+
+pub class_of_object-object : (r : Role) (c : Class) (d : Data) → class_of_object r d ≡ Some c → is_object d ≡ true
+class_of_object-object r c (object ms) among = refl
+class_of_object-object r c d among = cc
+
+pub get_object_with : (value_of : List ℕ → MemberKind → Data → Option Data) (r : Role) (c : Class) (name : List ℕ) (d : Data) → IsTree d → class_of_object r d ≡ Some c
+    → get name (normal_object_with value_of (class_of_object r d) d) ≡ option_and_then (value_of name (kind_of_member c name)) (get name d)
+get_object_with value_of r c name (object ms) tree among = rw among (get_normal value_of c name ms tree)
+get_object_with value_of r c name d tree among = cc
+
+is_object_with : (value_of : List ℕ → MemberKind → Data → Option Data) (c : Option Class) (d : Data) → is_object d ≡ true → is_object (normal_object_with value_of c d) ≡ true
+is_object_with value_of (Some c) (object ms) is = refl
+is_object_with value_of None (object ms) is = refl
+is_object_with value_of c d is = cc
+
+get_with_id : (id : List ℕ) (d : Data) → is_object d ≡ true → get (codes "@id") (with_id (Some id) d) ≡ Some (string id)
+get_with_id id (object ms) is = get_member-put (codes "@id") (string id) ms
+get_with_id id d is = cc
+
+get_with_id-other : (id : Option (List ℕ)) (name : List ℕ) (d : Data) → bytes_eq name (codes "@id") ≡ false → get name (with_id id d) ≡ get name d
+get_with_id-other (Some id) name (object ms) other = put_elsewhere name (codes "@id") (string id) ms other
+get_with_id-other id name d other = refl
+
+pub no_value : (f : Data → Option Data) (o : Option Data) → ((d : Data) → f d ≡ None) → option_and_then f o ≡ None
+no_value f None none = refl
+no_value f (Some d) none = none d
+
+pub same_value : (o : Option Data) → option_and_then (λ d. Some d) o ≡ o
+same_value None = refl
+same_value (Some d) = refl
+
+-- an object with a text in `@id`, if it has one
+with_id_holds : (value_of : List ℕ → MemberKind → Data → Option Data) (r : Role) (c : Class) (id : Option (List ℕ)) (d : Data) → IsTree d → class_of_object r d ≡ Some c
+    → ((v : Data) → value_of (codes "@id") (kind_of_member c (codes "@id")) v ≡ None)
+    → get (codes "@id") (with_id id (normal_object_with value_of (class_of_object r d) d)) ≡ option_map string id
+with_id_holds value_of r c (Some id) d tree among none =
+    get_with_id id (normal_object_with value_of (class_of_object r d) d) (is_object_with value_of (class_of_object r d) d (class_of_object-object r c d among))
+with_id_holds value_of r c None d tree among none =
+    get_object_with value_of r c (codes "@id") d tree among ∙ no_value (value_of (codes "@id") (kind_of_member c (codes "@id"))) (get (codes "@id") d) none
+
+-- the kind of `@id` in an object of a family
+pub kind_of_family_id : (c : Class) (f : Family) → role_of_class c ≡ role.OfFamily f → kind_of_member c (codes "@id") ≡ kind.Identity
+kind_of_family_id c f is = kind_of_id c ∙ rw is refl
+
+text_of_id : (d : Data) (id : Option (List ℕ)) → get (codes "@id") d ≡ option_map string id → id_of d ≡ id
+text_of_id d None is = rw is refl
+text_of_id d (Some id) is = rw is refl
+
+-- ---- the election
+
+module _ (t d : Data) (tree : IsTree d) (among : class_of_object role.Election d ≡ Some class.Election) where
+  pub get_election : (name : List ℕ) → get name (normal_election t d) ≡ option_and_then (normal_election_value t (kind_of_member class.Election name)) (get name d)
+  get_election name = get_object_with (λ name k v. normal_election_value t k v) role.Election class.Election name d tree among
+
+  pub get_election-type : get (codes "@type") (normal_election t d) ≡ get (codes "@type") d
+  get_election-type = get_election (codes "@type") ∙ same_value (get (codes "@type") d)
+
+-- ---- an object of one of the first eight families
+
+module _ (t : Data) (f : Family) (c : Class) (d : Data) (tree : IsTree d) (among : class_of_object (role.OfFamily f) d ≡ Some c) where
+  pub get_object : (name : List ℕ) → bytes_eq name (codes "@id") ≡ false → get name (normal_object t f d) ≡ option_and_then (normal_object_value t d (kind_of_member c name)) (get name d)
+  get_object name other =
+      get_with_id-other (id_of_key t f (key_of d)) name (normal_object_with (λ name k v. normal_object_value t d k v) (class_of_object (role.OfFamily f) d) d) other
+      ∙ get_object_with (λ name k v. normal_object_value t d k v) (role.OfFamily f) c name d tree among
+
+  pub get_object-type : get (codes "@type") (normal_object t f d) ≡ get (codes "@type") d
+  get_object-type = get_object (codes "@type") refl ∙ ap (λ k. option_and_then (normal_object_value t d k) (get (codes "@type") d)) (kind_of_type c) ∙ same_value (get (codes "@type") d)
+
+  -- it keeps its class
+  pub class_of_built : class_of_object (role.OfFamily f) (normal_object t f d) ≡ Some c
+  class_of_built = ap (λ o. option_and_then (class_in_role (role.OfFamily f)) (option_and_then as_str o)) get_object-type ∙ among
+
+  pub get_object-id : get (codes "@id") (normal_object t f d) ≡ option_map string (id_of_key t f (key_of d))
+  get_object-id =
+      with_id_holds (λ name k v. normal_object_value t d k v) (role.OfFamily f) c (id_of_key t f (key_of d)) d tree among
+      (λ v. ap (λ k. normal_object_value t d k v) (kind_of_family_id c f (class_has_role (role.OfFamily f) c d among)))
+
+  pub id_of_object : id_of (normal_object t f d) ≡ id_of_key t f (key_of d)
+  id_of_object = text_of_id (normal_object t f d) (id_of_key t f (key_of d)) get_object-id
+
+-- ---- a selection
+
+module _ (t contest : Data) (c : Class) (d : Data) (tree : IsTree d) (among : class_of_object selection_role d ≡ Some c) where
+  pub get_selection : (name : List ℕ) → bytes_eq name (codes "@id") ≡ false → get name (normal_selection t contest d) ≡ option_and_then (normal_value t (kind_of_member c name)) (get name d)
+  get_selection name other =
+      get_with_id-other (Some (id_of_selection t contest d)) name (normal_object_with (λ name k v. normal_value t k v) (class_of_object selection_role d) d) other
+      ∙ get_object_with (λ name k v. normal_value t k v) selection_role c name d tree among
+
+  pub get_selection-type : get (codes "@type") (normal_selection t contest d) ≡ get (codes "@type") d
+  get_selection-type = get_selection (codes "@type") refl ∙ ap (λ k. option_and_then (normal_value t k) (get (codes "@type") d)) (kind_of_type c) ∙ same_value (get (codes "@type") d)
+
+  -- it keeps its class
+  pub class_of_built_selection : class_of_object selection_role (normal_selection t contest d) ≡ Some c
+  class_of_built_selection = ap (λ o. option_and_then (class_in_role selection_role) (option_and_then as_str o)) get_selection-type ∙ among
+
+  pub get_selection-id : get (codes "@id") (normal_selection t contest d) ≡ Some (string (id_of_selection t contest d))
+  get_selection-id =
+      get_with_id (id_of_selection t contest d) (normal_object_with (λ name k v. normal_value t k v) (class_of_object selection_role d) d)
+      (is_object_with (λ name k v. normal_value t k v) (class_of_object selection_role d) d (class_of_object-object selection_role c d among))
+
+  pub id_of_built_selection : id_of (normal_selection t contest d) ≡ Some (id_of_selection t contest d)
+  id_of_built_selection = text_of_id (normal_selection t contest d) (Some (id_of_selection t contest d)) get_selection-id
+
+-- ---- a contest or a header of a ballot
+
+pub get_node : (t : Data) (c : Class) (name : List ℕ) (d : Data) → IsTree d → class_of_node d ≡ Some c
+    → get name (normal_node t d) ≡ option_and_then (λ v. normal_node_value t (Some (kind_of_member c name)) v (normal_content t v)) (get name d)
+get_node t c name (object ms) tree among = get_normal_node t (class_of_node (object ms)) name ms tree ∙ ap (λ o. option_and_then (node_value t o name) (get_member name ms)) among
+get_node t c name d tree among = cc
+
+pub get_node-type : (t : Data) (c : Class) (d : Data) → IsTree d → class_of_node d ≡ Some c → get (codes "@type") (normal_node t d) ≡ get (codes "@type") d
+get_node-type t c d tree among =
+    get_node t c (codes "@type") d tree among
+    ∙ ap (λ k. option_and_then (λ v. normal_node_value t (Some k) v (normal_content t v)) (get (codes "@type") d)) (kind_of_type c) ∙ same_value (get (codes "@type") d)
+
+pub class_of_built_node : (t : Data) (c : Class) (d : Data) → IsTree d → class_of_node d ≡ Some c → class_of_node (normal_node t d) ≡ Some c
+class_of_built_node t c d tree among = ap (λ o. option_and_then (class_in_role role.Content) (option_and_then as_str o)) (get_node-type t c d tree among) ∙ among
+
+-- ---- a label
+
+pub get_label-text : (d : Data) → is_object d ≡ true → get (codes "Text") (with_rising_text d) ≡ Some (array_of (rising_list compact_cmp (entries_at (codes "Text") d)))
+get_label-text (object ms) is = get_member-put (codes "Text") (array_of (rising_list compact_cmp (entries_at (codes "Text") (object ms)))) ms
+get_label-text d is = cc
+
+pub get_label-other : (name : List ℕ) (d : Data) → bytes_eq name (codes "Text") ≡ false → get name (with_rising_text d) ≡ get name d
+get_label-other name (object ms) other = put_elsewhere name (codes "Text") (array_of (rising_list compact_cmp (entries_at (codes "Text") (object ms)))) ms other
+get_label-other name d other = refl

@@ -1,0 +1,24 @@
+-- The report that is built of an accepted one is accepted, and canonical.
+pub mod Bounds
+pub mod CanonicalIds
+pub mod SelectionTexts
+pub mod DistinctObjects
+pub mod DistinctSets
+pub mod RisingReports
+pub mod NormalKeys
+pub mod NormalSelections
+pub mod NormalOwners
+pub mod NormalIdentity
+pub mod SelectionIds
+pub mod NormalNames
+pub mod NormalSelectionNames
+pub mod ContestSelections
+pub mod NoShapeFaults
+pub mod NoEmptyArrays
+pub mod SetsInOrder
+pub mod ReferenceLists
+pub mod ReferencesBuilt
+pub mod NoReferenceFaults
+pub mod NormalCanonical
+pub mod NormalForms
+pub mod NormalFormsOnly

@@ -1,0 +1,136 @@
+-- No array of the table is empty in the report that is built.
+use Rattle.std.proofs.Common.{◌≡◌, suc, List, map, length, Some, Bool, true, false, ◌==◌, refl, ap, ◌∙◌}
+use Rattle.std.proofs.lemmas.Bool.Decides.{Decides-eqb}
+use Rattle.std.proofs.lemmas.List.{length-map}
+use Rattle.serde_json.specs.Data.{Data, null, boolean, number, string, array, object, Items, no_items, item}
+use Rattle.erd_tables.specs.declared.fault.Reason.TheVariants as reason
+use Rattle.erd_tables.specs.declared.member.MemberKind.{MemberKind}
+use Rattle.erd_tables.specs.declared.member.MemberKind.TheVariants as kind
+use Rattle.erd_check.specs.Faults.{has_not_one_entry, is_array, is_empty_array, NoneOf, ShapeFault}
+use Rattle.erd_check.specs.Trees.{IsTree}
+use Rattle.erd_check.specs.Values.{entries_of, list_of_items}
+use Rattle.erd_check.specs.Wants.{Asked, asked}
+use Rattle.erd_check.specs.declared.want.Want.{Want}
+use Rattle.erd_check.specs.declared.want.Want.TheVariants.{Member}
+use Rattle.erd_check.proofs.Shapes.{Within, faultless, not_false, unrepeated, wanted_within}
+use Rattle.erd_check.proofs.Whole.{no_strange, no_unknown}
+use Rattle.erd_meaning.proofs.accepted.Phases.{no_shape_fault}
+use Rattle.erd_meaning.specs.Accepted.{IsAccepted}
+use Rattle.erd_meaning.specs.SelectionNames.{compact_cmp, rising_list, with_rising_text}
+use Rattle.erd_normal.specs.Canonical.{HasNoEmptyArray, kind_wanted}
+use Rattle.erd_normal.specs.code.NormalTree.{array_of, by_key, by_name, normal_content, normal_election, normal_nodes, normal_object, normal_reference, normal_selection, normal_selection_reference, normal_tree, reference_cmp}
+use Rattle.erd_normal.proofs.lists.BuiltLists.{as_empty, as_one}
+use Rattle.erd_normal.proofs.lists.RisingSets.{length-rising}
+use Rattle.erd_normal.proofs.throughout.ThroughoutMembers.{HoldsOfMembers}
+use Rattle.erd_normal.proofs.throughout.ThroughoutObjects.{HoldsOfObjects}
+use Rattle.erd_normal.proofs.throughout.ThroughoutReports.{HoldsOfBuilt, holds_of_built}
+use Rattle.erd_normal.proofs.throughout.ThroughoutValues.{is_apart}
+
+-- a value is no empty array, if a member is asked for
+pub record IsNotEmpty (a : Asked) : Type 0 where
+  pub full : (k : MemberKind) → kind_wanted a.want ≡ Some k → is_empty_array a.value ≡ false
+
+full_value : (a : Asked) → is_empty_array a.value ≡ false → IsNotEmpty a
+full_value a h = record { full = λ k e. h }
+
+-- an array of what is built of each entry of another, in order
+full_list : (d : Data) (f : Data → Data) (arrange : List Data → List Data) → ((xs : List Data) → length (arrange xs) ≡ length xs) → is_array d ≡ true → is_empty_array d ≡ false
+    → is_empty_array (array_of (map f (arrange (entries_of d)))) ≡ false
+full_list d f arrange same is full = as_empty d (map f (arrange (entries_of d))) is (length-map (arrange (entries_of d)) f ∙ same (entries_of d)) ∙ full
+
+full_nodes : (t : Data) (ds : Items) → length (list_of_items (normal_nodes t ds)) ≡ length (list_of_items ds)
+full_nodes t no_items = refl
+full_nodes t (item d ds) = ap suc (full_nodes t ds)
+
+full_content : (t d : Data) → is_empty_array d ≡ false → is_empty_array (normal_content t d) ≡ false
+full_content t (array ds) full = ap (λ n. n == 0) (full_nodes t ds) ∙ full
+full_content t null full = full
+full_content t (boolean b) full = full
+full_content t (number n) full = full
+full_content t (string s) full = full
+full_content t (object ms) full = full
+
+full_one : (d : Data) → has_not_one_entry d ≡ false → is_empty_array d ≡ false
+full_one (array ds) one = let same : length (list_of_items ds) ≡ 1 = (Decides-eqb (length (list_of_items ds)) 1).0 (not_false (length (list_of_items ds) == 1) one) in ap (λ n. n == 0) same
+full_one null one = refl
+full_one (boolean b) one = refl
+full_one (number n) one = refl
+full_one (string s) one = refl
+full_one (object ms) one = refl
+
+module _ (t : Data) (clean : NoneOf (ShapeFault t)) (tree : IsTree t) where
+  label_full : (required : Bool) (d : Data) → Within t (asked (Member kind.Label required) d) → is_empty_array (with_rising_text d) ≡ false
+  label_full required (array ds) w = let x : false ≡ true = wanted_within t clean (asked (Member kind.Label required) (array ds)) w in cc
+  label_full required (object ms) w = refl
+  label_full required null w = refl
+  label_full required (boolean b) w = refl
+  label_full required (number n) w = refl
+  label_full required (string s) w = refl
+
+  apart_full : (k : MemberKind) (required : Bool) (d : Data) → is_apart (Member k required) ≡ true → Within t (asked (Member k required) d) → is_empty_array d ≡ false
+  apart_full kind.StrangeReference required d apart w = absurd (no_unknown t clean d required w)
+  apart_full kind.StrangeIdentity required d apart w = absurd (no_strange t clean d required w)
+  apart_full kind.Identity required (array ds) apart w = let x : false ≡ true = wanted_within t clean (asked (Member kind.Identity required) (array ds)) w in cc
+  apart_full kind.Word required (array ds) apart w = let x : false ≡ true = wanted_within t clean (asked (Member kind.Word required) (array ds)) w in cc
+  apart_full kind.Flag required (array ds) apart w = let x : false ≡ true = wanted_within t clean (asked (Member kind.Flag required) (array ds)) w in cc
+  apart_full kind.Whole required (array ds) apart w = let x : false ≡ true = wanted_within t clean (asked (Member kind.Whole required) (array ds)) w in cc
+  apart_full k required (array ds) apart w = cc
+  apart_full k required null apart w = refl
+  apart_full k required (boolean b) apart w = refl
+  apart_full k required (number n) apart w = refl
+  apart_full k required (string s) apart w = refl
+  apart_full k required (object ms) apart w = refl
+
+  kept_full : (a : Asked) → Within t a → is_apart a.want ≡ true → IsNotEmpty a
+  kept_full a w apart = record { full = λ k e. at a.want a.value a.repeated k w apart e }
+    where
+      at : (want : Want) (d : Data) (b : Bool) (k : MemberKind) → Within t (record { want = want; value = d; repeated = b }) → is_apart want ≡ true → kind_wanted want ≡ Some k → is_empty_array d ≡ false
+      at (Member k required) d b q w apart e = apart_full k required d apart (unrepeated t clean (Member k required) d b refl w)
+      at want d b q w apart e = cc
+
+  pub members : HoldsOfMembers t IsNotEmpty
+  members = record {
+    kept = kept_full;
+    class_text = λ r c text named. full_value _ refl;
+    label = λ required d w. full_value _ (label_full required d w);
+    one = λ f named d w. full_value _ refl;
+    many = λ f named required d w full. full_value _ (full_list d (normal_reference t f) (rising_list (reference_cmp t f)) (length-rising (reference_cmp t f)) (wanted_within t clean (asked (Member (kind.Many f) required) d) w) full);
+    many_entry = λ f named required d w i e found. record { full = λ k h. cc };
+    identifiers = λ required d w full. full_value _ (as_empty d (rising_list compact_cmp (entries_of d)) (wanted_within t clean (asked (Member kind.Identifiers required) d) w) (length-rising compact_cmp (entries_of d)) ∙ full);
+    languages = λ required d w full. full_value _ (as_empty d (rising_list compact_cmp (entries_of d)) (wanted_within t clean (asked (Member kind.Languages required) d) w) (length-rising compact_cmp (entries_of d)) ∙ full);
+    ordered = λ required d w full. full_value _ (full_list d (normal_selection_reference t) (λ xs. xs) (λ xs. refl) (wanted_within t clean (asked (Member kind.Ordered required) d) w) full);
+    ordered_entry = λ e w. full_value _ refl;
+  }
+
+  pub objects : HoldsOfObjects t IsNotEmpty
+  objects = record {
+    members = members;
+    identity = λ required id. full_value _ refl;
+    content = λ required d w full. full_value _ (full_content t d full);
+    node = λ d w. record { full = λ k e. cc };
+    selections = λ contest required d of stands w full. full_value _ (full_list d (normal_selection t contest.value) (rising_list (by_name t)) (length-rising (by_name t)) (wanted_within t clean (asked _ d) w) full);
+    selection = λ contest d w. record { full = λ k e. cc };
+    object = λ f d w. record { full = λ k e. cc };
+  }
+
+  pub built : HoldsOfBuilt t IsNotEmpty
+  built = record {
+    parts = objects;
+    word = λ required text. full_value _ refl;
+    whole = λ required n. full_value _ refl;
+    keyed = λ f keyed required d w all full. full_value _ (full_list d (normal_object t f) (rising_list by_key) (length-rising by_key) (wanted_within t clean (asked (Member (kind.Keyed f) required) d) w) full);
+    elections = λ required d w.
+        full_value _
+        (full_one (array_of (map (normal_election t) (entries_of d)))
+        (as_one d (map (normal_election t) (entries_of d)) (wanted_within t clean (asked (Member kind.Elections required) d) w) (length-map (entries_of d) (normal_election t))
+        ∙ faultless t clean (asked (Member kind.Elections required) d) reason.ElectionCount w));
+    election = λ d w. record { full = λ k e. cc };
+    report = record { full = λ k e. cc };
+  }
+
+  pub no_empty_array_of_built : HasNoEmptyArray (normal_tree t)
+  no_empty_array_of_built p a k e want = (holds_of_built t clean tree IsNotEmpty built p a e).full k want
+
+-- the report that is built of an accepted one has no empty array
+pub no_empty_array_built : (t : Data) → IsTree t → IsAccepted t → HasNoEmptyArray (normal_tree t)
+no_empty_array_built t tree accepted = no_empty_array_of_built t (no_shape_fault t accepted) tree

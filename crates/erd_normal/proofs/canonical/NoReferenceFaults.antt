@@ -1,0 +1,227 @@
+-- The report that is built has no fault of references.
+use Rattle.std.proofs.Common.{◌≡◌, ℕ, zero, suc, List, [], ◌∷◌, ◌++◌, Option, Some, None, option_and_then, option_map, Bool, true, false, ◌&&◌, true≢false, refl, sym, ap, ◌∙◌, subst}
+use Rattle.std.specs.List.{AllByRecursion}
+use Rattle.std.specs.Option.{option_map_or}
+use Rattle.serde_json.specs.Data.{Data, array, object, Items, no_items, item, Members}
+use Rattle.serde_json.specs.Find.{get_item, get_member}
+use Rattle.erd_tables.specs.Classes.{role_of_class}
+use Rattle.erd_tables.specs.declared.class.Class.{Class}
+use Rattle.erd_tables.specs.declared.class.Class.TheVariants as class
+use Rattle.erd_tables.specs.declared.class.Family.TheVariants as family
+use Rattle.erd_tables.specs.declared.class.Role.{Role}
+use Rattle.erd_tables.specs.declared.class.Role.TheVariants as role
+use Rattle.erd_tables.specs.declared.fault.Reason.TheVariants as reason
+use Rattle.erd_tables.specs.declared.member.MemberKind.TheVariants as kind
+use Rattle.erd_tables.specs.declared.place.Step.{Step}
+use Rattle.erd_tables.specs.declared.place.Step.TheVariants.{Name, At}
+use Rattle.erd_check.specs.declared.want.Want.{Want}
+use Rattle.erd_check.specs.declared.want.Want.TheVariants.{Object, Reference, Member, Carried}
+use Rattle.erd_check.specs.Faults.{NoneOf}
+use Rattle.erd_check.specs.Trees.{IsTree}
+use Rattle.erd_check.specs.Values.{entries_of, list_of_items, entries_at}
+use Rattle.erd_check.specs.Wants.{Asked, asked, asked_at, asked_from, asked_inside, asked_of_member, class_of_object, entry_want, is_compared_set, is_repeated, member_want, scope_inside, want_of_name}
+use Rattle.erd_meaning.specs.Accepted.{IsAccepted}
+use Rattle.erd_meaning.specs.LaterFaults.{NamesOtherContest, ReferenceFault, is_other_selection, is_reference_fault}
+use Rattle.erd_meaning.specs.Records.{class_of_node}
+use Rattle.erd_meaning.proofs.accepted.Phases.{no_shape_fault}
+use Rattle.erd_normal.specs.code.NormalTree.{normal_tree}
+use Rattle.erd_normal.specs.code.ObjectNumbers.{IsBounded}
+use Rattle.erd_normal.proofs.built.NormalGets.{class_has_role}
+use Rattle.erd_normal.proofs.canonical.ReferenceLists.{IsListSound, list_name, list_sound}
+use Rattle.erd_normal.proofs.canonical.ReferencesBuilt.{references_sound}
+use Rattle.erd_normal.proofs.throughout.ThroughoutMembers.{HoldsOfMembers}
+use Rattle.erd_normal.proofs.throughout.ThroughoutObjects.{HoldsOfObjects}
+use Rattle.erd_normal.proofs.throughout.ThroughoutReports.{HoldsOfBuilt, holds_of_built, none_found}
+use Rattle.erd_normal.proofs.throughout.ThroughoutValues.{is_apart}
+use Rattle.erd_check.proofs.Options.{and_then-Some}
+
+-- ---- the lists of a report
+
+-- the list of an object that names one contest holds selections of it
+pub record IsListed (u : Data) (a : Asked) : Type 0 where
+  pub sound : a.want ≡ Object role.Content → class_of_node a.value ≡ Some class.OrderedContest → IsListSound u a.value
+
+unlisted : (u : Data) (w : Want) (d : Data) (b : Bool) → (w ≡ Object role.Content → ⊥) → IsListed u (record { want = w; value = d; repeated = b })
+unlisted u w d b other = record { sound = λ e among. absurd (other e) }
+
+-- ---- the steps into a list
+
+asked_from-append : (a : Asked) (p q : List Step) → asked_from a (p ++ q) ≡ option_and_then (λ b. asked_from b q) (asked_from a p)
+asked_from-append a [] q = refl
+asked_from-append a (s ∷ p) q = onward (asked_inside a.want a.value s) (λ b. asked_from-append b p q)
+  where
+    onward : (o : Option Asked) → ((b : Asked) → asked_from b (p ++ q) ≡ option_and_then (λ c. asked_from c q) (asked_from b p))
+        → option_and_then (λ b. asked_from b (p ++ q)) o ≡ option_and_then (λ c. asked_from c q) (option_and_then (λ b. asked_from b p) o)
+    onward None h = refl
+    onward (Some b) h = h b
+
+-- the array whose entries are references to selections
+abbrev lists_selections : Want → Bool
+lists_selections (Member kind.Ordered required) = true
+lists_selections (Member (kind.Many family.Selection) required) = true
+lists_selections w = false
+
+only_contests : (c : Class) → lists_selections (member_want c list_name) ≡ true → c ≡ class.OrderedContest
+only_contests class.OrderedContest h = refl
+only_contests c h = cc
+
+-- what is asked of a member that is found
+record MemberFound (ow : Option Want) (o : Option Data) (b : Asked) : Type 0 where
+  want : Want
+  wanted : ow ≡ Some want
+  found : o ≡ Some b.value
+  same : want ≡ b.want
+
+member_found : (ow : Option Want) (o : Option Data) (b : Asked) → asked_of_member ow o ≡ Some b → MemberFound ow o b
+member_found None o b e = cc
+member_found (Some w) None b e = cc
+member_found (Some w) (Some d) b e =
+    let is : asked w d ≡ b = cc in
+    record { want = w; wanted = refl; found = ap (λ (x : Asked). Some x.value) is; same = ap (λ (x : Asked). x.want) is }
+
+-- the list stands in an object of the class of contests in the order of a ballot
+record OfContest (w : Want) (d : Data) (b : Asked) : Type 0 where
+  content : w ≡ Object role.Content
+  among : class_of_node d ≡ Some class.OrderedContest
+  stands : (ms : Members) × (d ≡ object ms) × (get_member list_name ms ≡ Some b.value)
+
+of_class : (r : Role) (ms : Members) (c : Class) (b : Asked) → class_of_object r (object ms) ≡ Some c → c ≡ class.OrderedContest → get_member list_name ms ≡ Some b.value
+    → (r ≡ role.Content) × (class_of_node (object ms) ≡ Some class.OrderedContest)
+of_class r ms c b among is found =
+    let content : role.Content ≡ r = ap role_of_class (sym is) ∙ class_has_role r c (object ms) among in
+    (sym content, ap (λ q. class_of_object q (object ms)) content ∙ among ∙ ap Some is)
+
+some_same : (v w : Want) → Some v ≡ Some w → v ≡ w
+some_same v w e = cc
+
+class_listing : (r : Role) (ms : Members) (b : Asked) (want : Want) → option_map (λ c. member_want c list_name) (class_of_object r (object ms)) ≡ Some want → want ≡ b.want → lists_selections b.want ≡ true
+    → get_member list_name ms ≡ Some b.value → (r ≡ role.Content) × (class_of_node (object ms) ≡ Some class.OrderedContest)
+class_listing r ms b want wanted same lists found = at (class_of_object r (object ms)) refl wanted
+  where
+    at : (o : Option Class) → class_of_object r (object ms) ≡ o → option_map (λ c. member_want c list_name) o ≡ Some want → (r ≡ role.Content) × (class_of_node (object ms) ≡ Some class.OrderedContest)
+    at None among e = cc
+    at (Some c) among e =
+        let asks : member_want c list_name ≡ b.want = some_same (member_want c list_name) want e ∙ same in
+        of_class r ms c b among (only_contests c (ap lists_selections asks ∙ lists)) found
+
+no_label : role.Label ≡ role.Content → ⊥
+no_label e = cc
+
+in_contest : (w : Want) (ms : Members) (b : Asked) → MemberFound (want_of_name (scope_inside w (object ms)) list_name) (get_member list_name ms) b → lists_selections b.want ≡ true → OfContest w (object ms) b
+in_contest (Object r) ms b m lists =
+    let h = class_listing r ms b m.want m.wanted m.same lists m.found in
+    record { content = ap Object h.0; among = h.1; stands = (ms, refl, m.found) }
+in_contest (Member kind.Label required) ms b m lists = let h = class_listing role.Label ms b m.want m.wanted m.same lists m.found in absurd (no_label h.0)
+in_contest Carried ms b m lists =
+    let asks : Member kind.StrangeIdentity false ≡ b.want = some_same (Member kind.StrangeIdentity false) m.want m.wanted ∙ m.same in
+    absurd (true≢false (sym lists ∙ ap lists_selections (sym asks)))
+in_contest w ms b m lists = let x = m.wanted in cc
+
+list_owner : (w : Want) (d : Data) (b : Asked) → asked_inside w d (Name list_name) ≡ Some b → lists_selections b.want ≡ true → OfContest w d b
+list_owner w (object ms) b e lists = in_contest w ms b (member_found (want_of_name (scope_inside w (object ms)) list_name) (get_member list_name ms) b e) lists
+list_owner w d b e lists = cc
+
+-- an entry that is a reference to a selection
+record EntryOf (w : Want) (d : Data) (i : ℕ) (a : Asked) : Type 0 where
+  lists : lists_selections w ≡ true
+  items : Items
+  is_array : d ≡ array items
+  found : get_item i items ≡ Some a.value
+
+lists_entry : (w : Want) → entry_want w ≡ Some (Reference family.Selection) → lists_selections w ≡ true
+lists_entry (Member kind.Ordered required) e = refl
+lists_entry (Member (kind.Many family.Selection) required) e = refl
+lists_entry w e = cc
+
+entry_of : (w : Want) (d : Data) (i : ℕ) (a : Asked) → asked_inside w d (At i) ≡ Some a → a.want ≡ Reference family.Selection → EntryOf w d i a
+entry_of w (array ds) i a e is = at (entry_want w) refl (get_item i ds) refl e
+  where
+    at : (ow : Option Want) → entry_want w ≡ ow → (o : Option Data) → get_item i ds ≡ o
+        → option_and_then (λ v. option_map (λ d. record { want = v; value = d; repeated = is_compared_set w && is_repeated ds i d }) o) ow ≡ Some a → EntryOf w (array ds) i a
+    at None want o found e = cc
+    at (Some v) want None found e = cc
+    at (Some v) want (Some d) found e =
+        let same : record { want = v; value = d; repeated = is_compared_set w && is_repeated ds i d } ≡ a = cc in
+        record {
+          lists = lists_entry w (want ∙ ap Some (ap (λ (x : Asked). x.want) same ∙ is));
+          items = ds;
+          is_array = refl;
+          found = found ∙ ap (λ (x : Asked). Some x.value) same;
+        }
+entry_of w d i a e is = cc
+
+item_holds : (P : Data → Type 0) (ds : Items) (i : ℕ) (e : Data) → AllByRecursion P (list_of_items ds) → get_item i ds ≡ Some e → P e
+item_holds P no_items i e all found = cc
+item_holds P (item d ds) zero e all found = let same : d ≡ e = cc in subst P same all.0
+item_holds P (item d ds) (suc i) e all found = item_holds P ds i e all.1 found
+
+elsewhere_wants : (u d : Data) (w : Want) (e : Data) → is_other_selection u d w e ≡ true → w ≡ Reference family.Selection
+elsewhere_wants u d (Reference family.Selection) e h = refl
+elsewhere_wants u d w e h = cc
+
+-- where each list holds selections of its contest, no entry is one of another
+none_elsewhere : (u : Data) → ((p : List Step) (a : Asked) → asked_at u p ≡ Some a → IsListed u a) → (p : List Step) → NamesOtherContest u p → ⊥
+none_elsewhere u listed p h =
+    let steps : asked_at u (h.object_place ++ Name list_name ∷ At h.position ∷ []) ≡ Some h.entry = ap (asked_at u) (sym h.place) ∙ h.entry_stands in
+    let inside : asked_from h.ordered_contest (Name list_name ∷ At h.position ∷ []) ≡ Some h.entry =
+    ap (option_and_then (λ b. asked_from b (Name list_name ∷ At h.position ∷ []))) (sym h.ordered_contest_stands)
+    ∙ sym (asked_from-append (asked (Object role.Report) u) h.object_place (Name list_name ∷ At h.position ∷ [])) ∙ steps in
+    let b = and_then-Some (λ b. asked_from b (At h.position ∷ [])) (asked_inside h.contest.want h.contest.value (Name list_name)) h.entry inside in
+    let c = and_then-Some (λ c. asked_from c []) (asked_inside b.0.want b.0.value (At h.position)) h.entry b.2 in
+    let wants : h.entry.want ≡ Reference family.Selection = elsewhere_wants u h.contest.value h.entry.want h.entry.value h.elsewhere in
+    let entry : EntryOf b.0.want b.0.value h.position h.entry = entry_of b.0.want b.0.value h.position h.entry (c.1 ∙ c.2) wants in
+    let owner : OfContest h.ordered_contest.want h.ordered_contest.value b.0 = list_owner h.ordered_contest.want h.ordered_contest.value b.0 b.1 entry.lists in
+    let all : IsListSound u h.ordered_contest.value = (listed h.object_place h.ordered_contest h.ordered_contest_stands).sound owner.content owner.among in
+    let entries : entries_at list_name h.ordered_contest.value ≡ list_of_items entry.items =
+    ap (entries_at list_name) owner.stands.1 ∙ ap (λ o. option_map_or entries_of o []) (owner.stands.2 ∙ ap Some entry.is_array) in
+    let here : is_other_selection u h.ordered_contest.value (Reference family.Selection) h.entry.value ≡ false =
+    item_holds (λ e. is_other_selection u h.ordered_contest.value (Reference family.Selection) e ≡ false) entry.items h.position h.entry.value
+    (subst (AllByRecursion (λ e. is_other_selection u h.ordered_contest.value (Reference family.Selection) e ≡ false)) entries all) entry.found in
+    true≢false (sym h.elsewhere ∙ ap (λ w. is_other_selection u h.ordered_contest.value w h.entry.value) wants ∙ here)
+
+-- ---- the report that is built
+
+module _ (t : Data) (accepted : IsAccepted t) (tree : IsTree t) (bounded : IsBounded t) where
+  abbrev u : Data
+  u = normal_tree t
+
+  members : HoldsOfMembers t (IsListed u)
+  members = record {
+    kept = λ a w apart. record { sound = λ e among. absurd (true≢false (sym apart ∙ ap is_apart e)) };
+    class_text = λ r c text named. unlisted u _ _ false (λ e. cc);
+    label = λ required d w. unlisted u _ _ false (λ e. cc);
+    one = λ f named d w. unlisted u _ _ false (λ e. cc);
+    many = λ f named required d w full. unlisted u _ _ false (λ e. cc);
+    many_entry = λ f named required d w i e found. unlisted u _ _ _ (λ e. cc);
+    identifiers = λ required d w full. unlisted u _ _ false (λ e. cc);
+    languages = λ required d w full. unlisted u _ _ false (λ e. cc);
+    ordered = λ required d w full. unlisted u _ _ false (λ e. cc);
+    ordered_entry = λ e w. unlisted u _ _ false (λ e. cc);
+  }
+
+  parts : HoldsOfObjects t (IsListed u)
+  parts = record {
+    members = members;
+    identity = λ required id. unlisted u _ _ false (λ e. cc);
+    content = λ required d w full. unlisted u _ _ false (λ e. cc);
+    node = λ d w. record { sound = λ e among. list_sound t accepted tree bounded d w among };
+    selections = λ contest required d of_report stands w full. unlisted u _ _ false (λ e. cc);
+    selection = λ contest d w. unlisted u _ _ false (λ e. let x : role.OfFamily family.Selection ≡ role.Content = cc in cc);
+    object = λ f d w. unlisted u _ _ false (λ e. let x : role.OfFamily f ≡ role.Content = cc in cc);
+  }
+
+  built : HoldsOfBuilt t (IsListed u)
+  built = record {
+    parts = parts;
+    word = λ required text. unlisted u _ _ false (λ e. cc);
+    whole = λ required n. unlisted u _ _ false (λ e. cc);
+    keyed = λ f keyed required d w all full. unlisted u _ _ false (λ e. cc);
+    elections = λ required d w. unlisted u _ _ false (λ e. cc);
+    election = λ d w. unlisted u _ _ false (λ e. let x : role.Election ≡ role.Content = cc in cc);
+    report = unlisted u _ _ false (λ e. let x : role.Report ≡ role.Content = cc in cc);
+  }
+
+  -- the report that is built has no fault of references
+  pub no_reference_fault_built : NoneOf (ReferenceFault (normal_tree t))
+  no_reference_fault_built p reason.SelectionOfOtherContest h = none_elsewhere (normal_tree t) (λ p a e. holds_of_built t (no_shape_fault t accepted) tree (IsListed u) built p a e) p h
+  no_reference_fault_built p r h = none_found (normal_tree t) (is_reference_fault (normal_tree t)) (references_sound t accepted tree bounded) p r h

@@ -1,0 +1,10 @@
+-- Canonical forms, meanings and rearrangements of worked examples, by computation.
+pub mod EqualTrees
+pub mod CanonicalReports
+pub mod CanonicalExamples
+pub mod CanonicalPartExamples
+pub mod MeaningExamples
+pub mod BallotMeaningExamples
+mod RearrangedExamples
+mod StableOrderExamples
+mod NormalTreeExamples

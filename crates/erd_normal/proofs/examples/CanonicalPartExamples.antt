@@ -1,0 +1,99 @@
+-- The envelope and the `@id` texts of canonical reports, and of reports that are not canonical.
+use Rattle.std.proofs.Common.{◌≡◌, ℕ, List, codes, slice_get, Option, Some, None, Bool, true, false, true≢false, not, ◌&&◌, ◌||◌, refl, ap}
+use Rattle.std.proofs.lemmas.Bool.{and_parts}
+use Rattle.std.proofs.lemmas.Slice.Eq.{bytes_eq-Decides}
+use Rattle.std.specs.Fmt.{digits}
+use Rattle.std.specs.List.{list_all}
+use Rattle.std.specs.Prelude.{unwrap_or}
+use Rattle.std.specs.Str.{bytes_eq}
+use Rattle.serde_json.specs.Data.{Data}
+use Rattle.serde_json.proofs.OnLiterals.{serde_json_on_literals}
+use Rattle.erd_tables.specs.Classes.{families}
+use Rattle.erd_tables.specs.declared.class.Family.{Family}
+use Rattle.erd_tables.specs.declared.class.Family.TheVariants as family
+use Rattle.erd_check.proofs.Reports.{tree_of, small_ballot, small_ballot_canonical, one_unit}
+use Rattle.erd_meaning.specs.Keys.{has_keys}
+use Rattle.erd_meaning.specs.Objects.{Placed, objects, selections_of_contest, id_of, report_of}
+use Rattle.erd_normal.proofs.lists.Lists.{passed, is_family, all_from, passed_at}
+use Rattle.erd_normal.proofs.examples.MeaningExamples.{one_unit_canonical}
+use Rattle.erd_normal.specs.Canonical.{HasCanonicalEnvelope, HasCanonicalIds, canonical_id, canonical_selection_id}
+
+-- ---- a test of `@id` texts
+
+abbrev is_same : Option (List ℕ) → Option (List ℕ) → Bool
+is_same None None = true
+is_same (Some a) (Some b) = bytes_eq a b
+is_same a b = false
+
+equal_texts : (a b : Option (List ℕ)) → is_same a b ≡ true → a ≡ b
+equal_texts None None h = refl
+equal_texts (Some a) (Some b) h = ap Some ((bytes_eq-Decides a b).0 h)
+equal_texts a b h = absurd (cc h)
+
+abbrev is_ranked : Family → ℕ → Placed → Bool
+is_ranked f i o = is_same (id_of o.value) (canonical_id f i)
+
+-- the selection at a position of a contest at a position
+abbrev is_selection_ranked : ℕ → ℕ → Placed → Bool
+is_selection_ranked i j o = is_same (id_of o.value) (Some (canonical_selection_id i j))
+
+abbrev are_ranked : Data → Family → Bool
+are_ranked t f = not (has_keys f) || all_from (is_ranked f) 0 (objects f t)
+
+abbrev has_canonical_ids : Data → Bool
+has_canonical_ids t =
+    list_all (are_ranked t) families && all_from (λ i contest. all_from (is_selection_ranked i) 0 (selections_of_contest contest)) 0 (objects family.Contest t)
+
+with_keys : (a b : Bool) → a ≡ true → (not a || b) ≡ true → b ≡ true
+with_keys true b is h = h
+with_keys false b is h = absurd (cc is)
+
+-- what passes the test has its canonical `@id` texts
+pub canonical_ids : (t : Data) → has_canonical_ids t ≡ true → HasCanonicalIds t
+canonical_ids t h =
+    let parts = and_parts (list_all (are_ranked t) families) _ h in
+    record {
+      families = λ f i o keyed at.
+          equal_texts (id_of o.value) (canonical_id f i)
+          (passed_at (is_ranked f) (objects f t) i o (with_keys (has_keys f) _ keyed (passed (are_ranked t) families f parts.0 (is_family f))) at);
+      selections = λ i j contest o contest_at at.
+          equal_texts (id_of o.value) (Some (canonical_selection_id i j))
+          (passed_at (is_selection_ranked i) (selections_of_contest contest) j o
+          (passed_at (λ i contest. all_from (is_selection_ranked i) 0 (selections_of_contest contest)) (objects family.Contest t) i contest parts.1 contest_at) at);
+    }
+
+pub ids_of_one_unit : HasCanonicalIds (tree_of one_unit_canonical)
+unfolding serde_json_on_literals digits
+ids_of_one_unit = canonical_ids (tree_of one_unit_canonical) refl
+
+pub ids_of_small_ballot : HasCanonicalIds (tree_of small_ballot_canonical)
+unfolding serde_json_on_literals digits
+ids_of_small_ballot = canonical_ids (tree_of small_ballot_canonical) refl
+
+-- the vendor's texts are others
+abbrev first_unit : Data → Placed
+first_unit t = unwrap_or (slice_get (objects family.Unit t) 0) (report_of t)
+
+other_ids : HasCanonicalIds (tree_of small_ballot) → ⊥
+unfolding serde_json_on_literals digits
+other_ids h = true≢false (ap (is_same (Some (codes "a2"))) (h.families family.Unit 0 (first_unit (tree_of small_ballot)) refl refl))
+
+-- ---- the envelope
+
+pub envelope_of_one_unit : HasCanonicalEnvelope (tree_of one_unit_canonical)
+unfolding serde_json_on_literals
+envelope_of_one_unit = record {
+  format = refl;
+  date = refl;
+  issuer = refl;
+  abbreviation = refl;
+  application = refl;
+  start = refl;
+  end = refl;
+  notes = refl;
+  identifiers = refl;
+}
+
+no_envelope : HasCanonicalEnvelope (tree_of one_unit) → ⊥
+unfolding serde_json_on_literals
+no_envelope h = absurd (cc h.format)

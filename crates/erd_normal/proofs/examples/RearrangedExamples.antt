@@ -1,0 +1,199 @@
+-- Whole reports that are rearrangements of one another, and changes that are refused.
+use Rattle.std.proofs.Common.{◌≡◌, ℕ, zero, suc, List, [], ◌∷◌, ◌++◌, map, codes, Contains, Option, Some, None, Bool, true, false, true≢false, not, ◌&&◌, refl, sym, ap, ◌∙◌, arith, lit<}
+use Rattle.std.proofs.lemmas.Bool.{and_parts, or_parts, not-true}
+use Rattle.std.proofs.lemmas.Map.Views.{Contains-from_any}
+use Rattle.std.proofs.lemmas.Slice.Eq.{bytes_eq-Decides}
+use Rattle.std.specs.List.{list_any, list_all}
+use Rattle.std.specs.Option.{option_map_or}
+use Rattle.std.specs.Prelude.{slice_get, length, option_map, unwrap_or, if◌then◌else◌, ◌==◌}
+use Rattle.std.specs.Str.{bytes_eq}
+use Rattle.serde_json.specs.Data.{Data}
+use Rattle.serde_json.proofs.OnLiterals.{serde_json_on_literals}
+use Rattle.erd_tables.specs.Classes.{families}
+use Rattle.erd_tables.specs.declared.class.Family.TheVariants as family
+use Rattle.erd_tables.specs.declared.place.Step.{Step}
+use Rattle.erd_tables.specs.declared.place.Step.TheVariants.{Name, At}
+use Rattle.erd_check.proofs.Reports.{tree_of, small_ballot, small_ballot_canonical, one_unit}
+use Rattle.erd_meaning.specs.Objects.{Placed, objects, id_of, report_of}
+use Rattle.erd_normal.proofs.examples.EqualTrees.{equal_trees}
+use Rattle.erd_normal.proofs.lists.Lists.{passed, is_family}
+use Rattle.erd_normal.specs.Rearranged.{Renaming, IsRenaming, Change, a_renaming, an_exchange, IsRearrangement}
+
+-- ---- texts with a part replaced
+
+abbrev rest_after : List ℕ → List ℕ → Option (List ℕ)
+rest_after [] text = Some text
+rest_after (x ∷ xs) [] = None
+rest_after (x ∷ xs) (y ∷ ys) = if x == y then rest_after xs ys else None
+
+-- the text with the first part that is `old` replaced
+abbrev edited : List ℕ → List ℕ → List ℕ → List ℕ
+edited old new [] = []
+edited old new (x ∷ xs) = unwrap_or (option_map (λ rest. new ++ rest) (rest_after old (x ∷ xs))) (x ∷ edited old new xs)
+
+-- ---- a test of a renaming
+
+-- each `@id` of the objects is among these texts
+abbrev are_among : List (List ℕ) → List Placed → Bool
+are_among texts os = list_all (λ o. option_map_or (λ id. list_any (bytes_eq id) texts) (id_of o.value) true) os
+
+-- no two of the pairs have one text on this side
+abbrev are_apart : (List ℕ × List ℕ → List ℕ) → Renaming → Bool
+are_apart side [] = true
+are_apart side (p ∷ ps) = not (list_any (λ q. bytes_eq (side p) (side q)) ps) && are_apart side ps
+
+abbrev is_renaming : Data → Renaming → Bool
+is_renaming t pairs =
+    list_all (λ f. are_among (map (λ pair. pair.0) pairs) (objects f t)) families
+    && (are_apart (λ pair. pair.0) pairs && are_apart (λ pair. pair.1) pairs)
+
+not_later : {A : Type 0} (test : A → Bool) (xs : List A) (j : ℕ) (y : A) → list_any test xs ≡ false → slice_get xs j ≡ Some y → test y ≡ true → ⊥
+not_later test [] j y h e g = absurd (cc e)
+not_later test (x ∷ xs) zero y h e g =
+    let same : x ≡ y = cc in absurd (true≢false (sym g ∙ (ap test (sym same) ∙ (or_parts (test x) _ h).0)))
+not_later test (x ∷ xs) (suc j) y h e g = not_later test xs j y (or_parts (test x) _ h).1 e g
+
+one_position : (side : List ℕ × List ℕ → List ℕ) (pairs : Renaming) → are_apart side pairs ≡ true → (i j : ℕ) (p q : List ℕ × List ℕ)
+    → slice_get pairs i ≡ Some p → slice_get pairs j ≡ Some q → side p ≡ side q → i ≡ j
+one_position side [] h i j p q at_i at_j same = absurd (cc at_i)
+one_position side (r ∷ rs) h zero zero p q at_i at_j same = refl
+one_position side (r ∷ rs) h zero (suc j) p q at_i at_j same =
+    let both = and_parts (not (list_any (λ s. bytes_eq (side r) (side s)) rs)) _ h in
+    let first : r ≡ p = cc in
+    absurd (not_later (λ s. bytes_eq (side r) (side s)) rs j q (not-true _ both.0) at_j ((bytes_eq-Decides (side r) (side q)).1 (ap side first ∙ same)))
+one_position side (r ∷ rs) h (suc i) zero p q at_i at_j same =
+    let both = and_parts (not (list_any (λ s. bytes_eq (side r) (side s)) rs)) _ h in
+    let first : r ≡ q = cc in
+    absurd (not_later (λ s. bytes_eq (side r) (side s)) rs i p (not-true _ both.0) at_i ((bytes_eq-Decides (side r) (side p)).1 (ap side first ∙ sym same)))
+one_position side (r ∷ rs) h (suc i) (suc j) p q at_i at_j same =
+    ap suc (one_position side rs (and_parts (not (list_any (λ s. bytes_eq (side r) (side s)) rs)) _ h).1 i j p q at_i at_j same)
+
+-- what passes the test is a renaming
+renaming : (t : Data) (pairs : Renaming) → is_renaming t pairs ≡ true → IsRenaming t pairs
+renaming t pairs h =
+    let parts = and_parts (list_all (λ f. are_among (map (λ pair. pair.0) pairs) (objects f t)) families) _ h in
+    let sides = and_parts (are_apart (λ pair. pair.0) pairs) _ parts.1 in
+    record {
+      all = λ f o id stands is.
+          let among = passed (λ o. option_map_or (λ id. list_any (bytes_eq id) (map (λ pair. pair.0) pairs)) (id_of o.value) true) (objects f t) o
+          (passed (λ f. are_among (map (λ pair. pair.0) pairs) (objects f t)) families f parts.0 (is_family f)) stands in
+          Contains-from_any (λ x y. (bytes_eq-Decides x y).0) id (map (λ pair. pair.0) pairs) (rw is at among);
+      left = one_position (λ pair. pair.0) pairs sides.0;
+      right = one_position (λ pair. pair.1) pairs sides.1;
+    }
+
+-- ---- the report of one unit
+
+abbrev new_name : Renaming
+new_name = (codes "u7", codes "k") ∷ []
+
+-- its `@id` and the reference to it are replaced
+renamed_unit : IsRearrangement (a_renaming new_name ∷ []) (tree_of one_unit)
+    (tree_of (codes "{\"@type\":\"ElectionResults.ElectionReport\",\"Status\":\"pre-election\",\"GpUnit\":[{\"@id\":\"k\",\"@type\":\"ElectionResults.ReportingUnit\",\"Type\":\"county\",\"ExternalIdentifier\":[{\"@type\":\"ElectionResults.ExternalIdentifier\",\"Type\":\"local-level\",\"Value\":\"U1\"}]}],\"Election\":[{\"@type\":\"ElectionResults.Election\",\"Name\":\"Test\",\"Type\":\"general\",\"StartDate\":\"2026-11-03\",\"EndDate\":\"2026-11-03\",\"ElectionScopeId\":\"k\"}]}"))
+unfolding serde_json_on_literals
+renamed_unit = (renaming (tree_of one_unit) new_name refl, refl)
+
+-- ---- the small ballot
+
+abbrev units_place : List Step
+units_place = Name (codes "GpUnit") ∷ []
+
+abbrev candidates_place : List Step
+candidates_place = Name (codes "Election") ∷ At 0 ∷ Name (codes "Candidate") ∷ []
+
+-- the selections of a contest
+abbrev selections_place : ℕ → List Step
+selections_place contest = Name (codes "Election") ∷ At 0 ∷ Name (codes "Contest") ∷ At contest ∷ Name (codes "ContestSelection") ∷ []
+
+abbrev keys_place : ℕ → List Step
+keys_place i = selections_place 0 ++ At i ∷ Name (codes "CandidateIds") ∷ []
+
+abbrev translations_place : ℕ → List Step
+translations_place i = selections_place 1 ++ At i ∷ Name (codes "Selection") ∷ Name (codes "Text") ∷ []
+
+-- the candidates of one selection exchanged
+exchanged_references : IsRearrangement (an_exchange (keys_place 0) 0 1 ∷ []) (tree_of small_ballot) (tree_of (edited (codes "[\"a6\",\"a5\"]") (codes "[\"a5\",\"a6\"]") small_ballot))
+unfolding serde_json_on_literals
+exchanged_references = ((refl, lit< tt, lit< tt), refl)
+
+abbrev first_unit : List ℕ
+first_unit = codes "{\"@id\":\"a2\",\"@type\":\"ElectionResults.ReportingUnit\",\"ExternalIdentifier\":[{\"@type\":\"ElectionResults.ExternalIdentifier\",\"Type\":\"local-level\",\"Value\":\"U2\"}],\"Type\":\"precinct\"}"
+
+abbrev second_unit : List ℕ
+second_unit = codes "{\"@id\":\"a1\",\"@type\":\"ElectionResults.ReportingUnit\",\"ExternalIdentifier\":[{\"@type\":\"ElectionResults.ExternalIdentifier\",\"Type\":\"local-level\",\"Value\":\"U1\"}],\"Type\":\"county\",\"ComposingGpUnitIds\":[\"a2\"]}"
+
+-- its units exchanged
+exchanged_units : IsRearrangement (an_exchange units_place 0 1 ∷ []) (tree_of small_ballot) (tree_of (edited (first_unit ++ codes "," ++ second_unit) (second_unit ++ codes "," ++ first_unit) small_ballot))
+unfolding serde_json_on_literals
+exchanged_units = ((refl, lit< tt, lit< tt), refl)
+
+-- the names of the canonical form
+abbrev canonical_names : Renaming
+canonical_names =
+    (codes "a1", codes "gp1") ∷ (codes "a2", codes "gp2") ∷ (codes "a3", codes "pa1") ∷ (codes "a4", codes "hd1") ∷ (codes "a5", codes "ca1") ∷ (codes "a6", codes "ca2") ∷ (codes "a7", codes "ca3")
+    ∷ (codes "a8", codes "co1") ∷ (codes "a9", codes "cs1-2") ∷ (codes "a10", codes "cs1-3") ∷ (codes "a11", codes "cs1-1") ∷ (codes "a12", codes "co2") ∷ (codes "a13", codes "cs2-2") ∷ (codes "a14", codes "cs2-1")
+    ∷ (codes "a16", codes "pe1") ∷ (codes "a17", codes "of1") ∷ []
+
+-- the canonical form with the envelope of the small ballot
+abbrev canonical_inside : List ℕ
+canonical_inside =
+    edited (codes "\"Format\":\"summary-contest\",\"GeneratedDate\":\"2000-01-01T00:00:00Z\"") (codes "\"GeneratedDate\":\"2026-08-01T09:00:00Z\"")
+    (edited (codes "\"Issuer\":\"canonical\",\"IssuerAbbreviation\":\"canonical\"") (codes "\"Issuer\":\"Vendor A\"")
+    (edited (codes "\"SequenceEnd\":1,\"SequenceStart\":1,") [] (edited (codes ",\"VendorApplicationId\":\"canonical\"") [] small_ballot_canonical)))
+
+abbrev in_canonical_order : List Change
+in_canonical_order =
+    an_exchange units_place 0 1 ∷ an_exchange candidates_place 0 1 ∷ an_exchange candidates_place 1 2 ∷ an_exchange (selections_place 0) 0 2 ∷ an_exchange (selections_place 0) 1 2
+    ∷ an_exchange (keys_place 1) 0 1 ∷ an_exchange (selections_place 1) 0 1 ∷ an_exchange (translations_place 1) 0 1 ∷ []
+
+-- but for its envelope the canonical form is a rearrangement of the small ballot
+canonical_rearranged : IsRearrangement (a_renaming canonical_names ∷ in_canonical_order) (tree_of small_ballot) (tree_of canonical_inside)
+unfolding serde_json_on_literals
+canonical_rearranged =
+    (renaming (tree_of small_ballot) canonical_names refl, ((refl, lit< tt, lit< tt), ((refl, lit< tt, lit< tt), ((refl, lit< tt, lit< tt), ((refl, lit< tt, lit< tt), ((refl, lit< tt, lit< tt), ((refl, lit< tt, lit< tt), ((refl, lit< tt, lit< tt), ((refl, lit< tt, lit< tt), equal_trees _ (tree_of canonical_inside) refl)))))))))
+
+-- ---- refused
+
+abbrev report : Data
+report = tree_of one_unit
+
+-- two texts become one
+two_to_one : IsRenaming report ((codes "u7", codes "k") ∷ (codes "u8", codes "k") ∷ []) → ⊥
+two_to_one h = absurd (cc (h.right 0 1 (codes "u7", codes "k") (codes "u8", codes "k") refl refl refl))
+
+-- one text becomes two
+one_to_two : IsRenaming report ((codes "u7", codes "k") ∷ (codes "u7", codes "l") ∷ []) → ⊥
+one_to_two h = absurd (cc (h.left 0 1 (codes "u7", codes "k") (codes "u7", codes "l") refl refl refl))
+
+-- the unit's `@id` is left out
+not_among : Contains (codes "u8" ∷ []) (codes "u7") → ⊥
+not_among (zero, low, is) = true≢false (sym ((bytes_eq-Decides (codes "u8") (codes "u7")).1 is))
+not_among (suc k, low, is) = absurd (omega arith)
+
+abbrev the_unit : Placed
+the_unit = unwrap_or (slice_get (objects family.Unit report) 0) (report_of report)
+
+left_out : IsRenaming report ((codes "u8", codes "k") ∷ []) → ⊥
+unfolding serde_json_on_literals
+left_out h = not_among (h.all family.Unit the_unit (codes "u7") (0, lit< tt, refl) refl)
+
+-- the order of a ballot and a list of selections are no sets; a set of two units has no third
+abbrev content_place : List Step
+content_place = Name (codes "Election") ∷ At 0 ∷ Name (codes "BallotStyle") ∷ At 0 ∷ Name (codes "OrderedContent") ∷ []
+
+ballot_exchanged : (u : Data) (cs : List Change) → IsRearrangement (an_exchange content_place 0 1 ∷ cs) (tree_of small_ballot) u → ⊥
+unfolding serde_json_on_literals
+ballot_exchanged u cs h = true≢false (sym h.0.0)
+
+selections_exchanged : (u : Data) (cs : List Change) → IsRearrangement (an_exchange (content_place ++ At 0 ∷ Name (codes "OrderedContent") ∷ At 0 ∷ Name (codes "OrderedContestSelectionIds") ∷ []) 0 1 ∷ cs) (tree_of small_ballot) u → ⊥
+unfolding serde_json_on_literals
+selections_exchanged u cs h = true≢false (sym h.0.0)
+
+no_third : (u : Data) (cs : List Change) → IsRearrangement (an_exchange units_place 0 2 ∷ cs) (tree_of small_ballot) u → ⊥
+unfolding serde_json_on_literals
+no_third u cs h = absurd (omega (arith, h.0.2))
+
+-- one report is no rearrangement of another by nothing
+unchanged : IsRearrangement [] report (tree_of small_ballot) → ⊥
+unfolding serde_json_on_literals
+unchanged h = true≢false (ap (λ t. length (objects family.Unit t) == 1) h)

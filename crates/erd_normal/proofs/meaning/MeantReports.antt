@@ -1,0 +1,176 @@
+-- The report that is built means what the report means.
+use mathlib.Core.Path.{fun_ext}
+use Rattle.std.proofs.Common.{◌≡◌, ℕ, List, find, slice_get, Bool, true, false, if◌then◌else◌, Equal, Option, Some, None, option_and_then, refl, sym, ap, ap₂, ◌∙◌}
+use Rattle.std.proofs.lemmas.Cmp.{tied_itself}
+use Rattle.std.specs.Cmp.Lexicographic.{options_total}
+use Rattle.std.specs.List.{AllByRecursion}
+use Rattle.std.specs.Option.{option_cmp}
+use Rattle.std.specs.Ordering.{is_eq}
+use Rattle.serde_json.specs.Data.{Data, object}
+use Rattle.serde_json.specs.Find.{as_str, get}
+use Rattle.erd_tables.specs.Classes.{class_in_role}
+use Rattle.erd_tables.specs.Table.{is_envelope_name, kind_of_member}
+use Rattle.erd_tables.specs.declared.class.Class.TheVariants as class
+use Rattle.erd_tables.specs.declared.class.Family.{Family}
+use Rattle.erd_tables.specs.declared.class.Family.TheVariants as family
+use Rattle.erd_tables.specs.declared.class.Role.TheVariants as role
+use Rattle.erd_tables.specs.declared.member.MemberKind.{MemberKind}
+use Rattle.erd_tables.specs.declared.member.MemberKind.TheVariants as kind
+use Rattle.erd_check.specs.Faults.{NoneOf, ShapeFault}
+use Rattle.erd_check.specs.Trees.{IsTree}
+use Rattle.erd_check.specs.Wants.{asked}
+use Rattle.erd_check.specs.declared.want.Want.TheVariants.{Object}
+use Rattle.erd_check.proofs.Rising.{Has}
+use Rattle.erd_check.proofs.Shapes.{within-tree}
+use Rattle.erd_meaning.specs.Keys.{has_keys, key_cmp, key_of}
+use Rattle.erd_meaning.specs.Meaning.{Meaning, ObjectRecord}
+use Rattle.erd_meaning.specs.Objects.{Placed, elections, objects}
+use Rattle.erd_meaning.specs.code.Orders.{key_cmp_total}
+use Rattle.erd_meaning.specs.Records.{meaning, member_of_class, object_record, object_with_key, plain_member, plain_value, records_of}
+use Rattle.erd_meaning.specs.declared.keys.key.Key.{Key}
+use Rattle.erd_meaning.proofs.orders.EqualNames.{equal_keys, options_exact}
+use Rattle.erd_meaning.proofs.accepted.Phases.{no_shape_fault}
+use Rattle.erd_meaning.proofs.accepted.Skeleton.{Skeleton, elections_are, skeleton_of_shape}
+use Rattle.erd_normal.specs.code.NormalTree.{by_key, normal_election, normal_election_value, normal_object, normal_report_value, normal_tree, normal_value}
+use Rattle.erd_normal.proofs.built.AskedMembers.{AskedAs, asked_as}
+use Rattle.erd_normal.proofs.lists.BuiltLists.{all_map}
+use Rattle.erd_normal.proofs.lists.FoundBuilt.{IsKept, find_values, found_in_order}
+use Rattle.erd_normal.proofs.built.LeastKeys.{key_of_object}
+use Rattle.erd_normal.proofs.meaning.MeantKinds.{flat_no_selections, kind_is_flat}
+use Rattle.erd_normal.proofs.meaning.MeantObjects.{Facts, member_alike, object_meant, plain_kept, plain_members, record_alike}
+use Rattle.erd_normal.proofs.meaning.MeantValues.{is_flat, nothing_of, value_meant}
+use Rattle.erd_normal.proofs.built.NormalGets.{get_election, get_election-type}
+use Rattle.erd_normal.proofs.canonical.NormalKeys.{IsClassed, object_classed}
+use Rattle.erd_normal.proofs.built.NormalObjects.{elections_built, objects_built, values_of}
+use Rattle.erd_normal.proofs.built.NormalReports.{class_of_built_report, class_of_report, get_report}
+use Rattle.erd_check.proofs.Positions.{all_by_entry}
+use Rattle.erd_normal.proofs.canonical.DistinctObjects.{values_distinct}
+
+-- an object has the key
+abbrev is_of_key : Key → Data → Bool
+is_of_key k d = is_eq (option_cmp key_cmp (key_of d) (Some k))
+
+keys_tied : (k : Key) (x y : Data) → is_of_key k x ≡ true → is_of_key k y ≡ true → by_key x y ≡ Equal
+keys_tied k x y h l =
+    ap₂ (option_cmp key_cmp) (options_exact key_cmp equal_keys (key_of x) (Some k) h) (options_exact key_cmp equal_keys (key_of y) (Some k) l)
+    ∙ tied_itself (options_total key_cmp_total) (Some k)
+
+-- a meaning of its three parts
+abbrev made_meaning : Option ObjectRecord → Option ObjectRecord → (Family → Key → Option ObjectRecord) → Meaning
+made_meaning r e os = record { report = r; election = e; objects = os }
+
+same_meaning : (r s e f : Option ObjectRecord) (m n : Family → Key → Option ObjectRecord) → r ≡ s → e ≡ f → ((g : Family) (k : Key) → m g k ≡ n g k) → made_meaning r e m ≡ made_meaning s f n
+same_meaning r s e f m n reports elections same = ap₂ (λ x y. made_meaning x y m) reports elections ∙ ap (made_meaning s f) (fun_ext (λ g. fun_ext (same g)))
+
+module _ (t : Data) (facts : Facts t) where
+  clean : NoneOf (ShapeFault t)
+  clean = no_shape_fault t facts.accepted
+
+  skeleton : Skeleton t
+  skeleton = skeleton_of_shape t clean
+
+  -- ---- families
+
+  module _ (f : Family) (k : Key) where
+    abbrev IsKeyKept : Data → Type 0
+    IsKeyKept = IsKept (is_of_key k) (is_of_key k) (normal_object t f) (object_record t (role.OfFamily f)) (object_record (normal_tree t) (role.OfFamily f))
+
+    key_kept : (o : Placed) → Has (objects f t) o → IsKeyKept o.value
+    key_kept o h =
+        let c : IsClassed f o.value = object_classed t facts.accepted facts.tree f o h in
+        (ap (λ l. is_eq (option_cmp key_cmp l (Some k))) (key_of_object t f c.0 o.value c.2 c.1), object_meant t facts f o h)
+
+    all_kept : AllByRecursion IsKeyKept (values_of f t)
+    all_kept = all_map (λ o. IsKeyKept o.value) IsKeyKept (λ o. o.value) (objects f t) (λ o h. h) (all_by_entry (λ o. IsKeyKept o.value) (objects f t) key_kept)
+
+    found_by_key : (u : Data) → object_with_key u f k ≡ find (is_of_key k) (values_of f u)
+    found_by_key u = find_values (is_of_key k) (λ o. o.value) (objects f u)
+
+    pub records_keyed : has_keys f ≡ true → option_and_then (object_record (normal_tree t) (role.OfFamily f)) (object_with_key (normal_tree t) f k) ≡ option_and_then (object_record t (role.OfFamily f)) (object_with_key t f k)
+    records_keyed keyed =
+        ap (option_and_then (object_record (normal_tree t) (role.OfFamily f))) (found_by_key (normal_tree t) ∙ ap (find (is_of_key k)) (objects_built t clean facts.tree f keyed))
+        ∙ found_in_order (is_of_key k) (is_of_key k) (normal_object t f) (object_record t (role.OfFamily f)) (object_record (normal_tree t) (role.OfFamily f)) by_key (values_of f t)
+        (keys_tied k) (values_distinct t facts.accepted f keyed) all_kept
+        ∙ sym (ap (option_and_then (object_record t (role.OfFamily f))) (found_by_key t))
+
+  pub records_meant : (f : Family) (k : Key) → records_of (normal_tree t) f k ≡ records_of t f k
+  records_meant family.Selection k = refl
+  records_meant f k = records_keyed f k refl
+
+  -- ---- the election
+
+  election_value_meant : (k : MemberKind) (v : Data) → is_flat k ≡ true → AskedAs t k v → option_and_then (plain_value (normal_tree t) k) (normal_election_value t k v) ≡ plain_value t k v
+  election_value_meant (kind.Keyed f) v flat a = nothing_of (plain_value (normal_tree t) (kind.Keyed f)) (normal_election_value t (kind.Keyed f) v) (λ x. refl)
+  election_value_meant k v flat a = value_meant t facts.accepted facts.tree facts.few k v flat a
+
+  -- the election of the report
+  abbrev the_one : Data
+  the_one = object skeleton.es
+
+  election_tree : IsTree the_one
+  election_tree = within-tree t (asked (Object role.Election) the_one) facts.tree skeleton.election.inside
+
+  election_member : (name : List ℕ) → member_of_class (normal_tree t) (normal_election t the_one) class.Election name ≡ member_of_class t the_one class.Election name
+  election_member name =
+      let flat : is_flat (kind_of_member class.Election name) ≡ true = kind_is_flat class.Election name refl in
+      plain_members t (normal_tree t) (kind_of_member class.Election name) (get name the_one) (get name (normal_election t the_one))
+      (plain_member t the_one class.Election name) (plain_member (normal_tree t) (normal_election t the_one) class.Election name)
+      (flat_no_selections (kind_of_member class.Election name) flat)
+      (member_alike t (normal_tree t) the_one (normal_election t the_one) class.Election name
+      (plain_kept t (normal_tree t) (kind_of_member class.Election name) (normal_election_value t (kind_of_member class.Election name)) (get name the_one) (get name (normal_election t the_one))
+      (get_election t the_one election_tree skeleton.election.among name)
+      (λ v found. election_value_meant (kind_of_member class.Election name) v flat
+      (asked_as t clean (Object role.Election) role.Election class.Election skeleton.es skeleton.election name v found))))
+
+  election_meant : object_record (normal_tree t) role.Election (normal_election t the_one) ≡ object_record t role.Election the_one
+  election_meant =
+      record_alike (member_of_class (normal_tree t) (normal_election t the_one)) (member_of_class t the_one) role.Election (normal_election t the_one) the_one class.Election
+      (ap (λ o. option_and_then (class_in_role role.Election) (option_and_then as_str o)) (get_election-type t the_one election_tree skeleton.election.among) ∙ skeleton.election.among)
+      skeleton.election.among election_member
+
+  abbrev first_record : Data → List Placed → Option ObjectRecord
+  first_record u os = option_and_then (λ (o : Placed). object_record u role.Election o.value) (slice_get os 0)
+
+  pub elections_meant : first_record (normal_tree t) (elections (normal_tree t)) ≡ first_record t (elections t)
+  elections_meant = ap (first_record (normal_tree t)) (elections_built t clean facts.tree skeleton) ∙ election_meant ∙ sym (ap (first_record t) (elections_are t skeleton))
+
+  -- ---- the report
+
+  outside_meant : (name : List ℕ) (k : MemberKind) (v : Data) → is_envelope_name name ≡ false → is_flat k ≡ true → AskedAs t k v
+      → option_and_then (plain_value (normal_tree t) k) (if is_envelope_name name then None else normal_value t k v) ≡ plain_value t k v
+  outside_meant name k v other flat a = rw other (value_meant t facts.accepted facts.tree facts.few k v flat a)
+
+  report_value_meant : (name : List ℕ) (k : MemberKind) (v : Data) → is_envelope_name name ≡ false → is_flat k ≡ true → AskedAs t k v
+      → option_and_then (plain_value (normal_tree t) k) (normal_report_value t name k v) ≡ plain_value t k v
+  report_value_meant name (kind.Keyed f) v other flat a = nothing_of (plain_value (normal_tree t) (kind.Keyed f)) (normal_report_value t name (kind.Keyed f) v) (λ x. refl)
+  report_value_meant name kind.Elections v other flat a = refl
+  report_value_meant name k v other flat a = outside_meant name k v other flat a
+
+  report_plain : (name : List ℕ) → plain_member (normal_tree t) (normal_tree t) class.ElectionReport name ≡ plain_member t t class.ElectionReport name
+  report_plain name = at (is_envelope_name name) refl
+    where
+      at : (b : Bool) → is_envelope_name name ≡ b
+          → (if b then None else option_and_then (plain_value (normal_tree t) (kind_of_member class.ElectionReport name)) (get name (normal_tree t)))
+          ≡ (if b then None else option_and_then (plain_value t (kind_of_member class.ElectionReport name)) (get name t))
+      at true is = refl
+      at false other =
+          plain_kept t (normal_tree t) (kind_of_member class.ElectionReport name) (normal_report_value t name (kind_of_member class.ElectionReport name)) (get name t) (get name (normal_tree t))
+          (get_report t clean facts.tree name other)
+          (λ v found. report_value_meant name (kind_of_member class.ElectionReport name) v other (kind_is_flat class.ElectionReport name refl)
+          (asked_as t clean (Object role.Report) role.Report class.ElectionReport skeleton.ms skeleton.report name v (sym (ap (get name) skeleton.is_object) ∙ found)))
+
+  pub report_meant : object_record (normal_tree t) role.Report (normal_tree t) ≡ object_record t role.Report t
+  report_meant =
+      record_alike (member_of_class (normal_tree t) (normal_tree t)) (member_of_class t t) role.Report (normal_tree t) t class.ElectionReport
+      (class_of_built_report t clean facts.tree) (class_of_report t clean)
+      (λ name. plain_members t (normal_tree t) (kind_of_member class.ElectionReport name) (get name t) (get name (normal_tree t))
+      (plain_member t t class.ElectionReport name) (plain_member (normal_tree t) (normal_tree t) class.ElectionReport name)
+      (flat_no_selections (kind_of_member class.ElectionReport name) (kind_is_flat class.ElectionReport name refl)) (report_plain name))
+
+  -- ---- all of it
+
+  pub meaning_of_normal_tree : meaning (normal_tree t) ≡ meaning t
+  meaning_of_normal_tree =
+      same_meaning (object_record (normal_tree t) role.Report (normal_tree t)) (object_record t role.Report t)
+      (first_record (normal_tree t) (elections (normal_tree t))) (first_record t (elections t))
+      (records_of (normal_tree t)) (records_of t) report_meant elections_meant records_meant

@@ -1,0 +1,10 @@
+-- The numbers that the code gives objects and selections are their ranks, and the tree that it builds by them is the one that is specified.
+pub mod KeyPositions
+pub mod KeyPlaces
+pub mod Numbered
+pub mod FamilyNumbers
+pub mod SelectionPlaces
+pub mod NumberedReferences
+pub mod SelectionReferences
+pub mod PlacedEntries
+pub mod PlacedTrees

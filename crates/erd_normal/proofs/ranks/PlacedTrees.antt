@@ -1,0 +1,166 @@
+-- The tree with objects numbered by their places is the tree that is built for an accepted report.
+use Rattle.std.proofs.Common.{◌≡◌, ℕ, zero, suc, ◌+◌, List, [], ◌∷◌, map, true, Some, codes, slice_get, refl, sym, ap, ap₂, ◌∙◌, subst, arith}
+use Rattle.std.specs.Option.{option_map_or}
+use Rattle.serde_json.specs.Data.{Data, array, object, no_items, item, Members, no_members, member}
+use Rattle.serde_json.specs.Find.{get_member}
+use Rattle.erd_tables.specs.Classes.{role_of_class}
+use Rattle.erd_tables.specs.Table.{kind_of_member}
+use Rattle.erd_tables.specs.declared.class.Class.{Class}
+use Rattle.erd_tables.specs.declared.class.Class.TheVariants as class
+use Rattle.erd_tables.specs.declared.class.Family.{Family}
+use Rattle.erd_tables.specs.declared.class.Family.TheVariants as family
+use Rattle.erd_tables.specs.declared.class.Role.TheVariants as role
+use Rattle.erd_tables.specs.declared.member.MemberKind.{MemberKind}
+use Rattle.erd_tables.specs.declared.member.MemberKind.TheVariants as kind
+use Rattle.erd_check.specs.Trees.{AreMembers, IsTree}
+use Rattle.erd_check.specs.Values.{entries_of, entries_at}
+use Rattle.erd_check.specs.Wants.{asked, class_of_object}
+use Rattle.erd_check.specs.declared.want.Want.TheVariants.{Object}
+use Rattle.erd_check.proofs.Members.{get_member-first}
+use Rattle.erd_check.proofs.ObjectsAt.{ObjectIn, object_in}
+use Rattle.erd_check.proofs.Rising.{Has}
+use Rattle.erd_check.proofs.Shapes.{Within, within-tree}
+use Rattle.erd_meaning.proofs.accepted.Phases.{no_shape_fault}
+use Rattle.erd_meaning.proofs.accepted.Skeleton.{Skeleton, skeleton}
+use Rattle.erd_meaning.proofs.accepted.Standing.{stands}
+use Rattle.erd_meaning.specs.Accepted.{IsAccepted}
+use Rattle.erd_meaning.specs.Keys.{has_keys}
+use Rattle.erd_meaning.specs.Objects.{Placed, objects}
+use Rattle.erd_meaning.specs.SelectionNames.{rising_list, selection_role}
+use Rattle.erd_normal.proofs.built.BuiltFrom.{Builder}
+use Rattle.erd_normal.proofs.built.FamilyNames.{contest_of_selections, election_objects_are, elections_name, family_name, keyed_name, report_objects}
+use Rattle.erd_normal.proofs.canonical.RisingReports.{object_ids, selection_ids}
+use Rattle.erd_normal.specs.code.NormalTree.{array_of, by_key, by_name, in_envelope, normal_election, normal_election_value, normal_members, normal_object, normal_object_value, normal_object_with, normal_report_value, normal_selection, normal_tree, normal_value, unless_no_entry, with_id}
+use Rattle.erd_normal.specs.code.PlacedTree.{map_from, placed_election, placed_election_value, placed_object, placed_object_value, placed_objects, placed_report_value, placed_selection}
+use Rattle.erd_check.proofs.Positions.{map_has, has_at}
+use Rattle.erd_normal.proofs.lists.RisingSets.{has_rising}
+use Rattle.erd_check.proofs.Whole.{get_member-later}
+
+-- the report, with objects and selections numbered by their places
+abbrev pub placed_tree : Data → Data
+placed_tree t = in_envelope (normal_object_with (placed_report_value t) (class_of_object role.Report t) t)
+
+-- ---- lists and members
+
+-- where what becomes of each is the same, by its place
+map_by_place : {A B : Type 0} (f : ℕ → A → B) (g : A → B) (n : ℕ) (xs : List A) → ((i : ℕ) (x : A) → slice_get xs i ≡ Some x → f (i + n) x ≡ g x) → map_from f n xs ≡ map g xs
+map_by_place f g n [] each = refl
+map_by_place f g n (x ∷ xs) each =
+    ap₂ (λ y ys. y ∷ ys) (let none : n ≡ 0 + n = omega arith in ap (λ m. f m x) none ∙ each zero x refl)
+    (map_by_place f g (n + 1) xs (λ i y e. let same : i + (n + 1) ≡ suc i + n = omega arith in ap (λ m. f m y) same ∙ each (suc i) y e))
+
+members_agree : (f g : Builder) (c : Class) (ms : Members) → AreMembers ms → ((name : List ℕ) (d : Data) → get_member name ms ≡ Some d → f name (kind_of_member c name) d ≡ g name (kind_of_member c name) d)
+    → normal_members f c ms ≡ normal_members g c ms
+members_agree f g c no_members rise each = refl
+members_agree f g c (member k d ms) rise each =
+    ap₂ (λ r rest. option_map_or (λ v. member k v rest) r rest) (each k d (get_member-first k d ms))
+    (members_agree f g c ms rise.2 (λ name e found. each name e (get_member-later k name d e ms rise found)))
+
+module _ (t : Data) (accepted : IsAccepted t) (tree : IsTree t) where
+  -- ---- the selections of a contest
+
+  selections_agree : (i : ℕ) (contest : Placed) → Has (objects family.Contest t) contest → slice_get (rising_list by_key (map (λ o. o.value) (objects family.Contest t))) i ≡ Some contest.value
+      → map_from (placed_selection t (i + 1)) 1 (rising_list (by_name t) (entries_at (codes "ContestSelection") contest.value))
+      ≡ map (normal_selection t contest.value) (rising_list (by_name t) (entries_at (codes "ContestSelection") contest.value))
+  selections_agree i contest h e =
+      map_by_place (placed_selection t (i + 1)) (normal_selection t contest.value) 1 (rising_list (by_name t) (entries_at (codes "ContestSelection") contest.value))
+      (λ j d at. ap (λ id. with_id (Some id) (normal_object_with (λ name k v. normal_value t k v) (class_of_object selection_role d) d)) (sym (selection_ids t accepted contest h i j d e at)))
+
+  -- ---- an object of a family
+
+  module _ (f : Family) (i : ℕ) (o : Placed) (h : Has (objects f t) o) (e : slice_get (rising_list by_key (map (λ o. o.value) (objects f t))) i ≡ Some o.value) where
+    object_value : (c : Class) (ms : Members) (name : List ℕ) (v : Data) → role_of_class c ≡ role.OfFamily f → o.value ≡ object ms → get_member name ms ≡ Some v
+        → (k : MemberKind) → kind_of_member c name ≡ k → placed_object_value t (i + 1) k v ≡ normal_object_value t o.value k v
+    object_value c ms name v of is found (kind.Keyed family.Selection) named =
+        let called : name ≡ codes "ContestSelection" = keyed_name c name family.Selection named in
+        let contest : f ≡ family.Contest = contest_of_selections c f of (ap (kind_of_member c) (sym called) ∙ named) in
+        let here : entries_at (codes "ContestSelection") o.value ≡ entries_of v = ap (entries_at (codes "ContestSelection")) is ∙ ap (λ x. option_map_or entries_of x []) (ap (λ n. get_member n ms) (sym called) ∙ found) in
+        ap (λ ds. unless_no_entry v (array_of ds))
+        (subst (λ ds. map_from (placed_selection t (i + 1)) 1 (rising_list (by_name t) ds) ≡ map (normal_selection t o.value) (rising_list (by_name t) ds)) here
+        (selections_agree i o (subst (λ g. Has (objects g t) o) contest h) (subst (λ g. slice_get (rising_list by_key (map (λ o. o.value) (objects g t))) i ≡ Some o.value) contest e)))
+    object_value c ms name v of is found k named = refl
+
+    object_agrees : has_keys f ≡ true → placed_object t f (i + 1) o.value ≡ normal_object t f o.value
+    object_agrees keyed =
+        let w : Within t (asked (Object (role.OfFamily f)) o.value) = record { place = o.place; is = stands t accepted f o h } in
+        let x : ObjectIn t (role.OfFamily f) o.value = object_in t (no_shape_fault t accepted) (role.OfFamily f) o.value w in
+        let trees : AreMembers x.ms = subst IsTree x.is_object (within-tree t (asked (Object (role.OfFamily f)) o.value) tree w) in
+        let among : class_of_object (role.OfFamily f) o.value ≡ Some x.class = ap (class_of_object (role.OfFamily f)) x.is_object ∙ x.at.among in
+        let left : Builder = λ name k v. placed_object_value t (i + 1) k v in
+        let right : Builder = λ name k v. normal_object_value t o.value k v in
+        let members : normal_object_with left (Some x.class) (object x.ms) ≡ normal_object_with right (Some x.class) (object x.ms) =
+        ap object (members_agree left right x.class x.ms trees (λ name v found. object_value x.class x.ms name v x.role x.is_object found (kind_of_member x.class name) refl)) in
+        let whole : normal_object_with left (class_of_object (role.OfFamily f) o.value) o.value ≡ normal_object_with right (class_of_object (role.OfFamily f) o.value) o.value =
+        ap₂ (normal_object_with left) among x.is_object ∙ (members ∙ sym (ap₂ (normal_object_with right) among x.is_object)) in
+        ap₂ with_id (sym (object_ids t accepted f i o.value keyed e)) whole
+
+  -- ---- the objects of a family
+
+  objects_agree : (f : Family) → has_keys f ≡ true → (ds : List Data) → map (λ o. o.value) (objects f t) ≡ ds → placed_objects t f ds ≡ map (normal_object t f) (rising_list by_key ds)
+  objects_agree f keyed ds is =
+      subst (λ ds. placed_objects t f ds ≡ map (normal_object t f) (rising_list by_key ds)) is
+      (map_by_place (placed_object t f) (normal_object t f) 1 (rising_list by_key (map (λ o. o.value) (objects f t))) each)
+    where
+      each : (i : ℕ) (d : Data) → slice_get (rising_list by_key (map (λ o. o.value) (objects f t))) i ≡ Some d → placed_object t f (i + 1) d ≡ normal_object t f d
+      each i d at =
+          let o = map_has (λ (o : Placed). o.value) (objects f t) d (has_rising by_key (map (λ o. o.value) (objects f t)) d (has_at (rising_list by_key (map (λ o. o.value) (objects f t))) i d at)) in
+          subst (λ x. placed_object t f (i + 1) x ≡ normal_object t f x) o.2
+          (object_agrees f i o.0 o.1 (at ∙ ap Some (sym o.2)) keyed)
+
+  -- ---- the election
+
+  module _ (s : Skeleton t) where
+    keyed_in_election : (f : Family) → kind_of_member class.Election (family_name f) ≡ kind.Keyed f → has_keys f ≡ true
+    keyed_in_election family.Selection is = cc
+    keyed_in_election f is = refl
+
+    election_value : (name : List ℕ) (v : Data) → get_member name s.es ≡ Some v → (k : MemberKind) → kind_of_member class.Election name ≡ k → placed_election_value t k v ≡ normal_election_value t k v
+    election_value name v found (kind.Keyed f) named =
+        let called : name ≡ family_name f = keyed_name class.Election name f named in
+        let is : kind_of_member class.Election (family_name f) ≡ kind.Keyed f = ap (kind_of_member class.Election) (sym called) ∙ named in
+        ap (λ ds. unless_no_entry v (array_of ds))
+        (objects_agree f (keyed_in_election f is) (entries_of v) (election_objects_are t s f v is (ap (λ n. get_member n s.es) (sym called) ∙ found)))
+    election_value name v found k named = refl
+
+    election_agrees : placed_election t (object s.es) ≡ normal_election t (object s.es)
+    election_agrees =
+        let left : Builder = λ name k v. placed_election_value t k v in
+        let right : Builder = λ name k v. normal_election_value t k v in
+        let trees : AreMembers s.es = within-tree t (asked (Object role.Election) (object s.es)) tree s.election.inside in
+        let members : normal_object_with left (Some class.Election) (object s.es) ≡ normal_object_with right (Some class.Election) (object s.es) =
+        ap object (members_agree left right class.Election s.es trees (λ name v found. election_value name v found (kind_of_member class.Election name) refl)) in
+        ap (λ c. normal_object_with left c (object s.es)) s.election.among ∙ (members ∙ sym (ap (λ c. normal_object_with right c (object s.es)) s.election.among))
+
+    -- ---- the report
+
+    keyed_in_report : (f : Family) → kind_of_member class.ElectionReport (family_name f) ≡ kind.Keyed f → has_keys f ≡ true
+    keyed_in_report family.Selection is = cc
+    keyed_in_report f is = refl
+
+    report_value : (name : List ℕ) (v : Data) → get_member name s.ms ≡ Some v → (k : MemberKind) → kind_of_member class.ElectionReport name ≡ k → placed_report_value t name k v ≡ normal_report_value t name k v
+    report_value name v found (kind.Keyed f) named =
+        let called : name ≡ family_name f = keyed_name class.ElectionReport name f named in
+        let is : kind_of_member class.ElectionReport (family_name f) ≡ kind.Keyed f = ap (kind_of_member class.ElectionReport) (sym called) ∙ named in
+        ap (λ ds. unless_no_entry v (array_of ds))
+        (objects_agree f (keyed_in_report f is) (entries_of v) (report_objects t s f v is (ap (λ n. get_member n s.ms) (sym called) ∙ found)))
+    report_value name v found kind.Elections named =
+        let called : name ≡ codes "Election" = elections_name class.ElectionReport name named in
+        let one : Some v ≡ Some (array (item (object s.es) no_items)) = sym found ∙ (ap (λ n. get_member n s.ms) called ∙ s.listed_election) in
+        let same : v ≡ array (item (object s.es) no_items) = cc in
+        subst (λ x. Some (array_of (map (placed_election t) (entries_of x))) ≡ Some (array_of (map (normal_election t) (entries_of x)))) (sym same)
+        (ap (λ d. Some (array_of (d ∷ []))) election_agrees)
+    report_value name v found k named = refl
+
+    report_agrees : placed_tree t ≡ normal_tree t
+    report_agrees =
+        let left : Builder = placed_report_value t in
+        let right : Builder = normal_report_value t in
+        let trees : AreMembers s.ms = subst IsTree s.is_object tree in
+        let among : class_of_object role.Report t ≡ Some class.ElectionReport = ap (class_of_object role.Report) s.is_object ∙ s.report.among in
+        let members : normal_object_with left (Some class.ElectionReport) (object s.ms) ≡ normal_object_with right (Some class.ElectionReport) (object s.ms) =
+        ap object (members_agree left right class.ElectionReport s.ms trees (λ name v found. report_value name v found (kind_of_member class.ElectionReport name) refl)) in
+        ap in_envelope (ap₂ (normal_object_with left) among s.is_object ∙ (members ∙ sym (ap₂ (normal_object_with right) among s.is_object)))
+
+  -- the tree with numbers by places is the tree that is built
+  pub placed_is_normal : placed_tree t ≡ normal_tree t
+  placed_is_normal = report_agrees (skeleton t accepted)

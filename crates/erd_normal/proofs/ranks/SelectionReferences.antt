@@ -1,0 +1,143 @@
+-- What a reference to a selection becomes, by the numbers of the selection and its contest.
+use Rattle.std.proofs.Common.{◌≡◌, ◌==◌, ◌+◌, ◌++◌, ℕ, List, [], ◌∷◌, map, true, false, true≢false, codes, Option, Some, None, option_and_then, option_map, unwrap_or, find, slice_get, refl, sym, ap, ap₂, ◌∙◌, subst}
+use Rattle.std.proofs.lemmas.List.{map-append}
+use Rattle.std.proofs.lemmas.Option.{slice_get-map}
+use Rattle.std.specs.List.{enumerate_from, flat_map}
+use Rattle.std.specs.Option.{option_map_or}
+use Rattle.serde_json.specs.Data.{Data, string}
+use Rattle.erd_tables.specs.Classes.{family_number}
+use Rattle.erd_tables.specs.declared.class.Family.{Family}
+use Rattle.erd_tables.specs.declared.class.Family.TheVariants as family
+use Rattle.erd_check.proofs.Rising.{Has}
+use Rattle.erd_meaning.proofs.selections.NamesTold.{Numbered}
+use Rattle.erd_meaning.proofs.selections.NumberedSelections.{OfContest, of_its_contest}
+use Rattle.erd_meaning.proofs.identity.ObjectFamilies.{family_exact, itself}
+use Rattle.erd_meaning.proofs.finding.OneObject.{in_at, with_part}
+use Rattle.erd_meaning.proofs.accepted.References.{find-Some, option_map-Some}
+use Rattle.erd_meaning.proofs.accepted.Standing.{flat-has, has_id-Some, one_object, owner_is, stands}
+use Rattle.erd_meaning.specs.Accepted.{IsAccepted}
+use Rattle.erd_meaning.specs.Keys.{key_of}
+use Rattle.erd_check.specs.Values.{entries_at}
+use Rattle.erd_meaning.specs.Lookups.{FindsId, id_in, selection_in}
+use Rattle.erd_meaning.specs.NameParts.{NameParts}
+use Rattle.erd_meaning.specs.Objects.{Placed, contests, has_id, id_of, numbered_selections, numbered_selections_of, objects, selections_of_contest}
+use Rattle.erd_meaning.specs.SelectionNames.{name_of}
+use Rattle.erd_normal.proofs.canonical.ContestSelections.{one_contest}
+use Rattle.erd_normal.proofs.lists.DistinctEntries.{place_of}
+use Rattle.erd_normal.proofs.lists.FoundInParts.{FoundSelection, owner_found}
+use Rattle.erd_normal.proofs.lists.RisingSets.{has_from_In, In-from_has}
+use Rattle.erd_normal.proofs.unique.Selections.{has_name}
+use Rattle.erd_normal.specs.code.NormalTree.{contest_with, id_of_selection, normal_selection_reference, rank_of, rank_of_name, selection_with}
+use Rattle.erd_normal.specs.code.PlacedTree.{selection_id_numbered}
+use Rattle.erd_normal.specs.code.ObjectNumbers.{AreObjectNumbers, number_in}
+use Rattle.erd_normal.specs.declared.numbers.object_numbers.ObjectNumbers.{ObjectNumbers}
+
+-- ---- the selections of a report, without the numbers of their contests
+
+of_contest : (k : ℕ) (os : List Placed) → map {A = Numbered} (λ s. s.1) (map {B = Numbered} (λ o. (k, o)) os) ≡ os
+of_contest k [] = refl
+of_contest k (o ∷ os) = ap (λ xs. o ∷ xs) (of_contest k os)
+
+of_contests : (k : ℕ) (cs : List Placed) → map {A = Numbered} (λ s. s.1) (flat_map numbered_selections_of (enumerate_from k cs)) ≡ flat_map selections_of_contest cs
+of_contests k [] = refl
+of_contests k (c ∷ cs) =
+    map-append {A = Numbered} (λ s. s.1) (numbered_selections_of (k, c)) (flat_map numbered_selections_of (enumerate_from (k + 1) cs))
+    ∙ ap₂ ◌++◌ (of_contest k (selections_of_contest c)) (of_contests (k + 1) cs)
+
+-- the selection at a position, with the number of its contest
+numbered_at : (t : Data) (i : ℕ) (o : Placed) → slice_get (objects family.Selection t) i ≡ Some o → (c : ℕ) × (slice_get (numbered_selections t) i ≡ Some (c, o))
+numbered_at t i o at =
+    let s = option_map-Some {A = Numbered} (λ s. s.1) (slice_get (numbered_selections t) i) o
+    (sym (slice_get-map {A = Numbered} (λ s. s.1) (numbered_selections t) i) ∙ ap (λ xs. slice_get xs i) (of_contests 0 (contests t)) ∙ at) in
+    (s.0.0, s.1 ∙ ap (λ x. Some (s.0.0, x)) s.2)
+
+-- ---- the selection that has the `@id`
+
+-- the selection at a position with its contest
+record SelectionAt (t : Data) (id : List ℕ) (i : ℕ) : Type 0 where
+  number : ℕ
+  contest : Placed
+  selection : Placed
+  name : NameParts
+  at : slice_get (numbered_selections t) i ≡ Some (number, selection)
+  contest_at : slice_get (contests t) number ≡ Some contest
+  named : name_of t selection.value ≡ Some name
+  text : normal_selection_reference t (string id) ≡ string (id_of_selection t contest.value selection.value)
+
+module _ (t : Data) (id : List ℕ) where
+  selection_at : (i : ℕ) → IsAccepted t → id_in family.Selection t i ≡ Some id → SelectionAt t id i
+  selection_at i accepted here =
+      let hit = with_part (λ o. id_of o.value) family.Selection t i id here in
+      let o : Placed = hit.0.one in
+      let o_at : slice_get (objects family.Selection t) i ≡ Some o = hit.0.at in
+      let is : id_of o.value ≡ Some id = hit.1 in
+      let of_report : Has (objects family.Selection t) o = has_from_In o (objects family.Selection t) (in_at (objects family.Selection t) i o o_at) in
+      let s = numbered_at t i o o_at in
+      let c : OfContest t (s.0, o) = of_its_contest t (s.0, o) (in_at {A = Numbered} (numbered_selections t) i (s.0, o) s.1) in
+      let n = has_name t accepted o.value (record { place = o.place; is = stands t accepted family.Selection o of_report }) in
+      let f : FoundSelection t id o.value = owner_found t id o.value (owner_is t accepted family.Selection o id of_report is) in
+      let one : f.selection ≡ o =
+      one_object t accepted family.Selection family.Selection f.selection o id (flat-has selections_of_contest (contests t) f.contest f.selection f.of_report f.of_contest) of_report
+      (ap id_of f.value ∙ is) is in
+      let whole : f.contest ≡ c.contest =
+      one_contest t accepted f.contest c.contest o f.of_report (has_from_In c.contest (contests t) c.there) (subst (Has (selections_of_contest f.contest)) one f.of_contest)
+      (has_from_In o (selections_of_contest c.contest) c.inside) in
+      record {
+        number = s.0;
+        contest = c.contest;
+        selection = o;
+        name = n.0;
+        at = s.1;
+        contest_at = c.at;
+        named = n.1;
+        text = ap (λ x. string (option_map_or (λ (c : Placed). option_map_or (λ (o : Placed). id_of_selection t c.value o.value) (selection_with id c) []) x [])) f.contest_is
+            ∙ ap (λ x. string (option_map_or (λ (o : Placed). id_of_selection t f.contest.value o.value) x [])) f.selection_is
+            ∙ ap₂ (λ (c o : Placed). string (id_of_selection t c.value o.value)) whole one;
+      }
+
+  -- no selection has it
+  unnamed : ((i : ℕ) → id_in family.Selection t i ≡ Some id → ⊥) → string [] ≡ normal_selection_reference t (string id)
+  unnamed none = at (contest_with t id) refl
+    where
+      inside : (c : Placed) → Has (contests t) c → (o : Option Placed) → find (λ o. has_id id o.value) (selections_of_contest c) ≡ o → option_map_or (λ o. true) o false ≡ true → ⊥
+      inside c of_report None is h = cc
+      inside c of_report (Some o) is h =
+          let found = find-Some (λ (o : Placed). has_id id o.value) (selections_of_contest c) o is in
+          let place = place_of o (objects family.Selection t) (In-from_has o (objects family.Selection t) (flat-has selections_of_contest (contests t) c o of_report found.0)) in
+          none place.0 (ap (option_and_then (λ (o : Placed). id_of o.value)) place.1 ∙ has_id-Some id o.value found.1)
+
+      at : (c : Option Placed) → contest_with t id ≡ c
+          → string [] ≡ string (option_map_or (λ (c : Placed). option_map_or (λ (o : Placed). id_of_selection t c.value o.value) (selection_with id c) []) c [])
+      at None is = refl
+      at (Some c) is =
+          let found = find-Some (λ (c : Placed). option_map_or (λ (o : Placed). true) (find (λ o. has_id id o.value) (selections_of_contest c)) false) (contests t) c is in
+          absurd (inside c found.0 (find (λ o. has_id id o.value) (selections_of_contest c)) refl found.1)
+
+-- a selection is found
+pub selection_here : (t : Data) (id : List ℕ) (n : ObjectNumbers) (g : Family) (i : ℕ) → AreObjectNumbers t n → FindsId t id (Some (g, i)) → (family_number g == family_number family.Selection) ≡ true
+    → string (option_map_or (λ s. selection_id_numbered (number_in n.contests.items s.0) (number_in n.selections.items i)) (selection_in t i) []) ≡ normal_selection_reference t (string id)
+selection_here t id n g i tables finds same =
+    let one : g ≡ family.Selection = family_exact g family.Selection same in
+    let s = selection_at t id i tables.accepted ((finds family.Selection i).0 (ap (λ h. Some (h, i)) one)) in
+    let there : selection_in t i ≡ Some (s.number, s.name) =
+    ap (option_and_then {T = Numbered} (λ x. option_map (λ n. (x.0, n)) (name_of t x.1.value))) s.at ∙ ap (option_map (λ n. (s.number, n))) s.named in
+    let contest : number_in n.contests.items s.number ≡ rank_of t family.Contest (key_of s.contest.value) + 1 =
+    ap (λ m. unwrap_or m 1) (tables.numbers family.Contest refl s.number s.contest s.contest_at) in
+    let selection : number_in n.selections.items i ≡ rank_of_name t (entries_at (codes "ContestSelection") s.contest.value) (name_of t s.selection.value) + 1 =
+    ap (λ m. unwrap_or m 1) (tables.selections i s.number s.contest s.selection s.at s.contest_at) in
+    ap (λ x. string (option_map_or {T = ℕ × NameParts} (λ s. selection_id_numbered (number_in n.contests.items s.0) (number_in n.selections.items i)) x [])) there
+    ∙ ap₂ (λ a b. string (selection_id_numbered a b)) contest selection
+    ∙ sym s.text
+
+-- an object of another family is found
+pub selection_elsewhere : (t : Data) (id : List ℕ) (g : Family) (i : ℕ) → FindsId t id (Some (g, i)) → (family_number g == family_number family.Selection) ≡ false
+    → string [] ≡ normal_selection_reference t (string id)
+selection_elsewhere t id g i finds other = unnamed t id (λ j e.
+    let same : Some (g, i) ≡ Some (family.Selection, j) = (finds family.Selection j).1 e in
+    let one : g ≡ family.Selection = ap (λ o. option_map_or (λ (x : Family × ℕ). x.0) o g) same in
+    let equal : (family_number g == family_number family.Selection) ≡ true = subst (λ h. (family_number g == family_number h) ≡ true) one (itself (family_number g)) in
+    true≢false (sym equal ∙ other))
+
+-- no object is found
+pub selection_nowhere : (t : Data) (id : List ℕ) → FindsId t id None → string [] ≡ normal_selection_reference t (string id)
+selection_nowhere t id finds = unnamed t id (λ j e. let none : None ≡ Some (family.Selection, j) = (finds family.Selection j).1 e in cc)

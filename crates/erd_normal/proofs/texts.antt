@@ -1,0 +1,5 @@
+-- Compact texts tell values apart whose numbers fit.
+pub mod WrittenStrings
+pub mod CompactTexts
+pub mod FittingNumbers
+pub mod WholeEntries

@@ -1,0 +1,233 @@
+-- What holds of all that is asked inside what is built of a member without objects.
+use Rattle.std.proofs.Common.{◌≡◌, inl, inr, ℕ, List, [], ◌∷◌, map, Some, option_and_then, is_some, Bool, true, false, codes, refl, sym, ap, ◌∙◌, subst}
+use Rattle.std.specs.List.{AllByRecursion}
+use Rattle.std.specs.Str.{bytes_eq}
+use Rattle.serde_json.specs.Data.{Data, string, array, object, Items, Members}
+use Rattle.serde_json.specs.Find.{as_str, get, get_item}
+use Rattle.serde_json.specs.View.{items_of}
+use Rattle.erd_tables.specs.Classes.{class_in_role}
+use Rattle.erd_tables.specs.Table.{kind_of_member}
+use Rattle.erd_tables.specs.declared.class.Class.{Class}
+use Rattle.erd_tables.specs.declared.class.Class.TheVariants as class
+use Rattle.erd_tables.specs.declared.class.Family.{Family}
+use Rattle.erd_tables.specs.declared.class.Family.TheVariants as family
+use Rattle.erd_tables.specs.declared.class.Role.{Role}
+use Rattle.erd_tables.specs.declared.class.Role.TheVariants as role
+use Rattle.erd_tables.specs.declared.fault.Reason.TheVariants as reason
+use Rattle.erd_tables.specs.declared.member.MemberKind.{MemberKind}
+use Rattle.erd_tables.specs.declared.member.MemberKind.TheVariants as kind
+use Rattle.erd_check.specs.Faults.{is_empty_array, NoneOf, ShapeFault}
+use Rattle.erd_check.specs.Trees.{IsTree}
+use Rattle.erd_check.specs.Values.{entries_of, list_of_items, text_of}
+use Rattle.erd_check.specs.Wants.{Asked, asked, class_of_object, is_repeated, member_want, want_of_kind}
+use Rattle.erd_check.specs.declared.want.Want.TheVariants.{Object, ClassText, Reference, Member}
+use Rattle.erd_check.proofs.Entries.{array_from}
+use Rattle.erd_check.proofs.Exact.{text_exact}
+use Rattle.erd_check.proofs.Shapes.{Classed, Within, classed, faultless, member_within, of_label, wanted_within}
+use Rattle.erd_check.proofs.TableKinds.{kind_of_unlisted_has}
+use Rattle.erd_meaning.specs.SelectionNames.{compact_cmp, rising_list, with_rising_text}
+use Rattle.erd_normal.specs.Canonical.{id_prefix}
+use Rattle.erd_normal.specs.code.NormalTree.{array_of, normal_id, normal_reference, normal_selection_reference, normal_value, reference_cmp}
+use Rattle.erd_normal.proofs.built.AskedMembers.{asked_in_object, entries_asked, label_class, label_texts}
+use Rattle.erd_normal.proofs.lists.BuiltLists.{all_map, entry_holds, given_unless}
+use Rattle.erd_normal.proofs.throughout.UnrepeatedEntries.{rising_entry}
+use Rattle.erd_normal.proofs.built.NormalGets.{get_label-other, get_label-text}
+use Rattle.erd_normal.proofs.throughout.ThroughoutValues.{Throughout, apart_by_kind, is_apart, is_apart_kind, throughout_array, throughout_by_steps, throughout_kept, throughout_list, throughout_text}
+
+-- ---- what is built
+
+-- a set of references
+abbrev pub built_references : Data → Family → Data → List Data
+built_references t f d = map (normal_reference t f) (rising_list (reference_cmp t f) (entries_of d))
+
+-- a family whose objects have `@id` texts by their ranks alone
+abbrev pub is_prefixed : Family → Bool
+is_prefixed f = is_some (id_prefix f)
+
+-- what has to hold for what is built of the members without objects, each by the value that it is built of
+pub record HoldsOfMembers (t : Data) (P : Asked → Type 0) : Type 0 where
+  pub kept : (a : Asked) → Within t a → is_apart a.want ≡ true → P a
+  pub class_text : (r : Role) (c : Class) (s : List ℕ) → class_in_role r s ≡ Some c → P (asked (ClassText r) (string s))
+  pub label : (required : Bool) (d : Data) → Within t (asked (Member kind.Label required) d) → P (asked (Member kind.Label required) (with_rising_text d))
+  pub one : (f : Family) → is_prefixed f ≡ true → (d : Data) → Within t (asked (Reference f) d) → P (asked (Reference f) (normal_reference t f d))
+  pub many : (f : Family) → is_prefixed f ≡ true → (required : Bool) (d : Data) → Within t (asked (Member (kind.Many f) required) d) → is_empty_array d ≡ false
+      → P (asked (Member (kind.Many f) required) (array_of (built_references t f d)))
+  pub many_entry : (f : Family) → is_prefixed f ≡ true → (required : Bool) (d : Data) → Within t (asked (Member (kind.Many f) required) d) → (i : ℕ) (e : Data) → get_item i (items_of (built_references t f d)) ≡ Some e
+      → P (record { want = Reference f; value = e; repeated = is_repeated (items_of (built_references t f d)) i e })
+  pub identifiers : (required : Bool) (d : Data) → Within t (asked (Member kind.Identifiers required) d) → is_empty_array d ≡ false
+      → P (asked (Member kind.Identifiers required) (array_of (rising_list compact_cmp (entries_of d))))
+  pub languages : (required : Bool) (d : Data) → Within t (asked (Member kind.Languages required) d) → is_empty_array d ≡ false
+      → P (asked (Member kind.Languages required) (array_of (rising_list compact_cmp (entries_of d))))
+  pub ordered : (required : Bool) (d : Data) → Within t (asked (Member kind.Ordered required) d) → is_empty_array d ≡ false
+      → P (asked (Member kind.Ordered required) (array_of (map (normal_selection_reference t) (entries_of d))))
+  pub ordered_entry : (e : Data) → Within t (asked (Reference family.Selection) e) → P (asked (Reference family.Selection) (normal_selection_reference t e))
+
+-- a kind of member, but for `@type`, that holds no objects and refers to none by itself that has no prefix
+abbrev pub is_plain_kind : MemberKind → Bool
+is_plain_kind kind.ClassText = false
+is_plain_kind (kind.One f) = is_prefixed f
+is_plain_kind (kind.Many f) = is_prefixed f
+is_plain_kind (kind.Keyed f) = false
+is_plain_kind kind.Elections = false
+is_plain_kind kind.Content = false
+is_plain_kind k = true
+
+-- beside its translations a label has members that stay as they are
+label_member : (name : List ℕ) → bytes_eq name (codes "@type") ≡ false → bytes_eq name (codes "Text") ≡ false → is_apart (member_want class.InternationalizedText name) ≡ true
+label_member name other beside =
+    apart_by_kind (kind_of_member class.InternationalizedText name) _
+    (rw beside (kind_of_unlisted_has is_apart_kind class.InternationalizedText name other refl refl refl))
+
+-- the `@type` of an object whose class has the role is the text of a class
+pub type_text : (r : Role) (c : Class) (d v : Data) → class_of_object r d ≡ Some c → get (codes "@type") d ≡ Some v → (s : List ℕ) × (v ≡ string s) × (class_in_role r s ≡ Some c)
+type_text r c d v among stands = at v (subst (λ o. option_and_then (class_in_role r) (option_and_then as_str o) ≡ Some c) stands among)
+  where
+    at : (v : Data) → option_and_then (class_in_role r) (as_str v) ≡ Some c → (s : List ℕ) × (v ≡ string s) × (class_in_role r s ≡ Some c)
+    at (string s) e = (s, refl, e)
+    at v e = cc
+
+-- references that are built are texts
+pub built_texts : (t : Data) (f : Family) (ds : List Data) → AllByRecursion (λ x. (s : List ℕ) × (x ≡ string s)) (map (normal_reference t f) ds)
+built_texts t f [] = tt
+built_texts t f (x ∷ xs) = ((normal_id t f (text_of x), refl), built_texts t f xs)
+
+-- a label that is an object, and the one that is built of it, whose translations rise
+pub record BuiltLabel (t : Data) (ms : Members) : Type 0 where
+  pub texts : Items
+  pub inside : Within t (asked (Member kind.Languages true) (array texts))
+  pub kept : class_of_object role.Label (object ms) ≡ Some class.InternationalizedText
+  pub among : class_of_object role.Label (with_rising_text (object ms)) ≡ Some class.InternationalizedText
+  pub stands : get (codes "Text") (with_rising_text (object ms)) ≡ Some (array_of (rising_list compact_cmp (list_of_items texts)))
+
+pub built_label : (t : Data) → NoneOf (ShapeFault t) → (required : Bool) (ms : Members) → Within t (asked (Member kind.Label required) (object ms)) → BuiltLabel t ms
+built_label t clean required ms w =
+    let texts = label_texts t clean required ms w in
+    let cl : Classed role.Label (object ms) = classed t clean (Member kind.Label required) role.Label (object ms) of_label refl w in
+    let kept : class_of_object role.Label (object ms) ≡ Some class.InternationalizedText = cl.among ∙ ap Some (label_class cl.class cl.role) in
+    record {
+      texts = texts.0;
+      inside = texts.2;
+      kept = kept;
+      among = ap (λ o. option_and_then (class_in_role role.Label) (option_and_then as_str o)) (get_label-other (codes "@type") (object ms) refl) ∙ kept;
+      stands = get_label-text (object ms) refl ∙ rw texts.1 refl;
+    }
+
+module _ (t : Data) (clean : NoneOf (ShapeFault t)) (tree : IsTree t) (P : Asked → Type 0) (holds : HoldsOfMembers t P) where
+  pub throughout_type : (r : Role) (c : Class) (d v : Data) → class_of_object r d ≡ Some c → get (codes "@type") d ≡ Some v → Throughout P (asked (ClassText r) v)
+  throughout_type r c d v among stands =
+      let text = type_text r c d v among stands in
+      subst (λ x. Throughout P (asked (ClassText r) x)) (sym text.1) (throughout_text P (ClassText r) text.0 false (holds.class_text r c text.0 text.2))
+
+  -- ---- sets
+
+  references : (f : Family) → is_prefixed f ≡ true → (required : Bool) (d : Data) → is_empty_array d ≡ false → Within t (asked (Member (kind.Many f) required) d)
+      → Throughout P (asked (Member (kind.Many f) required) (array_of (built_references t f d)))
+  references f named required d filled w =
+      throughout_array P (Member (kind.Many f) required) (Reference f) (items_of (built_references t f d)) refl (holds.many f named required d w filled)
+      (λ i e found.
+      let text = entry_holds (λ x. (s : List ℕ) × (x ≡ string s)) (built_references t f d) i e (built_texts t f (rising_list (reference_cmp t f) (entries_of d))) found in
+      at i e text.0 text.1 (holds.many_entry f named required d w i e found))
+    where
+      at : (i : ℕ) (e : Data) (s : List ℕ) → e ≡ string s → P (record { want = Reference f; value = e; repeated = is_repeated (items_of (built_references t f d)) i e })
+          → Throughout P (record { want = Reference f; value = e; repeated = is_repeated (items_of (built_references t f d)) i e })
+      at i e s is h =
+          subst (λ x. Throughout P (record { want = Reference f; value = x; repeated = is_repeated (items_of (built_references t f d)) i x })) (sym is)
+          (throughout_text P (Reference f) s (is_repeated (items_of (built_references t f d)) i (string s))
+          (subst (λ x. P (record { want = Reference f; value = x; repeated = is_repeated (items_of (built_references t f d)) i x })) is h))
+
+  languages : (required : Bool) (d : Data) → is_empty_array d ≡ false → Within t (asked (Member kind.Languages required) d)
+      → Throughout P (asked (Member kind.Languages required) (array_of (rising_list compact_cmp (entries_of d))))
+  languages required d filled w =
+      let ds = array_from d (wanted_within t clean (asked (Member kind.Languages required) d) w) in
+      let inside : Within t (asked (Member kind.Languages required) (array ds.0)) = subst (λ x. Within t (asked (Member kind.Languages required) x)) ds.1 w in
+      let here = subst (λ x. P (asked (Member kind.Languages required) (array_of (rising_list compact_cmp (entries_of x))))) ds.1 (holds.languages required d w filled) in
+      subst (λ x. Throughout P (asked (Member kind.Languages required) (array_of (rising_list compact_cmp (entries_of x))))) (sym ds.1)
+      (throughout_array P (Member kind.Languages required) (Object role.Language) (items_of (rising_list compact_cmp (list_of_items ds.0))) refl here
+      (rising_entry t clean tree (Member kind.Languages required) (Object role.Language) compact_cmp ds.0 refl refl refl inside (Throughout P)
+      (λ e within. throughout_kept t P holds.kept (asked (Object role.Language) e) within refl)))
+
+  identifiers : (required : Bool) (d : Data) → is_empty_array d ≡ false → Within t (asked (Member kind.Identifiers required) d)
+      → Throughout P (asked (Member kind.Identifiers required) (array_of (rising_list compact_cmp (entries_of d))))
+  identifiers required d filled w =
+      let ds = array_from d (wanted_within t clean (asked (Member kind.Identifiers required) d) w) in
+      let inside : Within t (asked (Member kind.Identifiers required) (array ds.0)) = subst (λ x. Within t (asked (Member kind.Identifiers required) x)) ds.1 w in
+      let here = subst (λ x. P (asked (Member kind.Identifiers required) (array_of (rising_list compact_cmp (entries_of x))))) ds.1 (holds.identifiers required d w filled) in
+      subst (λ x. Throughout P (asked (Member kind.Identifiers required) (array_of (rising_list compact_cmp (entries_of x))))) (sym ds.1)
+      (throughout_array P (Member kind.Identifiers required) (Object role.Identifier) (items_of (rising_list compact_cmp (list_of_items ds.0))) refl here
+      (rising_entry t clean tree (Member kind.Identifiers required) (Object role.Identifier) compact_cmp ds.0 refl refl refl inside (Throughout P)
+      (λ e within. throughout_kept t P holds.kept (asked (Object role.Identifier) e) within refl)))
+
+  ordered : (required : Bool) (d : Data) → is_empty_array d ≡ false → Within t (asked (Member kind.Ordered required) d)
+      → Throughout P (asked (Member kind.Ordered required) (array_of (map (normal_selection_reference t) (entries_of d))))
+  ordered required d filled w =
+      let ds = array_from d (wanted_within t clean (asked (Member kind.Ordered required) d) w) in
+      let inside : Within t (asked (Member kind.Ordered required) (array ds.0)) = subst (λ x. Within t (asked (Member kind.Ordered required) x)) ds.1 w in
+      let here = subst (λ x. P (asked (Member kind.Ordered required) (array_of (map (normal_selection_reference t) (entries_of x))))) ds.1 (holds.ordered required d w filled) in
+      subst (λ x. Throughout P (asked (Member kind.Ordered required) (array_of (map (normal_selection_reference t) (entries_of x))))) (sym ds.1)
+      (throughout_list P (Member kind.Ordered required) (Reference family.Selection) (map (normal_selection_reference t) (list_of_items ds.0)) refl refl here
+      (all_map (λ e. Within t (asked (Reference family.Selection) e)) (λ e. Throughout P (asked (Reference family.Selection) e)) (normal_selection_reference t) (list_of_items ds.0)
+      (λ e within. throughout_text P (Reference family.Selection) (text_of (normal_selection_reference t e)) false (holds.ordered_entry e within))
+      (entries_asked t (Member kind.Ordered required) (Reference family.Selection) ds.0 refl refl inside)))
+
+  -- ---- labels
+
+  label : (required : Bool) (d : Data) → Within t (asked (Member kind.Label required) d) → Throughout P (asked (Member kind.Label required) (with_rising_text d))
+  label required (object ms) w =
+      throughout_by_steps P (asked (Member kind.Label required) (with_rising_text (object ms))) (holds.label required (object ms) w)
+      (λ s b e. elim (asked_in_object (Member kind.Label required) role.Label class.InternationalizedText (with_rising_text (object ms)) s b of_label l.among e) [
+        | inl type ↦ subst (Throughout P) (sym type.is) (throughout_type role.Label class.InternationalizedText (with_rising_text (object ms)) type.text l.among type.stands)
+        | inr m ↦ subst (Throughout P) (sym m.is) (each m.name m.found m.other m.stands)
+      ])
+    where
+      l : BuiltLabel t ms
+      l = built_label t clean required ms w
+
+      new : Throughout P (asked (Member kind.Languages true) (array_of (rising_list compact_cmp (list_of_items l.texts))))
+      new = languages true (array l.texts) (faultless t clean (asked (Member kind.Languages true) (array l.texts)) reason.EmptyArray l.inside) l.inside
+
+      each : (name : List ℕ) (v : Data) → bytes_eq name (codes "@type") ≡ false → get name (with_rising_text (object ms)) ≡ Some v → Throughout P (asked (member_want class.InternationalizedText name) v)
+      each name v other found = at (bytes_eq name (codes "Text")) refl
+        where
+          at : (b : Bool) → bytes_eq name (codes "Text") ≡ b → Throughout P (asked (member_want class.InternationalizedText name) v)
+          at true is =
+              let named : codes "Text" ≡ name = sym (text_exact name (codes "Text") is) in
+              let x : Some (array_of (rising_list compact_cmp (list_of_items l.texts))) ≡ Some v = sym l.stands ∙ ap (λ n. get n (with_rising_text (object ms))) named ∙ found in
+              let same : array_of (rising_list compact_cmp (list_of_items l.texts)) ≡ v = cc in
+              subst (λ n. Throughout P (asked (member_want class.InternationalizedText n) v)) named (subst (λ x. Throughout P (asked (Member kind.Languages true) x)) same new)
+          at false is =
+              throughout_kept t P holds.kept (asked (member_want class.InternationalizedText name) v)
+              (member_within t clean (Member kind.Label required) role.Label ms class.InternationalizedText name v of_label l.kept other w (sym (get_label-other name (object ms) is) ∙ found))
+              (label_member name other is)
+  label required (string s) w = throughout_text P (Member kind.Label required) s false (holds.label required (string s) w)
+  label required d w = let x : false ≡ true = wanted_within t clean (asked (Member kind.Label required) d) w in cc
+
+  -- ---- by kind
+
+  -- all that is asked inside what is built of a member without objects
+  pub throughout_value : (k : MemberKind) (required : Bool) (d v : Data) → is_plain_kind k ≡ true → Within t (asked (want_of_kind k required) d) → normal_value t k d ≡ Some v
+      → Throughout P (asked (want_of_kind k required) v)
+  throughout_value kind.Label required d v plain w given = let same : with_rising_text d ≡ v = cc in subst (λ x. Throughout P (asked (Member kind.Label required) x)) same (label required d w)
+  throughout_value (kind.One f) required d v plain w given =
+      let same : normal_reference t f d ≡ v = cc in
+      subst (λ x. Throughout P (asked (Reference f) x)) same (throughout_text P (Reference f) (normal_id t f (text_of d)) false (holds.one f plain d w))
+  throughout_value (kind.Many f) required d v plain w given =
+      let parts = given_unless d (array_of (built_references t f d)) v given in
+      subst (λ x. Throughout P (asked (Member (kind.Many f) required) x)) parts.1 (references f plain required d parts.0 w)
+  throughout_value kind.Identifiers required d v plain w given =
+      let parts = given_unless d (array_of (rising_list compact_cmp (entries_of d))) v given in
+      subst (λ x. Throughout P (asked (Member kind.Identifiers required) x)) parts.1 (identifiers required d parts.0 w)
+  throughout_value kind.Languages required d v plain w given =
+      let parts = given_unless d (array_of (rising_list compact_cmp (entries_of d))) v given in
+      subst (λ x. Throughout P (asked (Member kind.Languages required) x)) parts.1 (languages required d parts.0 w)
+  throughout_value kind.Ordered required d v plain w given =
+      let parts = given_unless d (array_of (map (normal_selection_reference t) (entries_of d))) v given in
+      subst (λ x. Throughout P (asked (Member kind.Ordered required) x)) parts.1 (ordered required d parts.0 w)
+  throughout_value kind.Identity required d v plain w given = cc
+  throughout_value kind.Outside required d v plain w given = cc
+  throughout_value (kind.Keyed f) required d v plain w given = cc
+  throughout_value kind.Elections required d v plain w given = cc
+  throughout_value kind.Content required d v plain w given = cc
+  throughout_value kind.ClassText required d v plain w given = cc
+  throughout_value k required d v plain w given =
+      let same : d ≡ v = cc in
+      subst (λ x. Throughout P (asked (want_of_kind k required) x)) same (throughout_kept t P holds.kept (asked (want_of_kind k required) d) w refl)

@@ -1,0 +1,239 @@
+-- What holds of all that is asked in the report that is built: it is enough that it holds of each part that is built, by the value that it is built of.
+use Rattle.std.proofs.Common.{◌≡◌, ℕ, List, [], ◌∷◌, map, Option, Some, None, is_some, IsSomeAnd, Bool, true, false, true≢false, if◌then◌else◌, codes, refl, sym, ap, ◌∙◌, subst}
+use Rattle.std.specs.List.{AllByRecursion}
+use Rattle.std.specs.Prelude.{IsTrue}
+use Rattle.std.specs.Str.{bytes_eq}
+use Rattle.serde_json.specs.Data.{Data, string, number, unsigned, array, object, no_items, item}
+use Rattle.serde_json.specs.Find.{get, get_member}
+use Rattle.erd_tables.specs.Rows.{Row, envelope_rows}
+use Rattle.erd_tables.specs.Table.{is_envelope_name, kind_in_rows, kind_of_member}
+use Rattle.erd_tables.specs.declared.class.Class.TheVariants as class
+use Rattle.erd_tables.specs.declared.class.Family.{Family}
+use Rattle.erd_tables.specs.declared.class.Role.TheVariants as role
+use Rattle.erd_tables.specs.declared.fault.Reason.{Reason}
+use Rattle.erd_tables.specs.declared.member.MemberKind.{MemberKind}
+use Rattle.erd_tables.specs.declared.member.MemberKind.TheVariants as kind
+use Rattle.erd_tables.specs.declared.place.Step.{Step}
+use Rattle.erd_check.specs.Faults.{is_empty_array, NoneOf, ShapeFault}
+use Rattle.erd_check.specs.Trees.{IsTree}
+use Rattle.erd_check.specs.Values.{entries_of}
+use Rattle.erd_check.specs.Wants.{Asked, asked, asked_at, asked_inside, member_want, want_of_kind}
+use Rattle.erd_check.specs.declared.want.Want.TheVariants.{Member, Object}
+use Rattle.erd_check.proofs.Exact.{text_exact}
+use Rattle.erd_check.proofs.Shapes.{Within}
+use Rattle.erd_check.proofs.TableKinds.{kind_of_class}
+use Rattle.erd_meaning.proofs.accepted.Skeleton.{Skeleton, skeleton_of_shape}
+use Rattle.erd_meaning.specs.Keys.{has_keys}
+use Rattle.erd_meaning.specs.Objects.{objects}
+use Rattle.erd_normal.specs.code.NormalTree.{array_of, normal_election, normal_election_value, normal_objects, normal_report_value, normal_tree, normal_value}
+use Rattle.erd_normal.proofs.built.BuiltFrom.{BuiltFrom, member_holds}
+use Rattle.erd_normal.proofs.built.BuiltObjects.{built_election, built_report, election_builder, no_name}
+use Rattle.erd_normal.proofs.lists.BuiltLists.{given_unless}
+use Rattle.erd_normal.proofs.built.FamilyNames.{election_objects_are, elections_name, family_name, keyed_name, report_objects}
+use Rattle.erd_normal.proofs.built.NormalReports.{has_canonical_envelope}
+use Rattle.erd_normal.proofs.throughout.ThroughoutMembers.{HoldsOfMembers, is_plain_kind, is_prefixed, throughout_value}
+use Rattle.erd_normal.proofs.throughout.ThroughoutObjects.{HoldsOfObjects, throughout_object, throughout_objects, throughout_status}
+use Rattle.erd_normal.proofs.throughout.ThroughoutValues.{Throughout, throughout_by_steps, throughout_list, throughout_text}
+
+-- what has to hold for what is built of a report, each part by the value that it is built of
+pub record HoldsOfBuilt (t : Data) (P : Asked → Type 0) : Type 0 where
+  pub parts : HoldsOfObjects t P
+  pub word : (required : Bool) (s : List ℕ) → P (asked (Member kind.Word required) (string s))
+  pub whole : (required : Bool) (n : ℕ) → P (asked (Member kind.Whole required) (number (unsigned n)))
+  pub keyed : (f : Family) → has_keys f ≡ true → (required : Bool) (d : Data) → Within t (asked (Member (kind.Keyed f) required) d) → map (λ o. o.value) (objects f t) ≡ entries_of d → is_empty_array d ≡ false
+      → P (asked (Member (kind.Keyed f) required) (normal_objects t f (entries_of d)))
+  pub elections : (required : Bool) (d : Data) → Within t (asked (Member kind.Elections required) d) → P (asked (Member kind.Elections required) (array_of (map (normal_election t) (entries_of d))))
+  pub election : (d : Data) → Within t (asked (Object role.Election) d) → P (asked (Object role.Election) (normal_election t d))
+  pub report : P (asked (Object role.Report) (normal_tree t))
+
+-- a member of the election
+abbrev is_election_kind : MemberKind → Bool
+is_election_kind kind.ClassText = false
+is_election_kind (kind.One f) = is_prefixed f
+is_election_kind (kind.Many f) = is_prefixed f
+is_election_kind (kind.Keyed f) = has_keys f
+is_election_kind kind.Elections = false
+is_election_kind kind.Content = false
+is_election_kind k = true
+
+-- a member of the report
+abbrev is_report_kind : MemberKind → Bool
+is_report_kind kind.ClassText = false
+is_report_kind (kind.One f) = is_prefixed f
+is_report_kind (kind.Many f) = is_prefixed f
+is_report_kind (kind.Keyed f) = has_keys f
+is_report_kind kind.Content = false
+is_report_kind k = true
+
+election_word : (t : Data) (k : MemberKind) (d v : Data) → k ≡ kind.Word → normal_election_value t k d ≡ Some v → d ≡ v
+election_word t k d v is e = let x : Some d ≡ Some v = ap (λ q. normal_election_value t q d) (sym is) ∙ e in let same : d ≡ v = cc in same
+
+report_word : (t : Data) (name : List ℕ) (k : MemberKind) (d v : Data) → k ≡ kind.Word → normal_report_value t name k d ≡ Some v → d ≡ v
+report_word t name k d v is e = at (is_envelope_name name) (ap (λ q. normal_report_value t name q d) (sym is) ∙ e)
+  where
+    at : (b : Bool) → (if b then None else Some d) ≡ Some v → d ≡ v
+    at true e = cc
+    at false e = let same : d ≡ v = cc in same
+
+-- what holds of the name of each row holds of a name that a row has
+row_named : (P : List ℕ → Type 0) (rows : List Row) (name : List ℕ) → AllByRecursion (λ row. P row.name) rows → is_some (kind_in_rows rows name) ≡ true → P name
+row_named P [] name all named = cc
+row_named P (row ∷ rows) name all named = at (bytes_eq name row.name) refl (row_named P rows name all.1)
+  where
+    at : (b : Bool) → bytes_eq name row.name ≡ b → (is_some (kind_in_rows rows name) ≡ true → P name) → P name
+    at true is h = subst P (sym (text_exact name row.name is)) all.0
+    at false is h = h (rw is at named)
+
+module _ (t : Data) (clean : NoneOf (ShapeFault t)) (tree : IsTree t) (P : Asked → Type 0) (holds : HoldsOfBuilt t P) where
+  abbrev s : Skeleton t
+  s = skeleton_of_shape t clean
+
+  abbrev plain : HoldsOfMembers t P
+  plain = holds.parts.members
+
+  -- ---- the election
+
+  election_member : (k : MemberKind) (required : Bool) (d v : Data) → is_election_kind k ≡ true → ((f : Family) → k ≡ kind.Keyed f → map (λ o. o.value) (objects f t) ≡ entries_of d)
+      → Within t (asked (want_of_kind k required) d) → normal_election_value t k d ≡ Some v → Throughout P (asked (want_of_kind k required) v)
+  election_member (kind.Keyed f) required d v is all w given =
+      let parts = given_unless d (normal_objects t f (entries_of d)) v given in
+      subst (λ x. Throughout P (asked (Member (kind.Keyed f) required) x)) parts.1 (throughout_objects t clean tree P holds.parts f required d (all f refl) w (holds.keyed f is required d w (all f refl) parts.0))
+  election_member kind.Elections required d v is all w given = cc
+  election_member kind.Content required d v is all w given = cc
+  election_member k required d v is all w given = throughout_value t clean tree P plain k required d v is w given
+
+  throughout_election : Throughout P (asked (Object role.Election) (normal_election t (object s.es)))
+  throughout_election =
+      throughout_object t clean tree P plain (election_builder t) no_name role.Election class.Election s.es (normal_election t (object s.es)) (built_election t clean tree s.es (object s.es) refl s.election)
+      (holds.election (object s.es) s.election.inside) (λ name v is found. cc) built
+    where
+      family : (name : List ℕ) (from : Data) → get_member name s.es ≡ Some from → (f : Family) → kind_of_member class.Election name ≡ kind.Keyed f → map (λ o. o.value) (objects f t) ≡ entries_of from
+      family name from stands f is =
+          let named : name ≡ family_name f = keyed_name class.Election name f is in
+          election_objects_are t s f from (ap (kind_of_member class.Election) (sym named) ∙ is) (ap (λ n. get_member n s.es) (sym named) ∙ stands)
+
+      built : (name : List ℕ) (v : Data) → BuiltFrom t (election_builder t) class.Election s.es name v → Throughout P (asked (member_want class.Election name) v)
+      built name v b =
+          member_holds t clean (Throughout P) (throughout_status t clean tree P plain) (election_builder t) class.Election s.es name v b
+          (λ required inside.
+          election_member (kind_of_member class.Election name) required b.from v (kind_of_class is_election_kind class.Election name b.other refl refl refl refl) (family name b.from b.stands) inside b.given)
+          (λ word. election_word t (kind_of_member class.Election name) b.from v word b.given)
+
+  -- the array of the one election
+  throughout_elections : (required : Bool) (d : Data) → d ≡ array (item (object s.es) no_items) → Within t (asked (Member kind.Elections required) d)
+      → Throughout P (asked (Member kind.Elections required) (array_of (map (normal_election t) (entries_of d))))
+  throughout_elections required d is w =
+      let here = subst (λ x. P (asked (Member kind.Elections required) (array_of (map (normal_election t) (entries_of x))))) is (holds.elections required d w) in
+      subst (λ x. Throughout P (asked (Member kind.Elections required) (array_of (map (normal_election t) (entries_of x))))) (sym is)
+      (throughout_list P (Member kind.Elections required) (Object role.Election) (normal_election t (object s.es) ∷ []) refl refl here (throughout_election, tt))
+
+  -- ---- the report
+
+  throughout_whole : (required : Bool) (n : ℕ) → Throughout P (asked (Member kind.Whole required) (number (unsigned n)))
+  throughout_whole required n = throughout_by_steps P (asked (Member kind.Whole required) (number (unsigned n))) (holds.whole required n) (λ q x e. inside q x e)
+    where
+      inside : (q : Step) (x : Asked) → asked_inside (Member kind.Whole required) (number (unsigned n)) q ≡ Some x → Throughout P x
+      inside q x e = cc
+
+  -- a member of the envelope that is built
+  abbrev IsMember : List ℕ → Type 0
+  IsMember name = (v : Data) → get name (normal_tree t) ≡ Some v → Throughout P (asked (member_want class.ElectionReport name) v)
+
+  text_member : (name text : List ℕ) → member_want class.ElectionReport name ≡ Member kind.Word false → get name (normal_tree t) ≡ Some (string text) → IsMember name
+  text_member name text want stands v found =
+      let x : Some (string text) ≡ Some v = sym stands ∙ found in
+      let same : string text ≡ v = cc in
+      subst (λ w. Throughout P (asked w v)) (sym want)
+      (subst (λ y. Throughout P (asked (Member kind.Word false) y)) same (throughout_text P (Member kind.Word false) text false (holds.word false text)))
+
+  number_member : (name : List ℕ) (n : ℕ) → member_want class.ElectionReport name ≡ Member kind.Whole false → get name (normal_tree t) ≡ Some (number (unsigned n)) → IsMember name
+  number_member name n want stands v found =
+      let x : Some (number (unsigned n)) ≡ Some v = sym stands ∙ found in
+      let same : number (unsigned n) ≡ v = cc in
+      subst (λ w. Throughout P (asked w v)) (sym want) (subst (λ y. Throughout P (asked (Member kind.Whole false) y)) same (throughout_whole false n))
+
+  absent_member : (name : List ℕ) → get name (normal_tree t) ≡ None → IsMember name
+  absent_member name none v found = let x : None ≡ Some v = sym none ∙ found in cc
+
+  envelope_member : (name : List ℕ) (v : Data) → is_envelope_name name ≡ true → get name (normal_tree t) ≡ Some v → Throughout P (asked (member_want class.ElectionReport name) v)
+  envelope_member name v named = row_named IsMember envelope_rows name all named v
+    where
+      all : AllByRecursion (λ row. IsMember row.name) envelope_rows
+      all =
+          let e = has_canonical_envelope t clean tree in (
+            text_member (codes "Format") _ refl e.format,
+            (
+              text_member (codes "GeneratedDate") _ refl e.date,
+              (
+                text_member (codes "Issuer") _ refl e.issuer,
+                (
+                  text_member (codes "IssuerAbbreviation") _ refl e.abbreviation,
+                  (
+                    text_member (codes "VendorApplicationId") _ refl e.application,
+                    (
+                      absent_member (codes "Notes") e.notes,
+                      (
+                        number_member (codes "SequenceStart") _ refl e.start,
+                        (
+                          number_member (codes "SequenceEnd") _ refl e.end,
+                          (absent_member (codes "ExternalIdentifier") e.identifiers, tt),
+                        ),
+                      ),
+                    ),
+                  ),
+                ),
+              ),
+            ),
+          )
+
+  other_member : (k : MemberKind) (required : Bool) (d v : Data) → is_plain_kind k ≡ true → Within t (asked (want_of_kind k required) d) → (inside : Bool) → (if inside then None else normal_value t k d) ≡ Some v
+      → Throughout P (asked (want_of_kind k required) v)
+  other_member k required d v is w true given = cc
+  other_member k required d v is w false given = throughout_value t clean tree P plain k required d v is w given
+
+  report_member : (name : List ℕ) (k : MemberKind) (required : Bool) (d v : Data) → is_report_kind k ≡ true → ((f : Family) → k ≡ kind.Keyed f → map (λ o. o.value) (objects f t) ≡ entries_of d)
+      → (k ≡ kind.Elections → d ≡ array (item (object s.es) no_items)) → Within t (asked (want_of_kind k required) d) → normal_report_value t name k d ≡ Some v
+      → Throughout P (asked (want_of_kind k required) v)
+  report_member name (kind.Keyed f) required d v is all one w given =
+      let parts = given_unless d (normal_objects t f (entries_of d)) v given in
+      subst (λ x. Throughout P (asked (Member (kind.Keyed f) required) x)) parts.1 (throughout_objects t clean tree P holds.parts f required d (all f refl) w (holds.keyed f is required d w (all f refl) parts.0))
+  report_member name kind.Elections required d v is all one w given =
+      let same : array_of (map (normal_election t) (entries_of d)) ≡ v = cc in
+      subst (λ x. Throughout P (asked (Member kind.Elections required) x)) same (throughout_elections required d (one refl) w)
+  report_member name kind.Content required d v is all one w given = cc
+  report_member name k required d v is all one w given = other_member k required d v is w (is_envelope_name name) given
+
+  throughout_report : Throughout P (asked (Object role.Report) (normal_tree t))
+  throughout_report =
+      throughout_object t clean tree P plain (normal_report_value t) is_envelope_name role.Report class.ElectionReport s.ms (normal_tree t) (built_report t clean tree s) holds.report envelope_member built
+    where
+      family : (name : List ℕ) (from : Data) → get_member name s.ms ≡ Some from → (f : Family) → kind_of_member class.ElectionReport name ≡ kind.Keyed f → map (λ o. o.value) (objects f t) ≡ entries_of from
+      family name from stands f is =
+          let named : name ≡ family_name f = keyed_name class.ElectionReport name f is in
+          report_objects t s f from (ap (kind_of_member class.ElectionReport) (sym named) ∙ is) (ap (λ n. get_member n s.ms) (sym named) ∙ stands)
+
+      one : (name : List ℕ) (from : Data) → get_member name s.ms ≡ Some from → kind_of_member class.ElectionReport name ≡ kind.Elections → from ≡ array (item (object s.es) no_items)
+      one name from stands is =
+          let x : Some from ≡ Some (array (item (object s.es) no_items)) = sym stands ∙ ap (λ n. get_member n s.ms) (elections_name class.ElectionReport name is) ∙ s.listed_election in
+          let same : from ≡ array (item (object s.es) no_items) = cc in same
+
+      built : (name : List ℕ) (v : Data) → BuiltFrom t (normal_report_value t) class.ElectionReport s.ms name v → Throughout P (asked (member_want class.ElectionReport name) v)
+      built name v b =
+          member_holds t clean (Throughout P) (throughout_status t clean tree P plain) (normal_report_value t) class.ElectionReport s.ms name v b
+          (λ required inside.
+          report_member name (kind_of_member class.ElectionReport name) required b.from v (kind_of_class is_report_kind class.ElectionReport name b.other refl refl refl refl) (family name b.from b.stands)
+          (one name b.from b.stands) inside b.given)
+          (λ word. report_word t name (kind_of_member class.ElectionReport name) b.from v word b.given)
+
+  -- it holds of whatever is asked at a place of the report that is built
+  pub holds_of_built : (p : List Step) (a : Asked) → asked_at (normal_tree t) p ≡ Some a → P a
+  holds_of_built p a e = throughout_report.each p a e
+
+-- a test that nothing passes which is asked for finds nothing at any place
+pub none_found : (u : Data) (is_fault : Asked → Reason → Bool) → ((p : List Step) (a : Asked) (r : Reason) → asked_at u p ≡ Some a → is_fault a r ≡ false) → (p : List Step) (r : Reason)
+    → IsSomeAnd (asked_at u p) (λ a. IsTrue (is_fault a r)) → ⊥
+none_found u is_fault none p r = at (asked_at u p) refl
+  where
+    at : (o : Option Asked) → asked_at u p ≡ o → IsSomeAnd o (λ a. IsTrue (is_fault a r)) → ⊥
+    at None is h = h
+    at (Some a) is h = true≢false (sym h ∙ none p a r is)

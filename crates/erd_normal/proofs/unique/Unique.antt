@@ -1,0 +1,267 @@
+-- Canonical reports that mean the same are equal.
+use Rattle.std.proofs.Common.{◌≡◌, ℕ, List, [], ◌∷◌, Option, Some, None, option_and_then, option_map, map, slice_get, is_some, Bool, true, false, not, ◌&&◌, codes, refl, sym, ap, ap₂, ◌∙◌, subst, ⊎_elim}
+use Rattle.std.specs.Str.{bytes_eq}
+use Rattle.serde_json.specs.Data.{Data, array, object, no_items, item, Members}
+use Rattle.serde_json.specs.Find.{get, get_member, as_str}
+use Rattle.erd_tables.specs.declared.class.Class.{Class}
+use Rattle.erd_tables.specs.declared.class.Family.{Family}
+use Rattle.erd_tables.specs.declared.class.Role.{Role}
+use Rattle.erd_tables.specs.Rows.{Row, envelope_rows}
+use Rattle.erd_tables.specs.Table.{kind_in_rows, kind_of_identity, is_required, kind_of_member}
+use Rattle.erd_tables.specs.Classes.{family_of_role, family_of_class, role_of_class}
+use Rattle.erd_tables.specs.declared.class.Class.TheVariants as class
+use Rattle.erd_tables.specs.declared.class.Family.TheVariants as family
+use Rattle.erd_tables.specs.declared.class.Role.TheVariants as role
+use Rattle.erd_tables.specs.declared.member.MemberKind.TheVariants as kind
+use Rattle.erd_check.specs.declared.want.Want.{Want}
+use Rattle.erd_check.proofs.Rising.{Has, Has-cases, here, later}
+use Rattle.erd_check.specs.Trees.{IsTree}
+use Rattle.erd_check.specs.declared.want.Want.TheVariants.{Object}
+use Rattle.erd_check.proofs.ObjectsAt.{ObjectAt, ObjectIn, object_in}
+use Rattle.erd_check.proofs.Shapes.{Within, within-tree}
+use Rattle.erd_check.specs.Wants.{asked, class_of_object, is_report_class, want_of_kind}
+use Rattle.erd_check.proofs.Exact.{both_true, text_exact}
+use Rattle.erd_check.proofs.Whole.{no_strange, not_true}
+use Rattle.erd_meaning.specs.Accepted.{IsAccepted}
+use Rattle.erd_meaning.specs.Objects.{Placed, elections, id_of, objects, selections_of_contest}
+use Rattle.erd_meaning.proofs.accepted.Skeleton.{Skeleton, elections_are, skeleton, values-placed_entries}
+use Rattle.erd_meaning.specs.Keys.{has_keys}
+use Rattle.erd_check.specs.Values.{entries_at}
+use Rattle.erd_meaning.specs.Records.{is_in_envelope, meaning, member_of_class, plain_member, selection_record, object_record}
+use Rattle.erd_meaning.specs.Meaning.{ObjectRecord, SelectionRecord}
+use Rattle.erd_meaning.specs.SelectionNames.{selection_role}
+use Rattle.erd_meaning.proofs.accepted.Standing.{flat-has, stands}
+use Rattle.erd_meaning.proofs.accepted.Phases.{no_shape_fault}
+use Rattle.erd_normal.proofs.unique.Selections.{selection_array}
+use Rattle.erd_normal.proofs.unique.Agreement.{ContestPair, contest_pairs, pairs_of, same_names}
+use Rattle.erd_normal.specs.Canonical.{IsCanonical}
+use Rattle.erd_normal.proofs.lists.Paired.{Paired}
+use Rattle.erd_normal.proofs.unique.Apart.{apart_cases, apart_named, are_apart, no_envelope, plain_from_value, plain_unless_apart}
+use Rattle.erd_normal.proofs.unique.FamilyArrays.{array_of, arrays_same, family_array, values_of}
+use Rattle.erd_normal.proofs.unique.Records.{class_of_record, id_within, is_apart, members_in, object_same}
+use Rattle.erd_normal.specs.Laws.{CanonicalIsUnique}
+
+paired_values : {R : Placed → Placed → Type 0} (xs ys : List Placed) → Paired R xs ys → ((x y : Placed) → Has xs x → Has ys y → R x y → x.value ≡ y.value) → map (λ o. o.value) xs ≡ map (λ o. o.value) ys
+paired_values xs ys Paired.none each = refl
+paired_values xs ys (Paired.more {x = x} {y = y} {xs = xs'} {ys = ys'} r rest) each = ap₂ ◌∷◌ (each x y here here r) (paired_values xs' ys' rest (λ a b h k. each a b (later h) (later k)))
+
+-- two objects of one class
+pub record Two (t u : Data) (q : Role) (d e : Data) : Type 0 where
+  ms : Members
+  ns : Members
+  class : Class
+  role : role_of_class class ≡ q
+  is : d ≡ object ms
+  is' : e ≡ object ns
+  at : ObjectAt t (Object q) q class ms
+  at' : ObjectAt u (Object q) q class ns
+
+two_objects : (t u : Data) → IsCanonical t → IsCanonical u → (q : Role) (d e : Data) → Within t (asked (Object q) d) → Within u (asked (Object q) e) → class_of_object q d ≡ class_of_object q e → Two t u q d e
+two_objects t u canonical canonical' q d e w w' same =
+    let a : ObjectIn t q d = object_in t (no_shape_fault t canonical.accepted) q d w in
+    let b : ObjectIn u q e = object_in u (no_shape_fault u canonical'.accepted) q e w' in
+    let both : Some b.class ≡ Some a.class = sym b.at.among ∙ ap (class_of_object q) (sym b.is_object) ∙ sym same ∙ ap (class_of_object q) a.is_object ∙ a.at.among in
+    let one : b.class ≡ a.class = cc in
+    record { ms = a.ms; ns = b.ms; class = a.class; role = a.role; is = a.is_object; is' = b.is_object; at = a.at; at' = subst (λ c. ObjectAt u (Object q) q c b.ms) one b.at }
+
+-- a class whose records leave out these names alone
+abbrev pub leaves_out : List (List ℕ) → Class → Bool
+leaves_out names c = not (is_report_class c) && are_apart names c
+
+-- what the records of a family's objects leave out
+abbrev pub left_of : Option Family → List (List ℕ)
+left_of (Some family.Contest) = codes "ContestSelection" ∷ []
+left_of f = []
+
+class_leaves : (c : Class) → is_some (family_of_class c) ≡ true → leaves_out (left_of (family_of_class c)) c ≡ true
+class_leaves class.ElectionReport h = cc
+class_leaves class.Election h = cc
+class_leaves class.OrderedContest h = cc
+class_leaves class.OrderedHeader h = cc
+class_leaves class.ExternalIdentifier h = cc
+class_leaves class.InternationalizedText h = cc
+class_leaves class.LanguageString h = cc
+class_leaves c h = refl
+
+pub leaves : (f : Family) (c : Class) → role_of_class c ≡ role.OfFamily f → leaves_out (left_of (Some f)) c ≡ true
+leaves f c e =
+    let g : family_of_class c ≡ Some f = ap family_of_role e in
+    subst (λ o. leaves_out (left_of o) c ≡ true) g (class_leaves c (ap is_some g))
+
+left_out : (names : List (List ℕ)) (c : Class) (k : List ℕ) → leaves_out names c ≡ true → bytes_eq k (codes "@type") ≡ false → bytes_eq k (codes "@id") ≡ false → is_apart c k ≡ true → Has names k
+left_out names c k h e f g =
+    let both = both_true (not (is_report_class c)) (are_apart names c) h in
+    ⊎_elim (λ i. let x : false ≡ true = sym (no_envelope c k (not_true (is_report_class c) both.0)) ∙ i in cc) (λ i. apart_named names c k e f both.1 i) (apart_cases c k g)
+
+-- an object of a class that has no family has no `@id`
+no_id : (t : Data) → IsAccepted t → (w : Want) (q : Role) (c : Class) (ms : Members) → ObjectAt t w q c ms → is_some (family_of_class c) ≡ false → id_of (object ms) ≡ None
+no_id t accepted w q c ms a h = at (get_member (codes "@id") ms) refl
+  where
+    at : (o : Option Data) → get_member (codes "@id") ms ≡ o → option_and_then as_str (get_member (codes "@id") ms) ≡ None
+    at None e = ap (option_and_then as_str) e
+    at (Some v) e =
+        let strange : kind_of_identity c ≡ kind.StrangeIdentity = rw h in
+        absurd (no_strange t (no_shape_fault t accepted) v (is_required c (codes "@id")) (subst (λ k. Within t (asked (want_of_kind k (is_required c (codes "@id"))) v)) strange (id_within t accepted w q c ms a v e)))
+
+election_is : (t : Data) (a : Skeleton t) → option_and_then (λ o. object_record t role.Election o.value) (slice_get (elections t) 0) ≡ object_record t role.Election (object a.es)
+election_is t a = ap (λ os. option_and_then (λ o. object_record t role.Election o.value) (slice_get os 0)) (elections_are t a)
+
+-- the row of a name that rows have
+row_named : (k : List ℕ) (rows : List Row) → is_some (kind_in_rows rows k) ≡ true → (m : Row) × Has rows m × (bytes_eq k m.name ≡ true)
+row_named k [] e = cc
+row_named k (row ∷ rows) e = at (bytes_eq k row.name) refl (row_named k rows)
+  where
+    at : (b : Bool) → bytes_eq k row.name ≡ b → (is_some (kind_in_rows rows k) ≡ true → (m : Row) × Has rows m × (bytes_eq k m.name ≡ true)) → (m : Row) × Has (row ∷ rows) m × (bytes_eq k m.name ≡ true)
+    at true is h = (row, here, is)
+    at false is h = let r = h (rw is at e) in (r.0, later r.1, r.2)
+
+module _ (t u : Data) (canonical : IsCanonical t) (canonical' : IsCanonical u) (same : meaning t ≡ meaning u) (tree : IsTree t) (tree' : IsTree u) where
+  members_value : (w w' : Want) (q : Role) (c : Class) (ms ns : Members) → ObjectAt t w q c ms → ObjectAt u w' q c ns → object_record t q (object ms) ≡ object_record u q (object ns)
+      → (k : List ℕ) → is_apart c k ≡ false → plain_member t (object ms) c k ≡ plain_member u (object ns) c k
+  members_value w w' q c ms ns a b e k plain =
+      plain_from_value t u (kind_of_member c k) (get_member k ms) (get_member k ns) _ _ (plain_unless_apart c k plain) (rw (a.among, b.among) at (ap (λ r. members_in r k) e))
+
+  pub selection_same : (d e : Data) → Within t (asked (Object selection_role) d) → Within u (asked (Object selection_role) e) → selection_record t d ≡ selection_record u e → id_of d ≡ id_of e → d ≡ e
+  selection_same d e w w' alike ids =
+      let two : Two t u selection_role d e = two_objects t u canonical canonical' selection_role d e w w'
+      (sym (class_of_record (plain_member t d) selection_role d) ∙ ap (option_map (λ (x : SelectionRecord). x.class)) alike ∙ class_of_record (plain_member u e) selection_role e) in
+      let records : selection_record t (object two.ms) ≡ selection_record u (object two.ns) = sym (ap (selection_record t) two.is) ∙ alike ∙ ap (selection_record u) two.is' in
+      two.is ∙ ap object (object_same t u canonical canonical' (same_names t u canonical canonical' same) (Object selection_role) (Object selection_role) selection_role two.class two.ms two.ns two.at two.at'
+      (subst IsTree two.is (within-tree t (asked (Object selection_role) d) tree w)) (subst IsTree two.is' (within-tree u (asked (Object selection_role) e) tree' w'))
+      (ap id_of (sym two.is) ∙ ids ∙ ap id_of two.is')
+      (λ k f g h. elim (left_out [] two.class k (leaves family.Selection two.class two.role) f g h) [ ])
+      (λ k h. rw (two.at.among, two.at'.among) at (ap (λ r. members_in r k) records))) ∙ sym two.is'
+
+  -- an object of a family whose records leave out these names
+  pub object_unique : (names : List (List ℕ)) (q : Role) (d e : Data) → ((c : Class) → role_of_class c ≡ q → leaves_out names c ≡ true) → Within t (asked (Object q) d) → Within u (asked (Object q) e)
+      → object_record t q d ≡ object_record u q e → id_of d ≡ id_of e → ((two : Two t u q d e) (k : List ℕ) → Has names k → get_member k two.ms ≡ get_member k two.ns) → d ≡ e
+  object_unique names q d e plain w w' records ids given =
+      let two : Two t u q d e = two_objects t u canonical canonical' q d e w w'
+      (sym (class_of_record (member_of_class t d) q d) ∙ ap (option_map (λ (x : ObjectRecord). x.class)) records ∙ class_of_record (member_of_class u e) q e) in
+      two.is ∙ ap object (object_same t u canonical canonical' (same_names t u canonical canonical' same) (Object q) (Object q) q two.class two.ms two.ns two.at two.at'
+      (subst IsTree two.is (within-tree t (asked (Object q) d) tree w)) (subst IsTree two.is' (within-tree u (asked (Object q) e) tree' w'))
+      (ap id_of (sym two.is) ∙ ids ∙ ap id_of two.is')
+      (λ k f g h. given two k (left_out names two.class k (plain two.class two.role) f g h))
+      (members_value (Object q) (Object q) q two.class two.ms two.ns two.at two.at' (sym (ap (object_record t q) two.is) ∙ records ∙ ap (object_record u q) two.is'))) ∙ sym two.is'
+
+  abbrev selection_member : List ℕ
+  selection_member = codes "ContestSelection"
+
+  pub within_t : (f : Family) (o : Placed) → Has (objects f t) o → Within t (asked (Object (role.OfFamily f)) o.value)
+  within_t f o h = record { place = o.place; is = stands t canonical.accepted f o h }
+
+  pub within_u : (f : Family) (o : Placed) → Has (objects f u) o → Within u (asked (Object (role.OfFamily f)) o.value)
+  within_u f o h = record { place = o.place; is = stands u canonical'.accepted f o h }
+
+  -- the selections of two paired contests are equal
+  selections_same : (o p : Placed) → Has (objects family.Contest t) o → Has (objects family.Contest u) p → ContestPair t u o p → entries_at selection_member o.value ≡ entries_at selection_member p.value
+  selections_same o p h k pair =
+      sym (values-placed_entries selection_member o)
+      ∙ paired_values (selections_of_contest o) (selections_of_contest p) pair.selections
+      (λ x y i j r. selection_same x.value y.value (within_t family.Selection x (flat-has selections_of_contest (objects family.Contest t) o x h i)) (within_u family.Selection y (flat-has selections_of_contest (objects family.Contest u) p y k j)) r.alike.1 r.same_id)
+      ∙ values-placed_entries selection_member p
+
+  contest_same : (o p : Placed) → Has (objects family.Contest t) o → Has (objects family.Contest u) p → ContestPair t u o p → o.value ≡ p.value
+  contest_same o p h k pair =
+      object_unique (selection_member ∷ []) (role.OfFamily family.Contest) o.value p.value (leaves family.Contest) (within_t family.Contest o h) (within_u family.Contest p k) pair.pair.alike.1 pair.pair.same_id
+      (λ two n i. ⊎_elim (λ e. subst (λ x. get_member x two.ms ≡ get_member x two.ns) e
+      (arrays_same _ _ (get_member selection_member two.ms) (get_member selection_member two.ns) (selection_array t canonical two.class two.ms two.role two.at) (selection_array u canonical' two.class two.ns two.role two.at')
+      (ap (entries_at selection_member) (sym two.is) ∙ selections_same o p h k pair ∙ ap (entries_at selection_member) two.is')))
+      (λ j. elim j [ ]) (Has-cases selection_member n [] i))
+
+  -- an object of a family without selections
+  other_same : (f : Family) → has_keys f ≡ true → ((c : Class) → role_of_class c ≡ role.OfFamily f → leaves_out [] c ≡ true) → map (λ o. o.value) (objects f t) ≡ map (λ o. o.value) (objects f u)
+  other_same f h plain = paired_values (objects f t) (objects f u) (pairs_of t u canonical canonical' same f h)
+      (λ o p i j r. object_unique [] (role.OfFamily f) o.value p.value plain (within_t f o i) (within_u f p j) r.alike.1 r.same_id (λ two n k. elim k [ ]))
+
+  family_same : (f : Family) → has_keys f ≡ true → map (λ o. o.value) (objects f t) ≡ map (λ o. o.value) (objects f u)
+  family_same family.Unit h = other_same family.Unit h (leaves family.Unit)
+  family_same family.Party h = other_same family.Party h (leaves family.Party)
+  family_same family.Person h = other_same family.Person h (leaves family.Person)
+  family_same family.Office h = other_same family.Office h (leaves family.Office)
+  family_same family.Header h = other_same family.Header h (leaves family.Header)
+  family_same family.Candidate h = other_same family.Candidate h (leaves family.Candidate)
+  family_same family.Style h = other_same family.Style h (leaves family.Style)
+  family_same family.Contest h = paired_values (objects family.Contest t) (objects family.Contest u) (contest_pairs t u canonical canonical' same) contest_same
+  family_same family.Selection h = cc
+
+  array_same : (a : Skeleton t) (b : Skeleton u) (f : Family) → has_keys f ≡ true → array_of f a.ms a.es ≡ array_of f b.ms b.es
+  array_same a b f h = arrays_same _ _ (array_of f a.ms a.es) (array_of f b.ms b.es) (family_array t canonical a f h) (family_array u canonical' b f h) (sym (values_of t a f h) ∙ family_same f h ∙ values_of u b f h)
+
+  -- the names that an election's record and the report's leave out
+  abbrev election_names : List (List ℕ)
+  election_names = codes "Candidate" ∷ codes "Contest" ∷ codes "BallotStyle" ∷ []
+
+  abbrev report_names : List (List ℕ)
+  report_names = codes "GpUnit" ∷ codes "Party" ∷ codes "Person" ∷ codes "Office" ∷ codes "Header" ∷ codes "Election" ∷ []
+
+  -- what holds of each of these names holds of one of them
+  each_name : (P : List ℕ → Type 0) (n : List ℕ) (names : List (List ℕ)) (k : List ℕ) → P n → (Has names k → P k) → Has (n ∷ names) k → P k
+  each_name P n names k h rest i = ⊎_elim (λ e. subst P e h) rest (Has-cases n k names i)
+
+  module _ (a : Skeleton t) (b : Skeleton u) where
+    election_same : a.es ≡ b.es
+    election_same =
+        object_same t u canonical canonical' (same_names t u canonical canonical' same) (Object role.Election) (Object role.Election) role.Election class.Election a.es b.es a.election b.election
+        (within-tree t (asked (Object role.Election) (object a.es)) tree a.election.inside) (within-tree u (asked (Object role.Election) (object b.es)) tree' b.election.inside)
+        (no_id t canonical.accepted (Object role.Election) role.Election class.Election a.es a.election refl
+        ∙ sym (no_id u canonical'.accepted (Object role.Election) role.Election class.Election b.es b.election refl))
+        (λ k f g h.
+        each_name Same (codes "Candidate") _ k (array_same a b family.Candidate refl)
+        (each_name Same (codes "Contest") _ k (array_same a b family.Contest refl)
+        (each_name Same (codes "BallotStyle") _ k (array_same a b family.Style refl) (λ i. elim i [ ])))
+        (left_out election_names class.Election k refl f g h))
+        (members_value (Object role.Election) (Object role.Election) role.Election class.Election a.es b.es a.election b.election
+        (sym (election_is t a) ∙ ap (λ m. m.election) same ∙ election_is u b))
+      where
+        Same : List ℕ → Type 0
+        Same n = get_member n a.es ≡ get_member n b.es
+
+    both_have : (n : List ℕ) (o : Option Data) → get n t ≡ o → get n u ≡ o → get_member n a.ms ≡ get_member n b.ms
+    both_have n o e f = sym (ap (get n) a.is_object) ∙ e ∙ sym f ∙ ap (get n) b.is_object
+
+    envelope_same : (m : Row) → Has envelope_rows m → get_member m.name a.ms ≡ get_member m.name b.ms
+    envelope_same m here = both_have (codes "Format") _ canonical.envelope.format canonical'.envelope.format
+    envelope_same m (later here) = both_have (codes "GeneratedDate") _ canonical.envelope.date canonical'.envelope.date
+    envelope_same m (later (later here)) = both_have (codes "Issuer") _ canonical.envelope.issuer canonical'.envelope.issuer
+    envelope_same m (later (later (later here))) = both_have (codes "IssuerAbbreviation") _ canonical.envelope.abbreviation canonical'.envelope.abbreviation
+    envelope_same m (later (later (later (later here)))) = both_have (codes "VendorApplicationId") _ canonical.envelope.application canonical'.envelope.application
+    envelope_same m (later (later (later (later (later here))))) = both_have (codes "Notes") _ canonical.envelope.notes canonical'.envelope.notes
+    envelope_same m (later (later (later (later (later (later here)))))) = both_have (codes "SequenceStart") _ canonical.envelope.start canonical'.envelope.start
+    envelope_same m (later (later (later (later (later (later (later here))))))) = both_have (codes "SequenceEnd") _ canonical.envelope.end canonical'.envelope.end
+    envelope_same m (later (later (later (later (later (later (later (later here)))))))) = both_have (codes "ExternalIdentifier") _ canonical.envelope.identifiers canonical'.envelope.identifiers
+    envelope_same m (later (later (later (later (later (later (later (later (later h))))))))) = elim h [ ]
+
+    in_envelope : (k : List ℕ) → is_in_envelope class.ElectionReport k ≡ true → get_member k a.ms ≡ get_member k b.ms
+    in_envelope k e = let r = row_named k envelope_rows e in subst (λ n. get_member n a.ms ≡ get_member n b.ms) (sym (text_exact k r.0.name r.2)) (envelope_same r.0 r.1)
+
+    report_same : a.ms ≡ b.ms
+    report_same =
+        object_same t u canonical canonical' (same_names t u canonical canonical' same) (Object role.Report) (Object role.Report) role.Report class.ElectionReport a.ms b.ms a.report b.report
+        (within-tree t (asked (Object role.Report) (object a.ms)) tree a.report.inside) (within-tree u (asked (Object role.Report) (object b.ms)) tree' b.report.inside)
+        (no_id t canonical.accepted (Object role.Report) role.Report class.ElectionReport a.ms a.report refl ∙ sym (no_id u canonical'.accepted (Object role.Report) role.Report class.ElectionReport b.ms b.report refl))
+        (λ k f g h. ⊎_elim (in_envelope k) (λ plain. by_name k (apart_named report_names class.ElectionReport k f g refl plain)) (apart_cases class.ElectionReport k h))
+        (members_value (Object role.Report) (Object role.Report) role.Report class.ElectionReport a.ms b.ms a.report b.report
+        (sym (ap (object_record t role.Report) a.is_object) ∙ ap (λ m. m.report) same ∙ ap (object_record u role.Report) b.is_object))
+      where
+        Same : List ℕ → Type 0
+        Same n = get_member n a.ms ≡ get_member n b.ms
+
+        the_election : Same (codes "Election")
+        the_election = a.listed_election ∙ ap (λ es. Some (array (item (object es) no_items))) election_same ∙ sym b.listed_election
+
+        by_name : (k : List ℕ) → Has report_names k → Same k
+        by_name k =
+            each_name Same (codes "GpUnit") _ k (array_same a b family.Unit refl)
+            (each_name Same (codes "Party") _ k (array_same a b family.Party refl)
+            (each_name Same (codes "Person") _ k (array_same a b family.Person refl)
+            (each_name Same (codes "Office") _ k (array_same a b family.Office refl)
+            (each_name Same (codes "Header") _ k (array_same a b family.Header refl)
+            (each_name Same (codes "Election") _ k the_election (λ i. elim i [ ]))))))
+
+-- canonical trees that mean the same are equal
+pub unique : CanonicalIsUnique
+unique t u alike =
+    let a : Skeleton t = skeleton t alike.left.accepted in
+    let b : Skeleton u = skeleton u alike.right.accepted in
+    a.is_object ∙ ap object (report_same t u alike.left alike.right alike.same alike.left_tree alike.right_tree a b) ∙ sym b.is_object
