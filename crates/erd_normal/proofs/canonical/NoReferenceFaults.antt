@@ -166,9 +166,9 @@ none_elsewhere u listed p h =
     let inside : asked_from h.ordered_contest (Name list_name ∷ At h.position ∷ []) ≡ Some h.entry =
     ap (option_and_then (λ b. asked_from b (Name list_name ∷ At h.position ∷ []))) (sym h.ordered_contest_stands)
     ∙ sym (asked_from-append (asked (Object role.Report) u) h.object_place (Name list_name ∷ At h.position ∷ [])) ∙ steps in
-    let b = and_then-Some (λ b. asked_from b (At h.position ∷ [])) (asked_inside h.contest.want h.contest.value (Name list_name)) h.entry inside in
+    let b = and_then-Some (λ b. asked_from b (At h.position ∷ [])) (asked_inside h.ordered_contest.want h.ordered_contest.value (Name list_name)) h.entry inside in
     let c = and_then-Some (λ c. asked_from c []) (asked_inside b.0.want b.0.value (At h.position)) h.entry b.2 in
-    let wants : h.entry.want ≡ Reference family.Selection = elsewhere_wants u h.contest.value h.entry.want h.entry.value h.elsewhere in
+    let wants : h.entry.want ≡ Reference family.Selection = elsewhere_wants u h.ordered_contest.value h.entry.want h.entry.value h.elsewhere in
     let entry : EntryOf b.0.want b.0.value h.position h.entry = entry_of b.0.want b.0.value h.position h.entry (c.1 ∙ c.2) wants in
     let owner : OfContest h.ordered_contest.want h.ordered_contest.value b.0 = list_owner h.ordered_contest.want h.ordered_contest.value b.0 b.1 entry.lists in
     let all : IsListSound u h.ordered_contest.value = (listed h.object_place h.ordered_contest h.ordered_contest_stands).sound owner.content owner.among in

@@ -6,7 +6,7 @@ use Rattle.serde_json.specs.View.{view}
 use Rattle.erd_meaning.specs.Keys.{key_cmp}
 use Rattle.erd_meaning.specs.code.Orders.{key_cmp_total}
 use Rattle.erd_meaning.specs.SelectionNames.{rising_list}
-use Rattle.erd_normal.specs.code.Building.{numbered}
+use Rattle.erd_normal.specs.code.Building.{numbered, AreNumbers}
 use Rattle.erd_normal.proofs.ranks.FamilyNumbers.{family_number}
 use Rattle.erd_normal.proofs.lists.StableRising.{by_first, rising_from_stable}
 use Rattle.erd_normal.proofs.numbers.family_numbers.family_numbers.Goals as goal

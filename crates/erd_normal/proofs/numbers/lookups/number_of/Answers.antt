@@ -3,7 +3,7 @@ use Rattle.serde_json.specs.View.{view}
 use Rattle.erd_normal.specs.code.Building.{numbered_id}
 use Rattle.erd_normal.specs.code.ObjectNumbers.{number_in}
 use Rattle.erd_normal.proofs.ranks.NumberedReferences.{named_elsewhere, named_here, named_nowhere}
-use Rattle.erd_normal.proofs.numbers.numbering.number_of.Goals as goal
+use Rattle.erd_normal.proofs.numbers.lookups.number_of.Goals as goal
 
 pub returns-then-is_same : goal.returns-then-is_same
 returns-then-is_same c =

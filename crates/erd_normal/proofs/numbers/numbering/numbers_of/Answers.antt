@@ -1,6 +1,6 @@
 use Rattle.serde_json.specs.View.{view}
 use Rattle.erd_normal.proofs.ranks.NumberedReferences.{object_numbers_made}
-use Rattle.erd_normal.proofs.numbers.numbering.tables_of.Goals as goal
+use Rattle.erd_normal.proofs.numbers.numbering.numbers_of.Goals as goal
 
 pub returns : goal.returns
 returns c =

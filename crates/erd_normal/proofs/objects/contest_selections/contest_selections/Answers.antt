@@ -1,3 +1,4 @@
+use Rattle.erd_meaning.specs.SelectionNames.{rising_list}
 use Rattle.std.proofs.Common.{List, map, IfOk, ap, subst, ◌≡◌, ◌∙◌}
 use Rattle.serde_json.specs.Data.{Data}
 use Rattle.serde_json.specs.View.{view}

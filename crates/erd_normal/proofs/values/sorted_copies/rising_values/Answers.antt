@@ -1,3 +1,4 @@
+use Rattle.erd_meaning.specs.SelectionNames.{compact_cmp, rising_list}
 use Rattle.std.proofs.Common.{◌≡◌, false, map, ap, ◌∙◌}
 use Rattle.std.proofs.lemmas.Cmp.{nat_list_cmp_total}
 use Rattle.std.proofs.lemmas.Result.{IfOk-weaker}
