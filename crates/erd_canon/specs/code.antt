@@ -1,8 +1,4 @@
 -- What private functions answer, step by step. No public contract says it.
-
--- the command line, as the parser of command lines sees it
-pub mod Subcommands
--- what one read adds
-pub mod Chunks
--- what is written of a refusal on one of two sides
-pub mod SideRefusals
+pub mod Subcommands  -- the command line, as the parser of command lines sees it
+pub mod Chunks  -- what one read adds
+pub mod SideRefusals  -- what is written of a refusal on one of two sides

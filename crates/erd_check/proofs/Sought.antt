@@ -3,7 +3,7 @@
 use Rattle.std.proofs.Common.{◌≡◌, ℕ, suc, arith, List, length, ◌==◌, Bool, true, false, ◌&&◌, ◌||◌, not, cond, Option, Some, None, codes, refl, sym, ap, ◌∙◌}
 use Rattle.std.specs.List.{list_all}
 use Rattle.std.specs.Str.{bytes_eq}
-use Rattle.serde_json.specs.Data.{Num, number, array, Items, no_items, item}
+use Rattle.serde_json.specs.Data.{Num, number, array, Items, no_items, item, Data}
 use Rattle.serde_json.specs.Find.{is_float}
 use Rattle.erd_tables.specs.Rows.{rows_of_class}
 use Rattle.erd_tables.specs.Table.{kind_of_identity, kind_of_member, is_required, is_reference_name}
@@ -16,7 +16,6 @@ use Rattle.erd_tables.specs.declared.fault.Reason.{Reason}
 use Rattle.erd_tables.specs.declared.fault.Reason.TheVariants as reason
 use Rattle.erd_tables.specs.declared.member.MemberKind.{MemberKind}
 use Rattle.erd_tables.specs.declared.member.MemberKind.TheVariants as kind
-use Rattle.serde_json.specs.Data.{Data}
 use Rattle.erd_check.specs.Faults.{is_shape_fault, is_empty_array, wants_whole}
 use Rattle.erd_check.specs.Numbers.{IsFittingNumber}
 use Rattle.erd_check.specs.Values.{list_of_items}

@@ -1,8 +1,8 @@
-pub mod Values
-pub mod Trees
-pub mod Numbers
-pub mod Wants
-pub mod Faults
-pub mod Refusals
-pub mod Shapes
-pub mod code
+pub mod Values  -- what is read off a JSON value: entries, texts and names
+pub mod Trees  -- trees, and equality as JSON
+pub mod Numbers  -- whole numbers that fit 64 bits
+pub mod Wants  -- what the table asks of the value at each place
+pub mod Faults  -- the faults of the shape
+pub mod Refusals  -- why a report is not taken
+pub mod Shapes  -- reports whose shape has no fault
+pub mod code  -- what private functions answer, which a reader may skip

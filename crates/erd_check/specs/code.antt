@@ -1,2 +1,2 @@
-pub mod Paths
-pub mod Walk
+pub mod Paths  -- the place that a path leads to
+pub mod Walk  -- what a walk tells of a report, and what it leaves known

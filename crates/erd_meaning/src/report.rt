@@ -10,8 +10,8 @@ ghost use Rattle.erd_meaning.specs.Objects.{elections, objects};
 ghost use Rattle.erd_meaning.specs.code.Resolved.{IsResolved};
 ghost use Rattle.erd_meaning.specs.SelectionNames.{name_of};
 
-pub(crate) mod resolving;
 pub(crate) mod reference_judge;
+pub(crate) mod resolving;
 
 use crate::keys::key::Key;
 use crate::names::name_in_contest::{NameInContest, place_of_name};

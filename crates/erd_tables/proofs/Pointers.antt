@@ -1,5 +1,5 @@
 -- Names without `~` and `/` stand in a pointer as they are.
-use Rattle.std.proofs.Common.{◌≡◌, ℕ, zero, suc, ◌<◌, ◌≤◌, List, [], ◌∷◌, ◌++◌, length, Bool, true, false, ◌||◌, ◌==◌, get_or, refl, append-nil, append_assoc, ap, sym, ◌∙◌, arith, rules, ◌⊎◌, ⊎_elim}
+use Rattle.std.proofs.Common.{◌≡◌, ℕ, suc, ◌<◌, ◌≤◌, List, [], ◌∷◌, ◌++◌, length, Bool, true, false, ◌||◌, ◌==◌, get_or, refl, append-nil, append_assoc, ap, sym, ◌∙◌, arith, rules, ◌⊎◌, ⊎_elim}
 use Rattle.std.specs.Prelude.{encode_utf8}
 use Rattle.std.proofs.lemmas.Str.{NoCharPasses-byte}
 use Rattle.erd_tables.specs.Places.{escaped_byte, escaped_name}

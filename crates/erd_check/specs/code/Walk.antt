@@ -1,5 +1,4 @@
--- The faults that a walk over a report tells, in the order in which it visits the values, and what it leaves known. It is no
--- definition of the profile: that the list is that of all faults of a kind is proved in `Walks`.
+-- What a walk over a report tells, in the order in which it visits the values. That these are all faults of a kind is proved in `Walks`.
 use Rattle.std.specs.Prelude.{List, [], ◌∷◌, ◌++◌, Bool, false, ◌&&◌, map, filter, length, IfSome, IsTrue, ⊤}
 use Rattle.std.specs.List.{list_any}
 use Rattle.std.specs.List.Sorted.{IsStrictlySortedBy}

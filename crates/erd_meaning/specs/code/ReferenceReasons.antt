@@ -1,5 +1,4 @@
--- The reasons of a reference in the order in which the program tells them, with its look-ups over the objects that are kept. It is no
--- definition of the profile: that they are those of `ReferenceFault` is proved in `ReferenceWalks`.
+-- The reasons of a reference as the program tells them, by look-ups among the objects that are kept: those of `ReferenceFault` (`ReferenceWalks`).
 use Rattle.std.specs.Prelude.{ℕ, List, [], ◌∷◌, ◌++◌, Bool, true, false, not, ◌&&◌, if◌then◌else◌, Option, option_map, is_some, is_none, find, codes}
 use Rattle.std.specs.List.{list_any}
 use Rattle.std.specs.Option.{option_map_or}

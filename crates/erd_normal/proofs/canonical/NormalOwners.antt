@@ -4,7 +4,7 @@ use Rattle.std.proofs.lemmas.Option.{slice_get-map}
 use Rattle.serde_json.specs.Data.{Data}
 use Rattle.erd_tables.specs.declared.class.Family.{Family}
 use Rattle.erd_check.specs.Trees.{IsTree}
-use Rattle.erd_check.proofs.Rising.{Has}
+use Rattle.erd_check.proofs.Rising.{Has, all-Has}
 use Rattle.erd_meaning.specs.Accepted.{IsAccepted}
 use Rattle.erd_meaning.specs.Keys.{has_keys, key_of}
 use Rattle.erd_meaning.specs.Objects.{Placed, has_id, id_of, objects, owner}
@@ -19,7 +19,6 @@ use Rattle.erd_normal.proofs.canonical.CanonicalIds.{canonical_id_exact}
 use Rattle.erd_normal.proofs.built.LeastKeys.{key_of_object}
 use Rattle.erd_normal.proofs.canonical.NormalKeys.{IsClassed, ids_by_rank, values_classed}
 use Rattle.erd_normal.proofs.built.NormalObjects.{objects_built, values_of}
-use Rattle.erd_check.proofs.Rising.{all-Has}
 use Rattle.erd_check.proofs.Positions.{has_mapped, has_at, position_of, position_low}
 use Rattle.erd_normal.proofs.lists.RisingSets.{rising_has, length-rising}
 use Rattle.erd_normal.proofs.canonical.RisingReports.{object_ranks}
