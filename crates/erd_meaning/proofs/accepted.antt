@@ -1,5 +1,7 @@
--- What holds of each accepted report: none of the four phases has a fault, its references name what they should, it has one election, and its objects stand apart.
+-- What holds of each accepted report: none of the four phases has a fault, its references name what they should, it has elections (one, as yet), and its objects stand apart.
+pub mod HeldObjects
 pub mod Phases
 pub mod References
 pub mod Skeleton
+pub mod SoleElection
 pub mod Standing

@@ -10,7 +10,7 @@ use Rattle.erd_check.proofs.Rising.{Has, all-Has}
 use Rattle.erd_check.specs.Values.{entries_at}
 use Rattle.erd_meaning.specs.Objects.{Placed, contests, elections, objects, placed_entries, placed_from, report_of}
 use Rattle.erd_meaning.proofs.accepted.Skeleton.{values-placed_entries}
-use Rattle.erd_meaning.proofs.accepted.Standing.{has-flat}
+use Rattle.erd_meaning.proofs.accepted.HeldObjects.{has-flat}
 use Rattle.erd_compare.specs.code.Comparing.{IsWholeTree}
 use Rattle.erd_compare.proofs.whole_trees.WholeTrees.{AreWholeTrees, whole_trees-entries_at}
 

@@ -1,8 +1,7 @@
--- The report and its one election, and where the objects of families stand.
-use Rattle.std.proofs.Common.{◌≡◌, sym, ◌+◌, ℕ, List, [], ◌∷◌, ◌++◌, Option, Some, None, map, flat_map, true, codes, refl, ap, ◌∙◌, subst, append-nil, option_map}
+-- The report and its elections, and where the objects of families stand.
+use Rattle.std.proofs.Common.{◌≡◌, sym, ◌+◌, ℕ, suc, List, [], ◌∷◌, ◌++◌, Option, Some, None, map, flat_map, true, codes, refl, ap, ap₂, ◌∙◌, subst, ◌⊎◌, inl, inr, arith, false}
+use Rattle.std.proofs.lemmas.List.{map-append}
 use Rattle.serde_json.specs.Data.{Data, array, object, Items, no_items, item, Members}
-use Rattle.serde_json.specs.View.{view}
-use Rattle.serde_json.specs.declared.value.Value.{Value}
 use Rattle.serde_json.specs.Find.{get_member, get_item}
 use Rattle.erd_tables.specs.declared.place.Step.{Step}
 use Rattle.erd_tables.specs.declared.place.Step.TheVariants.{At, Name}
@@ -12,27 +11,28 @@ use Rattle.erd_tables.specs.declared.member.MemberKind.TheVariants as kind
 use Rattle.erd_tables.specs.declared.fault.Reason.TheVariants as reason
 use Rattle.erd_check.specs.declared.want.Want.TheVariants.{Member, Object}
 use Rattle.erd_check.proofs.ObjectsAt.{ObjectAt, election_class, object_at, one_entry, report_class}
-use Rattle.erd_check.proofs.Shapes.{Within, Within-root, Within-step, faultless, wanted_within, lacks_none, member_within, of_role}
-use Rattle.erd_check.specs.Faults.{NoneOf, ShapeFault}
-use Rattle.erd_check.specs.Wants.{asked}
-use Rattle.erd_check.proofs.Entries.{array_from}
+use Rattle.erd_check.proofs.Shapes.{Within, Within-root, Within-step, asked_at-step, asked_inside_object, faultless, wanted_within, lacks_none, member_within, of_role}
+use Rattle.erd_check.specs.Faults.{has_not_one_entry, NoneOf, ShapeFault}
+use Rattle.erd_check.specs.Wants.{asked, asked_at, asked_inside}
+use Rattle.erd_check.proofs.Entries.{array_from, entries_in, list_of_items-place}
+use Rattle.erd_check.proofs.Rising.{Has, Has-cases}
 use Rattle.erd_meaning.specs.Accepted.{IsAccepted}
-use Rattle.erd_meaning.specs.Objects.{Placed, elections, placed_entries, placed_from, report_of}
-use Rattle.erd_check.specs.Values.{entries_at}
+use Rattle.erd_meaning.specs.Objects.{Placed, elections, placed_entries, placed_from}
+use Rattle.erd_check.specs.Values.{entries_at, list_of_items}
 use Rattle.erd_meaning.proofs.accepted.Phases.{no_shape_fault}
 
--- the report and its one election
+-- the report and the array of its elections
 pub record Skeleton (t : Data) : Type 0 where
   pub ms : Members
   pub is_object : t ≡ object ms
   pub report : ObjectAt t (Object role.Report) role.Report class.ElectionReport ms
-  pub es : Members
-  pub listed_election : get_member (codes "Election") ms ≡ Some (array (item (object es) no_items))
-  pub election : ObjectAt t (Object role.Election) role.Election class.Election es
+  pub es : Items
+  pub listed : get_member (codes "Election") ms ≡ Some (array es)
+  pub inside : Within t (asked (Member kind.Elections true) (array es))
+  pub filled : ¬ (es ≡ no_items)
 
--- an array of one object, put together
-listed_one : (o : Option Data) (v : Data) (ds : Items) (d : Data) (es : Members) → o ≡ Some v → v ≡ array ds → ds ≡ item d no_items → d ≡ object es → o ≡ Some (array (item (object es) no_items))
-listed_one o v ds d es e f g h = e ∙ ap Some (f ∙ ap array (g ∙ ap (λ x. item x no_items) h))
+not_empty : (ds : Items) → has_not_one_entry (array ds) ≡ false → ¬ (ds ≡ no_items)
+not_empty ds h e = let x : item (one_entry ds h).0 no_items ≡ no_items = sym (one_entry ds h).1 ∙ e in cc
 
 pub skeleton_of_shape : (t : Data) → NoneOf (ShapeFault t) → Skeleton t
 skeleton_of_shape t none = at (get_member (codes "Election") ms) refl
@@ -49,50 +49,79 @@ skeleton_of_shape t none = at (get_member (codes "Election") ms) refl
         let inside : Within t (asked (Member kind.Elections true) v) = member_within t none (Object role.Report) role.Report ms class.ElectionReport (codes "Election") v of_role top.2.among refl top.2.inside e in
         let ds = array_from v (wanted_within t none (asked (Member kind.Elections true) v) inside) in
         let inside' : Within t (asked (Member kind.Elections true) (array ds.0)) = subst (λ x. Within t (asked (Member kind.Elections true) x)) ds.1 inside in
-        let one = one_entry ds.0 (faultless t none (asked (Member kind.Elections true) (array ds.0)) reason.ElectionCount inside') in
-        let entry : Within t (asked (Object role.Election) one.0) = Within-step t (asked (Member kind.Elections true) (array ds.0)) (asked (Object role.Election) one.0) (At 0) inside' (ap (λ ds. option_map (asked (Object role.Election)) (get_item 0 ds)) {y = item one.0 no_items} one.1) in
-        let election = object_at t none role.Election class.Election election_class one.0 entry in
         record {
           ms = ms;
           is_object = top.1;
           report = top.2;
-          es = election.0;
-          listed_election = listed_one (get_member (codes "Election") ms) v ds.0 one.0 election.0 e ds.1 one.1 election.1;
-          election = election.2;
+          es = ds.0;
+          listed = e ∙ ap Some ds.1;
+          inside = inside';
+          filled = not_empty ds.0 (faultless t none (asked (Member kind.Elections true) (array ds.0)) reason.ElectionCount inside');
         }
 
 pub skeleton : (t : Data) → IsAccepted t → Skeleton t
 skeleton t accepted = skeleton_of_shape t (no_shape_fault t accepted)
 
+-- ---- entries and their places
+
 pub values-placed_from : (p : List Step) (i : ℕ) (ds : List Data) → map (λ o. o.value) (placed_from p i ds) ≡ ds
 values-placed_from p i [] = refl
 values-placed_from p i (d ∷ ds) = ap (◌∷◌ d) (values-placed_from p (i + 1) ds)
 
-abbrev pub the_election : Members → Placed
-the_election es = record { place = Name (codes "Election") ∷ At 0 ∷ []; value = object es }
-
-pub elections_are : (t : Data) (s : Skeleton t) → elections t ≡ the_election s.es ∷ []
-elections_are t s = rw (s.is_object, s.listed_election)
-
 pub values-placed_entries : (name : List ℕ) (o : Placed) → map (λ o. o.value) (placed_entries name o) ≡ entries_at name o.value
 values-placed_entries name o = values-placed_from (o.place ++ Name name ∷ []) 0 (entries_at name o.value)
 
--- the objects that stand in the one election
-pub election_objects : (t : Data) (s : Skeleton t) (name : List ℕ) → flat_map (placed_entries name) (elections t) ≡ placed_entries name (the_election s.es)
-election_objects t s name = ap (flat_map (placed_entries name)) (elections_are t s) ∙ append-nil (placed_entries name (the_election s.es))
+-- the entries of the arrays of several objects
+pub values-placed_flat : (name : List ℕ) (os : List Placed) → map (λ o. o.value) (flat_map (placed_entries name) os) ≡ flat_map (entries_at name) (map (λ o. o.value) os)
+values-placed_flat name [] = refl
+values-placed_flat name (o ∷ os) =
+    map-append (λ (o : Placed). o.value) (placed_entries name o) (flat_map (placed_entries name) os) ∙ ap₂ ◌++◌ (values-placed_entries name o) (values-placed_flat name os)
 
--- the one value of the array of elections
-pub record OneElection (t : Data) (vs : List Value) : Type 0 where
-  pub one : Value
-  pub alone : vs ≡ one ∷ []
-  pub is : map (λ o. o.value) (elections t) ≡ view one ∷ []
-
-pub one_election : (t : Data) → NoneOf (ShapeFault t) → (vs : List Value) → map view vs ≡ entries_at (codes "Election") t → OneElection t vs
-one_election t none vs e =
-    let s = skeleton_of_shape t none in
-    at vs (e ∙ sym (values-placed_entries (codes "Election") (report_of t))) (ap (map (λ (o : Placed). o.value)) (elections_are t s))
+-- where an entry of an array stands
+pub placed_index : (p : List Step) (i : ℕ) (ds : Items) (o : Placed) → Has (placed_from p i (list_of_items ds)) o → (j : ℕ) × (o.place ≡ p ++ At (i + j) ∷ []) × (get_item j ds ≡ Some o.value)
+placed_index p i no_items o h = elim h [ ]
+placed_index p i (item d ds) o h = at (Has-cases (record { place = p ++ At i ∷ []; value = d }) o (placed_from p (i + 1) (list_of_items ds)) h) (placed_index p (i + 1) ds o)
   where
-    at : {d : Data} → (vs : List Value) → map view vs ≡ map (λ o. o.value) (elections t) → map (λ o. o.value) (elections t) ≡ d ∷ [] → OneElection t vs
-    at {d} [] e f = let h : [] ≡ d ∷ [] = e ∙ f in cc
-    at (v ∷ []) e f = record { one = v; alone = refl; is = sym e }
-    at {d} (v ∷ w ∷ vs) e f = let h : view v ∷ view w ∷ map view vs ≡ d ∷ [] = e ∙ f in cc
+    Found : Type 0
+    Found = (j : ℕ) × (o.place ≡ p ++ At (i + j) ∷ []) × (get_item j (item d ds) ≡ Some o.value)
+
+    at : (◌≡◌ {A = Placed} (record { place = p ++ At i ∷ []; value = d }) o) ⊎ Has (placed_from p (i + 1) (list_of_items ds)) o
+        → (Has (placed_from p (i + 1) (list_of_items ds)) o → (j : ℕ) × (o.place ≡ p ++ At (i + 1 + j) ∷ []) × (get_item j ds ≡ Some o.value)) → (j : ℕ) × (o.place ≡ p ++ At (i + j) ∷ []) × (get_item j (item d ds) ≡ Some o.value)
+    at (inl e) k = let s : i ≡ i + 0 = omega arith in (0, sym (ap (λ x. x.place) e) ∙ ap (λ n. p ++ At n ∷ []) s, ap (λ x. Some x.value) e)
+    at (inr m) k = let r = k m in let s : i + 1 + r.0 ≡ i + suc r.0 = omega arith in (suc r.0, r.1 ∙ ap (λ n. p ++ At n ∷ []) s, r.2)
+
+-- ---- the elections
+
+pub election_entries : (t : Data) (s : Skeleton t) → entries_at (codes "Election") t ≡ list_of_items s.es
+election_entries t s = ap (entries_at (codes "Election")) s.is_object ∙ ap entries_in s.listed
+
+pub elections_placed : (t : Data) (s : Skeleton t) → elections t ≡ placed_from (Name (codes "Election") ∷ []) 0 (list_of_items s.es)
+elections_placed t s = ap (placed_from (Name (codes "Election") ∷ []) 0) (election_entries t s)
+
+-- what stands in the elections, one election after another
+pub values_in_elections : (t : Data) (s : Skeleton t) (name : List ℕ) → map (λ o. o.value) (flat_map (placed_entries name) (elections t)) ≡ flat_map (entries_at name) (list_of_items s.es)
+values_in_elections t s name =
+    values-placed_flat name (elections t)
+    ∙ ap (flat_map (entries_at name)) (values-placed_from (Name (codes "Election") ∷ []) 0 (entries_at (codes "Election") t) ∙ election_entries t s)
+
+-- each election stands at its place
+pub election_stands : (t : Data) (s : Skeleton t) (e : Placed) → Has (elections t) e → asked_at t e.place ≡ Some (asked (Object role.Election) e.value)
+election_stands t s e h =
+    let j = placed_index (Name (codes "Election") ∷ []) 0 s.es e (subst (λ os. Has os e) (elections_placed t s) h) in
+    let same : 0 + j.0 ≡ j.0 = omega arith in
+    ap (asked_at t) (j.1 ∙ ap (λ n. Name (codes "Election") ∷ At n ∷ []) same)
+    ∙ asked_at-step t (Name (codes "Election") ∷ []) (asked (Member kind.Elections true) (array s.es)) (asked (Object role.Election) e.value) (At j.0)
+    (asked_at-step t [] (asked (Object role.Report) t) (asked (Member kind.Elections true) (array s.es)) (Name (codes "Election")) refl
+    (subst (λ x. asked_inside (Object role.Report) x (Name (codes "Election")) ≡ Some (asked (Member kind.Elections true) (array s.es))) (sym s.is_object)
+    (asked_inside_object (Object role.Report) role.Report s.ms class.ElectionReport (codes "Election") (array s.es) s.report.asks s.report.among refl s.listed)))
+    (rw j.2)
+
+-- each value of the array of elections is asked to be an election
+pub election_within : (t : Data) (s : Skeleton t) (d : Data) → Has (list_of_items s.es) d → Within t (asked (Object role.Election) d)
+election_within t s d h =
+    let p = list_of_items-place s.es d h in
+    Within-step t (asked (Member kind.Elections true) (array s.es)) (asked (Object role.Election) d) (At p.0) s.inside (rw p.1)
+
+-- and is an object of the class of elections
+pub election_object : (t : Data) → NoneOf (ShapeFault t) → (d : Data) → Within t (asked (Object role.Election) d) → (ms : Members) × (d ≡ object ms) × ObjectAt t (Object role.Election) role.Election class.Election ms
+election_object t none d w = object_at t none role.Election class.Election election_class d w

@@ -1,14 +1,13 @@
 -- Each object stands at its place, and no two have one `@id`.
-use Rattle.std.proofs.Common.{◌≡◌, ◌+◌, ℕ, suc, List, [], ◌∷◌, ◌++◌, Option, Some, flat_map, true, false, codes, Ordering, Less, Equal, Greater, refl, sym, ap, ◌∙◌, subst, ◌⊎◌, inl, inr, ⊎_elim, arith, None, option_map, find}
+use Rattle.std.proofs.Common.{◌≡◌, ◌+◌, ℕ, List, [], ◌∷◌, ◌++◌, Option, Some, flat_map, true, false, codes, Ordering, Less, Equal, Greater, refl, sym, ap, ◌∙◌, subst, arith, None, option_map, find}
 use Rattle.std.specs.Ordering.{ordering_reverse}
 use Rattle.std.specs.Str.{bytes_eq}
 use Rattle.std.specs.Option.{option_map_or}
-use Rattle.serde_json.specs.Data.{Data, array, object, Items, no_items, item, Members}
-use Rattle.serde_json.specs.Find.{get_member, get_item}
+use Rattle.serde_json.specs.Data.{Data, array, object, Members}
+use Rattle.serde_json.specs.Find.{get_member}
 use Rattle.erd_tables.specs.declared.class.Class.{Class}
 use Rattle.erd_tables.specs.declared.class.Family.{Family}
 use Rattle.erd_tables.specs.declared.class.Role.{Role}
-use Rattle.erd_tables.specs.declared.place.Step.{Step}
 use Rattle.erd_tables.specs.declared.place.Step.TheVariants.{At, Name}
 use Rattle.erd_tables.specs.Table.{is_required, kind_of_member}
 use Rattle.erd_tables.specs.Places.{place_cmp}
@@ -20,14 +19,14 @@ use Rattle.erd_tables.specs.declared.class.Role.TheVariants as role
 use Rattle.erd_tables.specs.declared.member.MemberKind.TheVariants as kind
 use Rattle.erd_tables.specs.declared.fault.Reason.TheVariants as reason
 use Rattle.erd_check.specs.declared.want.Want.{Want}
-use Rattle.erd_check.proofs.Rising.{Has, Has-cases, here, later}
+use Rattle.erd_check.proofs.Rising.{Has, here, later}
 use Rattle.erd_check.proofs.ObjectsAt.{MayBeArray, ObjectAt, ObjectIn, is_filled_array, keyed_list, is_absent, object_in}
 use Rattle.erd_check.specs.declared.want.Want.TheVariants.{Member, Object}
 use Rattle.erd_check.proofs.Shapes.{Within, asked_inside_object, asked_at-step}
 use Rattle.erd_check.specs.Faults.{NoneOf, ShapeFault}
-use Rattle.erd_check.specs.Wants.{asked, asked_inside, asked_at}
+use Rattle.erd_check.specs.Wants.{asked, asked_at}
 use Rattle.erd_check.proofs.Entries.{entries_in}
-use Rattle.erd_check.specs.Values.{list_of_items, entries_at}
+use Rattle.erd_check.specs.Values.{entries_at}
 use Rattle.erd_check.proofs.Exact.{text_exact, text_itself}
 use Rattle.erd_check.proofs.TableKinds.{want_by_kind}
 use Rattle.erd_meaning.specs.declared.keys.key.Key.{Key}
@@ -35,25 +34,13 @@ use Rattle.erd_meaning.proofs.accepted.References.{Contains-Has, find-Some, find
 use Rattle.erd_meaning.specs.Accepted.{IsAccepted}
 use Rattle.erd_meaning.specs.LaterFaults.{IsBefore}
 use Rattle.erd_meaning.specs.Objects.{Placed, contests, elections, has_id, id_of, objects, owner, placed_entries, placed_from, report_of, selections_of_contest}
-use Rattle.erd_meaning.proofs.accepted.Skeleton.{Skeleton, election_objects, skeleton_of_shape, the_election}
+use Rattle.erd_meaning.proofs.accepted.HeldObjects.{HeldObject, has-flat, held_object}
+use Rattle.erd_meaning.proofs.accepted.Skeleton.{Skeleton, election_object, election_stands, placed_index, skeleton_of_shape}
 use Rattle.erd_meaning.proofs.orders.Sets.{any-has}
 use Rattle.erd_meaning.specs.Keys.{key_of, has_keys}
 use Rattle.erd_meaning.specs.SelectionNames.{name_of}
 use Rattle.erd_meaning.specs.NameParts.{NameParts}
 use Rattle.erd_meaning.proofs.accepted.Phases.{no_shape_fault, no_identity_fault, no_selection_fault}
-
--- where an entry of an array stands
-placed_index : (p : List Step) (i : ℕ) (ds : Items) (o : Placed) → Has (placed_from p i (list_of_items ds)) o → (j : ℕ) × (o.place ≡ p ++ At (i + j) ∷ []) × (get_item j ds ≡ Some o.value)
-placed_index p i no_items o h = elim h [ ]
-placed_index p i (item d ds) o h = at (Has-cases (record { place = p ++ At i ∷ []; value = d }) o (placed_from p (i + 1) (list_of_items ds)) h) (placed_index p (i + 1) ds o)
-  where
-    Found : Type 0
-    Found = (j : ℕ) × (o.place ≡ p ++ At (i + j) ∷ []) × (get_item j (item d ds) ≡ Some o.value)
-
-    at : (◌≡◌ {A = Placed} (record { place = p ++ At i ∷ []; value = d }) o) ⊎ Has (placed_from p (i + 1) (list_of_items ds)) o
-        → (Has (placed_from p (i + 1) (list_of_items ds)) o → (j : ℕ) × (o.place ≡ p ++ At (i + 1 + j) ∷ []) × (get_item j ds ≡ Some o.value)) → (j : ℕ) × (o.place ≡ p ++ At (i + j) ∷ []) × (get_item j (item d ds) ≡ Some o.value)
-    at (inl e) k = let s : i ≡ i + 0 = omega arith in (0, sym (ap (λ x. x.place) e) ∙ ap (λ n. p ++ At n ∷ []) s, ap (λ x. Some x.value) e)
-    at (inr m) k = let r = k m in let s : i + 1 + r.0 ≡ i + suc r.0 = omega arith in (suc r.0, r.1 ∙ ap (λ n. p ++ At n ∷ []) s, r.2)
 
 -- the objects in an array stand at their places
 entries_found : (t : Data) (parent : Placed) (w : Want) (q : Role) (c : Class) (ms : Members) → parent.value ≡ object ms → ObjectAt t w q c ms → asked_at t parent.place ≡ Some (asked w (object ms))
@@ -77,14 +64,6 @@ placed_found t none parent w q c ms is a stands f name other keyed o h =
     entries_found t parent w q c ms is a stands f name other keyed (get_member name ms) refl (keyed_list t none w q c ms a f name other keyed (get_member name ms) refl) o
     (subst (λ x. Has (placed_from (parent.place ++ Name name ∷ []) 0 (entries_at name x)) o) is h)
 
-election_stands : (t : Data) (s : Skeleton t) → asked_at t (Name (codes "Election") ∷ At 0 ∷ []) ≡ Some (asked (Object role.Election) (object s.es))
-election_stands t s =
-    asked_at-step t (Name (codes "Election") ∷ []) (asked (Member kind.Elections true) (array (item (object s.es) no_items))) (asked (Object role.Election) (object s.es)) (At 0)
-    (asked_at-step t [] (asked (Object role.Report) t) (asked (Member kind.Elections true) (array (item (object s.es) no_items))) (Name (codes "Election")) refl
-    (subst (λ x. asked_inside (Object role.Report) x (Name (codes "Election")) ≡ Some (asked (Member kind.Elections true) (array (item (object s.es) no_items)))) (sym s.is_object)
-    (asked_inside_object (Object role.Report) role.Report s.ms class.ElectionReport (codes "Election") (array (item (object s.es) no_items)) s.report.asks s.report.among refl s.listed_election)))
-    refl
-
 in_report : (t : Data) → NoneOf (ShapeFault t) → (s : Skeleton t) (f : Family) (name : List ℕ) → bytes_eq name (codes "@type") ≡ false → kind_of_member class.ElectionReport name ≡ kind.Keyed f
     → (o : Placed) → Has (placed_entries name (report_of t)) o → asked_at t o.place ≡ Some (asked (Object (role.OfFamily f)) o.value)
 in_report t none s f name other keyed o h =
@@ -93,8 +72,11 @@ in_report t none s f name other keyed o h =
 in_election : (t : Data) → NoneOf (ShapeFault t) → (s : Skeleton t) (f : Family) (name : List ℕ) → bytes_eq name (codes "@type") ≡ false → kind_of_member class.Election name ≡ kind.Keyed f
     → (o : Placed) → Has (flat_map (placed_entries name) (elections t)) o → asked_at t o.place ≡ Some (asked (Object (role.OfFamily f)) o.value)
 in_election t none s f name other keyed o h =
-    placed_found t none (the_election s.es) (Object role.Election) role.Election class.Election s.es refl s.election (election_stands t s) f name other keyed o
-    (subst (λ xs. Has xs o) (election_objects t s name) h)
+    let held : HeldObject t name o = held_object t name o h in
+    let e : Placed = held.election in
+    let stands : asked_at t e.place ≡ Some (asked (Object role.Election) e.value) = election_stands t s e held.stands in
+    let at = election_object t none e.value (record { place = e.place; is = stands }) in
+    placed_found t none e (Object role.Election) role.Election class.Election at.0 at.1 at.2 (stands ∙ ap (λ x. Some (asked (Object role.Election) x)) at.1) f name other keyed o held.holds
 
 -- an object of a family stands at its place
 keyed_stands : (t : Data) → NoneOf (ShapeFault t) → (s : Skeleton t) (f : Family) → has_keys f ≡ true → (o : Placed) → Has (objects f t) o → asked_at t o.place ≡ Some (asked (Object (role.OfFamily f)) o.value)
@@ -107,14 +89,6 @@ keyed_stands t none s family.Candidate k o h = in_election t none s family.Candi
 keyed_stands t none s family.Contest k o h = in_election t none s family.Contest (codes "Contest") refl refl o h
 keyed_stands t none s family.Style k o h = in_election t none s family.Style (codes "BallotStyle") refl refl o h
 keyed_stands t none s family.Selection k o h = cc
-
-has-append : {A : Type 0} (xs ys : List A) (x : A) → Has (xs ++ ys) x → Has xs x ⊎ Has ys x
-has-append [] ys x h = inr h
-has-append (z ∷ xs) ys x h = ⊎_elim (λ e. inl (subst (Has (z ∷ xs)) e here)) (λ k. ⊎_elim (λ l. inl (later l)) inr (has-append xs ys x k)) (Has-cases z x (xs ++ ys) h)
-
-pub has-flat : {A B : Type 0} (f : A → List B) (xs : List A) (y : B) → Has (flat_map f xs) y → (x : A) × Has xs x × Has (f x) y
-has-flat f [] y h = elim h [ ]
-has-flat f (x ∷ xs) y h = ⊎_elim (λ k. (x, here, k)) (λ k. let r = has-flat f xs y k in (r.0, later r.1, r.2)) (has-append (f x) (flat_map f xs) y h)
 
 pub append-has : {A : Type 0} (xs ys : List A) (x : A) → Has ys x → Has (xs ++ ys) x
 append-has [] ys x h = h

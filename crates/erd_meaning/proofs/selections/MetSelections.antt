@@ -12,7 +12,7 @@ use Rattle.erd_check.specs.Values.{entries_at}
 use Rattle.erd_meaning.specs.NameParts.{NameParts}
 use Rattle.erd_meaning.specs.Objects.{Placed, contests, elections, numbered_selections, numbered_selections_of, placed_entries, placed_from}
 use Rattle.erd_meaning.specs.code.SelectionWalk.{NamesMet, named_all, named_one}
-use Rattle.erd_meaning.proofs.accepted.Skeleton.{one_election}
+use Rattle.erd_meaning.proofs.accepted.SoleElection.{sole_value}
 use Rattle.erd_meaning.proofs.identity.MetObjects.{entry}
 
 pub named_all_append : (name : Data → Option NameParts) (m : NamesMet) (xs ys : List (ℕ × Placed)) → named_all name m (xs ++ ys) ≡ named_all name (named_all name m xs) ys
@@ -44,7 +44,7 @@ pub selections_here : (t : Data) → NoneOf (ShapeFault t) → (es cs : List Val
     → e ≡ get_or es 0 e → map view cs ≡ entries_at (codes "Contest") (view e)
     → of_contests_from (Name (codes "Election") ∷ At 0 ∷ Name (codes "Contest") ∷ []) 0 cs ≡ numbered_selections t
 selections_here t none es cs e are is listed =
-    let found = one_election t none es are in
+    let found = sole_value t none es are in
     let same : e ≡ found.one = is ∙ ap (λ (vs : List Value). get_or vs 0 e) found.alone in
     let one : entries_at (codes "Election") t ≡ view e ∷ [] = sym are ∙ ap (map view) (found.alone ∙ ap (λ v. v ∷ []) (sym same)) in
     let parent : Placed = record { place = Name (codes "Election") ∷ At 0 ∷ []; value = view e } in

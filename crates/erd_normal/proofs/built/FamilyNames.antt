@@ -19,9 +19,10 @@ use Rattle.erd_check.proofs.Entries.{entries_in}
 use Rattle.erd_check.proofs.Exact.{text_exact}
 use Rattle.erd_check.proofs.TableKinds.{kind_of_id, kind_of_name}
 use Rattle.erd_meaning.proofs.accepted.Skeleton.{Skeleton}
+use Rattle.erd_meaning.proofs.accepted.SoleElection.{SoleElection, values_in_sole}
 use Rattle.erd_meaning.specs.Objects.{objects}
 use Rattle.erd_normal.proofs.built.AskedMembers.{kind_of_type}
-use Rattle.erd_normal.proofs.unique.FamilyArrays.{values_of}
+use Rattle.erd_normal.proofs.unique.FamilyArrays.{values_in_report}
 
 -- the name of the member that holds the objects of a family
 abbrev pub family_name : Family → List ℕ
@@ -76,16 +77,17 @@ contest_of_selections c f r is = cc
 
 pub report_objects : (t : Data) (s : Skeleton t) (f : Family) (d : Data) → kind_of_member class.ElectionReport (family_name f) ≡ kind.Keyed f → get_member (family_name f) s.ms ≡ Some d
     → map (λ o. o.value) (objects f t) ≡ entries_of d
-report_objects t s family.Unit d is stands = values_of t s family.Unit refl ∙ ap entries_in stands
-report_objects t s family.Party d is stands = values_of t s family.Party refl ∙ ap entries_in stands
-report_objects t s family.Person d is stands = values_of t s family.Person refl ∙ ap entries_in stands
-report_objects t s family.Office d is stands = values_of t s family.Office refl ∙ ap entries_in stands
-report_objects t s family.Header d is stands = values_of t s family.Header refl ∙ ap entries_in stands
+report_objects t s family.Unit d is stands = values_in_report t s (codes "GpUnit") ∙ ap entries_in stands
+report_objects t s family.Party d is stands = values_in_report t s (codes "Party") ∙ ap entries_in stands
+report_objects t s family.Person d is stands = values_in_report t s (codes "Person") ∙ ap entries_in stands
+report_objects t s family.Office d is stands = values_in_report t s (codes "Office") ∙ ap entries_in stands
+report_objects t s family.Header d is stands = values_in_report t s (codes "Header") ∙ ap entries_in stands
 report_objects t s f d is stands = cc
 
-pub election_objects_are : (t : Data) (s : Skeleton t) (f : Family) (d : Data) → kind_of_member class.Election (family_name f) ≡ kind.Keyed f → get_member (family_name f) s.es ≡ Some d
+-- in the one election
+pub election_objects_are : (t : Data) (s : Skeleton t) (sole : SoleElection t s) (f : Family) (d : Data) → kind_of_member class.Election (family_name f) ≡ kind.Keyed f → get_member (family_name f) sole.members ≡ Some d
     → map (λ o. o.value) (objects f t) ≡ entries_of d
-election_objects_are t s family.Candidate d is stands = values_of t s family.Candidate refl ∙ ap entries_in stands
-election_objects_are t s family.Contest d is stands = values_of t s family.Contest refl ∙ ap entries_in stands
-election_objects_are t s family.Style d is stands = values_of t s family.Style refl ∙ ap entries_in stands
-election_objects_are t s f d is stands = cc
+election_objects_are t s sole family.Candidate d is stands = values_in_sole t s sole (codes "Candidate") ∙ ap entries_in stands
+election_objects_are t s sole family.Contest d is stands = values_in_sole t s sole (codes "Contest") ∙ ap entries_in stands
+election_objects_are t s sole family.Style d is stands = values_in_sole t s sole (codes "BallotStyle") ∙ ap entries_in stands
+election_objects_are t s sole f d is stands = cc

@@ -1,5 +1,5 @@
 -- The objects of each family in the report that is built: those of the report, built, in the order of their keys.
-use Rattle.std.proofs.Common.{◌≡◌, ℕ, List, [], ◌∷◌, map, flat_map, true, false, Some, codes, refl, sym, ap, ◌∙◌, append-nil}
+use Rattle.std.proofs.Common.{◌≡◌, ℕ, List, [], ◌∷◌, ◌++◌, ap₂, map, flat_map, true, false, Some, codes, refl, sym, ap, ◌∙◌, append-nil}
 use Rattle.serde_json.specs.Data.{Data, object}
 use Rattle.erd_tables.specs.Table.{is_envelope_name, kind_of_member}
 use Rattle.erd_tables.specs.declared.class.Class.{Class}
@@ -8,18 +8,19 @@ use Rattle.erd_tables.specs.declared.class.Family.{Family}
 use Rattle.erd_tables.specs.declared.class.Family.TheVariants as family
 use Rattle.erd_tables.specs.declared.class.Role.TheVariants as role
 use Rattle.erd_tables.specs.declared.member.MemberKind.TheVariants as kind
-use Rattle.erd_tables.specs.declared.place.Step.TheVariants.{At, Name}
+use Rattle.erd_tables.specs.declared.place.Step.TheVariants.{Name}
 use Rattle.erd_check.specs.Faults.{NoneOf, ShapeFault}
 use Rattle.erd_check.specs.Trees.{IsTree}
 use Rattle.erd_check.specs.Wants.{asked, class_of_object}
 use Rattle.erd_check.specs.declared.want.Want.TheVariants.{Object}
-use Rattle.erd_check.proofs.Entries.{entries_in}
-use Rattle.erd_check.proofs.Shapes.{within-tree}
+use Rattle.erd_check.proofs.Shapes.{Within, within-tree}
+use Rattle.erd_check.proofs.Rising.{Has, here, later}
 use Rattle.erd_meaning.specs.Keys.{has_keys}
-use Rattle.erd_check.specs.Values.{entries_at}
-use Rattle.erd_meaning.specs.Objects.{Placed, elections, objects, placed_entries, placed_from, report_of}
+use Rattle.erd_check.specs.Values.{entries_at, list_of_items}
+use Rattle.erd_meaning.specs.Objects.{elections, objects, placed_entries, placed_from, report_of}
 use Rattle.erd_meaning.specs.SelectionNames.{rising_list}
-use Rattle.erd_meaning.proofs.accepted.Skeleton.{Skeleton, election_objects, skeleton_of_shape, the_election, values-placed_entries}
+use Rattle.erd_meaning.proofs.accepted.Skeleton.{Skeleton, election_entries, election_object, election_within, skeleton_of_shape, values-placed_entries, values-placed_flat, values-placed_from}
+use Rattle.erd_meaning.proofs.accepted.SoleElection.{SoleElection, sole_election, values_in_sole}
 use Rattle.erd_meaning.proofs.accepted.Standing.{contest_selections}
 use Rattle.erd_normal.specs.code.NormalTree.{by_key, by_name, normal_election, normal_object, normal_selection, normal_tree}
 use Rattle.erd_normal.proofs.built.NormalEntries.{entries_of_election, entries_of_elections, entries_of_report, entries_of_selections}
@@ -39,6 +40,11 @@ pub selections_built : (t : Data) (c : Class) (d : Data) → IsTree d → class_
 selections_built t c d tree among =
     entries_of_selections t family.Contest c d tree among (codes "ContestSelection") refl (contest_selections c (class_has_role (role.OfFamily family.Contest) c d among))
 
+-- what stands in each value, made of another
+flat_map_mapped : {A B C : Type 0} (f : A → B) (g : B → List C) (h : A → List C) (xs : List A) → ((x : A) → Has xs x → g (f x) ≡ h x) → flat_map g (map f xs) ≡ flat_map h xs
+flat_map_mapped f g h [] each = refl
+flat_map_mapped f g h (x ∷ xs) each = ap₂ ◌++◌ (each x here) (flat_map_mapped f g h xs (λ y i. each y (later i)))
+
 module _ (t : Data) (clean : NoneOf (ShapeFault t)) (tree : IsTree t) where
   in_report : (f : Family) (name : List ℕ) → is_envelope_name name ≡ false → kind_of_member class.ElectionReport name ≡ kind.Keyed f
       → map (λ o. o.value) (placed_entries name (report_of (normal_tree t))) ≡ built_objects t f (map (λ o. o.value) (placed_entries name (report_of t)))
@@ -46,25 +52,38 @@ module _ (t : Data) (clean : NoneOf (ShapeFault t)) (tree : IsTree t) where
       values-placed_entries name (report_of (normal_tree t)) ∙ entries_of_report t clean tree f name other is ∙ ap (built_objects t f) (sym (values-placed_entries name (report_of t)))
 
   module _ (s : Skeleton t) where
-    -- the election that is built
-    abbrev built_election : Placed
-    built_election = record { place = Name (codes "Election") ∷ At 0 ∷ []; value = normal_election t (object s.es) }
+    -- the elections that are built
+    pub elections_built : elections (normal_tree t) ≡ placed_from (Name (codes "Election") ∷ []) 0 (map (normal_election t) (list_of_items s.es))
+    elections_built = ap (placed_from (Name (codes "Election") ∷ []) 0) (entries_of_elections t clean tree ∙ ap (map (normal_election t)) (election_entries t s))
 
-    one_election : entries_at (codes "Election") t ≡ object s.es ∷ []
-    one_election = ap (entries_at (codes "Election")) s.is_object ∙ ap entries_in s.listed_election
+    -- what stands in an election that is built
+    in_one_election : (f : Family) (name : List ℕ) → kind_of_member class.Election name ≡ kind.Keyed f → (d : Data) → Has (list_of_items s.es) d
+        → entries_at name (normal_election t d) ≡ built_objects t f (entries_at name d)
+    in_one_election f name is d h =
+        let w : Within t (asked (Object role.Election) d) = election_within t s d h in
+        let o = election_object t clean d w in
+        entries_of_election t clean tree d (within-tree t (asked (Object role.Election) d) tree w) (ap (class_of_object role.Election) o.1 ∙ o.2.among) f name is
 
-    pub elections_built : elections (normal_tree t) ≡ built_election ∷ []
-    elections_built = ap (placed_from (Name (codes "Election") ∷ []) 0) (entries_of_elections t clean tree ∙ ap (map (normal_election t)) one_election)
+    -- what stands in the elections that are built, one after another
+    pub in_elections : (f : Family) (name : List ℕ) → kind_of_member class.Election name ≡ kind.Keyed f
+        → map (λ o. o.value) (flat_map (placed_entries name) (elections (normal_tree t))) ≡ flat_map (λ d. built_objects t f (entries_at name d)) (list_of_items s.es)
+    in_elections f name is =
+        values-placed_flat name (elections (normal_tree t))
+        ∙ ap (flat_map (entries_at name)) (ap (map (λ o. o.value)) elections_built ∙ values-placed_from (Name (codes "Election") ∷ []) 0 (map (normal_election t) (list_of_items s.es)))
+        ∙ flat_map_mapped (normal_election t) (entries_at name) (λ d. built_objects t f (entries_at name d)) (list_of_items s.es) (in_one_election f name is)
 
-    pub built_in_election : (name : List ℕ) → flat_map (placed_entries name) (elections (normal_tree t)) ≡ placed_entries name built_election
-    built_in_election name = ap (flat_map (placed_entries name)) elections_built ∙ append-nil (placed_entries name built_election)
-
-    in_election : (f : Family) (name : List ℕ) → kind_of_member class.Election name ≡ kind.Keyed f
+    -- and in the one election
+    in_sole_election : SoleElection t s → (f : Family) (name : List ℕ) → kind_of_member class.Election name ≡ kind.Keyed f
         → map (λ o. o.value) (flat_map (placed_entries name) (elections (normal_tree t))) ≡ built_objects t f (map (λ o. o.value) (flat_map (placed_entries name) (elections t)))
-    in_election f name is =
-        ap (map (λ o. o.value)) (built_in_election name) ∙ values-placed_entries name built_election
-        ∙ entries_of_election t clean tree (object s.es) (within-tree t (asked (Object role.Election) (object s.es)) tree s.election.inside) s.election.among f name is
-        ∙ ap (built_objects t f) (sym (values-placed_entries name (the_election s.es)) ∙ sym (ap (map (λ o. o.value)) (election_objects t s name)))
+    in_sole_election sole f name is =
+        in_elections f name is
+        ∙ ap (λ ds. flat_map (λ d. built_objects t f (entries_at name d)) (list_of_items ds)) sole.alone
+        ∙ append-nil (built_objects t f (entries_at name (object sole.members)))
+        ∙ ap (built_objects t f) (sym (values_in_sole t s sole name))
+
+  in_election : (f : Family) (name : List ℕ) → kind_of_member class.Election name ≡ kind.Keyed f
+      → map (λ o. o.value) (flat_map (placed_entries name) (elections (normal_tree t))) ≡ built_objects t f (map (λ o. o.value) (flat_map (placed_entries name) (elections t)))
+  in_election f name is = let s : Skeleton t = skeleton_of_shape t clean in in_sole_election s (sole_election t clean s) f name is
 
   -- the objects of one of the first eight families
   pub objects_built : (f : Family) → has_keys f ≡ true → values_of f (normal_tree t) ≡ built_objects t f (values_of f t)
@@ -73,7 +92,7 @@ module _ (t : Data) (clean : NoneOf (ShapeFault t)) (tree : IsTree t) where
   objects_built family.Person k = in_report family.Person (codes "Person") refl refl
   objects_built family.Office k = in_report family.Office (codes "Office") refl refl
   objects_built family.Header k = in_report family.Header (codes "Header") refl refl
-  objects_built family.Candidate k = in_election (skeleton_of_shape t clean) family.Candidate (codes "Candidate") refl
-  objects_built family.Contest k = in_election (skeleton_of_shape t clean) family.Contest (codes "Contest") refl
-  objects_built family.Style k = in_election (skeleton_of_shape t clean) family.Style (codes "BallotStyle") refl
+  objects_built family.Candidate k = in_election family.Candidate (codes "Candidate") refl
+  objects_built family.Contest k = in_election family.Contest (codes "Contest") refl
+  objects_built family.Style k = in_election family.Style (codes "BallotStyle") refl
   objects_built family.Selection k = cc

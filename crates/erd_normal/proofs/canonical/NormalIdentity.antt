@@ -16,7 +16,7 @@ use Rattle.erd_meaning.specs.LaterFaults.{IdentityFault, IsBefore, LacksIdentifi
 use Rattle.erd_meaning.specs.Objects.{Placed, contests, id_of, objects, selections_of_contest}
 use Rattle.erd_meaning.specs.SelectionNames.{rising_list}
 use Rattle.erd_meaning.proofs.accepted.References.{Has-Contains, has_identifier}
-use Rattle.erd_meaning.proofs.accepted.Standing.{has-flat}
+use Rattle.erd_meaning.proofs.accepted.HeldObjects.{has-flat}
 use Rattle.erd_normal.specs.code.NormalTree.{by_key, normal_tree, rank_of}
 use Rattle.erd_normal.specs.code.ObjectNumbers.{IsBounded}
 use Rattle.erd_normal.proofs.canonical.CanonicalIds.{canonical_id_exact, selection_id_apart}

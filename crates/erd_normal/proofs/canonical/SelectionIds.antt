@@ -17,7 +17,8 @@ use Rattle.erd_meaning.proofs.accepted.Phases.{no_shape_fault}
 use Rattle.erd_meaning.proofs.accepted.References.{find-any}
 use Rattle.erd_meaning.proofs.orders.Sets.{any-has}
 use Rattle.erd_meaning.proofs.accepted.Skeleton.{values-placed_entries}
-use Rattle.erd_meaning.proofs.accepted.Standing.{flat-has, has-flat, has_id-Some, has_id-from}
+use Rattle.erd_meaning.proofs.accepted.HeldObjects.{has-flat}
+use Rattle.erd_meaning.proofs.accepted.Standing.{flat-has, has_id-Some, has_id-from}
 use Rattle.erd_normal.specs.Canonical.{HasCanonicalIds, canonical_selection_id}
 use Rattle.erd_normal.specs.code.NormalTree.{by_key, by_name, id_of_selection, normal_object, normal_selection, normal_selection_reference, normal_tree, selection_with}
 use Rattle.erd_normal.proofs.canonical.Bounds.{few_selections}

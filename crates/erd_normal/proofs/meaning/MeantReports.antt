@@ -1,12 +1,12 @@
 -- The report that is built means what the report means.
 use mathlib.Core.Path.{fun_ext}
-use Rattle.std.proofs.Common.{◌≡◌, ℕ, List, find, slice_get, Bool, true, false, if◌then◌else◌, Equal, Option, Some, None, option_and_then, refl, sym, ap, ap₂, ◌∙◌}
+use Rattle.std.proofs.Common.{◌≡◌, ℕ, List, [], ◌∷◌, ◌++◌, map, codes, subst, find, slice_get, Bool, true, false, if◌then◌else◌, Equal, Option, Some, None, option_and_then, refl, sym, ap, ap₂, ◌∙◌}
 use Rattle.std.proofs.lemmas.Cmp.{tied_itself}
 use Rattle.std.specs.Cmp.Lexicographic.{options_total}
 use Rattle.std.specs.List.{AllByRecursion}
 use Rattle.std.specs.Option.{option_cmp}
 use Rattle.std.specs.Ordering.{is_eq}
-use Rattle.serde_json.specs.Data.{Data, object}
+use Rattle.serde_json.specs.Data.{Data, object, Members}
 use Rattle.serde_json.specs.Find.{as_str, get}
 use Rattle.erd_tables.specs.Classes.{class_in_role}
 use Rattle.erd_tables.specs.Table.{is_envelope_name, kind_of_member}
@@ -16,21 +16,25 @@ use Rattle.erd_tables.specs.declared.class.Family.TheVariants as family
 use Rattle.erd_tables.specs.declared.class.Role.TheVariants as role
 use Rattle.erd_tables.specs.declared.member.MemberKind.{MemberKind}
 use Rattle.erd_tables.specs.declared.member.MemberKind.TheVariants as kind
+use Rattle.erd_tables.specs.declared.place.Step.{Step}
+use Rattle.erd_tables.specs.declared.place.Step.TheVariants.{At, Name}
 use Rattle.erd_check.specs.Faults.{NoneOf, ShapeFault}
 use Rattle.erd_check.specs.Trees.{IsTree}
-use Rattle.erd_check.specs.Wants.{asked}
+use Rattle.erd_check.specs.Values.{list_of_items}
+use Rattle.erd_check.specs.Wants.{asked, class_of_object}
 use Rattle.erd_check.specs.declared.want.Want.TheVariants.{Object}
-use Rattle.erd_check.proofs.Rising.{Has}
-use Rattle.erd_check.proofs.Shapes.{within-tree}
+use Rattle.erd_check.proofs.Rising.{Has, here}
+use Rattle.erd_check.proofs.ObjectsAt.{ObjectAt}
+use Rattle.erd_check.proofs.Shapes.{Within, within-tree}
 use Rattle.erd_meaning.specs.Keys.{has_keys, key_cmp, key_of}
 use Rattle.erd_meaning.specs.Meaning.{Meaning, ObjectRecord}
-use Rattle.erd_meaning.specs.Objects.{Placed, elections, objects}
+use Rattle.erd_meaning.specs.Objects.{Placed, elections, objects, placed_from}
 use Rattle.erd_meaning.specs.code.Orders.{key_cmp_total}
 use Rattle.erd_meaning.specs.Records.{meaning, member_of_class, object_record, object_with_key, plain_member, plain_value, records_of}
 use Rattle.erd_meaning.specs.declared.keys.key.Key.{Key}
 use Rattle.erd_meaning.proofs.orders.EqualNames.{equal_keys, options_exact}
 use Rattle.erd_meaning.proofs.accepted.Phases.{no_shape_fault}
-use Rattle.erd_meaning.proofs.accepted.Skeleton.{Skeleton, elections_are, skeleton_of_shape}
+use Rattle.erd_meaning.proofs.accepted.Skeleton.{Skeleton, election_object, election_stands, elections_placed, skeleton_of_shape}
 use Rattle.erd_normal.specs.code.NormalTree.{by_key, normal_election, normal_election_value, normal_object, normal_report_value, normal_tree, normal_value}
 use Rattle.erd_normal.proofs.built.AskedMembers.{AskedAs, asked_as}
 use Rattle.erd_normal.proofs.lists.BuiltLists.{all_map}
@@ -103,36 +107,53 @@ module _ (t : Data) (facts : Facts t) where
   election_value_meant (kind.Keyed f) v flat a = nothing_of (plain_value (normal_tree t) (kind.Keyed f)) (normal_election_value t (kind.Keyed f) v) (λ x. refl)
   election_value_meant k v flat a = value_meant t facts.accepted facts.tree facts.few k v flat a
 
-  -- the election of the report
-  abbrev the_one : Data
-  the_one = object skeleton.es
+  -- an election of the report
+  module _ (e : Placed) (h : Has (elections t) e) where
+    election_here : Within t (asked (Object role.Election) e.value)
+    election_here = record { place = e.place; is = election_stands t skeleton e h }
 
-  election_tree : IsTree the_one
-  election_tree = within-tree t (asked (Object role.Election) the_one) facts.tree skeleton.election.inside
+    election_tree : IsTree e.value
+    election_tree = within-tree t (asked (Object role.Election) e.value) facts.tree election_here
 
-  election_member : (name : List ℕ) → member_of_class (normal_tree t) (normal_election t the_one) class.Election name ≡ member_of_class t the_one class.Election name
-  election_member name =
-      let flat : is_flat (kind_of_member class.Election name) ≡ true = kind_is_flat class.Election name refl in
-      plain_members t (normal_tree t) (kind_of_member class.Election name) (get name the_one) (get name (normal_election t the_one))
-      (plain_member t the_one class.Election name) (plain_member (normal_tree t) (normal_election t the_one) class.Election name)
-      (flat_no_selections (kind_of_member class.Election name) flat)
-      (member_alike t (normal_tree t) the_one (normal_election t the_one) class.Election name
-      (plain_kept t (normal_tree t) (kind_of_member class.Election name) (normal_election_value t (kind_of_member class.Election name)) (get name the_one) (get name (normal_election t the_one))
-      (get_election t the_one election_tree skeleton.election.among name)
-      (λ v found. election_value_meant (kind_of_member class.Election name) v flat
-      (asked_as t clean (Object role.Election) role.Election class.Election skeleton.es skeleton.election name v found))))
+    abbrev this : (ms : Members) × (e.value ≡ object ms) × ObjectAt t (Object role.Election) role.Election class.Election ms
+    this = election_object t clean e.value election_here
 
-  election_meant : object_record (normal_tree t) role.Election (normal_election t the_one) ≡ object_record t role.Election the_one
-  election_meant =
-      record_alike (member_of_class (normal_tree t) (normal_election t the_one)) (member_of_class t the_one) role.Election (normal_election t the_one) the_one class.Election
-      (ap (λ o. option_and_then (class_in_role role.Election) (option_and_then as_str o)) (get_election-type t the_one election_tree skeleton.election.among) ∙ skeleton.election.among)
-      skeleton.election.among election_member
+    election_classed : class_of_object role.Election e.value ≡ Some class.Election
+    election_classed = ap (class_of_object role.Election) this.1 ∙ this.2.among
+
+    election_member : (name : List ℕ) → member_of_class (normal_tree t) (normal_election t e.value) class.Election name ≡ member_of_class t e.value class.Election name
+    election_member name =
+        let flat : is_flat (kind_of_member class.Election name) ≡ true = kind_is_flat class.Election name refl in
+        plain_members t (normal_tree t) (kind_of_member class.Election name) (get name e.value) (get name (normal_election t e.value))
+        (plain_member t e.value class.Election name) (plain_member (normal_tree t) (normal_election t e.value) class.Election name)
+        (flat_no_selections (kind_of_member class.Election name) flat)
+        (member_alike t (normal_tree t) e.value (normal_election t e.value) class.Election name
+        (plain_kept t (normal_tree t) (kind_of_member class.Election name) (normal_election_value t (kind_of_member class.Election name)) (get name e.value) (get name (normal_election t e.value))
+        (get_election t e.value election_tree election_classed name)
+        (λ v found. election_value_meant (kind_of_member class.Election name) v flat
+        (asked_as t clean (Object role.Election) role.Election class.Election this.0 this.2 name v (sym (ap (get name) this.1) ∙ found)))))
+
+    pub election_meant : object_record (normal_tree t) role.Election (normal_election t e.value) ≡ object_record t role.Election e.value
+    election_meant =
+        record_alike (member_of_class (normal_tree t) (normal_election t e.value)) (member_of_class t e.value) role.Election (normal_election t e.value) e.value class.Election
+        (ap (λ o. option_and_then (class_in_role role.Election) (option_and_then as_str o)) (get_election-type t e.value election_tree election_classed) ∙ election_classed)
+        election_classed election_member
 
   abbrev first_record : Data → List Placed → Option ObjectRecord
   first_record u os = option_and_then (λ (o : Placed). object_record u role.Election o.value) (slice_get os 0)
 
+  first_meant : (p : List Step) (ds : List Data)
+      → ((e : Placed) → Has (placed_from p 0 ds) e → object_record (normal_tree t) role.Election (normal_election t e.value) ≡ object_record t role.Election e.value)
+      → first_record (normal_tree t) (placed_from p 0 (map (normal_election t) ds)) ≡ first_record t (placed_from p 0 ds)
+  first_meant p [] each = refl
+  first_meant p (d ∷ ds) each = each (record { place = p ++ At 0 ∷ []; value = d }) here
+
   pub elections_meant : first_record (normal_tree t) (elections (normal_tree t)) ≡ first_record t (elections t)
-  elections_meant = ap (first_record (normal_tree t)) (elections_built t clean facts.tree skeleton) ∙ election_meant ∙ sym (ap (first_record t) (elections_are t skeleton))
+  elections_meant =
+      let placed = elections_placed t skeleton in
+      ap (first_record (normal_tree t)) (elections_built t clean facts.tree skeleton)
+      ∙ first_meant (Name (codes "Election") ∷ []) (list_of_items skeleton.es) (λ e h. election_meant e (subst (λ os. Has os e) (sym placed) h))
+      ∙ sym (ap (first_record t) placed)
 
   -- ---- the report
 

@@ -22,6 +22,7 @@ use Rattle.erd_check.proofs.Rising.{Has}
 use Rattle.erd_check.proofs.Shapes.{Within, within-tree}
 use Rattle.erd_meaning.proofs.accepted.Phases.{no_shape_fault}
 use Rattle.erd_meaning.proofs.accepted.Skeleton.{Skeleton, skeleton}
+use Rattle.erd_meaning.proofs.accepted.SoleElection.{SoleElection, sole_election, sole_listed}
 use Rattle.erd_meaning.proofs.accepted.Standing.{stands}
 use Rattle.erd_meaning.specs.Accepted.{IsAccepted}
 use Rattle.erd_meaning.specs.Keys.{has_keys}
@@ -109,27 +110,27 @@ module _ (t : Data) (accepted : IsAccepted t) (tree : IsTree t) where
 
   -- ---- the election
 
-  module _ (s : Skeleton t) where
+  module _ (s : Skeleton t) (sole : SoleElection t s) where
     keyed_in_election : (f : Family) → kind_of_member class.Election (family_name f) ≡ kind.Keyed f → has_keys f ≡ true
     keyed_in_election family.Selection is = cc
     keyed_in_election f is = refl
 
-    election_value : (name : List ℕ) (v : Data) → get_member name s.es ≡ Some v → (k : MemberKind) → kind_of_member class.Election name ≡ k → placed_election_value t k v ≡ normal_election_value t k v
+    election_value : (name : List ℕ) (v : Data) → get_member name sole.members ≡ Some v → (k : MemberKind) → kind_of_member class.Election name ≡ k → placed_election_value t k v ≡ normal_election_value t k v
     election_value name v found (kind.Keyed f) named =
         let called : name ≡ family_name f = keyed_name class.Election name f named in
         let is : kind_of_member class.Election (family_name f) ≡ kind.Keyed f = ap (kind_of_member class.Election) (sym called) ∙ named in
         ap (λ ds. unless_no_entry v (array_of ds))
-        (objects_agree f (keyed_in_election f is) (entries_of v) (election_objects_are t s f v is (ap (λ n. get_member n s.es) (sym called) ∙ found)))
+        (objects_agree f (keyed_in_election f is) (entries_of v) (election_objects_are t s sole f v is (ap (λ n. get_member n sole.members) (sym called) ∙ found)))
     election_value name v found k named = refl
 
-    election_agrees : placed_election t (object s.es) ≡ normal_election t (object s.es)
+    election_agrees : placed_election t (object sole.members) ≡ normal_election t (object sole.members)
     election_agrees =
         let left : Builder = λ name k v. placed_election_value t k v in
         let right : Builder = λ name k v. normal_election_value t k v in
-        let trees : AreMembers s.es = within-tree t (asked (Object role.Election) (object s.es)) tree s.election.inside in
-        let members : normal_object_with left (Some class.Election) (object s.es) ≡ normal_object_with right (Some class.Election) (object s.es) =
-        ap object (members_agree left right class.Election s.es trees (λ name v found. election_value name v found (kind_of_member class.Election name) refl)) in
-        ap (λ c. normal_object_with left c (object s.es)) s.election.among ∙ (members ∙ sym (ap (λ c. normal_object_with right c (object s.es)) s.election.among))
+        let trees : AreMembers sole.members = within-tree t (asked (Object role.Election) (object sole.members)) tree sole.at.inside in
+        let members : normal_object_with left (Some class.Election) (object sole.members) ≡ normal_object_with right (Some class.Election) (object sole.members) =
+        ap object (members_agree left right class.Election sole.members trees (λ name v found. election_value name v found (kind_of_member class.Election name) refl)) in
+        ap (λ c. normal_object_with left c (object sole.members)) sole.at.among ∙ (members ∙ sym (ap (λ c. normal_object_with right c (object sole.members)) sole.at.among))
 
     -- ---- the report
 
@@ -145,8 +146,8 @@ module _ (t : Data) (accepted : IsAccepted t) (tree : IsTree t) where
         (objects_agree f (keyed_in_report f is) (entries_of v) (report_objects t s f v is (ap (λ n. get_member n s.ms) (sym called) ∙ found)))
     report_value name v found kind.Elections named =
         let called : name ≡ codes "Election" = elections_name class.ElectionReport name named in
-        let one : Some v ≡ Some (array (item (object s.es) no_items)) = sym found ∙ (ap (λ n. get_member n s.ms) called ∙ s.listed_election) in
-        let same : v ≡ array (item (object s.es) no_items) = cc in
+        let one : Some v ≡ Some (array (item (object sole.members) no_items)) = sym found ∙ (ap (λ n. get_member n s.ms) called ∙ sole_listed t s sole) in
+        let same : v ≡ array (item (object sole.members) no_items) = cc in
         subst (λ x. Some (array_of (map (placed_election t) (entries_of x))) ≡ Some (array_of (map (normal_election t) (entries_of x)))) (sym same)
         (ap (λ d. Some (array_of (d ∷ []))) election_agrees)
     report_value name v found k named = refl
@@ -163,4 +164,4 @@ module _ (t : Data) (accepted : IsAccepted t) (tree : IsTree t) where
 
   -- the tree with numbers by places is the tree that is built
   pub placed_is_normal : placed_tree t ≡ normal_tree t
-  placed_is_normal = report_agrees (skeleton t accepted)
+  placed_is_normal = let s : Skeleton t = skeleton t accepted in report_agrees s (sole_election t (no_shape_fault t accepted) s)

@@ -23,6 +23,7 @@ use Rattle.erd_check.proofs.Exact.{text_exact}
 use Rattle.erd_check.proofs.Shapes.{Within}
 use Rattle.erd_check.proofs.TableKinds.{kind_of_class}
 use Rattle.erd_meaning.proofs.accepted.Skeleton.{Skeleton, skeleton_of_shape}
+use Rattle.erd_meaning.proofs.accepted.SoleElection.{SoleElection, sole_election, sole_listed}
 use Rattle.erd_meaning.specs.Keys.{has_keys}
 use Rattle.erd_meaning.specs.Objects.{objects}
 use Rattle.erd_normal.specs.code.NormalTree.{array_of, normal_election, normal_election_value, normal_objects, normal_report_value, normal_tree, normal_value}
@@ -88,6 +89,9 @@ module _ (t : Data) (clean : NoneOf (ShapeFault t)) (tree : IsTree t) (P : Asked
   abbrev s : Skeleton t
   s = skeleton_of_shape t clean
 
+  abbrev sole : SoleElection t s
+  sole = sole_election t clean s
+
   abbrev plain : HoldsOfMembers t P
   plain = holds.parts.members
 
@@ -102,30 +106,30 @@ module _ (t : Data) (clean : NoneOf (ShapeFault t)) (tree : IsTree t) (P : Asked
   election_member kind.Content required d v is all w given = cc
   election_member k required d v is all w given = throughout_value t clean tree P plain k required d v is w given
 
-  throughout_election : Throughout P (asked (Object role.Election) (normal_election t (object s.es)))
+  throughout_election : Throughout P (asked (Object role.Election) (normal_election t (object sole.members)))
   throughout_election =
-      throughout_object t clean tree P plain (election_builder t) no_name role.Election class.Election s.es (normal_election t (object s.es)) (built_election t clean tree s.es (object s.es) refl s.election)
-      (holds.election (object s.es) s.election.inside) (λ name v is found. cc) built
+      throughout_object t clean tree P plain (election_builder t) no_name role.Election class.Election sole.members (normal_election t (object sole.members)) (built_election t clean tree sole.members (object sole.members) refl sole.at)
+      (holds.election (object sole.members) sole.at.inside) (λ name v is found. cc) built
     where
-      family : (name : List ℕ) (from : Data) → get_member name s.es ≡ Some from → (f : Family) → kind_of_member class.Election name ≡ kind.Keyed f → map (λ o. o.value) (objects f t) ≡ entries_of from
+      family : (name : List ℕ) (from : Data) → get_member name sole.members ≡ Some from → (f : Family) → kind_of_member class.Election name ≡ kind.Keyed f → map (λ o. o.value) (objects f t) ≡ entries_of from
       family name from stands f is =
           let named : name ≡ family_name f = keyed_name class.Election name f is in
-          election_objects_are t s f from (ap (kind_of_member class.Election) (sym named) ∙ is) (ap (λ n. get_member n s.es) (sym named) ∙ stands)
+          election_objects_are t s sole f from (ap (kind_of_member class.Election) (sym named) ∙ is) (ap (λ n. get_member n sole.members) (sym named) ∙ stands)
 
-      built : (name : List ℕ) (v : Data) → BuiltFrom t (election_builder t) class.Election s.es name v → Throughout P (asked (member_want class.Election name) v)
+      built : (name : List ℕ) (v : Data) → BuiltFrom t (election_builder t) class.Election sole.members name v → Throughout P (asked (member_want class.Election name) v)
       built name v b =
-          member_holds t clean (Throughout P) (throughout_status t clean tree P plain) (election_builder t) class.Election s.es name v b
+          member_holds t clean (Throughout P) (throughout_status t clean tree P plain) (election_builder t) class.Election sole.members name v b
           (λ required inside.
           election_member (kind_of_member class.Election name) required b.from v (kind_of_class is_election_kind class.Election name b.other refl refl refl refl) (family name b.from b.stands) inside b.given)
           (λ word. election_word t (kind_of_member class.Election name) b.from v word b.given)
 
   -- the array of the one election
-  throughout_elections : (required : Bool) (d : Data) → d ≡ array (item (object s.es) no_items) → Within t (asked (Member kind.Elections required) d)
+  throughout_elections : (required : Bool) (d : Data) → d ≡ array (item (object sole.members) no_items) → Within t (asked (Member kind.Elections required) d)
       → Throughout P (asked (Member kind.Elections required) (array_of (map (normal_election t) (entries_of d))))
   throughout_elections required d is w =
       let here = subst (λ x. P (asked (Member kind.Elections required) (array_of (map (normal_election t) (entries_of x))))) is (holds.elections required d w) in
       subst (λ x. Throughout P (asked (Member kind.Elections required) (array_of (map (normal_election t) (entries_of x))))) (sym is)
-      (throughout_list P (Member kind.Elections required) (Object role.Election) (normal_election t (object s.es) ∷ []) refl refl here (throughout_election, tt))
+      (throughout_list P (Member kind.Elections required) (Object role.Election) (normal_election t (object sole.members) ∷ []) refl refl here (throughout_election, tt))
 
   -- ---- the report
 
@@ -192,7 +196,7 @@ module _ (t : Data) (clean : NoneOf (ShapeFault t)) (tree : IsTree t) (P : Asked
   other_member k required d v is w false given = throughout_value t clean tree P plain k required d v is w given
 
   report_member : (name : List ℕ) (k : MemberKind) (required : Bool) (d v : Data) → is_report_kind k ≡ true → ((f : Family) → k ≡ kind.Keyed f → map (λ o. o.value) (objects f t) ≡ entries_of d)
-      → (k ≡ kind.Elections → d ≡ array (item (object s.es) no_items)) → Within t (asked (want_of_kind k required) d) → normal_report_value t name k d ≡ Some v
+      → (k ≡ kind.Elections → d ≡ array (item (object sole.members) no_items)) → Within t (asked (want_of_kind k required) d) → normal_report_value t name k d ≡ Some v
       → Throughout P (asked (want_of_kind k required) v)
   report_member name (kind.Keyed f) required d v is all one w given =
       let parts = given_unless d (normal_objects t f (entries_of d)) v given in
@@ -212,10 +216,10 @@ module _ (t : Data) (clean : NoneOf (ShapeFault t)) (tree : IsTree t) (P : Asked
           let named : name ≡ family_name f = keyed_name class.ElectionReport name f is in
           report_objects t s f from (ap (kind_of_member class.ElectionReport) (sym named) ∙ is) (ap (λ n. get_member n s.ms) (sym named) ∙ stands)
 
-      one : (name : List ℕ) (from : Data) → get_member name s.ms ≡ Some from → kind_of_member class.ElectionReport name ≡ kind.Elections → from ≡ array (item (object s.es) no_items)
+      one : (name : List ℕ) (from : Data) → get_member name s.ms ≡ Some from → kind_of_member class.ElectionReport name ≡ kind.Elections → from ≡ array (item (object sole.members) no_items)
       one name from stands is =
-          let x : Some from ≡ Some (array (item (object s.es) no_items)) = sym stands ∙ ap (λ n. get_member n s.ms) (elections_name class.ElectionReport name is) ∙ s.listed_election in
-          let same : from ≡ array (item (object s.es) no_items) = cc in same
+          let x : Some from ≡ Some (array (item (object sole.members) no_items)) = sym stands ∙ ap (λ n. get_member n s.ms) (elections_name class.ElectionReport name is) ∙ sole_listed t s sole in
+          let same : from ≡ array (item (object sole.members) no_items) = cc in same
 
       built : (name : List ℕ) (v : Data) → BuiltFrom t (normal_report_value t) class.ElectionReport s.ms name v → Throughout P (asked (member_want class.ElectionReport name) v)
       built name v b =

@@ -13,6 +13,8 @@ use Rattle.erd_meaning.specs.Objects.{Placed, objects}
 use Rattle.erd_meaning.specs.Meaning.{ObjectRecord}
 use Rattle.erd_meaning.specs.Records.{meaning, member_of_class, object_with_key, records_of, object_record}
 use Rattle.erd_meaning.proofs.accepted.Skeleton.{Skeleton, skeleton}
+use Rattle.erd_meaning.proofs.accepted.SoleElection.{SoleElection, sole_election}
+use Rattle.erd_meaning.proofs.accepted.Phases.{no_shape_fault}
 use Rattle.erd_meaning.proofs.accepted.References.{find-Some, has_identifier}
 use Rattle.erd_meaning.proofs.accepted.Standing.{stands}
 use Rattle.erd_meaning.specs.Accepted.{IsAccepted}
@@ -43,9 +45,10 @@ family_keys t canonical f h = all_keys key_at (objects f t) (λ o i. has_identif
 pub family_rises : (t : Data) → IsCanonical t → (f : Family) → has_keys f ≡ true → IsStrictlySortedBy key_cmp (filter_map key_at (objects f t))
 family_rises t canonical f h =
     let s : Skeleton t = skeleton t canonical.accepted in
-    let same : map key_at (objects f t) ≡ map key_of (entries_in (array_of f s.ms s.es)) = map-map (λ o. o.value) key_of (objects f t) ∙ ap (map key_of) (values_of t s f h) in
+    let sole : SoleElection t s = sole_election t (no_shape_fault t canonical.accepted) s in
+    let same : map key_at (objects f t) ≡ map key_of (entries_in (array_of f s.ms sole.members)) = map-map (λ o. o.value) key_of (objects f t) ∙ ap (map key_of) (values_of t s sole f h) in
     keys_rise key_cmp key_at (objects f t) (filter_map key_at (objects f t)) (family_keys t canonical f h)
-    (subst (IsStrictlySortedBy (option_cmp key_cmp)) (sym same) (keyed_rises t canonical f false (array_of f s.ms s.es) h (family_array t canonical s f h)))
+    (subst (IsStrictlySortedBy (option_cmp key_cmp)) (sym same) (keyed_rises t canonical f false (array_of f s.ms sole.members) h (family_array t canonical s sole.members sole.at f h)))
 
 -- an object of a family has a record
 pub has_record : (t : Data) → IsAccepted t → (f : Family) (o : Placed) → Has (objects f t) o → (r : ObjectRecord) × (record_at t f o ≡ Some r)

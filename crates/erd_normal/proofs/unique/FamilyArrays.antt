@@ -1,5 +1,5 @@
 -- The arrays that hold the objects of families: they are full and rise.
-use Rattle.std.proofs.Common.{◌≡◌, ℕ, List, Option, Some, None, map, flat_map, Bool, true, false, codes, refl, ap, ◌∙◌}
+use Rattle.std.proofs.Common.{◌≡◌, ℕ, List, Option, Some, None, map, Bool, true, false, codes, refl, ap, ◌∙◌}
 use Rattle.std.specs.Str.{bytes_eq}
 use Rattle.std.specs.Option.{option_cmp}
 use Rattle.std.specs.List.Sorted.{IsStrictlySortedBy}
@@ -22,8 +22,9 @@ use Rattle.erd_check.proofs.Shapes.{Within, Within-step}
 use Rattle.erd_check.specs.Wants.{asked}
 use Rattle.erd_check.proofs.Entries.{entries_in, list_of_items-place, list_of_items_exact}
 use Rattle.erd_check.specs.Values.{list_of_items, entries_at}
-use Rattle.erd_meaning.proofs.accepted.Skeleton.{Skeleton, election_objects, the_election, values-placed_entries}
-use Rattle.erd_meaning.specs.Objects.{elections, objects, placed_entries, report_of}
+use Rattle.erd_meaning.proofs.accepted.Skeleton.{Skeleton, values-placed_entries}
+use Rattle.erd_meaning.proofs.accepted.SoleElection.{SoleElection, values_in_sole}
+use Rattle.erd_meaning.specs.Objects.{objects, placed_entries, report_of}
 use Rattle.erd_meaning.specs.Keys.{key_cmp, key_of, has_keys}
 use Rattle.erd_meaning.proofs.accepted.Phases.{no_shape_fault}
 use Rattle.erd_normal.proofs.unique.Contents.{Filled, absent, filled}
@@ -69,7 +70,7 @@ arrays_same P Q o p (filled {ds = no_items} full w) absent e = cc
 arrays_same P Q o p (filled {ds = item d ds} full w) absent e = cc
 arrays_same P Q o p (filled {ds = ds} full w) (filled {ds = es} full' w') e = ap (λ x. Some (array x)) (list_of_items_exact ds es e)
 
--- the array that holds the objects of a family
+-- the array that holds the objects of a family, by the members of the report and of an election
 abbrev pub array_of : (f : Family) → Members → Members → Option Data
 array_of family.Unit ms es = get_member (codes "GpUnit") ms
 array_of family.Party ms es = get_member (codes "Party") ms
@@ -81,31 +82,30 @@ array_of family.Contest ms es = get_member (codes "Contest") es
 array_of family.Style ms es = get_member (codes "BallotStyle") es
 array_of family.Selection ms es = None
 
-pub family_array : (t : Data) → IsCanonical t → (s : Skeleton t) (f : Family) → has_keys f ≡ true → Filled (λ ds. Within t (asked (Member (kind.Keyed f) false) (array ds))) (array_of f s.ms s.es)
-family_array t canonical s family.Unit h = keyed_array t canonical (Object role.Report) role.Report class.ElectionReport s.ms s.report family.Unit (codes "GpUnit") refl refl _ refl
-family_array t canonical s family.Party h = keyed_array t canonical (Object role.Report) role.Report class.ElectionReport s.ms s.report family.Party (codes "Party") refl refl _ refl
-family_array t canonical s family.Person h = keyed_array t canonical (Object role.Report) role.Report class.ElectionReport s.ms s.report family.Person (codes "Person") refl refl _ refl
-family_array t canonical s family.Office h = keyed_array t canonical (Object role.Report) role.Report class.ElectionReport s.ms s.report family.Office (codes "Office") refl refl _ refl
-family_array t canonical s family.Header h = keyed_array t canonical (Object role.Report) role.Report class.ElectionReport s.ms s.report family.Header (codes "Header") refl refl _ refl
-family_array t canonical s family.Candidate h = keyed_array t canonical (Object role.Election) role.Election class.Election s.es s.election family.Candidate (codes "Candidate") refl refl _ refl
-family_array t canonical s family.Contest h = keyed_array t canonical (Object role.Election) role.Election class.Election s.es s.election family.Contest (codes "Contest") refl refl _ refl
-family_array t canonical s family.Style h = keyed_array t canonical (Object role.Election) role.Election class.Election s.es s.election family.Style (codes "BallotStyle") refl refl _ refl
-family_array t canonical s family.Selection h = cc
+-- it isn't empty, in whichever election
+pub family_array : (t : Data) → IsCanonical t → (s : Skeleton t) (es : Members) → ObjectAt t (Object role.Election) role.Election class.Election es → (f : Family) → has_keys f ≡ true
+    → Filled (λ ds. Within t (asked (Member (kind.Keyed f) false) (array ds))) (array_of f s.ms es)
+family_array t canonical s es election family.Unit h = keyed_array t canonical (Object role.Report) role.Report class.ElectionReport s.ms s.report family.Unit (codes "GpUnit") refl refl _ refl
+family_array t canonical s es election family.Party h = keyed_array t canonical (Object role.Report) role.Report class.ElectionReport s.ms s.report family.Party (codes "Party") refl refl _ refl
+family_array t canonical s es election family.Person h = keyed_array t canonical (Object role.Report) role.Report class.ElectionReport s.ms s.report family.Person (codes "Person") refl refl _ refl
+family_array t canonical s es election family.Office h = keyed_array t canonical (Object role.Report) role.Report class.ElectionReport s.ms s.report family.Office (codes "Office") refl refl _ refl
+family_array t canonical s es election family.Header h = keyed_array t canonical (Object role.Report) role.Report class.ElectionReport s.ms s.report family.Header (codes "Header") refl refl _ refl
+family_array t canonical s es election family.Candidate h = keyed_array t canonical (Object role.Election) role.Election class.Election es election family.Candidate (codes "Candidate") refl refl _ refl
+family_array t canonical s es election family.Contest h = keyed_array t canonical (Object role.Election) role.Election class.Election es election family.Contest (codes "Contest") refl refl _ refl
+family_array t canonical s es election family.Style h = keyed_array t canonical (Object role.Election) role.Election class.Election es election family.Style (codes "BallotStyle") refl refl _ refl
+family_array t canonical s es election family.Selection h = cc
 
-in_report : (t : Data) (s : Skeleton t) (name : List ℕ) → map (λ o. o.value) (placed_entries name (report_of t)) ≡ entries_in (get_member name s.ms)
-in_report t s name = values-placed_entries name (report_of t) ∙ ap (entries_at name) s.is_object
+pub values_in_report : (t : Data) (s : Skeleton t) (name : List ℕ) → map (λ o. o.value) (placed_entries name (report_of t)) ≡ entries_in (get_member name s.ms)
+values_in_report t s name = values-placed_entries name (report_of t) ∙ ap (entries_at name) s.is_object
 
-in_election : (t : Data) (s : Skeleton t) (name : List ℕ) → map (λ o. o.value) (flat_map (placed_entries name) (elections t)) ≡ entries_in (get_member name s.es)
-in_election t s name = ap (map (λ o. o.value)) (election_objects t s name) ∙ values-placed_entries name (the_election s.es)
-
--- the objects of a family are the entries of its array
-pub values_of : (t : Data) (s : Skeleton t) (f : Family) → has_keys f ≡ true → map (λ o. o.value) (objects f t) ≡ entries_in (array_of f s.ms s.es)
-values_of t s family.Unit h = in_report t s (codes "GpUnit")
-values_of t s family.Party h = in_report t s (codes "Party")
-values_of t s family.Person h = in_report t s (codes "Person")
-values_of t s family.Office h = in_report t s (codes "Office")
-values_of t s family.Header h = in_report t s (codes "Header")
-values_of t s family.Candidate h = in_election t s (codes "Candidate")
-values_of t s family.Contest h = in_election t s (codes "Contest")
-values_of t s family.Style h = in_election t s (codes "BallotStyle")
-values_of t s family.Selection h = cc
+-- the objects of a family are the entries of its array, in the one election
+pub values_of : (t : Data) (s : Skeleton t) (sole : SoleElection t s) (f : Family) → has_keys f ≡ true → map (λ o. o.value) (objects f t) ≡ entries_in (array_of f s.ms sole.members)
+values_of t s sole family.Unit h = values_in_report t s (codes "GpUnit")
+values_of t s sole family.Party h = values_in_report t s (codes "Party")
+values_of t s sole family.Person h = values_in_report t s (codes "Person")
+values_of t s sole family.Office h = values_in_report t s (codes "Office")
+values_of t s sole family.Header h = values_in_report t s (codes "Header")
+values_of t s sole family.Candidate h = values_in_sole t s sole (codes "Candidate")
+values_of t s sole family.Contest h = values_in_sole t s sole (codes "Contest")
+values_of t s sole family.Style h = values_in_sole t s sole (codes "BallotStyle")
+values_of t s sole family.Selection h = cc

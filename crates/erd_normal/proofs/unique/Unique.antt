@@ -24,7 +24,8 @@ use Rattle.erd_check.proofs.Exact.{both_true, text_exact}
 use Rattle.erd_check.proofs.Whole.{no_strange, not_true}
 use Rattle.erd_meaning.specs.Accepted.{IsAccepted}
 use Rattle.erd_meaning.specs.Objects.{Placed, elections, id_of, objects, selections_of_contest}
-use Rattle.erd_meaning.proofs.accepted.Skeleton.{Skeleton, elections_are, skeleton, values-placed_entries}
+use Rattle.erd_meaning.proofs.accepted.Skeleton.{Skeleton, skeleton, values-placed_entries}
+use Rattle.erd_meaning.proofs.accepted.SoleElection.{SoleElection, sole_election, sole_listed, sole_placed}
 use Rattle.erd_meaning.specs.Keys.{has_keys}
 use Rattle.erd_check.specs.Values.{entries_at}
 use Rattle.erd_meaning.specs.Records.{is_in_envelope, meaning, member_of_class, plain_member, selection_record, object_record}
@@ -103,8 +104,9 @@ no_id t accepted w q c ms a h = at (get_member (codes "@id") ms) refl
         let strange : kind_of_identity c ≡ kind.StrangeIdentity = rw h in
         absurd (no_strange t (no_shape_fault t accepted) v (is_required c (codes "@id")) (subst (λ k. Within t (asked (want_of_kind k (is_required c (codes "@id"))) v)) strange (id_within t accepted w q c ms a v e)))
 
-election_is : (t : Data) (a : Skeleton t) → option_and_then (λ o. object_record t role.Election o.value) (slice_get (elections t) 0) ≡ object_record t role.Election (object a.es)
-election_is t a = ap (λ os. option_and_then (λ o. object_record t role.Election o.value) (slice_get os 0)) (elections_are t a)
+-- the election that the meaning tells of is the one election
+election_is : (t : Data) (a : Skeleton t) (sole : SoleElection t a) → option_and_then (λ o. object_record t role.Election o.value) (slice_get (elections t) 0) ≡ object_record t role.Election (object sole.members)
+election_is t a sole = ap (λ os. option_and_then (λ o. object_record t role.Election o.value) (slice_get os 0)) (sole_placed t a sole)
 
 -- the row of a name that rows have
 row_named : (k : List ℕ) (rows : List Row) → is_some (kind_in_rows rows k) ≡ true → (m : Row) × Has rows m × (bytes_eq k m.name ≡ true)
@@ -185,8 +187,10 @@ module _ (t u : Data) (canonical : IsCanonical t) (canonical' : IsCanonical u) (
   family_same family.Contest h = paired_values (objects family.Contest t) (objects family.Contest u) (contest_pairs t u canonical canonical' same) contest_same
   family_same family.Selection h = cc
 
-  array_same : (a : Skeleton t) (b : Skeleton u) (f : Family) → has_keys f ≡ true → array_of f a.ms a.es ≡ array_of f b.ms b.es
-  array_same a b f h = arrays_same _ _ (array_of f a.ms a.es) (array_of f b.ms b.es) (family_array t canonical a f h) (family_array u canonical' b f h) (sym (values_of t a f h) ∙ family_same f h ∙ values_of u b f h)
+  array_same : (a : Skeleton t) (b : Skeleton u) (left : SoleElection t a) (right : SoleElection u b) (f : Family) → has_keys f ≡ true → array_of f a.ms left.members ≡ array_of f b.ms right.members
+  array_same a b left right f h =
+      arrays_same _ _ (array_of f a.ms left.members) (array_of f b.ms right.members) (family_array t canonical a left.members left.at f h) (family_array u canonical' b right.members right.at f h)
+      (sym (values_of t a left f h) ∙ family_same f h ∙ values_of u b right f h)
 
   -- the names that an election's record and the report's leave out
   abbrev election_names : List (List ℕ)
@@ -199,23 +203,24 @@ module _ (t u : Data) (canonical : IsCanonical t) (canonical' : IsCanonical u) (
   each_name : (P : List ℕ → Type 0) (n : List ℕ) (names : List (List ℕ)) (k : List ℕ) → P n → (Has names k → P k) → Has (n ∷ names) k → P k
   each_name P n names k h rest i = ⊎_elim (λ e. subst P e h) rest (Has-cases n k names i)
 
-  module _ (a : Skeleton t) (b : Skeleton u) where
-    election_same : a.es ≡ b.es
+  module _ (a : Skeleton t) (b : Skeleton u) (left : SoleElection t a) (right : SoleElection u b) where
+    -- the one election
+    election_same : left.members ≡ right.members
     election_same =
-        object_same t u canonical canonical' (same_names t u canonical canonical' same) (Object role.Election) (Object role.Election) role.Election class.Election a.es b.es a.election b.election
-        (within-tree t (asked (Object role.Election) (object a.es)) tree a.election.inside) (within-tree u (asked (Object role.Election) (object b.es)) tree' b.election.inside)
-        (no_id t canonical.accepted (Object role.Election) role.Election class.Election a.es a.election refl
-        ∙ sym (no_id u canonical'.accepted (Object role.Election) role.Election class.Election b.es b.election refl))
+        object_same t u canonical canonical' (same_names t u canonical canonical' same) (Object role.Election) (Object role.Election) role.Election class.Election left.members right.members left.at right.at
+        (within-tree t (asked (Object role.Election) (object left.members)) tree left.at.inside) (within-tree u (asked (Object role.Election) (object right.members)) tree' right.at.inside)
+        (no_id t canonical.accepted (Object role.Election) role.Election class.Election left.members left.at refl
+        ∙ sym (no_id u canonical'.accepted (Object role.Election) role.Election class.Election right.members right.at refl))
         (λ k f g h.
-        each_name Same (codes "Candidate") _ k (array_same a b family.Candidate refl)
-        (each_name Same (codes "Contest") _ k (array_same a b family.Contest refl)
-        (each_name Same (codes "BallotStyle") _ k (array_same a b family.Style refl) (λ i. elim i [ ])))
+        each_name Same (codes "Candidate") _ k (array_same a b left right family.Candidate refl)
+        (each_name Same (codes "Contest") _ k (array_same a b left right family.Contest refl)
+        (each_name Same (codes "BallotStyle") _ k (array_same a b left right family.Style refl) (λ i. elim i [ ])))
         (left_out election_names class.Election k refl f g h))
-        (members_value (Object role.Election) (Object role.Election) role.Election class.Election a.es b.es a.election b.election
-        (sym (election_is t a) ∙ ap (λ m. m.election) same ∙ election_is u b))
+        (members_value (Object role.Election) (Object role.Election) role.Election class.Election left.members right.members left.at right.at
+        (sym (election_is t a left) ∙ ap (λ m. m.election) same ∙ election_is u b right))
       where
         Same : List ℕ → Type 0
-        Same n = get_member n a.es ≡ get_member n b.es
+        Same n = get_member n left.members ≡ get_member n right.members
 
     both_have : (n : List ℕ) (o : Option Data) → get n t ≡ o → get n u ≡ o → get_member n a.ms ≡ get_member n b.ms
     both_have n o e f = sym (ap (get n) a.is_object) ∙ e ∙ sym f ∙ ap (get n) b.is_object
@@ -247,21 +252,23 @@ module _ (t u : Data) (canonical : IsCanonical t) (canonical' : IsCanonical u) (
         Same : List ℕ → Type 0
         Same n = get_member n a.ms ≡ get_member n b.ms
 
-        the_election : Same (codes "Election")
-        the_election = a.listed_election ∙ ap (λ es. Some (array (item (object es) no_items))) election_same ∙ sym b.listed_election
+        sole_same : Same (codes "Election")
+        sole_same = sole_listed t a left ∙ ap (λ es. Some (array (item (object es) no_items))) election_same ∙ sym (sole_listed u b right)
 
         by_name : (k : List ℕ) → Has report_names k → Same k
         by_name k =
-            each_name Same (codes "GpUnit") _ k (array_same a b family.Unit refl)
-            (each_name Same (codes "Party") _ k (array_same a b family.Party refl)
-            (each_name Same (codes "Person") _ k (array_same a b family.Person refl)
-            (each_name Same (codes "Office") _ k (array_same a b family.Office refl)
-            (each_name Same (codes "Header") _ k (array_same a b family.Header refl)
-            (each_name Same (codes "Election") _ k the_election (λ i. elim i [ ]))))))
+            each_name Same (codes "GpUnit") _ k (array_same a b left right family.Unit refl)
+            (each_name Same (codes "Party") _ k (array_same a b left right family.Party refl)
+            (each_name Same (codes "Person") _ k (array_same a b left right family.Person refl)
+            (each_name Same (codes "Office") _ k (array_same a b left right family.Office refl)
+            (each_name Same (codes "Header") _ k (array_same a b left right family.Header refl)
+            (each_name Same (codes "Election") _ k sole_same (λ i. elim i [ ]))))))
 
 -- canonical trees that mean the same are equal
 pub unique : CanonicalIsUnique
 unique t u alike =
     let a : Skeleton t = skeleton t alike.left.accepted in
     let b : Skeleton u = skeleton u alike.right.accepted in
-    a.is_object ∙ ap object (report_same t u alike.left alike.right alike.same alike.left_tree alike.right_tree a b) ∙ sym b.is_object
+    let left : SoleElection t a = sole_election t (no_shape_fault t alike.left.accepted) a in
+    let right : SoleElection u b = sole_election u (no_shape_fault u alike.right.accepted) b in
+    a.is_object ∙ ap object (report_same t u alike.left alike.right alike.same alike.left_tree alike.right_tree a b left right) ∙ sym b.is_object

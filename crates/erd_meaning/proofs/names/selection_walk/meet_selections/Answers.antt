@@ -7,7 +7,7 @@ use Rattle.erd_meaning.specs.code.NamesAmong.{name_among}
 use Rattle.erd_meaning.specs.code.SelectionWalk.{named_all}
 use Rattle.erd_meaning.specs.code.Shown.{names_met, shown}
 use Rattle.erd_meaning.proofs.selections.MetSelections.{all_named, named_inside, selections_here}
-use Rattle.erd_meaning.proofs.accepted.Skeleton.{one_election}
+use Rattle.erd_meaning.proofs.accepted.SoleElection.{sole_value}
 use Rattle.erd_meaning.proofs.selections.WholeParts.{whole_entry}
 use Rattle.erd_meaning.proofs.names.selection_walk.meet_selections.Goals as goal
 
@@ -17,13 +17,13 @@ contests = Name (codes "Election") ∷ At 0 ∷ Name (codes "Contest") ∷ []
 
 pub bounds-entries_at-0 : goal.bounds-entries_at-0
 bounds-entries_at-0 c =
-    let found = one_election (view c.args.report.now) c.requires.faultless c.entries_at.result.now c.entries_at.ensures in
+    let found = sole_value (view c.args.report.now) c.requires.faultless c.entries_at.result.now c.entries_at.ensures in
     let one : length c.entries_at.result.now ≡ 1 = ap length found.alone in
     omega (arith, one)
 
 pub meet_contest-requires : goal.meet_contest-requires
 meet_contest-requires c =
-    let found = one_election (view c.args.report.now) c.requires.faultless c.entries_at.result.now c.entries_at.ensures in
+    let found = sole_value (view c.args.report.now) c.requires.faultless c.entries_at.result.now c.entries_at.ensures in
     let one : length c.entries_at.result.now ≡ 1 = ap length found.alone in
     let inside : 0 < length c.entries_at.result.now = omega (arith, one) in
     let election : has_float (view c.index-entries_at-0.result) ≡ false =

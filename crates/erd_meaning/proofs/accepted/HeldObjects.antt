@@ -1,0 +1,56 @@
+-- In which election an object stands, and where in it.
+use Rattle.std.proofs.Common.{◌≡◌, ◌+◌, ℕ, zero, suc, List, [], ◌∷◌, ◌++◌, Some, flat_map, slice_get, codes, sym, ap, ◌∙◌, subst, ◌⊎◌, inl, inr, ⊎_elim, arith}
+use Rattle.serde_json.specs.Data.{Data}
+use Rattle.erd_tables.specs.declared.place.Step.{Step}
+use Rattle.erd_tables.specs.declared.place.Step.TheVariants.{At, Name}
+use Rattle.erd_check.proofs.Rising.{Has, Has-cases, here, later}
+use Rattle.erd_check.specs.Values.{entries_at}
+use Rattle.erd_meaning.specs.Objects.{Placed, elections, placed_entries, placed_from}
+
+has-append : {A : Type 0} (xs ys : List A) (x : A) → Has (xs ++ ys) x → Has xs x ⊎ Has ys x
+has-append [] ys x h = inr h
+has-append (z ∷ xs) ys x h = ⊎_elim (λ e. inl (subst (Has (z ∷ xs)) e here)) (λ k. ⊎_elim (λ l. inl (later l)) inr (has-append xs ys x k)) (Has-cases z x (xs ++ ys) h)
+
+pub has-flat : {A B : Type 0} (f : A → List B) (xs : List A) (y : B) → Has (flat_map f xs) y → (x : A) × Has xs x × Has (f x) y
+has-flat f [] y h = elim h [ ]
+has-flat f (x ∷ xs) y h = ⊎_elim (λ k. (x, here, k)) (λ k. let r = has-flat f xs y k in (r.0, later r.1, r.2)) (has-append (f x) (flat_map f xs) y h)
+
+-- an object that stands in the array of this name of an election
+pub record HeldObject (t : Data) (name : List ℕ) (o : Placed) : Type 0 where
+  pub election : Placed
+  pub stands : Has (elections t) election
+  pub holds : Has (placed_entries name election) o
+  pub index : ℕ
+  pub found : slice_get (elections t) index ≡ Some election
+  pub entry : ℕ
+  pub place : o.place ≡ Name (codes "Election") ∷ At index ∷ Name name ∷ At entry ∷ []
+
+-- the position of an entry is the last step of its place
+entry_placed : (p : List Step) (i : ℕ) (ds : List Data) (o : Placed) → Has (placed_from p i ds) o → (j : ℕ) × (slice_get (placed_from p i ds) j ≡ Some o) × (o.place ≡ p ++ At (i + j) ∷ [])
+entry_placed p i [] o h = elim h [ ]
+entry_placed p i (d ∷ ds) o h = at (Has-cases (record { place = p ++ At i ∷ []; value = d }) o (placed_from p (i + 1) ds) h) (entry_placed p (i + 1) ds o)
+  where
+    at : (◌≡◌ {A = Placed} (record { place = p ++ At i ∷ []; value = d }) o) ⊎ Has (placed_from p (i + 1) ds) o
+        → (Has (placed_from p (i + 1) ds) o → (j : ℕ) × (slice_get (placed_from p (i + 1) ds) j ≡ Some o) × (o.place ≡ p ++ At (i + 1 + j) ∷ []))
+        → (j : ℕ) × (slice_get (placed_from p i (d ∷ ds)) j ≡ Some o) × (o.place ≡ p ++ At (i + j) ∷ [])
+    at (inl e) k = let s : i ≡ i + 0 = omega arith in (zero, ap Some e, sym (ap (λ x. x.place) e) ∙ ap (λ n. p ++ At n ∷ []) s)
+    at (inr m) k = let r = k m in let s : i + 1 + r.0 ≡ i + suc r.0 = omega arith in (suc r.0, r.1, r.2 ∙ ap (λ n. p ++ At n ∷ []) s)
+
+-- the same of the entries of an array from its first on
+entry_at : (p : List Step) (ds : List Data) (o : Placed) → Has (placed_from p 0 ds) o → (j : ℕ) × (slice_get (placed_from p 0 ds) j ≡ Some o) × (o.place ≡ p ++ At j ∷ [])
+entry_at p ds o h = let r = entry_placed p 0 ds o h in let s : 0 + r.0 ≡ r.0 = omega arith in (r.0, r.1, r.2 ∙ ap (λ n. p ++ At n ∷ []) s)
+
+pub held_object : (t : Data) (name : List ℕ) (o : Placed) → Has (flat_map (placed_entries name) (elections t)) o → HeldObject t name o
+held_object t name o h =
+    let e = has-flat (placed_entries name) (elections t) o h in
+    let i = entry_at (Name (codes "Election") ∷ []) (entries_at (codes "Election") t) e.0 e.1 in
+    let j = entry_at (e.0.place ++ Name name ∷ []) (entries_at name e.0.value) o e.2 in
+    record {
+      election = e.0;
+      stands = e.1;
+      holds = e.2;
+      index = i.0;
+      found = i.1;
+      entry = j.0;
+      place = j.2 ∙ ap (λ p. (p ++ Name name ∷ []) ++ At j.0 ∷ []) i.2;
+    }
