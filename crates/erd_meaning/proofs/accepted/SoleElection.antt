@@ -1,5 +1,5 @@
 -- The one election of a report: what holds only as long as a report has one. What holds of each of several elections stands in Skeleton.
-use Rattle.std.proofs.Common.{◌≡◌, sym, ℕ, List, [], ◌∷◌, Some, map, flat_map, codes, true, ap, ◌∙◌, subst, refl, append-nil}
+use Rattle.std.proofs.Common.{◌≡◌, sym, ℕ, List, [], ◌∷◌, Some, map, flat_map, codes, true, ap, ◌∙◌, subst, refl, append-nil, ⊎_elim}
 use Rattle.serde_json.specs.Data.{Data, array, object, no_items, item, Members}
 use Rattle.serde_json.specs.View.{view}
 use Rattle.serde_json.specs.declared.value.Value.{Value}
@@ -11,7 +11,7 @@ use Rattle.erd_tables.specs.declared.member.MemberKind.TheVariants as kind
 use Rattle.erd_tables.specs.declared.fault.Reason.TheVariants as reason
 use Rattle.erd_check.specs.declared.want.Want.TheVariants.{Member, Object}
 use Rattle.erd_check.proofs.ObjectsAt.{ObjectAt, one_entry}
-use Rattle.erd_check.proofs.Rising.{Has, here}
+use Rattle.erd_check.proofs.Rising.{Has, Has-cases, here}
 use Rattle.erd_check.proofs.Shapes.{faultless}
 use Rattle.erd_check.specs.Faults.{NoneOf, ShapeFault}
 use Rattle.erd_check.specs.Values.{entries_at, list_of_items}
@@ -38,6 +38,10 @@ module _ (t : Data) (s : Skeleton t) (sole : SoleElection t s) where
 
   pub sole_placed : elections t ≡ record { place = Name (codes "Election") ∷ At 0 ∷ []; value = object sole.members } ∷ []
   sole_placed = elections_placed t s ∙ ap (λ ds. placed_from (Name (codes "Election") ∷ []) 0 (list_of_items ds)) sole.alone
+
+  -- each election is the one election
+  pub only_sole : (d : Data) → Has (list_of_items s.es) d → d ≡ object sole.members
+  only_sole d h = ⊎_elim (λ e. sym e) (λ i. elim i [ ]) (Has-cases (object sole.members) d [] (subst (λ ds. Has (list_of_items ds) d) sole.alone h))
 
   -- what stands in the one election
   pub values_in_sole : (name : List ℕ) → map (λ o. o.value) (flat_map (placed_entries name) (elections t)) ≡ entries_at name (object sole.members)

@@ -1,7 +1,7 @@
 -- The tree with objects numbered by their places is the tree that is built for an accepted report.
 use Rattle.std.proofs.Common.{◌≡◌, ℕ, zero, suc, ◌+◌, List, [], ◌∷◌, map, true, Some, codes, slice_get, refl, sym, ap, ap₂, ◌∙◌, subst, arith}
 use Rattle.std.specs.Option.{option_map_or}
-use Rattle.serde_json.specs.Data.{Data, array, object, no_items, item, Members, no_members, member}
+use Rattle.serde_json.specs.Data.{Data, array, object, Members, no_members, member}
 use Rattle.serde_json.specs.Find.{get_member}
 use Rattle.erd_tables.specs.Classes.{role_of_class}
 use Rattle.erd_tables.specs.Table.{kind_of_member}
@@ -13,16 +13,16 @@ use Rattle.erd_tables.specs.declared.class.Role.TheVariants as role
 use Rattle.erd_tables.specs.declared.member.MemberKind.{MemberKind}
 use Rattle.erd_tables.specs.declared.member.MemberKind.TheVariants as kind
 use Rattle.erd_check.specs.Trees.{AreMembers, IsTree}
-use Rattle.erd_check.specs.Values.{entries_of, entries_at}
+use Rattle.erd_check.specs.Values.{entries_of, entries_at, list_of_items}
 use Rattle.erd_check.specs.Wants.{asked, class_of_object}
 use Rattle.erd_check.specs.declared.want.Want.TheVariants.{Object}
 use Rattle.erd_check.proofs.Members.{get_member-first}
 use Rattle.erd_check.proofs.ObjectsAt.{ObjectIn, object_in}
-use Rattle.erd_check.proofs.Rising.{Has}
+use Rattle.erd_check.proofs.Rising.{Has, here, later}
 use Rattle.erd_check.proofs.Shapes.{Within, within-tree}
 use Rattle.erd_meaning.proofs.accepted.Phases.{no_shape_fault}
 use Rattle.erd_meaning.proofs.accepted.Skeleton.{Skeleton, skeleton}
-use Rattle.erd_meaning.proofs.accepted.SoleElection.{SoleElection, sole_election, sole_listed}
+use Rattle.erd_meaning.proofs.accepted.SoleElection.{SoleElection, only_sole, sole_election}
 use Rattle.erd_meaning.proofs.accepted.Standing.{stands}
 use Rattle.erd_meaning.specs.Accepted.{IsAccepted}
 use Rattle.erd_meaning.specs.Keys.{has_keys}
@@ -49,6 +49,10 @@ map_by_place f g n [] each = refl
 map_by_place f g n (x ∷ xs) each =
     ap₂ (λ y ys. y ∷ ys) (let none : n ≡ 0 + n = omega arith in ap (λ m. f m x) none ∙ each zero x refl)
     (map_by_place f g (n + 1) xs (λ i y e. let same : i + (n + 1) ≡ suc i + n = omega arith in ap (λ m. f m y) same ∙ each (suc i) y e))
+
+maps_agree : {A B : Type 0} (f g : A → B) (xs : List A) → ((x : A) → Has xs x → f x ≡ g x) → map f xs ≡ map g xs
+maps_agree f g [] each = refl
+maps_agree f g (x ∷ xs) each = ap₂ (λ y ys. y ∷ ys) (each x here) (maps_agree f g xs (λ y h. each y (later h)))
 
 members_agree : (f g : Builder) (c : Class) (ms : Members) → AreMembers ms → ((name : List ℕ) (d : Data) → get_member name ms ≡ Some d → f name (kind_of_member c name) d ≡ g name (kind_of_member c name) d)
     → normal_members f c ms ≡ normal_members g c ms
@@ -132,6 +136,11 @@ module _ (t : Data) (accepted : IsAccepted t) (tree : IsTree t) where
         ap object (members_agree left right class.Election sole.members trees (λ name v found. election_value name v found (kind_of_member class.Election name) refl)) in
         ap (λ c. normal_object_with left c (object sole.members)) sole.at.among ∙ (members ∙ sym (ap (λ c. normal_object_with right c (object sole.members)) sole.at.among))
 
+    elections_agree : map (placed_election t) (list_of_items s.es) ≡ map (normal_election t) (list_of_items s.es)
+    elections_agree =
+        maps_agree (placed_election t) (normal_election t) (list_of_items s.es)
+        (λ d h. subst (λ x. placed_election t x ≡ normal_election t x) (sym (only_sole t s sole d h)) election_agrees)
+
     -- ---- the report
 
     keyed_in_report : (f : Family) → kind_of_member class.ElectionReport (family_name f) ≡ kind.Keyed f → has_keys f ≡ true
@@ -146,10 +155,10 @@ module _ (t : Data) (accepted : IsAccepted t) (tree : IsTree t) where
         (objects_agree f (keyed_in_report f is) (entries_of v) (report_objects t s f v is (ap (λ n. get_member n s.ms) (sym called) ∙ found)))
     report_value name v found kind.Elections named =
         let called : name ≡ codes "Election" = elections_name class.ElectionReport name named in
-        let one : Some v ≡ Some (array (item (object sole.members) no_items)) = sym found ∙ (ap (λ n. get_member n s.ms) called ∙ sole_listed t s sole) in
-        let same : v ≡ array (item (object sole.members) no_items) = cc in
+        let listed : Some v ≡ Some (array s.es) = sym found ∙ (ap (λ n. get_member n s.ms) called ∙ s.listed) in
+        let same : v ≡ array s.es = cc in
         subst (λ x. Some (array_of (map (placed_election t) (entries_of x))) ≡ Some (array_of (map (normal_election t) (entries_of x)))) (sym same)
-        (ap (λ d. Some (array_of (d ∷ []))) election_agrees)
+        (ap (λ ds. Some (array_of ds)) elections_agree)
     report_value name v found k named = refl
 
     report_agrees : placed_tree t ≡ normal_tree t

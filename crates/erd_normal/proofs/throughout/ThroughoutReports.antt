@@ -3,7 +3,7 @@ use Rattle.std.proofs.Common.{◌≡◌, ℕ, List, [], ◌∷◌, map, Option, 
 use Rattle.std.specs.List.{AllByRecursion}
 use Rattle.std.specs.Prelude.{IsTrue}
 use Rattle.std.specs.Str.{bytes_eq}
-use Rattle.serde_json.specs.Data.{Data, string, number, unsigned, array, object, no_items, item}
+use Rattle.serde_json.specs.Data.{Data, string, number, unsigned, array, object, Members}
 use Rattle.serde_json.specs.Find.{get, get_member}
 use Rattle.erd_tables.specs.Rows.{Row, envelope_rows}
 use Rattle.erd_tables.specs.Table.{is_envelope_name, kind_in_rows, kind_of_member}
@@ -16,20 +16,23 @@ use Rattle.erd_tables.specs.declared.member.MemberKind.TheVariants as kind
 use Rattle.erd_tables.specs.declared.place.Step.{Step}
 use Rattle.erd_check.specs.Faults.{is_empty_array, NoneOf, ShapeFault}
 use Rattle.erd_check.specs.Trees.{IsTree}
-use Rattle.erd_check.specs.Values.{entries_of}
+use Rattle.erd_check.specs.Values.{entries_of, list_of_items}
 use Rattle.erd_check.specs.Wants.{Asked, asked, asked_at, asked_inside, member_want, want_of_kind}
 use Rattle.erd_check.specs.declared.want.Want.TheVariants.{Member, Object}
 use Rattle.erd_check.proofs.Exact.{text_exact}
+use Rattle.erd_check.proofs.ObjectsAt.{ObjectAt}
+use Rattle.erd_check.proofs.Positions.{all_by_entry}
+use Rattle.erd_check.proofs.Rising.{Has}
 use Rattle.erd_check.proofs.Shapes.{Within}
 use Rattle.erd_check.proofs.TableKinds.{kind_of_class}
 use Rattle.erd_meaning.proofs.accepted.Skeleton.{Skeleton, skeleton_of_shape}
-use Rattle.erd_meaning.proofs.accepted.SoleElection.{SoleElection, sole_election, sole_listed}
+use Rattle.erd_meaning.proofs.accepted.SoleElection.{SoleElection, only_sole, sole_election}
 use Rattle.erd_meaning.specs.Keys.{has_keys}
 use Rattle.erd_meaning.specs.Objects.{objects}
 use Rattle.erd_normal.specs.code.NormalTree.{array_of, normal_election, normal_election_value, normal_objects, normal_report_value, normal_tree, normal_value}
 use Rattle.erd_normal.proofs.built.BuiltFrom.{BuiltFrom, member_holds}
 use Rattle.erd_normal.proofs.built.BuiltObjects.{built_election, built_report, election_builder, no_name}
-use Rattle.erd_normal.proofs.lists.BuiltLists.{given_unless}
+use Rattle.erd_normal.proofs.lists.BuiltLists.{all_map, given_unless}
 use Rattle.erd_normal.proofs.built.FamilyNames.{election_objects_are, elections_name, family_name, keyed_name, report_objects}
 use Rattle.erd_normal.proofs.built.NormalReports.{has_canonical_envelope}
 use Rattle.erd_normal.proofs.throughout.ThroughoutMembers.{HoldsOfMembers, is_plain_kind, is_prefixed, throughout_value}
@@ -106,30 +109,41 @@ module _ (t : Data) (clean : NoneOf (ShapeFault t)) (tree : IsTree t) (P : Asked
   election_member kind.Content required d v is all w given = cc
   election_member k required d v is all w given = throughout_value t clean tree P plain k required d v is w given
 
-  throughout_election : Throughout P (asked (Object role.Election) (normal_election t (object sole.members)))
-  throughout_election =
-      throughout_object t clean tree P plain (election_builder t) no_name role.Election class.Election sole.members (normal_election t (object sole.members)) (built_election t clean tree sole.members (object sole.members) refl sole.at)
-      (holds.election (object sole.members) sole.at.inside) (λ name v is found. cc) built
-    where
-      family : (name : List ℕ) (from : Data) → get_member name sole.members ≡ Some from → (f : Family) → kind_of_member class.Election name ≡ kind.Keyed f → map (λ o. o.value) (objects f t) ≡ entries_of from
-      family name from stands f is =
-          let named : name ≡ family_name f = keyed_name class.Election name f is in
-          election_objects_are t s sole f from (ap (kind_of_member class.Election) (sym named) ∙ is) (ap (λ n. get_member n sole.members) (sym named) ∙ stands)
+  -- each array of objects in an election holds all objects of its family
+  abbrev HoldsFamilies : Members → Type 0
+  HoldsFamilies es = (name : List ℕ) (from : Data) → get_member name es ≡ Some from → (f : Family) → kind_of_member class.Election name ≡ kind.Keyed f → map (λ o. o.value) (objects f t) ≡ entries_of from
 
-      built : (name : List ℕ) (v : Data) → BuiltFrom t (election_builder t) class.Election sole.members name v → Throughout P (asked (member_want class.Election name) v)
+  throughout_election : (es : Members) → ObjectAt t (Object role.Election) role.Election class.Election es → HoldsFamilies es → Throughout P (asked (Object role.Election) (normal_election t (object es)))
+  throughout_election es election family =
+      throughout_object t clean tree P plain (election_builder t) no_name role.Election class.Election es (normal_election t (object es)) (built_election t clean tree es (object es) refl election)
+      (holds.election (object es) election.inside) (λ name v is found. cc) built
+    where
+      built : (name : List ℕ) (v : Data) → BuiltFrom t (election_builder t) class.Election es name v → Throughout P (asked (member_want class.Election name) v)
       built name v b =
-          member_holds t clean (Throughout P) (throughout_status t clean tree P plain) (election_builder t) class.Election sole.members name v b
+          member_holds t clean (Throughout P) (throughout_status t clean tree P plain) (election_builder t) class.Election es name v b
           (λ required inside.
           election_member (kind_of_member class.Election name) required b.from v (kind_of_class is_election_kind class.Election name b.other refl refl refl refl) (family name b.from b.stands) inside b.given)
           (λ word. election_word t (kind_of_member class.Election name) b.from v word b.given)
 
-  -- the array of the one election
-  throughout_elections : (required : Bool) (d : Data) → d ≡ array (item (object sole.members) no_items) → Within t (asked (Member kind.Elections required) d)
-      → Throughout P (asked (Member kind.Elections required) (array_of (map (normal_election t) (entries_of d))))
-  throughout_elections required d is w =
+  -- the array of elections
+  throughout_elections : ((d : Data) → Has (list_of_items s.es) d → Throughout P (asked (Object role.Election) (normal_election t d))) → (required : Bool) (d : Data) → d ≡ array s.es
+      → Within t (asked (Member kind.Elections required) d) → Throughout P (asked (Member kind.Elections required) (array_of (map (normal_election t) (entries_of d))))
+  throughout_elections each required d is w =
       let here = subst (λ x. P (asked (Member kind.Elections required) (array_of (map (normal_election t) (entries_of x))))) is (holds.elections required d w) in
       subst (λ x. Throughout P (asked (Member kind.Elections required) (array_of (map (normal_election t) (entries_of x))))) (sym is)
-      (throughout_list P (Member kind.Elections required) (Object role.Election) (normal_election t (object sole.members) ∷ []) refl refl here (throughout_election, tt))
+      (throughout_list P (Member kind.Elections required) (Object role.Election) (map (normal_election t) (list_of_items s.es)) refl refl here
+      (all_map (λ e. Throughout P (asked (Object role.Election) (normal_election t e))) (λ e. Throughout P (asked (Object role.Election) e)) (normal_election t) (list_of_items s.es) (λ e h. h)
+      (all_by_entry (λ e. Throughout P (asked (Object role.Election) (normal_election t e))) (list_of_items s.es) each)))
+
+  -- the one election holds all objects of its families
+  throughout_sole : (d : Data) → Has (list_of_items s.es) d → Throughout P (asked (Object role.Election) (normal_election t d))
+  throughout_sole d h =
+      subst (λ x. Throughout P (asked (Object role.Election) (normal_election t x))) (sym (only_sole t s sole d h)) (throughout_election sole.members sole.at family)
+    where
+      family : HoldsFamilies sole.members
+      family name from stands f is =
+          let named : name ≡ family_name f = keyed_name class.Election name f is in
+          election_objects_are t s sole f from (ap (kind_of_member class.Election) (sym named) ∙ is) (ap (λ n. get_member n sole.members) (sym named) ∙ stands)
 
   -- ---- the report
 
@@ -196,16 +210,16 @@ module _ (t : Data) (clean : NoneOf (ShapeFault t)) (tree : IsTree t) (P : Asked
   other_member k required d v is w false given = throughout_value t clean tree P plain k required d v is w given
 
   report_member : (name : List ℕ) (k : MemberKind) (required : Bool) (d v : Data) → is_report_kind k ≡ true → ((f : Family) → k ≡ kind.Keyed f → map (λ o. o.value) (objects f t) ≡ entries_of d)
-      → (k ≡ kind.Elections → d ≡ array (item (object sole.members) no_items)) → Within t (asked (want_of_kind k required) d) → normal_report_value t name k d ≡ Some v
+      → (k ≡ kind.Elections → d ≡ array s.es) → Within t (asked (want_of_kind k required) d) → normal_report_value t name k d ≡ Some v
       → Throughout P (asked (want_of_kind k required) v)
-  report_member name (kind.Keyed f) required d v is all one w given =
+  report_member name (kind.Keyed f) required d v is all listed w given =
       let parts = given_unless d (normal_objects t f (entries_of d)) v given in
       subst (λ x. Throughout P (asked (Member (kind.Keyed f) required) x)) parts.1 (throughout_objects t clean tree P holds.parts f required d (all f refl) w (holds.keyed f is required d w (all f refl) parts.0))
-  report_member name kind.Elections required d v is all one w given =
+  report_member name kind.Elections required d v is all listed w given =
       let same : array_of (map (normal_election t) (entries_of d)) ≡ v = cc in
-      subst (λ x. Throughout P (asked (Member kind.Elections required) x)) same (throughout_elections required d (one refl) w)
-  report_member name kind.Content required d v is all one w given = cc
-  report_member name k required d v is all one w given = other_member k required d v is w (is_envelope_name name) given
+      subst (λ x. Throughout P (asked (Member kind.Elections required) x)) same (throughout_elections throughout_sole required d (listed refl) w)
+  report_member name kind.Content required d v is all listed w given = cc
+  report_member name k required d v is all listed w given = other_member k required d v is w (is_envelope_name name) given
 
   throughout_report : Throughout P (asked (Object role.Report) (normal_tree t))
   throughout_report =
@@ -216,17 +230,17 @@ module _ (t : Data) (clean : NoneOf (ShapeFault t)) (tree : IsTree t) (P : Asked
           let named : name ≡ family_name f = keyed_name class.ElectionReport name f is in
           report_objects t s f from (ap (kind_of_member class.ElectionReport) (sym named) ∙ is) (ap (λ n. get_member n s.ms) (sym named) ∙ stands)
 
-      one : (name : List ℕ) (from : Data) → get_member name s.ms ≡ Some from → kind_of_member class.ElectionReport name ≡ kind.Elections → from ≡ array (item (object sole.members) no_items)
-      one name from stands is =
-          let x : Some from ≡ Some (array (item (object sole.members) no_items)) = sym stands ∙ ap (λ n. get_member n s.ms) (elections_name class.ElectionReport name is) ∙ sole_listed t s sole in
-          let same : from ≡ array (item (object sole.members) no_items) = cc in same
+      listed : (name : List ℕ) (from : Data) → get_member name s.ms ≡ Some from → kind_of_member class.ElectionReport name ≡ kind.Elections → from ≡ array s.es
+      listed name from stands is =
+          let x : Some from ≡ Some (array s.es) = sym stands ∙ ap (λ n. get_member n s.ms) (elections_name class.ElectionReport name is) ∙ s.listed in
+          let same : from ≡ array s.es = cc in same
 
       built : (name : List ℕ) (v : Data) → BuiltFrom t (normal_report_value t) class.ElectionReport s.ms name v → Throughout P (asked (member_want class.ElectionReport name) v)
       built name v b =
           member_holds t clean (Throughout P) (throughout_status t clean tree P plain) (normal_report_value t) class.ElectionReport s.ms name v b
           (λ required inside.
           report_member name (kind_of_member class.ElectionReport name) required b.from v (kind_of_class is_report_kind class.ElectionReport name b.other refl refl refl refl) (family name b.from b.stands)
-          (one name b.from b.stands) inside b.given)
+          (listed name b.from b.stands) inside b.given)
           (λ word. report_word t name (kind_of_member class.ElectionReport name) b.from v word b.given)
 
   -- it holds of whatever is asked at a place of the report that is built
