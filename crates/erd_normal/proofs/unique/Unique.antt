@@ -203,24 +203,23 @@ module _ (t u : Data) (canonical : IsCanonical t) (canonical' : IsCanonical u) (
   each_name : (P : List ℕ → Type 0) (n : List ℕ) (names : List (List ℕ)) (k : List ℕ) → P n → (Has names k → P k) → Has (n ∷ names) k → P k
   each_name P n names k h rest i = ⊎_elim (λ e. subst P e h) rest (Has-cases n k names i)
 
-  module _ (a : Skeleton t) (b : Skeleton u) (left : SoleElection t a) (right : SoleElection u b) where
-    -- the one election
-    election_same : left.members ≡ right.members
-    election_same =
-        object_same t u canonical canonical' (same_names t u canonical canonical' same) (Object role.Election) (Object role.Election) role.Election class.Election left.members right.members left.at right.at
-        (within-tree t (asked (Object role.Election) (object left.members)) tree left.at.inside) (within-tree u (asked (Object role.Election) (object right.members)) tree' right.at.inside)
-        (no_id t canonical.accepted (Object role.Election) role.Election class.Election left.members left.at refl
-        ∙ sym (no_id u canonical'.accepted (Object role.Election) role.Election class.Election right.members right.at refl))
+  module _ (a : Skeleton t) (b : Skeleton u) where
+    -- two elections with one record and the same arrays
+    election_same : (es fs : Members) (one : ObjectAt t (Object role.Election) role.Election class.Election es) (other : ObjectAt u (Object role.Election) role.Election class.Election fs)
+        → object_record t role.Election (object es) ≡ object_record u role.Election (object fs) → ((f : Family) → has_keys f ≡ true → array_of f a.ms es ≡ array_of f b.ms fs) → es ≡ fs
+    election_same es fs one other records arrays =
+        object_same t u canonical canonical' (same_names t u canonical canonical' same) (Object role.Election) (Object role.Election) role.Election class.Election es fs one other
+        (within-tree t (asked (Object role.Election) (object es)) tree one.inside) (within-tree u (asked (Object role.Election) (object fs)) tree' other.inside)
+        (no_id t canonical.accepted (Object role.Election) role.Election class.Election es one refl ∙ sym (no_id u canonical'.accepted (Object role.Election) role.Election class.Election fs other refl))
         (λ k f g h.
-        each_name Same (codes "Candidate") _ k (array_same a b left right family.Candidate refl)
-        (each_name Same (codes "Contest") _ k (array_same a b left right family.Contest refl)
-        (each_name Same (codes "BallotStyle") _ k (array_same a b left right family.Style refl) (λ i. elim i [ ])))
+        each_name Same (codes "Candidate") _ k (arrays family.Candidate refl)
+        (each_name Same (codes "Contest") _ k (arrays family.Contest refl)
+        (each_name Same (codes "BallotStyle") _ k (arrays family.Style refl) (λ i. elim i [ ])))
         (left_out election_names class.Election k refl f g h))
-        (members_value (Object role.Election) (Object role.Election) role.Election class.Election left.members right.members left.at right.at
-        (sym (election_is t a left) ∙ ap (λ m. m.election) same ∙ election_is u b right))
+        (members_value (Object role.Election) (Object role.Election) role.Election class.Election es fs one other records)
       where
         Same : List ℕ → Type 0
-        Same n = get_member n left.members ≡ get_member n right.members
+        Same n = get_member n es ≡ get_member n fs
 
     both_have : (n : List ℕ) (o : Option Data) → get n t ≡ o → get n u ≡ o → get_member n a.ms ≡ get_member n b.ms
     both_have n o e f = sym (ap (get n) a.is_object) ∙ e ∙ sym f ∙ ap (get n) b.is_object
@@ -240,8 +239,8 @@ module _ (t u : Data) (canonical : IsCanonical t) (canonical' : IsCanonical u) (
     in_envelope : (k : List ℕ) → is_in_envelope class.ElectionReport k ≡ true → get_member k a.ms ≡ get_member k b.ms
     in_envelope k e = let r = row_named k envelope_rows e in subst (λ n. get_member n a.ms ≡ get_member n b.ms) (sym (text_exact k r.0.name r.2)) (envelope_same r.0 r.1)
 
-    report_same : a.ms ≡ b.ms
-    report_same =
+    report_same : (left : SoleElection t a) (right : SoleElection u b) → a.ms ≡ b.ms
+    report_same left right =
         object_same t u canonical canonical' (same_names t u canonical canonical' same) (Object role.Report) (Object role.Report) role.Report class.ElectionReport a.ms b.ms a.report b.report
         (within-tree t (asked (Object role.Report) (object a.ms)) tree a.report.inside) (within-tree u (asked (Object role.Report) (object b.ms)) tree' b.report.inside)
         (no_id t canonical.accepted (Object role.Report) role.Report class.ElectionReport a.ms a.report refl ∙ sym (no_id u canonical'.accepted (Object role.Report) role.Report class.ElectionReport b.ms b.report refl))
@@ -252,8 +251,12 @@ module _ (t u : Data) (canonical : IsCanonical t) (canonical' : IsCanonical u) (
         Same : List ℕ → Type 0
         Same n = get_member n a.ms ≡ get_member n b.ms
 
-        sole_same : Same (codes "Election")
-        sole_same = sole_listed t a left ∙ ap (λ es. Some (array (item (object es) no_items))) election_same ∙ sym (sole_listed u b right)
+        sole_same : left.members ≡ right.members
+        sole_same =
+            election_same left.members right.members left.at right.at (sym (election_is t a left) ∙ ap (λ m. m.election) same ∙ election_is u b right) (array_same a b left right)
+
+        listed_same : Same (codes "Election")
+        listed_same = sole_listed t a left ∙ ap (λ es. Some (array (item (object es) no_items))) sole_same ∙ sym (sole_listed u b right)
 
         by_name : (k : List ℕ) → Has report_names k → Same k
         by_name k =
@@ -262,7 +265,7 @@ module _ (t u : Data) (canonical : IsCanonical t) (canonical' : IsCanonical u) (
             (each_name Same (codes "Person") _ k (array_same a b left right family.Person refl)
             (each_name Same (codes "Office") _ k (array_same a b left right family.Office refl)
             (each_name Same (codes "Header") _ k (array_same a b left right family.Header refl)
-            (each_name Same (codes "Election") _ k sole_same (λ i. elim i [ ]))))))
+            (each_name Same (codes "Election") _ k listed_same (λ i. elim i [ ]))))))
 
 -- canonical trees that mean the same are equal
 pub unique : CanonicalIsUnique
