@@ -4,6 +4,7 @@ use Rattle.std.specs.Str.{IsUtf8}
 use Rattle.serde_json.specs.Data.{Data}
 use Rattle.serde_json.specs.Read.{read}
 use Rattle.serde_json.specs.Written.{compact_text}
+use Rattle.erd_meaning.specs.Keys.{Preference}
 use Rattle.erd_meaning.specs.Accepted.{IsAccepted}
 use Rattle.erd_normal.specs.Canonical.{IsCanonicalFormOf}
 
@@ -16,15 +17,15 @@ abbrev pub IsNotJson : List ℕ → Type 0
 IsNotJson b = (t : Data) → ¬ IsTreeOf b t
 
 -- the bytes are an accepted report, and this is its tree
-pub record IsAcceptedReport (b : List ℕ) (t : Data) : Type 0 where
+pub record IsAcceptedReport (π : Preference) (b : List ℕ) (t : Data) : Type 0 where
   pub read : IsTreeOf b t
-  pub accepted : IsAccepted t
+  pub accepted : IsAccepted π t
 
 -- c is the compact text of a canonical tree that means what the report in b means, and reads back as that tree (profile)
-pub record IsCanonicalBytes (b c : List ℕ) : Type 0 where
+pub record IsCanonicalBytes (π : Preference) (b c : List ℕ) : Type 0 where
   pub report : Data
-  pub is_accepted : IsAcceptedReport b report
+  pub is_accepted : IsAcceptedReport π b report
   pub tree : Data
-  pub is_canonical : IsCanonicalFormOf report tree
+  pub is_canonical : IsCanonicalFormOf π report tree
   pub written : c ≡ compact_text tree
   pub reads_back : IsTreeOf c tree

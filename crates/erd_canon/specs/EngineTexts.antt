@@ -4,6 +4,7 @@ use Rattle.std.specs.List.{flat_map}
 use Rattle.serde_json.specs.Data.{Data}
 use Rattle.erd_tables.specs.Faults.{ListsAll, fault_line}
 use Rattle.erd_tables.specs.declared.fault.Fault.{Fault}
+use Rattle.erd_meaning.specs.Keys.{Preference}
 use Rattle.erd_meaning.specs.Accepted.{IsFault}
 use Rattle.erd_meaning.specs.Records.{meaning}
 use Rattle.erd_compare.specs.DifferenceLine.{difference_line}
@@ -16,30 +17,30 @@ abbrev pub text_of_lines : List (List ℕ) → List ℕ
 text_of_lines lines = flat_map (λ line. line ++ 10 ∷ []) lines
 
 -- the bytes are JSON that is refused, with these faults in their order
-pub record IsRefusedReport (b : List ℕ) (faults : List Fault) : Type 0 where
+pub record IsRefusedReport (π : Preference) (b : List ℕ) (faults : List Fault) : Type 0 where
   pub tree : Data
   pub read : IsTreeOf b tree
-  pub all : ListsAll (IsFault tree) faults
+  pub all : ListsAll (IsFault π tree) faults
   pub some : faults ≢ []
 
 -- the lines that tell why the bytes are not accepted: `not JSON`, or one for each fault
-abbrev pub IsRefusal : List ℕ → List (List ℕ) → Type 0
-IsRefusal b lines =
-    (IsNotJson b × (lines ≡ codes "not JSON" ∷ [])) ⊎ ((faults : List Fault) × IsRefusedReport b faults × (lines ≡ map fault_line faults))
+abbrev pub IsRefusal : Preference → List ℕ → List (List ℕ) → Type 0
+IsRefusal π b lines =
+    (IsNotJson b × (lines ≡ codes "not JSON" ∷ [])) ⊎ ((faults : List Fault) × IsRefusedReport π b faults × (lines ≡ map fault_line faults))
 
 -- what checking writes: `accepted`, or why not
-abbrev pub IsCheckText : List ℕ → List ℕ → Type 0
-IsCheckText b x =
-    ((t : Data) × IsAcceptedReport b t × (x ≡ text_of_lines (codes "accepted" ∷ [])))
-    ⊎ ((lines : List (List ℕ)) × IsRefusal b lines × (x ≡ text_of_lines lines))
+abbrev pub IsCheckText : Preference → List ℕ → List ℕ → Type 0
+IsCheckText π b x =
+    ((t : Data) × IsAcceptedReport π b t × (x ≡ text_of_lines (codes "accepted" ∷ [])))
+    ⊎ ((lines : List (List ℕ)) × IsRefusal π b lines × (x ≡ text_of_lines lines))
 
 -- what canonicalising writes to its output: the canonical bytes with no line end, or nothing
-abbrev pub IsCanonicalOutput : List ℕ → List ℕ → Type 0
-IsCanonicalOutput b x = IsCanonicalBytes b x ⊎ (((t : Data) → ¬ IsAcceptedReport b t) × (x ≡ []))
+abbrev pub IsCanonicalOutput : Preference → List ℕ → List ℕ → Type 0
+IsCanonicalOutput π b x = IsCanonicalBytes π b x ⊎ (((t : Data) → ¬ IsAcceptedReport π b t) × (x ≡ []))
 
 -- what canonicalising writes to its errors: nothing, or why not
-abbrev pub IsCanonicalErrors : List ℕ → List ℕ → Type 0
-IsCanonicalErrors b x = ((t : Data) × IsAcceptedReport b t × (x ≡ [])) ⊎ ((lines : List (List ℕ)) × IsRefusal b lines × (x ≡ text_of_lines lines))
+abbrev pub IsCanonicalErrors : Preference → List ℕ → List ℕ → Type 0
+IsCanonicalErrors π b x = ((t : Data) × IsAcceptedReport π b t × (x ≡ [])) ⊎ ((lines : List (List ℕ)) × IsRefusal π b lines × (x ≡ text_of_lines lines))
 
 -- the words for a comparison of two accepted reports
 abbrev pub comparison_line : Option Difference → List ℕ
@@ -47,20 +48,20 @@ comparison_line None = codes "same"
 comparison_line (Some d) = difference_line d
 
 -- two accepted reports, and the first difference of their meanings
-pub record IsComparison (left right : List ℕ) (found : Option Difference) : Type 0 where
+pub record IsComparison (π : Preference) (left right : List ℕ) (found : Option Difference) : Type 0 where
   pub left_tree : Data
   pub right_tree : Data
-  pub left_accepted : IsAcceptedReport left left_tree
-  pub right_accepted : IsAcceptedReport right right_tree
-  pub difference : IsDifference (meaning left_tree) (meaning right_tree) found
+  pub left_accepted : IsAcceptedReport π left left_tree
+  pub right_accepted : IsAcceptedReport π right right_tree
+  pub difference : IsDifference (meaning π left_tree) (meaning π right_tree) found
 
 -- lines about one of two reports
 abbrev pub lines_of_side : List ℕ → List (List ℕ) → List (List ℕ)
 lines_of_side side lines = map (λ line. side ++ line) lines
 
 -- what comparing writes: `same`, or the difference, or why the first report that is not accepted is refused, the left one before the right
-abbrev pub IsCompareText : List ℕ → List ℕ → List ℕ → Type 0
-IsCompareText left right x =
-    ((lines : List (List ℕ)) × IsRefusal left lines × (x ≡ text_of_lines (lines_of_side (codes "left: ") lines)))
-    ⊎ (((lines : List (List ℕ)) × (t : Data) × IsAcceptedReport left t × IsRefusal right lines × (x ≡ text_of_lines (lines_of_side (codes "right: ") lines)))
-    ⊎ ((found : Option Difference) × IsComparison left right found × (x ≡ text_of_lines (comparison_line found ∷ []))))
+abbrev pub IsCompareText : Preference → List ℕ → List ℕ → List ℕ → Type 0
+IsCompareText π left right x =
+    ((lines : List (List ℕ)) × IsRefusal π left lines × (x ≡ text_of_lines (lines_of_side (codes "left: ") lines)))
+    ⊎ (((lines : List (List ℕ)) × (t : Data) × IsAcceptedReport π left t × IsRefusal π right lines × (x ≡ text_of_lines (lines_of_side (codes "right: ") lines)))
+    ⊎ ((found : Option Difference) × IsComparison π left right found × (x ≡ text_of_lines (comparison_line found ∷ []))))

@@ -10,32 +10,33 @@ use Rattle.erd_canon.specs.Bytes.{IsNotJson, IsCanonicalBytes}
 use Rattle.erd_canon.specs.EngineTexts.{IsCanonicalErrors, IsCanonicalOutput, IsCheckText, IsCompareText, IsComparison, IsRefusedReport, comparison_line, lines_of_side, text_of_lines}
 use Rattle.erd_canon.specs.Reading.{IsReadWhole}
 use Rattle.erd_canon.specs.Refused.{IsSomeReport}
+use Rattle.erd_meaning.specs.Keys.{Preference}
 
 -- the bytes have faults, and the text has one line for each
-abbrev pub IsToldFaults : List ℕ → List ℕ → Type 0
-IsToldFaults bytes text = (faults : List Fault) × IsRefusedReport bytes faults × (text ≡ text_of_lines (map fault_line faults))
+abbrev pub IsToldFaults : Preference → List ℕ → List ℕ → Type 0
+IsToldFaults π bytes text = (faults : List Fault) × IsRefusedReport π bytes faults × (text ≡ text_of_lines (map fault_line faults))
 
 -- the bytes are no JSON, and the text says so
 abbrev pub IsToldNotJson : List ℕ → List ℕ → Type 0
 IsToldNotJson bytes text = IsNotJson bytes × (text ≡ text_of_lines (codes "not JSON" ∷ []))
 
 -- what checking writes for given bytes, and the outcome
-abbrev pub IsChecked : List ℕ → Outcome → List ℕ → Type 0
-IsChecked bytes Good out = IsSomeReport bytes × (out ≡ text_of_lines (codes "accepted" ∷ []))
-IsChecked bytes Bad out = IsToldFaults bytes out
-IsChecked bytes NotJson out = IsToldNotJson bytes out
+abbrev pub IsChecked : Preference → List ℕ → Outcome → List ℕ → Type 0
+IsChecked π bytes Good out = IsSomeReport π bytes × (out ≡ text_of_lines (codes "accepted" ∷ []))
+IsChecked π bytes Bad out = IsToldFaults π bytes out
+IsChecked π bytes NotJson out = IsToldNotJson bytes out
 
 -- what canonicalising writes to the one writer and to the other for given bytes, and the outcome
-abbrev pub IsAnswered : List ℕ → Outcome → List ℕ → List ℕ → Type 0
-IsAnswered bytes Good out err = IsCanonicalBytes bytes out × (err ≡ [])
-IsAnswered bytes Bad out err = IsToldFaults bytes err × (out ≡ [])
-IsAnswered bytes NotJson out err = IsToldNotJson bytes err × (out ≡ [])
+abbrev pub IsAnswered : Preference → List ℕ → Outcome → List ℕ → List ℕ → Type 0
+IsAnswered π bytes Good out err = IsCanonicalBytes π bytes out × (err ≡ [])
+IsAnswered π bytes Bad out err = IsToldFaults π bytes err × (out ≡ [])
+IsAnswered π bytes NotJson out err = IsToldNotJson bytes err × (out ≡ [])
 
 -- the lines that tell of one of two reports why it is refused, and the outcome
-abbrev pub IsSideRefused : List ℕ → List ℕ → Outcome → List ℕ → Type 0
-IsSideRefused side bytes Good out = ⊥
-IsSideRefused side bytes Bad out = (faults : List Fault) × IsRefusedReport bytes faults × (out ≡ text_of_lines (lines_of_side side (map fault_line faults)))
-IsSideRefused side bytes NotJson out = IsNotJson bytes × (out ≡ text_of_lines (lines_of_side side (codes "not JSON" ∷ [])))
+abbrev pub IsSideRefused : Preference → List ℕ → List ℕ → Outcome → List ℕ → Type 0
+IsSideRefused π side bytes Good out = ⊥
+IsSideRefused π side bytes Bad out = (faults : List Fault) × IsRefusedReport π bytes faults × (out ≡ text_of_lines (lines_of_side side (map fault_line faults)))
+IsSideRefused π side bytes NotJson out = IsNotJson bytes × (out ≡ text_of_lines (lines_of_side side (codes "not JSON" ∷ [])))
 
 -- the outcome of a comparison of two accepted reports
 abbrev pub comparison_outcome : Option Difference → Outcome
@@ -43,83 +44,83 @@ comparison_outcome None = Good
 comparison_outcome (Some d) = Bad
 
 -- what comparing writes for the bytes of two reports, and the outcome
-abbrev pub IsCompared : List ℕ → List ℕ → Outcome → List ℕ → Type 0
-IsCompared left right outcome out =
-    IsSideRefused (codes "left: ") left outcome out
-    ⊎ ((IsSomeReport left × IsSideRefused (codes "right: ") right outcome out)
-    ⊎ ((found : Option Difference) × IsComparison left right found × (outcome ≡ comparison_outcome found) × (out ≡ text_of_lines (comparison_line found ∷ []))))
+abbrev pub IsCompared : Preference → List ℕ → List ℕ → Outcome → List ℕ → Type 0
+IsCompared π left right outcome out =
+    IsSideRefused π (codes "left: ") left outcome out
+    ⊎ ((IsSomeReport π left × IsSideRefused π (codes "right: ") right outcome out)
+    ⊎ ((found : Option Difference) × IsComparison π left right found × (outcome ≡ comparison_outcome found) × (out ≡ text_of_lines (comparison_line found ∷ []))))
 
 -- where the writer tells its bytes: what checking writes for the bytes was written, and nothing else
-pub record IsCheckWritten (bytes : List ℕ) (outcome : Outcome) (before after : Option (List ℕ)) : Type 0 where
+pub record IsCheckWritten (π : Preference) (bytes : List ℕ) (outcome : Outcome) (before after : Option (List ℕ)) : Type 0 where
   pub text : List ℕ
-  pub checked : IsChecked bytes outcome text
+  pub checked : IsChecked π bytes outcome text
   pub wrote : Appends before after text
 
 -- where the writers tell their bytes: what is answered for the bytes was written, and nothing else
-pub record IsAnswerWritten (bytes : List ℕ) (outcome : Outcome) (out_before out_after err_before err_after : Option (List ℕ)) : Type 0 where
+pub record IsAnswerWritten (π : Preference) (bytes : List ℕ) (outcome : Outcome) (out_before out_after err_before err_after : Option (List ℕ)) : Type 0 where
   pub out_text : List ℕ
   pub err_text : List ℕ
-  pub answered : IsAnswered bytes outcome out_text err_text
+  pub answered : IsAnswered π bytes outcome out_text err_text
   pub wrote_out : Appends out_before out_after out_text
   pub wrote_err : Appends err_before err_after err_text
 
 -- where the writer tells its bytes: what comparing writes for the bytes of two reports was written, and nothing else
-pub record IsCompareWritten (left right : List ℕ) (outcome : Outcome) (before after : Option (List ℕ)) : Type 0 where
+pub record IsCompareWritten (π : Preference) (left right : List ℕ) (outcome : Outcome) (before after : Option (List ℕ)) : Type 0 where
   pub text : List ℕ
-  pub compared : IsCompared left right outcome text
+  pub compared : IsCompared π left right outcome text
   pub wrote : Appends before after text
 
 -- where the devices tell their bytes: the reader was read to its end and held no more than the limit, and what checking
 -- writes for its bytes was written, and nothing else
-pub record IsWholeCheck (limit : ℕ) (outcome : Outcome) (before after out_before out_after : Option (List ℕ)) : Type 0 where
+pub record IsWholeCheck (π : Preference) (limit : ℕ) (outcome : Outcome) (before after out_before out_after : Option (List ℕ)) : Type 0 where
   pub input : List ℕ
   pub whole : IsReadWhole limit before after input
-  pub written : IsCheckWritten input outcome out_before out_after
+  pub written : IsCheckWritten π input outcome out_before out_after
 
 -- where the devices tell their bytes: the reader was read to its end and held no more than the limit, and what is
 -- answered for its bytes was written, and nothing else
-pub record IsWholeRun (limit : ℕ) (outcome : Outcome) (before after out_before out_after err_before err_after : Option (List ℕ)) : Type 0 where
+pub record IsWholeRun (π : Preference) (limit : ℕ) (outcome : Outcome) (before after out_before out_after err_before err_after : Option (List ℕ)) : Type 0 where
   pub input : List ℕ
   pub whole : IsReadWhole limit before after input
-  pub written : IsAnswerWritten input outcome out_before out_after err_before err_after
+  pub written : IsAnswerWritten π input outcome out_before out_after err_before err_after
 
 -- where the devices tell their bytes: each of two readers was read to its end and held no more than the limit, and what
 -- comparing writes for their bytes was written, and nothing else
-pub record IsWholeCompare (limit : ℕ) (outcome : Outcome) (left_before left_after right_before right_after out_before out_after : Option (List ℕ)) : Type 0 where
+pub record IsWholeCompare (π : Preference) (limit : ℕ) (outcome : Outcome) (left_before left_after right_before right_after out_before out_after : Option (List ℕ)) : Type 0 where
   pub left : List ℕ
   pub right : List ℕ
   pub left_whole : IsReadWhole limit left_before left_after left
   pub right_whole : IsReadWhole limit right_before right_after right
-  pub written : IsCompareWritten left right outcome out_before out_after
+  pub written : IsCompareWritten π left right outcome out_before out_after
 
 -- where the devices tell their bytes: the reader was read to its end and held no more than the limit, and written was a text
 -- that checking is to write for its bytes, and nothing else
-pub record IsToldCheck (limit : ℕ) (before after out_before out_after : Option (List ℕ)) : Type 0 where
+pub record IsToldCheck (π : Preference) (limit : ℕ) (before after out_before out_after : Option (List ℕ)) : Type 0 where
   pub input : List ℕ
   pub text : List ℕ
   pub whole : IsReadWhole limit before after input
-  pub is_text : IsCheckText input text
+  pub is_text : IsCheckText π input text
   pub wrote : Appends out_before out_after text
 
 -- where the devices tell their bytes: the reader was read to its end and held no more than the limit, and written were texts
 -- that canonicalising is to write for its bytes to the one writer and to the other, and nothing else
-pub record IsToldRun (limit : ℕ) (before after out_before out_after err_before err_after : Option (List ℕ)) : Type 0 where
+pub record IsToldRun (π : Preference) (limit : ℕ) (before after out_before out_after err_before err_after : Option (List ℕ)) : Type 0 where
   pub input : List ℕ
   pub out_text : List ℕ
   pub err_text : List ℕ
   pub whole : IsReadWhole limit before after input
-  pub output : IsCanonicalOutput input out_text
-  pub errors : IsCanonicalErrors input err_text
+  pub output : IsCanonicalOutput π input out_text
+  pub errors : IsCanonicalErrors π input err_text
   pub wrote_out : Appends out_before out_after out_text
   pub wrote_err : Appends err_before err_after err_text
 
 -- where the devices tell their bytes: each of two readers was read to its end and held no more than the limit, and written was
 -- a text that comparing is to write for their bytes, and nothing else
-pub record IsToldCompare (limit : ℕ) (left_before left_after right_before right_after out_before out_after : Option (List ℕ)) : Type 0 where
+pub record IsToldCompare (π : Preference) (limit : ℕ) (left_before left_after right_before right_after out_before out_after : Option (List ℕ)) : Type 0 where
   pub left : List ℕ
   pub right : List ℕ
   pub text : List ℕ
   pub left_whole : IsReadWhole limit left_before left_after left
   pub right_whole : IsReadWhole limit right_before right_after right
-  pub is_text : IsCompareText left right text
+  pub is_text : IsCompareText π left right text
   pub wrote : Appends out_before out_after text

@@ -1,4 +1,4 @@
-ghost use Rattle.std.specs.Prelude.{IfOk};
+ghost use Rattle.std.specs.Prelude.{◌≡◌, IfOk};
 ghost use Rattle.serde_json.specs.View.{view};
 ghost use Rattle.erd_meaning.specs.Records.{meaning};
 ghost use Rattle.erd_compare.specs.Differences.{IsDifference};
@@ -26,9 +26,10 @@ const PARTS: [Part; 10] = [
     Part::Style,
 ];
 
-/// The first difference of what two reports mean, and none exactly if they mean the same: at the least part, there at the
-/// least key; a different class before any member, else the least name of a member that differs. Reports differ in a contest's
-/// selections at its member `ContestSelection`, in a ballot's order at its member `OrderedContent`.
+/// The first difference of what two reports mean, which were resolved under one preference, and none exactly if they mean the
+/// same: at the least part, there at the least key; a different class before any member, else the least name of a member that
+/// differs. Reports differ in a contest's selections at its member `ContestSelection`, in a ballot's order at its member
+/// `OrderedContent`.
 ///
 /// Nothing is built to compare, and no record is copied: members are compared where they stand, references by the keys that
 /// they name. Each object is looked up by its key by going over the objects.
@@ -37,7 +38,8 @@ pub fn first_difference(
     left: &Report,
     right: &Report,
 ) -> Result<Option<Difference>, AllocError>
-    ensures { IfOk result (IsDifference (meaning (view left.now)) (meaning (view right.now))) }
+    requires one_preference { left.now.prefer ≡ right.now.prefer }
+    ensures { IfOk result (IsDifference (meaning left.now.prefer (view left.now.tree)) (meaning right.now.prefer (view right.now.tree))) }
 {
     let sides = Sides { left, right };
     for part in PARTS {

@@ -1,4 +1,5 @@
 -- What the definitions say of small reports, by computation.
+mod PreferenceExamples
 mod ReferenceExamples
 mod NameExamples
 pub mod RecordExamples

@@ -1,6 +1,8 @@
 -- Keys: what names an object independently of the vendor.
-use Rattle.std.specs.Prelude.{List, [], ◌∷◌, if◌then◌else◌, Bool, true, false, Option, Some, None, map, codes}
+use Rattle.std.specs.Prelude.{ℕ, List, [], ◌∷◌, if◌then◌else◌, Bool, true, false, Option, Some, None, map, filter, codes}
+use Rattle.std.specs.Option.{option_or}
 use Rattle.std.specs.Ordering.{ordering_then, is_lt}
+use Rattle.std.specs.Str.{bytes_eq}
 use Rattle.std.specs.declared.cmp.Ordering.{Ordering}
 use Rattle.serde_json.specs.Data.{Data}
 use Rattle.erd_tables.specs.Texts.{text_cmp}
@@ -37,10 +39,27 @@ abbrev pub least_key : List Key → Option Key
 least_key [] = None
 least_key (k ∷ ks) = Some (least_key_of k ks)
 
--- the key of an object: the least triple of its identifiers, if it has any (profile)
-abbrev pub key_of : Data → Option Key
-key_of d = least_key (map triple_of (entries_at (codes "ExternalIdentifier") d))
+-- a type of identifiers that keys follow, or none (profile)
+abbrev pub Preference : Type 0
+Preference = Option (List ℕ)
+
+-- whether a triple is of the type; `OtherType` is not looked at (profile)
+abbrev pub is_of_type : List ℕ → Key → Bool
+is_of_type type k = bytes_eq k.kind type
+
+-- the least of the triples of the preferred type, if there is one
+abbrev pub preferred_key : Preference → List Key → Option Key
+preferred_key None ks = None
+preferred_key (Some type) ks = least_key (filter (is_of_type type) ks)
+
+-- the key that identifiers give: the least triple of the preferred type, if there is one, else the least of all (profile)
+abbrev pub key_of_identifiers : Preference → List Data → Option Key
+key_of_identifiers π ds = option_or (preferred_key π (map triple_of ds)) (least_key (map triple_of ds))
+
+-- the key of an object, if it has an identifier (profile)
+abbrev pub key_of : Preference → Data → Option Key
+key_of π d = key_of_identifiers π (entries_at (codes "ExternalIdentifier") d)
 
 -- the key of an object of a family, if its family has keys
-abbrev pub key_of_family_object : Family → Data → Option Key
-key_of_family_object f d = if has_keys f then key_of d else None
+abbrev pub key_of_family_object : Preference → Family → Data → Option Key
+key_of_family_object π f d = if has_keys f then key_of π d else None

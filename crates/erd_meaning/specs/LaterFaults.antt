@@ -16,7 +16,7 @@ use Rattle.erd_check.specs.Faults.{is_reference}
 use Rattle.erd_check.specs.Wants.{Asked, asked_at}
 use Rattle.erd_check.specs.declared.want.Want.{Want}
 use Rattle.erd_check.specs.declared.want.Want.TheVariants.{Reference}
-use Rattle.erd_meaning.specs.Keys.{has_keys, key_of}
+use Rattle.erd_meaning.specs.Keys.{Preference, has_keys, key_of}
 use Rattle.erd_check.specs.Values.{entries_at, text_at}
 use Rattle.erd_meaning.specs.NameParts.{NameParts}
 use Rattle.erd_meaning.specs.Objects.{Placed, selections_of_contest, IsObject, id_of, has_id, owner, is_owned}
@@ -30,16 +30,16 @@ IsBefore a b = place_cmp a.place b.place ≡ Less
 -- ---- identity
 
 -- reason 12: an object that needs a key has no external identifier
-pub record LacksIdentifier (t : Data) (p : List Step) : Type 0 where
+pub record LacksIdentifier (π : Preference) (t : Data) (p : List Step) : Type 0 where
   pub family : Family
   pub keyed : IsTrue (has_keys family)
   pub placed : Placed
   pub stands : IsObject t family placed
   pub place : p ≡ placed.place
-  pub keyless : key_of placed.value ≡ None
+  pub keyless : key_of π placed.value ≡ None
 
 -- reason 13: an earlier object of the family has the same key
-pub record RepeatsKey (t : Data) (p : List Step) : Type 0 where
+pub record RepeatsKey (π : Preference) (t : Data) (p : List Step) : Type 0 where
   pub family : Family
   pub keyed : IsTrue (has_keys family)
   pub later : Placed
@@ -49,8 +49,8 @@ pub record RepeatsKey (t : Data) (p : List Step) : Type 0 where
   pub earlier_stands : IsObject t family earlier
   pub before : IsBefore earlier later
   pub key : Key
-  pub later_key : key_of later.value ≡ Some key
-  pub earlier_key : key_of earlier.value ≡ Some key
+  pub later_key : key_of π later.value ≡ Some key
+  pub earlier_key : key_of π earlier.value ≡ Some key
 
 -- reason 14: an earlier object, of whatever family, has the same `@id`
 pub record RepeatsId (t : Data) (p : List Step) : Type 0 where
@@ -67,11 +67,11 @@ pub record RepeatsId (t : Data) (p : List Step) : Type 0 where
   pub earlier_id : id_of earlier.value ≡ Some id
 
 -- the faults of keys and `@id` texts
-abbrev pub IdentityFault : Data → List Step → Reason → Type 0
-IdentityFault t p reason.NoIdentifier = LacksIdentifier t p
-IdentityFault t p reason.TwinIdentifier = RepeatsKey t p
-IdentityFault t p reason.DuplicateId = RepeatsId t p
-IdentityFault t p r = ⊥
+abbrev pub IdentityFault : Preference → Data → List Step → Reason → Type 0
+IdentityFault π t p reason.NoIdentifier = LacksIdentifier π t p
+IdentityFault π t p reason.TwinIdentifier = RepeatsKey π t p
+IdentityFault π t p reason.DuplicateId = RepeatsId t p
+IdentityFault π t p r = ⊥
 
 -- ---- references
 
@@ -131,7 +131,7 @@ ReferenceFault t p r = IsSomeAnd (asked_at t p) (λ a. IsTrue (is_reference_faul
 -- ---- selections
 
 -- reason 18: an earlier selection of the contest has the same name
-pub record RepeatsName (t : Data) (p : List Step) : Type 0 where
+pub record RepeatsName (π : Preference) (t : Data) (p : List Step) : Type 0 where
   pub contest : Placed
   pub contest_stands : IsObject t family.Contest contest
   pub later : Placed
@@ -141,10 +141,10 @@ pub record RepeatsName (t : Data) (p : List Step) : Type 0 where
   pub earlier_stands : Contains (selections_of_contest contest) earlier
   pub before : IsBefore earlier later
   pub name : NameParts
-  pub later_name : name_of t later.value ≡ Some name
-  pub earlier_name : name_of t earlier.value ≡ Some name
+  pub later_name : name_of π t later.value ≡ Some name
+  pub earlier_name : name_of π t earlier.value ≡ Some name
 
 -- the faults of selections
-abbrev pub SelectionFault : Data → List Step → Reason → Type 0
-SelectionFault t p reason.TwinSelection = RepeatsName t p
-SelectionFault t p r = ⊥
+abbrev pub SelectionFault : Preference → Data → List Step → Reason → Type 0
+SelectionFault π t p reason.TwinSelection = RepeatsName π t p
+SelectionFault π t p r = ⊥

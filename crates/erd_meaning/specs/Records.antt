@@ -18,7 +18,7 @@ use Rattle.erd_tables.specs.declared.member.MemberKind.TheVariants as kind
 use Rattle.erd_check.specs.Trees.{is_same_json}
 use Rattle.erd_check.specs.Values.{entries_of, entries_at, text_at}
 use Rattle.erd_check.specs.Wants.{class_of_object}
-use Rattle.erd_meaning.specs.Keys.{key_cmp, key_of}
+use Rattle.erd_meaning.specs.Keys.{Preference, key_cmp, key_of}
 use Rattle.erd_meaning.specs.Meaning.{JsonMap, JsonSet, KeySet, Label, untranslated, translated, Content, no_content, first_node, Node, a_contest, a_header, PlainValue, a_json, a_label, a_json_set, a_key, a_key_set, a_content, Record, SelectionRecord, MemberValue, a_plain, a_selection_map, ObjectRecord, Meaning}
 use Rattle.erd_meaning.specs.NameParts.{NameParts}
 use Rattle.erd_meaning.specs.Objects.{objects, elections}
@@ -65,40 +65,40 @@ is_header_class (Some class.OrderedHeader) = true
 is_header_class c = false
 
 -- a contest, with the names of its selections in their order (class OrderedContest)
-abbrev pub contest_node : Data → Data → Node
-contest_node t d =
-    a_contest (key_named t family.Contest (text_at (codes "ContestId") d))
-    (map (λ r. option_and_then (name_named t) (as_str r)) (entries_at (codes "OrderedContestSelectionIds") d))
+abbrev pub contest_node : Preference → Data → Data → Node
+contest_node π t d =
+    a_contest (key_named π t family.Contest (text_at (codes "ContestId") d))
+    (map (λ r. option_and_then (name_named π t) (as_str r)) (entries_at (codes "OrderedContestSelectionIds") d))
     (carried_members (class_of_node d) d)
 
 -- a header, with the content inside it (class OrderedHeader)
-abbrev pub header_node : Data → Data → Content → Node
-header_node t d inside = a_header (key_named t family.Header (text_at (codes "HeaderId") d)) inside (carried_members (class_of_node d) d)
+abbrev pub header_node : Preference → Data → Data → Content → Node
+header_node π t d inside = a_header (key_named π t family.Header (text_at (codes "HeaderId") d)) inside (carried_members (class_of_node d) d)
 
 -- a list of contests and headers in its order, at every depth of headers (classes BallotStyle and OrderedHeader);
 -- an empty list is as an absent one
 abbrev mutual
-  pub content_of : Data → Data → Content
-  content_of t (array ds) = nodes_of t ds
-  content_of t d = no_content
+  pub content_of : Preference → Data → Data → Content
+  content_of π t (array ds) = nodes_of π t ds
+  content_of π t d = no_content
 
   -- the contests and headers of an array
-  pub nodes_of : Data → Items → Content
-  nodes_of t no_items = no_content
-  nodes_of t (item d ds) = first_node (node_of t d) (nodes_of t ds)
+  pub nodes_of : Preference → Data → Items → Content
+  nodes_of π t no_items = no_content
+  nodes_of π t (item d ds) = first_node (node_of π t d) (nodes_of π t ds)
 
   -- a contest or a header
-  pub node_of : Data → Data → Node
-  node_of t (object ms) =
+  pub node_of : Preference → Data → Data → Node
+  node_of π t (object ms) =
       if is_header_class (class_of_node (object ms))
-      then header_node t (object ms) (content_inside t ms)
-      else contest_node t (object ms)
-  node_of t d = contest_node t d
+      then header_node π t (object ms) (content_inside π t ms)
+      else contest_node π t (object ms)
+  node_of π t d = contest_node π t d
 
   -- the content of the member `OrderedContent`
-  pub content_inside : Data → Members → Content
-  content_inside t no_members = no_content
-  content_inside t (member k d ms) = if bytes_eq (codes "OrderedContent") k then content_of t d else content_inside t ms
+  pub content_inside : Preference → Data → Members → Content
+  content_inside π t no_members = no_content
+  content_inside π t (member k d ms) = if bytes_eq (codes "OrderedContent") k then content_of π t d else content_inside π t ms
 
 -- ---- members
 
@@ -108,18 +108,18 @@ unless_empty v (array no_items) = None
 unless_empty v d = Some v
 
 -- what the value of a member of this kind means, where it means anything by itself
-abbrev pub plain_value : Data → MemberKind → Data → Option PlainValue
-plain_value t kind.Word d = Some (a_json d)
-plain_value t kind.Flag d = Some (a_json d)
-plain_value t kind.Whole d = Some (a_json d)
-plain_value t kind.Carried d = Some (a_json d)
-plain_value t kind.Label d = Some (a_label (label_of d))
-plain_value t (kind.One f) d = Some (a_key (option_and_then (key_named t f) (as_str d)))
-plain_value t (kind.Many f) d = unless_empty (a_key_set (key_set (keys_named t f (entries_of d)))) d
-plain_value t kind.Identifiers d = unless_empty (a_json_set (json_set (entries_of d))) d
-plain_value t kind.Languages d = unless_empty (a_json_set (json_set (entries_of d))) d
-plain_value t kind.Content d = unless_empty (a_content (content_of t d)) d
-plain_value t k d = None
+abbrev pub plain_value : Preference → Data → MemberKind → Data → Option PlainValue
+plain_value π t kind.Word d = Some (a_json d)
+plain_value π t kind.Flag d = Some (a_json d)
+plain_value π t kind.Whole d = Some (a_json d)
+plain_value π t kind.Carried d = Some (a_json d)
+plain_value π t kind.Label d = Some (a_label (label_of d))
+plain_value π t (kind.One f) d = Some (a_key (option_and_then (key_named π t f) (as_str d)))
+plain_value π t (kind.Many f) d = unless_empty (a_key_set (key_set (keys_named π t f (entries_of d)))) d
+plain_value π t kind.Identifiers d = unless_empty (a_json_set (json_set (entries_of d))) d
+plain_value π t kind.Languages d = unless_empty (a_json_set (json_set (entries_of d))) d
+plain_value π t kind.Content d = unless_empty (a_content (content_of π t d)) d
+plain_value π t k d = None
 
 -- a member of the report that is no part of its meaning
 abbrev pub is_in_envelope : Class → List ℕ → Bool
@@ -127,9 +127,9 @@ is_in_envelope class.ElectionReport name = is_envelope_name name
 is_in_envelope c name = false
 
 -- what a member of an object of the class means, where it means anything by itself
-abbrev pub plain_member : Data → Data → Class → List ℕ → Option PlainValue
-plain_member t d c name =
-    if is_in_envelope c name then None else option_and_then (plain_value t (kind_of_member c name)) (get name d)
+abbrev pub plain_member : Preference → Data → Data → Class → List ℕ → Option PlainValue
+plain_member π t d c name =
+    if is_in_envelope c name then None else option_and_then (plain_value π t (kind_of_member c name)) (get name d)
 
 -- ---- objects
 
@@ -138,42 +138,42 @@ abbrev pub record_with : {V : Type 0} → (Class → List ℕ → Option V) → 
 record_with members_of r d = option_map (λ c. record { class = c; members = members_of c }) (class_of_object r d)
 
 -- what a selection means
-abbrev pub selection_record : Data → Data → Option SelectionRecord
-selection_record t d = record_with (plain_member t d) selection_role d
+abbrev pub selection_record : Preference → Data → Data → Option SelectionRecord
+selection_record π t d = record_with (plain_member π t d) selection_role d
 
 -- the selection of this name means this
-abbrev pub selection_map : Data → List Data → NameParts → Option SelectionRecord
-selection_map t ds name =
-    option_and_then (selection_record t) (find (λ d. is_eq (option_cmp name_cmp (name_of t d) (Some name))) ds)
+abbrev pub selection_map : Preference → Data → List Data → NameParts → Option SelectionRecord
+selection_map π t ds name =
+    option_and_then (selection_record π t) (find (λ d. is_eq (option_cmp name_cmp (name_of π t d) (Some name))) ds)
 
 -- what a member of this kind means: that of a contest's selections is a map
-abbrev pub member_value : Data → MemberKind → Option Data → Option PlainValue → Option MemberValue
-member_value t (kind.Keyed family.Selection) found plain =
-    option_and_then (λ v. unless_empty (a_selection_map (selection_map t (entries_of v))) v) found
-member_value t k found plain = option_map a_plain plain
+abbrev pub member_value : Preference → Data → MemberKind → Option Data → Option PlainValue → Option MemberValue
+member_value π t (kind.Keyed family.Selection) found plain =
+    option_and_then (λ v. unless_empty (a_selection_map (selection_map π t (entries_of v))) v) found
+member_value π t k found plain = option_map a_plain plain
 
 -- what a member of an object of the class means
-abbrev pub member_of_class : Data → Data → Class → List ℕ → Option MemberValue
-member_of_class t d c name = member_value t (kind_of_member c name) (get name d) (plain_member t d c name)
+abbrev pub member_of_class : Preference → Data → Data → Class → List ℕ → Option MemberValue
+member_of_class π t d c name = member_value π t (kind_of_member c name) (get name d) (plain_member π t d c name)
 
 -- what an object means that is no selection
-abbrev pub object_record : Data → Role → Data → Option ObjectRecord
-object_record t r d = record_with (member_of_class t d) r d
+abbrev pub object_record : Preference → Data → Role → Data → Option ObjectRecord
+object_record π t r d = record_with (member_of_class π t d) r d
 
 -- the object of a family that has this key
-abbrev pub object_with_key : Data → Family → Key → Option Data
-object_with_key t f k =
-    option_map (λ o. o.value) (find (λ o. is_eq (option_cmp key_cmp (key_of o.value) (Some k))) (objects f t))
+abbrev pub object_with_key : Preference → Data → Family → Key → Option Data
+object_with_key π t f k =
+    option_map (λ o. o.value) (find (λ o. is_eq (option_cmp key_cmp (key_of π o.value) (Some k))) (objects f t))
 
 -- the records of a family by key; selections are in the records of their contests
-abbrev pub records_of : Data → Family → Key → Option ObjectRecord
-records_of t family.Selection k = None
-records_of t f k = option_and_then (object_record t (role.OfFamily f)) (object_with_key t f k)
+abbrev pub records_of : Preference → Data → Family → Key → Option ObjectRecord
+records_of π t family.Selection k = None
+records_of π t f k = option_and_then (object_record π t (role.OfFamily f)) (object_with_key π t f k)
 
 -- what a report means
-abbrev pub meaning : Data → Meaning
-meaning t = record {
-  report = object_record t role.Report t;
-  election = option_and_then (λ o. object_record t role.Election o.value) (slice_get (elections t) 0);
-  objects = records_of t;
+abbrev pub meaning : Preference → Data → Meaning
+meaning π t = record {
+  report = object_record π t role.Report t;
+  election = option_and_then (λ o. object_record π t role.Election o.value) (slice_get (elections t) 0);
+  objects = records_of π t;
 }

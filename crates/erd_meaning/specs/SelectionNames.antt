@@ -18,7 +18,7 @@ use Rattle.erd_tables.specs.declared.class.Family.TheVariants as family
 use Rattle.erd_tables.specs.declared.class.Role.{Role}
 use Rattle.erd_tables.specs.declared.class.Role.TheVariants as role
 use Rattle.erd_check.specs.Wants.{class_of_object}
-use Rattle.erd_meaning.specs.Keys.{key_cmp, key_of}
+use Rattle.erd_meaning.specs.Keys.{Preference, key_cmp, key_of}
 use Rattle.erd_check.specs.Values.{entries_at}
 use Rattle.erd_meaning.specs.NameParts.{NameParts}
 use Rattle.erd_meaning.specs.Objects.{owner}
@@ -43,18 +43,18 @@ compact_cmp a b = text_cmp (compact_text a) (compact_text b)
 -- ---- the six parts
 
 -- the key of what a reference names: none if it names nothing of the family
-abbrev pub key_named : Data → Family → List ℕ → Option Key
-key_named t f id = option_and_then key_of (owner t f id)
+abbrev pub key_named : Preference → Data → Family → List ℕ → Option Key
+key_named π t f id = option_and_then (key_of π) (owner t f id)
 
 -- the keys that the references of an array name
-abbrev pub keys_named : Data → Family → List Data → List Key
-keys_named t f references = filter_map (λ r. option_and_then (key_named t f) (as_str r)) references
+abbrev pub keys_named : Preference → Data → Family → List Data → List Key
+keys_named π t f references = filter_map (λ r. option_and_then (key_named π t f) (as_str r)) references
 
 -- the keys of the candidates or the parties that a selection is for (classes CandidateSelection, PartySelection)
-abbrev pub keys_of_selection : Data → Class → Data → List Key
-keys_of_selection t class.CandidateSelection d = keys_named t family.Candidate (entries_at (codes "CandidateIds") d)
-keys_of_selection t class.PartySelection d = keys_named t family.Party (entries_at (codes "PartyIds") d)
-keys_of_selection t c d = []
+abbrev pub keys_of_selection : Preference → Data → Class → Data → List Key
+keys_of_selection π t class.CandidateSelection d = keys_named π t family.Candidate (entries_at (codes "CandidateIds") d)
+keys_of_selection π t class.PartySelection d = keys_named π t family.Party (entries_at (codes "PartyIds") d)
+keys_of_selection π t c d = []
 
 -- whether `IsWriteIn` is true (class CandidateSelection)
 abbrev pub is_write_in : Class → Data → Bool
@@ -80,14 +80,14 @@ label_of_selection c d = None
 -- ---- names
 
 -- the name of a selection of this class
-abbrev pub name_in_class : Data → Class → Data → NameParts
-name_in_class t c d = record {
+abbrev pub name_in_class : Preference → Data → Class → Data → NameParts
+name_in_class π t c d = record {
   class = c;
-  keys = rising_list key_cmp (keys_of_selection t c d);
+  keys = rising_list key_cmp (keys_of_selection π t c d);
   write_in = is_write_in c d;
   order = order_of_selection d;
   label = label_of_selection c d;
-  identifier = key_of d;
+  identifier = key_of π d;
 }
 
 -- what the objects of a contest's array stand for
@@ -95,8 +95,8 @@ abbrev pub selection_role : Role
 selection_role = role.OfFamily family.Selection
 
 -- the name of a selection: none where it is of no class of selection
-abbrev pub name_of : Data → Data → Option NameParts
-name_of t d = option_map (λ c. name_in_class t c d) (class_of_object selection_role d)
+abbrev pub name_of : Preference → Data → Data → Option NameParts
+name_of π t d = option_map (λ c. name_in_class π t c d) (class_of_object selection_role d)
 
 -- classes by their names
 abbrev pub class_cmp : Class → Class → Ordering
@@ -113,5 +113,5 @@ name_cmp a b =
     (option_cmp key_cmp a.identifier b.identifier)))))
 
 -- the name of the selection that a reference names: none if it names none
-abbrev pub name_named : Data → List ℕ → Option NameParts
-name_named t id = option_and_then (name_of t) (owner t family.Selection id)
+abbrev pub name_named : Preference → Data → List ℕ → Option NameParts
+name_named π t id = option_and_then (name_of π t) (owner t family.Selection id)

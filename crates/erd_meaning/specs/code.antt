@@ -1,5 +1,6 @@
 -- What private functions answer, step by step, and laws that the code cites; that it agrees with the definitions is proved.
 pub mod Orders  -- the orders of keys, names and compact texts are total, and tell unequal ones apart
+pub mod ChosenKeys  -- the order in which the program chooses among identifiers
 pub mod TranslationOrder  -- the order of translations, as the program sorts them
 pub mod NameHashes  -- what a hasher is given of a key and of a name
 pub mod ObjectWalk  -- the objects in the order in which the program meets them, with the faults of identity

@@ -2,4 +2,5 @@
 
 pub mod key;
 pub mod key_of;
+pub(crate) mod key_rule;
 pub(crate) mod shared_key;

@@ -10,4 +10,4 @@ pub use keys::key::Key;
 pub use keys::key_of::key_of;
 pub use names::selection_name::SelectionName;
 pub use report::Report;
-pub use report::resolving::resolve;
+pub use report::resolving::{resolve, resolve_with};

@@ -14,19 +14,21 @@ pub(crate) mod reference_judge;
 pub(crate) mod resolving;
 
 use crate::keys::key::Key;
+use crate::keys::key_rule::KeyRule;
 use crate::names::name_in_contest::{NameInContest, place_of_name};
 use crate::names::naming::name_of_selection;
 use crate::names::selection_name::SelectionName;
 use crate::objects::lookup::{count_of, nth_of, place_of_id, place_of_key};
 use crate::objects::object::Object;
 use erd_check::values::entries_at;
-use erd_tables::Family;
+use erd_tables::{Family, Text};
 use serde_json::Value;
 use std::alloc::{AllocError, Global};
 use std::marker::Model;
 
-/// A report that is accepted: it has no fault of the shape, its objects are told apart, its references name them, and no two
-/// selections of one contest have one name. It borrows the report, and is seen by contracts as it.
+/// A report that is accepted under a preference: it has no fault of the shape, its objects are told apart, its references name
+/// them, and no two selections of one contest have one name. It borrows the report, owns a copy of the preference, and is seen
+/// by contracts as both.
 ///
 /// Its objects are named by their family and their position in it, counted from 0 in the order of the report.
 #[derive(Debug, Drop)]
@@ -34,21 +36,25 @@ pub struct Report<'a> {
     tree: &'a Value,
     objects: Vec<Object<'a>>,
     names: Vec<NameInContest>,
+    prefer: Option<Text>,
 }
 
 impl<'a> Model for Report<'a> {
     ghost use Rattle.std.specs.Coded.{codes};
     ghost use Rattle.serde_json.specs.contracts.value.Value as tree_value;
-    ghost use Rattle.serde_json.specs.declared.value.Value.{Value as Tree};
+    ghost use Rattle.erd_meaning.specs.Judged.{Judged};
     ghost use Rattle.erd_meaning.specs.code.Resolved.{IsResolved};
 
-    ghost Value = { Tree };
+    ghost Value = { Judged };
 
     ghost coded = { Prim.hlevel (codes, tree_value.the_row.coded) };
 
-    ghost view = { λ r. r.tree.now };
+    ghost view = { λ r. record {
+      tree = r.tree.now;
+      prefer = r.prefer;
+    } };
 
-    ghost invariant = { λ r. IsResolved r.tree.now r.objects.items r.names.items };
+    ghost invariant = { λ r. IsResolved r.prefer r.tree.now r.objects.items r.names.items };
 }
 
 impl<'a> Report<'a> {
@@ -57,22 +63,25 @@ impl<'a> Report<'a> {
         tree: &'a Value,
         objects: Vec<Object<'a>>,
         names: Vec<NameInContest>,
+        prefer: Option<Text>,
     ) -> Report<'a>
-        requires { IsResolved tree.now objects.items names.items }
-        ensures { result ≡ tree.now }
+        requires { IsResolved prefer tree.now objects.items names.items }
+        ensures tree { result.tree ≡ tree.now }
+        ensures prefer { result.prefer ≡ prefer }
     {
         Report {
             tree,
             objects,
             names,
+            prefer,
         }
     }
 
     /// The report that was handed in. It is accepted; the names of each object in it rise, and each number in it is whole and
     /// fits 64 bits.
     pub fn tree(&self) -> &'a Value
-        ensures tree { result.now ≡ self.now }
-        ensures accepted { IsAccepted (view result.now) }
+        ensures tree { result.now ≡ self.now.tree }
+        ensures accepted { IsAccepted self.now.prefer (view result.now) }
         ensures is_tree { IsTree (view result.now) }
         ensures whole { has_float (view result.now) ≡ false }
         ensures fits { HasFittingNumbers (view result.now) }
@@ -80,16 +89,26 @@ impl<'a> Report<'a> {
         self.tree
     }
 
+    /// The preference that the report was resolved under: the type of identifier that its keys follow, or none.
+    pub fn preference(&self) -> Option<&str>
+        ensures { option_copied result ≡ self.now.prefer }
+    {
+        match &self.prefer {
+            Some(text) => Some(text.as_str()),
+            None => None,
+        }
+    }
+
     /// The one election of the report.
     pub fn election(&self) -> &'a Value
-        ensures { map (λ o. o.value) (elections (view self.now)) ≡ view result.now ∷ [] }
+        ensures { map (λ o. o.value) (elections (view self.now.tree)) ≡ view result.now ∷ [] }
     {
         &entries_at(self.tree, "Election")[0]
     }
 
     /// How many objects of the family there are. All are gone over.
     pub fn count(&self, family: Family) -> usize
-        ensures { result ≡ length (objects family (view self.now)) }
+        ensures { result ≡ length (objects family (view self.now.tree)) }
     {
         count_of(&self.objects, family)
     }
@@ -97,7 +116,7 @@ impl<'a> Report<'a> {
     /// The object of the family at the position, if there is one. It is found by going over the objects, as are all that
     /// are asked for below.
     pub fn object(&self, family: Family, index: usize) -> Option<&'a Value>
-        ensures { option_map (λ v. view v.now) result ≡ option_map (λ o. o.value) (slice_get (objects family (view self.now)) index) }
+        ensures { option_map (λ v. view v.now) result ≡ option_map (λ o. o.value) (slice_get (objects family (view self.now.tree)) index) }
     {
         match nth_of(&self.objects, family, index) {
             Some(object) => Some(object.value),
@@ -108,7 +127,7 @@ impl<'a> Report<'a> {
     /// The key of the object of the family at the position, if there is one. Selections have no keys; each object of
     /// another family has one.
     pub fn key_at(&self, family: Family, index: usize) -> Option<&Key>
-        ensures { option_copied result ≡ key_in family (view self.now) index }
+        ensures { option_copied result ≡ key_in self.now.prefer family (view self.now.tree) index }
     {
         match nth_of(&self.objects, family, index) {
             Some(object) => object.shown_key(),
@@ -118,7 +137,7 @@ impl<'a> Report<'a> {
 
     /// The position of the object of the family with the key, if there is one. No two objects of a family have one key.
     pub fn find(&self, family: Family, key: &Key) -> Option<usize>
-        ensures { FindsKey (view self.now) family key.now result }
+        ensures { FindsKey self.now.prefer (view self.now.tree) family key.now result }
     {
         match place_of_key(&self.objects, family, key) {
             Some(place) => Some(count_of(&self.objects[..place], family)),
@@ -128,7 +147,7 @@ impl<'a> Report<'a> {
 
     /// The family and the position of the object with the `@id`, if there is one. No two objects have one `@id`.
     pub fn target(&self, id: &str) -> Option<(Family, usize)>
-        ensures { FindsId (view self.now) id.now result }
+        ensures { FindsId (view self.now.tree) id.now result }
     {
         match place_of_id(&self.objects, id) {
             Some(place) => {
@@ -141,7 +160,7 @@ impl<'a> Report<'a> {
 
     /// The position of the contest of the selection at the position, and its name, if there is a selection.
     pub fn selection_at(&self, index: usize) -> Option<(usize, &SelectionName)>
-        ensures { option_map (λ s. (s.0, s.1.now)) result ≡ selection_in (view self.now) index }
+        ensures { option_map (λ s. (s.0, s.1.now)) result ≡ selection_in self.now.prefer (view self.now.tree) index }
     {
         match self.names.get(index) {
             Some(selection) => Some((selection.contest, &selection.name)),
@@ -152,7 +171,7 @@ impl<'a> Report<'a> {
     /// The position of the selection of the contest at a position with the name, if there is one. No two selections of one
     /// contest have one name.
     pub fn find_selection(&self, contest: usize, name: &SelectionName) -> Option<usize>
-        ensures { FindsSelection (view self.now) contest name.now result }
+        ensures { FindsSelection self.now.prefer (view self.now.tree) contest name.now result }
     {
         place_of_name(&self.names, contest, name)
     }
@@ -164,8 +183,12 @@ impl<'a> Report<'a> {
         selection: &Value,
     ) -> Result<Option<SelectionName>, AllocError>
         requires whole { has_float (view selection.now) ≡ false }
-        ensures { IfOk result (λ name. name ≡ name_of (view self.now) (view selection.now)) }
+        ensures { IfOk result (λ name. name ≡ name_of self.now.prefer (view self.now.tree) (view selection.now)) }
     {
-        name_of_selection(alloc, &self.objects, selection)
+        let keys = KeyRule {
+            alloc,
+            prefer: self.preference(),
+        };
+        name_of_selection(&keys, &self.objects, selection)
     }
 }

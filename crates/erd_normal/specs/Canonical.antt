@@ -15,7 +15,7 @@ use Rattle.erd_check.specs.Faults.{is_empty_array}
 use Rattle.erd_check.specs.declared.want.Want.{Want}
 use Rattle.erd_check.specs.declared.want.Want.TheVariants.{Member}
 use Rattle.erd_meaning.specs.Accepted.{IsAccepted}
-use Rattle.erd_meaning.specs.Keys.{has_keys, key_cmp, key_of}
+use Rattle.erd_meaning.specs.Keys.{Preference, has_keys, key_cmp, key_of}
 use Rattle.erd_meaning.specs.Objects.{Placed, objects, id_of, selections_of_contest}
 use Rattle.erd_meaning.specs.Records.{meaning}
 use Rattle.erd_meaning.specs.SelectionNames.{compact_cmp, name_cmp, name_of, key_named}
@@ -53,28 +53,28 @@ HasNoEmptyArray t =
     → is_empty_array a.value ≡ false
 
 -- the keys of the objects in an array
-abbrev pub keys_of : List Data → List (Option Key)
-keys_of ds = map key_of ds
+abbrev pub keys_of : Preference → List Data → List (Option Key)
+keys_of π ds = map (key_of π) ds
 
 -- the keys of what the references in an array name
-abbrev pub keys_referred : Data → Family → List Data → List (Option Key)
-keys_referred t f ds = map (λ r. option_and_then (key_named t f) (as_str r)) ds
+abbrev pub keys_referred : Preference → Data → Family → List Data → List (Option Key)
+keys_referred π t f ds = map (λ r. option_and_then (key_named π t f) (as_str r)) ds
 
 -- the entries of a set of the table strictly rise: objects by key, selections by name, identifiers and translations by
 -- compact text, references by the key of what they name
-abbrev pub RisesAs : Data → MemberKind → List Data → Type 0
-RisesAs t (kind.Keyed family.Selection) ds = IsStrictlySortedBy (option_cmp name_cmp) (map (name_of t) ds)
-RisesAs t (kind.Keyed f) ds = IsStrictlySortedBy (option_cmp key_cmp) (keys_of ds)
-RisesAs t kind.Identifiers ds = IsStrictlySortedBy compact_cmp ds
-RisesAs t kind.Languages ds = IsStrictlySortedBy compact_cmp ds
-RisesAs t (kind.Many f) ds = IsStrictlySortedBy (option_cmp key_cmp) (keys_referred t f ds)
-RisesAs t k ds = ⊤
+abbrev pub RisesAs : Preference → Data → MemberKind → List Data → Type 0
+RisesAs π t (kind.Keyed family.Selection) ds = IsStrictlySortedBy (option_cmp name_cmp) (map (name_of π t) ds)
+RisesAs π t (kind.Keyed f) ds = IsStrictlySortedBy (option_cmp key_cmp) (keys_of π ds)
+RisesAs π t kind.Identifiers ds = IsStrictlySortedBy compact_cmp ds
+RisesAs π t kind.Languages ds = IsStrictlySortedBy compact_cmp ds
+RisesAs π t (kind.Many f) ds = IsStrictlySortedBy (option_cmp key_cmp) (keys_referred π t f ds)
+RisesAs π t k ds = ⊤
 
 -- each set of the table rises
-abbrev pub AreSetsInOrder : Data → Type 0
-AreSetsInOrder t =
+abbrev pub AreSetsInOrder : Preference → Data → Type 0
+AreSetsInOrder π t =
     (p : List Step) (a : Asked) (k : MemberKind) → asked_at t p ≡ Some a → kind_wanted a.want ≡ Some k
-    → RisesAs t k (entries_of a.value)
+    → RisesAs π t k (entries_of a.value)
 
 -- ---- `@id` texts
 
@@ -108,14 +108,14 @@ pub record HasCanonicalIds (t : Data) : Type 0 where
 -- ---- the whole
 
 -- a tree is canonical; what its references say needs no part of its own, since those of an accepted report resolve
-pub record IsCanonical (t : Data) : Type 0 where
-  pub accepted : IsAccepted t
+pub record IsCanonical (π : Preference) (t : Data) : Type 0 where
+  pub accepted : IsAccepted π t
   pub envelope : HasCanonicalEnvelope t
   pub no_empty_array : HasNoEmptyArray t
-  pub in_order : AreSetsInOrder t
+  pub in_order : AreSetsInOrder π t
   pub ids : HasCanonicalIds t
 
 -- u is the canonical form of t
-pub record IsCanonicalFormOf (t u : Data) : Type 0 where
-  pub canonical : IsCanonical u
-  pub same : meaning u ≡ meaning t
+pub record IsCanonicalFormOf (π : Preference) (t u : Data) : Type 0 where
+  pub canonical : IsCanonical π u
+  pub same : meaning π u ≡ meaning π t

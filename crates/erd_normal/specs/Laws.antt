@@ -10,7 +10,7 @@ use Rattle.erd_check.specs.Trees.{IsTree}
 use Rattle.erd_check.specs.Values.{entries_of}
 use Rattle.erd_check.specs.Wants.{Asked, asked_at}
 use Rattle.erd_meaning.specs.Accepted.{IsAccepted}
-use Rattle.erd_meaning.specs.Keys.{has_keys, key_of}
+use Rattle.erd_meaning.specs.Keys.{Preference, has_keys, key_of}
 use Rattle.erd_meaning.specs.NameParts.{NameParts}
 use Rattle.erd_meaning.specs.Objects.{Placed, contests, objects, selections_of_contest, IsObject, id_of}
 use Rattle.erd_meaning.specs.Records.{content_of, key_set, object_record, selection_record, meaning}
@@ -20,87 +20,87 @@ use Rattle.erd_normal.specs.Canonical.{kind_wanted, IsCanonical}
 use Rattle.erd_normal.specs.Rearranged.{Change, IsRearrangement}
 
 -- two canonical trees that mean the same
-pub record MeanAlike (t u : Data) : Type 0 where
+pub record MeanAlike (π : Preference) (t u : Data) : Type 0 where
   pub left_tree : IsTree t
   pub right_tree : IsTree u
-  pub left : IsCanonical t
-  pub right : IsCanonical u
-  pub same : meaning t ≡ meaning u
+  pub left : IsCanonical π t
+  pub right : IsCanonical π u
+  pub same : meaning π t ≡ meaning π u
 
 -- ---- the first law
 
 -- the keys of a family, in the order of its objects
-abbrev pub keys_in : Family → Data → List (Option Key)
-keys_in f t = map (λ o. key_of o.value) (objects f t)
+abbrev pub keys_in : Preference → Family → Data → List (Option Key)
+keys_in π f t = map (λ o. key_of π o.value) (objects f t)
 
 -- the `@id` texts of a family, in the order of its objects
 abbrev pub ids_in : Family → Data → List (Option (List ℕ))
 ids_in f t = map (λ o. id_of o.value) (objects f t)
 
 -- the names of the selections of a contest, in their order
-abbrev pub names_in : Data → Placed → List (Option NameParts)
-names_in t contest = map (λ o. name_of t o.value) (selections_of_contest contest)
+abbrev pub names_in : Preference → Data → Placed → List (Option NameParts)
+names_in π t contest = map (λ o. name_of π t o.value) (selections_of_contest contest)
 
 -- each family has the same list of keys, each contest the same of names, and so each family the same `@id` texts
-pub record HaveSameNames (t u : Data) : Type 0 where
-  pub keys : (f : Family) → IsTrue (has_keys f) → keys_in f t ≡ keys_in f u
-  pub names : map (names_in t) (contests t) ≡ map (names_in u) (contests u)
+pub record HaveSameNames (π : Preference) (t u : Data) : Type 0 where
+  pub keys : (f : Family) → IsTrue (has_keys f) → keys_in π f t ≡ keys_in π f u
+  pub names : map (names_in π t) (contests t) ≡ map (names_in π u) (contests u)
   pub ids : (f : Family) → ids_in f t ≡ ids_in f u
 
 -- the first law under uniqueness
 abbrev pub NamesAgree : Type 0
-NamesAgree = (t u : Data) → MeanAlike t u → HaveSameNames t u
+NamesAgree = (π : Preference) (t u : Data) → MeanAlike π t u → HaveSameNames π t u
 
 -- ---- the second law
 
 -- the selection stands in a contest of this key and has this name
-pub record IsSelection (t : Data) (key : Key) (name : NameParts) (selection : Placed) : Type 0 where
+pub record IsSelection (π : Preference) (t : Data) (key : Key) (name : NameParts) (selection : Placed) : Type 0 where
   pub contest : Placed
   pub contest_stands : IsObject t family.Contest contest
-  pub contest_key : key_of contest.value ≡ Some key
+  pub contest_key : key_of π contest.value ≡ Some key
   pub stands : Contains (selections_of_contest contest) selection
-  pub its_name : name_of t selection.value ≡ Some name
+  pub its_name : name_of π t selection.value ≡ Some name
 
 -- equal keys, equal sets of keys, equal selection names of one contest and equal contents are written alike
-pub record WriteAlike (t u : Data) : Type 0 where
+pub record WriteAlike (π : Preference) (t u : Data) : Type 0 where
   pub references : (f : Family) (a b : List ℕ) (k : Key) → IsTrue (has_keys f)
-      → key_named t f a ≡ Some k → key_named u f b ≡ Some k → a ≡ b
+      → key_named π t f a ≡ Some k → key_named π u f b ≡ Some k → a ≡ b
   pub sets : (f : Family) (p q : List Step) (a b : Asked) → IsTrue (has_keys f) → asked_at t p ≡ Some a → asked_at u q ≡ Some b
       → kind_wanted a.want ≡ Some (kind.Many f) → kind_wanted b.want ≡ Some (kind.Many f)
-      → key_set (keys_named t f (entries_of a.value)) ≡ key_set (keys_named u f (entries_of b.value)) → a.value ≡ b.value
-  pub selections : (k : Key) (n : NameParts) (one other : Placed) → IsSelection t k n one → IsSelection u k n other
+      → key_set (keys_named π t f (entries_of a.value)) ≡ key_set (keys_named π u f (entries_of b.value)) → a.value ≡ b.value
+  pub selections : (k : Key) (n : NameParts) (one other : Placed) → IsSelection π t k n one → IsSelection π u k n other
       → id_of one.value ≡ id_of other.value
   pub contents : (p q : List Step) (a b : Asked) → asked_at t p ≡ Some a → asked_at u q ≡ Some b
       → kind_wanted a.want ≡ Some kind.Content → kind_wanted b.want ≡ Some kind.Content
-      → content_of t a.value ≡ content_of u b.value → a.value ≡ b.value
+      → content_of π t a.value ≡ content_of π u b.value → a.value ≡ b.value
 
 -- the second law under uniqueness
 abbrev pub ReferencesAgree : Type 0
-ReferencesAgree = (t u : Data) → MeanAlike t u → WriteAlike t u
+ReferencesAgree = (π : Preference) (t u : Data) → MeanAlike π t u → WriteAlike π t u
 
 -- ---- the third law
 
 -- objects with equal records and equal `@id`, or none, are equal
-pub record HaveSameObjects (t u : Data) : Type 0 where
+pub record HaveSameObjects (π : Preference) (t u : Data) : Type 0 where
   pub objects : (f : Family) (one other : Placed) → IsTrue (has_keys f) → IsObject t f one → IsObject u f other
-      → object_record t (role.OfFamily f) one.value ≡ object_record u (role.OfFamily f) other.value
+      → object_record π t (role.OfFamily f) one.value ≡ object_record π u (role.OfFamily f) other.value
       → id_of one.value ≡ id_of other.value → one.value ≡ other.value
   pub selections : (one other : Placed) → IsObject t family.Selection one → IsObject u family.Selection other
-      → selection_record t one.value ≡ selection_record u other.value
+      → selection_record π t one.value ≡ selection_record π u other.value
       → id_of one.value ≡ id_of other.value → one.value ≡ other.value
 
 -- the third law under uniqueness
 abbrev pub ObjectsAgree : Type 0
-ObjectsAgree = (t u : Data) → MeanAlike t u → HaveSameObjects t u
+ObjectsAgree = (π : Preference) (t u : Data) → MeanAlike π t u → HaveSameObjects π t u
 
 -- ---- uniqueness and invariance
 
 -- no two canonical trees mean the same
 abbrev pub CanonicalIsUnique : Type 0
-CanonicalIsUnique = (t u : Data) → MeanAlike t u → t ≡ u
+CanonicalIsUnique = (π : Preference) (t u : Data) → MeanAlike π t u → t ≡ u
 
 -- a rearranged report is accepted as it was, and means the same
 abbrev pub RearrangedMeansTheSame : Type 0
 RearrangedMeansTheSame =
-    (t u : Data) (changes : List Change) → IsTree t → IsAccepted t → IsRearrangement changes t u
-    → IsAccepted u × (meaning u ≡ meaning t)
+    (π : Preference) (t u : Data) (changes : List Change) → IsTree t → IsAccepted π t → IsRearrangement changes t u
+    → IsAccepted π u × (meaning π u ≡ meaning π t)

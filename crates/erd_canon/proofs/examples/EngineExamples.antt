@@ -24,31 +24,31 @@ no_bytes : IsNotJson []
 unfolding serde_json_on_literals
 no_bytes t is = none-some t is.1
 
-not_json : IsRefusal [] (codes "not JSON" ∷ [])
+not_json : IsRefusal None [] (codes "not JSON" ∷ [])
 not_json = inl (no_bytes, refl)
 
-checked : IsCheckText [] (codes "not JSON\n")
+checked : IsCheckText None [] (codes "not JSON\n")
 checked = inr (codes "not JSON" ∷ [], not_json, refl)
 
-canonical_errors : IsCanonicalErrors [] (codes "not JSON\n")
+canonical_errors : IsCanonicalErrors None [] (codes "not JSON\n")
 canonical_errors = inr (codes "not JSON" ∷ [], not_json, refl)
 
-canonical_output : IsCanonicalOutput [] []
+canonical_output : IsCanonicalOutput None [] []
 canonical_output = inr ((λ t accepted. no_bytes t accepted.read), refl)
 
 -- the left report is judged first, whatever the right one is
-compared : (right : List ℕ) → IsCompareText [] right (codes "left: not JSON\n")
+compared : (right : List ℕ) → IsCompareText None [] right (codes "left: not JSON\n")
 compared right = inl (codes "not JSON" ∷ [], not_json, refl)
 
-compared_so : (right : List ℕ) → IsCompared [] right NotJson (codes "left: not JSON\n")
+compared_so : (right : List ℕ) → IsCompared None [] right NotJson (codes "left: not JSON\n")
 compared_so right = inl (no_bytes, refl)
 
 -- the right report is judged where the left one is accepted
-compared_right : (left : List ℕ) (t : Data) → IsAcceptedReport left t → IsCompared left [] NotJson (codes "right: not JSON\n")
+compared_right : (left : List ℕ) (t : Data) → IsAcceptedReport None left t → IsCompared None left [] NotJson (codes "right: not JSON\n")
 compared_right left t accepted = inr (inl ((t, accepted), (no_bytes, refl)))
 
 -- an accepted report means the same as itself
-compared_same : (b : List ℕ) (t : Data) → IsAcceptedReport b t → IsCompared b b Good (codes "same\n")
+compared_same : (b : List ℕ) (t : Data) → IsAcceptedReport None b t → IsCompared None b b Good (codes "same\n")
 compared_same b t accepted =
     inr (inr (None, record { left_tree = t; right_tree = t; left_accepted = accepted; right_accepted = accepted; difference = refl }, refl, refl))
 
@@ -79,12 +79,12 @@ fault_is [] reason.SelectionOfOtherContest h = absurd (cc h)
 fault_is [] reason.TwinSelection h = absurd (cc h)
 fault_is (s ∷ ss) r h = absurd h
 
-listed : (f : Fault) → Contains (root_kind ∷ []) f → IsFault null f.place f.reason
+listed : (f : Fault) → Contains (root_kind ∷ []) f → IsFault None null f.place f.reason
 unfolding root_kind
-listed f (zero, less, is) = subst (λ g. IsFault null g.place g.reason) is (inl refl)
+listed f (zero, less, is) = subst (λ g. IsFault None null g.place g.reason) is (inl refl)
 listed f (suc k, less, is) = absurd (omega (arith, less))
 
-found : (f : Fault) → IsFault null f.place f.reason → Contains (root_kind ∷ []) f
+found : (f : Fault) → IsFault None null f.place f.reason → Contains (root_kind ∷ []) f
 found f (inl h) = (0, lit< tt, fault_is f.place f.reason h)
 found f (inr (none, h)) = absurd (none [] reason.WrongKind refl)
 
@@ -92,7 +92,7 @@ one_sorted : IsStrictlySortedBy fault_cmp (root_kind ∷ [])
 unfolding IsStrictlySortedBy
 one_sorted = (tt, tt)
 
-null_refused : IsRefusedReport (codes "null") (root_kind ∷ [])
+null_refused : IsRefusedReport None (codes "null") (root_kind ∷ [])
 unfolding serde_json_on_literals
 null_refused = record {
   tree = null;
@@ -101,10 +101,10 @@ null_refused = record {
   some = λ e. absurd (cc e);
 }
 
-null_checked : IsCheckText (codes "null") (codes ": wrong kind\n")
+null_checked : IsCheckText None (codes "null") (codes ": wrong kind\n")
 unfolding root_kind
 null_checked = inr (codes ": wrong kind" ∷ [], inr (root_kind ∷ [], null_refused, refl), refl)
 
-null_compared : (right : List ℕ) → IsCompared (codes "null") right Bad (codes "left: : wrong kind\n")
+null_compared : (right : List ℕ) → IsCompared None (codes "null") right Bad (codes "left: : wrong kind\n")
 unfolding root_kind
 null_compared right = inl (root_kind ∷ [], null_refused, refl)

@@ -17,13 +17,13 @@ tree_of_canonical : IsTreeOf one_unit_canonical (tree_of one_unit_canonical)
 unfolding serde_json_on_literals
 tree_of_canonical = ((one_unit_canonical, (refl, refl)), refl)
 
-accepted : IsAcceptedReport one_unit (tree_of one_unit)
+accepted : IsAcceptedReport None one_unit (tree_of one_unit)
 accepted = record { read = tree_of_one_unit; accepted = one_unit_is_accepted }
 
-canonical_accepted : IsAcceptedReport one_unit_canonical (tree_of one_unit_canonical)
+canonical_accepted : IsAcceptedReport None one_unit_canonical (tree_of one_unit_canonical)
 canonical_accepted = record { read = tree_of_canonical; accepted = one_unit_canonical_is_accepted }
 
-canonical_bytes : IsCanonicalBytes one_unit one_unit_canonical
+canonical_bytes : IsCanonicalBytes None one_unit one_unit_canonical
 unfolding serde_json_on_literals digits
 canonical_bytes = record {
   report = tree_of one_unit;
@@ -35,7 +35,7 @@ canonical_bytes = record {
 }
 
 -- canonical bytes are their own
-own_form : IsCanonicalBytes one_unit_canonical one_unit_canonical
+own_form : IsCanonicalBytes None one_unit_canonical one_unit_canonical
 unfolding serde_json_on_literals digits
 own_form = record {
   report = tree_of one_unit_canonical;
@@ -46,17 +46,17 @@ own_form = record {
   reads_back = tree_of_canonical;
 }
 
-checked : IsCheckText one_unit (codes "accepted\n")
+checked : IsCheckText None one_unit (codes "accepted\n")
 checked = inl (tree_of one_unit, accepted, refl)
 
-written : IsCanonicalOutput one_unit one_unit_canonical
+written : IsCanonicalOutput None one_unit one_unit_canonical
 written = inl canonical_bytes
 
-no_errors : IsCanonicalErrors one_unit []
+no_errors : IsCanonicalErrors None one_unit []
 no_errors = inl (tree_of one_unit, accepted, refl)
 
 -- the report and its canonical form mean the same
-comparison : IsComparison one_unit one_unit_canonical None
+comparison : IsComparison None one_unit one_unit_canonical None
 comparison = record {
   left_tree = tree_of one_unit;
   right_tree = tree_of one_unit_canonical;
@@ -65,5 +65,5 @@ comparison = record {
   difference = sym canonical_means_the_same;
 }
 
-compared : IsCompareText one_unit one_unit_canonical (codes "same\n")
+compared : IsCompareText None one_unit one_unit_canonical (codes "same\n")
 compared = inr (inr (None, comparison, refl))

@@ -3,6 +3,7 @@ use Rattle.std.proofs.Common.{◌≡◌, ℕ, List, refl, sym, ◌∙◌, ap, su
 use Rattle.serde_json.specs.Data.{Data}
 use Rattle.serde_json.specs.Written.{compact_text}
 use Rattle.erd_check.proofs.ReadTrees.{read_is_tree}
+use Rattle.erd_meaning.specs.Keys.{Preference}
 use Rattle.erd_meaning.specs.Records.{meaning}
 use Rattle.erd_normal.proofs.unique.Unique.{unique}
 use Rattle.erd_normal.specs.Laws.{MeanAlike}
@@ -11,32 +12,32 @@ use Rattle.erd_canon.specs.ByteLaws.{OneFormForOneMeaning, IsItsOwnForm}
 use Rattle.erd_canon.specs.Bytes.{IsTreeOf, IsCanonicalBytes}
 
 -- the tree of canonical bytes means what the report means
-meant : (b c : List ℕ) (t : Data) (k : IsCanonicalBytes b c) → IsTreeOf b t → meaning k.tree ≡ meaning t
-meant b c t k is = k.is_canonical.same ∙ ap meaning (one_tree b k.report t k.is_accepted.read is)
+meant : (π : Preference) (b c : List ℕ) (t : Data) (k : IsCanonicalBytes π b c) → IsTreeOf b t → meaning π k.tree ≡ meaning π t
+meant π b c t k is = k.is_canonical.same ∙ ap (meaning π) (one_tree b k.report t k.is_accepted.read is)
 
 -- the trees of the canonical bytes of two reports that mean the same
-alike : (b c b2 c2 : List ℕ) (t t2 : Data) (k : IsCanonicalBytes b c) (k2 : IsCanonicalBytes b2 c2) → IsTreeOf b t → IsTreeOf b2 t2
-    → meaning t ≡ meaning t2 → MeanAlike k.tree k2.tree
-alike b c b2 c2 t t2 k k2 is is2 same = record {
+alike : (π : Preference) (b c b2 c2 : List ℕ) (t t2 : Data) (k : IsCanonicalBytes π b c) (k2 : IsCanonicalBytes π b2 c2) → IsTreeOf b t → IsTreeOf b2 t2
+    → meaning π t ≡ meaning π t2 → MeanAlike π k.tree k2.tree
+alike π b c b2 c2 t t2 k k2 is is2 same = record {
   left_tree = read_is_tree c k.tree k.reads_back.1;
   right_tree = read_is_tree c2 k2.tree k2.reads_back.1;
   left = k.is_canonical.canonical;
   right = k2.is_canonical.canonical;
-  same = meant b c t k is ∙ same ∙ sym (meant b2 c2 t2 k2 is2);
+  same = meant π b c t k is ∙ same ∙ sym (meant π b2 c2 t2 k2 is2);
 }
 
 -- two reports have equal canonical bytes exactly if they mean the same
 pub one_form_for_one_meaning : OneFormForOneMeaning
-one_form_for_one_meaning b c k b2 c2 t t2 k2 is is2 = (
+one_form_for_one_meaning π b c k b2 c2 t t2 k2 is is2 = (
   λ one.
       let same : k.tree ≡ k2.tree = one_tree c2 k.tree k2.tree (subst (λ x. IsTreeOf x k.tree) one k.reads_back) k2.reads_back in
-      sym (meant b c t k is) ∙ ap meaning same ∙ meant b2 c2 t2 k2 is2,
-  λ same. k.written ∙ ap compact_text (unique k.tree k2.tree (alike b c b2 c2 t t2 k k2 is is2 same)) ∙ sym k2.written,
+      sym (meant π b c t k is) ∙ ap (meaning π) same ∙ meant π b2 c2 t2 k2 is2,
+  λ same. k.written ∙ ap compact_text (unique π k.tree k2.tree (alike π b c b2 c2 t t2 k k2 is is2 same)) ∙ sym k2.written,
 )
 
 -- canonical bytes are canonical bytes of themselves
-own_bytes : (b c : List ℕ) → IsCanonicalBytes b c → IsCanonicalBytes c c
-own_bytes b c k = record {
+own_bytes : (π : Preference) (b c : List ℕ) → IsCanonicalBytes π b c → IsCanonicalBytes π c c
+own_bytes π b c k = record {
   report = k.tree;
   is_accepted = record { read = k.reads_back; accepted = k.is_canonical.canonical.accepted };
   tree = k.tree;
@@ -47,7 +48,7 @@ own_bytes b c k = record {
 
 -- canonical bytes are their own canonical bytes, and have no others
 pub is_its_own_form : IsItsOwnForm
-is_its_own_form b c k = (
-  own_bytes b c k,
-  λ d other. sym ((one_form_for_one_meaning c c (own_bytes b c k) c d k.tree k.tree other k.reads_back k.reads_back).1 refl),
+is_its_own_form π b c k = (
+  own_bytes π b c k,
+  λ d other. sym ((one_form_for_one_meaning π c c (own_bytes π b c k) c d k.tree k.tree other k.reads_back k.reads_back).1 refl),
 )

@@ -8,6 +8,7 @@ use Rattle.erd_check.specs.Refusals.{RefusedFor}
 use Rattle.erd_check.specs.declared.error.CheckError.{CheckError}
 use Rattle.erd_check.specs.declared.error.CheckError.TheVariants.{Faults, Memory}
 use Rattle.erd_meaning.proofs.refused.RefusedLists.{first_refused}
+use Rattle.erd_meaning.specs.Keys.{Preference}
 use Rattle.erd_meaning.specs.Accepted.{IsFault, OrElse}
 use Rattle.erd_meaning.specs.LaterFaults.{IdentityFault, ReferenceFault, SelectionFault}
 use Rattle.erd_canon.specs.Bytes.{IsTreeOf}
@@ -15,25 +16,25 @@ use Rattle.erd_canon.specs.EngineTexts.{IsRefusedReport}
 use Rattle.erd_canon.specs.Refused.{IsSomeReport, RefusedAs, refusal_for}
 
 -- where the shape has faults, they are all
-pub refused_shape : (t : Data) (e : CheckError) → RefusedFor (ShapeFault t) e → RefusedFor (IsFault t) e
-refused_shape t (Faults faults) (all, some) =
-    (first_refused (ShapeFault t) (OrElse (IdentityFault t) (OrElse (ReferenceFault t) (SelectionFault t))) faults all some, some)
-refused_shape t Memory h = tt
+pub refused_shape : (π : Preference) (t : Data) (e : CheckError) → RefusedFor (ShapeFault t) e → RefusedFor (IsFault π t) e
+refused_shape π t (Faults faults) (all, some) =
+    (first_refused (ShapeFault t) (OrElse (IdentityFault π t) (OrElse (ReferenceFault t) (SelectionFault π t))) faults all some, some)
+refused_shape π t Memory h = tt
 
 -- bytes are no two trees
 pub one_tree : (b : List ℕ) (t u : Data) → IsTreeOf b t → IsTreeOf b u → t ≡ u
 one_tree b t u (utf8, is) (also, was) = let both : Some t ≡ Some u = sym is ∙ was in cc
 
 -- bytes with a fault are no accepted report
-pub refused_is_none : (b : List ℕ) (faults : List Fault) → IsRefusedReport b faults → ¬ IsSomeReport b
-refused_is_none b [] r (t, a) = absurd (r.some refl)
-refused_is_none b (f ∷ fs) r (t, a) =
-    let fault : IsFault r.tree f.place f.reason = (r.all.each f).0 (contains_from_In f (f ∷ fs) (inl refl)) in
-    a.accepted f.place f.reason (subst (λ u. IsFault u f.place f.reason) (one_tree b r.tree t r.read a.read) fault)
+pub refused_is_none : (π : Preference) (b : List ℕ) (faults : List Fault) → IsRefusedReport π b faults → ¬ IsSomeReport π b
+refused_is_none π b [] r (t, a) = absurd (r.some refl)
+refused_is_none π b (f ∷ fs) r (t, a) =
+    let fault : IsFault π r.tree f.place f.reason = (r.all.each f).0 (contains_from_In f (f ∷ fs) (inl refl)) in
+    a.accepted f.place f.reason (subst (λ u. IsFault π u f.place f.reason) (one_tree b r.tree t r.read a.read) fault)
 
 -- bytes are refused as their tree is
-pub refused_tree : (b : List ℕ) (t : Data) (e : CheckError) → IsTreeOf b t → RefusedFor (IsFault t) e → RefusedAs b (refusal_for e)
-refused_tree b t (Faults faults) read (all, some) =
-    let refused : IsRefusedReport b faults = record { tree = t; read = read; all = all; some = some } in
-    (refused, refused_is_none b faults refused)
-refused_tree b t Memory read h = tt
+pub refused_tree : (π : Preference) (b : List ℕ) (t : Data) (e : CheckError) → IsTreeOf b t → RefusedFor (IsFault π t) e → RefusedAs π b (refusal_for e)
+refused_tree π b t (Faults faults) read (all, some) =
+    let refused : IsRefusedReport π b faults = record { tree = t; read = read; all = all; some = some } in
+    (refused, refused_is_none π b faults refused)
+refused_tree π b t Memory read h = tt

@@ -4,6 +4,7 @@ use Rattle.std.specs.Io.KnownBytes.{Appends}
 use Rattle.std.specs.Prelude.{IfOk, OnOk}
 use Rattle.serde_json.specs.Data.{Data}
 use Rattle.erd_tables.specs.Faults.{fault_line}
+use Rattle.erd_meaning.specs.Keys.{Preference}
 use Rattle.erd_meaning.specs.Accepted.{IsAccepted}
 use Rattle.erd_meaning.specs.Records.{meaning}
 use Rattle.erd_compare.specs.DifferenceLine.{difference_line}
@@ -22,74 +23,74 @@ use Rattle.erd_canon.specs.declared.bytes.refusal.Refusal.{Refusal}
 use Rattle.erd_canon.specs.declared.bytes.refusal.Refusal.TheVariants as refusal
 
 -- the first difference of the meanings of two trees that bytes are
-pub compared : (left right : List ℕ) (t u r s : Data) (found : Option Difference) → IsTreeOf left t → IsAccepted t → r ≡ t → IsTreeOf right u → IsAccepted u → s ≡ u
-    → IsDifference (meaning r) (meaning s) found → IsComparison left right found
-compared left right t u r s found left_read left_accepted left_same right_read right_accepted right_same is = record {
+pub compared : (π : Preference) (left right : List ℕ) (t u r s : Data) (found : Option Difference) → IsTreeOf left t → IsAccepted π t → r ≡ t → IsTreeOf right u → IsAccepted π u → s ≡ u
+    → IsDifference (meaning π r) (meaning π s) found → IsComparison π left right found
+compared π left right t u r s found left_read left_accepted left_same right_read right_accepted right_same is = record {
   left_tree = t;
   right_tree = u;
   left_accepted = record { read = left_read; accepted = left_accepted };
   right_accepted = record { read = right_read; accepted = right_accepted };
-  difference = subst (λ d. IsDifference (meaning d) (meaning u) found) left_same (subst (λ d. IsDifference (meaning r) (meaning d) found) right_same is);
+  difference = subst (λ d. IsDifference (meaning π d) (meaning π u) found) left_same (subst (λ d. IsDifference (meaning π r) (meaning π d) found) right_same is);
 }
 
 -- what is written of the refusal of bytes tells why they are refused
-pub side_refused : (side bytes : List ℕ) (refused : Refusal) (outcome : Outcome) (text : List ℕ) → RefusedAs bytes refused → TellsRefusal side refused outcome text
-    → IsSideRefused side bytes outcome text
-side_refused side bytes (refusal.Faults faults) Bad text (refused, none) is = (faults, refused, is)
-side_refused side bytes refusal.NotJson NotJson text not is = (not, is)
-side_refused side bytes (refusal.Faults faults) Good text refused is = absurd is
-side_refused side bytes (refusal.Faults faults) NotJson text refused is = absurd is
-side_refused side bytes refusal.NotJson Good text not is = absurd is
-side_refused side bytes refusal.NotJson Bad text not is = absurd is
-side_refused side bytes refusal.Memory outcome text unsaid is = absurd is
+pub side_refused : (π : Preference) (side bytes : List ℕ) (refused : Refusal) (outcome : Outcome) (text : List ℕ) → RefusedAs π bytes refused → TellsRefusal side refused outcome text
+    → IsSideRefused π side bytes outcome text
+side_refused π side bytes (refusal.Faults faults) Bad text (refused, none) is = (faults, refused, is)
+side_refused π side bytes refusal.NotJson NotJson text not is = (not, is)
+side_refused π side bytes (refusal.Faults faults) Good text refused is = absurd is
+side_refused π side bytes (refusal.Faults faults) NotJson text refused is = absurd is
+side_refused π side bytes refusal.NotJson Good text not is = absurd is
+side_refused π side bytes refusal.NotJson Bad text not is = absurd is
+side_refused π side bytes refusal.Memory outcome text unsaid is = absurd is
 
 -- where an answer holds what was written of the refusal of the right bytes
-pub right_refusal_written : (left right : List ℕ) (refused : Refusal) (r : Result Outcome RunFault) (before after : Option (List ℕ)) → IsSomeReport left → RefusedAs right refused
-    → IfOk r (λ outcome. IsRefusalWritten (codes "right: ") refused outcome before after) → IfOk r (λ outcome. IsCompareWritten left right outcome before after)
-right_refusal_written left right refused (Ok outcome) before after accepted is written = record {
+pub right_refusal_written : (π : Preference) (left right : List ℕ) (refused : Refusal) (r : Result Outcome RunFault) (before after : Option (List ℕ)) → IsSomeReport π left → RefusedAs π right refused
+    → IfOk r (λ outcome. IsRefusalWritten (codes "right: ") refused outcome before after) → IfOk r (λ outcome. IsCompareWritten π left right outcome before after)
+right_refusal_written π left right refused (Ok outcome) before after accepted is written = record {
   text = written.text;
-  compared = inr (inl (accepted, side_refused (codes "right: ") right refused outcome written.text is written.tells));
+  compared = inr (inl (accepted, side_refused π (codes "right: ") right refused outcome written.text is written.tells));
   wrote = written.wrote;
 }
-right_refusal_written left right refused (Err fault) before after accepted is written = tt
+right_refusal_written π left right refused (Err fault) before after accepted is written = tt
 
 -- where an answer holds that the line of the first difference was written
-pub difference_written : (left right text : List ℕ) (d : Difference) (r : Result Outcome RunFault) (before after : Option (List ℕ)) → IsComparison left right (Some d)
+pub difference_written : (π : Preference) (left right text : List ℕ) (d : Difference) (r : Result Outcome RunFault) (before after : Option (List ℕ)) → IsComparison π left right (Some d)
     → text ≡ text_of_lines (difference_line d ∷ []) → IfOk r (λ outcome. outcome ≡ Bad) → OnOk r (Appends before after text)
-    → IfOk r (λ outcome. IsCompareWritten left right outcome before after)
-difference_written left right text d (Ok outcome) before after is text_is outcome_is wrote = record {
+    → IfOk r (λ outcome. IsCompareWritten π left right outcome before after)
+difference_written π left right text d (Ok outcome) before after is text_is outcome_is wrote = record {
   text = text;
   compared = inr (inr (Some d, is, outcome_is, text_is));
   wrote = wrote;
 }
-difference_written left right text d (Err fault) before after is text_is outcome_is wrote = tt
+difference_written π left right text d (Err fault) before after is text_is outcome_is wrote = tt
 
 -- the lines of a side
-side_lines : (side bytes : List ℕ) (outcome : Outcome) (text : List ℕ) → IsSideRefused side bytes outcome text
-    → (lines : List (List ℕ)) × IsRefusal bytes lines × (text ≡ text_of_lines (lines_of_side side lines))
-side_lines side bytes Good text is = absurd is
-side_lines side bytes Bad text (faults, refused, is) = (map fault_line faults, inr (faults, refused, refl), is)
-side_lines side bytes NotJson text (not, is) = (codes "not JSON" ∷ [], inl (not, refl), is)
+side_lines : (π : Preference) (side bytes : List ℕ) (outcome : Outcome) (text : List ℕ) → IsSideRefused π side bytes outcome text
+    → (lines : List (List ℕ)) × IsRefusal π bytes lines × (text ≡ text_of_lines (lines_of_side side lines))
+side_lines π side bytes Good text is = absurd is
+side_lines π side bytes Bad text (faults, refused, is) = (map fault_line faults, inr (faults, refused, refl), is)
+side_lines π side bytes NotJson text (not, is) = (codes "not JSON" ∷ [], inl (not, refl), is)
 
 -- the text of a comparison
-pub compared_text : (left right : List ℕ) (outcome : Outcome) (text : List ℕ) → IsCompared left right outcome text → IsCompareText left right text
-compared_text left right outcome text (inl refused) = inl (side_lines (codes "left: ") left outcome text refused)
-compared_text left right outcome text (inr (inl ((t, accepted), refused))) =
-    let told = side_lines (codes "right: ") right outcome text refused in inr (inl (told.0, t, accepted, told.1, told.2))
-compared_text left right outcome text (inr (inr (found, is, outcome_is, text_is))) = inr (inr (found, is, text_is))
+pub compared_text : (π : Preference) (left right : List ℕ) (outcome : Outcome) (text : List ℕ) → IsCompared π left right outcome text → IsCompareText π left right text
+compared_text π left right outcome text (inl refused) = inl (side_lines π (codes "left: ") left outcome text refused)
+compared_text π left right outcome text (inr (inl ((t, accepted), refused))) =
+    let told = side_lines π (codes "right: ") right outcome text refused in inr (inl (told.0, t, accepted, told.1, told.2))
+compared_text π left right outcome text (inr (inr (found, is, outcome_is, text_is))) = inr (inr (found, is, text_is))
 
 -- where an answer holds a whole comparison
-pub told_of_compare : (limit : ℕ) (r : Result Outcome RunFault) (left right : List ℕ) (left_before left_after right_before right_after out_before out_after : Option (List ℕ))
+pub told_of_compare : (π : Preference) (limit : ℕ) (r : Result Outcome RunFault) (left right : List ℕ) (left_before left_after right_before right_after out_before out_after : Option (List ℕ))
     → IsReadWhole limit left_before left_after left → IsReadWhole limit right_before right_after right
-    → IfOk r (λ outcome. IsCompareWritten left right outcome out_before out_after)
-    → IfOk r (λ _. IsToldCompare limit left_before left_after right_before right_after out_before out_after)
-told_of_compare limit (Ok outcome) left right left_before left_after right_before right_after out_before out_after left_whole right_whole written = record {
+    → IfOk r (λ outcome. IsCompareWritten π left right outcome out_before out_after)
+    → IfOk r (λ _. IsToldCompare π limit left_before left_after right_before right_after out_before out_after)
+told_of_compare π limit (Ok outcome) left right left_before left_after right_before right_after out_before out_after left_whole right_whole written = record {
   left = left;
   right = right;
   text = written.text;
   left_whole = left_whole;
   right_whole = right_whole;
-  is_text = compared_text left right outcome written.text written.compared;
+  is_text = compared_text π left right outcome written.text written.compared;
   wrote = written.wrote;
 }
-told_of_compare limit (Err fault) left right left_before left_after right_before right_after out_before out_after left_whole right_whole written = tt
+told_of_compare π limit (Err fault) left right left_before left_after right_before right_after out_before out_after left_whole right_whole written = tt

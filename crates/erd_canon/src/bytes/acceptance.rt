@@ -1,25 +1,34 @@
-ghost use Rattle.std.specs.Prelude.{◌≡◌, IfOk, IfErr, OnOk};
+ghost use Rattle.std.specs.Prelude.{◌≡◌, IfOk, IfErr, OnOk, None};
+ghost use Rattle.std.specs.Option.{option_copied};
 ghost use Rattle.serde_json.specs.View.{view};
 ghost use Rattle.erd_check.specs.Refusals.{RefusedFor};
 ghost use Rattle.erd_check.specs.Trees.{IsShallow};
 ghost use Rattle.erd_meaning.specs.Accepted.{IsAccepted, IsFault};
+ghost use Rattle.erd_meaning.specs.Keys.{Preference};
 ghost use Rattle.erd_canon.specs.Bytes.{IsTreeOf};
 ghost use Rattle.erd_canon.specs.Refused.{IsSomeReport, RefusedAs};
 
 use crate::bytes::refusal::Refusal;
 use erd_check::{CheckError, shape};
-use erd_meaning::{Report, resolve};
+use erd_meaning::{Report, resolve_with};
 use serde_json::Value;
 use std::alloc::Global;
 
-/// Whether the bytes are an accepted report, and if not, why.
-#[tactic(auto, using(crate::proofs::forms::Refusing::refused_tree))]
+/// Whether the bytes are an accepted report, and if not, why: `check_bytes_with`, without a preference.
 pub fn check_bytes(alloc: Global, bytes: &[u8]) -> Result<(), Refusal>
-    ensures ok { OnOk result (IsSomeReport bytes.now) }
-    ensures refused { IfErr result (RefusedAs bytes.now) }
+    ensures ok { OnOk result (IsSomeReport None bytes.now) }
+    ensures refused { IfErr result (RefusedAs None bytes.now) }
+{
+    check_bytes_with(alloc, bytes, None)
+}
+
+/// Whether the bytes are a report that is accepted under a preference of a type of identifiers, and if not, why.
+pub fn check_bytes_with(alloc: Global, bytes: &[u8], prefer: Option<&str>) -> Result<(), Refusal>
+    ensures ok { OnOk result (IsSomeReport (option_copied prefer.entry) bytes.now) }
+    ensures refused { IfErr result (RefusedAs (option_copied prefer.entry) bytes.now) }
 {
     let tree = tree_of(alloc, bytes)?;
-    let _report = accepted(alloc, &tree)?;
+    let _report = accepted(alloc, &tree, prefer)?;
     Ok(())
 }
 
@@ -27,7 +36,7 @@ pub fn check_bytes(alloc: Global, bytes: &[u8]) -> Result<(), Refusal>
 pub(crate) fn tree_of(alloc: Global, bytes: &[u8]) -> Result<Value, Refusal>
     ensures read { IfOk result (λ tree. IsTreeOf bytes.now (view tree)) }
     ensures nests { IfOk result (λ tree. IsShallow (view tree)) }
-    ensures refused { IfErr result (RefusedAs bytes.now) }
+    ensures refused { IfErr result (λ refusal. (π : Preference) → RefusedAs π bytes.now refusal) }
 {
     match Value::from_slice(alloc, bytes) {
         Ok(tree) => Ok(tree),
@@ -36,15 +45,19 @@ pub(crate) fn tree_of(alloc: Global, bytes: &[u8]) -> Result<Value, Refusal>
     }
 }
 
-/// The tree as an accepted report, or why it is refused: first the shape is judged, and only a report whose shape has no
+/// The tree as a report that is accepted under the preference, or why it is refused: first the shape is judged, and only a report whose shape has no
 /// fault is judged further.
-#[tactic(auto, using(crate::proofs::forms::Refusing::refused_shape))]
-pub(crate) fn accepted<'a>(alloc: Global, tree: &'a Value) -> Result<Report<'a>, CheckError>
+pub(crate) fn accepted<'a>(
+    alloc: Global,
+    tree: &'a Value,
+    prefer: Option<&str>,
+) -> Result<Report<'a>, CheckError>
     requires nests { IsShallow (view tree.now) }
-    ensures tree { IfOk result (λ report. report ≡ tree.now) }
-    ensures accepted { IfOk result (λ _. IsAccepted (view tree.now)) }
-    ensures refused { IfErr result (RefusedFor (IsFault (view tree.now))) }
+    ensures tree { IfOk result (λ report. report.tree ≡ tree.now) }
+    ensures prefer { IfOk result (λ report. report.prefer ≡ option_copied prefer.entry) }
+    ensures accepted { IfOk result (λ _. IsAccepted (option_copied prefer.entry) (view tree.now)) }
+    ensures refused { IfErr result (RefusedFor (IsFault (option_copied prefer.entry) (view tree.now))) }
 {
     let shaped = shape(alloc, tree)?;
-    resolve(alloc, shaped)
+    resolve_with(alloc, shaped, prefer)
 }

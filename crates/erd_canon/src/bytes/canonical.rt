@@ -1,4 +1,5 @@
-ghost use Rattle.std.specs.Prelude.{◌≡◌, IfOk, IfErr};
+ghost use Rattle.std.specs.Prelude.{◌≡◌, IfOk, IfErr, None};
+ghost use Rattle.std.specs.Option.{option_copied};
 ghost use Rattle.erd_canon.specs.ByteLaws.{IsOwnForm, TellsMeanings};
 ghost use Rattle.erd_canon.specs.Bytes.{IsCanonicalBytes};
 ghost use Rattle.erd_canon.specs.Refused.{RefusedAs};
@@ -8,19 +9,29 @@ use crate::bytes::refusal::Refusal;
 use erd_normal::normal_tree;
 use std::alloc::Global;
 
-/// The canonical bytes of an accepted report; or why the given bytes are refused.
-///
-/// They are the text without blanks of the one canonical report that means what the given one means. So two reports have
-/// equal canonical bytes exactly if they mean the same, and canonical bytes are their own.
-#[tactic(auto, using(crate::proofs::forms::Refusing::refused_tree))]
+/// The canonical bytes of an accepted report; or why the given bytes are refused: `canonical_with`, without a preference.
 pub fn canonical(alloc: Global, bytes: &[u8]) -> Result<Vec<u8>, Refusal>
-    ensures ok { IfOk result (λ text. IsCanonicalBytes bytes.now text.items) }
-    ensures unique { IfOk result (λ text. TellsMeanings bytes.now text.items) }
-    ensures own { IfOk result (λ text. IsOwnForm text.items) }
-    ensures refused { IfErr result (RefusedAs bytes.now) }
+    ensures ok { IfOk result (λ text. IsCanonicalBytes None bytes.now text.items) }
+    ensures unique { IfOk result (λ text. TellsMeanings None bytes.now text.items) }
+    ensures own { IfOk result (λ text. IsOwnForm None text.items) }
+    ensures refused { IfErr result (RefusedAs None bytes.now) }
+{
+    canonical_with(alloc, bytes, None)
+}
+
+/// The canonical bytes of a report that is accepted under a preference of a type of identifiers; or why the given bytes are
+/// refused.
+///
+/// They are the text without blanks of the one canonical report that means what the given one means, under the preference. So
+/// two reports have equal canonical bytes exactly if they mean the same, and canonical bytes are their own.
+pub fn canonical_with(alloc: Global, bytes: &[u8], prefer: Option<&str>) -> Result<Vec<u8>, Refusal>
+    ensures ok { IfOk result (λ text. IsCanonicalBytes (option_copied prefer.entry) bytes.now text.items) }
+    ensures unique { IfOk result (λ text. TellsMeanings (option_copied prefer.entry) bytes.now text.items) }
+    ensures own { IfOk result (λ text. IsOwnForm (option_copied prefer.entry) text.items) }
+    ensures refused { IfErr result (RefusedAs (option_copied prefer.entry) bytes.now) }
 {
     let tree = tree_of(alloc, bytes)?;
-    let report = accepted(alloc, &tree)?;
+    let report = accepted(alloc, &tree, prefer)?;
     let form = normal_tree(alloc, &report)?;
     let text = form.to_vec(alloc)?;
     Ok(text)

@@ -1,4 +1,5 @@
-ghost use Rattle.std.specs.Prelude.{◌≡◌, IfErr, IfOk};
+ghost use Rattle.std.specs.Prelude.{◌≡◌, IfErr, IfOk, None};
+ghost use Rattle.std.specs.Option.{option_copied};
 ghost use Rattle.erd_canon.specs.EngineTexts.{IsComparison};
 ghost use Rattle.erd_canon.specs.Refused.{RefusedSide};
 
@@ -7,21 +8,36 @@ use crate::bytes::refusal::{Refusal, Side};
 use erd_compare::{Difference, first_difference};
 use std::alloc::Global;
 
-/// The first difference of what two reports mean, and none exactly if they mean the same; or which report is refused, and why.
-///
-/// The right report is judged only if the left one is accepted. Each is refused as `canonical` refuses it.
-#[tactic(auto, using(crate::proofs::forms::Refusing::refused_tree))]
+/// The first difference of what two reports mean, and none exactly if they mean the same; or which report is refused, and why:
+/// `compare_bytes_with`, without a preference.
 pub fn compare_bytes(alloc: Global, left: &[u8], right: &[u8]) -> Result<Option<Difference>, Side>
-    ensures ok { IfOk result (IsComparison left.now right.now) }
-    ensures refused { IfErr result (RefusedSide left.now right.now) }
+    ensures ok { IfOk result (IsComparison None left.now right.now) }
+    ensures refused { IfErr result (RefusedSide None left.now right.now) }
+{
+    compare_bytes_with(alloc, left, right, None)
+}
+
+/// The first difference of what two reports mean under a preference of a type of identifiers, and none exactly if they mean
+/// the same; or which report is refused, and why.
+///
+/// The right report is judged only if the left one is accepted. Each is refused as `canonical_with` refuses it.
+#[tactic(auto, using(crate::proofs::forms::Refusing::refused_tree))]
+pub fn compare_bytes_with(
+    alloc: Global,
+    left: &[u8],
+    right: &[u8],
+    prefer: Option<&str>,
+) -> Result<Option<Difference>, Side>
+    ensures ok { IfOk result (IsComparison (option_copied prefer.entry) left.now right.now) }
+    ensures refused { IfErr result (RefusedSide (option_copied prefer.entry) left.now right.now) }
 {
     let left_tree = tree_of(alloc, left).map_err(Side::Left)?;
-    let left_report = match accepted(alloc, &left_tree) {
+    let left_report = match accepted(alloc, &left_tree, prefer) {
         Ok(report) => report,
         Err(error) => return Err(Side::Left(Refusal::from(error))),
     };
     let right_tree = tree_of(alloc, right).map_err(Side::Right)?;
-    let right_report = match accepted(alloc, &right_tree) {
+    let right_report = match accepted(alloc, &right_tree, prefer) {
         Ok(report) => report,
         Err(error) => return Err(Side::Right(Refusal::from(error))),
     };

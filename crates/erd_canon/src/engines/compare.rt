@@ -1,4 +1,5 @@
-ghost use Rattle.std.specs.Prelude.{◌≡◌, ◌≢◌, ◌↔◌, ◌⊎◌, ◌+◌, ◌^◌, ◌<◌, ◌≤◌, [], ◌∷◌, false, true, Err, IfErr, IfOk, OnOk, IsErrOf};
+ghost use Rattle.std.specs.Prelude.{◌≡◌, ◌≢◌, ◌↔◌, ◌⊎◌, ◌+◌, ◌^◌, ◌<◌, ◌≤◌, [], ◌∷◌, false, true, Err, IfErr, IfOk, OnOk, IsErrOf, None};
+ghost use Rattle.std.specs.Option.{option_copied};
 ghost use Rattle.std.specs.Io.KnownBytes.{IsAtEnd};
 ghost use Rattle.erd_compare.specs.DifferenceLine.{difference_line};
 ghost use Rattle.erd_canon.specs.EngineTexts.{text_of_lines};
@@ -6,7 +7,7 @@ ghost use Rattle.erd_canon.specs.Reading.{Exceeds};
 ghost use Rattle.erd_canon.specs.Run.{IsCompareWritten, IsToldCompare, IsWholeCompare};
 ghost use Rattle.erd_canon.specs.code.SideRefusals.{IsRefusalWritten};
 
-use crate::bytes::comparison::compare_bytes;
+use crate::bytes::comparison::compare_bytes_with;
 use crate::bytes::refusal::{Refusal, Side};
 use crate::devices::sink::Sink;
 use crate::devices::source::{MOST_BYTES, Source, read_all};
@@ -16,13 +17,7 @@ use crate::engines::write_and_flush::write_one;
 use erd_compare::Difference;
 use std::alloc::{AllocError, Global};
 
-/// Reads two reports to their ends, the left one and then the right one, compares them, writes to `out` what is found, and
-/// flushes `out`.
-///
-/// It writes `same`, or the line of the first difference; or, of the first report that is refused, the left one before the
-/// right, the lines that `run_check` writes, each after `left: ` or `right: `. Each line is ended by one line feed, and
-/// nothing else is written. A reader holds at most 67,108,864 bytes. The devices must not have failed yet; after a failure
-/// nothing more is read, written or flushed.
+/// Reads two reports, compares them, and writes what is found: `run_compare_with`, without a preference.
 pub fn run_compare<S: Source, T: Source, O: Sink>(
     alloc: Global,
     left: &mut S,
@@ -34,9 +29,56 @@ pub fn run_compare<S: Source, T: Source, O: Sink>(
     requires out_works { O.has_failed out.old ≡ false }
 
     // What an outcome says.
-    ensures whole { IfOk result (λ outcome. IsWholeCompare MOST_BYTES outcome (S.remaining left.old) (S.remaining left.new)
+    ensures whole { IfOk result (λ outcome. IsWholeCompare None MOST_BYTES outcome (S.remaining left.old) (S.remaining left.new)
         (T.remaining right.old) (T.remaining right.new) (O.contents out.old) (O.contents out.new)) }
-    ensures told { IfOk result (λ _. IsToldCompare MOST_BYTES (S.remaining left.old) (S.remaining left.new)
+    ensures told { IfOk result (λ _. IsToldCompare None MOST_BYTES (S.remaining left.old) (S.remaining left.new)
+        (T.remaining right.old) (T.remaining right.new) (O.contents out.old) (O.contents out.new)) }
+    ensures flushed { OnOk result (O.is_flushed out.new ≡ true) }
+
+    // Before a write fails nothing is written or flushed.
+    ensures quiet { IfErr result (λ fault. fault ≢ RunFault.Write → out.new ≡ out.old) }
+
+    // Nothing is read from the right one before the left one was read to its end, or after a read of the left one failed.
+    ensures left_first { (right.new ≡ right.old) ⊎ IsAtEnd (S.remaining left.new) }
+    ensures left_failed { S.has_failed left.new ≡ true → right.new ≡ right.old }
+
+    // When each fault comes. Where the left one is too long, nothing is read from the right one.
+    ensures read { IsErrOf result RunFault.Read ↔ ((S.has_failed left.new ≡ true) ⊎ (T.has_failed right.new ≡ true)) }
+    ensures write { IsErrOf result RunFault.Write ↔ (O.has_failed out.new ≡ true) }
+    ensures too_long { result ≡ Err RunFault.TooLong
+        → (Exceeds MOST_BYTES (S.remaining left.old) (S.remaining left.new) × (right.new ≡ right.old))
+        ⊎ Exceeds MOST_BYTES (T.remaining right.old) (T.remaining right.new) }
+    ensures too_many { result ≡ Err RunFault.TooLong
+        → ((S.given left.old + MOST_BYTES < S.given left.new) × (right.new ≡ right.old))
+        ⊎ (T.given right.old + MOST_BYTES < T.given right.new) }
+    ensures left_calls { S.reads left.new ≤ S.reads left.old + 2 ^ 27 }
+    ensures right_calls { T.reads right.new ≤ T.reads right.old + 2 ^ 27 }
+{
+    run_compare_with(alloc, left, right, out, None)
+}
+
+/// Reads two reports to their ends, the left one and then the right one, compares them under a preference of a type of
+/// identifiers, writes to `out` what is found, and flushes `out`.
+///
+/// It writes `same`, or the line of the first difference; or, of the first report that is refused, the left one before the
+/// right, the lines that `run_check_with` writes, each after `left: ` or `right: `. Each line is ended by one line feed, and
+/// nothing else is written. A reader holds at most 67,108,864 bytes. The devices must not have failed yet; after a failure
+/// nothing more is read, written or flushed.
+pub fn run_compare_with<S: Source, T: Source, O: Sink>(
+    alloc: Global,
+    left: &mut S,
+    right: &mut T,
+    out: &mut O,
+    prefer: Option<&str>,
+) -> Result<Outcome, RunFault>
+    requires left_works { S.has_failed left.old ≡ false }
+    requires right_works { T.has_failed right.old ≡ false }
+    requires out_works { O.has_failed out.old ≡ false }
+
+    // What an outcome says.
+    ensures whole { IfOk result (λ outcome. IsWholeCompare (option_copied prefer.entry) MOST_BYTES outcome (S.remaining left.old) (S.remaining left.new)
+        (T.remaining right.old) (T.remaining right.new) (O.contents out.old) (O.contents out.new)) }
+    ensures told { IfOk result (λ _. IsToldCompare (option_copied prefer.entry) MOST_BYTES (S.remaining left.old) (S.remaining left.new)
         (T.remaining right.old) (T.remaining right.new) (O.contents out.old) (O.contents out.new)) }
     ensures flushed { OnOk result (O.is_flushed out.new ≡ true) }
 
@@ -61,7 +103,13 @@ pub fn run_compare<S: Source, T: Source, O: Sink>(
 {
     let left_bytes = read_all(alloc, left)?;
     let right_bytes = read_all(alloc, right)?;
-    write_compared(alloc, left_bytes.as_slice(), right_bytes.as_slice(), out)
+    write_compared(
+        alloc,
+        left_bytes.as_slice(),
+        right_bytes.as_slice(),
+        out,
+        prefer,
+    )
 }
 
 // Writes what comparing writes for the bytes of two reports.
@@ -70,16 +118,17 @@ fn write_compared<O: Sink>(
     left: &[u8],
     right: &[u8],
     out: &mut O,
+    prefer: Option<&str>,
 ) -> Result<Outcome, RunFault>
     requires { O.has_failed out.old ≡ false }
-    ensures written { IfOk result (λ outcome. IsCompareWritten left.now right.now outcome (O.contents out.old) (O.contents out.new)) }
+    ensures written { IfOk result (λ outcome. IsCompareWritten (option_copied prefer.entry) left.now right.now outcome (O.contents out.old) (O.contents out.new)) }
     ensures flushed { OnOk result (O.is_flushed out.new ≡ true) }
     ensures works { OnOk result (O.has_failed out.new ≡ false) }
     ensures memory { result ≡ Err RunFault.Memory → out.new ≡ out.old }
     ensures write { result ≡ Err RunFault.Write → O.has_failed out.new ≡ true }
     ensures faults { IfErr result (λ fault. (fault ≡ RunFault.Memory) ⊎ (fault ≡ RunFault.Write)) }
 {
-    match compare_bytes(alloc, left, right) {
+    match compare_bytes_with(alloc, left, right, prefer) {
         Ok(None) => write_one(out, Outcome::Good, b"same\n"),
         Ok(Some(difference)) => match difference_text(alloc, &difference) {
             Ok(text) => write_one(out, Outcome::Bad, text.as_slice()),

@@ -27,18 +27,18 @@ use Rattle.erd_compare.specs.declared.difference.Part.{Part}
 use Rattle.erd_compare.specs.declared.difference.Part.TheVariants as part
 
 abbrev MeansTheSame : Family → List ℕ → Type 0
-MeansTheSame f key = records_of left f (local_key key) ≡ records_of right f (local_key key)
+MeansTheSame f key = records_of None left f (local_key key) ≡ records_of None right f (local_key key)
 
-same : (f : Family) (key : List ℕ) (c : Class) → has_keys f ≡ true → ObjectsAgree left right f (local_key key) c → MeansTheSame f key
-same f key c keyed agree = same_at_key left right f (local_key key) c keyed agree
+same : (f : Family) (key : List ℕ) (c : Class) → has_keys f ≡ true → ObjectsAgree None left right f (local_key key) c → MeansTheSame f key
+same f key c keyed agree = same_at_key None left right f (local_key key) c keyed agree
 
-same_report : object_record left role.Report left ≡ object_record right role.Report right
+same_report : object_record None left role.Report left ≡ object_record None right role.Report right
 unfolding serde_json_on_literals
-same_report = same_object left right left right role.Report class.ElectionReport refl refl refl
+same_report = same_object None left right left right role.Report class.ElectionReport refl refl refl
 
-same_election : (meaning left).election ≡ (meaning right).election
+same_election : (meaning None left).election ≡ (meaning None right).election
 unfolding serde_json_on_literals
-same_election = same_object left right (election_in left) (election_in right) role.Election class.Election refl refl refl
+same_election = same_object None left right (election_in left) (election_in right) role.Election class.Election refl refl refl
 
 same_units : MeansTheSame family.Unit (codes "U1") × MeansTheSame family.Unit (codes "U2")
 unfolding serde_json_on_literals
@@ -78,17 +78,17 @@ abbrev no_name : NameParts
 no_name = record { class = class.CandidateSelection; keys = []; write_in = false; order = None; label = None; identifier = None }
 
 abbrev name_at : ℕ → ℕ → NameParts
-name_at i j = unwrap_or (option_and_then (name_of left) (slice_get (selections_in left i) j)) no_name
+name_at i j = unwrap_or (option_and_then (name_of None left) (slice_get (selections_in left i) j)) no_name
 
 abbrev selection_in : Data → ℕ → ℕ → Data
-selection_in t i j = selection_with_name t (selections_in t i) (name_at i j)
+selection_in t i j = selection_with_name None t (selections_in t i) (name_at i j)
 
 abbrev NamedTheSame : ℕ → ℕ → Type 0
-NamedTheSame i j = selection_map left (selections_in left i) (name_at i j) ≡ selection_map right (selections_in right i) (name_at i j)
+NamedTheSame i j = selection_map None left (selections_in left i) (name_at i j) ≡ selection_map None right (selections_in right i) (name_at i j)
 
-same_selection : (i j : ℕ) (c : Class) (one : List ℕ) → SelectionsAgreeButOne left right (selections_in left i) (selections_in right i) (name_at i j) c one
-    → plain_member left (selection_in left i j) c one ≡ plain_member right (selection_in right i j) c one → NamedTheSame i j
-same_selection i j c one agree at_one = same_at_name left right (selections_in left i) (selections_in right i) (name_at i j) c one agree at_one
+same_selection : (i j : ℕ) (c : Class) (one : List ℕ) → SelectionsAgreeButOne None left right (selections_in left i) (selections_in right i) (name_at i j) c one
+    → plain_member None left (selection_in left i j) c one ≡ plain_member None right (selection_in right i j) c one → NamedTheSame i j
+same_selection i j c one agree at_one = same_at_name None left right (selections_in left i) (selections_in right i) (name_at i j) c one agree at_one
 
 first_two : NamedTheSame 0 0 × NamedTheSame 0 1
 unfolding serde_json_on_literals
@@ -114,40 +114,40 @@ first_names = name_at 0 0 ∷ name_at 0 1 ∷ name_at 0 2 ∷ []
 abbrev second_names : List NameParts
 second_names = name_at 1 0 ∷ name_at 1 1 ∷ []
 
-first_left : HaveNames left (selections_in left 0) first_names
+first_left : HaveNames None left (selections_in left 0) first_names
 unfolding serde_json_on_literals
-first_left = names_of_selections left (selections_in left 0) first_names refl
+first_left = names_of_selections None left (selections_in left 0) first_names refl
 
-first_right : HaveNames right (selections_in right 0) first_names
+first_right : HaveNames None right (selections_in right 0) first_names
 unfolding serde_json_on_literals
-first_right = names_of_selections right (selections_in right 0) first_names refl
+first_right = names_of_selections None right (selections_in right 0) first_names refl
 
-second_left : HaveNames left (selections_in left 1) second_names
+second_left : HaveNames None left (selections_in left 1) second_names
 unfolding serde_json_on_literals
-second_left = names_of_selections left (selections_in left 1) second_names refl
+second_left = names_of_selections None left (selections_in left 1) second_names refl
 
-second_right : HaveNames right (selections_in right 1) second_names
+second_right : HaveNames None right (selections_in right 1) second_names
 unfolding serde_json_on_literals
-second_right = names_of_selections right (selections_in right 1) second_names refl
+second_right = names_of_selections None right (selections_in right 1) second_names refl
 
-first_selections : selection_map left (selections_in left 0) ≡ selection_map right (selections_in right 0)
+first_selections : selection_map None left (selections_in left 0) ≡ selection_map None right (selections_in right 0)
 first_selections =
-    same_selections left right (selections_in left 0) (selections_in right 0) first_names first_names first_left first_right ((0, lit< tt, refl), ((1, lit< tt, refl), ((2, lit< tt, refl), tt)))
+    same_selections None left right (selections_in left 0) (selections_in right 0) first_names first_names first_left first_right ((0, lit< tt, refl), ((1, lit< tt, refl), ((2, lit< tt, refl), tt)))
     (first_two.0, (first_two.1, (write_in, tt)))
 
-second_selections : selection_map left (selections_in left 1) ≡ selection_map right (selections_in right 1)
+second_selections : selection_map None left (selections_in left 1) ≡ selection_map None right (selections_in right 1)
 second_selections =
-    same_selections left right (selections_in left 1) (selections_in right 1) second_names second_names second_left second_right ((0, lit< tt, refl), ((1, lit< tt, refl), tt))
+    same_selections None left right (selections_in left 1) (selections_in right 1) second_names second_names second_left second_right ((0, lit< tt, refl), ((1, lit< tt, refl), tt))
     (yes_and_no.0, (yes_and_no.1, tt))
 
-same_with : (f : Family) (key : List ℕ) (c : Class) (one : List ℕ) → has_keys f ≡ true → ObjectsAgreeButOne left right f (local_key key) c one → SameMember left right f (local_key key) c one → MeansTheSame f key
-same_with f key c one keyed agree at_one = same_at_key_with left right f (local_key key) c one keyed agree at_one
+same_with : (f : Family) (key : List ℕ) (c : Class) (one : List ℕ) → has_keys f ≡ true → ObjectsAgreeButOne None left right f (local_key key) c one → SameMember None left right f (local_key key) c one → MeansTheSame f key
+same_with f key c one keyed agree at_one = same_at_key_with None left right f (local_key key) c one keyed agree at_one
 
-first_contest : SameMember left right family.Contest (local_key (codes "C1")) class.CandidateContest (codes "ContestSelection")
+first_contest : SameMember None left right family.Contest (local_key (codes "C1")) class.CandidateContest (codes "ContestSelection")
 unfolding serde_json_on_literals
 first_contest = ap (λ m. Some (a_selection_map m)) first_selections
 
-second_contest : SameMember left right family.Contest (local_key (codes "C2")) class.BallotMeasureContest (codes "ContestSelection")
+second_contest : SameMember None left right family.Contest (local_key (codes "C2")) class.BallotMeasureContest (codes "ContestSelection")
 unfolding serde_json_on_literals
 second_contest = ap (λ m. Some (a_selection_map m)) second_selections
 
@@ -171,27 +171,27 @@ keys_of family.Contest = local_key (codes "C1") ∷ local_key (codes "C2") ∷ [
 keys_of family.Style = local_key (codes "S1") ∷ []
 keys_of family.Selection = []
 
-keys_left : (f : Family) → has_keys f ≡ true → HaveKeys left f (keys_of f)
+keys_left : (f : Family) → has_keys f ≡ true → HaveKeys None left f (keys_of f)
 unfolding serde_json_on_literals
 keys_left family.Selection keyed = absurd (cc keyed)
-keys_left family.Unit keyed = keys_of_family left family.Unit (keys_of family.Unit) refl
-keys_left f keyed = keys_of_family left f (keys_of f) refl
+keys_left family.Unit keyed = keys_of_family None left family.Unit (keys_of family.Unit) refl
+keys_left f keyed = keys_of_family None left f (keys_of f) refl
 
-keys_right : (f : Family) → has_keys f ≡ true → HaveKeys right f (keys_of f)
+keys_right : (f : Family) → has_keys f ≡ true → HaveKeys None right f (keys_of f)
 unfolding serde_json_on_literals
 keys_right family.Selection keyed = absurd (cc keyed)
-keys_right family.Unit keyed = keys_of_family right family.Unit (keys_of family.Unit) refl
-keys_right f keyed = keys_of_family right f (keys_of f) refl
+keys_right family.Unit keyed = keys_of_family None right family.Unit (keys_of family.Unit) refl
+keys_right f keyed = keys_of_family None right f (keys_of f) refl
 
-by_keys : (f : Family) → has_keys f ≡ true → AreAmong (keys_of f) (keys_of f) → AgreeAt (records_of left f) (records_of right f) (keys_of f) → (k : Key) → records_of left f k ≡ records_of right f k
-by_keys f keyed among agree = same_family left right f (keys_of f) (keys_of f) (keys_left f keyed) (keys_right f keyed) among agree
+by_keys : (f : Family) → has_keys f ≡ true → AreAmong (keys_of f) (keys_of f) → AgreeAt (records_of None left f) (records_of None right f) (keys_of f) → (k : Key) → records_of None left f k ≡ records_of None right f k
+by_keys f keyed among agree = same_family None left right f (keys_of f) (keys_of f) (keys_left f keyed) (keys_right f keyed) among agree
 
 abbrev is_style : Family → Bool
 is_style family.Style = true
 is_style f = false
 
 -- each family but that of styles means the same
-same_objects : (f : Family) (k : Key) → is_style f ≡ false → records_of left f k ≡ records_of right f k
+same_objects : (f : Family) (k : Key) → is_style f ≡ false → records_of None left f k ≡ records_of None right f k
 same_objects family.Unit k other = by_keys family.Unit refl ((0, lit< tt, refl), ((1, lit< tt, refl), tt)) (same_units.1, (same_units.0, tt)) k
 same_objects family.Party k other = by_keys family.Party refl ((0, lit< tt, refl), tt) (same_party, tt) k
 same_objects family.Person k other = by_keys family.Person refl ((0, lit< tt, refl), tt) (same_person, tt) k
@@ -203,12 +203,12 @@ same_objects family.Contest k other = by_keys family.Contest refl ((0, lit< tt, 
 same_objects family.Style k other = absurd (cc other)
 same_objects family.Selection k other = refl
 
-styles_below : (k : Key) → key_cmp k (local_key (codes "S1")) ≡ Less → records_of left family.Style k ≡ records_of right family.Style k
+styles_below : (k : Key) → key_cmp k (local_key (codes "S1")) ≡ Less → records_of None left family.Style k ≡ records_of None right family.Style k
 styles_below k less =
     let none = not_in (local_key (codes "S1")) k (local_key (codes "S1")) less refl in
-    nothing_at left family.Style (keys_of family.Style) k (keys_left family.Style refl) none ∙ sym (nothing_at right family.Style (keys_of family.Style) k (keys_right family.Style refl) none)
+    nothing_at None left family.Style (keys_of family.Style) k (keys_left family.Style refl) none ∙ sym (nothing_at None right family.Style (keys_of family.Style) k (keys_right family.Style refl) none)
 
-before_style : (p : Part) (k : Option Key) → part_cmp p k part.Style (Some (local_key (codes "S1"))) ≡ Less → record_at (meaning left) p k ≡ record_at (meaning right) p k
+before_style : (p : Part) (k : Option Key) → part_cmp p k part.Style (Some (local_key (codes "S1"))) ≡ Less → record_at (meaning None left) p k ≡ record_at (meaning None right) p k
 before_style part.Report None less = same_report
 before_style part.Report (Some k) less = refl
 before_style part.Unit None less = refl
@@ -230,7 +230,7 @@ before_style part.Contest (Some k) less = same_objects family.Contest k refl
 before_style part.Style None less = refl
 before_style part.Style (Some k) less = styles_below k less
 
-first_is_order : IsFirstDifference (meaning left) (meaning right) (record { part = part.Style; key = Some (local_key (codes "S1")); how = Member (codes "OrderedContent") })
+first_is_order : IsFirstDifference (meaning None left) (meaning None right) (record { part = part.Style; key = Some (local_key (codes "S1")); how = Member (codes "OrderedContent") })
 first_is_order = record {
   differ = first_member;
   least = before_style;

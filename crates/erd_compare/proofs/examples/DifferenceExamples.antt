@@ -39,10 +39,10 @@ parts_in_order = (refl, refl, refl, refl)
 -- ---- the entries of the ballot's order exchanged
 
 abbrev left : Meaning
-left = meaning (tree_of small_ballot)
+left = meaning None (tree_of small_ballot)
 
 abbrev right : Meaning
-right = meaning (tree_of (small_ballot_with (codes "K3") (contest_node ++ codes "," ++ header_node)))
+right = meaning None (tree_of (small_ballot_with (codes "K3") (contest_node ++ codes "," ++ header_node)))
 
 abbrev members_at : Meaning → Part → Key → List (List ℕ) → Option (List (Option MemberValue))
 members_at m p k names = option_map (λ r. map (λ name. r.members name) names) (record_at m p (Some k))
@@ -65,7 +65,7 @@ same_before = (refl, refl)
 -- ---- the key of a candidate changed
 
 abbrev other : Meaning
-other = meaning (tree_of (small_ballot_with (codes "K4") (header_node ++ codes "," ++ contest_node)))
+other = meaning None (tree_of (small_ballot_with (codes "K4") (header_node ++ codes "," ++ contest_node)))
 
 abbrev candidate : Meaning → List ℕ → Option ObjectRecord
 candidate m value = record_at m part.Candidate (Some (local_key value))

@@ -57,27 +57,27 @@ key = local_key (codes "U1")
 abbrev respelled : Data
 respelled = tree_of (codes "{\"Election\":[{\"ElectionScopeId\":\"k\",\"Name\":\"Test\",\"EndDate\":\"2026-11-03\",\"StartDate\":\"2026-11-03\",\"Type\":\"general\",\"@type\":\"ElectionResults.Election\",\"Contest\":[]}],\"Issuer\":\"Vendor A\",\"SequenceStart\":1,\"Status\":\"pre-election\",\"Party\":[],\"GpUnit\":[{\"Type\":\"county\",\"ComposingGpUnitIds\":[],\"ExternalIdentifier\":[{\"Value\":\"U1\",\"Type\":\"local-level\",\"@type\":\"ElectionResults.ExternalIdentifier\"}],\"@type\":\"ElectionResults.ReportingUnit\",\"@id\":\"k\"}],\"@type\":\"ElectionResults.ElectionReport\"}")
 
-respelled_report : object_record left role.Report left ≡ object_record respelled role.Report respelled
+respelled_report : object_record None left role.Report left ≡ object_record None respelled role.Report respelled
 unfolding serde_json_on_literals
-respelled_report = same_object left respelled left respelled role.Report class.ElectionReport refl refl refl
+respelled_report = same_object None left respelled left respelled role.Report class.ElectionReport refl refl refl
 
-respelled_election : (meaning left).election ≡ (meaning respelled).election
+respelled_election : (meaning None left).election ≡ (meaning None respelled).election
 unfolding serde_json_on_literals
-respelled_election = same_object left respelled (election_in left) (election_in respelled) role.Election class.Election refl refl refl
+respelled_election = same_object None left respelled (election_in left) (election_in respelled) role.Election class.Election refl refl refl
 
-respelled_unit : records_of left family.Unit key ≡ records_of respelled family.Unit key
+respelled_unit : records_of None left family.Unit key ≡ records_of None respelled family.Unit key
 unfolding serde_json_on_literals
-respelled_unit = same_object left respelled (unit_in left) (unit_in respelled) (role.OfFamily family.Unit) class.ReportingUnit refl refl refl
+respelled_unit = same_object None left respelled (unit_in left) (unit_in respelled) (role.OfFamily family.Unit) class.ReportingUnit refl refl refl
 
-respelled_objects : (f : Family) (k : Key) → records_of left f k ≡ records_of respelled f k
+respelled_objects : (f : Family) (k : Key) → records_of None left f k ≡ records_of None respelled f k
 unfolding serde_json_on_literals
 respelled_objects family.Unit k =
-    same_at_every_key (records_of left family.Unit) (records_of respelled family.Unit) (key ∷ []) (respelled_unit, tt) (no_record left family.Unit) (no_record respelled family.Unit) k
+    same_at_every_key (records_of None left family.Unit) (records_of None respelled family.Unit) (key ∷ []) (respelled_unit, tt) (no_record None left family.Unit) (no_record None respelled family.Unit) k
 respelled_objects f k = refl
 
 -- no difference
-no_difference : IsDifference (meaning left) (meaning respelled) None
-no_difference = same_meaning left respelled respelled_report respelled_election respelled_objects
+no_difference : IsDifference (meaning None left) (meaning None respelled) None
+no_difference = same_meaning None None left respelled respelled_report respelled_election respelled_objects
 
 -- ---- another name of the election
 
@@ -85,7 +85,7 @@ abbrev renamed : Data
 renamed = tree_of (one_unit_report status unit (codes "\"@type\":\"ElectionResults.Election\",\"Name\":\"Trial\",\"Type\":\"general\",\"StartDate\":\"2026-11-03\",\"EndDate\":\"2026-11-03\",\"ElectionScopeId\":\"u7\""))
 
 abbrev election_member : Data → List ℕ → Option MemberValue
-election_member t = member_of_class t (election_in t) class.Election
+election_member t = member_of_class None t (election_in t) class.Election
 
 -- the label is this text
 abbrev is_labelled : List ℕ → Option MemberValue → Bool
@@ -106,22 +106,22 @@ other_name e = true≢false (sym old_name ∙ ap (is_labelled (codes "Test")) e 
 same_but_name : (name : List ℕ) → bytes_eq name (codes "Name") ≡ false → election_member left name ≡ election_member renamed name
 unfolding serde_json_on_literals
 same_but_name =
-    same_but_one (election_member left) (election_member renamed) (election_in left) (election_in renamed) (codes "Name") (absent_member left (election_in left) class.Election) (absent_member renamed (election_in renamed) class.Election) refl
+    same_but_one (election_member left) (election_member renamed) (election_in left) (election_in renamed) (codes "Name") (absent_member None left (election_in left) class.Election) (absent_member None renamed (election_in renamed) class.Election) refl
 
-renamed_report : object_record left role.Report left ≡ object_record renamed role.Report renamed
+renamed_report : object_record None left role.Report left ≡ object_record None renamed role.Report renamed
 unfolding serde_json_on_literals
-renamed_report = same_object left renamed left renamed role.Report class.ElectionReport refl refl refl
+renamed_report = same_object None left renamed left renamed role.Report class.ElectionReport refl refl refl
 
-renamed_unit : records_of left family.Unit key ≡ records_of renamed family.Unit key
+renamed_unit : records_of None left family.Unit key ≡ records_of None renamed family.Unit key
 unfolding serde_json_on_literals
-renamed_unit = same_object left renamed (unit_in left) (unit_in renamed) (role.OfFamily family.Unit) class.ReportingUnit refl refl refl
+renamed_unit = same_object None left renamed (unit_in left) (unit_in renamed) (role.OfFamily family.Unit) class.ReportingUnit refl refl refl
 
-renamed_units : (k : Key) → records_of left family.Unit k ≡ records_of renamed family.Unit k
+renamed_units : (k : Key) → records_of None left family.Unit k ≡ records_of None renamed family.Unit k
 unfolding serde_json_on_literals
-renamed_units = same_at_every_key (records_of left family.Unit) (records_of renamed family.Unit) (key ∷ []) (renamed_unit, tt) (no_record left family.Unit) (no_record renamed family.Unit)
+renamed_units = same_at_every_key (records_of None left family.Unit) (records_of None renamed family.Unit) (key ∷ []) (renamed_unit, tt) (no_record None left family.Unit) (no_record None renamed family.Unit)
 
 -- all that comes before the election is the same
-before_election : (p : Part) (k : Option Key) → part_cmp p k part.Election None ≡ Less → record_at (meaning left) p k ≡ record_at (meaning renamed) p k
+before_election : (p : Part) (k : Option Key) → part_cmp p k part.Election None ≡ Less → record_at (meaning None left) p k ≡ record_at (meaning None renamed) p k
 unfolding serde_json_on_literals
 before_election part.Report None less = renamed_report
 before_election part.Report (Some k) less = refl
@@ -138,7 +138,7 @@ before_election part.Header (Some k) less = refl
 before_election p None less = absurd (cc less)
 before_election p (Some k) less = absurd (cc less)
 
-first_is_name : IsFirstDifference (meaning left) (meaning renamed) (record { part = part.Election; key = None; how = Member (codes "Name") })
+first_is_name : IsFirstDifference (meaning None left) (meaning None renamed) (record { part = part.Election; key = None; how = Member (codes "Name") })
 unfolding serde_json_on_literals
 first_is_name = record {
   differ = record {
@@ -150,11 +150,11 @@ first_is_name = record {
 }
 
 -- a later member is not the first; the two are not equal
-not_a_later_member : IsFirstDifference (meaning left) (meaning renamed) (record { part = part.Election; key = None; how = Member (codes "Type") }) → ⊥
+not_a_later_member : IsFirstDifference (meaning None left) (meaning None renamed) (record { part = part.Election; key = None; how = Member (codes "Type") }) → ⊥
 unfolding serde_json_on_literals
 not_a_later_member h = other_name (h.differ.least (codes "Name") refl)
 
-some_difference : IsDifference (meaning left) (meaning renamed) None → ⊥
+some_difference : IsDifference (meaning None left) (meaning None renamed) None → ⊥
 unfolding serde_json_on_literals
 some_difference h = other_name (ap (λ m. option_and_then (λ r. r.members (codes "Name")) m.election) h)
 
@@ -174,16 +174,16 @@ is_county v = false
 abbrev unit_type : Option ObjectRecord → Bool
 unit_type r = is_county (option_and_then (λ r. r.members (codes "Type")) r)
 
-county : unit_type (records_of left family.Unit key) ≡ true
+county : unit_type (records_of None left family.Unit key) ≡ true
 unfolding serde_json_on_literals
 county = refl
 
-no_county : unit_type (records_of both_changed family.Unit key) ≡ false
+no_county : unit_type (records_of None both_changed family.Unit key) ≡ false
 unfolding serde_json_on_literals
 no_county = refl
 
 -- the difference of the election is not the first
-not_the_election : (h : How) → IsFirstDifference (meaning left) (meaning both_changed) (record { part = part.Election; key = None; how = h }) → ⊥
+not_the_election : (h : How) → IsFirstDifference (meaning None left) (meaning None both_changed) (record { part = part.Election; key = None; how = h }) → ⊥
 not_the_election h d = true≢false (sym county ∙ ap unit_type (d.least part.Unit (Some key) refl) ∙ no_county)
 
 -- ---- another key of the unit
@@ -194,9 +194,9 @@ other_key = local_key (codes "U2")
 abbrev rekeyed : Data
 rekeyed = tree_of (one_unit_report status (codes "\"@type\":\"ElectionResults.ReportingUnit\",\"Type\":\"county\",\"ExternalIdentifier\":[{\"@type\":\"ElectionResults.ExternalIdentifier\",\"Type\":\"local-level\",\"Value\":\"U2\"}]") election)
 
-rekeyed_report : object_record left role.Report left ≡ object_record rekeyed role.Report rekeyed
+rekeyed_report : object_record None left role.Report left ≡ object_record None rekeyed role.Report rekeyed
 unfolding serde_json_on_literals
-rekeyed_report = same_object left rekeyed left rekeyed role.Report class.ElectionReport refl refl refl
+rekeyed_report = same_object None left rekeyed left rekeyed role.Report class.ElectionReport refl refl refl
 
 -- a key below a bound is none that is not below it
 pub not_in : (l k bound : Key) → key_cmp k bound ≡ Less → is_lt (key_cmp l bound) ≡ false → is_key_in (l ∷ []) k ≡ false
@@ -206,11 +206,11 @@ not_in l k bound less not_less = at (is_eq (key_cmp l k)) refl
     at true is = absurd (true≢false (sym (ap is_lt less) ∙ (ap (λ q. is_lt (key_cmp q bound)) (sym (equal_keys l k is)) ∙ not_less)))
     at false is = rw is
 
-units_below : (k : Key) → key_cmp k key ≡ Less → records_of left family.Unit k ≡ records_of rekeyed family.Unit k
+units_below : (k : Key) → key_cmp k key ≡ Less → records_of None left family.Unit k ≡ records_of None rekeyed family.Unit k
 unfolding serde_json_on_literals
-units_below k less = no_record left family.Unit k (not_in key k key less refl) ∙ sym (no_record rekeyed family.Unit k (not_in other_key k key less refl))
+units_below k less = no_record None left family.Unit k (not_in key k key less refl) ∙ sym (no_record None rekeyed family.Unit k (not_in other_key k key less refl))
 
-before_unit : (p : Part) (k : Option Key) → part_cmp p k part.Unit (Some key) ≡ Less → record_at (meaning left) p k ≡ record_at (meaning rekeyed) p k
+before_unit : (p : Part) (k : Option Key) → part_cmp p k part.Unit (Some key) ≡ Less → record_at (meaning None left) p k ≡ record_at (meaning None rekeyed) p k
 unfolding serde_json_on_literals
 before_unit part.Report None less = rekeyed_report
 before_unit part.Report (Some k) less = refl
@@ -219,14 +219,14 @@ before_unit part.Unit (Some k) less = units_below k less
 before_unit p None less = absurd (cc less)
 before_unit p (Some k) less = absurd (cc less)
 
-first_is_unit : IsFirstDifference (meaning left) (meaning rekeyed) (record { part = part.Unit; key = Some key; how = OnlyLeft })
+first_is_unit : IsFirstDifference (meaning None left) (meaning None rekeyed) (record { part = part.Unit; key = Some key; how = OnlyLeft })
 unfolding serde_json_on_literals
 first_is_unit = record {
   differ = refl;
   least = before_unit;
 }
 
-first_is_unit_right : IsFirstDifference (meaning rekeyed) (meaning left) (record { part = part.Unit; key = Some key; how = OnlyRight })
+first_is_unit_right : IsFirstDifference (meaning None rekeyed) (meaning None left) (record { part = part.Unit; key = Some key; how = OnlyRight })
 unfolding serde_json_on_literals
 first_is_unit_right = record {
   differ = refl;
@@ -234,6 +234,6 @@ first_is_unit_right = record {
 }
 
 -- the unit that the right side alone has comes later
-not_the_later_unit : IsFirstDifference (meaning left) (meaning rekeyed) (record { part = part.Unit; key = Some other_key; how = OnlyRight }) → ⊥
+not_the_later_unit : IsFirstDifference (meaning None left) (meaning None rekeyed) (record { part = part.Unit; key = Some other_key; how = OnlyRight }) → ⊥
 unfolding serde_json_on_literals
 not_the_later_unit h = true≢false (ap is_some (h.least part.Unit (Some key) refl))

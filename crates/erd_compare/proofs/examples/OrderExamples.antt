@@ -1,5 +1,5 @@
 -- The ballot's order exchanged: the style's `OrderedContent` is the first member at which its two records differ.
-use Rattle.std.proofs.Common.{◌≡◌, ◌≢◌, ℕ, List, [], ◌∷◌, ◌++◌, Bool, true, false, true≢false, Option, Some, codes, refl, sym, ap, ◌∙◌}
+use Rattle.std.proofs.Common.{◌≡◌, ◌≢◌, ℕ, List, [], ◌∷◌, ◌++◌, Bool, true, false, true≢false, Option, Some, codes, refl, sym, ap, ◌∙◌, None}
 use Rattle.std.proofs.lemmas.Bool.{or_from, or_parts}
 use Rattle.std.proofs.lemmas.Slice.Eq.{bytes_eq-Decides}
 use Rattle.std.specs.List.{list_any}
@@ -31,10 +31,10 @@ abbrev pub right : Data
 right = tree_of (small_ballot_with (codes "K3") (contest_node ++ codes "," ++ header_node))
 
 abbrev style : Data → Data
-style t = unwrap_or (object_with_key t family.Style style_key) null
+style t = unwrap_or (object_with_key None t family.Style style_key) null
 
 abbrev style_member : Data → List ℕ → Option MemberValue
-style_member t = member_of_class t (style t) class.BallotStyle
+style_member t = member_of_class None t (style t) class.BallotStyle
 
 -- whether a member is an order that begins with a header
 abbrev pub begins_with_header : Option MemberValue → Bool
@@ -76,9 +76,9 @@ same_before : (name : List ℕ) → bytes_eq name (codes "OrderedContent") ≡ f
 unfolding serde_json_on_literals other_names
 same_before =
     same_at_other_names (style_member left) (style_member right) (style left) (style right) other_names (codes "OrderedContent")
-    (absent_member left (style left) class.BallotStyle) (absent_member right (style right) class.BallotStyle) among_others among_others refl
+    (absent_member None left (style left) class.BallotStyle) (absent_member None right (style right) class.BallotStyle) among_others among_others refl
 
-pub first_member : Differ (record_at (meaning left) part.Style (Some style_key)) (record_at (meaning right) part.Style (Some style_key)) (Member (codes "OrderedContent"))
+pub first_member : Differ (record_at (meaning None left) part.Style (Some style_key)) (record_at (meaning None right) part.Style (Some style_key)) (Member (codes "OrderedContent"))
 unfolding serde_json_on_literals
 first_member = record {
   same_class = refl;

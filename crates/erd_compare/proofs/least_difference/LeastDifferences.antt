@@ -5,7 +5,7 @@ use Rattle.std.specs.Ordering.{ordering_reverse}
 use Rattle.std.proofs.lemmas.Cmp.{tied_itself}
 use Rattle.serde_json.specs.Data.{Data}
 use Rattle.erd_tables.specs.declared.class.Family.{Family}
-use Rattle.erd_meaning.specs.Keys.{has_keys, key_cmp, key_of_family_object}
+use Rattle.erd_meaning.specs.Keys.{Preference, has_keys, key_cmp, key_of_family_object}
 use Rattle.erd_meaning.specs.Lookups.{FindsKey, key_in}
 use Rattle.erd_meaning.specs.Meaning.{ObjectRecord}
 use Rattle.erd_meaning.specs.Objects.{Placed, objects}
@@ -20,12 +20,12 @@ use Rattle.erd_compare.proofs.least_difference.KeyedRecords.{key_or_none, neithe
 -- ---- the keys that were gone over
 
 -- one of the first n objects of the family has the key
-abbrev pub HasKeyAmong : Data → Family → ℕ → Key → Type 0
-HasKeyAmong t f n k = (i : ℕ) × (i < n) × (key_in f t i ≡ Some k)
+abbrev pub HasKeyAmong : Preference → Data → Family → ℕ → Key → Type 0
+HasKeyAmong π t f n k = (i : ℕ) × (i < n) × (key_in π f t i ≡ Some k)
 
 -- one of the first n objects of the second report has the key, and none of the first report
-abbrev pub HasKeyAloneAmong : Data → Data → Family → ℕ → Key → Type 0
-HasKeyAloneAmong t u f n k = HasKeyAmong u f n k × (HasKey t f k → ⊥)
+abbrev pub HasKeyAloneAmong : Preference → Preference → Data → Data → Family → ℕ → Key → Type 0
+HasKeyAloneAmong π ρ t u f n k = HasKeyAmong ρ u f n k × (HasKey π t f k → ⊥)
 
 -- ---- the order of keys
 
@@ -82,15 +82,15 @@ module _ (m n : Key → Option ObjectRecord) where
 -- ---- keys by position
 
 -- a key among one more object is among the others, or that object's
-pub among_more : (t : Data) (f : Family) (i : ℕ) (k : Key) → HasKeyAmong t f (i + 1) k → HasKeyAmong t f i k ⊎ (key_in f t i ≡ Some k)
-among_more t f i k h = at (which h.0 i h.1)
+pub among_more : (π : Preference) (t : Data) (f : Family) (i : ℕ) (k : Key) → HasKeyAmong π t f (i + 1) k → HasKeyAmong π t f i k ⊎ (key_in π f t i ≡ Some k)
+among_more π t f i k h = at (which h.0 i h.1)
   where
     which : (j n : ℕ) → j < n + 1 → (j < n) ⊎ (j ≡ n)
     which j n low = grind arith
 
-    at : (h.0 < i) ⊎ (h.0 ≡ i) → HasKeyAmong t f i k ⊎ (key_in f t i ≡ Some k)
+    at : (h.0 < i) ⊎ (h.0 ≡ i) → HasKeyAmong π t f i k ⊎ (key_in π f t i ≡ Some k)
     at (inl low) = inl (h.0, low, h.2)
-    at (inr same) = inr (subst (λ j. key_in f t j ≡ Some k) same h.2)
+    at (inr same) = inr (subst (λ j. key_in π f t j ≡ Some k) same h.2)
 
 low_at : {A : Type 0} (xs : List A) (i : ℕ) (x : A) → slice_get xs i ≡ Some x → i < length xs
 low_at [] i x e = cc
@@ -98,124 +98,124 @@ low_at (y ∷ ys) zero x e = omega arith
 low_at (y ∷ ys) (suc i) x e = omega (arith, low_at ys i x e)
 
 -- each key is among all objects
-pub among_all : (t : Data) (f : Family) (k : Key) → HasKey t f k → HasKeyAmong t f (length (objects f t)) k
-among_all t f k h = (h.0, at (slice_get (objects f t) h.0) refl h.1, h.1)
+pub among_all : (π : Preference) (t : Data) (f : Family) (k : Key) → HasKey π t f k → HasKeyAmong π t f (length (objects f t)) k
+among_all π t f k h = (h.0, at (slice_get (objects f t) h.0) refl h.1, h.1)
   where
-    at : (o : Option Placed) → slice_get (objects f t) h.0 ≡ o → option_and_then (λ (x : Placed). key_of_family_object f x.value) o ≡ Some k → h.0 < length (objects f t)
+    at : (o : Option Placed) → slice_get (objects f t) h.0 ≡ o → option_and_then (λ (x : Placed). key_of_family_object π f x.value) o ≡ Some k → h.0 < length (objects f t)
     at None is e = cc
     at (Some o) is e = low_at (objects f t) h.0 o is
 
 -- ---- the keys of both reports
 
 -- each key is one of the left report, or of the right one alone, or both reports have nothing there
-pub any_key : (t u : Data) (f : Family) (k : Key) → IsComparable t → IsComparable u → has_keys f ≡ true → (HasKey t f k ⊎ HasKeyAlone t u f k) ⊎ (records_of t f k ≡ records_of u f k)
-any_key t u f k c e keyed = at (key_or_none t c f keyed k) (key_or_none u e f keyed k)
+pub any_key : (π ρ : Preference) (t u : Data) (f : Family) (k : Key) → IsComparable π t → IsComparable ρ u → has_keys f ≡ true → (HasKey π t f k ⊎ HasKeyAlone π ρ t u f k) ⊎ (records_of π t f k ≡ records_of ρ u f k)
+any_key π ρ t u f k c e keyed = at (key_or_none π t c f keyed k) (key_or_none ρ u e f keyed k)
   where
-    at : HasKey t f k ⊎ (HasKey t f k → ⊥) → HasKey u f k ⊎ (HasKey u f k → ⊥) → (HasKey t f k ⊎ HasKeyAlone t u f k) ⊎ (records_of t f k ≡ records_of u f k)
+    at : HasKey π t f k ⊎ (HasKey π t f k → ⊥) → HasKey ρ u f k ⊎ (HasKey ρ u f k → ⊥) → (HasKey π t f k ⊎ HasKeyAlone π ρ t u f k) ⊎ (records_of π t f k ≡ records_of ρ u f k)
     at (inl left) right = inl (inl left)
     at (inr none) (inl right) = inl (inr (right, none))
-    at (inr none) (inr lacking) = inr (neither_record t u f k c e keyed none lacking)
+    at (inr none) (inr lacking) = inr (neither_record π ρ t u f k c e keyed none lacking)
 
 -- ---- the keys of the left report, one after another
 
-module _ (m n : Key → Option ObjectRecord) (t : Data) (f : Family) (i : ℕ) (one after : Option KeyedDifference) (told : TellsAmongKeys m n (HasKeyAmong t f i) one) where
-  pub left_differs : (other lesser : KeyedDifference) → Some other.key.now ≡ key_in f t i → Differ (m other.key.now) (n other.key.now) other.how
-      → after ≡ Some lesser → lesser ≡ lesser_difference one other → TellsAmongKeys m n (HasKeyAmong t f (i + 1)) after
+module _ (π : Preference) (m n : Key → Option ObjectRecord) (t : Data) (f : Family) (i : ℕ) (one after : Option KeyedDifference) (told : TellsAmongKeys m n (HasKeyAmong π t f i) one) where
+  pub left_differs : (other lesser : KeyedDifference) → Some other.key.now ≡ key_in π f t i → Differ (m other.key.now) (n other.key.now) other.how
+      → after ≡ Some lesser → lesser ≡ lesser_difference one other → TellsAmongKeys m n (HasKeyAmong π t f (i + 1)) after
   left_differs other lesser at differ is made =
-      subst (TellsAmongKeys m n (HasKeyAmong t f (i + 1))) (sym (is ∙ ap Some made))
-      (told_added m n (HasKeyAmong t f i) (HasKeyAmong t f (i + 1)) one other to told differ)
+      subst (TellsAmongKeys m n (HasKeyAmong π t f (i + 1))) (sym (is ∙ ap Some made))
+      (told_added m n (HasKeyAmong π t f i) (HasKeyAmong π t f (i + 1)) one other to told differ)
     where
-      to : (k : Key) → HasKeyAmong t f (i + 1) k → HasKeyAmong t f i k ⊎ (other.key.now ≡ k)
-      to k h = ⊎_elim inl (λ e. let same : Some other.key.now ≡ Some k = at ∙ e in inr (cc)) (among_more t f i k h)
+      to : (k : Key) → HasKeyAmong π t f (i + 1) k → HasKeyAmong π t f i k ⊎ (other.key.now ≡ k)
+      to k h = ⊎_elim inl (λ e. let same : Some other.key.now ≡ Some k = at ∙ e in inr (cc)) (among_more π t f i k h)
 
-  pub left_same : (key : Key) → Some key ≡ key_in f t i → m key ≡ n key → after ≡ one → TellsAmongKeys m n (HasKeyAmong t f (i + 1)) after
+  pub left_same : (key : Key) → Some key ≡ key_in π f t i → m key ≡ n key → after ≡ one → TellsAmongKeys m n (HasKeyAmong π t f (i + 1)) after
   left_same key at same is =
-      subst (TellsAmongKeys m n (HasKeyAmong t f (i + 1))) (sym is) (told_of m n (HasKeyAmong t f i) (HasKeyAmong t f (i + 1)) one to told)
+      subst (TellsAmongKeys m n (HasKeyAmong π t f (i + 1))) (sym is) (told_of m n (HasKeyAmong π t f i) (HasKeyAmong π t f (i + 1)) one to told)
     where
-      to : (k : Key) → HasKeyAmong t f (i + 1) k → HasKeyAmong t f i k ⊎ (m k ≡ n k)
+      to : (k : Key) → HasKeyAmong π t f (i + 1) k → HasKeyAmong π t f i k ⊎ (m k ≡ n k)
       to k h =
           ⊎_elim inl (λ e.
           let both : Some key ≡ Some k = at ∙ e in
-          let its : key ≡ k = cc in inr (subst (λ x. m x ≡ n x) its same)) (among_more t f i k h)
+          let its : key ≡ k = cc in inr (subst (λ x. m x ≡ n x) its same)) (among_more π t f i k h)
 
-  pub left_keyless : None ≡ key_in f t i → after ≡ one → TellsAmongKeys m n (HasKeyAmong t f (i + 1)) after
+  pub left_keyless : None ≡ key_in π f t i → after ≡ one → TellsAmongKeys m n (HasKeyAmong π t f (i + 1)) after
   left_keyless at is =
-      subst (TellsAmongKeys m n (HasKeyAmong t f (i + 1))) (sym is) (told_of m n (HasKeyAmong t f i) (HasKeyAmong t f (i + 1)) one to told)
+      subst (TellsAmongKeys m n (HasKeyAmong π t f (i + 1))) (sym is) (told_of m n (HasKeyAmong π t f i) (HasKeyAmong π t f (i + 1)) one to told)
     where
-      to : (k : Key) → HasKeyAmong t f (i + 1) k → HasKeyAmong t f i k ⊎ (m k ≡ n k)
-      to k h = ⊎_elim inl (λ e. let clash : None ≡ Some k = at ∙ e in absurd (cc)) (among_more t f i k h)
+      to : (k : Key) → HasKeyAmong π t f (i + 1) k → HasKeyAmong π t f i k ⊎ (m k ≡ n k)
+      to k h = ⊎_elim inl (λ e. let clash : None ≡ Some k = at ∙ e in absurd (cc)) (among_more π t f i k h)
 
-  pub left_all : length (objects f t) ≤ i → TellsAmongKeys m n (HasKey t f) one
-  left_all all = told_of m n (HasKeyAmong t f i) (HasKey t f) one (λ k h. let a = among_all t f k h in inl (a.0, omega (arith, a.1), a.2)) told
+  pub left_all : length (objects f t) ≤ i → TellsAmongKeys m n (HasKey π t f) one
+  left_all all = told_of m n (HasKeyAmong π t f i) (HasKey π t f) one (λ k h. let a = among_all π t f k h in inl (a.0, omega (arith, a.1), a.2)) told
 
 -- ---- the keys of the right report that the left one lacks, one after another
 
-pub found_none : (t : Data) (f : Family) (k : Key) (found : Option ℕ) → FindsKey t f k found → is_some found ≡ false → HasKey t f k → ⊥
-found_none t f k None finds none h = let clash : None ≡ Some h.0 = (finds h.0).1 h.1 in cc
-found_none t f k (Some i) finds none h = cc
+pub found_none : (π : Preference) (t : Data) (f : Family) (k : Key) (found : Option ℕ) → FindsKey π t f k found → is_some found ≡ false → HasKey π t f k → ⊥
+found_none π t f k None finds none h = let clash : None ≡ Some h.0 = (finds h.0).1 h.1 in cc
+found_none π t f k (Some i) finds none h = cc
 
-pub found_some : (t : Data) (f : Family) (k : Key) (found : Option ℕ) → FindsKey t f k found → is_some found ≡ true → HasKey t f k
-found_some t f k None finds some = cc
-found_some t f k (Some i) finds some = (i, (finds i).0 refl)
+pub found_some : (π : Preference) (t : Data) (f : Family) (k : Key) (found : Option ℕ) → FindsKey π t f k found → is_some found ≡ true → HasKey π t f k
+found_some π t f k None finds some = cc
+found_some π t f k (Some i) finds some = (i, (finds i).0 refl)
 
 -- a key among one more object is among the others, or that object's
-alone_more : (t u : Data) (f : Family) (i : ℕ) (k : Key) → HasKeyAloneAmong t u f (i + 1) k → HasKeyAloneAmong t u f i k ⊎ (key_in f u i ≡ Some k)
-alone_more t u f i k h = ⊎_elim (λ a. inl (a, h.1)) inr (among_more u f i k h.0)
+alone_more : (π ρ : Preference) (t u : Data) (f : Family) (i : ℕ) (k : Key) → HasKeyAloneAmong π ρ t u f (i + 1) k → HasKeyAloneAmong π ρ t u f i k ⊎ (key_in ρ f u i ≡ Some k)
+alone_more π ρ t u f i k h = ⊎_elim (λ a. inl (a, h.1)) inr (among_more ρ u f i k h.0)
 
-module _ (m n : Key → Option ObjectRecord) (t u : Data) (f : Family) (i : ℕ) (one after : Option KeyedDifference) (told : TellsAmongKeys m n (HasKeyAloneAmong t u f i) one) where
-  pub right_differs : (other lesser : KeyedDifference) → Some other.key.now ≡ key_in f u i → Differ (m other.key.now) (n other.key.now) other.how
-      → after ≡ Some lesser → lesser ≡ lesser_difference one other → TellsAmongKeys m n (HasKeyAloneAmong t u f (i + 1)) after
+module _ (π ρ : Preference) (m n : Key → Option ObjectRecord) (t u : Data) (f : Family) (i : ℕ) (one after : Option KeyedDifference) (told : TellsAmongKeys m n (HasKeyAloneAmong π ρ t u f i) one) where
+  pub right_differs : (other lesser : KeyedDifference) → Some other.key.now ≡ key_in ρ f u i → Differ (m other.key.now) (n other.key.now) other.how
+      → after ≡ Some lesser → lesser ≡ lesser_difference one other → TellsAmongKeys m n (HasKeyAloneAmong π ρ t u f (i + 1)) after
   right_differs other lesser at differ is made =
-      subst (TellsAmongKeys m n (HasKeyAloneAmong t u f (i + 1))) (sym (is ∙ ap Some made))
-      (told_added m n (HasKeyAloneAmong t u f i) (HasKeyAloneAmong t u f (i + 1)) one other to told differ)
+      subst (TellsAmongKeys m n (HasKeyAloneAmong π ρ t u f (i + 1))) (sym (is ∙ ap Some made))
+      (told_added m n (HasKeyAloneAmong π ρ t u f i) (HasKeyAloneAmong π ρ t u f (i + 1)) one other to told differ)
     where
-      to : (k : Key) → HasKeyAloneAmong t u f (i + 1) k → HasKeyAloneAmong t u f i k ⊎ (other.key.now ≡ k)
-      to k h = ⊎_elim inl (λ e. let same : Some other.key.now ≡ Some k = at ∙ e in inr (cc)) (alone_more t u f i k h)
+      to : (k : Key) → HasKeyAloneAmong π ρ t u f (i + 1) k → HasKeyAloneAmong π ρ t u f i k ⊎ (other.key.now ≡ k)
+      to k h = ⊎_elim inl (λ e. let same : Some other.key.now ≡ Some k = at ∙ e in inr (cc)) (alone_more π ρ t u f i k h)
 
-  pub right_known : (key : Key) → Some key ≡ key_in f u i → HasKey t f key → after ≡ one → TellsAmongKeys m n (HasKeyAloneAmong t u f (i + 1)) after
+  pub right_known : (key : Key) → Some key ≡ key_in ρ f u i → HasKey π t f key → after ≡ one → TellsAmongKeys m n (HasKeyAloneAmong π ρ t u f (i + 1)) after
   right_known key at known is =
-      subst (TellsAmongKeys m n (HasKeyAloneAmong t u f (i + 1))) (sym is) (told_of m n (HasKeyAloneAmong t u f i) (HasKeyAloneAmong t u f (i + 1)) one to told)
+      subst (TellsAmongKeys m n (HasKeyAloneAmong π ρ t u f (i + 1))) (sym is) (told_of m n (HasKeyAloneAmong π ρ t u f i) (HasKeyAloneAmong π ρ t u f (i + 1)) one to told)
     where
-      to : (k : Key) → HasKeyAloneAmong t u f (i + 1) k → HasKeyAloneAmong t u f i k ⊎ (m k ≡ n k)
+      to : (k : Key) → HasKeyAloneAmong π ρ t u f (i + 1) k → HasKeyAloneAmong π ρ t u f i k ⊎ (m k ≡ n k)
       to k h =
           ⊎_elim inl (λ e.
           let both : Some key ≡ Some k = at ∙ e in
-          let its : key ≡ k = cc in absurd (h.1 (subst (HasKey t f) its known))) (alone_more t u f i k h)
+          let its : key ≡ k = cc in absurd (h.1 (subst (HasKey π t f) its known))) (alone_more π ρ t u f i k h)
 
-  pub right_keyless : None ≡ key_in f u i → after ≡ one → TellsAmongKeys m n (HasKeyAloneAmong t u f (i + 1)) after
+  pub right_keyless : None ≡ key_in ρ f u i → after ≡ one → TellsAmongKeys m n (HasKeyAloneAmong π ρ t u f (i + 1)) after
   right_keyless at is =
-      subst (TellsAmongKeys m n (HasKeyAloneAmong t u f (i + 1))) (sym is) (told_of m n (HasKeyAloneAmong t u f i) (HasKeyAloneAmong t u f (i + 1)) one to told)
+      subst (TellsAmongKeys m n (HasKeyAloneAmong π ρ t u f (i + 1))) (sym is) (told_of m n (HasKeyAloneAmong π ρ t u f i) (HasKeyAloneAmong π ρ t u f (i + 1)) one to told)
     where
-      to : (k : Key) → HasKeyAloneAmong t u f (i + 1) k → HasKeyAloneAmong t u f i k ⊎ (m k ≡ n k)
-      to k h = ⊎_elim inl (λ e. let clash : None ≡ Some k = at ∙ e in absurd (cc)) (alone_more t u f i k h)
+      to : (k : Key) → HasKeyAloneAmong π ρ t u f (i + 1) k → HasKeyAloneAmong π ρ t u f i k ⊎ (m k ≡ n k)
+      to k h = ⊎_elim inl (λ e. let clash : None ≡ Some k = at ∙ e in absurd (cc)) (alone_more π ρ t u f i k h)
 
-  pub right_all : length (objects f u) ≤ i → TellsAmongKeys m n (HasKeyAlone t u f) one
+  pub right_all : length (objects f u) ≤ i → TellsAmongKeys m n (HasKeyAlone π ρ t u f) one
   right_all all =
-      told_of m n (HasKeyAloneAmong t u f i) (HasKeyAlone t u f) one (λ k h. let a = among_all u f k h.0 in inl ((a.0, omega (arith, a.1), a.2), h.1)) told
+      told_of m n (HasKeyAloneAmong π ρ t u f i) (HasKeyAlone π ρ t u f) one (λ k h. let a = among_all ρ u f k h.0 in inl ((a.0, omega (arith, a.1), a.2), h.1)) told
 
 -- ---- the keys of both reports
 
-module _ (t u : Data) (f : Family) (c : IsComparable t) (e : IsComparable u) (keyed : has_keys f ≡ true) where
-  either_told : (A : Key → Type 0) → ((k : Key) → HasKeyAlone t u f k → A k ⊎ (records_of t f k ≡ records_of u f k)) → ((k : Key) → HasKey t f k → A k) → (k : Key) → A k ⊎ (records_of t f k ≡ records_of u f k)
-  either_told A right left k = at (any_key t u f k c e keyed)
+module _ (π ρ : Preference) (t u : Data) (f : Family) (c : IsComparable π t) (e : IsComparable ρ u) (keyed : has_keys f ≡ true) where
+  either_told : (A : Key → Type 0) → ((k : Key) → HasKeyAlone π ρ t u f k → A k ⊎ (records_of π t f k ≡ records_of ρ u f k)) → ((k : Key) → HasKey π t f k → A k) → (k : Key) → A k ⊎ (records_of π t f k ≡ records_of ρ u f k)
+  either_told A right left k = at (any_key π ρ t u f k c e keyed)
     where
-      at : (HasKey t f k ⊎ HasKeyAlone t u f k) ⊎ (records_of t f k ≡ records_of u f k) → A k ⊎ (records_of t f k ≡ records_of u f k)
+      at : (HasKey π t f k ⊎ HasKeyAlone π ρ t u f k) ⊎ (records_of π t f k ≡ records_of ρ u f k) → A k ⊎ (records_of π t f k ≡ records_of ρ u f k)
       at (inl (inl a)) = inl (left k a)
       at (inl (inr b)) = right k b
       at (inr same) = inr same
 
   -- of the differences of both sides, the lesser is the least of all
-  pub both_sides : (one : Option KeyedDifference) (other lesser : KeyedDifference) → TellsAmongKeys (records_of t f) (records_of u f) (HasKey t f) one
-      → DifferAmongKeys (records_of t f) (records_of u f) (HasKeyAlone t u f) other.key.now other.how → lesser ≡ lesser_difference one other
-      → TellsAmongKeys (records_of t f) (records_of u f) IsAnyKey (Some lesser)
+  pub both_sides : (one : Option KeyedDifference) (other lesser : KeyedDifference) → TellsAmongKeys (records_of π t f) (records_of ρ u f) (HasKey π t f) one
+      → DifferAmongKeys (records_of π t f) (records_of ρ u f) (HasKeyAlone π ρ t u f) other.key.now other.how → lesser ≡ lesser_difference one other
+      → TellsAmongKeys (records_of π t f) (records_of ρ u f) IsAnyKey (Some lesser)
   both_sides one other lesser told differ made =
-      subst (λ d. TellsAmongKeys (records_of t f) (records_of u f) IsAnyKey (Some d)) (sym made)
-      (told_of (records_of t f) (records_of u f) (λ k. HasKey t f k ⊎ HasKeyAlone t u f k) IsAnyKey (Some (lesser_difference one other))
-      (λ k any. either_told (λ k. HasKey t f k ⊎ HasKeyAlone t u f k) (λ k b. inl (inr b)) (λ k a. inl a) k)
-      (told_lesser (records_of t f) (records_of u f) (HasKey t f) (HasKeyAlone t u f) one other told differ))
+      subst (λ d. TellsAmongKeys (records_of π t f) (records_of ρ u f) IsAnyKey (Some d)) (sym made)
+      (told_of (records_of π t f) (records_of ρ u f) (λ k. HasKey π t f k ⊎ HasKeyAlone π ρ t u f k) IsAnyKey (Some (lesser_difference one other))
+      (λ k any. either_told (λ k. HasKey π t f k ⊎ HasKeyAlone π ρ t u f k) (λ k b. inl (inr b)) (λ k a. inl a) k)
+      (told_lesser (records_of π t f) (records_of ρ u f) (HasKey π t f) (HasKeyAlone π ρ t u f) one other told differ))
 
   -- where no key of the right report alone has a difference, the least of the left one is the least of all
-  pub one_side : (one : Option KeyedDifference) → TellsAmongKeys (records_of t f) (records_of u f) (HasKey t f) one → TellsAmongKeys (records_of t f) (records_of u f) (HasKeyAlone t u f) None
-      → TellsAmongKeys (records_of t f) (records_of u f) IsAnyKey one
+  pub one_side : (one : Option KeyedDifference) → TellsAmongKeys (records_of π t f) (records_of ρ u f) (HasKey π t f) one → TellsAmongKeys (records_of π t f) (records_of ρ u f) (HasKeyAlone π ρ t u f) None
+      → TellsAmongKeys (records_of π t f) (records_of ρ u f) IsAnyKey one
   one_side one told none =
-      told_of (records_of t f) (records_of u f) (HasKey t f) IsAnyKey one (λ k any. either_told (HasKey t f) (λ k b. inr (none k b)) (λ k a. a) k) told
+      told_of (records_of π t f) (records_of ρ u f) (HasKey π t f) IsAnyKey one (λ k any. either_told (HasKey π t f) (λ k b. inr (none k b)) (λ k a. a) k) told

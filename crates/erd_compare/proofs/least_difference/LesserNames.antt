@@ -13,6 +13,7 @@ use Rattle.erd_tables.specs.Texts.{text_cmp}
 use Rattle.erd_tables.specs.declared.class.Class.{Class}
 use Rattle.erd_check.specs.Trees.{IsTree, AreMembers}
 use Rattle.erd_check.proofs.Members.{get_member-before}
+use Rattle.erd_meaning.specs.Keys.{Preference}
 use Rattle.erd_meaning.specs.Meaning.{ObjectRecord}
 use Rattle.erd_meaning.specs.Records.{member_of_class}
 use Rattle.erd_meaning.proofs.meanings.WholeRecords.{absent_member}
@@ -87,46 +88,46 @@ none-left m n d es end all = subst (TellsOfAll m n d) end all None (λ k v e. cc
 -- ---- the names of both
 
 -- two objects agree at a name if they do so where either has it
-agree-at : (t u d e : Data) (c : Class) (k : List ℕ) → ((v : Data) → get k d ≡ Some v → member_of_class t d c k ≡ member_of_class u e c k)
-    → ((v : Data) → get k e ≡ Some v → member_of_class t d c k ≡ member_of_class u e c k) → member_of_class t d c k ≡ member_of_class u e c k
-agree-at t u d e c k left right = at (get k d) (get k e) refl refl
+agree-at : (π ρ : Preference) (t u d e : Data) (c : Class) (k : List ℕ) → ((v : Data) → get k d ≡ Some v → member_of_class π t d c k ≡ member_of_class ρ u e c k)
+    → ((v : Data) → get k e ≡ Some v → member_of_class π t d c k ≡ member_of_class ρ u e c k) → member_of_class π t d c k ≡ member_of_class ρ u e c k
+agree-at π ρ t u d e c k left right = at (get k d) (get k e) refl refl
   where
-    at : (o p : Option Data) → get k d ≡ o → get k e ≡ p → member_of_class t d c k ≡ member_of_class u e c k
+    at : (o p : Option Data) → get k d ≡ o → get k e ≡ p → member_of_class π t d c k ≡ member_of_class ρ u e c k
     at (Some v) p here there = left v here
     at None (Some v) here there = right v there
-    at None None here there = absent_member t d c k here ∙ sym (absent_member u e c k there)
+    at None None here there = absent_member π t d c k here ∙ sym (absent_member ρ u e c k there)
 
 -- the lesser of the two names is the least at which two objects of one class differ
-pub least-told : (t u d e : Data) (c : Class) (first second : Option (List ℕ)) → TellsAmongNames (member_of_class t d c) (member_of_class u e c) d first → TellsAmongNames (member_of_class t d c) (member_of_class u e c) e second
-    → TellsHow (Some (record_of_class t c d)) (Some (record_of_class u c e)) (option_map Member (lesser_name first second))
-least-told t u d e c None None left right =
-    let same : member_of_class t d c ≡ member_of_class u e c = fun_ext (λ k. agree-at t u d e c k (left k) (right k)) in
+pub least-told : (π ρ : Preference) (t u d e : Data) (c : Class) (first second : Option (List ℕ)) → TellsAmongNames (member_of_class π t d c) (member_of_class ρ u e c) d first → TellsAmongNames (member_of_class π t d c) (member_of_class ρ u e c) e second
+    → TellsHow (Some (record_of_class π t c d)) (Some (record_of_class ρ u c e)) (option_map Member (lesser_name first second))
+least-told π ρ t u d e c None None left right =
+    let same : member_of_class π t d c ≡ member_of_class ρ u e c = fun_ext (λ k. agree-at π ρ t u d e c k (left k) (right k)) in
     ap (λ (m : MemberMap). let r : ObjectRecord = record { class = c; members = m } in Some r) same
-least-told t u d e c (Some k) None left right = record {
+least-told π ρ t u d e c (Some k) None left right = record {
   same_class = refl;
   differ = left.differ;
-  least = λ j low. agree-at t u d e c j (λ v h. left.least j v h low) (right j);
+  least = λ j low. agree-at π ρ t u d e c j (λ v h. left.least j v h low) (right j);
 }
-least-told t u d e c None (Some l) left right = record {
+least-told π ρ t u d e c None (Some l) left right = record {
   same_class = refl;
   differ = right.differ;
-  least = λ j low. agree-at t u d e c j (left j) (λ v h. right.least j v h low);
+  least = λ j low. agree-at π ρ t u d e c j (left j) (λ v h. right.least j v h low);
 }
-least-told t u d e c (Some k) (Some l) left right = at (text_cmp l k) refl
+least-told π ρ t u d e c (Some k) (Some l) left right = at (text_cmp l k) refl
   where
-    at : (o : Ordering) → text_cmp l k ≡ o → TellsHow (Some (record_of_class t c d)) (Some (record_of_class u c e)) (option_map Member (cond (is_lt o) (Some l) (Some k)))
+    at : (o : Ordering) → text_cmp l k ≡ o → TellsHow (Some (record_of_class π t c d)) (Some (record_of_class ρ u c e)) (option_map Member (cond (is_lt o) (Some l) (Some k)))
     at Less is = record {
       same_class = refl;
       differ = right.differ;
-      least = λ j low. agree-at t u d e c j (λ v h. left.least j v h (nat_list_cmp_total.trans j l k low is)) (λ v h. right.least j v h low);
+      least = λ j low. agree-at π ρ t u d e c j (λ v h. left.least j v h (nat_list_cmp_total.trans j l k low is)) (λ v h. right.least j v h low);
     }
     at Equal is = record {
       same_class = refl;
       differ = left.differ;
-      least = λ j low. agree-at t u d e c j (λ v h. left.least j v h low) (λ v h. right.least j v h (subst (λ x. text_cmp j x ≡ Less) (sym (exact_bytes l k is)) low));
+      least = λ j low. agree-at π ρ t u d e c j (λ v h. left.least j v h low) (λ v h. right.least j v h (subst (λ x. text_cmp j x ≡ Less) (sym (exact_bytes l k is)) low));
     }
     at Greater is = let below : text_cmp k l ≡ Less = nat_list_cmp_total.antisymm k l ∙ ap ordering_reverse is in record {
       same_class = refl;
       differ = left.differ;
-      least = λ j low. agree-at t u d e c j (λ v h. left.least j v h low) (λ v h. right.least j v h (nat_list_cmp_total.trans j k l low below));
+      least = λ j low. agree-at π ρ t u d e c j (λ v h. left.least j v h low) (λ v h. right.least j v h (nat_list_cmp_total.trans j k l low below));
     }

@@ -7,7 +7,7 @@ use Rattle.std.specs.Prelude.{⊤}
 use Rattle.serde_json.specs.Data.{Data}
 use Rattle.erd_tables.specs.declared.class.Family.{Family}
 use Rattle.erd_tables.specs.declared.class.Family.TheVariants as family
-use Rattle.erd_meaning.specs.Keys.{key_cmp}
+use Rattle.erd_meaning.specs.Keys.{Preference, key_cmp}
 use Rattle.erd_meaning.specs.Meaning.{Meaning}
 use Rattle.erd_meaning.specs.Records.{meaning, records_of}
 use Rattle.erd_meaning.specs.declared.keys.key.Key.{Key}
@@ -97,20 +97,20 @@ first_told m n i d low below h = record {
 
 -- ---- equal at every part
 
-equal_objects : (t u : Data) → ((p : Part) (k : Option Key) → record_at (meaning t) p k ≡ record_at (meaning u) p k) → (f : Family) (k : Key) → records_of t f k ≡ records_of u f k
-equal_objects t u all family.Unit k = all part.Unit (Some k)
-equal_objects t u all family.Party k = all part.Party (Some k)
-equal_objects t u all family.Person k = all part.Person (Some k)
-equal_objects t u all family.Office k = all part.Office (Some k)
-equal_objects t u all family.Header k = all part.Header (Some k)
-equal_objects t u all family.Candidate k = all part.Candidate (Some k)
-equal_objects t u all family.Contest k = all part.Contest (Some k)
-equal_objects t u all family.Style k = all part.Style (Some k)
-equal_objects t u all family.Selection k = refl
+equal_objects : (π ρ : Preference) (t u : Data) → ((p : Part) (k : Option Key) → record_at (meaning π t) p k ≡ record_at (meaning ρ u) p k) → (f : Family) (k : Key) → records_of π t f k ≡ records_of ρ u f k
+equal_objects π ρ t u all family.Unit k = all part.Unit (Some k)
+equal_objects π ρ t u all family.Party k = all part.Party (Some k)
+equal_objects π ρ t u all family.Person k = all part.Person (Some k)
+equal_objects π ρ t u all family.Office k = all part.Office (Some k)
+equal_objects π ρ t u all family.Header k = all part.Header (Some k)
+equal_objects π ρ t u all family.Candidate k = all part.Candidate (Some k)
+equal_objects π ρ t u all family.Contest k = all part.Contest (Some k)
+equal_objects π ρ t u all family.Style k = all part.Style (Some k)
+equal_objects π ρ t u all family.Selection k = refl
 
 -- reports that mean the same at every part mean the same
-pub equal_meanings : (t u : Data) (i : ℕ) → 10 ≤ i → AreEqualBelow (meaning t) (meaning u) i → meaning t ≡ meaning u
-equal_meanings t u i all below = same_meaning t u (at part.Report None) (at part.Election None) (equal_objects t u at)
+pub equal_meanings : (π ρ : Preference) (t u : Data) (i : ℕ) → 10 ≤ i → AreEqualBelow (meaning π t) (meaning ρ u) i → meaning π t ≡ meaning ρ u
+equal_meanings π ρ t u i all below = same_meaning π ρ t u (at part.Report None) (at part.Election None) (equal_objects π ρ t u at)
   where
-    at : (p : Part) (k : Option Key) → record_at (meaning t) p k ≡ record_at (meaning u) p k
+    at : (p : Part) (k : Option Key) → record_at (meaning π t) p k ≡ record_at (meaning ρ u) p k
     at p k = below p k (omega (arith, number_low p))

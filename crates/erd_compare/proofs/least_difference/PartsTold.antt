@@ -10,7 +10,7 @@ use Rattle.erd_tables.specs.declared.class.Family.{Family}
 use Rattle.erd_tables.specs.declared.class.Role.TheVariants as role
 use Rattle.erd_check.specs.Trees.{IsTree}
 use Rattle.erd_meaning.specs.Accepted.{IsAccepted}
-use Rattle.erd_meaning.specs.Keys.{key_cmp}
+use Rattle.erd_meaning.specs.Keys.{Preference, key_cmp}
 use Rattle.erd_meaning.specs.Meaning.{Meaning, ObjectRecord}
 use Rattle.erd_meaning.specs.Objects.{Placed, elections}
 use Rattle.erd_meaning.specs.Records.{meaning, object_record}
@@ -74,27 +74,27 @@ keyless_told m n p a b left right (Some d) h = record {
   least = λ k less. absurd (none_below k (subst (λ x. option_cmp key_cmp k x ≡ Less) h.keyless less));
 }
 
-pub report_told : (t u d e : Data) (p : Part) → d ≡ t → e ≡ u → p ≡ part.Report → (result : Option Difference)
-    → TellsKeyless (object_record t role.Report d) (object_record u role.Report e) p result → TellsPart (meaning t) (meaning u) p result
-report_told t u d e p left right is result =
-    subst (λ q. TellsKeyless (object_record t role.Report d) (object_record u role.Report e) q result → TellsPart (meaning t) (meaning u) q result) (sym is)
-    (keyless_told (meaning t) (meaning u) part.Report (object_record t role.Report d) (object_record u role.Report e)
-    (λ k. ap (λ x. record_without_key (object_record t role.Report x) k) (sym left)) (λ k. ap (λ x. record_without_key (object_record u role.Report x) k) (sym right)) result)
+pub report_told : (π ρ : Preference) (t u d e : Data) (p : Part) → d ≡ t → e ≡ u → p ≡ part.Report → (result : Option Difference)
+    → TellsKeyless (object_record π t role.Report d) (object_record ρ u role.Report e) p result → TellsPart (meaning π t) (meaning ρ u) p result
+report_told π ρ t u d e p left right is result =
+    subst (λ q. TellsKeyless (object_record π t role.Report d) (object_record ρ u role.Report e) q result → TellsPart (meaning π t) (meaning ρ u) q result) (sym is)
+    (keyless_told (meaning π t) (meaning ρ u) part.Report (object_record π t role.Report d) (object_record ρ u role.Report e)
+    (λ k. ap (λ x. record_without_key (object_record π t role.Report x) k) (sym left)) (λ k. ap (λ x. record_without_key (object_record ρ u role.Report x) k) (sym right)) result)
 
 -- the election is the only one
-election_record : (t d : Data) → map (λ o. o.value) (elections t) ≡ d ∷ [] → (meaning t).election ≡ object_record t role.Election d
-election_record t d is = at (elections t) is
+election_record : (π : Preference) (t d : Data) → map (λ o. o.value) (elections t) ≡ d ∷ [] → (meaning π t).election ≡ object_record π t role.Election d
+election_record π t d is = at (elections t) is
   where
-    at : (os : List Placed) → map (λ o. o.value) os ≡ d ∷ [] → option_and_then (λ (o : Placed). object_record t role.Election o.value) (slice_get os 0) ≡ object_record t role.Election d
+    at : (os : List Placed) → map (λ o. o.value) os ≡ d ∷ [] → option_and_then (λ (o : Placed). object_record π t role.Election o.value) (slice_get os 0) ≡ object_record π t role.Election d
     at [] e = cc
-    at (o ∷ os) e = let same : o.value ≡ d = cc in ap (object_record t role.Election) same
+    at (o ∷ os) e = let same : o.value ≡ d = cc in ap (object_record π t role.Election) same
 
-pub election_told : (t u d e : Data) (p : Part) → map (λ o. o.value) (elections t) ≡ d ∷ [] → map (λ o. o.value) (elections u) ≡ e ∷ [] → p ≡ part.Election → (result : Option Difference)
-    → TellsKeyless (object_record t role.Election d) (object_record u role.Election e) p result → TellsPart (meaning t) (meaning u) p result
-election_told t u d e p left right is result =
-    subst (λ q. TellsKeyless (object_record t role.Election d) (object_record u role.Election e) q result → TellsPart (meaning t) (meaning u) q result) (sym is)
-    (keyless_told (meaning t) (meaning u) part.Election (object_record t role.Election d) (object_record u role.Election e)
-    (λ k. ap (λ r. record_without_key r k) (election_record t d left)) (λ k. ap (λ r. record_without_key r k) (election_record u e right)) result)
+pub election_told : (π ρ : Preference) (t u d e : Data) (p : Part) → map (λ o. o.value) (elections t) ≡ d ∷ [] → map (λ o. o.value) (elections u) ≡ e ∷ [] → p ≡ part.Election → (result : Option Difference)
+    → TellsKeyless (object_record π t role.Election d) (object_record ρ u role.Election e) p result → TellsPart (meaning π t) (meaning ρ u) p result
+election_told π ρ t u d e p left right is result =
+    subst (λ q. TellsKeyless (object_record π t role.Election d) (object_record ρ u role.Election e) q result → TellsPart (meaning π t) (meaning ρ u) q result) (sym is)
+    (keyless_told (meaning π t) (meaning ρ u) part.Election (object_record π t role.Election d) (object_record ρ u role.Election e)
+    (λ k. ap (λ r. record_without_key r k) (election_record π t d left)) (λ k. ap (λ r. record_without_key r k) (election_record ρ u e right)) result)
 
 -- a part of no family that is not the election is the report
 pub report_part : (p : Part) → family_of_part p ≡ None → (p ≡ part.Election → ⊥) → p ≡ part.Report
@@ -104,5 +104,5 @@ report_part p e other = cc
 
 -- ---- a report
 
-pub comparable : (v w : Value) → v ≡ w → IsAccepted (view v) → IsTree (view v) → has_float (view v) ≡ false → IsComparable (view w)
-comparable v w same accepted tree whole = subst (λ x. IsComparable (view x)) same (record { accepted = accepted; whole = record { is_tree = tree; whole = whole } })
+pub comparable : (π : Preference) (v w : Value) → v ≡ w → IsAccepted π (view v) → IsTree (view v) → has_float (view v) ≡ false → IsComparable π (view w)
+comparable π v w same accepted tree whole = subst (λ x. IsComparable π (view x)) same (record { accepted = accepted; whole = record { is_tree = tree; whole = whole } })

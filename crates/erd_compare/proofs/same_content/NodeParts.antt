@@ -7,6 +7,7 @@ use Rattle.serde_json.specs.View.{items_view, view}
 use Rattle.serde_json.specs.declared.value.Value.{Value}
 use Rattle.erd_tables.specs.Texts.{text_cmp}
 use Rattle.erd_check.proofs.Members.{get_member-depth}
+use Rattle.erd_meaning.specs.Keys.{Preference}
 use Rattle.erd_meaning.specs.Meaning.{Content, no_content}
 use Rattle.erd_meaning.specs.Records.{class_of_node, content_inside, content_of, contest_node, header_node, is_header_class, node_of}
 use Rattle.erd_compare.specs.code.Comparing.{Decides}
@@ -15,48 +16,48 @@ use Rattle.erd_compare.specs.code.ContentParts.{content_within}
 -- ---- what stands inside
 
 -- the content of a member that may be absent
-content_at : Data → Option Data → Content
-content_at t None = no_content
-content_at t (Some v) = content_of t v
+content_at : (π : Preference) → Data → Option Data → Content
+content_at π t None = no_content
+content_at π t (Some v) = content_of π t v
 
 -- what stands inside is that of the member
-inside_get : (t : Data) (ms : Members) → content_inside t ms ≡ content_at t (get_member (codes "OrderedContent") ms)
+inside_get : (π : Preference) (t : Data) (ms : Members) → content_inside π t ms ≡ content_at π t (get_member (codes "OrderedContent") ms)
 unfolding content_at
-inside_get t no_members = refl
-inside_get t (member k d ms) = at (text_cmp (codes "OrderedContent") k) refl (inside_get t ms)
+inside_get π t no_members = refl
+inside_get π t (member k d ms) = at (text_cmp (codes "OrderedContent") k) refl (inside_get π t ms)
   where
-    at : (o : Ordering) → text_cmp (codes "OrderedContent") k ≡ o → content_inside t ms ≡ content_at t (get_member (codes "OrderedContent") ms)
-        → content_inside t (member k d ms) ≡ content_at t (get_member (codes "OrderedContent") (member k d ms))
+    at : (o : Ordering) → text_cmp (codes "OrderedContent") k ≡ o → content_inside π t ms ≡ content_at π t (get_member (codes "OrderedContent") ms)
+        → content_inside π t (member k d ms) ≡ content_at π t (get_member (codes "OrderedContent") (member k d ms))
     at Less is h = rw (is, sym (is_eq-slice_cmp (codes "OrderedContent") k) ∙ ap is_eq is) h
     at Equal is h = rw (is, sym (is_eq-slice_cmp (codes "OrderedContent") k) ∙ ap is_eq is)
     at Greater is h = rw (is, sym (is_eq-slice_cmp (codes "OrderedContent") k) ∙ ap is_eq is) h
 
-within_get : (t d : Data) → content_within t d ≡ content_at t (get (codes "OrderedContent") d)
+within_get : (π : Preference) (t d : Data) → content_within π t d ≡ content_at π t (get (codes "OrderedContent") d)
 unfolding content_at
-within_get t (object ms) = inside_get t ms
-within_get t d = refl
+within_get π t (object ms) = inside_get π t ms
+within_get π t d = refl
 
 -- where there is such a member
-pub within_some : (t d v : Data) → get (codes "OrderedContent") d ≡ Some v → content_within t d ≡ content_of t v
+pub within_some : (π : Preference) (t d v : Data) → get (codes "OrderedContent") d ≡ Some v → content_within π t d ≡ content_of π t v
 unfolding content_at
-within_some t d v e = within_get t d ∙ ap (content_at t) e
+within_some π t d v e = within_get π t d ∙ ap (content_at π t) e
 
 -- and where there is none
-pub within_none : (t d : Data) → get (codes "OrderedContent") d ≡ None → content_within t d ≡ no_content
+pub within_none : (π : Preference) (t d : Data) → get (codes "OrderedContent") d ≡ None → content_within π t d ≡ no_content
 unfolding content_at
-within_none t d e = within_get t d ∙ ap (content_at t) e
+within_none π t d e = within_get π t d ∙ ap (content_at π t) e
 
 -- ---- headers and contests
 
 -- a node whose class is that of a header
-pub node_header : (t d : Data) → is_header_class (class_of_node d) ≡ true → node_of t d ≡ header_node t d (content_within t d)
-node_header t (object ms) e = rw e
-node_header t d e = cc
+pub node_header : (π : Preference) (t d : Data) → is_header_class (class_of_node d) ≡ true → node_of π t d ≡ header_node π t d (content_within π t d)
+node_header π t (object ms) e = rw e
+node_header π t d e = cc
 
 -- and one of any other class
-pub node_contest : (t d : Data) → is_header_class (class_of_node d) ≡ false → node_of t d ≡ contest_node t d
-node_contest t (object ms) e = rw e
-node_contest t d e = refl
+pub node_contest : (π : Preference) (t d : Data) → is_header_class (class_of_node d) ≡ false → node_of π t d ≡ contest_node π t d
+node_contest π t (object ms) e = rw e
+node_contest π t d e = refl
 
 -- ---- depths
 

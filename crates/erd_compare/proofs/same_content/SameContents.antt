@@ -6,6 +6,7 @@ use Rattle.serde_json.specs.Data.{Data, array, Items, no_items, item}
 use Rattle.serde_json.specs.View.{view}
 use Rattle.serde_json.specs.declared.value.Value.{Value}
 use Rattle.erd_check.specs.Values.{entries_of, list_of_items}
+use Rattle.erd_meaning.specs.Keys.{Preference}
 use Rattle.erd_meaning.specs.Meaning.{JsonMap, Content, no_content, first_node, Node, a_contest, a_header}
 use Rattle.erd_meaning.specs.NameParts.{NameParts}
 use Rattle.erd_meaning.specs.Records.{content_of, node_of, nodes_of}
@@ -18,27 +19,27 @@ first_same : (a b : Node) (x y : Content) → first_node a x ≡ first_node b y 
 first_same a b x y e = let first : a ≡ b = cc in let rest : x ≡ y = cc in (first, rest)
 
 -- the nodes of an array, as a list
-abbrev pub nodes : Data → Items → List Node
-nodes t ds = map (node_of t) (list_of_items ds)
+abbrev pub nodes : Preference → Data → Items → List Node
+nodes π t ds = map (node_of π t) (list_of_items ds)
 
 -- contents with the same nodes are the same
-pub nodes-same : (t u : Data) (ds es : Items) → nodes t ds ≡ nodes u es → nodes_of t ds ≡ nodes_of u es
-nodes-same t u no_items no_items e = refl
-nodes-same t u no_items (item d es) e = cc
-nodes-same t u (item c ds) no_items e = cc
-nodes-same t u (item c ds) (item d es) e =
-    let first : node_of t c ≡ node_of u d = cc in
-    let rest : nodes t ds ≡ nodes u es = cc in
-    ap₂ first_node first (nodes-same t u ds es rest)
+pub nodes-same : (π ρ : Preference) (t u : Data) (ds es : Items) → nodes π t ds ≡ nodes ρ u es → nodes_of π t ds ≡ nodes_of ρ u es
+nodes-same π ρ t u no_items no_items e = refl
+nodes-same π ρ t u no_items (item d es) e = cc
+nodes-same π ρ t u (item c ds) no_items e = cc
+nodes-same π ρ t u (item c ds) (item d es) e =
+    let first : node_of π t c ≡ node_of ρ u d = cc in
+    let rest : nodes π t ds ≡ nodes ρ u es = cc in
+    ap₂ first_node first (nodes-same π ρ t u ds es rest)
 
 -- and the other way round
-pub same-nodes : (t u : Data) (ds es : Items) → nodes_of t ds ≡ nodes_of u es → nodes t ds ≡ nodes u es
-same-nodes t u no_items no_items e = refl
-same-nodes t u no_items (item d es) e = cc
-same-nodes t u (item c ds) no_items e = cc
-same-nodes t u (item c ds) (item d es) e =
-    let both = first_same (node_of t c) (node_of u d) (nodes_of t ds) (nodes_of u es) e in
-    ap₂ ◌∷◌ both.0 (same-nodes t u ds es both.1)
+pub same-nodes : (π ρ : Preference) (t u : Data) (ds es : Items) → nodes_of π t ds ≡ nodes_of ρ u es → nodes π t ds ≡ nodes ρ u es
+same-nodes π ρ t u no_items no_items e = refl
+same-nodes π ρ t u no_items (item d es) e = cc
+same-nodes π ρ t u (item c ds) no_items e = cc
+same-nodes π ρ t u (item c ds) (item d es) e =
+    let both = first_same (node_of π t c) (node_of ρ u d) (nodes_of π t ds) (nodes_of ρ u es) e in
+    ap₂ ◌∷◌ both.0 (same-nodes π ρ t u ds es both.1)
 
 -- ---- nodes by their parts
 
@@ -93,9 +94,9 @@ header-contest = (λ h. absurd (true≢false (sym h)), λ same. sym (ap is_heade
 -- ---- content of any value
 
 -- what the entries of a value are as content
-pub content_of-entries : (t d : Data) → (ds : Items) × (list_of_items ds ≡ entries_of d) × (content_of t d ≡ nodes_of t ds)
-content_of-entries t (array ds) = (ds, refl, refl)
-content_of-entries t d = (no_items, refl, refl)
+pub content_of-entries : (π : Preference) (t d : Data) → (ds : Items) × (list_of_items ds ≡ entries_of d) × (content_of π t d ≡ nodes_of π t ds)
+content_of-entries π t (array ds) = (ds, refl, refl)
+content_of-entries π t d = (no_items, refl, refl)
 
 no_entries : (ds : Items) → list_of_items ds ≡ [] → ds ≡ no_items
 no_entries no_items e = refl
@@ -105,27 +106,27 @@ more_than_none : (vs : List Value) → (suc (length vs) == 0) ≡ true → ⊥
 more_than_none vs e = let h : suc (length vs) ≡ 0 = (Decides-eqb (suc (length vs)) 0).0 e in absurd (omega arith)
 
 -- a value with no entries has no content
-pub none-Decides : (t d : Data) (vs : List Value) (answer : Bool) → map view vs ≡ entries_of d → answer ≡ (length vs == 0) → Decides answer no_content (content_of t d)
-none-Decides t d vs answer entries is = at (content_of-entries t d) vs refl
+pub none-Decides : (π : Preference) (t d : Data) (vs : List Value) (answer : Bool) → map view vs ≡ entries_of d → answer ≡ (length vs == 0) → Decides answer no_content (content_of π t d)
+none-Decides π t d vs answer entries is = at (content_of-entries π t d) vs refl
   where
-    at : (ds : Items) × (list_of_items ds ≡ entries_of d) × (content_of t d ≡ nodes_of t ds) → (ws : List Value) → vs ≡ ws → Decides answer no_content (content_of t d)
+    at : (ds : Items) × (list_of_items ds ≡ entries_of d) × (content_of π t d ≡ nodes_of π t ds) → (ws : List Value) → vs ≡ ws → Decides answer no_content (content_of π t d)
     at (no_items, e, f) [] g = (λ h. sym f, λ h. is ∙ ap (λ (ws : List Value). length ws == 0) g)
     at (item c ds, e, f) [] g = let h : c ∷ list_of_items ds ≡ [] = e ∙ (sym entries ∙ ap (map view) g) in cc
     at (no_items, e, f) (w ∷ ws) g = let h : [] ≡ view w ∷ map view ws = e ∙ (sym entries ∙ ap (map view) g) in cc
-    at (item c ds, e, f) (w ∷ ws) g = (λ h. absurd (more_than_none ws (sym (is ∙ ap (λ (ws : List Value). length ws == 0) g) ∙ h)), λ h. let j : no_content ≡ first_node (node_of t c) (nodes_of t ds) = h ∙ f in cc)
+    at (item c ds, e, f) (w ∷ ws) g = (λ h. absurd (more_than_none ws (sym (is ∙ ap (λ (ws : List Value). length ws == 0) g) ∙ h)), λ h. let j : no_content ≡ first_node (node_of π t c) (nodes_of π t ds) = h ∙ f in cc)
 
 -- contents are the same exactly if their entries are as nodes
-pub content-Decides : (t u d e : Data) (vs ws : List Value) (answer : Bool) → map view vs ≡ entries_of d → map view ws ≡ entries_of e
-    → Decides answer (map (λ v. node_of t (view v)) vs) (map (λ v. node_of u (view v)) ws) → Decides answer (content_of t d) (content_of u e)
-content-Decides t u d e vs ws answer one other same =
-    let left = content_of-entries t d in
-    let right = content_of-entries u e in
-    let ones : map (λ v. node_of t (view v)) vs ≡ nodes t left.0 = sym (map-map (node_of t) view vs) ∙ ap (map (node_of t)) (one ∙ sym left.1) in
-    let others : map (λ v. node_of u (view v)) ws ≡ nodes u right.0 = sym (map-map (node_of u) view ws) ∙ ap (map (node_of u)) (other ∙ sym right.1) in (
-      λ h. left.2 ∙ (nodes-same t u left.0 right.0 (sym ones ∙ (same.0 h ∙ others)) ∙ sym right.2),
-      λ h. same.1 (ones ∙ (same-nodes t u left.0 right.0 (sym left.2 ∙ (h ∙ right.2)) ∙ sym others)),
+pub content-Decides : (π ρ : Preference) (t u d e : Data) (vs ws : List Value) (answer : Bool) → map view vs ≡ entries_of d → map view ws ≡ entries_of e
+    → Decides answer (map (λ v. node_of π t (view v)) vs) (map (λ v. node_of ρ u (view v)) ws) → Decides answer (content_of π t d) (content_of ρ u e)
+content-Decides π ρ t u d e vs ws answer one other same =
+    let left = content_of-entries π t d in
+    let right = content_of-entries ρ u e in
+    let ones : map (λ v. node_of π t (view v)) vs ≡ nodes π t left.0 = sym (map-map (node_of π t) view vs) ∙ ap (map (node_of π t)) (one ∙ sym left.1) in
+    let others : map (λ v. node_of ρ u (view v)) ws ≡ nodes ρ u right.0 = sym (map-map (node_of ρ u) view ws) ∙ ap (map (node_of ρ u)) (other ∙ sym right.1) in (
+      λ h. left.2 ∙ (nodes-same π ρ t u left.0 right.0 (sym ones ∙ (same.0 h ∙ others)) ∙ sym right.2),
+      λ h. same.1 (ones ∙ (same-nodes π ρ t u left.0 right.0 (sym left.2 ∙ (h ∙ right.2)) ∙ sym others)),
     )
 
 -- a value with no entries has no content
-pub content_of-none : (t d : Data) → [] ≡ entries_of d → content_of t d ≡ no_content
-content_of-none t d none = let is = content_of-entries t d in is.2 ∙ ap (nodes_of t) (no_entries is.0 (is.1 ∙ sym none))
+pub content_of-none : (π : Preference) (t d : Data) → [] ≡ entries_of d → content_of π t d ≡ no_content
+content_of-none π t d none = let is = content_of-entries π t d in is.2 ∙ ap (nodes_of π t) (no_entries is.0 (is.1 ∙ sym none))

@@ -6,6 +6,7 @@ use Rattle.erd_check.specs.Values.{entries_of}
 use Rattle.erd_tables.specs.declared.class.Family.TheVariants as family
 use Rattle.erd_tables.specs.declared.member.MemberKind.{MemberKind}
 use Rattle.erd_tables.specs.declared.member.MemberKind.TheVariants as kind
+use Rattle.erd_meaning.specs.Keys.{Preference}
 use Rattle.erd_meaning.specs.Meaning.{PlainValue, MemberValue, SelectionRecord, a_plain, a_selection_map}
 use Rattle.erd_meaning.specs.NameParts.{NameParts}
 use Rattle.erd_meaning.specs.Records.{member_value, selection_map}
@@ -36,10 +37,10 @@ pub whole_tree-filled : (name : List ℕ) (d v : Data) → IsWholeTree d → if_
 whole_tree-filled name d v whole e = whole_tree-get name d v whole (filled-there (get name d) v e)
 
 -- the selections of a member that is no empty array
-selections_meant-filled : (t : Data) (found : Option Data) (v : Data) → if_filled found ≡ Some v → selections_meant t found ≡ Some (a_selection_map (selection_map t (entries_of v)))
-selections_meant-filled t found v e = subst (λ o. selections_meant t o ≡ Some (a_selection_map (selection_map t (entries_of v)))) (sym (filled-there found v e)) (at v (subst (λ o. if_filled o ≡ Some v) (filled-there found v e) e))
+selections_meant-filled : (π : Preference) (t : Data) (found : Option Data) (v : Data) → if_filled found ≡ Some v → selections_meant π t found ≡ Some (a_selection_map (selection_map π t (entries_of v)))
+selections_meant-filled π t found v e = subst (λ o. selections_meant π t o ≡ Some (a_selection_map (selection_map π t (entries_of v)))) (sym (filled-there found v e)) (at v (subst (λ o. if_filled o ≡ Some v) (filled-there found v e) e))
   where
-    at : (d : Data) → if_filled (Some d) ≡ Some d → selections_meant t (Some d) ≡ Some (a_selection_map (selection_map t (entries_of d)))
+    at : (d : Data) → if_filled (Some d) ≡ Some d → selections_meant π t (Some d) ≡ Some (a_selection_map (selection_map π t (entries_of d)))
     at null e = refl
     at (boolean b) e = refl
     at (number n) e = refl
@@ -49,12 +50,12 @@ selections_meant-filled t found v e = subst (λ o. selections_meant t o ≡ Some
     at (object ms) e = refl
 
 -- two contests have the same selections exactly if the maps of their entries are the same
-pub selections-Decide : {E : Type 0} (r : Result Bool E) (t u d e : Data) (found other : Option Data) (ds es : List Data) → if_filled found ≡ Some d → if_filled other ≡ Some e → ds ≡ entries_of d → es ≡ entries_of e
-    → IfOk r (λ answer. Decides answer (selection_map t ds) (selection_map u es)) → IfOk r (λ answer. Decides answer (selections_meant t found) (selections_meant u other))
-selections-Decide (Err x) t u d e found other ds es left right of_d of_e h = tt
-selections-Decide (Ok answer) t u d e found other ds es left right of_d of_e h = (
-  λ is. selections_meant-filled t found d left ∙ ap (λ m. Some (a_selection_map m)) (sym (ap (selection_map t) of_d) ∙ h.0 is ∙ ap (selection_map u) of_e) ∙ sym (selections_meant-filled u other e right),
-  λ same. h.1 (ap (selection_map t) of_d ∙ ap map_in (sym (selections_meant-filled t found d left) ∙ same ∙ selections_meant-filled u other e right) ∙ sym (ap (selection_map u) of_e)),
+pub selections-Decide : (π ρ : Preference) {E : Type 0} (r : Result Bool E) (t u d e : Data) (found other : Option Data) (ds es : List Data) → if_filled found ≡ Some d → if_filled other ≡ Some e → ds ≡ entries_of d → es ≡ entries_of e
+    → IfOk r (λ answer. Decides answer (selection_map π t ds) (selection_map ρ u es)) → IfOk r (λ answer. Decides answer (selections_meant π t found) (selections_meant ρ u other))
+selections-Decide π ρ (Err x) t u d e found other ds es left right of_d of_e h = tt
+selections-Decide π ρ (Ok answer) t u d e found other ds es left right of_d of_e h = (
+  λ is. selections_meant-filled π t found d left ∙ ap (λ m. Some (a_selection_map m)) (sym (ap (selection_map π t) of_d) ∙ h.0 is ∙ ap (selection_map ρ u) of_e) ∙ sym (selections_meant-filled ρ u other e right),
+  λ same. h.1 (ap (selection_map π t) of_d ∙ ap map_in (sym (selections_meant-filled π t found d left) ∙ same ∙ selections_meant-filled ρ u other e right) ∙ sym (ap (selection_map ρ u) of_e)),
 )
 
 -- ---- other members
@@ -70,7 +71,7 @@ plain-Decides answer p q h = (λ is. ap (option_map a_plain) (h.0 is), λ same. 
     inner (Some v) (Some w) same = cc
 
 -- members of a kind other than selections mean the same exactly if they do so by themselves
-pub other_kind-Decides : (answer : Bool) (t u : Data) (k : MemberKind) (found other : Option Data) (p q : Option PlainValue) → is_selections k ≡ false
-    → Decides answer p q → Decides answer (member_value t k found p) (member_value u k other q)
-other_kind-Decides answer t u (kind.Keyed family.Selection) found other p q is h = cc
-other_kind-Decides answer t u k found other p q is h = plain-Decides answer p q h
+pub other_kind-Decides : (π ρ : Preference) (answer : Bool) (t u : Data) (k : MemberKind) (found other : Option Data) (p q : Option PlainValue) → is_selections k ≡ false
+    → Decides answer p q → Decides answer (member_value π t k found p) (member_value ρ u k other q)
+other_kind-Decides π ρ answer t u (kind.Keyed family.Selection) found other p q is h = cc
+other_kind-Decides π ρ answer t u k found other p q is h = plain-Decides answer p q h

@@ -13,6 +13,7 @@ use Rattle.serde_json.proofs.Views.{Entry}
 use Rattle.erd_check.specs.Values.{names}
 use Rattle.erd_tables.specs.declared.class.Class.{Class}
 use Rattle.erd_meaning.proofs.meanings.WholeRecords.{absent_plain}
+use Rattle.erd_meaning.specs.Keys.{Preference}
 use Rattle.erd_meaning.specs.Meaning.{PlainValue}
 use Rattle.erd_meaning.specs.Records.{plain_member}
 use Rattle.erd_compare.specs.code.AgreeingSelections.{AgreeAtNames}
@@ -52,20 +53,20 @@ at_all_names f g d e = at (as_object d)
 -- ---- members
 
 -- what two objects mean is the same at every name, if it is at the names that either has
-pub same_members : (t u d e : Data) (c : Class) → IfSome (as_object d) (AgreeAtNames (plain_member t d c) (plain_member u e c))
-    → IfSome (as_object e) (AgreeAtNames (plain_member t d c) (plain_member u e c)) → plain_member t d c ≡ plain_member u e c
-same_members t u d e c one other =
-    fun_ext (λ name. at name (among (λ n. plain_member t d c n ≡ plain_member u e c n) name d one) (among (λ n. plain_member t d c n ≡ plain_member u e c n) name e other))
+pub same_members : (π ρ : Preference) (t u d e : Data) (c : Class) → IfSome (as_object d) (AgreeAtNames (plain_member π t d c) (plain_member ρ u e c))
+    → IfSome (as_object e) (AgreeAtNames (plain_member π t d c) (plain_member ρ u e c)) → plain_member π t d c ≡ plain_member ρ u e c
+same_members π ρ t u d e c one other =
+    fun_ext (λ name. at name (among (λ n. plain_member π t d c n ≡ plain_member ρ u e c n) name d one) (among (λ n. plain_member π t d c n ≡ plain_member ρ u e c n) name e other))
   where
-    at : (name : List ℕ) → (get name d ≡ None) ⊎ (plain_member t d c name ≡ plain_member u e c name)
-        → (get name e ≡ None) ⊎ (plain_member t d c name ≡ plain_member u e c name) → plain_member t d c name ≡ plain_member u e c name
+    at : (name : List ℕ) → (get name d ≡ None) ⊎ (plain_member π t d c name ≡ plain_member ρ u e c name)
+        → (get name e ≡ None) ⊎ (plain_member π t d c name ≡ plain_member ρ u e c name) → plain_member π t d c name ≡ plain_member ρ u e c name
     at name (inr same) there = same
     at name (inl absent) (inr same) = same
-    at name (inl absent) (inl absent_too) = absent_plain t d c name absent ∙ sym (absent_plain u e c name absent_too)
+    at name (inl absent) (inl absent_too) = absent_plain π t d c name absent ∙ sym (absent_plain ρ u e c name absent_too)
 
 -- and then it is at the names of any value
-pub agree_at_names : (t u d e : Data) (c : Class) (named : Data) → plain_member t d c ≡ plain_member u e c → IfSome (as_object named) (AgreeAtNames (plain_member t d c) (plain_member u e c))
-agree_at_names t u d e c named same = at_all_names (plain_member t d c) (plain_member u e c) named same
+pub agree_at_names : (π ρ : Preference) (t u d e : Data) (c : Class) (named : Data) → plain_member π t d c ≡ plain_member ρ u e c → IfSome (as_object named) (AgreeAtNames (plain_member π t d c) (plain_member ρ u e c))
+agree_at_names π ρ t u d e c named same = at_all_names (plain_member π t d c) (plain_member ρ u e c) named same
 
 -- ---- the walk
 

@@ -11,7 +11,7 @@ use Rattle.serde_json.specs.declared.value.Value.{Value}
 use Rattle.erd_tables.specs.declared.class.Family.{Family}
 use Rattle.erd_meaning.proofs.orders.EqualNames.{equal_keys}
 use Rattle.erd_meaning.proofs.orders.Sets.{any-has, has-any}
-use Rattle.erd_meaning.specs.Keys.{key_cmp}
+use Rattle.erd_meaning.specs.Keys.{Preference, key_cmp}
 use Rattle.erd_meaning.specs.code.Orders.{key_cmp_total}
 use Rattle.erd_meaning.specs.Records.{key_set}
 use Rattle.erd_meaning.specs.SelectionNames.{key_named, keys_named}
@@ -63,14 +63,14 @@ set-cons (Some l) ks k b d = ap (λ a. a || key_set ks k) (same_tests (is_eq (ke
     from : b ≡ true → is_eq (key_cmp l k) ≡ true
     from h = let same : Some l ≡ Some k = d.0 h in let one : l ≡ k = cc in ap (λ x. is_eq (key_cmp x k)) one ∙ tied_key k
 
-module _ (t : Data) (f : Family) where
+module _ (π : Preference) (t : Data) (f : Family) where
   -- the keys that the references from a place on name
   abbrev keys_left : List Value → ℕ → List Key
-  keys_left vs i = keys_named t f (map view (drop i vs))
+  keys_left vs i = keys_named π t f (map view (drop i vs))
 
   -- a reference that names the key, or does not
-  pub key_set-left : (vs : List Value) (i : ℕ) (v : Value) (o : Option Key) (k : Key) (b : Bool) → i < length vs → v ≡ get_or vs i v → o ≡ option_and_then (key_named t f) (as_str (view v)) → Decides b o (Some k)
+  pub key_set-left : (vs : List Value) (i : ℕ) (v : Value) (o : Option Key) (k : Key) (b : Bool) → i < length vs → v ≡ get_or vs i v → o ≡ option_and_then (key_named π t f) (as_str (view v)) → Decides b o (Some k)
       → key_set (keys_left vs i) k ≡ b || key_set (keys_left vs (i + 1)) k
   key_set-left vs i v o k b low is named decides =
-      ap (λ ds. key_set (keys_named t f ds) k) (values_left vs i v low is)
+      ap (λ ds. key_set (keys_named π t f ds) k) (values_left vs i v low is)
       ∙ (ap (λ x. key_set (cons_option x (keys_left vs (i + 1))) k) (sym named) ∙ set-cons o (keys_left vs (i + 1)) k b decides)

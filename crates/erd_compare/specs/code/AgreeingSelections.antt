@@ -5,6 +5,7 @@ use Rattle.std.specs.Option.{IfSome, option_cmp}
 use Rattle.std.specs.Ordering.{is_eq}
 use Rattle.serde_json.specs.Data.{Data, Members}
 use Rattle.erd_check.specs.Values.{names}
+use Rattle.erd_meaning.specs.Keys.{Preference}
 use Rattle.erd_meaning.specs.Meaning.{PlainValue, SelectionRecord}
 use Rattle.erd_meaning.specs.NameParts.{NameParts}
 use Rattle.erd_meaning.specs.SelectionNames.{name_cmp, name_of}
@@ -18,5 +19,5 @@ abbrev pub AgreeAtOption : (NameParts → Option SelectionRecord) → (NameParts
 AgreeAtOption m n name = IfSome name (λ parts. m parts ≡ n parts)
 
 -- whether a selection has the name
-abbrev pub has_name : Data → NameParts → Data → Bool
-has_name t name d = is_eq (option_cmp name_cmp (name_of t d) (Some name))
+abbrev pub has_name : Preference → Data → NameParts → Data → Bool
+has_name π t name d = is_eq (option_cmp name_cmp (name_of π t d) (Some name))

@@ -6,7 +6,7 @@ use Rattle.serde_json.specs.Data.{Data}
 use Rattle.erd_tables.specs.declared.class.Family.{Family}
 use Rattle.erd_tables.specs.declared.class.Family.TheVariants as family
 use Rattle.erd_meaning.specs.Accepted.{IsAccepted}
-use Rattle.erd_meaning.specs.Keys.{key_cmp}
+use Rattle.erd_meaning.specs.Keys.{Preference, key_cmp}
 use Rattle.erd_meaning.specs.Lookups.{key_in}
 use Rattle.erd_meaning.specs.Meaning.{ObjectRecord}
 use Rattle.erd_meaning.specs.declared.keys.key.Key.{Key}
@@ -21,8 +21,8 @@ use Rattle.erd_compare.specs.declared.first.families.KeyedDifference.{KeyedDiffe
 -- ---- reports
 
 -- an accepted report, which is compared
-pub record IsComparable (t : Data) : Type 0 where
-  pub accepted : IsAccepted t
+pub record IsComparable (π : Preference) (t : Data) : Type 0 where
+  pub accepted : IsAccepted π t
   pub whole : IsWholeTree t
 
 -- the family whose objects a part holds
@@ -41,12 +41,12 @@ family_of_part part.Style = Some family.Style
 -- ---- keys that are gone over
 
 -- an object of the family has the key
-abbrev pub HasKey : Data → Family → Key → Type 0
-HasKey t f k = (i : ℕ) × (key_in f t i ≡ Some k)
+abbrev pub HasKey : Preference → Data → Family → Key → Type 0
+HasKey π t f k = (i : ℕ) × (key_in π f t i ≡ Some k)
 
 -- an object of the family has the key in the second report, and none in the first
-abbrev pub HasKeyAlone : Data → Data → Family → Key → Type 0
-HasKeyAlone t u f k = HasKey u f k × (HasKey t f k → ⊥)
+abbrev pub HasKeyAlone : Preference → Preference → Data → Data → Family → Key → Type 0
+HasKeyAlone π ρ t u f k = HasKey ρ u f k × (HasKey π t f k → ⊥)
 
 -- any key
 abbrev pub IsAnyKey : Key → Type 0

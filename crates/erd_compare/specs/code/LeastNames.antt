@@ -6,6 +6,7 @@ use Rattle.serde_json.specs.Data.{Data}
 use Rattle.serde_json.specs.Find.{get}
 use Rattle.erd_tables.specs.Texts.{text_cmp}
 use Rattle.erd_tables.specs.declared.class.Class.{Class}
+use Rattle.erd_meaning.specs.Keys.{Preference}
 use Rattle.erd_meaning.specs.Meaning.{MemberValue, ObjectRecord}
 use Rattle.erd_meaning.specs.Records.{member_of_class}
 
@@ -14,8 +15,8 @@ abbrev pub MemberMap : Type 0
 MemberMap = List ℕ → Option MemberValue
 
 -- the record of an object of the class
-abbrev pub record_of_class : Data → Class → Data → ObjectRecord
-record_of_class t c d = record { class = c; members = member_of_class t d c }
+abbrev pub record_of_class : Preference → Data → Class → Data → ObjectRecord
+record_of_class π t c d = record { class = c; members = member_of_class π t d c }
 
 -- the maps differ at the name, and agree at each lesser name of the object
 pub record DifferAmongNames (m n : MemberMap) (d : Data) (name : List ℕ) : Type 0 where

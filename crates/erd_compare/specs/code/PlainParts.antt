@@ -6,6 +6,7 @@ use Rattle.erd_tables.specs.declared.member.MemberKind.{MemberKind}
 use Rattle.erd_tables.specs.declared.member.MemberKind.TheVariants as kind
 use Rattle.erd_check.specs.Faults.{is_empty_array}
 use Rattle.erd_check.specs.Values.{entries_of}
+use Rattle.erd_meaning.specs.Keys.{Preference}
 use Rattle.erd_meaning.specs.Meaning.{PlainValue, a_json, a_label, a_json_set, a_key, a_key_set, a_content}
 use Rattle.erd_meaning.specs.Records.{content_of, json_set, key_set, label_of}
 use Rattle.erd_meaning.specs.SelectionNames.{key_named, keys_named}
@@ -25,11 +26,11 @@ means_nothing kind.Content d = is_empty_array d
 means_nothing k d = true
 
 -- what a value of this kind means, unless it means nothing by itself
-abbrev pub meant_value : Data → MemberKind → Data → PlainValue
-meant_value t kind.Label d = a_label (label_of d)
-meant_value t (kind.One f) d = a_key (option_and_then (key_named t f) (as_str d))
-meant_value t (kind.Many f) d = a_key_set (key_set (keys_named t f (entries_of d)))
-meant_value t kind.Identifiers d = a_json_set (json_set (entries_of d))
-meant_value t kind.Languages d = a_json_set (json_set (entries_of d))
-meant_value t kind.Content d = a_content (content_of t d)
-meant_value t k d = a_json d
+abbrev pub meant_value : Preference → Data → MemberKind → Data → PlainValue
+meant_value π t kind.Label d = a_label (label_of d)
+meant_value π t (kind.One f) d = a_key (option_and_then (key_named π t f) (as_str d))
+meant_value π t (kind.Many f) d = a_key_set (key_set (keys_named π t f (entries_of d)))
+meant_value π t kind.Identifiers d = a_json_set (json_set (entries_of d))
+meant_value π t kind.Languages d = a_json_set (json_set (entries_of d))
+meant_value π t kind.Content d = a_content (content_of π t d)
+meant_value π t k d = a_json d

@@ -5,6 +5,7 @@ use Rattle.erd_check.specs.Values.{entries_of}
 use Rattle.erd_tables.specs.declared.class.Family.TheVariants as family
 use Rattle.erd_tables.specs.declared.member.MemberKind.{MemberKind}
 use Rattle.erd_tables.specs.declared.member.MemberKind.TheVariants as kind
+use Rattle.erd_meaning.specs.Keys.{Preference}
 use Rattle.erd_meaning.specs.Meaning.{MemberValue, a_selection_map}
 use Rattle.erd_meaning.specs.Records.{selection_map, unless_empty}
 
@@ -18,5 +19,5 @@ abbrev pub if_filled : Option Data → Option Data
 if_filled found = option_and_then (λ d. unless_empty d d) found
 
 -- what the selections of a contest mean, where it has any
-abbrev pub selections_meant : Data → Option Data → Option MemberValue
-selections_meant t found = option_and_then (λ d. unless_empty (a_selection_map (selection_map t (entries_of d))) d) found
+abbrev pub selections_meant : Preference → Data → Option Data → Option MemberValue
+selections_meant π t found = option_and_then (λ d. unless_empty (a_selection_map (selection_map π t (entries_of d))) d) found

@@ -28,10 +28,10 @@ pub(crate) fn family_difference(
     part: Part,
     family: Family,
 ) -> Result<Option<Difference>, AllocError>
-    requires left { IsComparable (view sides.left.now) }
-    requires right { IsComparable (view sides.right.now) }
+    requires left { IsComparable sides.left.now.prefer (view sides.left.now.tree) }
+    requires right { IsComparable sides.right.now.prefer (view sides.right.now.tree) }
     requires keyed { has_keys family ≡ true }
-    ensures { IfOk result (TellsKeyed (records_of (view sides.entry.left.now) family) (records_of (view sides.entry.right.now) family) part) }
+    ensures { IfOk result (TellsKeyed (records_of sides.entry.left.now.prefer (view sides.entry.left.now.tree) family) (records_of sides.entry.right.now.prefer (view sides.entry.right.now.tree) family) part) }
 {
     match least_difference(alloc, sides, family)? {
         Some(KeyedDifference { key, how }) => {
@@ -48,10 +48,10 @@ fn least_difference<'a>(
     sides: Sides<'a>,
     family: Family,
 ) -> Result<Option<KeyedDifference<'a>>, AllocError>
-    requires left { IsComparable (view sides.left.now) }
-    requires right { IsComparable (view sides.right.now) }
+    requires left { IsComparable sides.left.now.prefer (view sides.left.now.tree) }
+    requires right { IsComparable sides.right.now.prefer (view sides.right.now.tree) }
     requires keyed { has_keys family ≡ true }
-    ensures { IfOk result (TellsAmongKeys (records_of (view sides.entry.left.now) family) (records_of (view sides.entry.right.now) family) IsAnyKey) }
+    ensures { IfOk result (TellsAmongKeys (records_of sides.entry.left.now.prefer (view sides.entry.left.now.tree) family) (records_of sides.entry.right.now.prefer (view sides.entry.right.now.tree) family) IsAnyKey) }
 {
     let least = least_of_left(alloc, sides, family)?;
     match least_of_right(sides, family) {
@@ -66,10 +66,10 @@ fn least_of_left<'a>(
     sides: Sides<'a>,
     family: Family,
 ) -> Result<Option<KeyedDifference<'a>>, AllocError>
-    requires left { IsComparable (view sides.left.now) }
-    requires right { IsComparable (view sides.right.now) }
+    requires left { IsComparable sides.left.now.prefer (view sides.left.now.tree) }
+    requires right { IsComparable sides.right.now.prefer (view sides.right.now.tree) }
     requires keyed { has_keys family ≡ true }
-    ensures { IfOk result (TellsAmongKeys (records_of (view sides.entry.left.now) family) (records_of (view sides.entry.right.now) family) (HasKey (view sides.entry.left.now) family)) }
+    ensures { IfOk result (TellsAmongKeys (records_of sides.entry.left.now.prefer (view sides.entry.left.now.tree) family) (records_of sides.entry.right.now.prefer (view sides.entry.right.now.tree) family) (HasKey sides.entry.left.now.prefer (view sides.entry.left.now.tree) family)) }
 {
     let mut least = None;
     for index in 0..sides.left.count(family) {
@@ -84,10 +84,10 @@ fn least_of_left<'a>(
 
 /// The least key of the right report that the left one lacks in a family.
 fn least_of_right<'a>(sides: Sides<'a>, family: Family) -> Option<KeyedDifference<'a>>
-    requires left { IsComparable (view sides.left.now) }
-    requires right { IsComparable (view sides.right.now) }
+    requires left { IsComparable sides.left.now.prefer (view sides.left.now.tree) }
+    requires right { IsComparable sides.right.now.prefer (view sides.right.now.tree) }
     requires keyed { has_keys family ≡ true }
-    ensures { TellsAmongKeys (records_of (view sides.entry.left.now) family) (records_of (view sides.entry.right.now) family) (HasKeyAlone (view sides.entry.left.now) (view sides.entry.right.now) family) result }
+    ensures { TellsAmongKeys (records_of sides.entry.left.now.prefer (view sides.entry.left.now.tree) family) (records_of sides.entry.right.now.prefer (view sides.entry.right.now.tree) family) (HasKeyAlone sides.entry.left.now.prefer sides.entry.right.now.prefer (view sides.entry.left.now.tree) (view sides.entry.right.now.tree) family) result }
 {
     let mut least = None;
     for index in 0..sides.right.count(family) {
@@ -126,11 +126,11 @@ fn difference_at(
     index: usize,
     key: &Key,
 ) -> Result<Option<How>, AllocError>
-    requires left { IsComparable (view sides.left.now) }
-    requires right { IsComparable (view sides.right.now) }
+    requires left { IsComparable sides.left.now.prefer (view sides.left.now.tree) }
+    requires right { IsComparable sides.right.now.prefer (view sides.right.now.tree) }
     requires keyed { has_keys family ≡ true }
-    requires its_key { key_in family (view sides.left.now) index ≡ Some key.now }
-    ensures { IfOk result (TellsHow (records_of (view sides.entry.left.now) family key.now) (records_of (view sides.entry.right.now) family key.now)) }
+    requires its_key { key_in sides.left.now.prefer family (view sides.left.now.tree) index ≡ Some key.now }
+    ensures { IfOk result (TellsHow (records_of sides.entry.left.now.prefer (view sides.entry.left.now.tree) family key.now) (records_of sides.entry.right.now.prefer (view sides.entry.right.now.tree) family key.now)) }
 {
     // a position that has a key has an object
     let Some(one) = sides.left.object(family, index) else {
@@ -145,9 +145,9 @@ fn difference_at(
 
 /// The object of a family with a key.
 fn object_of<'a>(report: &'a Report, family: Family, key: &Key) -> Option<&'a Value>
-    requires comparable { IsComparable (view report.now) }
+    requires comparable { IsComparable report.now.prefer (view report.now.tree) }
     requires keyed { has_keys family ≡ true }
-    ensures { option_map (λ v. view v.now) result ≡ object_with_key (view report.now) family key.now }
+    ensures { option_map (λ v. view v.now) result ≡ object_with_key report.now.prefer (view report.now.tree) family key.now }
 {
     let place = report.find(family, key)?;
     report.object(family, place)

@@ -19,7 +19,7 @@ pub(crate) fn part_difference(
     sides: Sides,
     part: Part,
 ) -> Result<Option<Difference>, AllocError>
-    ensures { IfOk result (TellsPart (meaning (view sides.entry.left.now)) (meaning (view sides.entry.right.now)) part) }
+    ensures { IfOk result (TellsPart (meaning sides.entry.left.now.prefer (view sides.entry.left.now.tree)) (meaning sides.entry.right.now.prefer (view sides.entry.right.now.tree)) part) }
 {
     let one = sides.left.tree();
     let other = sides.right.tree();
@@ -64,7 +64,7 @@ fn keyless_difference(
 ) -> Result<Option<Difference>, AllocError>
     requires one { IsWholeTree (view one.now) }
     requires other { IsWholeTree (view other.now) }
-    ensures { IfOk result (TellsKeyless (object_record (view sides.entry.left.now) role (view one.now)) (object_record (view sides.entry.right.now) role (view other.now)) part) }
+    ensures { IfOk result (TellsKeyless (object_record sides.entry.left.now.prefer (view sides.entry.left.now.tree) role (view one.now)) (object_record sides.entry.right.now.prefer (view sides.entry.right.now.tree) role (view other.now)) part) }
 {
     let how = object_difference(alloc, sides, role, one, other)?;
     Ok(how.map(|how| Difference {

@@ -25,8 +25,8 @@ pub(crate) fn is_same_plain_member(
 ) -> bool
     requires one { IsWholeTree (view one.now) }
     requires other { IsWholeTree (view other.now) }
-    ensures { Decides result (plain_member (view sides.entry.left.now) (view one.now) class name.now)
-        (plain_member (view sides.entry.right.now) (view other.now) class name.now) }
+    ensures { Decides result (plain_member sides.entry.left.now.prefer (view sides.entry.left.now.tree) (view one.now) class name.now)
+        (plain_member sides.entry.right.now.prefer (view sides.entry.right.now.tree) (view other.now) class name.now) }
 {
     if is_in_envelope(class, name) {
         return true;
@@ -55,7 +55,7 @@ fn is_same_plain(sides: Sides, kind: MemberKind, one: &Value, other: &Value) -> 
     requires one { IsWholeTree (view one.now) }
     requires other { IsWholeTree (view other.now) }
     requires keyed { NamesKeys kind }
-    ensures { Decides result (plain_value (view sides.entry.left.now) kind (view one.now)) (plain_value (view sides.entry.right.now) kind (view other.now)) }
+    ensures { Decides result (plain_value sides.entry.left.now.prefer (view sides.entry.left.now.tree) kind (view one.now)) (plain_value sides.entry.right.now.prefer (view sides.entry.right.now.tree) kind (view other.now)) }
 {
     match (means_nothing(kind, one), means_nothing(kind, other)) {
         (true, true) => true,
@@ -69,7 +69,7 @@ fn is_same_meant(sides: Sides, kind: MemberKind, one: &Value, other: &Value) -> 
     requires one { IsWholeTree (view one.now) }
     requires other { IsWholeTree (view other.now) }
     requires keyed { NamesKeys kind }
-    ensures { Decides result (meant_value (view sides.entry.left.now) kind (view one.now)) (meant_value (view sides.entry.right.now) kind (view other.now)) }
+    ensures { Decides result (meant_value sides.entry.left.now.prefer (view sides.entry.left.now.tree) kind (view one.now)) (meant_value sides.entry.right.now.prefer (view sides.entry.right.now.tree) kind (view other.now)) }
 {
     match kind {
         MemberKind::Label => is_same_label(one, other),

@@ -24,7 +24,7 @@ pub(crate) fn object_difference(
 ) -> Result<Option<How>, AllocError>
     requires one { IsWholeTree (view one.now) }
     requires other { IsWholeTree (view other.now) }
-    ensures { IfOk result (TellsHow (object_record (view sides.entry.left.now) role (view one.now)) (object_record (view sides.entry.right.now) role (view other.now))) }
+    ensures { IfOk result (TellsHow (object_record sides.entry.left.now.prefer (view sides.entry.left.now.tree) role (view one.now)) (object_record sides.entry.right.now.prefer (view sides.entry.right.now.tree) role (view other.now))) }
 {
     match (class_of_object(role, one), class_of_object(role, other)) {
         (None, None) => Ok(None),
@@ -50,8 +50,8 @@ fn member_difference(
 ) -> Result<Option<How>, AllocError>
     requires one { IsWholeTree (view one.now) }
     requires other { IsWholeTree (view other.now) }
-    ensures { IfOk result (TellsHow (Some (record_of_class (view sides.entry.left.now) class (view one.now)))
-        (Some (record_of_class (view sides.entry.right.now) class (view other.now)))) }
+    ensures { IfOk result (TellsHow (Some (record_of_class sides.entry.left.now.prefer (view sides.entry.left.now.tree) class (view one.now)))
+        (Some (record_of_class sides.entry.right.now.prefer (view sides.entry.right.now.tree) class (view other.now)))) }
 {
     let first = first_differing_name(alloc, sides, class, one, one, other)?;
     let second = first_differing_name(alloc, sides, class, other, one, other)?;
@@ -76,8 +76,8 @@ fn first_differing_name<'a>(
     requires named { IsWholeTree (view named.now) }
     requires one { IsWholeTree (view one.now) }
     requires other { IsWholeTree (view other.now) }
-    ensures { IfOk result (λ found. TellsAmongNames (member_of_class (view sides.entry.left.now) (view one.now) class)
-        (member_of_class (view sides.entry.right.now) (view other.now) class) (view named.now) (option_map (λ s. s.now) found)) }
+    ensures { IfOk result (λ found. TellsAmongNames (member_of_class sides.entry.left.now.prefer (view sides.entry.left.now.tree) (view one.now) class)
+        (member_of_class sides.entry.right.now.prefer (view sides.entry.right.now.tree) (view other.now) class) (view named.now) (option_map (λ s. s.now) found)) }
 {
     let Some(members) = named.as_object() else {
         return Ok(None);
@@ -113,8 +113,8 @@ fn is_same_member(
 ) -> Result<bool, AllocError>
     requires one { IsWholeTree (view one.now) }
     requires other { IsWholeTree (view other.now) }
-    ensures { IfOk result (λ answer. Decides answer (member_of_class (view sides.entry.left.now) (view one.now) class name.now)
-        (member_of_class (view sides.entry.right.now) (view other.now) class name.now)) }
+    ensures { IfOk result (λ answer. Decides answer (member_of_class sides.entry.left.now.prefer (view sides.entry.left.now.tree) (view one.now) class name.now)
+        (member_of_class sides.entry.right.now.prefer (view sides.entry.right.now.tree) (view other.now) class name.now)) }
 {
     if is_selections(member_kind(class, name)) {
         is_same_selections(alloc, sides, name, one, other)

@@ -28,8 +28,8 @@ pub(crate) fn is_same_selections(
 ) -> Result<bool, AllocError>
     requires one { IsWholeTree (view one.now) }
     requires other { IsWholeTree (view other.now) }
-    ensures { IfOk result (λ answer. Decides answer (selections_meant (view sides.entry.left.now) (get name.now (view one.now)))
-        (selections_meant (view sides.entry.right.now) (get name.now (view other.now)))) }
+    ensures { IfOk result (λ answer. Decides answer (selections_meant sides.entry.left.now.prefer (view sides.entry.left.now.tree) (get name.now (view one.now)))
+        (selections_meant sides.entry.right.now.prefer (view sides.entry.right.now.tree) (get name.now (view other.now)))) }
 {
     match (filled(one, name), filled(other, name)) {
         (Some(ones), Some(others)) => {
@@ -55,7 +55,7 @@ fn filled<'a>(value: &'a Value, name: &str) -> Option<&'a Value>
 fn is_same_selection(sides: Sides, one: &Value, other: &Value) -> bool
     requires one { IsWholeTree (view one.now) }
     requires other { IsWholeTree (view other.now) }
-    ensures { Decides result (selection_record (view sides.entry.left.now) (view one.now)) (selection_record (view sides.entry.right.now) (view other.now)) }
+    ensures { Decides result (selection_record sides.entry.left.now.prefer (view sides.entry.left.now.tree) (view one.now)) (selection_record sides.entry.right.now.prefer (view sides.entry.right.now.tree) (view other.now)) }
 {
     let role = Role::OfFamily(Family::Selection);
     match (class_of_object(role, one), class_of_object(role, other)) {
@@ -71,7 +71,7 @@ fn is_same_selection(sides: Sides, one: &Value, other: &Value) -> bool
 fn is_same_by_members(sides: Sides, class: Class, one: &Value, other: &Value) -> bool
     requires one { IsWholeTree (view one.now) }
     requires other { IsWholeTree (view other.now) }
-    ensures { Decides result (plain_member (view sides.entry.left.now) (view one.now) class) (plain_member (view sides.entry.right.now) (view other.now) class) }
+    ensures { Decides result (plain_member sides.entry.left.now.prefer (view sides.entry.left.now.tree) (view one.now) class) (plain_member sides.entry.right.now.prefer (view sides.entry.right.now.tree) (view other.now) class) }
 {
     are_same_at_names(sides, class, one, other, one)
         && are_same_at_names(sides, class, one, other, other)
@@ -83,7 +83,7 @@ fn are_same_at_names(sides: Sides, class: Class, one: &Value, other: &Value, nam
     requires other { IsWholeTree (view other.now) }
     ensures { (result ≡ true)
         ↔ IfSome (as_object (view named.now))
-        (AgreeAtNames (plain_member (view sides.entry.left.now) (view one.now) class) (plain_member (view sides.entry.right.now) (view other.now) class)) }
+        (AgreeAtNames (plain_member sides.entry.left.now.prefer (view sides.entry.left.now.tree) (view one.now) class) (plain_member sides.entry.right.now.prefer (view sides.entry.right.now.tree) (view other.now) class)) }
 {
     let Some(members) = named.as_object() else {
         return true;
@@ -102,7 +102,7 @@ struct NamedSelections<'a> {
     report: &'a Report<'a>,
     selections: &'a [Value],
     names: Vec<Option<SelectionName>>,
-    ghost named: { names.items ≡ map (λ v. name_of (view report.now) (view v)) selections.now },
+    ghost named: { names.items ≡ map (λ v. name_of report.now.prefer (view report.now.tree) (view v)) selections.now },
 }
 
 impl<'a> NamedSelections<'a> {
@@ -130,7 +130,7 @@ impl<'a> NamedSelections<'a> {
     /// The first selection with the name.
     fn find(&self, name: &SelectionName) -> Option<&'a Value>
         requires { AllByRecursion (λ v. IsWholeTree (view v)) self.now.selections.now }
-        ensures found { option_map (λ v. view v.now) result ≡ find (λ d. has_name (view self.now.report.now) name.now d) (map view self.now.selections.now) }
+        ensures found { option_map (λ v. view v.now) result ≡ find (λ d. has_name self.now.report.now.prefer (view self.now.report.now.tree) name.now d) (map view self.now.selections.now) }
         ensures whole { IfSome result (λ v. IsWholeTree (view v.now)) }
     {
         let place = place_of_name(&self.names, name)?;
@@ -159,8 +159,8 @@ fn is_name(own: &Option<SelectionName>, name: &SelectionName) -> bool
 fn is_same_at(one: &NamedSelections, other: &NamedSelections, name: &SelectionName) -> bool
     requires one { AllByRecursion (λ v. IsWholeTree (view v)) one.now.selections.now }
     requires other { AllByRecursion (λ v. IsWholeTree (view v)) other.now.selections.now }
-    ensures { Decides result (selection_map (view one.now.report.now) (map view one.now.selections.now) name.now)
-        (selection_map (view other.now.report.now) (map view other.now.selections.now) name.now) }
+    ensures { Decides result (selection_map one.now.report.now.prefer (view one.now.report.now.tree) (map view one.now.selections.now) name.now)
+        (selection_map other.now.report.now.prefer (view other.now.report.now.tree) (map view other.now.selections.now) name.now) }
 {
     match (one.find(name), other.find(name)) {
         (Some(selection), Some(other_selection)) => {
@@ -184,8 +184,8 @@ fn are_same_at(
     requires one { AllByRecursion (λ v. IsWholeTree (view v)) one.now.selections.now }
     requires other { AllByRecursion (λ v. IsWholeTree (view v)) other.now.selections.now }
     ensures { (result ≡ true)
-        ↔ AllByRecursion (AgreeAtOption (selection_map (view one.now.report.now) (map view one.now.selections.now))
-        (selection_map (view other.now.report.now) (map view other.now.selections.now))) names.now }
+        ↔ AllByRecursion (AgreeAtOption (selection_map one.now.report.now.prefer (view one.now.report.now.tree) (map view one.now.selections.now))
+        (selection_map other.now.report.now.prefer (view other.now.report.now.tree) (map view other.now.selections.now))) names.now }
 {
     for name in names {
         if let Some(name) = name {
@@ -201,8 +201,8 @@ fn are_same_at(
 fn is_same_map(one: &NamedSelections, other: &NamedSelections) -> bool
     requires one { AllByRecursion (λ v. IsWholeTree (view v)) one.now.selections.now }
     requires other { AllByRecursion (λ v. IsWholeTree (view v)) other.now.selections.now }
-    ensures { Decides result (selection_map (view one.now.report.now) (map view one.now.selections.now))
-        (selection_map (view other.now.report.now) (map view other.now.selections.now)) }
+    ensures { Decides result (selection_map one.now.report.now.prefer (view one.now.report.now.tree) (map view one.now.selections.now))
+        (selection_map other.now.report.now.prefer (view other.now.report.now.tree) (map view other.now.selections.now)) }
 {
     are_same_at(one, other, &one.names) && are_same_at(one, other, &other.names)
 }
@@ -216,8 +216,8 @@ fn is_same_selection_map(
 ) -> Result<bool, AllocError>
     requires ones { AllByRecursion (λ v. IsWholeTree (view v)) ones.now }
     requires others { AllByRecursion (λ v. IsWholeTree (view v)) others.now }
-    ensures { IfOk result (λ answer. Decides answer (selection_map (view sides.entry.left.now) (map view ones.now))
-        (selection_map (view sides.entry.right.now) (map view others.now))) }
+    ensures { IfOk result (λ answer. Decides answer (selection_map sides.entry.left.now.prefer (view sides.entry.left.now.tree) (map view ones.now))
+        (selection_map sides.entry.right.now.prefer (view sides.entry.right.now.tree) (map view others.now))) }
 {
     let one = NamedSelections::of(alloc, sides.left, ones)?;
     let other = NamedSelections::of(alloc, sides.right, others)?;

@@ -23,7 +23,7 @@ use serde_json::Value;
 pub(crate) fn is_same_content(sides: Sides, one: &Value, other: &Value) -> bool
     requires one { IsWholeTree (view one.now) }
     requires other { IsWholeTree (view other.now) }
-    ensures { Decides result (content_of (view sides.entry.left.now) (view one.now)) (content_of (view sides.entry.right.now) (view other.now)) }
+    ensures { Decides result (content_of sides.entry.left.now.prefer (view sides.entry.left.now.tree) (view one.now)) (content_of sides.entry.right.now.prefer (view sides.entry.right.now.tree) (view other.now)) }
 {
     match one {
         Value::Array(ones) => are_same_nodes(sides, ones, entries_of(other)),
@@ -36,8 +36,8 @@ pub(crate) fn is_same_content(sides: Sides, one: &Value, other: &Value) -> bool
 fn are_same_nodes(sides: Sides, ones: &Vec<Value>, others: &[Value]) -> bool
     requires ones { AllByRecursion (λ v. IsWholeTree (view v)) ones.now.items }
     requires others { AllByRecursion (λ v. IsWholeTree (view v)) others.now }
-    ensures { Decides result (map (λ v. node_of (view sides.entry.left.now) (view v)) ones.now.items)
-        (map (λ v. node_of (view sides.entry.right.now) (view v)) others.now) }
+    ensures { Decides result (map (λ v. node_of sides.entry.left.now.prefer (view sides.entry.left.now.tree) (view v)) ones.now.items)
+        (map (λ v. node_of sides.entry.right.now.prefer (view sides.entry.right.now.tree) (view v)) others.now) }
 {
     let mut rest = others.iter();
     for one in ones {
@@ -56,7 +56,7 @@ fn are_same_nodes(sides: Sides, ones: &Vec<Value>, others: &[Value]) -> bool
 fn is_same_node(sides: Sides, one: &Value, other: &Value) -> bool
     requires one { IsWholeTree (view one.now) }
     requires other { IsWholeTree (view other.now) }
-    ensures { Decides result (node_of (view sides.entry.left.now) (view one.now)) (node_of (view sides.entry.right.now) (view other.now)) }
+    ensures { Decides result (node_of sides.entry.left.now.prefer (view sides.entry.left.now.tree) (view one.now)) (node_of sides.entry.right.now.prefer (view sides.entry.right.now.tree) (view other.now)) }
 {
     match (is_header(one), is_header(other)) {
         (true, true) => is_same_header(sides, one, other),
@@ -71,8 +71,8 @@ fn is_same_node(sides: Sides, one: &Value, other: &Value) -> bool
 fn is_same_header(sides: Sides, one: &Value, other: &Value) -> bool
     requires one { IsWholeTree (view one.now) }
     requires other { IsWholeTree (view other.now) }
-    ensures { Decides result (header_node (view sides.entry.left.now) (view one.now) (content_within (view sides.entry.left.now) (view one.now)))
-        (header_node (view sides.entry.right.now) (view other.now) (content_within (view sides.entry.right.now) (view other.now))) }
+    ensures { Decides result (header_node sides.entry.left.now.prefer (view sides.entry.left.now.tree) (view one.now) (content_within sides.entry.left.now.prefer (view sides.entry.left.now.tree) (view one.now)))
+        (header_node sides.entry.right.now.prefer (view sides.entry.right.now.tree) (view other.now) (content_within sides.entry.right.now.prefer (view sides.entry.right.now.tree) (view other.now))) }
 {
     is_same_owner(sides, Family::Header, "HeaderId", one, other)
         && is_same_rest(one, other)
@@ -84,7 +84,7 @@ fn is_same_header(sides: Sides, one: &Value, other: &Value) -> bool
 fn is_same_within(sides: Sides, one: &Value, other: &Value) -> bool
     requires one { IsWholeTree (view one.now) }
     requires other { IsWholeTree (view other.now) }
-    ensures { Decides result (content_within (view sides.entry.left.now) (view one.now)) (content_within (view sides.entry.right.now) (view other.now)) }
+    ensures { Decides result (content_within sides.entry.left.now.prefer (view sides.entry.left.now.tree) (view one.now)) (content_within sides.entry.right.now.prefer (view sides.entry.right.now.tree) (view other.now)) }
 {
     match (one.get("OrderedContent"), other.get("OrderedContent")) {
         (Some(one), Some(other)) => is_same_content(sides, one, other),
@@ -96,7 +96,7 @@ fn is_same_within(sides: Sides, one: &Value, other: &Value) -> bool
 
 /// Whether a list of contests and headers is empty.
 fn has_no_content(report: &Report, value: &Value) -> bool
-    ensures { Decides result no_content (content_of (view report.now) (view value.now)) }
+    ensures { Decides result no_content (content_of report.now.prefer (view report.now.tree) (view value.now)) }
 {
     entries_of(value).is_empty()
 }
@@ -105,7 +105,7 @@ fn has_no_content(report: &Report, value: &Value) -> bool
 fn is_same_contest(sides: Sides, one: &Value, other: &Value) -> bool
     requires one { IsWholeTree (view one.now) }
     requires other { IsWholeTree (view other.now) }
-    ensures { Decides result (contest_node (view sides.entry.left.now) (view one.now)) (contest_node (view sides.entry.right.now) (view other.now)) }
+    ensures { Decides result (contest_node sides.entry.left.now.prefer (view sides.entry.left.now.tree) (view one.now)) (contest_node sides.entry.right.now.prefer (view sides.entry.right.now.tree) (view other.now)) }
 {
     let name = "OrderedContestSelectionIds";
     is_same_owner(sides, Family::Contest, "ContestId", one, other)
@@ -125,8 +125,8 @@ fn is_same_rest(one: &Value, other: &Value) -> bool
 
 /// Whether two lists of references name selections of the same names, one after another.
 fn are_same_names(sides: Sides, ones: &[Value], others: &[Value]) -> bool
-    ensures { Decides result (map (λ v. option_and_then (name_named (view sides.entry.left.now)) (as_str (view v))) ones.now)
-        (map (λ v. option_and_then (name_named (view sides.entry.right.now)) (as_str (view v))) others.now) }
+    ensures { Decides result (map (λ v. option_and_then (name_named sides.entry.left.now.prefer (view sides.entry.left.now.tree)) (as_str (view v))) ones.now)
+        (map (λ v. option_and_then (name_named sides.entry.right.now.prefer (view sides.entry.right.now.tree)) (as_str (view v))) others.now) }
 {
     let mut rest = others.iter();
     for one in ones {
@@ -142,8 +142,8 @@ fn are_same_names(sides: Sides, ones: &[Value], others: &[Value]) -> bool
 
 /// Whether two references name selections of one name.
 fn is_same_name(sides: Sides, one: &Value, other: &Value) -> bool
-    ensures { Decides result (option_and_then (name_named (view sides.entry.left.now)) (as_str (view one.now)))
-        (option_and_then (name_named (view sides.entry.right.now)) (as_str (view other.now))) }
+    ensures { Decides result (option_and_then (name_named sides.entry.left.now.prefer (view sides.entry.left.now.tree)) (as_str (view one.now)))
+        (option_and_then (name_named sides.entry.right.now.prefer (view sides.entry.right.now.tree)) (as_str (view other.now))) }
 {
     name_named(sides.left, one) == name_named(sides.right, other)
 }
@@ -151,8 +151,8 @@ fn is_same_name(sides: Sides, one: &Value, other: &Value) -> bool
 /// Whether the members of a name refer to objects of a family with one key.
 fn is_same_owner(sides: Sides, family: Family, name: &str, one: &Value, other: &Value) -> bool
     requires keyed { has_keys family ≡ true }
-    ensures { Decides result (key_named (view sides.entry.left.now) family (text_at name.now (view one.now)))
-        (key_named (view sides.entry.right.now) family (text_at name.now (view other.now))) }
+    ensures { Decides result (key_named sides.entry.left.now.prefer (view sides.entry.left.now.tree) family (text_at name.now (view one.now)))
+        (key_named sides.entry.right.now.prefer (view sides.entry.right.now.tree) family (text_at name.now (view other.now))) }
 {
     key_with_id(sides.left, family, text_at(one, name))
         == key_with_id(sides.right, family, text_at(other, name))

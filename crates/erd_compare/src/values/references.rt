@@ -18,7 +18,7 @@ use serde_json::Value;
 /// The key of the object of a family that a reference names.
 pub(crate) fn key_named<'a>(report: &'a Report, family: Family, value: &Value) -> Option<&'a Key>
     requires keyed { has_keys family ≡ true }
-    ensures { option_copied result ≡ option_and_then (key_named (view report.now) family) (as_str (view value.now)) }
+    ensures { option_copied result ≡ option_and_then (key_named report.now.prefer (view report.now.tree) family) (as_str (view value.now)) }
 {
     key_with_id(report, family, value.as_str()?)
 }
@@ -26,7 +26,7 @@ pub(crate) fn key_named<'a>(report: &'a Report, family: Family, value: &Value) -
 /// The key of the object of a family with the `@id`.
 pub(crate) fn key_with_id<'a>(report: &'a Report, family: Family, id: &str) -> Option<&'a Key>
     requires keyed { has_keys family ≡ true }
-    ensures { option_copied result ≡ key_named (view report.now) family id.now }
+    ensures { option_copied result ≡ key_named report.now.prefer (view report.now.tree) family id.now }
 {
     let (found, index) = report.target(id)?;
     if is_same_family(found, family) {
@@ -38,7 +38,7 @@ pub(crate) fn key_with_id<'a>(report: &'a Report, family: Family, id: &str) -> O
 
 /// The name of the selection that a reference names.
 pub(crate) fn name_named<'a>(report: &'a Report, value: &Value) -> Option<&'a SelectionName>
-    ensures { option_map (λ name. name.now) result ≡ option_and_then (name_named (view report.now)) (as_str (view value.now)) }
+    ensures { option_map (λ name. name.now) result ≡ option_and_then (name_named report.now.prefer (view report.now.tree)) (as_str (view value.now)) }
 {
     let id = value.as_str()?;
     let (found, index) = report.target(id)?;
@@ -51,7 +51,7 @@ pub(crate) fn name_named<'a>(report: &'a Report, value: &Value) -> Option<&'a Se
 
 /// The name of the selection at a position, if there is one.
 fn selection_name<'a>(report: &'a Report, index: usize) -> Option<&'a SelectionName>
-    ensures { option_map (λ name. name.now) result ≡ option_map (λ s. s.1) (selection_in (view report.now) index) }
+    ensures { option_map (λ name. name.now) result ≡ option_map (λ s. s.1) (selection_in report.now.prefer (view report.now.tree) index) }
 {
     let (_, name) = report.selection_at(index)?;
     Some(name)
@@ -67,8 +67,8 @@ fn is_same_family(found: Family, family: Family) -> bool
 /// Whether two references to objects of a family name objects with one key.
 pub(crate) fn is_same_reference(sides: Sides, family: Family, one: &Value, other: &Value) -> bool
     requires keyed { has_keys family ≡ true }
-    ensures { Decides result (option_and_then (key_named (view sides.entry.left.now) family) (as_str (view one.now)))
-        (option_and_then (key_named (view sides.entry.right.now) family) (as_str (view other.now))) }
+    ensures { Decides result (option_and_then (key_named sides.entry.left.now.prefer (view sides.entry.left.now.tree) family) (as_str (view one.now)))
+        (option_and_then (key_named sides.entry.right.now.prefer (view sides.entry.right.now.tree) family) (as_str (view other.now))) }
 {
     key_named(sides.left, family, one) == key_named(sides.right, family, other)
 }
@@ -81,8 +81,8 @@ pub(crate) fn is_same_key_set(
     others: &[Value],
 ) -> bool
     requires keyed { has_keys family ≡ true }
-    ensures { Decides result (key_set (keys_named (view sides.entry.left.now) family (map view ones.now)))
-        (key_set (keys_named (view sides.entry.right.now) family (map view others.now))) }
+    ensures { Decides result (key_set (keys_named sides.entry.left.now.prefer (view sides.entry.left.now.tree) family (map view ones.now)))
+        (key_set (keys_named sides.entry.right.now.prefer (view sides.entry.right.now.tree) family (map view others.now))) }
 {
     are_keys_among(sides.left, sides.right, family, ones, others)
         && are_keys_among(sides.right, sides.left, family, others, ones)
@@ -97,8 +97,8 @@ fn are_keys_among(
     others: &[Value],
 ) -> bool
     requires keyed { has_keys family ≡ true }
-    ensures { result ≡ list_all (key_set (keys_named (view right.now) family (map view others.now)))
-        (keys_named (view left.now) family (map view ones.now)) }
+    ensures { result ≡ list_all (key_set (keys_named right.now.prefer (view right.now.tree) family (map view others.now)))
+        (keys_named left.now.prefer (view left.now.tree) family (map view ones.now)) }
 {
     for one in ones {
         if let Some(key) = key_named(left, family, one) {
@@ -113,7 +113,7 @@ fn are_keys_among(
 /// Whether one of the references names the object with the key.
 fn is_key_among(report: &Report, family: Family, values: &[Value], key: &Key) -> bool
     requires keyed { has_keys family ≡ true }
-    ensures { result ≡ key_set (keys_named (view report.now) family (map view values.now)) key.now }
+    ensures { result ≡ key_set (keys_named report.now.prefer (view report.now.tree) family (map view values.now)) key.now }
 {
     for value in values {
         if is_key(key_named(report, family, value), key) {

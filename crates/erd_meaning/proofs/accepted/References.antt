@@ -17,7 +17,7 @@ use Rattle.erd_meaning.specs.Accepted.{IsAccepted}
 use Rattle.erd_meaning.specs.LaterFaults.{is_reference_fault, is_selection_in}
 use Rattle.erd_meaning.specs.Objects.{Placed, has_id, is_owned, objects, owner}
 use Rattle.erd_meaning.specs.SelectionNames.{key_named}
-use Rattle.erd_meaning.specs.Keys.{key_of, has_keys}
+use Rattle.erd_meaning.specs.Keys.{Preference, has_keys, key_of}
 use Rattle.erd_check.specs.Values.{text_at}
 use Rattle.erd_meaning.proofs.accepted.Phases.{no_reference_fault, no_identity_fault}
 
@@ -35,25 +35,25 @@ none_not None = refl
 none_not (Some x) = refl
 
 -- a reference names an object of its family
-pub owned : (t : Data) → IsAccepted t → (f : Family) (r : List ℕ) → Within t (asked (Reference f) (string r)) → (o : Data) × (owner t f r ≡ Some o)
-owned t accepted f r w =
+pub owned : (π : Preference) (t : Data) → IsAccepted π t → (f : Family) (r : List ℕ) → Within t (asked (Reference f) (string r)) → (o : Data) × (owner t f r ≡ Some o)
+owned π t accepted f r w =
     let a : Asked = asked (Reference f) (string r) in
-    let known : not (is_owned t r) ≡ false = false_unless _ (not_within t a (λ x. IsTrue (is_reference_fault t x reason.Unresolved)) w (no_reference_fault t accepted w.place reason.Unresolved)) in
-    let here : (is_none (owner t f r) && is_owned t r) ≡ false = false_unless _ (not_within t a (λ x. IsTrue (is_reference_fault t x reason.WrongFamily)) w (no_reference_fault t accepted w.place reason.WrongFamily)) in
+    let known : not (is_owned t r) ≡ false = false_unless _ (not_within t a (λ x. IsTrue (is_reference_fault t x reason.Unresolved)) w (no_reference_fault π t accepted w.place reason.Unresolved)) in
+    let here : (is_none (owner t f r) && is_owned t r) ≡ false = false_unless _ (not_within t a (λ x. IsTrue (is_reference_fault t x reason.WrongFamily)) w (no_reference_fault π t accepted w.place reason.WrongFamily)) in
     some_from (owner t f r) (found_either (is_some (owner t f r)) (is_owned t r) known (rw (none_not (owner t f r)) at here))
 
 -- no entry of a set of references repeats an earlier one
-pub unrepeated_reference : (t : Data) → IsAccepted t → (f : Family) (d : Data) (b : Bool) → Within t (record { want = Reference f; value = d; repeated = b }) → Within t (asked (Reference f) d)
-unrepeated_reference t accepted f d true w = absurd (not_within t (record { want = Reference f; value = d; repeated = true }) (λ x. IsTrue (is_reference_fault t x reason.Repeated)) w (no_reference_fault t accepted w.place reason.Repeated) refl)
-unrepeated_reference t accepted f d false w = w
+pub unrepeated_reference : (π : Preference) (t : Data) → IsAccepted π t → (f : Family) (d : Data) (b : Bool) → Within t (record { want = Reference f; value = d; repeated = b }) → Within t (asked (Reference f) d)
+unrepeated_reference π t accepted f d true w = absurd (not_within t (record { want = Reference f; value = d; repeated = true }) (λ x. IsTrue (is_reference_fault t x reason.Repeated)) w (no_reference_fault π t accepted w.place reason.Repeated) refl)
+unrepeated_reference π t accepted f d false w = w
 
 -- an entry of a ballot's list is a selection of the contest
-pub selected : (t : Data) → IsAccepted t → (a : Asked) (contest : Data) (w : Within t a) → owner t family.Contest (text_at (codes "ContestId") a.value) ≡ Some contest
+pub selected : (π : Preference) (t : Data) → IsAccepted π t → (a : Asked) (contest : Data) (w : Within t a) → owner t family.Contest (text_at (codes "ContestId") a.value) ≡ Some contest
     → (i : ℕ) (r : List ℕ) → asked_at t (w.place ++ Name (codes "OrderedContestSelectionIds") ∷ At i ∷ []) ≡ Some (asked (Reference family.Selection) (string r)) → is_selection_in contest r ≡ true
-selected t accepted a contest w names i r e =
+selected π t accepted a contest w names i r e =
     let p : List Step = w.place ++ Name (codes "OrderedContestSelectionIds") ∷ At i ∷ [] in
-    let stands : is_some (owner t family.Selection r) ≡ true = ap is_some (owned t accepted family.Selection r (record { place = p; is = e })).1 in
-    true_unless (is_selection_in contest r) (λ h. no_reference_fault t accepted p reason.SelectionOfOtherContest (record {
+    let stands : is_some (owner t family.Selection r) ≡ true = ap is_some (owned π t accepted family.Selection r (record { place = p; is = e })).1 in
+    true_unless (is_selection_in contest r) (λ h. no_reference_fault π t accepted p reason.SelectionOfOtherContest (record {
       object_place = w.place;
       position = i;
       place = refl;
@@ -95,17 +95,17 @@ option_map-Some f None y e = cc
 option_map-Some f (Some x) y e = (x, refl, cc)
 
 -- an object of a family that is named by keys has one
-pub has_identifier : (t : Data) → IsAccepted t → (f : Family) (o : Placed) → has_keys f ≡ true → Has (objects f t) o → (k : Key) × (key_of o.value ≡ Some k)
-has_identifier t accepted f o keyed h = at (key_of o.value) refl
+pub has_identifier : (π : Preference) (t : Data) → IsAccepted π t → (f : Family) (o : Placed) → has_keys f ≡ true → Has (objects f t) o → (k : Key) × (key_of π o.value ≡ Some k)
+has_identifier π t accepted f o keyed h = at (key_of π o.value) refl
   where
-    at : (k : Option Key) → key_of o.value ≡ k → (l : Key) × (key_of o.value ≡ Some l)
-    at None e = absurd (no_identity_fault t accepted o.place reason.NoIdentifier (record { family = f; keyed = keyed; placed = o; stands = Contains-Has (objects f t) o h; place = refl; keyless = e }))
+    at : (k : Option Key) → key_of π o.value ≡ k → (l : Key) × (key_of π o.value ≡ Some l)
+    at None e = absurd (no_identity_fault π t accepted o.place reason.NoIdentifier (record { family = f; keyed = keyed; placed = o; stands = Contains-Has (objects f t) o h; place = refl; keyless = e }))
     at (Some k) e = (k, e)
 
 -- a reference names an object that has a key
-pub resolves : (t : Data) → IsAccepted t → (f : Family) (r : List ℕ) → has_keys f ≡ true → Within t (asked (Reference f) (string r)) → (k : Key) × (key_named t f r ≡ Some k)
-resolves t accepted f r keyed w =
-    let o = owned t accepted f r w in
+pub resolves : (π : Preference) (t : Data) → IsAccepted π t → (f : Family) (r : List ℕ) → has_keys f ≡ true → Within t (asked (Reference f) (string r)) → (k : Key) × (key_named π t f r ≡ Some k)
+resolves π t accepted f r keyed w =
+    let o = owned π t accepted f r w in
     let x = option_map-Some (λ x. x.value) (find (λ x. has_id r x.value) (objects f t)) o.0 o.1 in
-    let k = has_identifier t accepted f x.0 keyed (find-Some (λ x. has_id r x.value) (objects f t) x.0 x.1).0 in
-    (k.0, ap (option_and_then key_of) o.1 ∙ ap key_of (sym x.2) ∙ k.1)
+    let k = has_identifier π t accepted f x.0 keyed (find-Some (λ x. has_id r x.value) (objects f t) x.0 x.1).0 in
+    (k.0, ap (option_and_then (key_of π)) o.1 ∙ ap (key_of π) (sym x.2) ∙ k.1)

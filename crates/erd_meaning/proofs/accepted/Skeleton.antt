@@ -16,6 +16,7 @@ use Rattle.erd_check.specs.Faults.{has_not_one_entry, NoneOf, ShapeFault}
 use Rattle.erd_check.specs.Wants.{asked, asked_at, asked_inside}
 use Rattle.erd_check.proofs.Entries.{array_from, entries_in, list_of_items-place}
 use Rattle.erd_check.proofs.Rising.{Has, Has-cases}
+use Rattle.erd_meaning.specs.Keys.{Preference}
 use Rattle.erd_meaning.specs.Accepted.{IsAccepted}
 use Rattle.erd_meaning.specs.Objects.{Placed, elections, placed_entries, placed_from}
 use Rattle.erd_check.specs.Values.{entries_at, list_of_items}
@@ -59,8 +60,8 @@ skeleton_of_shape t none = at (get_member (codes "Election") ms) refl
           filled = not_empty ds.0 (faultless t none (asked (Member kind.Elections true) (array ds.0)) reason.ElectionCount inside');
         }
 
-pub skeleton : (t : Data) → IsAccepted t → Skeleton t
-skeleton t accepted = skeleton_of_shape t (no_shape_fault t accepted)
+pub skeleton : (π : Preference) (t : Data) → IsAccepted π t → Skeleton t
+skeleton π t accepted = skeleton_of_shape t (no_shape_fault π t accepted)
 
 -- ---- entries and their places
 

@@ -37,7 +37,7 @@ use Rattle.erd_meaning.specs.Objects.{Placed, contests, elections, has_id, id_of
 use Rattle.erd_meaning.proofs.accepted.HeldObjects.{HeldObject, has-flat, held_object}
 use Rattle.erd_meaning.proofs.accepted.Skeleton.{Skeleton, election_object, election_stands, placed_index, skeleton_of_shape}
 use Rattle.erd_meaning.proofs.orders.Sets.{any-has}
-use Rattle.erd_meaning.specs.Keys.{key_of, has_keys}
+use Rattle.erd_meaning.specs.Keys.{Preference, has_keys, key_of}
 use Rattle.erd_meaning.specs.SelectionNames.{name_of}
 use Rattle.erd_meaning.specs.NameParts.{NameParts}
 use Rattle.erd_meaning.proofs.accepted.Phases.{no_shape_fault, no_identity_fault, no_selection_fault}
@@ -130,27 +130,27 @@ stands_of_shape t none family.Selection o h =
     let c = has-flat (placed_entries (codes "ContestSelection")) (contests t) o h in
     selection_stands t none c.0 (keyed_stands t none (skeleton_of_shape t none) family.Contest refl c.0 c.1) o c.2
 
-pub stands : (t : Data) → IsAccepted t → (f : Family) (o : Placed) → Has (objects f t) o → asked_at t o.place ≡ Some (asked (Object (role.OfFamily f)) o.value)
-stands t accepted = stands_of_shape t (no_shape_fault t accepted)
+pub stands : (π : Preference) (t : Data) → IsAccepted π t → (f : Family) (o : Placed) → Has (objects f t) o → asked_at t o.place ≡ Some (asked (Object (role.OfFamily f)) o.value)
+stands π t accepted = stands_of_shape t (no_shape_fault π t accepted)
 
 -- two objects of which neither is before the other are one
-pub one_placed : (t : Data) → IsAccepted t → (f g : Family) (o p : Placed) → Has (objects f t) o → Has (objects g t) p → (IsBefore o p → ⊥) → (IsBefore p o → ⊥) → o ≡ p
-one_placed t accepted f g o p h k before after = at (place_cmp o.place p.place) refl
+pub one_placed : (π : Preference) (t : Data) → IsAccepted π t → (f g : Family) (o p : Placed) → Has (objects f t) o → Has (objects g t) p → (IsBefore o p → ⊥) → (IsBefore p o → ⊥) → o ≡ p
+one_placed π t accepted f g o p h k before after = at (place_cmp o.place p.place) refl
   where
     at : (c : Ordering) → place_cmp o.place p.place ≡ c → o ≡ p
     at Less is = absurd (before is)
     at Equal is =
         let same : o.place ≡ p.place = place_cmp_exact o.place p.place is in
-        let both : Some (asked (Object (role.OfFamily f)) o.value) ≡ Some (asked (Object (role.OfFamily g)) p.value) = sym (stands t accepted f o h) ∙ ap (asked_at t) same ∙ stands t accepted g p k in
+        let both : Some (asked (Object (role.OfFamily f)) o.value) ≡ Some (asked (Object (role.OfFamily g)) p.value) = sym (stands π t accepted f o h) ∙ ap (asked_at t) same ∙ stands π t accepted g p k in
         let one : asked (Object (role.OfFamily f)) o.value ≡ asked (Object (role.OfFamily g)) p.value = cc in
         let values : o.value ≡ p.value = ap (λ a. a.value) one in
         λ i. record { place = same i; value = values i }
     at Greater is = absurd (after (place_cmp_total.antisymm p.place o.place ∙ ap ordering_reverse is))
 
 -- two objects with one `@id` are one
-pub one_object : (t : Data) → IsAccepted t → (f g : Family) (o p : Placed) (r : List ℕ) → Has (objects f t) o → Has (objects g t) p → id_of o.value ≡ Some r → id_of p.value ≡ Some r → o ≡ p
-one_object t accepted f g o p r h k e l = one_placed t accepted f g o p h k
-    (λ is. no_identity_fault t accepted (p.place ++ Name (codes "@id") ∷ []) reason.DuplicateId (record {
+pub one_object : (π : Preference) (t : Data) → IsAccepted π t → (f g : Family) (o p : Placed) (r : List ℕ) → Has (objects f t) o → Has (objects g t) p → id_of o.value ≡ Some r → id_of p.value ≡ Some r → o ≡ p
+one_object π t accepted f g o p r h k e l = one_placed π t accepted f g o p h k
+    (λ is. no_identity_fault π t accepted (p.place ++ Name (codes "@id") ∷ []) reason.DuplicateId (record {
       family = g;
       later = p;
       later_stands = Contains-Has (objects g t) p k;
@@ -163,7 +163,7 @@ one_object t accepted f g o p r h k e l = one_placed t accepted f g o p h k
       later_id = l;
       earlier_id = e;
     }))
-    (λ is. no_identity_fault t accepted (o.place ++ Name (codes "@id") ∷ []) reason.DuplicateId (record {
+    (λ is. no_identity_fault π t accepted (o.place ++ Name (codes "@id") ∷ []) reason.DuplicateId (record {
       family = f;
       later = o;
       later_stands = Contains-Has (objects f t) o h;
@@ -178,8 +178,8 @@ one_object t accepted f g o p r h k e l = one_placed t accepted f g o p h k
     }))
 
 -- a later object of a family has not the key of an earlier one
-no_twin : (t : Data) → IsAccepted t → (f : Family) (o p : Placed) (k : Key) → has_keys f ≡ true → Has (objects f t) o → Has (objects f t) p → key_of o.value ≡ Some k → key_of p.value ≡ Some k → ¬ IsBefore o p
-no_twin t accepted f o p k keyed h i e l is = no_identity_fault t accepted p.place reason.TwinIdentifier (record {
+no_twin : (π : Preference) (t : Data) → IsAccepted π t → (f : Family) (o p : Placed) (k : Key) → has_keys f ≡ true → Has (objects f t) o → Has (objects f t) p → key_of π o.value ≡ Some k → key_of π p.value ≡ Some k → ¬ IsBefore o p
+no_twin π t accepted f o p k keyed h i e l is = no_identity_fault π t accepted p.place reason.TwinIdentifier (record {
   family = f;
   keyed = keyed;
   later = p;
@@ -194,14 +194,14 @@ no_twin t accepted f o p k keyed h i e l is = no_identity_fault t accepted p.pla
 })
 
 -- two objects of a family with one key are one
-pub one_keyed : (t : Data) → IsAccepted t → (f : Family) (o p : Placed) (k : Key) → has_keys f ≡ true → Has (objects f t) o → Has (objects f t) p → key_of o.value ≡ Some k → key_of p.value ≡ Some k → o ≡ p
-one_keyed t accepted f o p k keyed h i e l =
-    one_placed t accepted f f o p h i (no_twin t accepted f o p k keyed h i e l) (no_twin t accepted f p o k keyed i h l e)
+pub one_keyed : (π : Preference) (t : Data) → IsAccepted π t → (f : Family) (o p : Placed) (k : Key) → has_keys f ≡ true → Has (objects f t) o → Has (objects f t) p → key_of π o.value ≡ Some k → key_of π p.value ≡ Some k → o ≡ p
+one_keyed π t accepted f o p k keyed h i e l =
+    one_placed π t accepted f f o p h i (no_twin π t accepted f o p k keyed h i e l) (no_twin π t accepted f p o k keyed i h l e)
 
 -- a later selection of a contest has not the name of an earlier one
-no_second_name : (t : Data) → IsAccepted t → (contest o p : Placed) (n : NameParts) → Has (objects family.Contest t) contest → Has (selections_of_contest contest) o → Has (selections_of_contest contest) p
-    → name_of t o.value ≡ Some n → name_of t p.value ≡ Some n → ¬ IsBefore o p
-no_second_name t accepted contest o p n c h k e l is = no_selection_fault t accepted p.place reason.TwinSelection (record {
+no_second_name : (π : Preference) (t : Data) → IsAccepted π t → (contest o p : Placed) (n : NameParts) → Has (objects family.Contest t) contest → Has (selections_of_contest contest) o → Has (selections_of_contest contest) p
+    → name_of π t o.value ≡ Some n → name_of π t p.value ≡ Some n → ¬ IsBefore o p
+no_second_name π t accepted contest o p n c h k e l is = no_selection_fault π t accepted p.place reason.TwinSelection (record {
   contest = contest;
   contest_stands = Contains-Has (objects family.Contest t) contest c;
   later = p;
@@ -216,11 +216,11 @@ no_second_name t accepted contest o p n c h k e l is = no_selection_fault t acce
 })
 
 -- two selections of a contest with one name are one
-pub one_named : (t : Data) → IsAccepted t → (contest o p : Placed) (n : NameParts) → Has (objects family.Contest t) contest → Has (selections_of_contest contest) o → Has (selections_of_contest contest) p
-    → name_of t o.value ≡ Some n → name_of t p.value ≡ Some n → o ≡ p
-one_named t accepted contest o p n c h k e l =
-    one_placed t accepted family.Selection family.Selection o p (flat-has selections_of_contest (contests t) contest o c h) (flat-has selections_of_contest (contests t) contest p c k)
-    (no_second_name t accepted contest o p n c h k e l) (no_second_name t accepted contest p o n c k h l e)
+pub one_named : (π : Preference) (t : Data) → IsAccepted π t → (contest o p : Placed) (n : NameParts) → Has (objects family.Contest t) contest → Has (selections_of_contest contest) o → Has (selections_of_contest contest) p
+    → name_of π t o.value ≡ Some n → name_of π t p.value ≡ Some n → o ≡ p
+one_named π t accepted contest o p n c h k e l =
+    one_placed π t accepted family.Selection family.Selection o p (flat-has selections_of_contest (contests t) contest o c h) (flat-has selections_of_contest (contests t) contest p c k)
+    (no_second_name π t accepted contest o p n c h k e l) (no_second_name π t accepted contest p o n c k h l e)
 
 pub has_id-Some : (r : List ℕ) (d : Data) → has_id r d ≡ true → id_of d ≡ Some r
 has_id-Some r d e = at (id_of d) e
@@ -233,10 +233,10 @@ pub has_id-from : (r : List ℕ) (d : Data) → id_of d ≡ Some r → has_id r 
 has_id-from r d e = ap (λ o. option_map_or (bytes_eq r) o false) e ∙ text_itself r
 
 -- an object owns its `@id`
-pub owner_is : (t : Data) → IsAccepted t → (f : Family) (o : Placed) (r : List ℕ) → Has (objects f t) o → id_of o.value ≡ Some r → owner t f r ≡ Some o.value
-owner_is t accepted f o r h e =
+pub owner_is : (π : Preference) (t : Data) → IsAccepted π t → (f : Family) (o : Placed) (r : List ℕ) → Has (objects f t) o → id_of o.value ≡ Some r → owner t f r ≡ Some o.value
+owner_is π t accepted f o r h e =
     let x = find-any (λ o. has_id r o.value) (objects f t) (any-has (λ o. has_id r o.value) (objects f t) o h (has_id-from r o.value e)) in
-    ap (option_map (λ o. o.value)) x.1 ∙ ap (λ x. Some x.value) (one_object t accepted f f x.0 o r x.3 h (has_id-Some r x.0.value x.2) e)
+    ap (option_map (λ o. o.value)) x.1 ∙ ap (λ x. Some x.value) (one_object π t accepted f f x.0 o r x.3 h (has_id-Some r x.0.value x.2) e)
 
 -- the object that an `@id` names
 pub owned_by : (t : Data) (f : Family) (r : List ℕ) (d : Data) → owner t f r ≡ Some d → (o : Placed) × Has (objects f t) o × (o.value ≡ d) × (id_of d ≡ Some r)

@@ -1,5 +1,5 @@
 -- Whole reports that are accepted, by computation.
-use Rattle.std.proofs.Common.{◌≡◌, length, refl}
+use Rattle.std.proofs.Common.{◌≡◌, length, refl, None}
 use Rattle.serde_json.proofs.OnLiterals.{serde_json_on_literals}
 use Rattle.erd_check.proofs.Reports.{tree_of, one_unit, small_ballot, small_ballot_canonical}
 use Rattle.erd_check.proofs.WholeExamples.{one_unit_is_faultless, one_unit_is_tree, small_ballot_is_faultless, small_ballot_is_tree, small_ballot_canonical_is_faultless, small_ballot_canonical_is_tree}
@@ -9,7 +9,7 @@ use Rattle.erd_meaning.proofs.refused.RefusedLists.{accepted_by_lists}
 use Rattle.erd_meaning.proofs.references.SelectionEntries.{reference_faults}
 use Rattle.erd_meaning.proofs.selections.SelectionFaults.{selections_told}
 
-unit_identity : length (identity_told (tree_of one_unit)) ≡ 0
+unit_identity : length (identity_told None (tree_of one_unit)) ≡ 0
 unfolding serde_json_on_literals
 unit_identity = refl
 
@@ -17,14 +17,14 @@ unit_reference : length (reference_faults (tree_of one_unit)) ≡ 0
 unfolding serde_json_on_literals
 unit_reference = refl
 
-unit_selection : length (selections_told (tree_of one_unit)) ≡ 0
+unit_selection : length (selections_told None (tree_of one_unit)) ≡ 0
 unfolding serde_json_on_literals
 unit_selection = refl
 
-pub one_unit_is_accepted : IsAccepted (tree_of one_unit)
-one_unit_is_accepted = accepted_by_lists (tree_of one_unit) one_unit_is_tree one_unit_is_faultless unit_identity unit_reference unit_selection
+pub one_unit_is_accepted : IsAccepted None (tree_of one_unit)
+one_unit_is_accepted = accepted_by_lists None (tree_of one_unit) one_unit_is_tree one_unit_is_faultless unit_identity unit_reference unit_selection
 
-ballot_identity : length (identity_told (tree_of small_ballot)) ≡ 0
+ballot_identity : length (identity_told None (tree_of small_ballot)) ≡ 0
 unfolding serde_json_on_literals
 ballot_identity = refl
 
@@ -32,14 +32,14 @@ ballot_reference : length (reference_faults (tree_of small_ballot)) ≡ 0
 unfolding serde_json_on_literals
 ballot_reference = refl
 
-ballot_selection : length (selections_told (tree_of small_ballot)) ≡ 0
+ballot_selection : length (selections_told None (tree_of small_ballot)) ≡ 0
 unfolding serde_json_on_literals
 ballot_selection = refl
 
-pub small_ballot_is_accepted : IsAccepted (tree_of small_ballot)
-small_ballot_is_accepted = accepted_by_lists (tree_of small_ballot) small_ballot_is_tree small_ballot_is_faultless ballot_identity ballot_reference ballot_selection
+pub small_ballot_is_accepted : IsAccepted None (tree_of small_ballot)
+small_ballot_is_accepted = accepted_by_lists None (tree_of small_ballot) small_ballot_is_tree small_ballot_is_faultless ballot_identity ballot_reference ballot_selection
 
-canonical_identity : length (identity_told (tree_of small_ballot_canonical)) ≡ 0
+canonical_identity : length (identity_told None (tree_of small_ballot_canonical)) ≡ 0
 unfolding serde_json_on_literals
 canonical_identity = refl
 
@@ -47,9 +47,9 @@ canonical_reference : length (reference_faults (tree_of small_ballot_canonical))
 unfolding serde_json_on_literals
 canonical_reference = refl
 
-canonical_selection : length (selections_told (tree_of small_ballot_canonical)) ≡ 0
+canonical_selection : length (selections_told None (tree_of small_ballot_canonical)) ≡ 0
 unfolding serde_json_on_literals
 canonical_selection = refl
 
-pub small_ballot_canonical_is_accepted : IsAccepted (tree_of small_ballot_canonical)
-small_ballot_canonical_is_accepted = accepted_by_lists (tree_of small_ballot_canonical) small_ballot_canonical_is_tree small_ballot_canonical_is_faultless canonical_identity canonical_reference canonical_selection
+pub small_ballot_canonical_is_accepted : IsAccepted None (tree_of small_ballot_canonical)
+small_ballot_canonical_is_accepted = accepted_by_lists None (tree_of small_ballot_canonical) small_ballot_canonical_is_tree small_ballot_canonical_is_faultless canonical_identity canonical_reference canonical_selection

@@ -23,8 +23,8 @@ abbrev pub object_at : Data → Family → ℕ → Placed
 object_at t f i = unwrap_or (slice_get (objects f t) i) (report_of t)
 
 -- an empty array of identifiers is none, and a style needs one too
-no_identifier : IdentityFault (tree_of (codes "{\"GpUnit\":[{\"ExternalIdentifier\":[]}]}")) (Name (codes "GpUnit") ∷ At 0 ∷ []) NoIdentifier
-    × IdentityFault (tree_of (codes "{\"Election\":[{\"BallotStyle\":[{}]}]}")) (Name (codes "Election") ∷ At 0 ∷ Name (codes "BallotStyle") ∷ At 0 ∷ []) NoIdentifier
+no_identifier : IdentityFault None (tree_of (codes "{\"GpUnit\":[{\"ExternalIdentifier\":[]}]}")) (Name (codes "GpUnit") ∷ At 0 ∷ []) NoIdentifier
+    × IdentityFault None (tree_of (codes "{\"Election\":[{\"BallotStyle\":[{}]}]}")) (Name (codes "Election") ∷ At 0 ∷ Name (codes "BallotStyle") ∷ At 0 ∷ []) NoIdentifier
 unfolding serde_json_on_literals
 no_identifier = (
   record {
@@ -49,7 +49,7 @@ abbrev twins : Data
 twins = tree_of (codes "{\"GpUnit\":[{\"@id\":\"u7\",\"ExternalIdentifier\":[{\"Type\":\"other\",\"Value\":\"X\"}]},{\"@id\":\"u8\",\"ExternalIdentifier\":[{\"Type\":\"other\",\"Value\":\"X\",\"OtherType\":\"\"},{\"Type\":\"z\",\"Value\":\"Y\"}]}],\"Party\":[{\"@id\":\"u7\"}]}")
 
 -- the later unit has the key of the earlier one, and a party its `@id`
-twin_units : IdentityFault twins (Name (codes "GpUnit") ∷ At 1 ∷ []) TwinIdentifier × IdentityFault twins (Name (codes "Party") ∷ At 0 ∷ Name (codes "@id") ∷ []) DuplicateId
+twin_units : IdentityFault None twins (Name (codes "GpUnit") ∷ At 1 ∷ []) TwinIdentifier × IdentityFault None twins (Name (codes "Party") ∷ At 0 ∷ Name (codes "@id") ∷ []) DuplicateId
 unfolding serde_json_on_literals
 twin_units = (
   record {
@@ -84,7 +84,7 @@ abbrev write_ins : Data
 write_ins = tree_of (codes "{\"Election\":[{\"Contest\":[{\"ContestSelection\":[{\"@type\":\"ElectionResults.CandidateSelection\",\"IsWriteIn\":true},{\"@type\":\"ElectionResults.CandidateSelection\",\"IsWriteIn\":true,\"Note\":1}]}]}]}")
 
 -- two lines for write-ins that nothing in their names tells apart
-twin_selections : SelectionFault write_ins (Name (codes "Election") ∷ At 0 ∷ Name (codes "Contest") ∷ At 0 ∷ Name (codes "ContestSelection") ∷ At 1 ∷ []) TwinSelection
+twin_selections : SelectionFault None write_ins (Name (codes "Election") ∷ At 0 ∷ Name (codes "Contest") ∷ At 0 ∷ Name (codes "ContestSelection") ∷ At 1 ∷ []) TwinSelection
 unfolding serde_json_on_literals
 twin_selections = record {
   contest = object_at write_ins family.Contest 0;
@@ -95,7 +95,7 @@ twin_selections = record {
   earlier = object_at write_ins family.Selection 0;
   earlier_stands = (0, lit< tt, refl);
   before = refl;
-  name = record (name_in_class write_ins class.CandidateSelection write_ins) { write_in = true };
+  name = record (name_in_class None write_ins class.CandidateSelection write_ins) { write_in = true };
   later_name = refl;
   earlier_name = refl;
 }
@@ -123,7 +123,7 @@ other_selections = (
 
 -- `IsWriteIn` false and absent give one name and two records
 absent_or_false : (let t = tree_of (codes "{\"@type\":\"ElectionResults.CandidateSelection\"}") in let u = tree_of (codes "{\"@type\":\"ElectionResults.CandidateSelection\",\"IsWriteIn\":false}") in
-    (name_of t t ≡ name_of t u) × (option_and_then (λ r. r.members (codes "IsWriteIn")) (selection_record t t) ≡ None)
-    × (option_and_then (λ r. r.members (codes "IsWriteIn")) (selection_record t u) ≡ Some (a_json (boolean false))))
+    (name_of None t t ≡ name_of None t u) × (option_and_then (λ r. r.members (codes "IsWriteIn")) (selection_record None t t) ≡ None)
+    × (option_and_then (λ r. r.members (codes "IsWriteIn")) (selection_record None t u) ≡ Some (a_json (boolean false))))
 unfolding serde_json_on_literals
 absent_or_false = (refl, refl, refl)

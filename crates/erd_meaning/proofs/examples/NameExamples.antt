@@ -13,7 +13,7 @@ use Rattle.erd_meaning.specs.declared.keys.key.Key.{Key}
 use Rattle.erd_meaning.proofs.examples.RecordExamples.{local_key}
 
 abbrev names_in : Data → List (Option NameParts)
-names_in t = map (λ o. name_of t o.value) (objects family.Selection t)
+names_in t = map (λ o. name_of None t o.value) (objects family.Selection t)
 
 abbrev for_candidates : List Key → NameParts
 for_candidates keys = record { class = class.CandidateSelection; keys = keys; write_in = false; order = None; label = None; identifier = None }
@@ -60,7 +60,7 @@ names_in_order : rise (no ∷ yes ∷ for_candidates [] ∷ write_in_line ∷ re
 names_in_order = refl
 
 -- the six parts of a selection that has them; `IsWriteIn` counts in its own class alone, false is as absent
-parts_of_names : (let t = tree_of small_ballot in map (λ text. name_of t (tree_of text)) (
+parts_of_names : (let t = tree_of small_ballot in map (λ text. name_of None t (tree_of text)) (
     (codes "{\"@type\":\"ElectionResults.PartySelection\",\"PartyIds\":[\"a3\"],\"IsWriteIn\":true,\"SequenceOrder\":-1,\"Selection\":\"Blue\",\"ExternalIdentifier\":[{\"Type\":\"local-level\",\"Value\":\"W1\"}]}")
     ∷ (codes "{\"@type\":\"ElectionResults.CandidateSelection\",\"CandidateIds\":[\"a7\"],\"IsWriteIn\":false,\"EndorsementPartyIds\":[\"a3\"]}")
     ∷ (codes "{\"@type\":\"ElectionResults.Candidate\"}") ∷ []))

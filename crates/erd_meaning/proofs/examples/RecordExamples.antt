@@ -44,9 +44,9 @@ abbrev mutual
   bare_node (a_header k c carried) = a_header k (bare c) (λ name. None)
 
 -- the header, in it the first contest with its three selections in the order of the ballot, then the second contest
-content_of_the_style : (let t = tree_of small_ballot in bare (content_of t (value_at t (Name (codes "Election") ∷ At 0 ∷ Name (codes "BallotStyle") ∷ At 0 ∷ Name (codes "OrderedContent") ∷ [])))
+content_of_the_style : (let t = tree_of small_ballot in bare (content_of None t (value_at t (Name (codes "Election") ∷ At 0 ∷ Name (codes "BallotStyle") ∷ At 0 ∷ Name (codes "OrderedContent") ∷ [])))
     ≡ first_node (a_header (Some (local_key (codes "H1")))
-    (first_node (a_contest (Some (local_key (codes "C1"))) (name_named t (codes "a10") ∷ name_named t (codes "a9") ∷ name_named t (codes "a11") ∷ []) (λ name. None)) no_content)
+    (first_node (a_contest (Some (local_key (codes "C1"))) (name_named None t (codes "a10") ∷ name_named None t (codes "a9") ∷ name_named None t (codes "a11") ∷ []) (λ name. None)) no_content)
     (λ name. None))
     (first_node (a_contest (Some (local_key (codes "C2"))) [] (λ name. None)) no_content))
 unfolding serde_json_on_literals
@@ -54,13 +54,13 @@ content_of_the_style = refl
 
 -- the canonical form has the same content, under other `@id` texts
 same_content : (let t = tree_of small_ballot in let u = tree_of small_ballot_canonical in
-    bare (content_of t (value_at t (Name (codes "Election") ∷ At 0 ∷ Name (codes "BallotStyle") ∷ At 0 ∷ Name (codes "OrderedContent") ∷ []))) ≡ bare (content_of u (value_at u (Name (codes "Election") ∷ At 0 ∷ Name (codes "BallotStyle") ∷ At 0 ∷ Name (codes "OrderedContent") ∷ []))))
+    bare (content_of None t (value_at t (Name (codes "Election") ∷ At 0 ∷ Name (codes "BallotStyle") ∷ At 0 ∷ Name (codes "OrderedContent") ∷ []))) ≡ bare (content_of None u (value_at u (Name (codes "Election") ∷ At 0 ∷ Name (codes "BallotStyle") ∷ At 0 ∷ Name (codes "OrderedContent") ∷ []))))
 unfolding serde_json_on_literals
 same_content = refl
 
 -- an empty list of selections and of contests is as an absent one; a carried member of a node is kept
-empty_lists : (bare (content_of null (tree_of (codes "[{\"@type\":\"ElectionResults.OrderedHeader\",\"OrderedContent\":[]},{\"@type\":\"ElectionResults.OrderedContest\",\"OrderedContestSelectionIds\":[]}]")))
-    ≡ bare (content_of null (tree_of (codes "[{\"@type\":\"ElectionResults.OrderedHeader\"},{\"@type\":\"ElectionResults.OrderedContest\"}]"))))
+empty_lists : (bare (content_of None null (tree_of (codes "[{\"@type\":\"ElectionResults.OrderedHeader\",\"OrderedContent\":[]},{\"@type\":\"ElectionResults.OrderedContest\",\"OrderedContestSelectionIds\":[]}]")))
+    ≡ bare (content_of None null (tree_of (codes "[{\"@type\":\"ElectionResults.OrderedHeader\"},{\"@type\":\"ElectionResults.OrderedContest\"}]"))))
     × (carried_members (Some class.OrderedContest) (tree_of (codes "{\"ContestId\":\"a8\",\"Note\":null}")) (codes "Note") ≡ Some null)
     × (carried_members (Some class.OrderedContest) (tree_of (codes "{\"ContestId\":\"a8\",\"Note\":null}")) (codes "ContestId") ≡ None)
 unfolding serde_json_on_literals
@@ -76,8 +76,8 @@ is_untranslated (untranslated text) = true
 is_untranslated label = false
 
 -- a header inside another is not the same order of a ballot as its entries beside it; a label of one language is not the text in it
-other_contents : (begins_with_header (content_of null (tree_of (codes "[{\"@type\":\"ElectionResults.OrderedHeader\",\"OrderedContent\":[{\"@type\":\"ElectionResults.OrderedHeader\"}]}]"))) ≡ true)
-    × (begins_with_header (content_of null (tree_of (codes "[{\"@type\":\"ElectionResults.OrderedHeader\",\"OrderedContent\":[{\"@type\":\"ElectionResults.OrderedContest\"}]}]"))) ≡ false)
+other_contents : (begins_with_header (content_of None null (tree_of (codes "[{\"@type\":\"ElectionResults.OrderedHeader\",\"OrderedContent\":[{\"@type\":\"ElectionResults.OrderedHeader\"}]}]"))) ≡ true)
+    × (begins_with_header (content_of None null (tree_of (codes "[{\"@type\":\"ElectionResults.OrderedHeader\",\"OrderedContent\":[{\"@type\":\"ElectionResults.OrderedContest\"}]}]"))) ≡ false)
     × (is_untranslated (label_of (tree_of (codes "\"Yes\""))) ≡ true)
     × (is_untranslated (label_of (tree_of (codes "{\"@type\":\"ElectionResults.InternationalizedText\",\"Text\":[{\"@type\":\"ElectionResults.LanguageString\",\"Content\":\"Yes\",\"Language\":\"en\"}]}"))) ≡ false)
 unfolding serde_json_on_literals
@@ -87,7 +87,7 @@ other_contents = (refl, refl, refl, refl)
 
 -- what these members of the object of a family with this key mean
 abbrev pub members_of : Data → Family → List ℕ → List (List ℕ) → List (Option MemberValue)
-members_of t f key names = map (λ name. option_and_then (λ r. r.members name) (records_of t f (local_key key))) names
+members_of t f key names = map (λ name. option_and_then (λ r. r.members name) (records_of None t f (local_key key))) names
 
 abbrev names_of_candidate : List (List ℕ)
 names_of_candidate = codes "BallotName" ∷ codes "PersonId" ∷ codes "PartyId" ∷ codes "IsIncumbent" ∷ codes "@id" ∷ codes "@type" ∷ []
@@ -105,7 +105,7 @@ same_records : (let t = tree_of small_ballot in let u = tree_of small_ballot_can
 unfolding serde_json_on_literals
 same_records = (refl, refl)
 
-classes_of_records : (let t = tree_of small_ballot in map (λ k. option_map (λ r. r.class) (records_of t family.Contest (local_key k))) (codes "C1" ∷ codes "C2" ∷ codes "S1" ∷ []))
+classes_of_records : (let t = tree_of small_ballot in map (λ k. option_map (λ r. r.class) (records_of None t family.Contest (local_key k))) (codes "C1" ∷ codes "C2" ∷ codes "S1" ∷ []))
     ≡ Some class.CandidateContest ∷ Some class.BallotMeasureContest ∷ None ∷ []
 unfolding serde_json_on_literals
 classes_of_records = refl
@@ -120,8 +120,8 @@ or_in_any_order false false = refl
 
 -- the candidates of a selection are the same set in either order
 same_set_of_keys : (let t = tree_of small_ballot in let u = tree_of small_ballot_canonical in
-    plain_value t (kind.Many family.Candidate) (value_at t (Name (codes "Election") ∷ At 0 ∷ Name (codes "Contest") ∷ At 0 ∷ Name (codes "ContestSelection") ∷ At 0 ∷ Name (codes "CandidateIds") ∷ []))
-    ≡ plain_value u (kind.Many family.Candidate) (value_at u (Name (codes "Election") ∷ At 0 ∷ Name (codes "Contest") ∷ At 0 ∷ Name (codes "ContestSelection") ∷ At 1 ∷ Name (codes "CandidateIds") ∷ [])))
+    plain_value None t (kind.Many family.Candidate) (value_at t (Name (codes "Election") ∷ At 0 ∷ Name (codes "Contest") ∷ At 0 ∷ Name (codes "ContestSelection") ∷ At 0 ∷ Name (codes "CandidateIds") ∷ []))
+    ≡ plain_value None u (kind.Many family.Candidate) (value_at u (Name (codes "Election") ∷ At 0 ∷ Name (codes "Contest") ∷ At 0 ∷ Name (codes "ContestSelection") ∷ At 1 ∷ Name (codes "CandidateIds") ∷ [])))
 unfolding serde_json_on_literals
 same_set_of_keys = ap (λ s. Some (a_key_set s)) (fun_ext (λ k. or_in_any_order (is_eq (key_cmp (local_key (codes "K2")) k)) (is_eq (key_cmp (local_key (codes "K1")) k))))
 
@@ -137,38 +137,38 @@ same_translations = (refl, refl, refl)
 -- ---- whole records
 
 abbrev object_of : Data → Family → List ℕ → Data
-object_of t f key = unwrap_or (object_with_key t f (local_key key)) null
+object_of t f key = unwrap_or (object_with_key None t f (local_key key)) null
 
 -- the candidate means the same in both, at every name
 same_candidate : (let t = tree_of small_ballot in let u = tree_of small_ballot_canonical in
-    records_of t family.Candidate (local_key (codes "K1")) ≡ records_of u family.Candidate (local_key (codes "K1")))
+    records_of None t family.Candidate (local_key (codes "K1")) ≡ records_of None u family.Candidate (local_key (codes "K1")))
 unfolding serde_json_on_literals
 same_candidate =
     let t = tree_of small_ballot in let u = tree_of small_ballot_canonical in
     let d = object_of t family.Candidate (codes "K1") in let e = object_of u family.Candidate (codes "K1") in
     ap (record_of_members class.Candidate)
-    (same_at_every_name (member_of_class t d class.Candidate) (member_of_class u e class.Candidate) d e (names_in d)
-    (absent_member t d class.Candidate) (absent_member u e class.Candidate) (λ name h. h) (λ name h. h) refl)
+    (same_at_every_name (member_of_class None t d class.Candidate) (member_of_class None u e class.Candidate) d e (names_in d)
+    (absent_member None t d class.Candidate) (absent_member None u e class.Candidate) (λ name h. h) (λ name h. h) refl)
 
 abbrev selection_at : Data → ℕ → Data
 selection_at t i = value_at t (Name (codes "Election") ∷ At 0 ∷ Name (codes "Contest") ∷ At 0 ∷ Name (codes "ContestSelection") ∷ At i ∷ [])
 
 -- so does the selection of two candidates, which stand in another order
 same_selection : (let t = tree_of small_ballot in let u = tree_of small_ballot_canonical in
-    selection_record t (selection_at t 0) ≡ selection_record u (selection_at u 1))
+    selection_record None t (selection_at t 0) ≡ selection_record None u (selection_at u 1))
 unfolding serde_json_on_literals
 same_selection =
     let t = tree_of small_ballot in let u = tree_of small_ballot_canonical in
     let d = selection_at t 0 in let e = selection_at u 1 in
     ap (record_of_members class.CandidateSelection)
-    (same_at_every_name (plain_member t d class.CandidateSelection) (plain_member u e class.CandidateSelection) d e (names_in d)
-    (absent_plain t d class.CandidateSelection) (absent_plain u e class.CandidateSelection) (λ name h. h) (λ name h. h)
+    (same_at_every_name (plain_member None t d class.CandidateSelection) (plain_member None u e class.CandidateSelection) d e (names_in d)
+    (absent_plain None t d class.CandidateSelection) (absent_plain None u e class.CandidateSelection) (λ name h. h) (λ name h. h)
     (ap (λ v. None ∷ None ∷ v ∷ []) same_set_of_keys))
 
 -- ---- what is no part of the meaning
 
 abbrev report_members : Data → List (List ℕ) → List (Option MemberValue)
-report_members t names = map (λ name. option_and_then (λ r. r.members name) (meaning t).report) names
+report_members t names = map (λ name. option_and_then (λ r. r.members name) (meaning None t).report) names
 
 -- the envelope, the elections, the keyed arrays and empty outside members are not; `Status` and carried members are
 members_of_the_report : report_members (tree_of (with_report_member (codes "\"IsTest\":false,\"Issuer\":\"Vendor A\",\"OfficeGroup\":[],\"Note\":[]")))

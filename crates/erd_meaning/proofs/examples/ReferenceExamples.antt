@@ -24,7 +24,7 @@ abbrev key : List ℕ → List ℕ → List ℕ → Key
 key kind other value = record { kind = kind; other = other; value = value }
 
 -- an absent `OtherType` is as an empty one; it counts whatever `Type` is; the least triple is the key, part by part
-keys_of_identifiers : map (λ text. key_of (tree_of text)) (
+keys_of_identifiers : map (λ text. key_of None (tree_of text)) (
     (codes "{\"ExternalIdentifier\":[{\"Type\":\"other\",\"Value\":\"X\"}]}") ∷ (codes "{\"ExternalIdentifier\":[{\"Type\":\"other\",\"Value\":\"X\",\"OtherType\":\"\"}]}")
     ∷ (codes "{\"ExternalIdentifier\":[{\"Type\":\"other\",\"Value\":\"A\",\"OtherType\":\"b\"},{\"Type\":\"other\",\"Value\":\"Z\",\"OtherType\":\"a\"}]}")
     ∷ (codes "{\"ExternalIdentifier\":[{\"Type\":\"local-level\",\"Value\":\"U1\"},{\"Type\":\"fips\",\"Value\":\"20\"}]}")
@@ -36,7 +36,7 @@ unfolding serde_json_on_literals
 keys_of_identifiers = refl
 
 abbrev key_values : Family → Data → List (List ℕ)
-key_values f t = filter_map (λ o. option_map (λ k. k.value) (key_of o.value)) (objects f t)
+key_values f t = filter_map (λ o. option_map (λ k. k.value) (key_of None o.value)) (objects f t)
 
 abbrev keyed_families : List Family
 keyed_families = family.Unit ∷ family.Party ∷ family.Person ∷ family.Office ∷ family.Header ∷ family.Candidate ∷ family.Contest ∷ family.Style ∷ []
@@ -71,7 +71,7 @@ families_of_owners : (let t = tree_of small_ballot in map (λ id. map (λ f. is_
 unfolding serde_json_on_literals
 families_of_owners = refl
 
-keys_of_owners : (let t = tree_of small_ballot in map (λ id. option_map (λ k. k.value) (key_named t family.Contest id)) (codes "a12" ∷ codes "a8" ∷ codes "a9" ∷ [])) ≡ Some (codes "C2") ∷ Some (codes "C1") ∷ None ∷ []
+keys_of_owners : (let t = tree_of small_ballot in map (λ id. option_map (λ k. k.value) (key_named None t family.Contest id)) (codes "a12" ∷ codes "a8" ∷ codes "a9" ∷ [])) ≡ Some (codes "C2") ∷ Some (codes "C1") ∷ None ∷ []
 unfolding serde_json_on_literals
 keys_of_owners = refl
 

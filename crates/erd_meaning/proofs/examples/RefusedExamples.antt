@@ -1,5 +1,5 @@
 -- Whole reports that are refused, each with the list of all its faults: one for each phase, by computation.
-use Rattle.std.proofs.Common.{◌≡◌, ℕ, List, [], ◌∷◌, ◌++◌, codes, true, length, refl}
+use Rattle.std.proofs.Common.{◌≡◌, ℕ, List, [], ◌∷◌, ◌++◌, codes, true, length, refl, None}
 use Rattle.serde_json.specs.Data.{Data}
 use Rattle.serde_json.proofs.OnLiterals.{serde_json_on_literals}
 use Rattle.erd_tables.specs.Faults.{ListsAll}
@@ -19,8 +19,8 @@ use Rattle.erd_meaning.proofs.refused.RefusedLists.{refused_by_shape, refused_by
 
 -- ---- the shape: a report with many faults
 
-faulty_refused : ListsAll (IsFault (tree_of faulty)) faulty_faults
-faulty_refused = refused_by_shape (tree_of faulty) faulty_has_all
+faulty_refused : ListsAll (IsFault None (tree_of faulty)) faulty_faults
+faulty_refused = refused_by_shape None (tree_of faulty) faulty_has_all
 
 -- ---- identity: two candidates with one key
 
@@ -39,13 +39,13 @@ twin_candidates_shape : length (faults_found twin_candidates) ≡ 0
 unfolding serde_json_on_literals
 twin_candidates_shape = refl
 
-twin_candidates_found : identity_told twin_candidates ≡ twin_candidate ∷ []
+twin_candidates_found : identity_told None twin_candidates ≡ twin_candidate ∷ []
 unfolding serde_json_on_literals
 twin_candidates_found = refl
 
-twin_candidates_refused : ListsAll (IsFault twin_candidates) (twin_candidate ∷ [])
+twin_candidates_refused : ListsAll (IsFault None twin_candidates) (twin_candidate ∷ [])
 twin_candidates_refused =
-    refused_by_identity twin_candidates twin_candidate [] (no_fault_listed twin_candidates twin_candidates_tree twin_candidates_shape) twin_candidates_found
+    refused_by_identity None twin_candidates twin_candidate [] (no_fault_listed twin_candidates twin_candidates_tree twin_candidates_shape) twin_candidates_found
 
 -- ---- references: a contest on the ballot with a selection of another contest, one of its own, a header and nothing
 
@@ -72,7 +72,7 @@ strange_entries_shape : length (faults_found strange_entries) ≡ 0
 unfolding serde_json_on_literals
 strange_entries_shape = refl
 
-strange_entries_identity : length (identity_told strange_entries) ≡ 0
+strange_entries_identity : length (identity_told None strange_entries) ≡ 0
 unfolding serde_json_on_literals
 strange_entries_identity = refl
 
@@ -80,9 +80,9 @@ strange_entries_found : reference_faults strange_entries ≡ of_other_contest �
 unfolding serde_json_on_literals
 strange_entries_found = refl
 
-strange_entries_refused : ListsAll (IsFault strange_entries) (of_other_contest ∷ more_strange_entries)
+strange_entries_refused : ListsAll (IsFault None strange_entries) (of_other_contest ∷ more_strange_entries)
 strange_entries_refused =
-    refused_by_references strange_entries of_other_contest more_strange_entries (tree_sound strange_entries strange_entries_tree)
+    refused_by_references None strange_entries of_other_contest more_strange_entries (tree_sound strange_entries strange_entries_tree)
     (no_fault_listed strange_entries strange_entries_tree strange_entries_shape) strange_entries_identity strange_entries_found
 
 -- ---- selections: a contest with two lines for write-ins
@@ -102,7 +102,7 @@ two_write_ins_shape : length (faults_found two_write_ins) ≡ 0
 unfolding serde_json_on_literals
 two_write_ins_shape = refl
 
-two_write_ins_identity : length (identity_told two_write_ins) ≡ 0
+two_write_ins_identity : length (identity_told None two_write_ins) ≡ 0
 unfolding serde_json_on_literals
 two_write_ins_identity = refl
 
@@ -110,11 +110,11 @@ two_write_ins_references : length (reference_faults two_write_ins) ≡ 0
 unfolding serde_json_on_literals
 two_write_ins_references = refl
 
-two_write_ins_found : selections_told two_write_ins ≡ second_write_in ∷ []
+two_write_ins_found : selections_told None two_write_ins ≡ second_write_in ∷ []
 unfolding serde_json_on_literals
 two_write_ins_found = refl
 
-two_write_ins_refused : ListsAll (IsFault two_write_ins) (second_write_in ∷ [])
+two_write_ins_refused : ListsAll (IsFault None two_write_ins) (second_write_in ∷ [])
 two_write_ins_refused =
-    refused_by_selections two_write_ins second_write_in [] (tree_sound two_write_ins two_write_ins_tree) (no_fault_listed two_write_ins two_write_ins_tree two_write_ins_shape)
+    refused_by_selections None two_write_ins second_write_in [] (tree_sound two_write_ins two_write_ins_tree) (no_fault_listed two_write_ins two_write_ins_tree two_write_ins_shape)
     two_write_ins_identity two_write_ins_references two_write_ins_found

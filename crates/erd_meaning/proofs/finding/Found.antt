@@ -11,6 +11,7 @@ use Rattle.erd_tables.specs.declared.class.Family.{Family}
 use Rattle.erd_tables.specs.Classes.{family_number}
 use Rattle.erd_check.proofs.Order.{In, In-filter, In-map_from}
 use Rattle.erd_check.proofs.Reasons.{and_true, both_true}
+use Rattle.erd_meaning.specs.Keys.{Preference}
 use Rattle.erd_meaning.specs.Lookups.{FindsId, FindsKey, id_in, key_in}
 use Rattle.erd_meaning.specs.code.ObjectLookups.{is_keyed, keeps_id, is_of_family, those_of}
 use Rattle.erd_meaning.specs.code.ObjectWalk.{Kept, same_id, same_key}
@@ -54,60 +55,60 @@ standing {A} g os f i a e = at (slice_get (those_of f (map shown os)) i) refl e
 
 -- ---- by a key
 
-key_here : (v : Value) (os : List Object) (ns : List NameInContest) (f : Family) (key : Key) (n : ℕ) → IsResolved v os ns → Hit (λ o. is_keyed f key (shown o)) os n
-    → key_in f (view v) (rank f os n) ≡ Some key
-key_here v os ns f key n r h =
+key_here : (π : Preference) (v : Value) (os : List Object) (ns : List NameInContest) (f : Family) (key : Key) (n : ℕ) → IsResolved π v os ns → Hit (λ o. is_keyed f key (shown o)) os n
+    → key_in π f (view v) (rank f os n) ≡ Some key
+key_here π v os ns f key n r h =
     let both = and_true (is_of_family f (shown h.one)) (same_key (shown h.one).key (Some key)) h.passes in
     let same = same_key_from (shown h.one).key (Some key) both.1 in
-    sym (part_at (λ k. k.key) v os ns f (rank f os n) r) ∙ ap (option_and_then (λ (k : Kept). k.key)) (ranked f os n h.one h.at both.0) ∙ same.1 ∙ sym same.2
+    sym (part_at π (λ k. k.key) v os ns f (rank f os n) r) ∙ ap (option_and_then (λ (k : Kept). k.key)) (ranked f os n h.one h.at both.0) ∙ same.1 ∙ sym same.2
 
-pub key_found : (v : Value) (os : List Object) (ns : List NameInContest) (f : Family) (key : Key) (n i : ℕ) → IsResolved v os ns → position (λ o. is_keyed f key (shown o)) os ≡ Some n
-    → i ≡ rank f os n → FindsKey (view v) f key (Some i)
-key_found v os ns f key n i r e is j =
-    let here : key_in f (view v) i ≡ Some key = subst (λ m. key_in f (view v) m ≡ Some key) (sym is) (key_here v os ns f key n r (hit (λ o. is_keyed f key (shown o)) os n e)) in (
-      λ same. subst (λ m. key_in f (view v) m ≡ Some key) (same_Some i j same) here,
-      λ there. ap Some (one_key (view v) f key i j r.identified here there),
+pub key_found : (π : Preference) (v : Value) (os : List Object) (ns : List NameInContest) (f : Family) (key : Key) (n i : ℕ) → IsResolved π v os ns → position (λ o. is_keyed f key (shown o)) os ≡ Some n
+    → i ≡ rank f os n → FindsKey π (view v) f key (Some i)
+key_found π v os ns f key n i r e is j =
+    let here : key_in π f (view v) i ≡ Some key = subst (λ m. key_in π f (view v) m ≡ Some key) (sym is) (key_here π v os ns f key n r (hit (λ o. is_keyed f key (shown o)) os n e)) in (
+      λ same. subst (λ m. key_in π f (view v) m ≡ Some key) (same_Some i j same) here,
+      λ there. ap Some (one_key π (view v) f key i j r.identified here there),
     )
 
-pub key_missed : (v : Value) (os : List Object) (ns : List NameInContest) (f : Family) (key : Key) → IsResolved v os ns → position (λ o. is_keyed f key (shown o)) os ≡ None
-    → FindsKey (view v) f key None
-key_missed v os ns f key r e j = (λ same. cc, λ there. absurd (nowhere there))
+pub key_missed : (π : Preference) (v : Value) (os : List Object) (ns : List NameInContest) (f : Family) (key : Key) → IsResolved π v os ns → position (λ o. is_keyed f key (shown o)) os ≡ None
+    → FindsKey π (view v) f key None
+key_missed π v os ns f key r e j = (λ same. cc, λ there. absurd (nowhere there))
   where
-    nowhere : key_in f (view v) j ≡ Some key → ⊥
+    nowhere : key_in π f (view v) j ≡ Some key → ⊥
     nowhere there =
-        let s = standing (λ (k : Kept). k.key) os f j key (part_at (λ k. k.key) v os ns f j r ∙ there) in
+        let s = standing (λ (k : Kept). k.key) os f j key (part_at π (λ k. k.key) v os ns f j r ∙ there) in
         let same : same_key (shown s.one).key (Some key) ≡ true = ap (λ k. same_key k (Some key)) s.has ∙ ap is_eq (tied_itself key_cmp_total key) in
         missed (λ o. is_keyed f key (shown o)) os s.one e s.there (both_true (is_of_family f (shown s.one)) (same_key (shown s.one).key (Some key)) s.family same)
 
 -- ---- by an `@id`
 
-id_here : (v : Value) (os : List Object) (ns : List NameInContest) (id : List ℕ) (n : ℕ) → IsResolved v os ns → (h : Hit (λ o. keeps_id id (shown o)) os n)
+id_here : (π : Preference) (v : Value) (os : List Object) (ns : List NameInContest) (id : List ℕ) (n : ℕ) → IsResolved π v os ns → (h : Hit (λ o. keeps_id id (shown o)) os n)
     → id_in h.one.family (view v) (rank h.one.family os n) ≡ Some id
-id_here v os ns id n r h =
+id_here π v os ns id n r h =
     let f = h.one.family in
     let same = same_id_from (shown h.one).id (Some id) h.passes in
-    sym (part_at (λ k. k.id) v os ns f (rank f os n) r) ∙ ap (option_and_then (λ (k : Kept). k.id)) (ranked f os n h.one h.at (itself (family_number f))) ∙ same.1 ∙ sym same.2
+    sym (part_at π (λ k. k.id) v os ns f (rank f os n) r) ∙ ap (option_and_then (λ (k : Kept). k.id)) (ranked f os n h.one h.at (itself (family_number f))) ∙ same.1 ∙ sym same.2
 
-pub id_found : (v : Value) (os : List Object) (ns : List NameInContest) (id : List ℕ) (n i : ℕ) (o : Object) → IsResolved v os ns → position (λ o. keeps_id id (shown o)) os ≡ Some n
+pub id_found : (π : Preference) (v : Value) (os : List Object) (ns : List NameInContest) (id : List ℕ) (n i : ℕ) (o : Object) → IsResolved π v os ns → position (λ o. keeps_id id (shown o)) os ≡ Some n
     → o ≡ get_or os n o → i ≡ rank o.family os n → FindsId (view v) id (Some (o.family, i))
-id_found v os ns id n i o r e at is g j =
+id_found π v os ns id n i o r e at is g j =
     let h = hit (λ o. keeps_id id (shown o)) os n e in
     let one : h.one ≡ o = sym (get_or_from_slice_get os n h.one o h.at) ∙ sym at in
-    let ranked_here : id_in o.family (view v) (rank o.family os n) ≡ Some id = subst (λ (p : Object). id_in p.family (view v) (rank p.family os n) ≡ Some id) one (id_here v os ns id n r h) in
+    let ranked_here : id_in o.family (view v) (rank o.family os n) ≡ Some id = subst (λ (p : Object). id_in p.family (view v) (rank p.family os n) ≡ Some id) one (id_here π v os ns id n r h) in
     let here : id_in o.family (view v) i ≡ Some id = subst (λ m. id_in o.family (view v) m ≡ Some id) (sym is) ranked_here in (
       λ same.
           let parts = some_pair_parts o.family g i j same in
           subst (λ m. id_in g (view v) m ≡ Some id) parts.1 (subst (λ f. id_in f (view v) i ≡ Some id) parts.0 here),
       λ there.
-          let parts = one_id (view v) id o.family g i j r.identified here there in
+          let parts = one_id π (view v) id o.family g i j r.identified here there in
           ap₂ (λ f m. Some (f, m)) parts.0 parts.1,
     )
 
-pub id_missed : (v : Value) (os : List Object) (ns : List NameInContest) (id : List ℕ) → IsResolved v os ns → position (λ o. keeps_id id (shown o)) os ≡ None → FindsId (view v) id None
-id_missed v os ns id r e f j = (λ same. cc, λ there. absurd (nowhere there))
+pub id_missed : (π : Preference) (v : Value) (os : List Object) (ns : List NameInContest) (id : List ℕ) → IsResolved π v os ns → position (λ o. keeps_id id (shown o)) os ≡ None → FindsId (view v) id None
+id_missed π v os ns id r e f j = (λ same. cc, λ there. absurd (nowhere there))
   where
     nowhere : id_in f (view v) j ≡ Some id → ⊥
     nowhere there =
-        let s = standing (λ (k : Kept). k.id) os f j id (part_at (λ k. k.id) v os ns f j r ∙ there) in
+        let s = standing (λ (k : Kept). k.id) os f j id (part_at π (λ k. k.id) v os ns f j r ∙ there) in
         let same : same_id (shown s.one).id (Some id) ≡ true = ap (λ k. same_id k (Some id)) s.has ∙ (bytes_eq-Decides id id).1 refl in
         missed (λ o. keeps_id id (shown o)) os s.one e s.there same

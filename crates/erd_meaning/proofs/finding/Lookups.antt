@@ -6,6 +6,7 @@ use Rattle.serde_json.specs.View.{view}
 use Rattle.serde_json.specs.declared.value.Value.{Value}
 use Rattle.serde_json.specs.Data.{Data}
 use Rattle.erd_tables.specs.declared.class.Family.{Family}
+use Rattle.erd_meaning.specs.Keys.{Preference}
 use Rattle.erd_meaning.specs.code.ObjectLookups.{is_of_family, those_of}
 use Rattle.erd_meaning.specs.Objects.{Placed, objects}
 use Rattle.erd_meaning.specs.code.ObjectWalk.{Kept, Located, all_located, kept, kept_objects, located}
@@ -16,8 +17,8 @@ use Rattle.erd_meaning.specs.declared.objects.object.Object.{Object}
 use Rattle.erd_meaning.proofs.identity.ObjectFamilies.{is_of, objects_met, pick}
 
 -- the objects of a family, as they are kept
-abbrev pub kept_of : Family → List Placed → List Kept
-kept_of f os = map (λ o. kept f o.value) os
+abbrev pub kept_of : Preference → Family → List Placed → List Kept
+kept_of π f os = map (λ o. kept π f o.value) os
 
 those_located : (f : Family) (xs : List Located) → those_of f (map (λ x. x.object) xs) ≡ map (λ x. x.object) (pick f xs)
 those_located f [] = refl
@@ -27,40 +28,40 @@ those_located f (x ∷ xs) = at (is_of f x) (those_of f (map (λ x. x.object) xs
     at true ks ys e = ap (λ zs. x.object ∷ zs) e
     at false ks ys e = e
 
-objects_located : (f : Family) (os : List Placed) → map (λ x. x.object) (located f os) ≡ kept_of f os
-objects_located f [] = refl
-objects_located f (o ∷ os) = ap (λ ks. kept f o.value ∷ ks) (objects_located f os)
+objects_located : (π : Preference) (f : Family) (os : List Placed) → map (λ x. x.object) (located π f os) ≡ kept_of π f os
+objects_located π f [] = refl
+objects_located π f (o ∷ os) = ap (λ ks. kept π f o.value ∷ ks) (objects_located π f os)
 
-pub those_kept : (f : Family) (t : Data) → those_of f (kept_objects t) ≡ kept_of f (objects f t)
-those_kept f t = those_located f (all_located t) ∙ ap (map (λ (x : Located). x.object)) (objects_met f t) ∙ objects_located f (objects f t)
+pub those_kept : (π : Preference) (f : Family) (t : Data) → those_of f (kept_objects π t) ≡ kept_of π f (objects f t)
+those_kept π f t = those_located f (all_located π t) ∙ ap (map (λ (x : Located). x.object)) (objects_met π f t) ∙ objects_located π f (objects f t)
 
-pub those_shown : (v : Value) (os : List Object) (ns : List NameInContest) (f : Family) → IsResolved v os ns → those_of f (map shown os) ≡ kept_of f (objects f (view v))
-those_shown v os ns f r = ap (those_of f) r.kept ∙ those_kept f (view v)
+pub those_shown : (π : Preference) (v : Value) (os : List Object) (ns : List NameInContest) (f : Family) → IsResolved π v os ns → those_of f (map shown os) ≡ kept_of π f (objects f (view v))
+those_shown π v os ns f r = ap (those_of f) r.kept ∙ those_kept π f (view v)
 
-pub counted : (v : Value) (os : List Object) (ns : List NameInContest) (f : Family) → IsResolved v os ns → length (those_of f (map shown os)) ≡ length (objects f (view v))
-counted v os ns f r = ap length (those_shown v os ns f r) ∙ length-map (objects f (view v)) (λ (o : Placed). kept f o.value)
+pub counted : (π : Preference) (v : Value) (os : List Object) (ns : List NameInContest) (f : Family) → IsResolved π v os ns → length (those_of f (map shown os)) ≡ length (objects f (view v))
+counted π v os ns f r = ap length (those_shown π v os ns f r) ∙ length-map (objects f (view v)) (λ (o : Placed). kept π f o.value)
 
 -- ---- at a position
 
-kept_get : {A : Type 0} (g : Kept → Option A) (f : Family) (os : List Placed) (i : ℕ)
-    → option_and_then g (slice_get (kept_of f os) i) ≡ option_and_then (λ o. g (kept f o.value)) (slice_get os i)
-kept_get g f [] i = refl
-kept_get g f (o ∷ os) zero = refl
-kept_get g f (o ∷ os) (suc i) = kept_get g f os i
+kept_get : (π : Preference) {A : Type 0} (g : Kept → Option A) (f : Family) (os : List Placed) (i : ℕ)
+    → option_and_then g (slice_get (kept_of π f os) i) ≡ option_and_then (λ o. g (kept π f o.value)) (slice_get os i)
+kept_get π g f [] i = refl
+kept_get π g f (o ∷ os) zero = refl
+kept_get π g f (o ∷ os) (suc i) = kept_get π g f os i
 
-value_get : (f : Family) (os : List Placed) (i : ℕ) → option_map (λ k. k.value) (slice_get (kept_of f os) i) ≡ option_map (λ o. o.value) (slice_get os i)
-value_get f [] i = refl
-value_get f (o ∷ os) zero = refl
-value_get f (o ∷ os) (suc i) = value_get f os i
+value_get : (π : Preference) (f : Family) (os : List Placed) (i : ℕ) → option_map (λ k. k.value) (slice_get (kept_of π f os) i) ≡ option_map (λ o. o.value) (slice_get os i)
+value_get π f [] i = refl
+value_get π f (o ∷ os) zero = refl
+value_get π f (o ∷ os) (suc i) = value_get π f os i
 
 -- what is known of the object that is kept at a position
-pub part_at : {A : Type 0} (g : Kept → Option A) (v : Value) (os : List Object) (ns : List NameInContest) (f : Family) (i : ℕ) → IsResolved v os ns
-    → option_and_then g (slice_get (those_of f (map shown os)) i) ≡ option_and_then (λ o. g (kept f o.value)) (slice_get (objects f (view v)) i)
-part_at g v os ns f i r = ap (λ (ks : List Kept). option_and_then g (slice_get ks i)) (those_shown v os ns f r) ∙ kept_get g f (objects f (view v)) i
+pub part_at : (π : Preference) {A : Type 0} (g : Kept → Option A) (v : Value) (os : List Object) (ns : List NameInContest) (f : Family) (i : ℕ) → IsResolved π v os ns
+    → option_and_then g (slice_get (those_of f (map shown os)) i) ≡ option_and_then (λ o. g (kept π f o.value)) (slice_get (objects f (view v)) i)
+part_at π g v os ns f i r = ap (λ (ks : List Kept). option_and_then g (slice_get ks i)) (those_shown π v os ns f r) ∙ kept_get π g f (objects f (view v)) i
 
-pub value_at : (v : Value) (os : List Object) (ns : List NameInContest) (f : Family) (i : ℕ) → IsResolved v os ns
+pub value_at : (π : Preference) (v : Value) (os : List Object) (ns : List NameInContest) (f : Family) (i : ℕ) → IsResolved π v os ns
     → option_map (λ k. k.value) (slice_get (those_of f (map shown os)) i) ≡ option_map (λ o. o.value) (slice_get (objects f (view v)) i)
-value_at v os ns f i r = ap (λ (ks : List Kept). option_map (λ k. k.value) (slice_get ks i)) (those_shown v os ns f r) ∙ value_get f (objects f (view v)) i
+value_at π v os ns f i r = ap (λ (ks : List Kept). option_map (λ k. k.value) (slice_get ks i)) (those_shown π v os ns f r) ∙ value_get π f (objects f (view v)) i
 
 -- ---- the rank of an object in its family
 

@@ -14,7 +14,7 @@ use Rattle.erd_meaning.specs.LaterFaults.{IdentityFault}
 use Rattle.erd_meaning.specs.Lookups.{id_in, key_in}
 use Rattle.erd_meaning.specs.Objects.{Placed, id_of, objects}
 use Rattle.erd_meaning.specs.code.ObjectWalk.{Located, all_located, located, located_one}
-use Rattle.erd_meaning.specs.Keys.{key_of_family_object}
+use Rattle.erd_meaning.specs.Keys.{Preference, key_of_family_object}
 use Rattle.erd_meaning.specs.declared.keys.key.Key.{Key}
 use Rattle.erd_meaning.proofs.identity.IdentityFaults.{is_met, kept_keyed}
 use Rattle.erd_meaning.proofs.identity.ObjectFamilies.{is_of, objects_met}
@@ -66,27 +66,27 @@ with_part {A} g f t i a e = from (slice_get (objects f t) i) refl e
 pub object_in : (f : Family) (t : Data) (i : ℕ) (o : ObjectIn f t i) → In o.one (objects f t)
 object_in f t i o = in_at (objects f t) i o.one o.at
 
-pub family_apart : (f : Family) (t : Data) → AreApart (located f (objects f t))
-family_apart f t = subst AreApart (objects_met f t) (sorted_filter (is_of f) apart (all_located t) (all_parted t))
+pub family_apart : (π : Preference) (f : Family) (t : Data) → AreApart (located π f (objects f t))
+family_apart π f t = subst AreApart (objects_met π f t) (sorted_filter (is_of f) apart (all_located π t) (all_parted π t))
 
-located_at : (f : Family) (t : Data) (i : ℕ) (o : ObjectIn f t i) → slice_get (located f (objects f t)) i ≡ Some (located_one f o.one)
-located_at f t i o = slice_get-map (located_one f) (objects f t) i ∙ ap (option_map (located_one f)) o.at
+located_at : (π : Preference) (f : Family) (t : Data) (i : ℕ) (o : ObjectIn f t i) → slice_get (located π f (objects f t)) i ≡ Some (located_one π f o.one)
+located_at π f t i o = slice_get-map (located_one π f) (objects f t) i ∙ ap (option_map (located_one π f)) o.at
 
-before_in : (f : Family) (t : Data) (i j : ℕ) (a : ObjectIn f t i) (b : ObjectIn f t j) → i < j → place_cmp a.one.place b.one.place ≡ Less
-before_in f t i j a b l =
-    before_apart (located_one f a.one) (located_one f b.one)
-    (sorted_at apart (located f (objects f t)) i j (located_one f a.one) (located_one f b.one) (family_apart f t) l (located_at f t i a) (located_at f t j b))
+before_in : (π : Preference) (f : Family) (t : Data) (i j : ℕ) (a : ObjectIn f t i) (b : ObjectIn f t j) → i < j → place_cmp a.one.place b.one.place ≡ Less
+before_in π f t i j a b l =
+    before_apart (located_one π f a.one) (located_one π f b.one)
+    (sorted_at apart (located π f (objects f t)) i j (located_one π f a.one) (located_one π f b.one) (family_apart π f t) l (located_at π f t i a) (located_at π f t j b))
 
 pub which_first : (i j : ℕ) → (i ≡ j) ⊎ ((i < j) ⊎ (j < i))
 which_first i j = grind arith
 
 -- ---- one key
 
-two_keys : (t : Data) (f : Family) (key : Key) (i j : ℕ) (a : ObjectIn f t i) (b : ObjectIn f t j) → NoneOf (IdentityFault t) → i < j
-    → key_of_family_object f a.one.value ≡ Some key → key_of_family_object f b.one.value ≡ Some key → ⊥
-two_keys t f key i j a b none l e g =
-    let mine = kept_keyed f a.one.value key e in
-    let its = kept_keyed f b.one.value key g in
+two_keys : (π : Preference) (t : Data) (f : Family) (key : Key) (i j : ℕ) (a : ObjectIn f t i) (b : ObjectIn f t j) → NoneOf (IdentityFault π t) → i < j
+    → key_of_family_object π f a.one.value ≡ Some key → key_of_family_object π f b.one.value ≡ Some key → ⊥
+two_keys π t f key i j a b none l e g =
+    let mine = kept_keyed π f a.one.value key e in
+    let its = kept_keyed π f b.one.value key g in
     none b.one.place TwinIdentifier (record {
       family = f;
       keyed = mine.0;
@@ -95,27 +95,27 @@ two_keys t f key i j a b none l e g =
       place = refl;
       earlier = a.one;
       earlier_stands = contains_from_In a.one (objects f t) (object_in f t i a);
-      before = before_in f t i j a b l;
+      before = before_in π f t i j a b l;
       key = key;
       later_key = its.1;
       earlier_key = mine.1;
     })
 
-pub one_key : (t : Data) (f : Family) (key : Key) (i j : ℕ) → NoneOf (IdentityFault t) → key_in f t i ≡ Some key → key_in f t j ≡ Some key → i ≡ j
-one_key t f key i j none e g =
-    let a = with_part (λ o. key_of_family_object f o.value) f t i key e in
-    let b = with_part (λ o. key_of_family_object f o.value) f t j key g in
+pub one_key : (π : Preference) (t : Data) (f : Family) (key : Key) (i j : ℕ) → NoneOf (IdentityFault π t) → key_in π f t i ≡ Some key → key_in π f t j ≡ Some key → i ≡ j
+one_key π t f key i j none e g =
+    let a = with_part (λ o. key_of_family_object π f o.value) f t i key e in
+    let b = with_part (λ o. key_of_family_object π f o.value) f t j key g in
     elim (which_first i j) [
       | inl same ↦ same
-      | inr (inl l) ↦ absurd (two_keys t f key i j a.0 b.0 none l a.1 b.1)
-      | inr (inr l) ↦ absurd (two_keys t f key j i b.0 a.0 none l b.1 a.1)
+      | inr (inl l) ↦ absurd (two_keys π t f key i j a.0 b.0 none l a.1 b.1)
+      | inr (inr l) ↦ absurd (two_keys π t f key j i b.0 a.0 none l b.1 a.1)
     ]
 
 -- ---- one `@id`
 
-two_ids : (t : Data) (id : List ℕ) (f g : Family) (i j : ℕ) (a : ObjectIn f t i) (b : ObjectIn g t j) → NoneOf (IdentityFault t)
-    → apart (located_one f a.one) (located_one g b.one) ≡ Less → id_of a.one.value ≡ Some id → id_of b.one.value ≡ Some id → ⊥
-two_ids t id f g i j a b none l d e =
+two_ids : (π : Preference) (t : Data) (id : List ℕ) (f g : Family) (i j : ℕ) (a : ObjectIn f t i) (b : ObjectIn g t j) → NoneOf (IdentityFault π t)
+    → apart (located_one π f a.one) (located_one π g b.one) ≡ Less → id_of a.one.value ≡ Some id → id_of b.one.value ≡ Some id → ⊥
+two_ids π t id f g i j a b none l d e =
     none (id_place b.one.place) DuplicateId (record {
       family = g;
       later = b.one;
@@ -124,36 +124,36 @@ two_ids t id f g i j a b none l d e =
       earlier_family = f;
       earlier = a.one;
       earlier_stands = contains_from_In a.one (objects f t) (object_in f t i a);
-      before = before_apart (located_one f a.one) (located_one g b.one) l;
+      before = before_apart (located_one π f a.one) (located_one π g b.one) l;
       id = id;
       later_id = e;
       earlier_id = d;
     })
 
-same_position : (t : Data) (f : Family) (i j : ℕ) (a : ObjectIn f t i) (b : ObjectIn f t j) → a.one.place ≡ b.one.place → i ≡ j
-same_position t f i j a b e = elim (which_first i j) [
+same_position : (π : Preference) (t : Data) (f : Family) (i j : ℕ) (a : ObjectIn f t i) (b : ObjectIn f t j) → a.one.place ≡ b.one.place → i ≡ j
+same_position π t f i j a b e = elim (which_first i j) [
   | inl same ↦ same
-  | inr (inl l) ↦ absurd (less_itself b.one.place (subst (λ p. place_cmp p b.one.place ≡ Less) e (before_in f t i j a b l)))
-  | inr (inr l) ↦ absurd (less_itself b.one.place (subst (λ p. place_cmp b.one.place p ≡ Less) e (before_in f t j i b a l)))
+  | inr (inl l) ↦ absurd (less_itself b.one.place (subst (λ p. place_cmp p b.one.place ≡ Less) e (before_in π f t i j a b l)))
+  | inr (inr l) ↦ absurd (less_itself b.one.place (subst (λ p. place_cmp b.one.place p ≡ Less) e (before_in π f t j i b a l)))
 ]
 
-one_object : (t : Data) (f g : Family) (i j : ℕ) (a : ObjectIn f t i) (b : ObjectIn g t j) → located_one f a.one ≡ located_one g b.one → (f ≡ g) × (i ≡ j)
-one_object t f g i j a b e =
+one_object : (π : Preference) (t : Data) (f g : Family) (i j : ℕ) (a : ObjectIn f t i) (b : ObjectIn g t j) → located_one π f a.one ≡ located_one π g b.one → (f ≡ g) × (i ≡ j)
+one_object π t f g i j a b e =
     let family : f ≡ g = ap (λ (x : Located). x.object.family) e in
     let place : a.one.place ≡ b.one.place = ap (λ (x : Located). x.place) e in
     let there : slice_get (objects f t) j ≡ Some b.one = subst (λ h. slice_get (objects h t) j ≡ Some b.one) (sym family) b.at in
-    (family, same_position t f i j a (record { one = b.one; at = there }) place)
+    (family, same_position π t f i j a (record { one = b.one; at = there }) place)
 
-pub one_id : (t : Data) (id : List ℕ) (f g : Family) (i j : ℕ) → NoneOf (IdentityFault t) → id_in f t i ≡ Some id → id_in g t j ≡ Some id → (f ≡ g) × (i ≡ j)
-one_id t id f g i j none d e =
+pub one_id : (π : Preference) (t : Data) (id : List ℕ) (f g : Family) (i j : ℕ) → NoneOf (IdentityFault π t) → id_in f t i ≡ Some id → id_in g t j ≡ Some id → (f ≡ g) × (i ≡ j)
+one_id π t id f g i j none d e =
     let a = with_part (λ o. id_of o.value) f t i id d in
     let b = with_part (λ o. id_of o.value) g t j id e in
-    let x = located_one f a.0.one in
-    let y = located_one g b.0.one in
-    elim (either_way apart (all_located t) x y (all_parted t) (is_met t f a.0.one (object_in f t i a.0)) (is_met t g b.0.one (object_in g t j b.0))) [
-      | inl same ↦ one_object t f g i j a.0 b.0 same
-      | inr (inl l) ↦ absurd (two_ids t id f g i j a.0 b.0 none l a.1 b.1)
-      | inr (inr l) ↦ absurd (two_ids t id g f j i b.0 a.0 none l b.1 a.1)
+    let x = located_one π f a.0.one in
+    let y = located_one π g b.0.one in
+    elim (either_way apart (all_located π t) x y (all_parted π t) (is_met π t f a.0.one (object_in f t i a.0)) (is_met π t g b.0.one (object_in g t j b.0))) [
+      | inl same ↦ (one_object π) t f g i j a.0 b.0 same
+      | inr (inl l) ↦ absurd (two_ids π t id f g i j a.0 b.0 none l a.1 b.1)
+      | inr (inr l) ↦ absurd (two_ids π t id g f j i b.0 a.0 none l b.1 a.1)
     ]
 
 -- ---- the first that passes a test

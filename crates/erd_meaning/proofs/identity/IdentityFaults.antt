@@ -15,7 +15,7 @@ use Rattle.erd_tables.specs.declared.place.Step.{Step}
 use Rattle.erd_check.specs.code.Paths.{fault_at}
 use Rattle.erd_check.proofs.Order.{In, In-append, In-append_left, In-append_right, In-map, In-map_from, In-filter, In-filter_kept, In-from_contains, contains_from_In, any_at}
 use Rattle.erd_check.proofs.Reasons.{and_true, both_true}
-use Rattle.erd_meaning.specs.Keys.{has_keys, key_of, key_of_family_object}
+use Rattle.erd_meaning.specs.Keys.{Preference, has_keys, key_of, key_of_family_object}
 use Rattle.erd_meaning.specs.LaterFaults.{IdentityFault, LacksIdentifier, RepeatsId, RepeatsKey}
 use Rattle.erd_meaning.specs.code.ObjectWalk.{Kept, Located, all_located, fault_if, faults_after, has_same_id, has_same_key, kept, located_one, same_id, same_key}
 use Rattle.erd_meaning.specs.Objects.{Placed, id_of, objects}
@@ -28,22 +28,22 @@ use Rattle.erd_meaning.proofs.identity.ToldFaults.{Complete, Told, complete, dup
 -- ---- the objects of the walk
 
 -- an object that is met is one of a family
-record IsOfFamily (t : Data) (x : Located) : Type 0 where
+record IsOfFamily (π : Preference) (t : Data) (x : Located) : Type 0 where
   family : Family
   one : Placed
   there : In one (objects family t)
-  is : located_one family one ≡ x
+  is : located_one π family one ≡ x
 
-of_family : (t : Data) (x : Located) → In x (all_located t) → IsOfFamily t x
-of_family t x i =
+of_family : (π : Preference) (t : Data) (x : Located) → In x (all_located π t) → IsOfFamily π t x
+of_family π t x i =
     let f = x.object.family in
-    let kept = In-filter_kept (is_of f) x (all_located t) i (itself (family_number f)) in
-    let from = In-map_from (located_one f) (objects f t) x (subst (In x) (objects_met f t) kept) in
+    let kept = In-filter_kept (is_of f) x (all_located π t) i (itself (family_number f)) in
+    let from = In-map_from (located_one π f) (objects f t) x (subst (In x) (objects_met π f t) kept) in
     record { family = f; one = from.from; there = from.inside; is = from.is }
 
-pub is_met : (t : Data) (f : Family) (o : Placed) → In o (objects f t) → In (located_one f o) (all_located t)
-is_met t f o i =
-    (In-filter (is_of f) (located_one f o) (all_located t) (subst (In (located_one f o)) (sym (objects_met f t)) (In-map (located_one f) o (objects f t) i))).0
+pub is_met : (π : Preference) (t : Data) (f : Family) (o : Placed) → In o (objects f t) → In (located_one π f o) (all_located π t)
+is_met π t f o i =
+    (In-filter (is_of f) (located_one π f o) (all_located π t) (subst (In (located_one π f o)) (sym (objects_met π f t)) (In-map (located_one π f) o (objects f t) i))).0
 
 -- ---- tests of one or two objects
 
@@ -55,12 +55,12 @@ any_from {A} test (x ∷ xs) h = at (test x) refl h (any_from test xs)
     at true e g more = (x, inl refl, e)
     at false e g more = let found = more g in (found.0, inr found.1, found.2)
 
-keyed_at : (d : Data) (k : Key) (b : Bool) → cond b (key_of d) None ≡ Some k → (b ≡ true) × (key_of d ≡ Some k)
-keyed_at d k true e = (refl, e)
-keyed_at d k false e = cc
+keyed_at : (π : Preference) (d : Data) (k : Key) (b : Bool) → cond b (key_of π d) None ≡ Some k → (b ≡ true) × (key_of π d ≡ Some k)
+keyed_at π d k true e = (refl, e)
+keyed_at π d k false e = cc
 
-pub kept_keyed : (f : Family) (d : Data) (k : Key) → key_of_family_object f d ≡ Some k → (has_keys f ≡ true) × (key_of d ≡ Some k)
-kept_keyed f d k e = keyed_at d k (has_keys f) e
+pub kept_keyed : (π : Preference) (f : Family) (d : Data) (k : Key) → key_of_family_object π f d ≡ Some k → (has_keys f ≡ true) × (key_of π d ≡ Some k)
+kept_keyed π f d k e = keyed_at π d k (has_keys f) e
 
 none_from : {A : Type 0} (o : Option A) → is_none o ≡ true → o ≡ None
 none_from None e = refl
@@ -85,57 +85,57 @@ same_id_from (Some a) (Some b) e = (a, refl, ap Some (sym ((bytes_eq-Decides a b
 -- ---- each fault that is told is one
 
 -- a fault that is told, with its object
-record OfObject (t : Data) (f : Fault) : Type 0 where
+record OfObject (π : Preference) (t : Data) (f : Fault) : Type 0 where
   family : Family
   one : Placed
   there : In one (objects family t)
   before : List Kept
-  earlier : (k : Kept) → In k before → (y : Located) × In y (all_located t) × (y.object ≡ k) × (place_cmp y.place one.place ≡ Less)
-  fault : In f (faults_after before one.place (kept family one.value))
+  earlier : (k : Kept) → In k before → (y : Located) × In y (all_located π t) × (y.object ≡ k) × (place_cmp y.place one.place ≡ Less)
+  fault : In f (faults_after before one.place (kept π family one.value))
 
-met_before : (t : Data) (one : Located) (k : Kept) → In k [] ⊎ ((y : Located) × In y (all_located t) × (y.object ≡ k) × (place_cmp y.place one.place ≡ Less))
-    → (y : Located) × In y (all_located t) × (y.object ≡ k) × (place_cmp y.place one.place ≡ Less)
-met_before t one k (inl h) = absurd h
-met_before t one k (inr h) = h
+met_before : (π : Preference) (t : Data) (one : Located) (k : Kept) → In k [] ⊎ ((y : Located) × In y (all_located π t) × (y.object ≡ k) × (place_cmp y.place one.place ≡ Less))
+    → (y : Located) × In y (all_located π t) × (y.object ≡ k) × (place_cmp y.place one.place ≡ Less)
+met_before π t one k (inl h) = absurd h
+met_before π t one k (inr h) = h
 
-of_object : (t : Data) (f : Fault) → Told [] (all_located t) f → OfObject t f
-of_object t f told =
-    let o = of_family t told.one told.there in
+of_object : (π : Preference) (t : Data) (f : Fault) → Told [] (all_located π t) f → OfObject π t f
+of_object π t f told =
+    let o = of_family π t told.one told.there in
     let place : told.one.place ≡ o.one.place = sym (ap (λ (x : Located). x.place) o.is) in
     record {
       family = o.family;
       one = o.one;
       there = o.there;
       before = told.before;
-      earlier = λ k i. subst (λ p. (y : Located) × In y (all_located t) × (y.object ≡ k) × (place_cmp y.place p ≡ Less)) place (met_before t told.one k (told.origin k i));
+      earlier = λ k i. subst (λ p. (y : Located) × In y (all_located π t) × (y.object ≡ k) × (place_cmp y.place p ≡ Less)) place (met_before π t told.one k (told.origin k i));
       fault = subst (λ x. In f (faults_after told.before x.place x.object)) (sym o.is) told.fault;
     }
 
-lacking : (t : Data) (f : Family) (o : Placed) → In o (objects f t) → is_keyless (kept f o.value) ≡ true → LacksIdentifier t o.place
-lacking t f o i e =
-    let both = and_true (has_keys f) (is_none (key_of_family_object f o.value)) e in
+lacking : (π : Preference) (t : Data) (f : Family) (o : Placed) → In o (objects f t) → is_keyless (kept π f o.value) ≡ true → LacksIdentifier π t o.place
+lacking π t f o i e =
+    let both = and_true (has_keys f) (is_none (key_of_family_object π f o.value)) e in
     record {
       family = f;
       keyed = both.0;
       placed = o;
       stands = contains_from_In o (objects f t) i;
       place = refl;
-      keyless = none_from (key_of o.value) (subst (λ b. is_none (cond b (key_of o.value) None) ≡ true) both.0 both.1);
+      keyless = none_from (key_of π o.value) (subst (λ b. is_none (cond b (key_of π o.value) None) ≡ true) both.0 both.1);
     }
 
-repeated_key : (t : Data) (f : Fault) (o : OfObject t f) → has_twin o.before (kept o.family o.one.value) ≡ true → RepeatsKey t o.one.place
-repeated_key t f o e =
-    let me = kept o.family o.one.value in
+repeated_key : (π : Preference) (t : Data) (f : Fault) (o : OfObject π t f) → has_twin o.before (kept π o.family o.one.value) ≡ true → RepeatsKey π t o.one.place
+repeated_key π t f o e =
+    let me = kept π o.family o.one.value in
     let found = any_from (has_same_key me) o.before e in
     let met = o.earlier found.0 found.1 in
-    let other = of_family t met.0 met.1 in
-    let object : kept other.family other.one.value ≡ found.0 = ap (λ (x : Located). x.object) other.is ∙ met.2 in
-    let twins : has_same_key me (kept other.family other.one.value) ≡ true = ap (has_same_key me) object ∙ found.2 in
-    let both = and_true (family_number o.family == family_number other.family) (same_key me.key (key_of_family_object other.family other.one.value)) twins in
+    let other = of_family π t met.0 met.1 in
+    let object : kept π other.family other.one.value ≡ found.0 = ap (λ (x : Located). x.object) other.is ∙ met.2 in
+    let twins : has_same_key me (kept π other.family other.one.value) ≡ true = ap (has_same_key me) object ∙ found.2 in
+    let both = and_true (family_number o.family == family_number other.family) (same_key me.key (key_of_family_object π other.family other.one.value)) twins in
     let family : o.family ≡ other.family = family_exact o.family other.family both.0 in
-    let key = same_key_from me.key (key_of_family_object other.family other.one.value) both.1 in
-    let mine = kept_keyed o.family o.one.value key.0 key.1 in
-    let its = kept_keyed other.family other.one.value key.0 key.2 in
+    let key = same_key_from me.key (key_of_family_object π other.family other.one.value) both.1 in
+    let mine = kept_keyed π o.family o.one.value key.0 key.1 in
+    let its = kept_keyed π other.family other.one.value key.0 key.2 in
     record {
       family = o.family;
       keyed = mine.0;
@@ -150,13 +150,13 @@ repeated_key t f o e =
       earlier_key = its.1;
     }
 
-repeated_id : (t : Data) (f : Fault) (o : OfObject t f) → is_named_before o.before (kept o.family o.one.value) ≡ true → RepeatsId t (id_place o.one.place)
-repeated_id t f o e =
-    let me = kept o.family o.one.value in
+repeated_id : (π : Preference) (t : Data) (f : Fault) (o : OfObject π t f) → is_named_before o.before (kept π o.family o.one.value) ≡ true → RepeatsId t (id_place o.one.place)
+repeated_id π t f o e =
+    let me = kept π o.family o.one.value in
     let found = any_from (has_same_id me) o.before e in
     let met = o.earlier found.0 found.1 in
-    let other = of_family t met.0 met.1 in
-    let object : kept other.family other.one.value ≡ found.0 = ap (λ (x : Located). x.object) other.is ∙ met.2 in
+    let other = of_family π t met.0 met.1 in
+    let object : kept π other.family other.one.value ≡ found.0 = ap (λ (x : Located). x.object) other.is ∙ met.2 in
     let id = same_id_from (id_of o.one.value) (id_of other.one.value) (ap (has_same_id me) object ∙ found.2) in
     record {
       family = o.family;
@@ -172,90 +172,90 @@ repeated_id t f o e =
       earlier_id = id.2;
     }
 
-of_one : (t : Data) (f : Fault) → OfObject t f → IdentityFault t f.place f.reason
-of_one t f o =
+of_one : (π : Preference) (t : Data) (f : Fault) → OfObject π t f → IdentityFault π t f.place f.reason
+of_one π t f o =
     let p = o.one.place in
-    let me = kept o.family o.one.value in
+    let me = kept π o.family o.one.value in
     let a = is_keyless me in
     let b = has_twin o.before me in
     let c = is_named_before o.before me in
-    let fact = λ (g : Fault). IdentityFault t g.place g.reason in
+    let fact = λ (g : Fault). IdentityFault π t g.place g.reason in
     elim (In-append f (no_identifier a p) (twin_identifier b p ++ duplicate_id c p) o.fault) [
-      | inl i ↦ let e = in_if a (fault_at p NoIdentifier) f i in subst fact e.1 (lacking t o.family o.one o.there e.0)
+      | inl i ↦ let e = in_if a (fault_at p NoIdentifier) f i in subst fact e.1 (lacking π t o.family o.one o.there e.0)
       | inr i ↦ elim (In-append f (twin_identifier b p) (duplicate_id c p) i) [
-        | inl j ↦ let e = in_if b (fault_at p TwinIdentifier) f j in subst fact e.1 (repeated_key t f o e.0)
-        | inr j ↦ let e = in_if c (fault_at (id_place p) DuplicateId) f j in subst fact e.1 (repeated_id t f o e.0)
+        | inl j ↦ let e = in_if b (fault_at p TwinIdentifier) f j in subst fact e.1 (repeated_key π t f o e.0)
+        | inr j ↦ let e = in_if c (fault_at (id_place p) DuplicateId) f j in subst fact e.1 (repeated_id π t f o e.0)
       ]
     ]
 
 -- ---- each fault is told
 
-abbrev pub identity_told : Data → List Fault
-identity_told t = told [] (all_located t)
+abbrev pub identity_told : Preference → Data → List Fault
+identity_told π t = told [] (all_located π t)
 
-abbrev completed : (t : Data) (f : Family) (o : Placed) → In o (objects f t) → Complete [] (all_located t) (located_one f o)
-completed t f o i = complete [] (all_located t) (located_one f o) (all_parted t) (is_met t f o i)
+abbrev completed : (π : Preference) (t : Data) (f : Family) (o : Placed) → In o (objects f t) → Complete [] (all_located π t) (located_one π f o)
+completed π t f o i = complete [] (all_located π t) (located_one π f o) (all_parted π t) (is_met π t f o i)
 
 pub at_true : (b : Bool) (f : Fault) → b ≡ true → In f (fault_if b f)
 at_true true f e = inl refl
 at_true false f e = absurd (true≢false (sym e))
 
-lacking_told : (t : Data) (p : List Step) → LacksIdentifier t p → In (fault_at p NoIdentifier) (identity_told t)
-lacking_told t p h =
+lacking_told : (π : Preference) (t : Data) (p : List Step) → LacksIdentifier π t p → In (fault_at p NoIdentifier) (identity_told π t)
+lacking_told π t p h =
     let o = h.placed in
     let f = h.family in
-    let k = kept f o.value in
-    let c = completed t f o (In-from_contains o (objects f t) h.stands) in
-    let missing : key_of_family_object f o.value ≡ None = rw (h.keyed, h.keyless) in
-    let keyless : is_keyless k ≡ true = both_true (has_keys f) (is_none (key_of_family_object f o.value)) h.keyed (ap is_none missing) in
-    subst (λ q. In (fault_at q NoIdentifier) (identity_told t)) (sym h.place)
+    let k = kept π f o.value in
+    let c = completed π t f o (In-from_contains o (objects f t) h.stands) in
+    let missing : key_of_family_object π f o.value ≡ None = rw (h.keyed, h.keyless) in
+    let keyless : is_keyless k ≡ true = both_true (has_keys f) (is_none (key_of_family_object π f o.value)) h.keyed (ap is_none missing) in
+    subst (λ q. In (fault_at q NoIdentifier) (identity_told π t)) (sym h.place)
     (c.tells (fault_at o.place NoIdentifier)
     (In-append_left (fault_at o.place NoIdentifier) (no_identifier (is_keyless k) o.place)
     (twin_identifier (has_twin c.before k) o.place ++ duplicate_id (is_named_before c.before k) o.place) (at_true (is_keyless k) (fault_at o.place NoIdentifier) keyless)))
 
-key_told : (t : Data) (p : List Step) → RepeatsKey t p → In (fault_at p TwinIdentifier) (identity_told t)
-key_told t p h =
+key_told : (π : Preference) (t : Data) (p : List Step) → RepeatsKey π t p → In (fault_at p TwinIdentifier) (identity_told π t)
+key_told π t p h =
     let o = h.later in
     let f = h.family in
-    let k = kept f o.value in
+    let k = kept π f o.value in
     let fault = fault_at o.place TwinIdentifier in
-    let c = completed t f o (In-from_contains o (objects f t) h.later_stands) in
-    let other = is_met t f h.earlier (In-from_contains h.earlier (objects f t) h.earlier_stands) in
-    let mine : key_of_family_object f o.value ≡ Some h.key = rw (h.keyed, h.later_key) in
-    let its : key_of_family_object f h.earlier.value ≡ Some h.key = rw (h.keyed, h.earlier_key) in
-    let one : same_key (key_of_family_object f o.value) (key_of_family_object f h.earlier.value) ≡ true = rw (mine, its, tied_itself key_cmp_total h.key) in
-    let twins : has_same_key k (kept f h.earlier.value) ≡ true = both_true (family_number f == family_number f) _ (itself (family_number f)) one in
-    let twin = any_at (has_same_key k) (kept f h.earlier.value) c.before (c.covers (located_one f h.earlier) other h.before) twins in
-    subst (λ q. In (fault_at q TwinIdentifier) (identity_told t)) (sym h.place)
+    let c = completed π t f o (In-from_contains o (objects f t) h.later_stands) in
+    let other = is_met π t f h.earlier (In-from_contains h.earlier (objects f t) h.earlier_stands) in
+    let mine : key_of_family_object π f o.value ≡ Some h.key = rw (h.keyed, h.later_key) in
+    let its : key_of_family_object π f h.earlier.value ≡ Some h.key = rw (h.keyed, h.earlier_key) in
+    let one : same_key (key_of_family_object π f o.value) (key_of_family_object π f h.earlier.value) ≡ true = rw (mine, its, tied_itself key_cmp_total h.key) in
+    let twins : has_same_key k (kept π f h.earlier.value) ≡ true = both_true (family_number f == family_number f) _ (itself (family_number f)) one in
+    let twin = any_at (has_same_key k) (kept π f h.earlier.value) c.before (c.covers (located_one π f h.earlier) other h.before) twins in
+    subst (λ q. In (fault_at q TwinIdentifier) (identity_told π t)) (sym h.place)
     (c.tells fault
     (In-append_right fault (no_identifier (is_keyless k) o.place) (twin_identifier (has_twin c.before k) o.place ++ duplicate_id (is_named_before c.before k) o.place)
     (In-append_left fault (twin_identifier (has_twin c.before k) o.place) (duplicate_id (is_named_before c.before k) o.place) (at_true (has_twin c.before k) fault twin))))
 
-id_told : (t : Data) (p : List Step) → RepeatsId t p → In (fault_at p DuplicateId) (identity_told t)
-id_told t p h =
+id_told : (π : Preference) (t : Data) (p : List Step) → RepeatsId t p → In (fault_at p DuplicateId) (identity_told π t)
+id_told π t p h =
     let o = h.later in
-    let k = kept h.family o.value in
+    let k = kept π h.family o.value in
     let fault = fault_at (id_place o.place) DuplicateId in
-    let c = completed t h.family o (In-from_contains o (objects h.family t) h.later_stands) in
-    let other = is_met t h.earlier_family h.earlier (In-from_contains h.earlier (objects h.earlier_family t) h.earlier_stands) in
+    let c = completed π t h.family o (In-from_contains o (objects h.family t) h.later_stands) in
+    let other = is_met π t h.earlier_family h.earlier (In-from_contains h.earlier (objects h.earlier_family t) h.earlier_stands) in
     let one : same_id (id_of o.value) (id_of h.earlier.value) ≡ true = rw (h.later_id, h.earlier_id, (bytes_eq-Decides h.id h.id).1 refl) in
-    let named = any_at (has_same_id k) (kept h.earlier_family h.earlier.value) c.before (c.covers (located_one h.earlier_family h.earlier) other h.before) one in
-    subst (λ q. In (fault_at q DuplicateId) (identity_told t)) (sym h.place)
+    let named = any_at (has_same_id k) (kept π h.earlier_family h.earlier.value) c.before (c.covers (located_one π h.earlier_family h.earlier) other h.before) one in
+    subst (λ q. In (fault_at q DuplicateId) (identity_told π t)) (sym h.place)
     (c.tells fault
     (In-append_right fault (no_identifier (is_keyless k) o.place) (twin_identifier (has_twin c.before k) o.place ++ duplicate_id (is_named_before c.before k) o.place)
     (In-append_right fault (twin_identifier (has_twin c.before k) o.place) (duplicate_id (is_named_before c.before k) o.place) (at_true (is_named_before c.before k) fault named))))
 
-told_of_reason : (t : Data) (p : List Step) (r : Reason) → IdentityFault t p r → In (fault_at p r) (identity_told t)
-told_of_reason t p NoIdentifier h = lacking_told t p h
-told_of_reason t p TwinIdentifier h = key_told t p h
-told_of_reason t p DuplicateId h = id_told t p h
-told_of_reason t p r h = absurd h
+told_of_reason : (π : Preference) (t : Data) (p : List Step) (r : Reason) → IdentityFault π t p r → In (fault_at p r) (identity_told π t)
+told_of_reason π t p NoIdentifier h = lacking_told π t p h
+told_of_reason π t p TwinIdentifier h = key_told π t p h
+told_of_reason π t p DuplicateId h = id_told π t p h
+told_of_reason π t p r h = absurd h
 
-pub identity_listed : (t : Data) → ListsAll (IdentityFault t) (identity_told t)
-identity_listed t = record {
-  rising = told_rising [] (all_located t) (all_parted t);
+pub identity_listed : (π : Preference) (t : Data) → ListsAll (IdentityFault π t) (identity_told π t)
+identity_listed π t = record {
+  rising = told_rising [] (all_located π t) (all_parted π t);
   each = λ f. (
-    λ h. of_one t f (of_object t f (told_sound [] (all_located t) f (all_parted t) (In-from_contains f (identity_told t) h))),
-    λ h. contains_from_In f (identity_told t) (told_of_reason t f.place f.reason h),
+    λ h. of_one π t f (of_object π t f (told_sound [] (all_located π t) f (all_parted π t) (In-from_contains f (identity_told π t) h))),
+    λ h. contains_from_In f (identity_told π t) (told_of_reason π t f.place f.reason h),
   );
 }

@@ -7,6 +7,7 @@ use Rattle.serde_json.specs.declared.value.Value.{Value}
 use Rattle.erd_tables.specs.declared.place.Step.{Step}
 use Rattle.erd_tables.specs.declared.place.Step.TheVariants.{At}
 use Rattle.erd_tables.specs.declared.class.Family.TheVariants.{Contest, Selection}
+use Rattle.erd_meaning.specs.Keys.{Preference}
 use Rattle.erd_meaning.specs.Objects.{Placed, placed_from, selections_of_contest}
 use Rattle.erd_meaning.specs.code.ObjectWalk.{Located, ObjectsMet, located, located_one, contest_located, met_one, met_all}
 
@@ -29,6 +30,6 @@ met_inside f p vs i v m n whole inside is before more =
     ap (λ k. met_all k rest) more ∙ sym (met_all_append m (f (entry p i v)) rest) ∙ sym first ∙ before
 
 -- a contest, and then its selections
-pub contest_met : (o : Placed) (m k n : ObjectsMet) → k ≡ met_one m (located_one Contest o)
-    → n ≡ met_all k (located Selection (selections_of_contest o)) → n ≡ met_all m (contest_located o)
-contest_met o m k n first rest = rest ∙ ap (λ j. met_all j (located Selection (selections_of_contest o))) first
+pub contest_met : (π : Preference) (o : Placed) (m k n : ObjectsMet) → k ≡ met_one m (located_one π Contest o)
+    → n ≡ met_all k (located π Selection (selections_of_contest o)) → n ≡ met_all m (contest_located π o)
+contest_met π o m k n first rest = rest ∙ ap (λ j. met_all j (located π Selection (selections_of_contest o))) first

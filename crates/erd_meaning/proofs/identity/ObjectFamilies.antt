@@ -7,6 +7,7 @@ use Rattle.serde_json.specs.Data.{Data}
 use Rattle.erd_tables.specs.Classes.{families, family_number}
 use Rattle.erd_tables.specs.declared.class.Family.{Family}
 use Rattle.erd_tables.specs.declared.class.Family.TheVariants as family
+use Rattle.erd_meaning.specs.Keys.{Preference}
 use Rattle.erd_meaning.specs.code.ObjectWalk.{Located, located, located_one, contest_located, election_located, shared_located, all_located}
 use Rattle.erd_meaning.specs.Objects.{Placed, elections, objects, placed_entries, report_of, selections_of_contest}
 
@@ -21,20 +22,20 @@ itself n = (Decides-eqb n n).1 refl
 abbrev pub pick : Family → List Located → List Located
 pick f xs = filter (is_of f) xs
 
-picked : (f : Family) (os : List Placed) → pick f (located f os) ≡ located f os
-picked f [] = refl
-picked f (o ∷ os) = rw (itself (family_number f)) (ap (λ xs. located_one f o ∷ xs) (picked f os))
+picked : (π : Preference) (f : Family) (os : List Placed) → pick f (located π f os) ≡ located π f os
+picked π f [] = refl
+picked π f (o ∷ os) = rw (itself (family_number f)) (ap (λ xs. located_one π f o ∷ xs) (picked π f os))
 
-passed : (f g : Family) → (family_number g == family_number f) ≡ false → (os : List Placed) → pick f (located g os) ≡ []
-passed f g e [] = refl
-passed f g e (o ∷ os) = rw e (passed f g e os)
+passed : (π : Preference) (f g : Family) → (family_number g == family_number f) ≡ false → (os : List Placed) → pick f (located π g os) ≡ []
+passed π f g e [] = refl
+passed π f g e (o ∷ os) = rw e (passed π f g e os)
 
 pick-append : (f : Family) (xs ys us vs : List Located) → pick f xs ≡ us → pick f ys ≡ vs → pick f (xs ++ ys) ≡ us ++ vs
 pick-append f xs ys us vs a b = filter-append (is_of f) xs ys ∙ ap₂ ◌++◌ a b
 
-pub located-append : (f : Family) (xs ys : List Placed) → located f (xs ++ ys) ≡ located f xs ++ located f ys
-located-append f [] ys = refl
-located-append f (x ∷ xs) ys = ap (λ zs. located_one f x ∷ zs) (located-append f xs ys)
+pub located-append : (π : Preference) (f : Family) (xs ys : List Placed) → located π f (xs ++ ys) ≡ located π f xs ++ located π f ys
+located-append π f [] ys = refl
+located-append π f (x ∷ xs) ys = ap (λ zs. located_one π f x ∷ zs) (located-append π f xs ys)
 
 none-flat : (h : Placed → List Placed) → ((o : Placed) → h o ≡ []) → (os : List Placed) → flat_map h os ≡ []
 none-flat h none [] = refl
@@ -48,12 +49,12 @@ each-flat : (xs : List Placed) → flat_map (λ (o : Placed). o ∷ []) xs ≡ x
 each-flat [] = refl
 each-flat (x ∷ xs) = ap (λ zs. x ∷ zs) (each-flat xs)
 
-pick-flat : (f : Family) (h : Placed → List Located) (k : Placed → List Placed) → ((o : Placed) → pick f (h o) ≡ located f (k o)) → (os : List Placed)
-    → pick f (flat_map h os) ≡ located f (flat_map k os)
-pick-flat f h k each [] = refl
-pick-flat f h k each (o ∷ os) =
-    pick-append f (h o) (flat_map h os) (located f (k o)) (located f (flat_map k os)) (each o) (pick-flat f h k each os)
-    ∙ sym (located-append f (k o) (flat_map k os))
+pick-flat : (π : Preference) (f : Family) (h : Placed → List Located) (k : Placed → List Placed) → ((o : Placed) → pick f (h o) ≡ located π f (k o)) → (os : List Placed)
+    → pick f (flat_map h os) ≡ located π f (flat_map k os)
+pick-flat π f h k each [] = refl
+pick-flat π f h k each (o ∷ os) =
+    pick-append f (h o) (flat_map h os) (located π f (k o)) (located π f (flat_map k os)) (each o) (pick-flat π f h k each os)
+    ∙ sym (located-append π f (k o) (flat_map k os))
 
 -- ---- inside a contest, an election, the report
 
@@ -62,22 +63,22 @@ of_contest family.Contest o = o ∷ []
 of_contest family.Selection o = selections_of_contest o
 of_contest f o = []
 
-in_contest : (f : Family) (o : Placed) → pick f (contest_located o) ≡ located f (of_contest f o)
-in_contest family.Contest o = ap (λ xs. located_one family.Contest o ∷ xs) (passed family.Contest family.Selection refl (selections_of_contest o))
-in_contest family.Selection o = picked family.Selection (selections_of_contest o)
-in_contest family.Unit o = passed family.Unit family.Selection refl (selections_of_contest o)
-in_contest family.Party o = passed family.Party family.Selection refl (selections_of_contest o)
-in_contest family.Person o = passed family.Person family.Selection refl (selections_of_contest o)
-in_contest family.Office o = passed family.Office family.Selection refl (selections_of_contest o)
-in_contest family.Header o = passed family.Header family.Selection refl (selections_of_contest o)
-in_contest family.Candidate o = passed family.Candidate family.Selection refl (selections_of_contest o)
-in_contest family.Style o = passed family.Style family.Selection refl (selections_of_contest o)
+in_contest : (π : Preference) (f : Family) (o : Placed) → pick f (contest_located π o) ≡ located π f (of_contest f o)
+in_contest π family.Contest o = ap (λ xs. located_one π family.Contest o ∷ xs) (passed π family.Contest family.Selection refl (selections_of_contest o))
+in_contest π family.Selection o = picked π family.Selection (selections_of_contest o)
+in_contest π family.Unit o = passed π family.Unit family.Selection refl (selections_of_contest o)
+in_contest π family.Party o = passed π family.Party family.Selection refl (selections_of_contest o)
+in_contest π family.Person o = passed π family.Person family.Selection refl (selections_of_contest o)
+in_contest π family.Office o = passed π family.Office family.Selection refl (selections_of_contest o)
+in_contest π family.Header o = passed π family.Header family.Selection refl (selections_of_contest o)
+in_contest π family.Candidate o = passed π family.Candidate family.Selection refl (selections_of_contest o)
+in_contest π family.Style o = passed π family.Style family.Selection refl (selections_of_contest o)
 
 abbrev of_contests : Family → List Placed → List Placed
 of_contests f os = flat_map (of_contest f) os
 
-in_contests : (f : Family) (os : List Placed) → pick f (flat_map contest_located os) ≡ located f (of_contests f os)
-in_contests f os = pick-flat f contest_located (of_contest f) (in_contest f) os
+in_contests : (π : Preference) (f : Family) (os : List Placed) → pick f (flat_map (contest_located π) os) ≡ located π f (of_contests f os)
+in_contests π f os = pick-flat π f (contest_located π) (of_contest f) (in_contest π f) os
 
 -- ---- arrays of one family
 
@@ -99,15 +100,15 @@ family_exact f g e =
 abbrev if_of : Family → Family → List Placed → List Placed
 if_of f g os = cond (family_number g == family_number f) os []
 
-pick_at : (f g : Family) (b : Bool) → (family_number g == family_number f) ≡ b → (os : List Placed) → pick f (located g os) ≡ located f (cond b os [])
-pick_at f g true e os = subst (λ h. pick f (located h os) ≡ located f os) (sym (family_exact g f e)) (picked f os)
-pick_at f g false e os = passed f g e os
+pick_at : (π : Preference) (f g : Family) (b : Bool) → (family_number g == family_number f) ≡ b → (os : List Placed) → pick f (located π g os) ≡ located π f (cond b os [])
+pick_at π f g true e os = subst (λ h. pick f (located π h os) ≡ located π f os) (sym (family_exact g f e)) (picked π f os)
+pick_at π f g false e os = passed π f g e os
 
-pick_array : (f g : Family) (os : List Placed) → pick f (located g os) ≡ located f (if_of f g os)
-pick_array f g os = pick_at f g (family_number g == family_number f) refl os
+pick_array : (π : Preference) (f g : Family) (os : List Placed) → pick f (located π g os) ≡ located π f (if_of f g os)
+pick_array π f g os = pick_at π f g (family_number g == family_number f) refl os
 
-pick_both : (f : Family) (xs ys : List Located) (os ps : List Placed) → pick f xs ≡ located f os → pick f ys ≡ located f ps → pick f (xs ++ ys) ≡ located f (os ++ ps)
-pick_both f xs ys os ps a b = pick-append f xs ys (located f os) (located f ps) a b ∙ sym (located-append f os ps)
+pick_both : (π : Preference) (f : Family) (xs ys : List Located) (os ps : List Placed) → pick f xs ≡ located π f os → pick f ys ≡ located π f ps → pick f (xs ++ ys) ≡ located π f (os ++ ps)
+pick_both π f xs ys os ps a b = pick-append f xs ys (located π f os) (located π f ps) a b ∙ sym (located-append π f os ps)
 
 -- ---- elections and the report
 
@@ -116,14 +117,14 @@ of_election f e =
     if_of f family.Style (placed_entries (codes "BallotStyle") e)
     ++ (if_of f family.Candidate (placed_entries (codes "Candidate") e) ++ of_contests f (placed_entries (codes "Contest") e))
 
-in_election : (f : Family) (e : Placed) → pick f (election_located e) ≡ located f (of_election f e)
-in_election f e =
+in_election : (π : Preference) (f : Family) (e : Placed) → pick f (election_located π e) ≡ located π f (of_election f e)
+in_election π f e =
     let styles = placed_entries (codes "BallotStyle") e in
     let candidates = placed_entries (codes "Candidate") e in
     let all = placed_entries (codes "Contest") e in
-    pick_both f (located family.Style styles) (located family.Candidate candidates ++ flat_map contest_located all)
-    (if_of f family.Style styles) (if_of f family.Candidate candidates ++ of_contests f all) (pick_array f family.Style styles)
-    (pick_both f (located family.Candidate candidates) (flat_map contest_located all) (if_of f family.Candidate candidates) (of_contests f all) (pick_array f family.Candidate candidates) (in_contests f all))
+    pick_both π f (located π family.Style styles) (located π family.Candidate candidates ++ flat_map (contest_located π) all)
+    (if_of f family.Style styles) (if_of f family.Candidate candidates ++ of_contests f all) (pick_array π f family.Style styles)
+    (pick_both π f (located π family.Candidate candidates) (flat_map (contest_located π) all) (if_of f family.Candidate candidates) (of_contests f all) (pick_array π f family.Candidate candidates) (in_contests π f all))
 
 abbrev of_shared : Family → Placed → List Placed
 of_shared f r =
@@ -132,13 +133,13 @@ of_shared f r =
     ++ (if_of f family.Office (placed_entries (codes "Office") r)
     ++ (if_of f family.Party (placed_entries (codes "Party") r) ++ if_of f family.Person (placed_entries (codes "Person") r))))
 
-in_shared : (f : Family) (r : Placed) → pick f (shared_located r) ≡ located f (of_shared f r)
-in_shared f r =
+in_shared : (π : Preference) (f : Family) (r : Placed) → pick f (shared_located π r) ≡ located π f (of_shared f r)
+in_shared π f r =
     let at = λ (name : List ℕ). placed_entries name r in
-    pick_both f _ _ _ _ (pick_array f family.Unit (at (codes "GpUnit")))
-    (pick_both f _ _ _ _ (pick_array f family.Header (at (codes "Header")))
-    (pick_both f _ _ _ _ (pick_array f family.Office (at (codes "Office")))
-    (pick_both f _ _ _ _ (pick_array f family.Party (at (codes "Party"))) (pick_array f family.Person (at (codes "Person"))))))
+    pick_both π f _ _ _ _ (pick_array π f family.Unit (at (codes "GpUnit")))
+    (pick_both π f _ _ _ _ (pick_array π f family.Header (at (codes "Header")))
+    (pick_both π f _ _ _ _ (pick_array π f family.Office (at (codes "Office")))
+    (pick_both π f _ _ _ _ (pick_array π f family.Party (at (codes "Party"))) (pick_array π f family.Person (at (codes "Person"))))))
 
 flat_same : (h k : Placed → List Placed) → ((o : Placed) → h o ≡ k o) → (os : List Placed) → flat_map h os ≡ flat_map k os
 flat_same h k each [] = refl
@@ -181,8 +182,8 @@ objects_are family.Selection t =
     ∙ nested_flat selections_of_contest (placed_entries (codes "Contest")) (elections t)
 
 -- the objects of a family, as the walk meets them
-pub objects_met : (f : Family) (t : Data) → pick f (all_located t) ≡ located f (objects f t)
-objects_met f t =
-    pick_both f (flat_map election_located (elections t)) (shared_located (report_of t)) (flat_map (of_election f) (elections t)) (of_shared f (report_of t))
-    (pick-flat f election_located (of_election f) (in_election f) (elections t)) (in_shared f (report_of t))
-    ∙ ap (located f) (objects_are f t)
+pub objects_met : (π : Preference) (f : Family) (t : Data) → pick f (all_located π t) ≡ located π f (objects f t)
+objects_met π f t =
+    pick_both π f (flat_map (election_located π) (elections t)) (shared_located π (report_of t)) (flat_map (of_election f) (elections t)) (of_shared f (report_of t))
+    (pick-flat π f (election_located π) (of_election f) (in_election π f) (elections t)) (in_shared π f (report_of t))
+    ∙ ap (located π f) (objects_are f t)

@@ -11,6 +11,7 @@ use Rattle.erd_tables.specs.declared.place.Step.{Step}
 use Rattle.erd_tables.specs.declared.place.Step.TheVariants.{Name, At}
 use Rattle.erd_tables.proofs.PlaceOrder.{steps_less}
 use Rattle.erd_check.proofs.Order.{In, In-append, Below, sorted_append}
+use Rattle.erd_meaning.specs.Keys.{Preference}
 use Rattle.erd_meaning.specs.code.ObjectWalk.{Located, located, located_one, contest_located, election_located, shared_located, all_located}
 use Rattle.erd_meaning.specs.Objects.{Placed, placed_from, placed_entries, elections, selections_of_contest, report_of}
 
@@ -116,43 +117,43 @@ all_inside p name xs a x i = inside_member p name x (a x i)
 
 -- ---- objects of one family
 
-abbrev alone : Family → Placed → List Located
-alone f o = located_one f o ∷ []
+abbrev alone : Preference → Family → Placed → List Located
+alone π f o = located_one π f o ∷ []
 
-alone_inside : (f : Family) → Inside (alone f)
-alone_inside f o x (inl e) = record { rest = []; is = sym (ap (λ (y : Located). y.place) e) ∙ sym (append-nil o.place) }
-alone_inside f o x (inr h) = absurd h
+alone_inside : (π : Preference) (f : Family) → Inside (alone π f)
+alone_inside π f o x (inl e) = record { rest = []; is = sym (ap (λ (y : Located). y.place) e) ∙ sym (append-nil o.place) }
+alone_inside π f o x (inr h) = absurd h
 
-alone_parted : (f : Family) → Parted (alone f)
+alone_parted : (π : Preference) (f : Family) → Parted (alone π f)
 unfolding IsStrictlySortedBy
-alone_parted f o = (tt, tt)
+alone_parted π f o = (tt, tt)
 
-each_alone : (f : Family) (os : List Placed) → flat_map (alone f) os ≡ located f os
-each_alone f [] = refl
-each_alone f (o ∷ os) = ap (λ xs. located_one f o ∷ xs) (each_alone f os)
+each_alone : (π : Preference) (f : Family) (os : List Placed) → flat_map (alone π f) os ≡ located π f os
+each_alone π f [] = refl
+each_alone π f (o ∷ os) = ap (λ xs. located_one π f o ∷ xs) (each_alone π f os)
 
-in_located : (f : Family) (name : List ℕ) (o : Placed) → AllIn (InMember o.place name) (located f (placed_entries name o))
-in_located f name o = subst (AllIn (InMember o.place name)) (each_alone f (placed_entries name o)) (in_array (alone f) (alone_inside f) name o)
+in_located : (π : Preference) (f : Family) (name : List ℕ) (o : Placed) → AllIn (InMember o.place name) (located π f (placed_entries name o))
+in_located π f name o = subst (AllIn (InMember o.place name)) (each_alone π f (placed_entries name o)) (in_array (alone π f) (alone_inside π f) name o)
 
-parted_located : (f : Family) (name : List ℕ) (o : Placed) → AreApart (located f (placed_entries name o))
-parted_located f name o = subst AreApart (each_alone f (placed_entries name o)) (parted_array (alone f) (alone_inside f) (alone_parted f) name o)
+parted_located : (π : Preference) (f : Family) (name : List ℕ) (o : Placed) → AreApart (located π f (placed_entries name o))
+parted_located π f name o = subst AreApart (each_alone π f (placed_entries name o)) (parted_array (alone π f) (alone_inside π f) (alone_parted π f) name o)
 
 -- ---- contests
 
-selections_inside : (o : Placed) → AllIn (InMember o.place (codes "ContestSelection")) (located family.Selection (selections_of_contest o))
-selections_inside o = in_located family.Selection (codes "ContestSelection") o
+selections_inside : (π : Preference) (o : Placed) → AllIn (InMember o.place (codes "ContestSelection")) (located π family.Selection (selections_of_contest o))
+selections_inside π o = in_located π family.Selection (codes "ContestSelection") o
 
-contest_inside : Inside contest_located
-contest_inside o =
-    all-append (AtOrIn o.place) (alone family.Contest o) (located family.Selection (selections_of_contest o)) (alone_inside family.Contest o)
-    (all_inside o.place (codes "ContestSelection") (located family.Selection (selections_of_contest o)) (selections_inside o))
+contest_inside : (π : Preference) → Inside (contest_located π)
+contest_inside π o =
+    all-append (AtOrIn o.place) (alone π family.Contest o) (located π family.Selection (selections_of_contest o)) (alone_inside π family.Contest o)
+    (all_inside o.place (codes "ContestSelection") (located π family.Selection (selections_of_contest o)) (selections_inside π o))
 
-contest_parted : Parted contest_located
-contest_parted o =
-    sorted_append apart (alone family.Contest o) (located family.Selection (selections_of_contest o)) (alone_parted family.Contest o)
-    (parted_located family.Selection (codes "ContestSelection") o) (λ x y i j. below x y i (selections_inside o y j))
+contest_parted : (π : Preference) → Parted (contest_located π)
+contest_parted π o =
+    sorted_append apart (alone π family.Contest o) (located π family.Selection (selections_of_contest o)) (alone_parted π family.Contest o)
+    (parted_located π family.Selection (codes "ContestSelection") o) (λ x y i j. below x y i (selections_inside π o y j))
   where
-    below : (x y : Located) → In x (alone family.Contest o) → InMember o.place (codes "ContestSelection") y → apart x y ≡ Less
+    below : (x y : Located) → In x (alone π family.Contest o) → InMember o.place (codes "ContestSelection") y → apart x y ≡ Less
     below x y (inl e) m =
         ap₂ place_cmp (ap id_place (sym (ap (λ (z : Located). z.place) e))) m.is
         ∙ steps_less o.place (Name (codes "@id")) (Name (codes "ContestSelection")) [] m.rest refl
@@ -160,80 +161,80 @@ contest_parted o =
 
 -- ---- elections
 
-abbrev styles : Placed → List Located
-styles e = located family.Style (placed_entries (codes "BallotStyle") e)
+abbrev styles : Preference → Placed → List Located
+styles π e = located π family.Style (placed_entries (codes "BallotStyle") e)
 
-abbrev candidates : Placed → List Located
-candidates e = located family.Candidate (placed_entries (codes "Candidate") e)
+abbrev candidates : Preference → Placed → List Located
+candidates π e = located π family.Candidate (placed_entries (codes "Candidate") e)
 
-abbrev contests_of : Placed → List Located
-contests_of e = flat_map contest_located (placed_entries (codes "Contest") e)
+abbrev contests_of : Preference → Placed → List Located
+contests_of π e = flat_map (contest_located π) (placed_entries (codes "Contest") e)
 
-styles_in : (e : Placed) → AllIn (InMember e.place (codes "BallotStyle")) (styles e)
-styles_in e = in_located family.Style (codes "BallotStyle") e
+styles_in : (π : Preference) (e : Placed) → AllIn (InMember e.place (codes "BallotStyle")) (styles π e)
+styles_in π e = in_located π family.Style (codes "BallotStyle") e
 
-candidates_in : (e : Placed) → AllIn (InMember e.place (codes "Candidate")) (candidates e)
-candidates_in e = in_located family.Candidate (codes "Candidate") e
+candidates_in : (π : Preference) (e : Placed) → AllIn (InMember e.place (codes "Candidate")) (candidates π e)
+candidates_in π e = in_located π family.Candidate (codes "Candidate") e
 
-contests_in : (e : Placed) → AllIn (InMember e.place (codes "Contest")) (contests_of e)
-contests_in e = in_array contest_located contest_inside (codes "Contest") e
+contests_in : (π : Preference) (e : Placed) → AllIn (InMember e.place (codes "Contest")) (contests_of π e)
+contests_in π e = in_array (contest_located π) (contest_inside π) (codes "Contest") e
 
-election_inside : Inside election_located
-election_inside e =
+election_inside : (π : Preference) → Inside (election_located π)
+election_inside π e =
     let p = e.place in
-    all-append (AtOrIn p) (styles e) (candidates e ++ contests_of e) (all_inside p (codes "BallotStyle") (styles e) (styles_in e))
-    (all-append (AtOrIn p) (candidates e) (contests_of e) (all_inside p (codes "Candidate") (candidates e) (candidates_in e))
-    (all_inside p (codes "Contest") (contests_of e) (contests_in e)))
+    all-append (AtOrIn p) (styles π e) (candidates π e ++ contests_of π e) (all_inside p (codes "BallotStyle") (styles π e) (styles_in π e))
+    (all-append (AtOrIn p) (candidates π e) (contests_of π e) (all_inside p (codes "Candidate") (candidates π e) (candidates_in π e))
+    (all_inside p (codes "Contest") (contests_of π e) (contests_in π e)))
 
-election_parted : Parted election_located
-election_parted e =
+election_parted : (π : Preference) → Parted (election_located π)
+election_parted π e =
     let p = e.place in
-    sorted_append apart (styles e) (candidates e ++ contests_of e) (parted_located family.Style (codes "BallotStyle") e)
-    (sorted_append apart (candidates e) (contests_of e) (parted_located family.Candidate (codes "Candidate") e)
-    (parted_array contest_located contest_inside contest_parted (codes "Contest") e)
-    (below_by p (codes "Candidate") (codes "Contest") (candidates e) (contests_of e) refl (candidates_in e) (contests_in e)))
-    (below-append (styles e) (candidates e) (contests_of e)
-    (below_by p (codes "BallotStyle") (codes "Candidate") (styles e) (candidates e) refl (styles_in e) (candidates_in e))
-    (below_by p (codes "BallotStyle") (codes "Contest") (styles e) (contests_of e) refl (styles_in e) (contests_in e)))
+    sorted_append apart (styles π e) (candidates π e ++ contests_of π e) (parted_located π family.Style (codes "BallotStyle") e)
+    (sorted_append apart (candidates π e) (contests_of π e) (parted_located π family.Candidate (codes "Candidate") e)
+    (parted_array (contest_located π) (contest_inside π) (contest_parted π) (codes "Contest") e)
+    (below_by p (codes "Candidate") (codes "Contest") (candidates π e) (contests_of π e) refl (candidates_in π e) (contests_in π e)))
+    (below-append (styles π e) (candidates π e) (contests_of π e)
+    (below_by p (codes "BallotStyle") (codes "Candidate") (styles π e) (candidates π e) refl (styles_in π e) (candidates_in π e))
+    (below_by p (codes "BallotStyle") (codes "Contest") (styles π e) (contests_of π e) refl (styles_in π e) (contests_in π e)))
 
 -- ---- the report
 
 -- arrays of the report, in the order of their names
-abbrev arrays : Placed → List (List ℕ × Family) → List Located
-arrays r [] = []
-arrays r ((name, f) ∷ more) = located f (placed_entries name r) ++ arrays r more
+abbrev arrays : Preference → Placed → List (List ℕ × Family) → List Located
+arrays π r [] = []
+arrays π r ((name, f) ∷ more) = located π f (placed_entries name r) ++ arrays π r more
 
-below_arrays : (r : Placed) (name : List ℕ) (xs : List Located) → AllIn (InMember r.place name) xs → (more : List (List ℕ × Family))
-    → AllByRecursion {X = List ℕ × Family} (λ m. text_cmp name m.0 ≡ Less) more → Below apart xs (arrays r more)
-below_arrays r name xs a [] less = λ x y i j. absurd j
-below_arrays r name xs a (m ∷ more) less =
-    below-append xs (located m.1 (placed_entries m.0 r)) (arrays r more)
-    (below_by r.place name m.0 xs (located m.1 (placed_entries m.0 r)) less.0 a (in_located m.1 m.0 r)) (below_arrays r name xs a more less.1)
+below_arrays : (π : Preference) (r : Placed) (name : List ℕ) (xs : List Located) → AllIn (InMember r.place name) xs → (more : List (List ℕ × Family))
+    → AllByRecursion {X = List ℕ × Family} (λ m. text_cmp name m.0 ≡ Less) more → Below apart xs (arrays π r more)
+below_arrays π r name xs a [] less = λ x y i j. absurd j
+below_arrays π r name xs a (m ∷ more) less =
+    below-append xs (located π m.1 (placed_entries m.0 r)) (arrays π r more)
+    (below_by r.place name m.0 xs (located π m.1 (placed_entries m.0 r)) less.0 a (in_located π m.1 m.0 r)) (below_arrays π r name xs a more less.1)
 
-parted_arrays : (r : Placed) (ms : List (List ℕ × Family)) → IsStrictlySortedBy (λ (a b : List ℕ × Family). text_cmp a.0 b.0) ms → AreApart (arrays r ms)
+parted_arrays : (π : Preference) (r : Placed) (ms : List (List ℕ × Family)) → IsStrictlySortedBy (λ (a b : List ℕ × Family). text_cmp a.0 b.0) ms → AreApart (arrays π r ms)
 unfolding IsStrictlySortedBy
-parted_arrays r [] rising = tt
-parted_arrays r (m ∷ more) rising =
-    sorted_append apart (located m.1 (placed_entries m.0 r)) (arrays r more) (parted_located m.1 m.0 r) (parted_arrays r more rising.1)
-    (below_arrays r m.0 (located m.1 (placed_entries m.0 r)) (in_located m.1 m.0 r) more rising.0)
+parted_arrays π r [] rising = tt
+parted_arrays π r (m ∷ more) rising =
+    sorted_append apart (located π m.1 (placed_entries m.0 r)) (arrays π r more) (parted_located π m.1 m.0 r) (parted_arrays π r more rising.1)
+    (below_arrays π r m.0 (located π m.1 (placed_entries m.0 r)) (in_located π m.1 m.0 r) more rising.0)
 
 abbrev shared_arrays : List (List ℕ × Family)
 shared_arrays = (codes "GpUnit", family.Unit) ∷ (codes "Header", family.Header) ∷ (codes "Office", family.Office) ∷ (codes "Party", family.Party) ∷ (codes "Person", family.Person) ∷ []
 
-shared_is : (r : Placed) → arrays r shared_arrays ≡ shared_located r
-shared_is r =
-    let one = λ (f : Family) (name : List ℕ). located f (placed_entries name r) in
+shared_is : (π : Preference) (r : Placed) → arrays π r shared_arrays ≡ shared_located π r
+shared_is π r =
+    let one = λ (f : Family) (name : List ℕ). located π f (placed_entries name r) in
     ap (λ xs. one family.Unit (codes "GpUnit") ++ (one family.Header (codes "Header") ++ (one family.Office (codes "Office") ++ (one family.Party (codes "Party") ++ xs))))
     (append-nil (one family.Person (codes "Person")))
 
-shared_parted : (r : Placed) → AreApart (shared_located r)
+shared_parted : (π : Preference) (r : Placed) → AreApart (shared_located π r)
 unfolding IsStrictlySortedBy
-shared_parted r = subst AreApart (shared_is r) (parted_arrays r shared_arrays ((refl, (refl, (refl, (refl, tt)))), ((refl, (refl, (refl, tt))), ((refl, (refl, tt)), ((refl, tt), (tt, tt))))))
+shared_parted π r = subst AreApart (shared_is π r) (parted_arrays π r shared_arrays ((refl, (refl, (refl, (refl, tt)))), ((refl, (refl, (refl, tt))), ((refl, (refl, tt)), ((refl, tt), (tt, tt))))))
 
-pub all_parted : (t : Data) → AreApart (all_located t)
-all_parted t =
+pub all_parted : (π : Preference) (t : Data) → AreApart (all_located π t)
+all_parted π t =
     let r = report_of t in
     let name = codes "Election" in
-    sorted_append apart (flat_map election_located (elections t)) (shared_located r) (parted_array election_located election_inside election_parted name r) (shared_parted r)
-    (subst (Below apart (flat_map election_located (elections t))) (shared_is r)
-    (below_arrays r name (flat_map election_located (elections t)) (in_array election_located election_inside name r) shared_arrays (refl, (refl, (refl, (refl, (refl, tt)))))))
+    sorted_append apart (flat_map (election_located π) (elections t)) (shared_located π r) (parted_array (election_located π) (election_inside π) (election_parted π) name r) (shared_parted π r)
+    (subst (Below apart (flat_map (election_located π) (elections t))) (shared_is π r)
+    (below_arrays π r name (flat_map (election_located π) (elections t)) (in_array (election_located π) (election_inside π) name r) shared_arrays (refl, (refl, (refl, (refl, (refl, tt)))))))

@@ -5,6 +5,7 @@ use Rattle.erd_tables.specs.Faults.{ListsAll}
 use Rattle.erd_tables.specs.declared.fault.Fault.{Fault}
 use Rattle.erd_check.specs.Faults.{NoneOf}
 use Rattle.erd_check.proofs.FaultLists.{none_from_empty}
+use Rattle.erd_meaning.specs.Keys.{Preference}
 use Rattle.erd_meaning.specs.LaterFaults.{IdentityFault}
 use Rattle.erd_meaning.specs.code.ObjectWalk.{ObjectsMet, all_located, kept_objects, met_all}
 use Rattle.erd_meaning.specs.code.Shown.{met_of, shown}
@@ -14,22 +15,22 @@ use Rattle.erd_meaning.proofs.identity.IdentityFaults.{identity_listed, identity
 use Rattle.erd_meaning.proofs.identity.ToldFaults.{met_faults, met_objects, told}
 
 -- a walk that began with nothing has met this report
-pub record Walked (w v : ObjectWalk) (t : Data) : Type 0 where
+pub record Walked (π : Preference) (w v : ObjectWalk) (t : Data) : Type 0 where
   pub no_object : w.objects.items ≡ []
   pub no_fault : w.faults.items ≡ []
-  pub met : met_of v ≡ met_all (met_of w) (all_located t)
+  pub met : met_of v ≡ met_all (met_of w) (all_located π t)
 
-pub walked_objects : (w v : ObjectWalk) (t : Data) → Walked w v t → map shown v.objects.items ≡ kept_objects t
-walked_objects w v t h =
-    ap (λ (m : ObjectsMet). m.objects) h.met ∙ met_objects (met_of w) (all_located t) ∙ ap (λ (os : List Object). map shown os ++ kept_objects t) h.no_object
+pub walked_objects : (π : Preference) (w v : ObjectWalk) (t : Data) → Walked π w v t → map shown v.objects.items ≡ kept_objects π t
+walked_objects π w v t h =
+    ap (λ (m : ObjectsMet). m.objects) h.met ∙ met_objects (met_of w) (all_located π t) ∙ ap (λ (os : List Object). map shown os ++ kept_objects π t) h.no_object
 
-pub walked_faults : (w v : ObjectWalk) (t : Data) → Walked w v t → v.faults.items ≡ identity_told t
-walked_faults w v t h =
-    ap (λ (m : ObjectsMet). m.faults) h.met ∙ met_faults (met_of w) (all_located t)
-    ∙ ap₂ (λ (fs : List Fault) (os : List Object). fs ++ told (map shown os) (all_located t)) h.no_fault h.no_object
+pub walked_faults : (π : Preference) (w v : ObjectWalk) (t : Data) → Walked π w v t → v.faults.items ≡ identity_told π t
+walked_faults π w v t h =
+    ap (λ (m : ObjectsMet). m.faults) h.met ∙ met_faults (met_of w) (all_located π t)
+    ∙ ap₂ (λ (fs : List Fault) (os : List Object). fs ++ told (map shown os) (all_located π t)) h.no_fault h.no_object
 
-pub all_told : (w v : ObjectWalk) (t : Data) → Walked w v t → (fs : List Fault) → fs ≡ v.faults.items → ListsAll (IdentityFault t) fs
-all_told w v t h fs e = subst (ListsAll (IdentityFault t)) (sym (e ∙ walked_faults w v t h)) (identity_listed t)
+pub all_told : (π : Preference) (w v : ObjectWalk) (t : Data) → Walked π w v t → (fs : List Fault) → fs ≡ v.faults.items → ListsAll (IdentityFault π t) fs
+all_told π w v t h fs e = subst (ListsAll (IdentityFault π t)) (sym (e ∙ walked_faults π w v t h)) (identity_listed π t)
 
-pub none_told : (w v : ObjectWalk) (t : Data) → Walked w v t → (fs : List Fault) → fs ≡ v.faults.items → length fs ≡ 0 → NoneOf (IdentityFault t)
-none_told w v t h fs e empty = none_from_empty (IdentityFault t) fs (all_told w v t h fs e) empty
+pub none_told : (π : Preference) (w v : ObjectWalk) (t : Data) → Walked π w v t → (fs : List Fault) → fs ≡ v.faults.items → length fs ≡ 0 → NoneOf (IdentityFault π t)
+none_told π w v t h fs e empty = none_from_empty (IdentityFault π t) fs (all_told π w v t h fs e) empty

@@ -20,7 +20,7 @@ use Rattle.erd_tables.specs.declared.class.Role.TheVariants as role
 use Rattle.erd_tables.specs.declared.member.MemberKind.{MemberKind}
 use Rattle.erd_tables.specs.declared.member.MemberKind.TheVariants as kind
 use Rattle.erd_check.specs.Wants.{class_of_object}
-use Rattle.erd_meaning.specs.Keys.{has_keys, key_cmp, key_of}
+use Rattle.erd_meaning.specs.Keys.{Preference, has_keys, key_cmp, key_of}
 use Rattle.erd_meaning.specs.Meaning.{Record}
 use Rattle.erd_meaning.specs.NameParts.{NameParts}
 use Rattle.erd_meaning.specs.Objects.{Placed, objects}
@@ -89,24 +89,24 @@ same_record : {V : Type 0} (f g : Class → List ℕ → Option V) (r : Role) (d
 same_record f g r d e c left right same = ap (option_map (made_with f)) left ∙ (ap (record_of_members c) same ∙ sym (ap (option_map (made_with g)) right))
 
 -- two objects of one class mean the same, if they do at the names that either has
-pub same_object : (t u d e : Data) (r : Role) (c : Class) → class_of_object r d ≡ Some c → class_of_object r e ≡ Some c
-    → map (member_of_class t d c) (names_of_both d e) ≡ map (member_of_class u e c) (names_of_both d e) → object_record t r d ≡ object_record u r e
-same_object t u d e r c left right agree =
-    same_record (member_of_class t d) (member_of_class u e) r d e c left right (same_members (member_of_class t d c) (member_of_class u e c) d e (absent_member t d c) (absent_member u e c) agree)
+pub same_object : (π : Preference) (t u d e : Data) (r : Role) (c : Class) → class_of_object r d ≡ Some c → class_of_object r e ≡ Some c
+    → map (member_of_class π t d c) (names_of_both d e) ≡ map (member_of_class π u e c) (names_of_both d e) → object_record π t r d ≡ object_record π u r e
+same_object π t u d e r c left right agree =
+    same_record (member_of_class π t d) (member_of_class π u e) r d e c left right (same_members (member_of_class π t d c) (member_of_class π u e c) d e (absent_member π t d c) (absent_member π u e c) agree)
 
 -- the same, where one member is shown apart
-pub same_object_with : (t u d e : Data) (r : Role) (c : Class) (one : List ℕ) → class_of_object r d ≡ Some c → class_of_object r e ≡ Some c
-    → map (member_of_class t d c) (but_one one (names_of_both d e)) ≡ map (member_of_class u e c) (but_one one (names_of_both d e))
-    → member_of_class t d c one ≡ member_of_class u e c one → object_record t r d ≡ object_record u r e
-same_object_with t u d e r c one left right agree at_one =
-    same_record (member_of_class t d) (member_of_class u e) r d e c left right (same_with_one (member_of_class t d c) (member_of_class u e c) d e one (absent_member t d c) (absent_member u e c) agree at_one)
+pub same_object_with : (π : Preference) (t u d e : Data) (r : Role) (c : Class) (one : List ℕ) → class_of_object r d ≡ Some c → class_of_object r e ≡ Some c
+    → map (member_of_class π t d c) (but_one one (names_of_both d e)) ≡ map (member_of_class π u e c) (but_one one (names_of_both d e))
+    → member_of_class π t d c one ≡ member_of_class π u e c one → object_record π t r d ≡ object_record π u r e
+same_object_with π t u d e r c one left right agree at_one =
+    same_record (member_of_class π t d) (member_of_class π u e) r d e c left right (same_with_one (member_of_class π t d c) (member_of_class π u e c) d e one (absent_member π t d c) (absent_member π u e c) agree at_one)
 
 -- two selections of one class, where one member is shown apart
-pub same_selection_with : (t u d e : Data) (c : Class) (one : List ℕ) → class_of_object selection_role d ≡ Some c → class_of_object selection_role e ≡ Some c
-    → map (plain_member t d c) (but_one one (names_of_both d e)) ≡ map (plain_member u e c) (but_one one (names_of_both d e))
-    → plain_member t d c one ≡ plain_member u e c one → selection_record t d ≡ selection_record u e
-same_selection_with t u d e c one left right agree at_one =
-    same_record (plain_member t d) (plain_member u e) selection_role d e c left right (same_with_one (plain_member t d c) (plain_member u e c) d e one (absent_plain t d c) (absent_plain u e c) agree at_one)
+pub same_selection_with : (π : Preference) (t u d e : Data) (c : Class) (one : List ℕ) → class_of_object selection_role d ≡ Some c → class_of_object selection_role e ≡ Some c
+    → map (plain_member π t d c) (but_one one (names_of_both d e)) ≡ map (plain_member π u e c) (but_one one (names_of_both d e))
+    → plain_member π t d c one ≡ plain_member π u e c one → selection_record π t d ≡ selection_record π u e
+same_selection_with π t u d e c one left right agree at_one =
+    same_record (plain_member π t d) (plain_member π u e) selection_role d e c left right (same_with_one (plain_member π t d c) (plain_member π u e c) d e one (absent_plain π t d c) (absent_plain π u e c) agree at_one)
 
 nothing_carried : (k : MemberKind) → if_carried k None ≡ None
 nothing_carried kind.Carried = refl
@@ -197,127 +197,127 @@ keys_had cmp exact key [] (k ∷ ks) h = absurd (cc h)
 keys_had cmp exact key (x ∷ xs) [] h = absurd (cc h)
 
 -- the object has this key
-abbrev pub has_key : Key → Placed → Bool
-has_key k o = is_eq (option_cmp key_cmp (key_of o.value) (Some k))
+abbrev pub has_key : Preference → Key → Placed → Bool
+has_key π k o = is_eq (option_cmp key_cmp (key_of π o.value) (Some k))
 
 none_found : {A : Type 0} (test : A → Bool) (xs : List A) → list_any test xs ≡ false → find test xs ≡ None
 none_found test [] h = refl
 none_found test (x ∷ xs) h = let both = or_parts (test x) (list_any test xs) h in rw (both.0, none_found test xs both.1)
 
 -- a family means nothing at a key that none of its objects has
-pub no_record : (t : Data) (f : Family) (k : Key) → list_any (has_key k) (objects f t) ≡ false → records_of t f k ≡ None
-no_record t family.Selection k h = refl
-no_record t f k h = ap (λ o. option_and_then (object_record t (role.OfFamily f)) (option_map (λ p. p.value) o)) (none_found (has_key k) (objects f t) h)
+pub no_record : (π : Preference) (t : Data) (f : Family) (k : Key) → list_any (has_key π k) (objects f t) ≡ false → records_of π t f k ≡ None
+no_record π t family.Selection k h = refl
+no_record π t f k h = ap (λ o. option_and_then (object_record π t (role.OfFamily f)) (option_map (λ p. p.value) o)) (none_found (has_key π k) (objects f t) h)
 
-abbrev pub value_with_key : Data → Family → Key → Data
-value_with_key t f k = unwrap_or (object_with_key t f k) null
+abbrev pub value_with_key : Preference → Data → Family → Key → Data
+value_with_key π t f k = unwrap_or (object_with_key π t f k) null
 
 one_found : (o : Option Data) → is_some o ≡ true → o ≡ Some (unwrap_or o null)
 one_found None h = absurd (cc h)
 one_found (Some d) h = refl
 
-record_with_key : (t : Data) (f : Family) (k : Key) → has_keys f ≡ true → is_some (object_with_key t f k) ≡ true → records_of t f k ≡ object_record t (role.OfFamily f) (value_with_key t f k)
-record_with_key t family.Selection k keyed h = absurd (cc keyed)
-record_with_key t f k keyed h = ap (option_and_then (object_record t (role.OfFamily f))) (one_found (object_with_key t f k) h)
+record_with_key : (π : Preference) (t : Data) (f : Family) (k : Key) → has_keys f ≡ true → is_some (object_with_key π t f k) ≡ true → records_of π t f k ≡ object_record π t (role.OfFamily f) (value_with_key π t f k)
+record_with_key π t family.Selection k keyed h = absurd (cc keyed)
+record_with_key π t f k keyed h = ap (option_and_then (object_record π t (role.OfFamily f))) (one_found (object_with_key π t f k) h)
 
 -- the objects of one key mean the same in both reports
-pub same_with_key : (t u : Data) (f : Family) (k : Key) → has_keys f ≡ true → is_some (object_with_key t f k) ≡ true → is_some (object_with_key u f k) ≡ true
-    → object_record t (role.OfFamily f) (value_with_key t f k) ≡ object_record u (role.OfFamily f) (value_with_key u f k) → records_of t f k ≡ records_of u f k
-same_with_key t u f k keyed left right same = record_with_key t f k keyed left ∙ (same ∙ sym (record_with_key u f k keyed right))
+pub same_with_key : (π : Preference) (t u : Data) (f : Family) (k : Key) → has_keys f ≡ true → is_some (object_with_key π t f k) ≡ true → is_some (object_with_key π u f k) ≡ true
+    → object_record π t (role.OfFamily f) (value_with_key π t f k) ≡ object_record π u (role.OfFamily f) (value_with_key π u f k) → records_of π t f k ≡ records_of π u f k
+same_with_key π t u f k keyed left right same = record_with_key π t f k keyed left ∙ (same ∙ sym (record_with_key π u f k keyed right))
 
 -- both reports have an object of this key and class, with the same members
-abbrev pub ObjectsAgree : Data → Data → Family → Key → Class → Type 0
-ObjectsAgree t u f k c =
-    let d = value_with_key t f k in let e = value_with_key u f k in
-    (is_some (object_with_key t f k) ≡ true) × (is_some (object_with_key u f k) ≡ true)
+abbrev pub ObjectsAgree : Preference → Data → Data → Family → Key → Class → Type 0
+ObjectsAgree π t u f k c =
+    let d = value_with_key π t f k in let e = value_with_key π u f k in
+    (is_some (object_with_key π t f k) ≡ true) × (is_some (object_with_key π u f k) ≡ true)
     × (class_of_object (role.OfFamily f) d ≡ Some c) × (class_of_object (role.OfFamily f) e ≡ Some c)
-    × (map (member_of_class t d c) (names_of_both d e) ≡ map (member_of_class u e c) (names_of_both d e))
+    × (map (member_of_class π t d c) (names_of_both d e) ≡ map (member_of_class π u e c) (names_of_both d e))
 
-pub same_at_key : (t u : Data) (f : Family) (k : Key) (c : Class) → has_keys f ≡ true → ObjectsAgree t u f k c → records_of t f k ≡ records_of u f k
-same_at_key t u f k c keyed agree =
-    same_with_key t u f k keyed agree.0 agree.1 (same_object t u (value_with_key t f k) (value_with_key u f k) (role.OfFamily f) c agree.2 agree.3 agree.4)
+pub same_at_key : (π : Preference) (t u : Data) (f : Family) (k : Key) (c : Class) → has_keys f ≡ true → ObjectsAgree π t u f k c → records_of π t f k ≡ records_of π u f k
+same_at_key π t u f k c keyed agree =
+    same_with_key π t u f k keyed agree.0 agree.1 (same_object π t u (value_with_key π t f k) (value_with_key π u f k) (role.OfFamily f) c agree.2 agree.3 agree.4)
 
 -- the same members but for one
-abbrev pub ObjectsAgreeButOne : Data → Data → Family → Key → Class → List ℕ → Type 0
-ObjectsAgreeButOne t u f k c one =
-    let d = value_with_key t f k in let e = value_with_key u f k in
-    (is_some (object_with_key t f k) ≡ true) × (is_some (object_with_key u f k) ≡ true)
+abbrev pub ObjectsAgreeButOne : Preference → Data → Data → Family → Key → Class → List ℕ → Type 0
+ObjectsAgreeButOne π t u f k c one =
+    let d = value_with_key π t f k in let e = value_with_key π u f k in
+    (is_some (object_with_key π t f k) ≡ true) × (is_some (object_with_key π u f k) ≡ true)
     × (class_of_object (role.OfFamily f) d ≡ Some c) × (class_of_object (role.OfFamily f) e ≡ Some c)
-    × (map (member_of_class t d c) (but_one one (names_of_both d e)) ≡ map (member_of_class u e c) (but_one one (names_of_both d e)))
+    × (map (member_of_class π t d c) (but_one one (names_of_both d e)) ≡ map (member_of_class π u e c) (but_one one (names_of_both d e)))
 
-abbrev pub SameMember : Data → Data → Family → Key → Class → List ℕ → Type 0
-SameMember t u f k c one = member_of_class t (value_with_key t f k) c one ≡ member_of_class u (value_with_key u f k) c one
+abbrev pub SameMember : Preference → Data → Data → Family → Key → Class → List ℕ → Type 0
+SameMember π t u f k c one = member_of_class π t (value_with_key π t f k) c one ≡ member_of_class π u (value_with_key π u f k) c one
 
-pub same_at_key_with : (t u : Data) (f : Family) (k : Key) (c : Class) (one : List ℕ) → has_keys f ≡ true → ObjectsAgreeButOne t u f k c one → SameMember t u f k c one → records_of t f k ≡ records_of u f k
-same_at_key_with t u f k c one keyed agree at_one =
-    same_with_key t u f k keyed agree.0 agree.1 (same_object_with t u (value_with_key t f k) (value_with_key u f k) (role.OfFamily f) c one agree.2 agree.3 agree.4 at_one)
+pub same_at_key_with : (π : Preference) (t u : Data) (f : Family) (k : Key) (c : Class) (one : List ℕ) → has_keys f ≡ true → ObjectsAgreeButOne π t u f k c one → SameMember π t u f k c one → records_of π t f k ≡ records_of π u f k
+same_at_key_with π t u f k c one keyed agree at_one =
+    same_with_key π t u f k keyed agree.0 agree.1 (same_object_with π t u (value_with_key π t f k) (value_with_key π u f k) (role.OfFamily f) c one agree.2 agree.3 agree.4 at_one)
 
 -- the keys of the objects of a family, in their order
-abbrev pub HaveKeys : Data → Family → List Key → Type 0
-HaveKeys t f keys = map (λ o. key_of o.value) (objects f t) ≡ map Some keys
+abbrev pub HaveKeys : Preference → Data → Family → List Key → Type 0
+HaveKeys π t f keys = map (λ o. key_of π o.value) (objects f t) ≡ map Some keys
 
-pub keys_of_family : (t : Data) (f : Family) (keys : List Key) → have_keys key_cmp (λ o. key_of o.value) (objects f t) keys ≡ true → HaveKeys t f keys
-keys_of_family t f keys h = keys_had key_cmp equal_keys (λ o. key_of o.value) (objects f t) keys h
+pub keys_of_family : (π : Preference) (t : Data) (f : Family) (keys : List Key) → have_keys key_cmp (λ o. key_of π o.value) (objects f t) keys ≡ true → HaveKeys π t f keys
+keys_of_family π t f keys h = keys_had key_cmp equal_keys (λ o. key_of π o.value) (objects f t) keys h
 
 -- a family means nothing at a key that is not among those of its objects
-pub nothing_at : (t : Data) (f : Family) (keys : List Key) (k : Key) → HaveKeys t f keys → is_key_in keys k ≡ false → records_of t f k ≡ None
-nothing_at t f keys k have h = no_record t f k (looked_for key_cmp (λ o. key_of o.value) (objects f t) keys have k ∙ h)
+pub nothing_at : (π : Preference) (t : Data) (f : Family) (keys : List Key) (k : Key) → HaveKeys π t f keys → is_key_in keys k ≡ false → records_of π t f k ≡ None
+nothing_at π t f keys k have h = no_record π t f k (looked_for key_cmp (λ o. key_of π o.value) (objects f t) keys have k ∙ h)
 
 -- a family means the same in both reports, if its keys stand in any order and the object of each means the same
-pub same_family : (t u : Data) (f : Family) (keys others : List Key) → HaveKeys t f keys → HaveKeys u f others → AreAmong keys others → AgreeAt (records_of t f) (records_of u f) keys
-    → (k : Key) → records_of t f k ≡ records_of u f k
-same_family t u f keys others have have_others among agree =
-    same_at_every_key (records_of t f) (records_of u f) keys agree (λ k h. nothing_at t f keys k have h)
-    (λ k h. nothing_at u f others k have_others (none_among (λ l. is_eq (key_cmp l k)) keys others among h))
+pub same_family : (π : Preference) (t u : Data) (f : Family) (keys others : List Key) → HaveKeys π t f keys → HaveKeys π u f others → AreAmong keys others → AgreeAt (records_of π t f) (records_of π u f) keys
+    → (k : Key) → records_of π t f k ≡ records_of π u f k
+same_family π t u f keys others have have_others among agree =
+    same_at_every_key (records_of π t f) (records_of π u f) keys agree (λ k h. nothing_at π t f keys k have h)
+    (λ k h. nothing_at π u f others k have_others (none_among (λ l. is_eq (key_cmp l k)) keys others among h))
 
 -- the selection has this name
-abbrev pub has_name : Data → NameParts → Data → Bool
-has_name t n d = is_eq (option_cmp name_cmp (name_of t d) (Some n))
+abbrev pub has_name : Preference → Data → NameParts → Data → Bool
+has_name π t n d = is_eq (option_cmp name_cmp (name_of π t d) (Some n))
 
-abbrev pub selection_with_name : Data → List Data → NameParts → Data
-selection_with_name t ds n = unwrap_or (find (has_name t n) ds) null
+abbrev pub selection_with_name : Preference → Data → List Data → NameParts → Data
+selection_with_name π t ds n = unwrap_or (find (has_name π t n) ds) null
 
 -- the selections of one name mean the same in both
-pub same_with_name : (t u : Data) (ds es : List Data) (n : NameParts) → is_some (find (has_name t n) ds) ≡ true → is_some (find (has_name u n) es) ≡ true
-    → selection_record t (selection_with_name t ds n) ≡ selection_record u (selection_with_name u es n) → selection_map t ds n ≡ selection_map u es n
-same_with_name t u ds es n left right same =
-    ap (option_and_then (selection_record t)) (one_found (find (has_name t n) ds) left) ∙ (same ∙ sym (ap (option_and_then (selection_record u)) (one_found (find (has_name u n) es) right)))
+pub same_with_name : (π : Preference) (t u : Data) (ds es : List Data) (n : NameParts) → is_some (find (has_name π t n) ds) ≡ true → is_some (find (has_name π u n) es) ≡ true
+    → selection_record π t (selection_with_name π t ds n) ≡ selection_record π u (selection_with_name π u es n) → selection_map π t ds n ≡ selection_map π u es n
+same_with_name π t u ds es n left right same =
+    ap (option_and_then (selection_record π t)) (one_found (find (has_name π t n) ds) left) ∙ (same ∙ sym (ap (option_and_then (selection_record π u)) (one_found (find (has_name π u n) es) right)))
 
 -- both have a selection of this name and class, with the same members but for one
-abbrev pub SelectionsAgreeButOne : Data → Data → List Data → List Data → NameParts → Class → List ℕ → Type 0
-SelectionsAgreeButOne t u ds es n c one =
-    let d = selection_with_name t ds n in let e = selection_with_name u es n in
-    (is_some (find (has_name t n) ds) ≡ true) × (is_some (find (has_name u n) es) ≡ true)
+abbrev pub SelectionsAgreeButOne : Preference → Data → Data → List Data → List Data → NameParts → Class → List ℕ → Type 0
+SelectionsAgreeButOne π t u ds es n c one =
+    let d = selection_with_name π t ds n in let e = selection_with_name π u es n in
+    (is_some (find (has_name π t n) ds) ≡ true) × (is_some (find (has_name π u n) es) ≡ true)
     × (class_of_object selection_role d ≡ Some c) × (class_of_object selection_role e ≡ Some c)
-    × (map (plain_member t d c) (but_one one (names_of_both d e)) ≡ map (plain_member u e c) (but_one one (names_of_both d e)))
+    × (map (plain_member π t d c) (but_one one (names_of_both d e)) ≡ map (plain_member π u e c) (but_one one (names_of_both d e)))
 
-pub same_at_name : (t u : Data) (ds es : List Data) (n : NameParts) (c : Class) (one : List ℕ) → SelectionsAgreeButOne t u ds es n c one
-    → plain_member t (selection_with_name t ds n) c one ≡ plain_member u (selection_with_name u es n) c one → selection_map t ds n ≡ selection_map u es n
-same_at_name t u ds es n c one agree at_one =
-    same_with_name t u ds es n agree.0 agree.1 (same_selection_with t u (selection_with_name t ds n) (selection_with_name u es n) c one agree.2 agree.3 agree.4 at_one)
+pub same_at_name : (π : Preference) (t u : Data) (ds es : List Data) (n : NameParts) (c : Class) (one : List ℕ) → SelectionsAgreeButOne π t u ds es n c one
+    → plain_member π t (selection_with_name π t ds n) c one ≡ plain_member π u (selection_with_name π u es n) c one → selection_map π t ds n ≡ selection_map π u es n
+same_at_name π t u ds es n c one agree at_one =
+    same_with_name π t u ds es n agree.0 agree.1 (same_selection_with π t u (selection_with_name π t ds n) (selection_with_name π u es n) c one agree.2 agree.3 agree.4 at_one)
 
 -- the names of selections, in their order
-abbrev pub HaveNames : Data → List Data → List NameParts → Type 0
-HaveNames t ds names = map (name_of t) ds ≡ map Some names
+abbrev pub HaveNames : Preference → Data → List Data → List NameParts → Type 0
+HaveNames π t ds names = map (name_of π t) ds ≡ map Some names
 
-pub names_of_selections : (t : Data) (ds : List Data) (names : List NameParts) → have_keys name_cmp (name_of t) ds names ≡ true → HaveNames t ds names
-names_of_selections t ds names h = keys_had name_cmp equal_names (name_of t) ds names h
+pub names_of_selections : (π : Preference) (t : Data) (ds : List Data) (names : List NameParts) → have_keys name_cmp (name_of π t) ds names ≡ true → HaveNames π t ds names
+names_of_selections π t ds names h = keys_had name_cmp equal_names (name_of π t) ds names h
 
 -- two maps of selections are equal, if their names stand in any order and the selection of each means the same
-pub same_selections : (t u : Data) (ds es : List Data) (names others : List NameParts) → HaveNames t ds names → HaveNames u es others → AreAmong names others
-    → AgreeAt (selection_map t ds) (selection_map u es) names → selection_map t ds ≡ selection_map u es
-same_selections t u ds es names others have have_others among agree =
-    fun_ext (same_at_every (λ m n. is_eq (name_cmp m n)) equal_names (selection_map t ds) (selection_map u es) names agree
-    (λ n h. ap (option_and_then (selection_record t)) (none_found (has_name t n) ds (looked_for name_cmp (name_of t) ds names have n ∙ h)))
-    (λ n h. ap (option_and_then (selection_record u)) (none_found (has_name u n) es
-    (looked_for name_cmp (name_of u) es others have_others n ∙ none_among (λ m. is_eq (name_cmp m n)) names others among h))))
+pub same_selections : (π : Preference) (t u : Data) (ds es : List Data) (names others : List NameParts) → HaveNames π t ds names → HaveNames π u es others → AreAmong names others
+    → AgreeAt (selection_map π t ds) (selection_map π u es) names → selection_map π t ds ≡ selection_map π u es
+same_selections π t u ds es names others have have_others among agree =
+    fun_ext (same_at_every (λ m n. is_eq (name_cmp m n)) equal_names (selection_map π t ds) (selection_map π u es) names agree
+    (λ n h. ap (option_and_then (selection_record π t)) (none_found (has_name π t n) ds (looked_for name_cmp (name_of π t) ds names have n ∙ h)))
+    (λ n h. ap (option_and_then (selection_record π u)) (none_found (has_name π u n) es
+    (looked_for name_cmp (name_of π u) es others have_others n ∙ none_among (λ m. is_eq (name_cmp m n)) names others among h))))
 
 -- ---- the whole
 
 -- reports mean the same, if they and their elections do, and their objects at each key
-pub same_meaning : (t u : Data) → object_record t role.Report t ≡ object_record u role.Report u → (meaning t).election ≡ (meaning u).election
-    → ((f : Family) (k : Key) → records_of t f k ≡ records_of u f k) → meaning t ≡ meaning u
-same_meaning t u report election at_key =
-    ap (λ x. record { report = x; election = (meaning t).election; objects = records_of t }) report
-    ∙ (ap (λ x. record { report = object_record u role.Report u; election = x; objects = records_of t }) election
-    ∙ ap (λ x. record { report = object_record u role.Report u; election = (meaning u).election; objects = x }) (fun_ext (λ f. fun_ext (λ k. at_key f k))))
+pub same_meaning : (π ρ : Preference) (t u : Data) → object_record π t role.Report t ≡ object_record ρ u role.Report u → (meaning π t).election ≡ (meaning ρ u).election
+    → ((f : Family) (k : Key) → records_of π t f k ≡ records_of ρ u f k) → meaning π t ≡ meaning ρ u
+same_meaning π ρ t u report election at_key =
+    ap (λ x. record { report = x; election = (meaning π t).election; objects = records_of π t }) report
+    ∙ (ap (λ x. record { report = object_record ρ u role.Report u; election = x; objects = records_of π t }) election
+    ∙ ap (λ x. record { report = object_record ρ u role.Report u; election = (meaning ρ u).election; objects = x }) (fun_ext (λ f. fun_ext (λ k. at_key f k))))

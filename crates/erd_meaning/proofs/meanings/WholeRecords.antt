@@ -16,6 +16,7 @@ use Rattle.erd_tables.specs.declared.class.Class.{Class}
 use Rattle.erd_tables.specs.declared.class.Family.TheVariants as family
 use Rattle.erd_tables.specs.declared.member.MemberKind.{MemberKind}
 use Rattle.erd_tables.specs.declared.member.MemberKind.TheVariants as kind
+use Rattle.erd_meaning.specs.Keys.{Preference}
 use Rattle.erd_meaning.specs.Meaning.{PlainValue, a_plain}
 use Rattle.erd_meaning.specs.Records.{is_in_envelope, plain_value, plain_member, member_value, member_of_class}
 
@@ -51,19 +52,19 @@ neither : (b : Bool) (o : Option PlainValue) → o ≡ None → cond b None o �
 neither true o e = refl
 neither false o e = e
 
-nothing_meant : (t : Data) (k : MemberKind) (plain : Option PlainValue) → plain ≡ None → member_value t k None plain ≡ None
-nothing_meant t (kind.Keyed family.Selection) plain e = refl
-nothing_meant t k plain e = ap (option_map a_plain) e
+nothing_meant : (π : Preference) (t : Data) (k : MemberKind) (plain : Option PlainValue) → plain ≡ None → member_value π t k None plain ≡ None
+nothing_meant π t (kind.Keyed family.Selection) plain e = refl
+nothing_meant π t k plain e = ap (option_map a_plain) e
 
 -- a member that is not there means nothing
-pub absent_plain : (t d : Data) (c : Class) (name : List ℕ) → get name d ≡ None → plain_member t d c name ≡ None
-absent_plain t d c name e =
-    ap (λ o. cond (is_in_envelope c name) None (option_and_then (plain_value t (kind_of_member c name)) o)) e ∙ neither (is_in_envelope c name) None refl
+pub absent_plain : (π : Preference) (t d : Data) (c : Class) (name : List ℕ) → get name d ≡ None → plain_member π t d c name ≡ None
+absent_plain π t d c name e =
+    ap (λ o. cond (is_in_envelope c name) None (option_and_then (plain_value π t (kind_of_member c name)) o)) e ∙ neither (is_in_envelope c name) None refl
 
-pub absent_member : (t d : Data) (c : Class) (name : List ℕ) → get name d ≡ None → member_of_class t d c name ≡ None
-absent_member t d c name e =
-    ap (λ o. member_value t (kind_of_member c name) o (plain_member t d c name)) e
-    ∙ nothing_meant t (kind_of_member c name) (plain_member t d c name) (absent_plain t d c name e)
+pub absent_member : (π : Preference) (t d : Data) (c : Class) (name : List ℕ) → get name d ≡ None → member_of_class π t d c name ≡ None
+absent_member π t d c name e =
+    ap (λ o. member_value π t (kind_of_member c name) o (plain_member π t d c name)) e
+    ∙ nothing_meant π t (kind_of_member c name) (plain_member π t d c name) (absent_plain π t d c name e)
 
 -- ---- at every name
 

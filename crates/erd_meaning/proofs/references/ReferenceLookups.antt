@@ -10,6 +10,7 @@ use Rattle.erd_tables.specs.declared.class.Family.{Family}
 use Rattle.erd_tables.specs.declared.class.Family.TheVariants as family
 use Rattle.erd_check.proofs.Order.{In, any_at}
 use Rattle.erd_check.proofs.Reasons.{both_true}
+use Rattle.erd_meaning.specs.Keys.{Preference}
 use Rattle.erd_meaning.specs.code.ObjectLookups.{is_of_family, keeps_id}
 use Rattle.erd_meaning.specs.Objects.{Placed, has_id, id_of, is_owned, objects, owner}
 use Rattle.erd_meaning.specs.code.ObjectWalk.{Kept, kept, kept_objects, same_id}
@@ -75,37 +76,37 @@ pub named_same : (id : List ℕ) (o : Option (List ℕ)) → same_id o (Some id)
 named_same id None = refl
 named_same id (Some a) = text_same a id
 
-find_kept : (f : Family) (id : List ℕ) (os : List Placed) → option_map (λ k. k.value) (find (keeps_id id) (kept_of f os)) ≡ option_map (λ o. o.value) (find (λ o. has_id id o.value) os)
-find_kept f id [] = refl
-find_kept f id (o ∷ os) = at (keeps_id id (kept f o.value)) (has_id id o.value) (named_same id (id_of o.value)) (find_kept f id os)
+find_kept : (π : Preference) (f : Family) (id : List ℕ) (os : List Placed) → option_map (λ k. k.value) (find (keeps_id id) (kept_of π f os)) ≡ option_map (λ o. o.value) (find (λ o. has_id id o.value) os)
+find_kept π f id [] = refl
+find_kept π f id (o ∷ os) = at (keeps_id id (kept π f o.value)) (has_id id o.value) (named_same id (id_of o.value)) (find_kept π f id os)
   where
-    at : (a b : Bool) → a ≡ b → option_map (λ k. k.value) (find (keeps_id id) (kept_of f os)) ≡ option_map (λ o. o.value) (find (λ o. has_id id o.value) os)
-        → option_map (λ k. k.value) (cond a (Some (kept f o.value)) (find (keeps_id id) (kept_of f os))) ≡ option_map (λ o. o.value) (cond b (Some o) (find (λ o. has_id id o.value) os))
+    at : (a b : Bool) → a ≡ b → option_map (λ k. k.value) (find (keeps_id id) (kept_of π f os)) ≡ option_map (λ o. o.value) (find (λ o. has_id id o.value) os)
+        → option_map (λ k. k.value) (cond a (Some (kept π f o.value)) (find (keeps_id id) (kept_of π f os))) ≡ option_map (λ o. o.value) (cond b (Some o) (find (λ o. has_id id o.value) os))
     at true true e h = refl
     at true false e h = cc
     at false true e h = cc
     at false false e h = h
 
-pub owner_same : (t : Data) (f : Family) (id : List ℕ) → owner_among (kept_objects t) f id ≡ owner t f id
-owner_same t f id =
-    ap (option_map (λ (k : Kept). k.value)) (find_both (is_of_family f) (keeps_id id) (kept_objects t) ∙ ap (find (keeps_id id)) (those_kept f t))
-    ∙ find_kept f id (objects f t)
+pub owner_same : (π : Preference) (t : Data) (f : Family) (id : List ℕ) → owner_among (kept_objects π t) f id ≡ owner t f id
+owner_same π t f id =
+    ap (option_map (λ (k : Kept). k.value)) (find_both (is_of_family f) (keeps_id id) (kept_objects π t) ∙ ap (find (keeps_id id)) (those_kept π f t))
+    ∙ find_kept π f id (objects f t)
 
 -- ---- an object of any family
 
-from_known : (t : Data) (id : List ℕ) → is_known (kept_objects t) id ≡ true → is_owned t id ≡ true
-from_known t id h =
-    let x = any_from (keeps_id id) (kept_objects t) h in
+from_known : (π : Preference) (t : Data) (id : List ℕ) → is_known (kept_objects π t) id ≡ true → is_owned t id ≡ true
+from_known π t id h =
+    let x = any_from (keeps_id id) (kept_objects π t) h in
     let f = x.0.family in
     let passes : is_of_family f x.0 && keeps_id id x.0 ≡ true = both_true (is_of_family f x.0) (keeps_id id x.0) (itself (family_number f)) x.2 in
-    let found : is_some (owner_among (kept_objects t) f id) ≡ true =
-    found_some (λ (k : Kept). k.value) (λ k. is_of_family f k && keeps_id id k) x.0 (kept_objects t) x.1 passes in
-    any_at (λ f. is_some (owner t f id)) f families (every_family f) (ap is_some (sym (owner_same t f id)) ∙ found)
+    let found : is_some (owner_among (kept_objects π t) f id) ≡ true =
+    found_some (λ (k : Kept). k.value) (λ k. is_of_family f k && keeps_id id k) x.0 (kept_objects π t) x.1 passes in
+    any_at (λ f. is_some (owner t f id)) f families (every_family f) (ap is_some (sym (owner_same π t f id)) ∙ found)
 
-to_known : (t : Data) (id : List ℕ) → is_owned t id ≡ true → is_known (kept_objects t) id ≡ true
-to_known t id h =
+to_known : (π : Preference) (t : Data) (id : List ℕ) → is_owned t id ≡ true → is_known (kept_objects π t) id ≡ true
+to_known π t id h =
     let x = any_from (λ f. is_some (owner t f id)) families h in
-    found_any (λ (k : Kept). k.value) (is_of_family x.0) (keeps_id id) (kept_objects t) (ap is_some (owner_same t x.0 id) ∙ x.2)
+    found_any (λ (k : Kept). k.value) (is_of_family x.0) (keeps_id id) (kept_objects π t) (ap is_some (owner_same π t x.0 id) ∙ x.2)
 
-pub known_same : (t : Data) (id : List ℕ) → is_known (kept_objects t) id ≡ is_owned t id
-known_same t id = both_tests (is_known (kept_objects t) id) (is_owned t id) (from_known t id) (to_known t id)
+pub known_same : (π : Preference) (t : Data) (id : List ℕ) → is_known (kept_objects π t) id ≡ is_owned t id
+known_same π t id = both_tests (is_known (kept_objects π t) id) (is_owned t id) (from_known π t id) (to_known π t id)

@@ -7,6 +7,7 @@ use Rattle.erd_check.specs.Faults.{NoneOf, ShapeFault}
 use Rattle.erd_check.specs.Refusals.{RefusedFor}
 use Rattle.erd_check.specs.declared.error.CheckError.{CheckError}
 use Rattle.erd_check.specs.declared.error.CheckError.TheVariants.{Faults, Memory}
+use Rattle.erd_meaning.specs.Keys.{Preference}
 use Rattle.erd_meaning.specs.Accepted.{IsFault, OrElse}
 use Rattle.erd_meaning.specs.LaterFaults.{IdentityFault, ReferenceFault, SelectionFault}
 use Rattle.erd_meaning.proofs.refused.RefusedLists.{first_refused, second_refused}
@@ -20,22 +21,22 @@ second_phase First Second (Faults faults) none h = (second_refused First Second 
 second_phase First Second Memory none h = h
 
 -- the faults of each phase, and of those after it
-abbrev FromReferences : Data → List Step → Reason → Type 0
-FromReferences t = OrElse (ReferenceFault t) (SelectionFault t)
+abbrev FromReferences : Preference → Data → List Step → Reason → Type 0
+FromReferences π t = OrElse (ReferenceFault t) (SelectionFault π t)
 
-abbrev FromIdentity : Data → List Step → Reason → Type 0
-FromIdentity t = OrElse (IdentityFault t) (FromReferences t)
+abbrev FromIdentity : Preference → Data → List Step → Reason → Type 0
+FromIdentity π t = OrElse (IdentityFault π t) (FromReferences π t)
 
-pub refused_for_identity : (t : Data) (e : CheckError) → NoneOf (ShapeFault t) → RefusedFor (IdentityFault t) e → RefusedFor (IsFault t) e
-refused_for_identity t e shape h = second_phase (ShapeFault t) (FromIdentity t) e shape (first_phase (IdentityFault t) (FromReferences t) e h)
+pub refused_for_identity : (π : Preference) (t : Data) (e : CheckError) → NoneOf (ShapeFault t) → RefusedFor (IdentityFault π t) e → RefusedFor (IsFault π t) e
+refused_for_identity π t e shape h = second_phase (ShapeFault t) (FromIdentity π t) e shape (first_phase (IdentityFault π t) (FromReferences π t) e h)
 
-pub refused_for_references : (t : Data) (e : CheckError) → NoneOf (ShapeFault t) → NoneOf (IdentityFault t) → RefusedFor (ReferenceFault t) e → RefusedFor (IsFault t) e
-refused_for_references t e shape identity h =
-    second_phase (ShapeFault t) (FromIdentity t) e shape
-    (second_phase (IdentityFault t) (FromReferences t) e identity (first_phase (ReferenceFault t) (SelectionFault t) e h))
+pub refused_for_references : (π : Preference) (t : Data) (e : CheckError) → NoneOf (ShapeFault t) → NoneOf (IdentityFault π t) → RefusedFor (ReferenceFault t) e → RefusedFor (IsFault π t) e
+refused_for_references π t e shape identity h =
+    second_phase (ShapeFault t) (FromIdentity π t) e shape
+    (second_phase (IdentityFault π t) (FromReferences π t) e identity (first_phase (ReferenceFault t) (SelectionFault π t) e h))
 
-pub refused_for_selections : (t : Data) (e : CheckError) → NoneOf (ShapeFault t) → NoneOf (IdentityFault t) → NoneOf (ReferenceFault t) → RefusedFor (SelectionFault t) e
-    → RefusedFor (IsFault t) e
-refused_for_selections t e shape identity references h =
-    second_phase (ShapeFault t) (FromIdentity t) e shape
-    (second_phase (IdentityFault t) (FromReferences t) e identity (second_phase (ReferenceFault t) (SelectionFault t) e references h))
+pub refused_for_selections : (π : Preference) (t : Data) (e : CheckError) → NoneOf (ShapeFault t) → NoneOf (IdentityFault π t) → NoneOf (ReferenceFault t) → RefusedFor (SelectionFault π t) e
+    → RefusedFor (IsFault π t) e
+refused_for_selections π t e shape identity references h =
+    second_phase (ShapeFault t) (FromIdentity π t) e shape
+    (second_phase (IdentityFault π t) (FromReferences π t) e identity (second_phase (ReferenceFault t) (SelectionFault π t) e references h))

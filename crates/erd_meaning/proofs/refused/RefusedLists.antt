@@ -10,6 +10,7 @@ use Rattle.erd_check.specs.Faults.{ShapeFault, NoneOf}
 use Rattle.erd_check.specs.Trees.{IsTree}
 use Rattle.erd_check.proofs.FaultLists.{none_from_empty}
 use Rattle.erd_check.proofs.Order.{contains_from_In}
+use Rattle.erd_meaning.specs.Keys.{Preference}
 use Rattle.erd_meaning.specs.Accepted.{IsAccepted, IsFault, OrElse}
 use Rattle.erd_meaning.specs.LaterFaults.{IdentityFault, ReferenceFault, SelectionFault}
 use Rattle.erd_meaning.proofs.identity.IdentityFaults.{identity_listed, identity_told}
@@ -43,28 +44,28 @@ second_refused First Second faults none all = record {
     only p r (inl h) = absurd (none p r h)
     only p r (inr (n, h)) = h
 
-pub refused_by_shape : (t : Data) {f : Fault} {fs : List Fault} → ListsAll (ShapeFault t) (f ∷ fs) → ListsAll (IsFault t) (f ∷ fs)
-refused_by_shape t {f} {fs} all = first_refused (ShapeFault t) _ (f ∷ fs) all (λ e. cc)
+pub refused_by_shape : (π : Preference) (t : Data) {f : Fault} {fs : List Fault} → ListsAll (ShapeFault t) (f ∷ fs) → ListsAll (IsFault π t) (f ∷ fs)
+refused_by_shape π t {f} {fs} all = first_refused (ShapeFault t) _ (f ∷ fs) all (λ e. cc)
 
 -- ---- by the lists that compute
 
-pub refused_by_identity : (t : Data) (f : Fault) (fs : List Fault) → NoneOf (ShapeFault t) → identity_told t ≡ f ∷ fs → ListsAll (IsFault t) (f ∷ fs)
-refused_by_identity t f fs shape found =
-    second_refused (ShapeFault t) _ (f ∷ fs) shape (first_refused (IdentityFault t) _ (f ∷ fs) (subst (ListsAll (IdentityFault t)) found (identity_listed t)) (λ e. cc))
+pub refused_by_identity : (π : Preference) (t : Data) (f : Fault) (fs : List Fault) → NoneOf (ShapeFault t) → identity_told π t ≡ f ∷ fs → ListsAll (IsFault π t) (f ∷ fs)
+refused_by_identity π t f fs shape found =
+    second_refused (ShapeFault t) _ (f ∷ fs) shape (first_refused (IdentityFault π t) _ (f ∷ fs) (subst (ListsAll (IdentityFault π t)) found (identity_listed π t)) (λ e. cc))
 
-pub refused_by_references : (t : Data) (f : Fault) (fs : List Fault) → IsTree t → NoneOf (ShapeFault t) → length (identity_told t) ≡ 0 → reference_faults t ≡ f ∷ fs → ListsAll (IsFault t) (f ∷ fs)
-refused_by_references t f fs tree shape identity found =
-    second_refused (ShapeFault t) _ (f ∷ fs) shape (second_refused (IdentityFault t) _ (f ∷ fs) (none_from_empty (IdentityFault t) (identity_told t) (identity_listed t) identity)
+pub refused_by_references : (π : Preference) (t : Data) (f : Fault) (fs : List Fault) → IsTree t → NoneOf (ShapeFault t) → length (identity_told π t) ≡ 0 → reference_faults t ≡ f ∷ fs → ListsAll (IsFault π t) (f ∷ fs)
+refused_by_references π t f fs tree shape identity found =
+    second_refused (ShapeFault t) _ (f ∷ fs) shape (second_refused (IdentityFault π t) _ (f ∷ fs) (none_from_empty (IdentityFault π t) (identity_told π t) (identity_listed π t) identity)
     (first_refused (ReferenceFault t) _ (f ∷ fs) (subst (ListsAll (ReferenceFault t)) found (reference_faults_listed t tree)) (λ e. cc)))
 
-pub refused_by_selections : (t : Data) (f : Fault) (fs : List Fault) → IsTree t → NoneOf (ShapeFault t) → length (identity_told t) ≡ 0 → length (reference_faults t) ≡ 0 → selections_told t ≡ f ∷ fs → ListsAll (IsFault t) (f ∷ fs)
-refused_by_selections t f fs tree shape identity references found =
-    second_refused (ShapeFault t) _ (f ∷ fs) shape (second_refused (IdentityFault t) _ (f ∷ fs) (none_from_empty (IdentityFault t) (identity_told t) (identity_listed t) identity)
-    (second_refused (ReferenceFault t) (SelectionFault t) (f ∷ fs) (none_from_empty (ReferenceFault t) (reference_faults t) (reference_faults_listed t tree) references)
-    (subst (ListsAll (SelectionFault t)) found (selections_listed t))))
+pub refused_by_selections : (π : Preference) (t : Data) (f : Fault) (fs : List Fault) → IsTree t → NoneOf (ShapeFault t) → length (identity_told π t) ≡ 0 → length (reference_faults t) ≡ 0 → selections_told π t ≡ f ∷ fs → ListsAll (IsFault π t) (f ∷ fs)
+refused_by_selections π t f fs tree shape identity references found =
+    second_refused (ShapeFault t) _ (f ∷ fs) shape (second_refused (IdentityFault π t) _ (f ∷ fs) (none_from_empty (IdentityFault π t) (identity_told π t) (identity_listed π t) identity)
+    (second_refused (ReferenceFault t) (SelectionFault π t) (f ∷ fs) (none_from_empty (ReferenceFault t) (reference_faults t) (reference_faults_listed t tree) references)
+    (subst (ListsAll (SelectionFault π t)) found (selections_listed π t))))
 
-pub accepted_by_lists : (t : Data) → IsTree t → NoneOf (ShapeFault t) → length (identity_told t) ≡ 0 → length (reference_faults t) ≡ 0 → length (selections_told t) ≡ 0 → IsAccepted t
-accepted_by_lists t tree shape identity references selections =
-    accepted_by_phases t shape (none_from_empty (IdentityFault t) (identity_told t) (identity_listed t) identity)
+pub accepted_by_lists : (π : Preference) (t : Data) → IsTree t → NoneOf (ShapeFault t) → length (identity_told π t) ≡ 0 → length (reference_faults t) ≡ 0 → length (selections_told π t) ≡ 0 → IsAccepted π t
+accepted_by_lists π t tree shape identity references selections =
+    accepted_by_phases π t shape (none_from_empty (IdentityFault π t) (identity_told π t) (identity_listed π t) identity)
     (none_from_empty (ReferenceFault t) (reference_faults t) (reference_faults_listed t tree) references)
-    (none_from_empty (SelectionFault t) (selections_told t) (selections_listed t) selections)
+    (none_from_empty (SelectionFault π t) (selections_told π t) (selections_listed π t) selections)

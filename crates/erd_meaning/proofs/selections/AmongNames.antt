@@ -8,7 +8,7 @@ use Rattle.erd_tables.specs.declared.class.Class.TheVariants as class
 use Rattle.erd_tables.specs.declared.class.Family.{Family}
 use Rattle.erd_tables.specs.declared.class.Family.TheVariants as family
 use Rattle.erd_check.specs.Wants.{class_of_object}
-use Rattle.erd_meaning.specs.Keys.{has_keys, key_cmp, key_of, key_of_family_object}
+use Rattle.erd_meaning.specs.Keys.{Preference, has_keys, key_cmp, key_of, key_of_family_object}
 use Rattle.erd_check.specs.Values.{entries_at}
 use Rattle.erd_meaning.specs.code.ObjectLookups.{is_of_family, keeps_id}
 use Rattle.erd_meaning.specs.code.NamesAmong.{class_name_among, key_among, keys_among, name_among, selection_keys_among}
@@ -20,61 +20,61 @@ use Rattle.erd_meaning.proofs.references.ReferenceLookups.{find_both, named_same
 
 -- ---- the key of what an `@id` names
 
-keyed : (f : Family) (d : Data) → has_keys f ≡ true → key_of_family_object f d ≡ key_of d
-keyed f d e = ap (λ b. cond b (key_of d) None) e
+keyed : (π : Preference) (f : Family) (d : Data) → has_keys f ≡ true → key_of_family_object π f d ≡ key_of π d
+keyed π f d e = ap (λ b. cond b (key_of π d) None) e
 
-key_found : (f : Family) (id : List ℕ) (os : List Placed) → has_keys f ≡ true
-    → option_and_then (λ k. k.key) (find (keeps_id id) (kept_of f os)) ≡ option_and_then key_of (option_map (λ o. o.value) (find (λ o. has_id id o.value) os))
-key_found f id [] h = refl
-key_found f id (o ∷ os) h = at (keeps_id id (kept f o.value)) (has_id id o.value) (named_same id (id_of o.value)) (key_found f id os h)
+key_found : (π : Preference) (f : Family) (id : List ℕ) (os : List Placed) → has_keys f ≡ true
+    → option_and_then (λ k. k.key) (find (keeps_id id) (kept_of π f os)) ≡ option_and_then (key_of π) (option_map (λ o. o.value) (find (λ o. has_id id o.value) os))
+key_found π f id [] h = refl
+key_found π f id (o ∷ os) h = at (keeps_id id (kept π f o.value)) (has_id id o.value) (named_same id (id_of o.value)) (key_found π f id os h)
   where
     at : (a b : Bool) → a ≡ b
-        → option_and_then (λ k. k.key) (find (keeps_id id) (kept_of f os)) ≡ option_and_then key_of (option_map (λ o. o.value) (find (λ o. has_id id o.value) os))
-        → option_and_then (λ k. k.key) (cond a (Some (kept f o.value)) (find (keeps_id id) (kept_of f os))) ≡ option_and_then key_of (option_map (λ o. o.value) (cond b (Some o) (find (λ o. has_id id o.value) os)))
-    at true true e k = keyed f o.value h
+        → option_and_then (λ k. k.key) (find (keeps_id id) (kept_of π f os)) ≡ option_and_then (key_of π) (option_map (λ o. o.value) (find (λ o. has_id id o.value) os))
+        → option_and_then (λ k. k.key) (cond a (Some (kept π f o.value)) (find (keeps_id id) (kept_of π f os))) ≡ option_and_then (key_of π) (option_map (λ o. o.value) (cond b (Some o) (find (λ o. has_id id o.value) os)))
+    at true true e k = keyed π f o.value h
     at true false e k = cc
     at false true e k = cc
     at false false e k = k
 
-key_same : (t : Data) (f : Family) (id : List ℕ) → has_keys f ≡ true → key_among (kept_objects t) f id ≡ key_named t f id
-key_same t f id h =
-    ap (option_and_then (λ (k : Kept). k.key)) (find_both (is_of_family f) (keeps_id id) (kept_objects t) ∙ ap (find (keeps_id id)) (those_kept f t))
-    ∙ key_found f id (objects f t) h
+key_same : (π : Preference) (t : Data) (f : Family) (id : List ℕ) → has_keys f ≡ true → key_among (kept_objects π t) f id ≡ key_named π t f id
+key_same π t f id h =
+    ap (option_and_then (λ (k : Kept). k.key)) (find_both (is_of_family f) (keeps_id id) (kept_objects π t) ∙ ap (find (keeps_id id)) (those_kept π f t))
+    ∙ key_found π f id (objects f t) h
 
 -- ---- the keys of a selection
 
-referred_same : (t : Data) (f : Family) (o : Option (List ℕ)) → has_keys f ≡ true → option_and_then (key_among (kept_objects t) f) o ≡ option_and_then (key_named t f) o
-referred_same t f None h = refl
-referred_same t f (Some id) h = key_same t f id h
+referred_same : (π : Preference) (t : Data) (f : Family) (o : Option (List ℕ)) → has_keys f ≡ true → option_and_then (key_among (kept_objects π t) f) o ≡ option_and_then (key_named π t f) o
+referred_same π t f None h = refl
+referred_same π t f (Some id) h = key_same π t f id h
 
-keys_same : (t : Data) (f : Family) (ds : List Data) → has_keys f ≡ true → keys_among (kept_objects t) f ds ≡ keys_named t f ds
-keys_same t f [] h = refl
-keys_same t f (d ∷ ds) h =
-    ap (λ o. cons_option o (keys_among (kept_objects t) f ds)) (referred_same t f (as_str d) h)
-    ∙ ap (cons_option (option_and_then (key_named t f) (as_str d))) (keys_same t f ds h)
+keys_same : (π : Preference) (t : Data) (f : Family) (ds : List Data) → has_keys f ≡ true → keys_among (kept_objects π t) f ds ≡ keys_named π t f ds
+keys_same π t f [] h = refl
+keys_same π t f (d ∷ ds) h =
+    ap (λ o. cons_option o (keys_among (kept_objects π t) f ds)) (referred_same π t f (as_str d) h)
+    ∙ ap (cons_option (option_and_then (key_named π t f) (as_str d))) (keys_same π t f ds h)
 
-selection_keys_same : (t : Data) (c : Class) (d : Data) → selection_keys_among (kept_objects t) c d ≡ keys_of_selection t c d
-selection_keys_same t class.CandidateSelection d = keys_same t family.Candidate (entries_at (codes "CandidateIds") d) refl
-selection_keys_same t class.PartySelection d = keys_same t family.Party (entries_at (codes "PartyIds") d) refl
-selection_keys_same t c d = refl
+selection_keys_same : (π : Preference) (t : Data) (c : Class) (d : Data) → selection_keys_among (kept_objects π t) c d ≡ keys_of_selection π t c d
+selection_keys_same π t class.CandidateSelection d = keys_same π t family.Candidate (entries_at (codes "CandidateIds") d) refl
+selection_keys_same π t class.PartySelection d = keys_same π t family.Party (entries_at (codes "PartyIds") d) refl
+selection_keys_same π t c d = refl
 
 -- ---- names
 
-class_name_same : (t : Data) (c : Class) (d : Data) → class_name_among (kept_objects t) c d ≡ name_in_class t c d
-class_name_same t c d =
-    let keys_equal = selection_keys_same t c d in
+class_name_same : (π : Preference) (t : Data) (c : Class) (d : Data) → class_name_among π (kept_objects π t) c d ≡ name_in_class π t c d
+class_name_same π t c d =
+    let keys_equal = selection_keys_same π t c d in
     λ i. record {
       class = c;
       keys = rising_list key_cmp (keys_equal i);
       write_in = is_write_in c d;
       order = order_of_selection d;
       label = label_of_selection c d;
-      identifier = key_of d;
+      identifier = key_of π d;
     }
 
-pub name_same : (t d : Data) → name_among (kept_objects t) d ≡ name_of t d
-name_same t d = at (class_of_object selection_role d)
+pub name_same : (π : Preference) (t d : Data) → name_among π (kept_objects π t) d ≡ name_of π t d
+name_same π t d = at (class_of_object selection_role d)
   where
-    at : (o : Option Class) → option_map (λ c. class_name_among (kept_objects t) c d) o ≡ option_map (λ c. name_in_class t c d) o
+    at : (o : Option Class) → option_map (λ c. class_name_among π (kept_objects π t) c d) o ≡ option_map (λ c. name_in_class π t c d) o
     at None = refl
-    at (Some c) = ap Some (class_name_same t c d)
+    at (Some c) = ap Some (class_name_same π t c d)

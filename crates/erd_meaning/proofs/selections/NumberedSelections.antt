@@ -8,6 +8,7 @@ use Rattle.serde_json.specs.Data.{Data}
 use Rattle.erd_tables.specs.declared.class.Family.TheVariants.{Selection}
 use Rattle.erd_check.proofs.FaultsAsked.{In-flat_map_from}
 use Rattle.erd_check.proofs.Order.{In, In-all, In-flat_map, In-map, In-map_from, all_from_In}
+use Rattle.erd_meaning.specs.Keys.{Preference}
 use Rattle.erd_meaning.specs.Objects.{Placed, contests, numbered_selections, numbered_selections_of, selections_of_contest}
 use Rattle.erd_meaning.specs.code.ObjectWalk.{Located, located, located_one}
 use Rattle.erd_meaning.proofs.selections.NamesTold.{Numbered, in_places}
@@ -27,23 +28,23 @@ sorted_from_map f cmp cmp' back (x ∷ xs) p = (
   sorted_from_map f cmp cmp' back xs p.1,
 )
 
-abbrev located_selection : Numbered → Located
-located_selection s = located_one Selection s.1
+abbrev located_selection : Preference → Numbered → Located
+located_selection π s = located_one π Selection s.1
 
-of_contest : (k : ℕ) (os : List Placed) → map {A = Numbered} located_selection (map {B = Numbered} (λ o. (k, o)) os) ≡ located Selection os
-of_contest k [] = refl
-of_contest k (o ∷ os) = ap (λ xs. located_one Selection o ∷ xs) (of_contest k os)
+of_contest : (π : Preference) (k : ℕ) (os : List Placed) → map {A = Numbered} (located_selection π) (map {B = Numbered} (λ o. (k, o)) os) ≡ located π Selection os
+of_contest π k [] = refl
+of_contest π k (o ∷ os) = ap (λ xs. located_one π Selection o ∷ xs) (of_contest π k os)
 
-of_contests : (k : ℕ) (cs : List Placed) → map {A = Numbered} located_selection (flat_map numbered_selections_of (enumerate_from k cs)) ≡ located Selection (flat_map selections_of_contest cs)
-of_contests k [] = refl
-of_contests k (c ∷ cs) =
-    map-append {A = Numbered} located_selection (numbered_selections_of (k, c)) (flat_map numbered_selections_of (enumerate_from (k + 1) cs))
-    ∙ ap₂ ◌++◌ (of_contest k (selections_of_contest c)) (of_contests (k + 1) cs) ∙ sym (located-append Selection (selections_of_contest c) (flat_map selections_of_contest cs))
+of_contests : (π : Preference) (k : ℕ) (cs : List Placed) → map {A = Numbered} (located_selection π) (flat_map numbered_selections_of (enumerate_from k cs)) ≡ located π Selection (flat_map selections_of_contest cs)
+of_contests π k [] = refl
+of_contests π k (c ∷ cs) =
+    map-append {A = Numbered} (located_selection π) (numbered_selections_of (k, c)) (flat_map numbered_selections_of (enumerate_from (k + 1) cs))
+    ∙ ap₂ ◌++◌ (of_contest π k (selections_of_contest c)) (of_contests π (k + 1) cs) ∙ sym (located-append π Selection (selections_of_contest c) (flat_map selections_of_contest cs))
 
-pub numbered_rising : (t : Data) → IsStrictlySortedBy in_places (numbered_selections t)
-numbered_rising t =
-    sorted_from_map {A = Numbered} located_selection in_places apart (λ x y l. before_apart (located_selection x) (located_selection y) l) (numbered_selections t)
-    (subst (IsStrictlySortedBy apart) (sym (of_contests 0 (contests t))) (family_apart Selection t))
+pub numbered_rising : (π : Preference) (t : Data) → IsStrictlySortedBy in_places (numbered_selections t)
+numbered_rising π t =
+    sorted_from_map {A = Numbered} (located_selection π) in_places apart (λ x y l. before_apart (located_selection π x) (located_selection π y) l) (numbered_selections t)
+    (subst (IsStrictlySortedBy apart) (sym (of_contests π 0 (contests t))) (family_apart π Selection t))
 
 -- ---- their contests
 

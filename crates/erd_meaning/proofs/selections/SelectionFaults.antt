@@ -8,6 +8,7 @@ use Rattle.erd_tables.specs.declared.fault.Reason.TheVariants.{TwinSelection}
 use Rattle.erd_tables.specs.declared.place.Step.{Step}
 use Rattle.erd_check.specs.code.Paths.{fault_at}
 use Rattle.erd_check.proofs.Order.{In, In-from_contains, contains_from_In}
+use Rattle.erd_meaning.specs.Keys.{Preference}
 use Rattle.erd_meaning.specs.LaterFaults.{IsBefore, RepeatsName, SelectionFault}
 use Rattle.erd_meaning.specs.NameParts.{NameParts}
 use Rattle.erd_meaning.specs.Objects.{contests, numbered_selections, selections_of_contest}
@@ -17,13 +18,13 @@ use Rattle.erd_meaning.proofs.selections.NamesTold.{HasEarlier, Numbered, ToldTw
 use Rattle.erd_meaning.proofs.selections.NumberedSelections.{numbered_rising, of_its_contest, one_contest, with_number}
 
 -- what is told of the selections of a report
-abbrev pub selections_told : Data → List Fault
-selections_told t = names_told (name_of t) [] (numbered_selections t)
+abbrev pub selections_told : Preference → Data → List Fault
+selections_told π t = names_told (name_of π t) [] (numbered_selections t)
 
 -- two selections of one number and one name
-pub repeats : (t : Data) (one other : Numbered) (n : NameParts) → In {A = Numbered} one (numbered_selections t) → In {A = Numbered} other (numbered_selections t) → other.0 ≡ one.0
-    → name_of t one.1.value ≡ Some n → name_of t other.1.value ≡ Some n → IsBefore other.1 one.1 → RepeatsName t one.1.place
-repeats t one other n i j same named also before =
+pub repeats : (π : Preference) (t : Data) (one other : Numbered) (n : NameParts) → In {A = Numbered} one (numbered_selections t) → In {A = Numbered} other (numbered_selections t) → other.0 ≡ one.0
+    → name_of π t one.1.value ≡ Some n → name_of π t other.1.value ≡ Some n → IsBefore other.1 one.1 → RepeatsName π t one.1.place
+repeats π t one other n i j same named also before =
     let a = of_its_contest t one i in
     let b = of_its_contest t other j in
     let contest : b.contest ≡ a.contest = one_contest t other one b a same in
@@ -41,28 +42,28 @@ repeats t one other n i j same named also before =
       earlier_name = also;
     }
 
-twins : (t : Data) (f : Fault) (told : ToldTwin (name_of t) [] (numbered_selections t) f) → In {A = NumberedName} (told.one.0, told.parts) [] ⊎ HasEarlier (name_of t) (numbered_selections t) told.one told.parts
-    → RepeatsName t told.one.1.place
-twins t f told (inl h) = absurd h
-twins t f told (inr (y, i, same, also, before)) = repeats t told.one y told.parts told.there i same told.named also before
+twins : (π : Preference) (t : Data) (f : Fault) (told : ToldTwin (name_of π t) [] (numbered_selections t) f) → In {A = NumberedName} (told.one.0, told.parts) [] ⊎ HasEarlier (name_of π t) (numbered_selections t) told.one told.parts
+    → RepeatsName π t told.one.1.place
+twins π t f told (inl h) = absurd h
+twins π t f told (inr (y, i, same, also, before)) = repeats π t told.one y told.parts told.there i same told.named also before
 
-of_told : (t : Data) (f : Fault) → ToldTwin (name_of t) [] (numbered_selections t) f → SelectionFault t f.place f.reason
-of_told t f told = subst (λ (g : Fault). SelectionFault t g.place g.reason) told.is (twins t f told told.other)
+of_told : (π : Preference) (t : Data) (f : Fault) → ToldTwin (name_of π t) [] (numbered_selections t) f → SelectionFault π t f.place f.reason
+of_told π t f told = subst (λ (g : Fault). SelectionFault π t g.place g.reason) told.is (twins π t f told told.other)
 
-told_of_reason : (t : Data) (p : List Step) (r : Reason) → SelectionFault t p r → In (fault_at p r) (selections_told t)
-told_of_reason t p TwinSelection h =
+told_of_reason : (π : Preference) (t : Data) (p : List Step) (r : Reason) → SelectionFault π t p r → In (fault_at p r) (selections_told π t)
+told_of_reason π t p TwinSelection h =
     let number = with_number t h.contest (In-from_contains h.contest (contests t) h.contest_stands) in
     let later = number.1 h.later (In-from_contains h.later (selections_of_contest h.contest) h.later_stands) in
     let earlier = number.1 h.earlier (In-from_contains h.earlier (selections_of_contest h.contest) h.earlier_stands) in
-    subst (λ q. In (fault_at q TwinSelection) (selections_told t)) (sym h.place)
-    (twin_told (name_of t) [] (numbered_selections t) (number.0, h.later) h.name (numbered_rising t) later h.later_name (inr ((number.0, h.earlier), earlier, refl, h.earlier_name, h.before)))
-told_of_reason t p r h = absurd h
+    subst (λ q. In (fault_at q TwinSelection) (selections_told π t)) (sym h.place)
+    (twin_told (name_of π t) [] (numbered_selections t) (number.0, h.later) h.name (numbered_rising π t) later h.later_name (inr ((number.0, h.earlier), earlier, refl, h.earlier_name, h.before)))
+told_of_reason π t p r h = absurd h
 
-pub selections_listed : (t : Data) → ListsAll (SelectionFault t) (selections_told t)
-selections_listed t = record {
-  rising = names_rising (name_of t) [] (numbered_selections t) (numbered_rising t);
+pub selections_listed : (π : Preference) (t : Data) → ListsAll (SelectionFault π t) (selections_told π t)
+selections_listed π t = record {
+  rising = names_rising (name_of π t) [] (numbered_selections t) (numbered_rising π t);
   each = λ f. (
-    λ h. of_told t f (told_twin (name_of t) [] (numbered_selections t) f (numbered_rising t) (In-from_contains f (selections_told t) h)),
-    λ h. contains_from_In f (selections_told t) (told_of_reason t f.place f.reason h),
+    λ h. of_told π t f (told_twin (name_of π t) [] (numbered_selections t) f (numbered_rising π t) (In-from_contains f (selections_told π t) h)),
+    λ h. contains_from_In f (selections_told π t) (told_of_reason π t f.place f.reason h),
   );
 }

@@ -11,6 +11,7 @@ use Rattle.erd_check.specs.Wants.{class_of_object}
 use Rattle.erd_check.proofs.ObjectsAt.{ObjectIn, object_in}
 use Rattle.erd_check.proofs.Order.{In, In-flat_map}
 use Rattle.erd_check.proofs.Rising.{Has, here, later}
+use Rattle.erd_meaning.specs.Keys.{Preference}
 use Rattle.erd_meaning.specs.LaterFaults.{SelectionFault}
 use Rattle.erd_meaning.specs.Lookups.{selection_in}
 use Rattle.erd_meaning.specs.NameParts.{NameParts}
@@ -41,11 +42,11 @@ selection_class t none o i =
 abbrev HaveNames : (Data → Option NameParts) → List Numbered → Type 0
 HaveNames name xs = (x : Numbered) → In {A = Numbered} x xs → (n : NameParts) × (name x.1.value ≡ Some n)
 
-selections_named : (t : Data) → NoneOf (ShapeFault t) → HaveNames (name_of t) (numbered_selections t)
-selections_named t none x i =
+selections_named : (π : Preference) (t : Data) → NoneOf (ShapeFault t) → HaveNames (name_of π t) (numbered_selections t)
+selections_named π t none x i =
     let contest = of_its_contest t x i in
     let c = selection_class t none x.1 (In-flat_map selections_of_contest x.1 contest.contest (contests t) contest.there contest.inside) in
-    (name_in_class t c.0 x.1.value, ap (option_map (λ k. name_in_class t k x.1.value)) c.1)
+    (name_in_class π t c.0 x.1.value, ap (option_map (λ k. name_in_class π t k x.1.value)) c.1)
 
 -- ---- the name at a position
 
@@ -70,41 +71,41 @@ names_at name (x ∷ xs) (suc i) have =
     let n = have x (inl refl) in
     later_name x.0 i (name x.1.value) n.0 (flat_map (name_list name) xs) n.1 ∙ names_at name xs i (λ y j. have y (inr j))
 
-pub names_listed : (t : Data) → NoneOf (ShapeFault t) → AreNames t (flat_map (name_list (name_of t)) (numbered_selections t))
-names_listed t none i = names_at (name_of t) (numbered_selections t) i (selections_named t none)
+pub names_listed : (π : Preference) (t : Data) → NoneOf (ShapeFault t) → AreNames π t (flat_map (name_list (name_of π t)) (numbered_selections t))
+names_listed π t none i = names_at (name_of π t) (numbered_selections t) i (selections_named π t none)
 
 -- ---- one name in one contest
 
 -- the selection at a position, of this contest and with this name
-record SelectionAt (t : Data) (i c : ℕ) (n : NameParts) : Type 0 where
+record SelectionAt (π : Preference) (t : Data) (i c : ℕ) (n : NameParts) : Type 0 where
   one : Numbered
   at : slice_get (numbered_selections t) i ≡ Some one
   number : one.0 ≡ c
-  named : name_of t one.1.value ≡ Some n
+  named : name_of π t one.1.value ≡ Some n
 
 parts_of : (c d : ℕ) (o : Option NameParts) (n : NameParts) → numbered_name c o ≡ Some (d, n) → (c ≡ d) × (o ≡ Some n)
 parts_of c d None n e = cc
 parts_of c d (Some m) n e = let parts : ◌≡◌ {A = NumberedName} (c, m) (d, n) = cc in (ap (λ (s : NumberedName). s.0) parts, ap (λ (s : NumberedName). Some s.1) parts)
 
-selection_at : (t : Data) (i c : ℕ) (n : NameParts) → selection_in t i ≡ Some (c, n) → SelectionAt t i c n
-selection_at t i c n e = from (slice_get (numbered_selections t) i) refl e
+selection_at : (π : Preference) (t : Data) (i c : ℕ) (n : NameParts) → selection_in π t i ≡ Some (c, n) → SelectionAt π t i c n
+selection_at π t i c n e = from (slice_get (numbered_selections t) i) refl e
   where
-    from : (o : Option Numbered) → slice_get (numbered_selections t) i ≡ o → option_and_then (λ s. numbered_name s.0 (name_of t s.1.value)) o ≡ Some (c, n) → SelectionAt t i c n
+    from : (o : Option Numbered) → slice_get (numbered_selections t) i ≡ o → option_and_then (λ s. numbered_name s.0 (name_of π t s.1.value)) o ≡ Some (c, n) → SelectionAt π t i c n
     from None is h = cc
-    from (Some s) is h = let parts = parts_of s.0 c (name_of t s.1.value) n h in record { one = s; at = is; number = parts.0; named = parts.1 }
+    from (Some s) is h = let parts = parts_of s.0 c (name_of π t s.1.value) n h in record { one = s; at = is; number = parts.0; named = parts.1 }
 
-two_names : (t : Data) (i j c : ℕ) (n : NameParts) → NoneOf (SelectionFault t) → SelectionAt t i c n → SelectionAt t j c n → i < j → ⊥
-two_names t i j c n none a b less =
+two_names : (π : Preference) (t : Data) (i j c : ℕ) (n : NameParts) → NoneOf (SelectionFault π t) → SelectionAt π t i c n → SelectionAt π t j c n → i < j → ⊥
+two_names π t i j c n none a b less =
     none b.one.1.place TwinSelection
-    (repeats t b.one a.one n (in_at {A = Numbered} (numbered_selections t) j b.one b.at) (in_at {A = Numbered} (numbered_selections t) i a.one a.at) (a.number ∙ sym b.number) b.named a.named
-    (sorted_at {A = Numbered} in_places (numbered_selections t) i j a.one b.one (numbered_rising t) less a.at b.at))
+    (repeats π t b.one a.one n (in_at {A = Numbered} (numbered_selections t) j b.one b.at) (in_at {A = Numbered} (numbered_selections t) i a.one a.at) (a.number ∙ sym b.number) b.named a.named
+    (sorted_at {A = Numbered} in_places (numbered_selections t) i j a.one b.one (numbered_rising π t) less a.at b.at))
 
-pub one_selection : (t : Data) (c : ℕ) (n : NameParts) (i j : ℕ) → NoneOf (SelectionFault t) → selection_in t i ≡ Some (c, n) → selection_in t j ≡ Some (c, n) → i ≡ j
-one_selection t c n i j none e g =
-    let a = selection_at t i c n e in
-    let b = selection_at t j c n g in
+pub one_selection : (π : Preference) (t : Data) (c : ℕ) (n : NameParts) (i j : ℕ) → NoneOf (SelectionFault π t) → selection_in π t i ≡ Some (c, n) → selection_in π t j ≡ Some (c, n) → i ≡ j
+one_selection π t c n i j none e g =
+    let a = selection_at π t i c n e in
+    let b = selection_at π t j c n g in
     elim (which_first i j) [
       | inl same ↦ same
-      | inr (inl l) ↦ absurd (two_names t i j c n none a b l)
-      | inr (inr l) ↦ absurd (two_names t j i c n none b a l)
+      | inr (inl l) ↦ absurd (two_names π t i j c n none a b l)
+      | inr (inr l) ↦ absurd (two_names π t j i c n none b a l)
     ]

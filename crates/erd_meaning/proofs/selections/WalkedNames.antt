@@ -5,6 +5,7 @@ use Rattle.erd_tables.specs.Faults.{ListsAll}
 use Rattle.erd_tables.specs.declared.fault.Fault.{Fault}
 use Rattle.erd_check.specs.Faults.{NoneOf, ShapeFault}
 use Rattle.erd_check.proofs.FaultLists.{none_from_empty}
+use Rattle.erd_meaning.specs.Keys.{Preference}
 use Rattle.erd_meaning.specs.LaterFaults.{SelectionFault}
 use Rattle.erd_meaning.specs.NameParts.{NameParts}
 use Rattle.erd_meaning.specs.code.NamesAmong.{name_among}
@@ -22,32 +23,32 @@ use Rattle.erd_meaning.proofs.selections.SelectionFaults.{selections_listed, sel
 use Rattle.erd_meaning.proofs.selections.SelectionsMet.{names_listed}
 
 -- a walk that began with nothing has met the selections of this report, among these objects
-pub record NamesWalked (w v : SelectionWalk) (ks : List Kept) (t : Data) : Type 0 where
+pub record NamesWalked (π : Preference) (w v : SelectionWalk) (ks : List Kept) (t : Data) : Type 0 where
   pub no_name : w.names.items ≡ []
   pub no_fault : w.faults.items ≡ []
-  pub kept : ks ≡ kept_objects t
-  pub met : names_met v ≡ named_all (name_among ks) (names_met w) (numbered_selections t)
+  pub kept : ks ≡ kept_objects π t
+  pub met : names_met v ≡ named_all (name_among π ks) (names_met w) (numbered_selections t)
 
-met_by_name : (w v : SelectionWalk) (ks : List Kept) (t : Data) → NamesWalked w v ks t → names_met v ≡ named_all (name_of t) (names_met w) (numbered_selections t)
-met_by_name w v ks t h =
-    let same : name_among (kept_objects t) ≡ name_of t = λ i d. name_same t d i in
-    h.met ∙ ap (λ (name : Data → Option NameParts). named_all name (names_met w) (numbered_selections t)) (ap name_among h.kept ∙ same)
+met_by_name : (π : Preference) (w v : SelectionWalk) (ks : List Kept) (t : Data) → NamesWalked π w v ks t → names_met v ≡ named_all (name_of π t) (names_met w) (numbered_selections t)
+met_by_name π w v ks t h =
+    let same : name_among π (kept_objects π t) ≡ name_of π t = λ i d. name_same π t d i in
+    h.met ∙ ap (λ (name : Data → Option NameParts). named_all name (names_met w) (numbered_selections t)) (ap (name_among π) h.kept ∙ same)
 
-walked_names : (w v : SelectionWalk) (ks : List Kept) (t : Data) → NamesWalked w v ks t → map name_shown v.names.items ≡ flat_map (name_list (name_of t)) (numbered_selections t)
-walked_names w v ks t h =
-    ap (λ (m : NamesMet). m.names) (met_by_name w v ks t h) ∙ all_names (name_of t) (names_met w) (numbered_selections t)
-    ∙ ap (λ (ns : List NameInContest). map name_shown ns ++ flat_map (name_list (name_of t)) (numbered_selections t)) h.no_name
+walked_names : (π : Preference) (w v : SelectionWalk) (ks : List Kept) (t : Data) → NamesWalked π w v ks t → map name_shown v.names.items ≡ flat_map (name_list (name_of π t)) (numbered_selections t)
+walked_names π w v ks t h =
+    ap (λ (m : NamesMet). m.names) (met_by_name π w v ks t h) ∙ all_names (name_of π t) (names_met w) (numbered_selections t)
+    ∙ ap (λ (ns : List NameInContest). map name_shown ns ++ flat_map (name_list (name_of π t)) (numbered_selections t)) h.no_name
 
-walked_faults : (w v : SelectionWalk) (ks : List Kept) (t : Data) → NamesWalked w v ks t → v.faults.items ≡ selections_told t
-walked_faults w v ks t h =
-    ap (λ (m : NamesMet). m.faults) (met_by_name w v ks t h) ∙ all_faults (name_of t) (names_met w) (numbered_selections t)
-    ∙ ap₂ (λ (fs : List Fault) (ns : List NameInContest). fs ++ names_told (name_of t) (map name_shown ns) (numbered_selections t)) h.no_fault h.no_name
+walked_faults : (π : Preference) (w v : SelectionWalk) (ks : List Kept) (t : Data) → NamesWalked π w v ks t → v.faults.items ≡ selections_told π t
+walked_faults π w v ks t h =
+    ap (λ (m : NamesMet). m.faults) (met_by_name π w v ks t h) ∙ all_faults (name_of π t) (names_met w) (numbered_selections t)
+    ∙ ap₂ (λ (fs : List Fault) (ns : List NameInContest). fs ++ names_told (name_of π t) (map name_shown ns) (numbered_selections t)) h.no_fault h.no_name
 
-pub names_left : (w v : SelectionWalk) (ks : List Kept) (t : Data) → NamesWalked w v ks t → NoneOf (ShapeFault t) → AreNames t (map name_shown v.names.items)
-names_left w v ks t h none = subst (AreNames t) (sym (walked_names w v ks t h)) (names_listed t none)
+pub names_left : (π : Preference) (w v : SelectionWalk) (ks : List Kept) (t : Data) → NamesWalked π w v ks t → NoneOf (ShapeFault t) → AreNames π t (map name_shown v.names.items)
+names_left π w v ks t h none = subst (AreNames π t) (sym (walked_names π w v ks t h)) (names_listed π t none)
 
-pub twins_left : (w v : SelectionWalk) (ks : List Kept) (t : Data) → NamesWalked w v ks t → (fs : List Fault) → fs ≡ v.faults.items → ListsAll (SelectionFault t) fs
-twins_left w v ks t h fs e = subst (ListsAll (SelectionFault t)) (sym (e ∙ walked_faults w v ks t h)) (selections_listed t)
+pub twins_left : (π : Preference) (w v : SelectionWalk) (ks : List Kept) (t : Data) → NamesWalked π w v ks t → (fs : List Fault) → fs ≡ v.faults.items → ListsAll (SelectionFault π t) fs
+twins_left π w v ks t h fs e = subst (ListsAll (SelectionFault π t)) (sym (e ∙ walked_faults π w v ks t h)) (selections_listed π t)
 
-pub no_twin_left : (w v : SelectionWalk) (ks : List Kept) (t : Data) → NamesWalked w v ks t → (fs : List Fault) → fs ≡ v.faults.items → length fs ≡ 0 → NoneOf (SelectionFault t)
-no_twin_left w v ks t h fs e empty = none_from_empty (SelectionFault t) fs (twins_left w v ks t h fs e) empty
+pub no_twin_left : (π : Preference) (w v : SelectionWalk) (ks : List Kept) (t : Data) → NamesWalked π w v ks t → (fs : List Fault) → fs ≡ v.faults.items → length fs ≡ 0 → NoneOf (SelectionFault π t)
+no_twin_left π w v ks t h fs e empty = none_from_empty (SelectionFault π t) fs (twins_left π w v ks t h fs e) empty

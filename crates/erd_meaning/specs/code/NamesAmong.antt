@@ -9,7 +9,7 @@ use Rattle.erd_tables.specs.declared.class.Class.TheVariants as class
 use Rattle.erd_tables.specs.declared.class.Family.{Family}
 use Rattle.erd_tables.specs.declared.class.Family.TheVariants as family
 use Rattle.erd_check.specs.Wants.{class_of_object}
-use Rattle.erd_meaning.specs.Keys.{key_cmp, key_of}
+use Rattle.erd_meaning.specs.Keys.{Preference, key_cmp, key_of}
 use Rattle.erd_check.specs.Values.{entries_at}
 use Rattle.erd_meaning.specs.code.ObjectLookups.{object_among}
 use Rattle.erd_meaning.specs.NameParts.{NameParts}
@@ -32,16 +32,16 @@ selection_keys_among ks class.PartySelection d = keys_among ks family.Party (ent
 selection_keys_among ks c d = []
 
 -- the name of a selection of this class
-abbrev pub class_name_among : List Kept → Class → Data → NameParts
-class_name_among ks c d = record {
+abbrev pub class_name_among : Preference → List Kept → Class → Data → NameParts
+class_name_among π ks c d = record {
   class = c;
   keys = rising_list key_cmp (selection_keys_among ks c d);
   write_in = is_write_in c d;
   order = order_of_selection d;
   label = label_of_selection c d;
-  identifier = key_of d;
+  identifier = key_of π d;
 }
 
 -- the name of a selection: none where it is of no class of selection
-abbrev pub name_among : List Kept → Data → Option NameParts
-name_among ks d = option_map (λ c. class_name_among ks c d) (class_of_object selection_role d)
+abbrev pub name_among : Preference → List Kept → Data → Option NameParts
+name_among π ks d = option_map (λ c. class_name_among π ks c d) (class_of_object selection_role d)

@@ -14,7 +14,7 @@ use Rattle.erd_tables.specs.declared.fault.Reason.TheVariants.{NoIdentifier, Twi
 use Rattle.erd_tables.specs.declared.place.Step.{Step}
 use Rattle.erd_tables.specs.declared.place.Step.TheVariants.{Name}
 use Rattle.erd_check.specs.code.Paths.{fault_at}
-use Rattle.erd_meaning.specs.Keys.{has_keys, key_of_family_object, key_cmp}
+use Rattle.erd_meaning.specs.Keys.{Preference, has_keys, key_cmp, key_of_family_object}
 use Rattle.erd_meaning.specs.Objects.{Placed, elections, id_of, placed_entries, report_of, selections_of_contest}
 use Rattle.erd_meaning.specs.declared.keys.key.Key.{Key}
 
@@ -29,8 +29,8 @@ pub record Kept : Type 0 where
   pub id : Option (List ℕ)
 
 -- what is kept of a value that is an object of the family
-abbrev pub kept : Family → Data → Kept
-kept f d = record { family = f; value = d; key = key_of_family_object f d; id = id_of d }
+abbrev pub kept : Preference → Family → Data → Kept
+kept π f d = record { family = f; value = d; key = key_of_family_object π f d; id = id_of d }
 
 -- what is kept of an object, and its place; the value alone with its place is `Placed`
 pub record Located : Type 0 where
@@ -38,38 +38,38 @@ pub record Located : Type 0 where
   pub object : Kept
 
 -- what is kept of an object of a family at its place
-abbrev pub located_one : Family → Placed → Located
-located_one f o = record { place = o.place; object = kept f o.value }
+abbrev pub located_one : Preference → Family → Placed → Located
+located_one π f o = record { place = o.place; object = kept π f o.value }
 
 -- objects of one family
-abbrev pub located : Family → List Placed → List Located
-located f os = map (located_one f) os
+abbrev pub located : Preference → Family → List Placed → List Located
+located π f os = map (located_one π f) os
 
 -- a contest and its selections
-abbrev pub contest_located : Placed → List Located
-contest_located o = located_one family.Contest o ∷ located family.Selection (selections_of_contest o)
+abbrev pub contest_located : Preference → Placed → List Located
+contest_located π o = located_one π family.Contest o ∷ located π family.Selection (selections_of_contest o)
 
 -- the objects of an election
-abbrev pub election_located : Placed → List Located
-election_located e =
-    located family.Style (placed_entries (codes "BallotStyle") e)
-    ++ (located family.Candidate (placed_entries (codes "Candidate") e) ++ flat_map contest_located (placed_entries (codes "Contest") e))
+abbrev pub election_located : Preference → Placed → List Located
+election_located π e =
+    located π family.Style (placed_entries (codes "BallotStyle") e)
+    ++ (located π family.Candidate (placed_entries (codes "Candidate") e) ++ flat_map (contest_located π) (placed_entries (codes "Contest") e))
 
 -- the objects of a report outside its elections
-abbrev pub shared_located : Placed → List Located
-shared_located r =
-    located family.Unit (placed_entries (codes "GpUnit") r)
-    ++ (located family.Header (placed_entries (codes "Header") r)
-    ++ (located family.Office (placed_entries (codes "Office") r)
-    ++ (located family.Party (placed_entries (codes "Party") r) ++ located family.Person (placed_entries (codes "Person") r))))
+abbrev pub shared_located : Preference → Placed → List Located
+shared_located π r =
+    located π family.Unit (placed_entries (codes "GpUnit") r)
+    ++ (located π family.Header (placed_entries (codes "Header") r)
+    ++ (located π family.Office (placed_entries (codes "Office") r)
+    ++ (located π family.Party (placed_entries (codes "Party") r) ++ located π family.Person (placed_entries (codes "Person") r))))
 
 -- the objects of a report
-abbrev pub all_located : Data → List Located
-all_located t = flat_map election_located (elections t) ++ shared_located (report_of t)
+abbrev pub all_located : Preference → Data → List Located
+all_located π t = flat_map (election_located π) (elections t) ++ shared_located π (report_of t)
 
 -- what is kept of the objects of a report
-abbrev pub kept_objects : Data → List Kept
-kept_objects t = map (λ x. x.object) (all_located t)
+abbrev pub kept_objects : Preference → Data → List Kept
+kept_objects π t = map (λ x. x.object) (all_located π t)
 
 -- ---- faults
 

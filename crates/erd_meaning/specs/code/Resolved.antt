@@ -9,6 +9,7 @@ use Rattle.erd_check.specs.Faults.{NoneOf}
 use Rattle.erd_check.specs.Numbers.{HasFittingNumbers}
 use Rattle.erd_check.specs.Shapes.{IsFaultless}
 use Rattle.erd_check.specs.Trees.{IsTree}
+use Rattle.erd_meaning.specs.Keys.{Preference}
 use Rattle.erd_meaning.specs.LaterFaults.{IdentityFault, ReferenceFault, SelectionFault}
 use Rattle.erd_meaning.specs.Lookups.{selection_in}
 use Rattle.erd_meaning.specs.code.ObjectWalk.{kept_objects}
@@ -18,8 +19,8 @@ use Rattle.erd_meaning.specs.declared.names.name_in_contest.NameInContest.{NameI
 use Rattle.erd_meaning.specs.declared.objects.object.Object.{Object}
 
 -- no two objects of one family have one key, no two objects of the report have one `@id`, and those that need a key have one
-abbrev pub IsIdentified : Value → Type 0
-IsIdentified tree = NoneOf (IdentityFault (view tree))
+abbrev pub IsIdentified : Preference → Value → Type 0
+IsIdentified π tree = NoneOf (IdentityFault π (view tree))
 
 -- each reference names an object of its family, no set of references names one twice, and where an object names a contest,
 -- each selection in its list is one of that contest
@@ -27,21 +28,21 @@ abbrev pub IsReferred : Value → Type 0
 IsReferred tree = NoneOf (ReferenceFault (view tree))
 
 -- no two selections of one contest have one name
-abbrev pub IsToldApart : Value → Type 0
-IsToldApart tree = NoneOf (SelectionFault (view tree))
+abbrev pub IsToldApart : Preference → Value → Type 0
+IsToldApart π tree = NoneOf (SelectionFault π (view tree))
 
 -- these are the names of the selections of a report, in the order of their places
-abbrev pub AreNames : Data → List NumberedName → Type 0
-AreNames t names = (i : ℕ) → slice_get names i ≡ selection_in t i
+abbrev pub AreNames : Preference → Data → List NumberedName → Type 0
+AreNames π t names = (i : ℕ) → slice_get names i ≡ selection_in π t i
 
 -- an accepted report, its objects and the names of its selections, each in the order of their places
-pub record IsResolved (tree : Value) (objects : List Object) (names : List NameInContest) : Type 0 where
+pub record IsResolved (π : Preference) (tree : Value) (objects : List Object) (names : List NameInContest) : Type 0 where
   pub faultless : IsFaultless tree
   pub is_tree : IsTree (view tree)
   pub whole : has_float (view tree) ≡ false
   pub fits : HasFittingNumbers (view tree)
-  pub identified : IsIdentified tree
+  pub identified : IsIdentified π tree
   pub referred : IsReferred tree
-  pub told_apart : IsToldApart tree
-  pub kept : map shown objects ≡ kept_objects (view tree)
-  pub named : AreNames (view tree) (map name_shown names)
+  pub told_apart : IsToldApart π tree
+  pub kept : map shown objects ≡ kept_objects π (view tree)
+  pub named : AreNames π (view tree) (map name_shown names)

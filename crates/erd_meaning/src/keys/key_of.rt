@@ -1,13 +1,16 @@
 ghost use Rattle.std.specs.Prelude.{◌≡◌, IfOk};
+ghost use Rattle.std.specs.Option.{option_copied};
 ghost use Rattle.std.specs.Ordering.{is_lt};
 ghost use Rattle.serde_json.specs.View.{view};
 ghost use Rattle.erd_meaning.specs.Keys.{key_cmp, key_of, triple_of};
+ghost use Rattle.erd_meaning.specs.code.ChosenKeys.{choice_cmp, is_preferred};
 
 use crate::keys::key::Key;
 use erd_check::values::{entries_at, text_at};
 use erd_tables::Text;
 use serde_json::Value;
 use std::alloc::{AllocError, Global};
+use std::cmp::Ordering;
 use std::marker::Model;
 
 /// The three texts of an identifier, borrowed; seen by contracts as a key.
@@ -41,13 +44,32 @@ impl<'a> Triple<'a> {
         }
     }
 
-    fn is_below(&self, other: &Triple) -> bool
-        ensures { result ≡ is_lt (key_cmp self.now other.now) }
+    fn is_of_type(&self, kind: Option<&str>) -> bool
+        ensures { result ≡ is_preferred (option_copied kind.entry) self.now }
+    {
+        match kind {
+            Some(kind) => self.kind == kind,
+            None => false,
+        }
+    }
+
+    fn compare(&self, other: &Triple) -> Ordering
+        ensures { result ≡ key_cmp self.now other.now }
     {
         self.kind
             .cmp(other.kind)
             .then(self.other.cmp(other.other))
             .then(self.value.cmp(other.value))
+    }
+
+    /// Whether it is to be chosen rather than the other: triples of the preferred type come first, and then the lesser.
+    fn goes_before(&self, other: &Triple, prefer: Option<&str>) -> bool
+        ensures { result ≡ is_lt (choice_cmp (option_copied prefer.entry) self.now other.now) }
+    {
+        other
+            .is_of_type(prefer)
+            .cmp(&self.is_of_type(prefer))
+            .then(self.compare(other))
             .is_lt()
     }
 
@@ -61,21 +83,25 @@ impl<'a> Triple<'a> {
     }
 }
 
-/// The key of an object: the least of its identifiers, if it has any.
-pub fn key_of(alloc: Global, object: &Value) -> Result<Option<Key>, AllocError>
-    ensures { IfOk result (λ key. key ≡ key_of (view object.now)) }
+/// The key of an object: the least of its identifiers of the preferred type, if it has one, else the least of all.
+pub fn key_of(
+    alloc: Global,
+    object: &Value,
+    prefer: Option<&str>,
+) -> Result<Option<Key>, AllocError>
+    ensures { IfOk result (λ key. key ≡ key_of (option_copied prefer.entry) (view object.now)) }
 {
     match entries_at(object, "ExternalIdentifier") {
         [] => Ok(None),
         [first, rest @ ..] => {
-            let mut least = Triple::of(first);
+            let mut chosen = Triple::of(first);
             for identifier in rest {
                 let triple = Triple::of(identifier);
-                if triple.is_below(&least) {
-                    least = triple;
+                if triple.goes_before(&chosen, prefer) {
+                    chosen = triple;
                 }
             }
-            Ok(Some(least.to_key(alloc)?))
+            Ok(Some(chosen.to_key(alloc)?))
         }
     }
 }

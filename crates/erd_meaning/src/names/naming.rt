@@ -6,7 +6,7 @@ ghost use Rattle.erd_meaning.specs.code.NamesAmong.{keys_among, name_among, sele
 ghost use Rattle.erd_meaning.specs.SelectionNames.{is_write_in, label_of_selection, order_of_selection, rising_list};
 ghost use Rattle.erd_meaning.specs.code.Shown.{shown};
 
-use crate::keys::key_of::key_of;
+use crate::keys::key_rule::KeyRule;
 use crate::keys::shared_key::SharedKey;
 use crate::names::label::label_text;
 use crate::names::selection_name::SelectionName;
@@ -19,22 +19,22 @@ use std::alloc::{AllocError, Global};
 
 /// The name of a selection, if it is of a class of selection. What its references name is looked up among the objects.
 pub(crate) fn name_of_selection(
-    alloc: Global,
+    keys: &KeyRule,
     objects: &[Object],
     selection: &Value,
 ) -> Result<Option<SelectionName>, AllocError>
     requires whole { has_float (view selection.now) ≡ false }
-    ensures { IfOk result (λ name. name ≡ name_among (map shown objects.now) (view selection.now)) }
+    ensures { IfOk result (λ name. name ≡ name_among keys.now (map shown objects.now) (view selection.now)) }
 {
     let Some(class) = class_of_object(Role::OfFamily(Family::Selection), selection) else {
         return Ok(None);
     };
-    let keys = selection_keys(alloc, objects, class, selection)?;
-    let label = selection_label(alloc, class, selection)?;
-    let identifier = key_of(alloc, selection)?;
+    let named = selection_keys(keys.alloc, objects, class, selection)?;
+    let label = selection_label(keys.alloc, class, selection)?;
+    let identifier = keys.key_of(selection)?;
     Ok(Some(SelectionName {
         class,
-        keys,
+        keys: named,
         write_in: is_write_in(class, selection),
         order: sequence_order(selection),
         label,

@@ -8,6 +8,7 @@ ghost use Rattle.erd_meaning.specs.Objects.{numbered_selections, numbered_select
 ghost use Rattle.erd_meaning.specs.code.SelectionWalk.{named_all, named_one, with_name};
 ghost use Rattle.erd_meaning.specs.code.Shown.{names_met, placed_at, shown};
 
+use crate::keys::key_rule::KeyRule;
 use crate::names::name_in_contest::{NameInContest, is_taken};
 use crate::names::naming::name_of_selection;
 use crate::names::selection_name::SelectionName;
@@ -27,7 +28,7 @@ pub(crate) struct SelectionWalk {
 
 /// Meets the selections of a report, which has one election.
 pub(crate) fn meet_selections(
-    alloc: Global,
+    keys: &KeyRule,
     report: &Value,
     objects: &[Object],
     walk: &mut SelectionWalk,
@@ -35,7 +36,7 @@ pub(crate) fn meet_selections(
     requires faultless { IsFaultless report.now }
     requires whole { has_float (view report.now) ≡ false }
     ensures { IfOk result (λ _. names_met walk.new
-        ≡ named_all (name_among (map shown objects.now)) (names_met walk.old) (numbered_selections (view report.now))) }
+        ≡ named_all (name_among keys.now (map shown objects.now)) (names_met walk.old) (numbered_selections (view report.now))) }
 {
     let election = &entries_at(report, "Election")[0];
     let elections = Path::Member(&Path::Root, "Election");
@@ -43,14 +44,14 @@ pub(crate) fn meet_selections(
     let contests = Path::Member(&path, "Contest");
     for (index, contest) in entries_at(election, "Contest").iter().enumerate() {
         let contest_path = Path::Entry(&contests, index);
-        meet_contest(alloc, objects, index, contest, &contest_path, walk)?;
+        meet_contest(keys, objects, index, contest, &contest_path, walk)?;
     }
     Ok(())
 }
 
 /// Meets the selections of the contest with this number.
 fn meet_contest(
-    alloc: Global,
+    keys: &KeyRule,
     objects: &[Object],
     number: usize,
     contest: &Value,
@@ -59,19 +60,19 @@ fn meet_contest(
 ) -> Result<(), AllocError>
     requires whole { has_float (view contest.now) ≡ false }
     ensures { IfOk result (λ _. names_met walk.new
-        ≡ named_all (name_among (map shown objects.now)) (names_met walk.old) (numbered_selections_of (number, placed_at path.now contest.now))) }
+        ≡ named_all (name_among keys.now (map shown objects.now)) (names_met walk.old) (numbered_selections_of (number, placed_at path.now contest.now))) }
 {
     let array = Path::Member(&*path, "ContestSelection");
     for (index, selection) in entries_at(contest, "ContestSelection").iter().enumerate() {
         let selection_path = Path::Entry(&array, index);
-        meet_selection(alloc, objects, number, selection, &selection_path, walk)?;
+        meet_selection(keys, objects, number, selection, &selection_path, walk)?;
     }
     Ok(())
 }
 
 /// Meets a selection. One of no class of selection has no name, and is passed over.
 fn meet_selection(
-    alloc: Global,
+    keys: &KeyRule,
     objects: &[Object],
     contest: usize,
     selection: &Value,
@@ -80,10 +81,10 @@ fn meet_selection(
 ) -> Result<(), AllocError>
     requires whole { has_float (view selection.now) ≡ false }
     ensures { IfOk result (λ _. names_met walk.new
-        ≡ named_one (name_among (map shown objects.now)) (names_met walk.old) (contest, placed_at path.now selection.now)) }
+        ≡ named_one (name_among keys.now (map shown objects.now)) (names_met walk.old) (contest, placed_at path.now selection.now)) }
 {
-    match name_of_selection(alloc, objects, selection)? {
-        Some(name) => meet_name(alloc, contest, name, path, walk),
+    match name_of_selection(keys, objects, selection)? {
+        Some(name) => meet_name(keys.alloc, contest, name, path, walk),
         None => Ok(()),
     }
 }

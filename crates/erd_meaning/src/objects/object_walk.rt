@@ -7,7 +7,7 @@ ghost use Rattle.erd_meaning.specs.code.ObjectWalk.{kept, faults_after, has_same
 ghost use Rattle.erd_meaning.specs.code.Shown.{shown, met_of, placed_at};
 
 use crate::keys::key::Key;
-use crate::keys::key_of::key_of;
+use crate::keys::key_rule::KeyRule;
 use crate::keys::shared_key::SharedKey;
 use crate::objects::object::Object;
 use erd_check::path::{Path, push_fault};
@@ -26,70 +26,70 @@ pub(crate) struct ObjectWalk<'a> {
 /// Meets the objects of a report.
 #[tactic(auto, using(crate::proofs::identity::MetObjects::met_all_append))]
 pub(crate) fn meet_report<'a>(
-    alloc: Global,
+    keys: &KeyRule,
     report: &'a Value,
     walk: &mut ObjectWalk<'a>,
 ) -> Result<(), AllocError>
-    ensures { IfOk result (λ _. met_of walk.new ≡ met_all (met_of walk.old) (all_located (view report.now))) }
+    ensures { IfOk result (λ _. met_of walk.new ≡ met_all (met_of walk.old) (all_located keys.now (view report.now))) }
 {
     let path = Path::Root;
-    meet_elections(alloc, report, &path, walk)?;
-    meet_entries(alloc, Family::Unit, report, "GpUnit", &path, walk)?;
-    meet_entries(alloc, Family::Header, report, "Header", &path, walk)?;
-    meet_entries(alloc, Family::Office, report, "Office", &path, walk)?;
-    meet_entries(alloc, Family::Party, report, "Party", &path, walk)?;
-    meet_entries(alloc, Family::Person, report, "Person", &path, walk)
+    meet_elections(keys, report, &path, walk)?;
+    meet_entries(keys, Family::Unit, report, "GpUnit", &path, walk)?;
+    meet_entries(keys, Family::Header, report, "Header", &path, walk)?;
+    meet_entries(keys, Family::Office, report, "Office", &path, walk)?;
+    meet_entries(keys, Family::Party, report, "Party", &path, walk)?;
+    meet_entries(keys, Family::Person, report, "Person", &path, walk)
 }
 
 #[tactic(auto, using(crate::proofs::identity::MetObjects::met_all_append))]
 fn meet_elections<'a>(
-    alloc: Global,
+    keys: &KeyRule,
     report: &'a Value,
     path: &Path,
     walk: &mut ObjectWalk<'a>,
 ) -> Result<(), AllocError>
     ensures { IfOk result (λ _. met_of walk.new ≡ met_all (met_of walk.old)
-        (flat_map election_located (placed_entries (codes "Election") (placed_at path.now report.now)))) }
+        (flat_map (election_located keys.now) (placed_entries (codes "Election") (placed_at path.now report.now)))) }
 {
     let elections = Path::Member(&*path, "Election");
     for (index, election) in entries_at(report, "Election").iter().enumerate() {
         let election_path = Path::Entry(&elections, index);
-        meet_election(alloc, election, &election_path, walk)?;
+        meet_election(keys, election, &election_path, walk)?;
     }
     Ok(())
 }
 
 #[tactic(auto, using(crate::proofs::identity::MetObjects::met_all_append))]
 fn meet_election<'a>(
-    alloc: Global,
+    keys: &KeyRule,
     election: &'a Value,
     path: &Path,
     walk: &mut ObjectWalk<'a>,
 ) -> Result<(), AllocError>
     ensures { IfOk result (λ _. met_of walk.new
-        ≡ met_all (met_of walk.old) (election_located (placed_at path.now election.now))) }
+        ≡ met_all (met_of walk.old) (election_located keys.now (placed_at path.now election.now))) }
 {
-    meet_entries(alloc, Family::Style, election, "BallotStyle", path, walk)?;
-    meet_entries(alloc, Family::Candidate, election, "Candidate", path, walk)?;
-    meet_contests(alloc, election, path, walk)
+    meet_entries(keys, Family::Style, election, "BallotStyle", path, walk)?;
+    meet_entries(keys, Family::Candidate, election, "Candidate", path, walk)?;
+    meet_contests(keys, election, path, walk)
 }
 
 #[tactic(auto, using(crate::proofs::identity::MetObjects::met_all_append))]
 fn meet_contests<'a>(
-    alloc: Global,
+    keys: &KeyRule,
     election: &'a Value,
     path: &Path,
     walk: &mut ObjectWalk<'a>,
 ) -> Result<(), AllocError>
     ensures { IfOk result (λ _. met_of walk.new ≡ met_all (met_of walk.old)
-        (flat_map contest_located (placed_entries (codes "Contest") (placed_at path.now election.now)))) }
+        (flat_map (contest_located keys.now) (placed_entries (codes "Contest") (placed_at path.now election.now)))) }
 {
     let contests = Path::Member(&*path, "Contest");
     for (index, contest) in entries_at(election, "Contest").iter().enumerate() {
         let contest_path = Path::Entry(&contests, index);
-        meet_object(alloc, Family::Contest, contest, &contest_path, walk)?;
+        meet_object(keys, Family::Contest, contest, &contest_path, walk)?;
         meet_entries(
-            alloc,
+            keys,
             Family::Selection,
             contest,
             "ContestSelection",
@@ -101,7 +101,7 @@ fn meet_contests<'a>(
 }
 
 fn meet_entries<'a>(
-    alloc: Global,
+    keys: &KeyRule,
     family: Family,
     owner: &'a Value,
     name: &str,
@@ -109,38 +109,38 @@ fn meet_entries<'a>(
     walk: &mut ObjectWalk<'a>,
 ) -> Result<(), AllocError>
     ensures { IfOk result (λ _. met_of walk.new
-        ≡ met_all (met_of walk.old) (located family (placed_entries name.now (placed_at path.now owner.now)))) }
+        ≡ met_all (met_of walk.old) (located keys.now family (placed_entries name.now (placed_at path.now owner.now)))) }
 {
     let array = Path::Member(&*path, name);
     for (index, entry) in entries_at(owner, name).iter().enumerate() {
         let entry_path = Path::Entry(&array, index);
-        meet_object(alloc, family, entry, &entry_path, walk)?;
+        meet_object(keys, family, entry, &entry_path, walk)?;
     }
     Ok(())
 }
 
 fn meet_object<'a>(
-    alloc: Global,
+    keys: &KeyRule,
     family: Family,
     value: &'a Value,
     path: &Path,
     walk: &mut ObjectWalk<'a>,
 ) -> Result<(), AllocError>
     ensures { IfOk result (λ _. met_of walk.new
-        ≡ met_one (met_of walk.old) (located_one family (placed_at path.now value.now))) }
+        ≡ met_one (met_of walk.old) (located_one keys.now family (placed_at path.now value.now))) }
 {
-    let object = object_of(alloc, family, value)?;
-    push_identity_faults(alloc, &object, &walk.objects, path, &mut walk.faults)?;
+    let object = object_of(keys, family, value)?;
+    push_identity_faults(keys.alloc, &object, &walk.objects, path, &mut walk.faults)?;
     walk.objects.push(object)?;
     Ok(())
 }
 
-fn object_of<'a>(alloc: Global, family: Family, value: &'a Value) -> Result<Object<'a>, AllocError>
-    ensures { IfOk result (λ object. shown object ≡ kept family (view value.now)) }
+fn object_of<'a>(keys: &KeyRule, family: Family, value: &'a Value) -> Result<Object<'a>, AllocError>
+    ensures { IfOk result (λ object. shown object ≡ kept keys.now family (view value.now)) }
 {
     let key = match family {
         Family::Selection => None,
-        _ => shared(alloc, key_of(alloc, value)?)?,
+        _ => shared(keys.alloc, keys.key_of(value)?)?,
     };
     let id = value.get("@id").and_then(Value::as_str);
     Ok(Object {

@@ -9,6 +9,7 @@ ghost use Rattle.erd_meaning.specs.code.ObjectWalk.{kept_objects};
 ghost use Rattle.erd_meaning.specs.code.ReferenceReasons.{id_reasons, is_elsewhere, is_of_others, reason_if};
 ghost use Rattle.erd_meaning.specs.code.Shown.{shown};
 
+use crate::keys::key_rule::KeyRule;
 use crate::objects::lookup::{is_id_known, owner_of};
 use crate::objects::object::Object;
 use erd_check::is_among;
@@ -26,14 +27,14 @@ use std::alloc::{AllocError, Global};
 ///
 /// Memory is taken for the faults alone.
 pub(crate) fn reference_faults(
-    alloc: Global,
+    keys: &KeyRule,
     tree: &Value,
     objects: &[Object],
 ) -> Result<FaultList, AllocError>
-    requires kept { map shown objects.now ≡ kept_objects (view tree.now) }
+    requires kept { map shown objects.now ≡ kept_objects keys.now (view tree.now) }
     ensures { IfOk result (ListsAll (ReferenceFault (view tree.now))) }
 {
-    let found = walk_report(alloc, &ReferenceJudge { objects }, tree)?;
+    let found = walk_report(keys.alloc, &ReferenceJudge { objects }, tree)?;
     Ok(FaultList::of(found))
 }
 

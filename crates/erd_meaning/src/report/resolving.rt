@@ -1,4 +1,5 @@
-ghost use Rattle.std.specs.Prelude.{◌≡◌, false, map, IfOk, IfErr};
+ghost use Rattle.std.specs.Prelude.{◌≡◌, false, map, None, IfOk, IfErr};
+ghost use Rattle.std.specs.Option.{option_copied};
 ghost use Rattle.serde_json.specs.View.{view};
 ghost use Rattle.serde_json.specs.Written.{has_float};
 ghost use Rattle.erd_check.specs.Faults.{NoneOf};
@@ -10,6 +11,7 @@ ghost use Rattle.erd_meaning.specs.code.ObjectWalk.{kept_objects};
 ghost use Rattle.erd_meaning.specs.code.Resolved.{AreNames, IsIdentified, IsReferred, IsToldApart};
 ghost use Rattle.erd_meaning.specs.code.Shown.{name_shown, shown};
 
+use crate::keys::key_rule::KeyRule;
 use crate::names::name_in_contest::NameInContest;
 use crate::names::selection_walk::{SelectionWalk, meet_selections};
 use crate::objects::object::Object;
@@ -17,40 +19,67 @@ use crate::objects::object_walk::{ObjectWalk, meet_report};
 use crate::report::Report;
 use crate::report::reference_judge::reference_faults;
 use erd_check::{CheckError, Shaped};
-use erd_tables::FaultList;
+use erd_tables::{FaultList, Text};
 use serde_json::Value;
-use std::alloc::Global;
+use std::alloc::{AllocError, Global};
 
-/// Takes a report that is accepted, or refuses it. It is refused with all its faults of identity (reasons 12 to 14), or, where
-/// it has none of these, with all its faults of references (reason 11 of references, and reasons 15 to 17), or, where it has
-/// none of these either, with all its faults of selections (reason 18), by place, then by reason, each once, of which there is
-/// one at least. Where memory is wanting, it says so.
+/// Takes a report that is accepted, or refuses it: `resolve_with`, without a preference.
+pub fn resolve<'a>(alloc: Global, shaped: Shaped<'a>) -> Result<Report<'a>, CheckError>
+    ensures tree { IfOk result (λ r. r.tree ≡ shaped.entry) }
+    ensures prefer { IfOk result (λ r. r.prefer ≡ None) }
+    ensures accepted { IfOk result (λ _. IsAccepted None (view shaped.entry)) }
+    ensures refused { IfErr result (RefusedFor (IsFault None (view shaped.entry))) }
+{
+    resolve_with(alloc, shaped, None)
+}
+
+/// Takes a report that is accepted under a preference of a type of identifiers, or refuses it. It is refused with all its faults
+/// of identity (reasons 12 to 14), or, where it has none of these, with all its faults of references (reason 11 of references,
+/// and reasons 15 to 17), or, where it has none of these either, with all its faults of selections (reason 18), by place, then
+/// by reason, each once, of which there is one at least. Where memory is wanting, it says so. The preference is copied.
 ///
 /// Each object is compared with all earlier ones, each reference is looked up among all, and each name of a selection is
 /// compared with all earlier ones, so the time grows with the square of their number.
-pub fn resolve<'a>(alloc: Global, shaped: Shaped<'a>) -> Result<Report<'a>, CheckError>
-    ensures tree { IfOk result (λ r. r ≡ shaped.entry) }
-    ensures accepted { IfOk result (λ _. IsAccepted (view shaped.entry)) }
-    ensures refused { IfErr result (RefusedFor (IsFault (view shaped.entry))) }
+pub fn resolve_with<'a>(
+    alloc: Global,
+    shaped: Shaped<'a>,
+    prefer: Option<&str>,
+) -> Result<Report<'a>, CheckError>
+    ensures tree { IfOk result (λ r. r.tree ≡ shaped.entry) }
+    ensures prefer { IfOk result (λ r. r.prefer ≡ option_copied prefer.entry) }
+    ensures accepted { IfOk result (λ _. IsAccepted (option_copied prefer.entry) (view shaped.entry)) }
+    ensures refused { IfErr result (RefusedFor (IsFault (option_copied prefer.entry) (view shaped.entry))) }
 {
     let tree = shaped.tree();
-    let objects = objects_told_apart(alloc, tree)?;
-    check_references(alloc, tree, &objects)?;
-    let names = names_told_apart(alloc, tree, &objects)?;
-    Ok(Report::of(tree, objects, names))
+    let keys = KeyRule { alloc, prefer };
+    let objects = objects_told_apart(&keys, tree)?;
+    check_references(&keys, tree, &objects)?;
+    let names = names_told_apart(&keys, tree, &objects)?;
+    let kept = preference_of(&keys)?;
+    Ok(Report::of(tree, objects, names, kept))
+}
+
+/// A copy of the preference that keys are made under.
+fn preference_of(keys: &KeyRule) -> Result<Option<Text>, AllocError>
+    ensures { IfOk result (λ prefer. prefer ≡ keys.now) }
+{
+    match keys.prefer {
+        Some(kind) => Ok(Some(Text::of(String::from_str(keys.alloc, kind)?))),
+        None => Ok(None),
+    }
 }
 
 /// The objects of a report, or its faults of identity.
-fn objects_told_apart<'a>(alloc: Global, tree: &'a Value) -> Result<Vec<Object<'a>>, CheckError>
-    ensures identified { IfOk result (λ _. IsIdentified tree.now) }
-    ensures kept { IfOk result (λ objects. map shown objects.items ≡ kept_objects (view tree.now)) }
-    ensures refused { IfErr result (RefusedFor (IdentityFault (view tree.now))) }
+fn objects_told_apart<'a>(keys: &KeyRule, tree: &'a Value) -> Result<Vec<Object<'a>>, CheckError>
+    ensures identified { IfOk result (λ _. IsIdentified keys.now tree.now) }
+    ensures kept { IfOk result (λ objects. map shown objects.items ≡ kept_objects keys.now (view tree.now)) }
+    ensures refused { IfErr result (RefusedFor (IdentityFault keys.now (view tree.now))) }
 {
     let mut walk = ObjectWalk {
-        objects: Vec::new(alloc),
-        faults: Vec::new(alloc),
+        objects: Vec::new(keys.alloc),
+        faults: Vec::new(keys.alloc),
     };
-    meet_report(alloc, tree, &mut walk)?;
+    meet_report(keys, tree, &mut walk)?;
     let ObjectWalk { objects, faults } = walk;
     let identity = FaultList::of(faults);
     if identity.len() == 0 {
@@ -61,12 +90,12 @@ fn objects_told_apart<'a>(alloc: Global, tree: &'a Value) -> Result<Vec<Object<'
 }
 
 /// Refuses a report that has faults of references.
-fn check_references(alloc: Global, tree: &Value, objects: &[Object]) -> Result<(), CheckError>
-    requires kept { map shown objects.now ≡ kept_objects (view tree.now) }
+fn check_references(keys: &KeyRule, tree: &Value, objects: &[Object]) -> Result<(), CheckError>
+    requires kept { map shown objects.now ≡ kept_objects keys.now (view tree.now) }
     ensures referred { IfOk result (λ _. IsReferred tree.now) }
     ensures refused { IfErr result (RefusedFor (ReferenceFault (view tree.now))) }
 {
-    let references = reference_faults(alloc, tree, objects)?;
+    let references = reference_faults(keys, tree, objects)?;
     if references.len() == 0 {
         Ok(())
     } else {
@@ -76,22 +105,22 @@ fn check_references(alloc: Global, tree: &Value, objects: &[Object]) -> Result<(
 
 /// The names of the selections of a report, or its faults of selections.
 fn names_told_apart(
-    alloc: Global,
+    keys: &KeyRule,
     tree: &Value,
     objects: &[Object],
 ) -> Result<Vec<NameInContest>, CheckError>
-    requires kept { map shown objects.now ≡ kept_objects (view tree.now) }
+    requires kept { map shown objects.now ≡ kept_objects keys.now (view tree.now) }
     requires faultless { IsFaultless tree.now }
     requires whole { has_float (view tree.now) ≡ false }
-    ensures told_apart { IfOk result (λ _. IsToldApart tree.now) }
-    ensures named { IfOk result (λ names. AreNames (view tree.now) (map name_shown names.items)) }
-    ensures refused { IfErr result (RefusedFor (SelectionFault (view tree.now))) }
+    ensures told_apart { IfOk result (λ _. IsToldApart keys.now tree.now) }
+    ensures named { IfOk result (λ names. AreNames keys.now (view tree.now) (map name_shown names.items)) }
+    ensures refused { IfErr result (RefusedFor (SelectionFault keys.now (view tree.now))) }
 {
     let mut walk = SelectionWalk {
-        names: Vec::new(alloc),
-        faults: Vec::new(alloc),
+        names: Vec::new(keys.alloc),
+        faults: Vec::new(keys.alloc),
     };
-    meet_selections(alloc, tree, objects, &mut walk)?;
+    meet_selections(keys, tree, objects, &mut walk)?;
     let SelectionWalk { names, faults } = walk;
     let twins = FaultList::of(faults);
     if twins.len() == 0 {

@@ -26,6 +26,7 @@ use Rattle.erd_check.proofs.TableKinds.{want_by_kind, want_unless_status}
 use Rattle.erd_check.proofs.Whole.{not_true}
 use Rattle.erd_normal.specs.code.NormalTree.{normal_value}
 use Rattle.erd_normal.proofs.built.AskedMembers.{MemberAsked, TypeAsked, asked_in_object, status_kind}
+use Rattle.erd_meaning.specs.Keys.{Preference}
 
 -- what gives the value of a member, by its name and kind
 abbrev pub Builder : Type 0
@@ -201,8 +202,8 @@ module _ (t : Data) (clean : NoneOf (ShapeFault t)) where
       member_kept value_of (Object r) r c ms o.at name wanted (λ v full e. keeps name v wanted (required_kind c name wanted) full e)
       (sym (o.gets name (required name wanted)) ∙ none)
 
-pub normal_value-kept : (t : Data) (k : MemberKind) (d : Data) → is_kept k ≡ true → IsFilled k d → normal_value t k d ≡ None → ⊥
-normal_value-kept t kind.Label d kept full e = cc
-normal_value-kept t (kind.Many f) d kept full e = let x : Some _ ≡ None = rw full at e in cc
-normal_value-kept t kind.Languages d kept full e = let x : Some _ ≡ None = rw full at e in cc
-normal_value-kept t k d kept full e = cc
+pub normal_value-kept : (π : Preference) (t : Data) (k : MemberKind) (d : Data) → is_kept k ≡ true → IsFilled k d → normal_value π t k d ≡ None → ⊥
+normal_value-kept π t kind.Label d kept full e = cc
+normal_value-kept π t (kind.Many f) d kept full e = let x : Some _ ≡ None = rw full at e in cc
+normal_value-kept π t kind.Languages d kept full e = let x : Some _ ≡ None = rw full at e in cc
+normal_value-kept π t k d kept full e = cc

@@ -18,7 +18,7 @@ use Rattle.erd_check.proofs.Exact.{text_exact}
 use Rattle.erd_check.proofs.ObjectsAt.{ObjectAt, ObjectIn}
 use Rattle.erd_check.proofs.Shapes.{within-tree}
 use Rattle.erd_meaning.proofs.accepted.Skeleton.{Skeleton}
-use Rattle.erd_meaning.specs.Keys.{key_of}
+use Rattle.erd_meaning.specs.Keys.{Preference, key_of}
 use Rattle.erd_meaning.specs.SelectionNames.{selection_role}
 use Rattle.erd_normal.specs.code.NormalTree.{id_of_key, id_of_selection, normal_content, normal_election, normal_election_value, normal_node, normal_node_value, normal_object, normal_object_value, normal_report_value, normal_selection, normal_tree, normal_value}
 use Rattle.erd_normal.proofs.built.BuiltFrom.{Builder, BuiltObject}
@@ -28,20 +28,20 @@ use Rattle.erd_normal.proofs.built.NormalReports.{class_of_built_report, get_rep
 -- ---- what gives the values of members
 
 -- of a selection
-abbrev pub plain_builder : Data → Builder
-plain_builder t name k d = normal_value t k d
+abbrev pub plain_builder : Preference → Data → Builder
+plain_builder π t name k d = normal_value π t k d
 
 -- of a contest or a header of a ballot
-abbrev pub node_builder : Data → Builder
-node_builder t name k d = normal_node_value t (Some k) d (normal_content t d)
+abbrev pub node_builder : Preference → Data → Builder
+node_builder π t name k d = normal_node_value π t (Some k) d (normal_content π t d)
 
 -- of an object of a family
-abbrev pub object_builder : Data → Data → Builder
-object_builder t o name k d = normal_object_value t o k d
+abbrev pub object_builder : Preference → Data → Data → Builder
+object_builder π t o name k d = normal_object_value π t o k d
 
 -- of the election
-abbrev pub election_builder : Data → Builder
-election_builder t name k d = normal_election_value t k d
+abbrev pub election_builder : Preference → Data → Builder
+election_builder π t name k d = normal_election_value π t k d
 
 -- no name is special
 abbrev pub no_name : List ℕ → Bool
@@ -60,67 +60,67 @@ text_there (Some id) v e = let same : v ≡ string id = cc in (id, refl, same)
 
 -- ---- the objects
 
-module _ (t : Data) (clean : NoneOf (ShapeFault t)) (tree : IsTree t) where
+module _ (π : Preference) (t : Data) (clean : NoneOf (ShapeFault t)) (tree : IsTree t) where
   object_tree : (r : Role) (c : Class) (ms : Members) (d : Data) → d ≡ object ms → ObjectAt t (Object r) r c ms → IsTree d
   object_tree r c ms d is o = subst IsTree (sym is) (within-tree t (asked (Object r) (object ms)) tree o.inside)
 
   object_class : (r : Role) (c : Class) (ms : Members) (d : Data) → d ≡ object ms → ObjectAt t (Object r) r c ms → class_of_object r d ≡ Some c
   object_class r c ms d is o = ap (class_of_object r) is ∙ o.among
 
-  pub built_selection : (contest d : Data) (o : ObjectIn t selection_role d) → BuiltObject t (plain_builder t) is_id selection_role o.class o.ms (normal_selection t contest d)
+  pub built_selection : (contest d : Data) (o : ObjectIn t selection_role d) → BuiltObject t (plain_builder π t) is_id selection_role o.class o.ms (normal_selection π t contest d)
   built_selection contest d o =
       let trees = object_tree selection_role o.class o.ms d o.is_object o.at in
       let among = object_class selection_role o.class o.ms d o.is_object o.at in
       record {
         at = o.at;
-        among = class_of_built_selection t contest o.class d trees among;
-        gets = λ name other. get_selection t contest o.class d trees among name other ∙ ap (λ x. option_and_then (plain_builder t name (kind_of_member o.class name)) (get name x)) o.is_object;
+        among = class_of_built_selection π t contest o.class d trees among;
+        gets = λ name other. get_selection π t contest o.class d trees among name other ∙ ap (λ x. option_and_then (plain_builder π t name (kind_of_member o.class name)) (get name x)) o.is_object;
       }
 
-  pub selection_id : (contest d : Data) (o : ObjectIn t selection_role d) (name : List ℕ) (v : Data) → is_id name ≡ true → get name (normal_selection t contest d) ≡ Some v → v ≡ string (id_of_selection t contest d)
+  pub selection_id : (contest d : Data) (o : ObjectIn t selection_role d) (name : List ℕ) (v : Data) → is_id name ≡ true → get name (normal_selection π t contest d) ≡ Some v → v ≡ string (id_of_selection π t contest d)
   selection_id contest d o name v named found =
       let trees = object_tree selection_role o.class o.ms d o.is_object o.at in
       let among = object_class selection_role o.class o.ms d o.is_object o.at in
-      let x : Some (string (id_of_selection t contest d)) ≡ Some v =
-      sym (get_selection-id t contest o.class d trees among) ∙ ap (λ n. get n (normal_selection t contest d)) (sym (text_exact name (codes "@id") named)) ∙ found in
-      let same : v ≡ string (id_of_selection t contest d) = cc in same
+      let x : Some (string (id_of_selection π t contest d)) ≡ Some v =
+      sym (get_selection-id π t contest o.class d trees among) ∙ ap (λ n. get n (normal_selection π t contest d)) (sym (text_exact name (codes "@id") named)) ∙ found in
+      let same : v ≡ string (id_of_selection π t contest d) = cc in same
 
-  pub built_object : (f : Family) (d : Data) (o : ObjectIn t (role.OfFamily f) d) → BuiltObject t (object_builder t d) is_id (role.OfFamily f) o.class o.ms (normal_object t f d)
+  pub built_object : (f : Family) (d : Data) (o : ObjectIn t (role.OfFamily f) d) → BuiltObject t (object_builder π t d) is_id (role.OfFamily f) o.class o.ms (normal_object π t f d)
   built_object f d o =
       let trees = object_tree (role.OfFamily f) o.class o.ms d o.is_object o.at in
       let among = object_class (role.OfFamily f) o.class o.ms d o.is_object o.at in
       record {
         at = o.at;
-        among = class_of_built t f o.class d trees among;
-        gets = λ name other. get_object t f o.class d trees among name other ∙ ap (λ x. option_and_then (object_builder t d name (kind_of_member o.class name)) (get name x)) o.is_object;
+        among = class_of_built π t f o.class d trees among;
+        gets = λ name other. get_object π t f o.class d trees among name other ∙ ap (λ x. option_and_then (object_builder π t d name (kind_of_member o.class name)) (get name x)) o.is_object;
       }
 
-  pub object_id : (f : Family) (d : Data) (o : ObjectIn t (role.OfFamily f) d) (name : List ℕ) (v : Data) → is_id name ≡ true → get name (normal_object t f d) ≡ Some v
-      → (text : List ℕ) × (id_of_key t f (key_of d) ≡ Some text) × (v ≡ string text)
+  pub object_id : (f : Family) (d : Data) (o : ObjectIn t (role.OfFamily f) d) (name : List ℕ) (v : Data) → is_id name ≡ true → get name (normal_object π t f d) ≡ Some v
+      → (text : List ℕ) × (id_of_key π t f (key_of π d) ≡ Some text) × (v ≡ string text)
   object_id f d o name v named found =
       let trees = object_tree (role.OfFamily f) o.class o.ms d o.is_object o.at in
       let among = object_class (role.OfFamily f) o.class o.ms d o.is_object o.at in
-      text_there (id_of_key t f (key_of d)) v (sym (get_object-id t f o.class d trees among) ∙ ap (λ n. get n (normal_object t f d)) (sym (text_exact name (codes "@id") named)) ∙ found)
+      text_there (id_of_key π t f (key_of π d)) v (sym (get_object-id π t f o.class d trees among) ∙ ap (λ n. get n (normal_object π t f d)) (sym (text_exact name (codes "@id") named)) ∙ found)
 
-  pub built_node : (c : Class) (ms : Members) → ObjectAt t (Object role.Content) role.Content c ms → BuiltObject t (node_builder t) no_name role.Content c ms (normal_node t (object ms))
+  pub built_node : (c : Class) (ms : Members) → ObjectAt t (Object role.Content) role.Content c ms → BuiltObject t (node_builder π t) no_name role.Content c ms (normal_node π t (object ms))
   built_node c ms o =
       let trees = within-tree t (asked (Object role.Content) (object ms)) tree o.inside in
-      record { at = o; among = class_of_built_node t c (object ms) trees o.among; gets = λ name other. get_node t c name (object ms) trees o.among }
+      record { at = o; among = class_of_built_node π t c (object ms) trees o.among; gets = λ name other. get_node π t c name (object ms) trees o.among }
 
   pub built_election : (ms : Members) (d : Data) → d ≡ object ms → ObjectAt t (Object role.Election) role.Election class.Election ms
-      → BuiltObject t (election_builder t) no_name role.Election class.Election ms (normal_election t d)
+      → BuiltObject t (election_builder π t) no_name role.Election class.Election ms (normal_election π t d)
   built_election ms d is o =
       let trees = object_tree role.Election class.Election ms d is o in
       let among = object_class role.Election class.Election ms d is o in
       record {
         at = o;
-        among = ap (λ x. option_and_then (class_in_role role.Election) (option_and_then as_str x)) (get_election-type t d trees among) ∙ among;
-        gets = λ name other. get_election t d trees among name ∙ ap (λ x. option_and_then (election_builder t name (kind_of_member class.Election name)) (get name x)) is;
+        among = ap (λ x. option_and_then (class_in_role role.Election) (option_and_then as_str x)) (get_election-type π t d trees among) ∙ among;
+        gets = λ name other. get_election π t d trees among name ∙ ap (λ x. option_and_then (election_builder π t name (kind_of_member class.Election name)) (get name x)) is;
       }
 
-  pub built_report : (s : Skeleton t) → BuiltObject t (normal_report_value t) is_envelope_name role.Report class.ElectionReport s.ms (normal_tree t)
+  pub built_report : (s : Skeleton t) → BuiltObject t (normal_report_value π t) is_envelope_name role.Report class.ElectionReport s.ms (normal_tree π t)
   built_report s = record {
     at = s.report;
-    among = class_of_built_report t clean tree;
-    gets = λ name other. get_report t clean tree name other ∙ ap (λ x. option_and_then (normal_report_value t name (kind_of_member class.ElectionReport name)) (get name x)) s.is_object;
+    among = class_of_built_report π t clean tree;
+    gets = λ name other. get_report π t clean tree name other ∙ ap (λ x. option_and_then (normal_report_value π t name (kind_of_member class.ElectionReport name)) (get name x)) s.is_object;
   }

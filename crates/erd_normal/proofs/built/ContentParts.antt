@@ -7,6 +7,7 @@ use Rattle.serde_json.specs.declared.value.Value.{Value}
 use Rattle.erd_tables.specs.declared.member.MemberKind.{MemberKind}
 use Rattle.erd_tables.specs.declared.member.MemberKind.TheVariants as kind
 use Rattle.erd_normal.specs.code.NormalTree.{normal_content, normal_node, normal_node_value, normal_nodes, normal_value}
+use Rattle.erd_meaning.specs.Keys.{Preference}
 
 first_whole : (a b : Bool) → a || b ≡ false → a ≡ false
 first_whole true b e = e
@@ -23,14 +24,14 @@ whole_item (w ∷ vs) zero v h low e = subst (λ u. has_float (view u) ≡ false
 whole_item (w ∷ vs) (suc i) v h low e = whole_item vs i v (rest_whole (has_float (view w)) (items_have_float (items_view vs)) h) (omega arith) e
 
 -- what each entry becomes is what all become
-pub nodes_from_map : (t : Data) (vs : List Value) → items_of (map (λ v. normal_node t (view v)) vs) ≡ normal_nodes t (items_view vs)
-nodes_from_map t [] = refl
-nodes_from_map t (v ∷ vs) = rw (nodes_from_map t vs) refl
+pub nodes_from_map : (π : Preference) (t : Data) (vs : List Value) → items_of (map (λ v. normal_node π t (view v)) vs) ≡ normal_nodes π t (items_view vs)
+nodes_from_map π t [] = refl
+nodes_from_map π t (v ∷ vs) = rw (nodes_from_map π t vs) refl
 
-pub content_from_map : (t : Data) (built vs : List Value) → map view built ≡ map (λ v. normal_node t (view v)) vs → array (items_view built) ≡ normal_content t (array (items_view vs))
-content_from_map t built vs each = ap (λ ds. array (items_of ds)) each ∙ ap array (nodes_from_map t vs)
+pub content_from_map : (π : Preference) (t : Data) (built vs : List Value) → map view built ≡ map (λ v. normal_node π t (view v)) vs → array (items_view built) ≡ normal_content π t (array (items_view vs))
+content_from_map π t built vs each = ap (λ ds. array (items_of ds)) each ∙ ap array (nodes_from_map π t vs)
 
 -- a member that is no list of contests and headers
-pub other_node_value : (t : Data) (k : MemberKind) (d inside : Data) → (k ≡ kind.Content → ⊥) → normal_node_value t (Some k) d inside ≡ normal_value t k d
-other_node_value t kind.Content d inside other = absurd (other refl)
-other_node_value t k d inside other = refl
+pub other_node_value : (π : Preference) (t : Data) (k : MemberKind) (d inside : Data) → (k ≡ kind.Content → ⊥) → normal_node_value π t (Some k) d inside ≡ normal_value π t k d
+other_node_value π t kind.Content d inside other = absurd (other refl)
+other_node_value π t k d inside other = refl

@@ -1,5 +1,6 @@
--- The least of a list of keys does not depend on the order of the list, so that what is built of an object has its key.
-use Rattle.std.proofs.Common.{◌≡◌, List, [], ◌∷◌, map, Bool, true, false, if◌then◌else◌, is_lt, true≢false, Ordering, Less, Equal, Greater, Some, codes, refl, sym, ap, ◌∙◌}
+-- The key that identifiers give does not depend on their order, so that what is built of an object has its key.
+use mathlib.Core.Path.{fun_ext}
+use Rattle.std.proofs.Common.{◌≡◌, List, [], ◌∷◌, map, Bool, true, false, if◌then◌else◌, is_lt, true≢false, Ordering, Less, Equal, Greater, Option, Some, None, codes, refl, sym, ap, ◌∙◌}
 use Rattle.std.proofs.lemmas.Map.Lookups.{CmpEqualImpliesEq}
 use Rattle.std.specs.Cmp.{IsTotalOrder}
 use Rattle.std.specs.Ordering.{ordering_reverse}
@@ -14,14 +15,16 @@ use Rattle.erd_tables.specs.declared.class.Role.TheVariants as role
 use Rattle.erd_tables.specs.declared.member.MemberKind.TheVariants as kind
 use Rattle.erd_check.specs.Trees.{IsTree}
 use Rattle.erd_check.specs.Wants.{class_of_object}
-use Rattle.erd_meaning.specs.Keys.{key_cmp, key_of, least_key, least_key_of, lesser_key, triple_of}
+use Rattle.erd_meaning.specs.Keys.{Preference, key_of, key_of_identifiers, triple_of}
 use Rattle.erd_check.specs.Values.{entries_at}
-use Rattle.erd_meaning.specs.code.Orders.{key_cmp_exact, key_cmp_total}
-use Rattle.erd_meaning.specs.SelectionNames.{compact_cmp, rising_list, selection_role, with_inserted}
+use Rattle.erd_meaning.specs.code.ChosenKeys.{choice_cmp, choice_of, choice_of_two}
+use Rattle.erd_meaning.proofs.orders.ChoiceOrder.{choice_cmp_exact, choice_cmp_total, key_is_choice}
+use Rattle.erd_meaning.specs.SelectionNames.{compact_cmp, rising_list, selection_role}
 use Rattle.erd_meaning.specs.declared.keys.key.Key.{Key}
 use Rattle.erd_normal.specs.code.NormalTree.{normal_object, normal_selection}
 use Rattle.erd_normal.proofs.built.NormalEntries.{entries_of_identifiers, selection_identifiers}
 use Rattle.erd_normal.proofs.built.NormalGets.{class_has_role}
+use Rattle.erd_normal.proofs.lists.RisingSets.{whole-rising}
 
 -- ---- the lesser of two
 
@@ -66,34 +69,37 @@ module _ {A : Type 0} (cmp : A → A → Ordering) (order : IsTotalOrder cmp) (e
       at false true Greater a_high b_low is = absurd (true≢false (sym (below_both a b k (reversed b a Greater is) b_low) ∙ a_high))
       at false false o a_high b_high is = rw (a_high, b_high, a_high) refl
 
--- ---- the least of a list
+-- ---- the key that identifiers give
 
-module _ (key : Data → Key) (cmp : Data → Data → Ordering) where
-  least_inserted_from : (k : Key) (x : Data) (ys : List Data) → least_key_of k (map key (with_inserted cmp x ys)) ≡ least_key_of (lesser_key k (key x)) (map key ys)
-  least_inserted_from k x [] = refl
-  least_inserted_from k x (y ∷ ys) = at (is_lt (cmp y x)) (least_inserted_from (lesser_key k (key y)) x ys)
-    where
-      at : (b : Bool) → least_key_of (lesser_key k (key y)) (map key (with_inserted cmp x ys)) ≡ least_key_of (lesser_key (lesser_key k (key y)) (key x)) (map key ys)
-          → least_key_of k (map key (if b then y ∷ with_inserted cmp x ys else x ∷ (y ∷ ys))) ≡ least_key_of (lesser_key (lesser_key k (key x)) (key y)) (map key ys)
-      at true h = h ∙ ap (λ z. least_key_of z (map key ys)) (lesser_swapped key_cmp key_cmp_total key_cmp_exact k (key y) (key x))
-      at false h = refl
+module _ (π : Preference) where
+  -- the one to choose of those before and one more
+  abbrev with_one : Option Key → Key → Option Key
+  with_one None k = Some k
+  with_one (Some l) k = Some (choice_of_two π l k)
 
-  least_rising_from : (k : Key) (xs : List Data) → least_key_of k (map key (rising_list cmp xs)) ≡ least_key_of k (map key xs)
-  least_rising_from k [] = refl
-  least_rising_from k (x ∷ xs) = least_inserted_from k x (rising_list cmp xs) ∙ least_rising_from (lesser_key k (key x)) xs
+  with_one_exchanges : (o : Option Key) (k l : Key) → with_one (with_one o k) l ≡ with_one (with_one o l) k
+  with_one_exchanges None k l = ap Some (either_first (choice_cmp π) (choice_cmp_total π) (choice_cmp_exact π) k l)
+  with_one_exchanges (Some j) k l = ap Some (lesser_swapped (choice_cmp π) (choice_cmp_total π) (choice_cmp_exact π) j k l)
 
-  least_inserted : (x : Data) (ys : List Data) → least_key (map key (with_inserted cmp x ys)) ≡ Some (least_key_of (key x) (map key ys))
-  least_inserted x [] = refl
-  least_inserted x (y ∷ ys) = at (is_lt (cmp y x)) (least_inserted_from (key y) x ys)
-    where
-      at : (b : Bool) → least_key_of (key y) (map key (with_inserted cmp x ys)) ≡ least_key_of (lesser_key (key y) (key x)) (map key ys)
-          → least_key (map key (if b then y ∷ with_inserted cmp x ys else x ∷ (y ∷ ys))) ≡ Some (least_key_of (lesser_key (key x) (key y)) (map key ys))
-      at true h = ap Some (h ∙ ap (λ z. least_key_of z (map key ys)) (either_first key_cmp key_cmp_total key_cmp_exact (key y) (key x)))
-      at false h = refl
+  -- the one to choose of those before and those of a list
+  abbrev chosen : List Data → Option Key → Option Key
+  chosen [] o = o
+  chosen (d ∷ ds) o = chosen ds (with_one o (triple_of d))
 
-  pub least_rising : (xs : List Data) → least_key (map key (rising_list cmp xs)) ≡ least_key (map key xs)
-  least_rising [] = refl
-  least_rising (x ∷ xs) = least_inserted x (rising_list cmp xs) ∙ ap Some (least_rising_from (key x) xs)
+  chosen_after : (k : Key) (ds : List Data) → chosen ds (Some k) ≡ Some (choice_of π k (map triple_of ds))
+  chosen_after k [] = refl
+  chosen_after k (d ∷ ds) = chosen_after (choice_of_two π k (triple_of d)) ds
+
+  key_is_chosen : (ds : List Data) → key_of_identifiers π ds ≡ chosen ds None
+  key_is_chosen [] = key_is_choice π []
+  key_is_chosen (d ∷ ds) = key_is_choice π (d ∷ ds) ∙ sym (chosen_after (triple_of d) ds)
+
+  chosen-rising : (cmp : Data → Data → Ordering) (ds : List Data) → chosen (rising_list cmp ds) ≡ chosen ds
+  chosen-rising =
+      whole-rising chosen (λ d f o. f (with_one o (triple_of d))) (λ d ds. refl) (λ d e f. fun_ext (λ o. ap f (with_one_exchanges o (triple_of d) (triple_of e))))
+
+  pub key_of_identifiers-rising : (cmp : Data → Data → Ordering) (ds : List Data) → key_of_identifiers π (rising_list cmp ds) ≡ key_of_identifiers π ds
+  key_of_identifiers-rising cmp ds = key_is_chosen (rising_list cmp ds) ∙ ap (λ f. f None) (chosen-rising cmp ds) ∙ sym (key_is_chosen ds)
 
 -- ---- keys of what is built
 
@@ -116,16 +122,16 @@ kind_of_identifiers class.PartySelection f e = refl
 kind_of_identifiers class.BallotStyle f e = refl
 kind_of_identifiers c f e = cc
 
--- what is built of an object has the key of the object
-pub key_of_object : (t : Data) (f : Family) (c : Class) (d : Data) → IsTree d → class_of_object (role.OfFamily f) d ≡ Some c → key_of (normal_object t f d) ≡ key_of d
-key_of_object t f c d tree among =
-    ap (λ ds. least_key (map triple_of ds))
-    (entries_of_identifiers t f c d tree among (codes "ExternalIdentifier") refl (kind_of_identifiers c f (class_has_role (role.OfFamily f) c d among)))
-    ∙ least_rising triple_of compact_cmp (entries_at (codes "ExternalIdentifier") d)
+-- what is built of an object has the key of the object, under each preference
+pub key_of_object : (π ρ : Preference) (t : Data) (f : Family) (c : Class) (d : Data) → IsTree d → class_of_object (role.OfFamily f) d ≡ Some c → key_of ρ (normal_object π t f d) ≡ key_of ρ d
+key_of_object π ρ t f c d tree among =
+    ap (key_of_identifiers ρ)
+    (entries_of_identifiers π t f c d tree among (codes "ExternalIdentifier") refl (kind_of_identifiers c f (class_has_role (role.OfFamily f) c d among)))
+    ∙ key_of_identifiers-rising ρ compact_cmp (entries_at (codes "ExternalIdentifier") d)
 
 -- and of a selection
-pub key_of_selection : (t contest : Data) (c : Class) (d : Data) → IsTree d → class_of_object selection_role d ≡ Some c → key_of (normal_selection t contest d) ≡ key_of d
-key_of_selection t contest c d tree among =
-    ap (λ ds. least_key (map triple_of ds))
-    (selection_identifiers t contest c d tree among (codes "ExternalIdentifier") refl (kind_of_identifiers c family.Selection (class_has_role selection_role c d among)))
-    ∙ least_rising triple_of compact_cmp (entries_at (codes "ExternalIdentifier") d)
+pub key_of_selection : (π ρ : Preference) (t contest : Data) (c : Class) (d : Data) → IsTree d → class_of_object selection_role d ≡ Some c → key_of ρ (normal_selection π t contest d) ≡ key_of ρ d
+key_of_selection π ρ t contest c d tree among =
+    ap (key_of_identifiers ρ)
+    (selection_identifiers π t contest c d tree among (codes "ExternalIdentifier") refl (kind_of_identifiers c family.Selection (class_has_role selection_role c d among)))
+    ∙ key_of_identifiers-rising ρ compact_cmp (entries_at (codes "ExternalIdentifier") d)

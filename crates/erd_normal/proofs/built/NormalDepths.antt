@@ -22,7 +22,7 @@ use Rattle.erd_check.specs.declared.want.Want.TheVariants.{Member, Object}
 use Rattle.erd_check.proofs.Members.{get_member-depth, get_member-first}
 use Rattle.erd_check.proofs.ObjectsAt.{ObjectAt, ObjectIn, object_in}
 use Rattle.erd_check.proofs.Shapes.{Within, Within-root, wanted_within, within-tree}
-use Rattle.erd_meaning.specs.Keys.{key_of}
+use Rattle.erd_meaning.specs.Keys.{Preference, key_of}
 use Rattle.erd_meaning.specs.Records.{class_of_node}
 use Rattle.erd_meaning.specs.SelectionNames.{compact_cmp, rising_list, selection_role, with_rising_text}
 use Rattle.erd_normal.specs.code.NormalTree.{array_of, by_key, by_name, id_of_key, id_of_selection, in_envelope, normal_content, normal_election, normal_election_value, normal_members, normal_node, normal_node_members, normal_node_value, normal_nodes, normal_object, normal_object_value, normal_object_with, normal_objects, normal_reference, normal_report_value, normal_selection, normal_selection_reference, normal_tree, normal_value, reference_cmp, unless_no_entry, with_id}
@@ -73,7 +73,7 @@ in_envelope-depth d = omega arith
 no_deeper-trans : (a b c : Data) → IsNoDeeper a b → IsNoDeeper b c → IsNoDeeper a c
 no_deeper-trans a b c h k = omega arith
 
-module _ (t : Data) (clean : NoneOf (ShapeFault t)) (tree : IsTree t) where
+module _ (π : Preference) (t : Data) (clean : NoneOf (ShapeFault t)) (tree : IsTree t) where
   -- ---- members
 
   text_depth : (o : Option Data) (texts : Items) → o ≡ Some (array texts) → depth (array_of (rising_list compact_cmp (option_map_or entries_of o []))) ≤ depth (array texts)
@@ -93,13 +93,13 @@ module _ (t : Data) (clean : NoneOf (ShapeFault t)) (tree : IsTree t) where
       omega (arith, put-depth (codes "Text") rising ms (members_depth ms) whole same)
   label_depth r d w = omega arith
 
-  pub normal_value-depth : (k : MemberKind) (d : Data) → AskedAs t k d → NoneDeeper d (normal_value t k d)
+  pub normal_value-depth : (k : MemberKind) (d : Data) → AskedAs t k d → NoneDeeper d (normal_value π t k d)
   normal_value-depth kind.Label d a = label_depth a.0 d a.1
   normal_value-depth (kind.One f) d a = omega arith
   normal_value-depth (kind.Many f) d a =
-      let es : List Data = rising_list (reference_cmp t f) (entries_of d) in
-      unless_no_entry-holds (λ v. IsNoDeeper v d) d (array_of (map (normal_reference t f) es))
-      (texts_depth d (normal_reference t f) es (wanted_within t clean (asked (Member (kind.Many f) a.0) d) a.1) (λ e. refl))
+      let es : List Data = rising_list (reference_cmp π t f) (entries_of d) in
+      unless_no_entry-holds (λ v. IsNoDeeper v d) d (array_of (map (normal_reference π t f) es))
+      (texts_depth d (normal_reference π t f) es (wanted_within t clean (asked (Member (kind.Many f) a.0) d) a.1) (λ e. refl))
   normal_value-depth kind.Identifiers d a =
       unless_no_entry-holds (λ v. IsNoDeeper v d) d (array_of (rising_list compact_cmp (entries_of d)))
       (rising_depth compact_cmp d (wanted_within t clean (asked (Member kind.Identifiers a.0) d) a.1))
@@ -107,8 +107,8 @@ module _ (t : Data) (clean : NoneOf (ShapeFault t)) (tree : IsTree t) where
       unless_no_entry-holds (λ v. IsNoDeeper v d) d (array_of (rising_list compact_cmp (entries_of d)))
       (rising_depth compact_cmp d (wanted_within t clean (asked (Member kind.Languages a.0) d) a.1))
   normal_value-depth kind.Ordered d a =
-      unless_no_entry-holds (λ v. IsNoDeeper v d) d (array_of (map (normal_selection_reference t) (entries_of d)))
-      (texts_depth d (normal_selection_reference t) (entries_of d) (wanted_within t clean (asked (Member kind.Ordered a.0) d) a.1) (λ e. refl))
+      unless_no_entry-holds (λ v. IsNoDeeper v d) d (array_of (map (normal_selection_reference π t) (entries_of d)))
+      (texts_depth d (normal_selection_reference π t) (entries_of d) (wanted_within t clean (asked (Member kind.Ordered a.0) d) a.1) (λ e. refl))
   normal_value-depth kind.Identity d a = tt
   normal_value-depth kind.Outside d a = tt
   normal_value-depth k d a = omega arith
@@ -148,12 +148,12 @@ module _ (t : Data) (clean : NoneOf (ShapeFault t)) (tree : IsTree t) where
   IsNodeMember None name d = ⊤
   IsNodeMember (Some c) name d = AskedAs t (kind_of_member c name) d
 
-  node_value_depth : (k : MemberKind) (d inside : Data) → AskedAs t k d → ((r : Bool) → Within t (asked (Member kind.Content r) d) → IsNoDeeper inside d) → NoneDeeper d (normal_node_value t (Some k) d inside)
+  node_value_depth : (k : MemberKind) (d inside : Data) → AskedAs t k d → ((r : Bool) → Within t (asked (Member kind.Content r) d) → IsNoDeeper inside d) → NoneDeeper d (normal_node_value π t (Some k) d inside)
   node_value_depth kind.Content d inside a content = unless_no_entry-holds (λ v. IsNoDeeper v d) d inside (content a.0 a.1)
   node_value_depth k d inside a content = normal_value-depth k d a
 
   node_member_depth : (c : Option Class) (name : List ℕ) (d inside : Data) → IsNodeMember c name d → ((r : Bool) → Within t (asked (Member kind.Content r) d) → IsNoDeeper inside d)
-      → NoneDeeper d (normal_node_value t (option_map (λ c. kind_of_member c name) c) d inside)
+      → NoneDeeper d (normal_node_value π t (option_map (λ c. kind_of_member c name) c) d inside)
   node_member_depth None name d inside a content = omega arith
   node_member_depth (Some c) name d inside a content = node_value_depth (kind_of_member c name) d inside a content
 
@@ -168,7 +168,7 @@ module _ (t : Data) (clean : NoneOf (ShapeFault t)) (tree : IsTree t) where
       subst (λ c. IsNodeMember c name d) (sym (ap class_of_node o.is_object ∙ o.at.among)) (asked_as t clean (Object role.Content) role.Content o.class o.ms o.at name d found')
 
   mutual
-    pub normal_content-depth : (d : Data) (r : Bool) → Within t (asked (Member kind.Content r) d) → IsNoDeeper (normal_content t d) d
+    pub normal_content-depth : (d : Data) (r : Bool) → Within t (asked (Member kind.Content r) d) → IsNoDeeper (normal_content π t d) d
     normal_content-depth null r w = omega arith
     normal_content-depth (boolean b) r w = omega arith
     normal_content-depth (number n) r w = omega arith
@@ -176,14 +176,14 @@ module _ (t : Data) (clean : NoneOf (ShapeFault t)) (tree : IsTree t) where
     normal_content-depth (array ds) r w = omega (arith, nodes_depth ds (entry_asked t (Member kind.Content r) (Object role.Content) ds refl refl w))
     normal_content-depth (object ms) r w = omega arith
 
-    nodes_depth : (ds : Items) → ((i : ℕ) (d : Data) → get_item i ds ≡ Some d → Within t (asked (Object role.Content) d)) → items_depth (normal_nodes t ds) ≤ items_depth ds
+    nodes_depth : (ds : Items) → ((i : ℕ) (d : Data) → get_item i ds ≡ Some d → Within t (asked (Object role.Content) d)) → items_depth (normal_nodes π t ds) ≤ items_depth ds
     nodes_depth no_items each = omega arith
     nodes_depth (item d ds) each =
-        let first : depth (normal_node t d) ≤ depth d = node_depth d (each zero d refl) in
-        let rest : items_depth (normal_nodes t ds) ≤ items_depth ds = nodes_depth ds (λ i. each (suc i)) in
+        let first : depth (normal_node π t d) ≤ depth d = node_depth d (each zero d refl) in
+        let rest : items_depth (normal_nodes π t ds) ≤ items_depth ds = nodes_depth ds (λ i. each (suc i)) in
         omega arith
 
-    node_depth : (d : Data) → Within t (asked (Object role.Content) d) → depth (normal_node t d) ≤ depth d
+    node_depth : (d : Data) → Within t (asked (Object role.Content) d) → depth (normal_node π t d) ≤ depth d
     node_depth null w = omega arith
     node_depth (boolean b) w = omega arith
     node_depth (number n) w = omega arith
@@ -191,70 +191,70 @@ module _ (t : Data) (clean : NoneOf (ShapeFault t)) (tree : IsTree t) where
     node_depth (array ds) w = omega arith
     node_depth (object ms) w = omega (arith, node_members_depth ms (class_of_node (object ms)) (within-tree t (asked (Object role.Content) (object ms)) tree w) (node_members_of ms w))
 
-    node_members_depth : (ms : Members) (c : Option Class) → AreMembers ms → ((name : List ℕ) (d : Data) → get_member name ms ≡ Some d → IsNodeMember c name d) → members_depth (normal_node_members t c ms) ≤ members_depth ms
+    node_members_depth : (ms : Members) (c : Option Class) → AreMembers ms → ((name : List ℕ) (d : Data) → get_member name ms ≡ Some d → IsNodeMember c name d) → members_depth (normal_node_members π t c ms) ≤ members_depth ms
     node_members_depth no_members c rise each = omega arith
     node_members_depth (member k d ms) c rise each =
-        let rest : members_depth (normal_node_members t c ms) ≤ members_depth ms = node_members_depth ms c rise.2 (λ name e found. each name e (get_member-later k name d e ms rise found)) in
-        let first = node_member_depth c k d (normal_content t d) (each k d (get_member-first k d ms)) (normal_content-depth d) in
-        with_first_depth k d (normal_node_value t (option_map (λ c. kind_of_member c k) c) d (normal_content t d)) (normal_node_members t c ms) (members_depth (member k d ms)) first (omega arith) (omega arith)
+        let rest : members_depth (normal_node_members π t c ms) ≤ members_depth ms = node_members_depth ms c rise.2 (λ name e found. each name e (get_member-later k name d e ms rise found)) in
+        let first = node_member_depth c k d (normal_content π t d) (each k d (get_member-first k d ms)) (normal_content-depth d) in
+        with_first_depth k d (normal_node_value π t (option_map (λ c. kind_of_member c k) c) d (normal_content π t d)) (normal_node_members π t c ms) (members_depth (member k d ms)) first (omega arith) (omega arith)
 
   -- ---- objects of families
 
-  pub normal_selection-depth : (contest d : Data) → Within t (asked (Object selection_role) d) → IsNoDeeper (normal_selection t contest d) d
+  pub normal_selection-depth : (contest d : Data) → Within t (asked (Object selection_role) d) → IsNoDeeper (normal_selection π t contest d) d
   normal_selection-depth contest d w =
-      let inside : Data = normal_object_with (λ name k v. normal_value t k v) (class_of_object selection_role d) d in
-      no_deeper-trans (normal_selection t contest d) inside d (with_id-depth (Some (id_of_selection t contest d)) inside)
-      (normal_object_with-depth (λ name k v. normal_value t k v) selection_role d w (λ name k e a. normal_value-depth k e a))
+      let inside : Data = normal_object_with (λ name k v. normal_value π t k v) (class_of_object selection_role d) d in
+      no_deeper-trans (normal_selection π t contest d) inside d (with_id-depth (Some (id_of_selection π t contest d)) inside)
+      (normal_object_with-depth (λ name k v. normal_value π t k v) selection_role d w (λ name k e a. normal_value-depth k e a))
 
-  pub normal_object_value-depth : (o : Data) (k : MemberKind) (d : Data) → AskedAs t k d → NoneDeeper d (normal_object_value t o k d)
+  pub normal_object_value-depth : (o : Data) (k : MemberKind) (d : Data) → AskedAs t k d → NoneDeeper d (normal_object_value π t o k d)
   normal_object_value-depth o (kind.Keyed family.Selection) d a =
-      unless_no_entry-holds (λ v. IsNoDeeper v d) d (array_of (map (normal_selection t o) (rising_list (by_name t) (entries_of d))))
+      unless_no_entry-holds (λ v. IsNoDeeper v d) d (array_of (map (normal_selection π t o) (rising_list (by_name π t) (entries_of d))))
       (built_depth d (Member (kind.Keyed family.Selection) a.0) (Object selection_role) (wanted_within t clean (asked (Member (kind.Keyed family.Selection) a.0) d) a.1) refl refl a.1
-      (rising_list (by_name t)) (λ P xs all. all_rising P (by_name t) xs all) (normal_selection t o) (normal_selection-depth o))
-  normal_object_value-depth o kind.Content d a = unless_no_entry-holds (λ v. IsNoDeeper v d) d (normal_content t d) (normal_content-depth d a.0 a.1)
+      (rising_list (by_name π t)) (λ P xs all. all_rising P (by_name π t) xs all) (normal_selection π t o) (normal_selection-depth o))
+  normal_object_value-depth o kind.Content d a = unless_no_entry-holds (λ v. IsNoDeeper v d) d (normal_content π t d) (normal_content-depth d a.0 a.1)
   normal_object_value-depth o k d a = normal_value-depth k d a
 
-  pub normal_object-depth : (f : Family) (d : Data) → Within t (asked (Object (role.OfFamily f)) d) → IsNoDeeper (normal_object t f d) d
+  pub normal_object-depth : (f : Family) (d : Data) → Within t (asked (Object (role.OfFamily f)) d) → IsNoDeeper (normal_object π t f d) d
   normal_object-depth f d w =
-      let inside : Data = normal_object_with (λ name k v. normal_object_value t d k v) (class_of_object (role.OfFamily f) d) d in
-      no_deeper-trans (normal_object t f d) inside d (with_id-depth (id_of_key t f (key_of d)) inside)
-      (normal_object_with-depth (λ name k v. normal_object_value t d k v) (role.OfFamily f) d w (λ name k e a. normal_object_value-depth d k e a))
+      let inside : Data = normal_object_with (λ name k v. normal_object_value π t d k v) (class_of_object (role.OfFamily f) d) d in
+      no_deeper-trans (normal_object π t f d) inside d (with_id-depth (id_of_key π t f (key_of π d)) inside)
+      (normal_object_with-depth (λ name k v. normal_object_value π t d k v) (role.OfFamily f) d w (λ name k e a. normal_object_value-depth d k e a))
 
-  pub normal_objects-depth : (f : Family) (r : Bool) (d : Data) → Within t (asked (Member (kind.Keyed f) r) d) → IsNoDeeper (normal_objects t f (entries_of d)) d
+  pub normal_objects-depth : (f : Family) (r : Bool) (d : Data) → Within t (asked (Member (kind.Keyed f) r) d) → IsNoDeeper (normal_objects π t f (entries_of d)) d
   normal_objects-depth f r d w =
       built_depth d (Member (kind.Keyed f) r) (Object (role.OfFamily f)) (wanted_within t clean (asked (Member (kind.Keyed f) r) d) w) refl refl w
-      (rising_list by_key) (λ P xs all. all_rising P by_key xs all) (normal_object t f) (normal_object-depth f)
+      (rising_list (by_key π)) (λ P xs all. all_rising P (by_key π) xs all) (normal_object π t f) (normal_object-depth f)
 
-  keyed_depth : (f : Family) (d : Data) → AskedAs t (kind.Keyed f) d → NoneDeeper d (unless_no_entry d (normal_objects t f (entries_of d)))
-  keyed_depth f d a = unless_no_entry-holds (λ v. IsNoDeeper v d) d (normal_objects t f (entries_of d)) (normal_objects-depth f a.0 d a.1)
+  keyed_depth : (f : Family) (d : Data) → AskedAs t (kind.Keyed f) d → NoneDeeper d (unless_no_entry d (normal_objects π t f (entries_of d)))
+  keyed_depth f d a = unless_no_entry-holds (λ v. IsNoDeeper v d) d (normal_objects π t f (entries_of d)) (normal_objects-depth f a.0 d a.1)
 
   -- ---- the election and the report
 
-  pub normal_election_value-depth : (k : MemberKind) (d : Data) → AskedAs t k d → NoneDeeper d (normal_election_value t k d)
+  pub normal_election_value-depth : (k : MemberKind) (d : Data) → AskedAs t k d → NoneDeeper d (normal_election_value π t k d)
   normal_election_value-depth (kind.Keyed f) d a = keyed_depth f d a
   normal_election_value-depth k d a = normal_value-depth k d a
 
-  pub normal_election-depth : (d : Data) → Within t (asked (Object role.Election) d) → IsNoDeeper (normal_election t d) d
+  pub normal_election-depth : (d : Data) → Within t (asked (Object role.Election) d) → IsNoDeeper (normal_election π t d) d
   normal_election-depth d w =
-      normal_object_with-depth (λ name k v. normal_election_value t k v) role.Election d w (λ name k e a. normal_election_value-depth k e a)
+      normal_object_with-depth (λ name k v. normal_election_value π t k v) role.Election d w (λ name k e a. normal_election_value-depth k e a)
 
-  outside_envelope_depth : (name : List ℕ) (k : MemberKind) (d : Data) → AskedAs t k d → NoneDeeper d (if is_envelope_name name then None else normal_value t k d)
+  outside_envelope_depth : (name : List ℕ) (k : MemberKind) (d : Data) → AskedAs t k d → NoneDeeper d (if is_envelope_name name then None else normal_value π t k d)
   outside_envelope_depth name k d a = at (is_envelope_name name)
     where
-      at : (b : Bool) → NoneDeeper d (if b then None else normal_value t k d)
+      at : (b : Bool) → NoneDeeper d (if b then None else normal_value π t k d)
       at true = tt
       at false = normal_value-depth k d a
 
-  pub normal_report_value-depth : (name : List ℕ) (k : MemberKind) (d : Data) → AskedAs t k d → NoneDeeper d (normal_report_value t name k d)
+  pub normal_report_value-depth : (name : List ℕ) (k : MemberKind) (d : Data) → AskedAs t k d → NoneDeeper d (normal_report_value π t name k d)
   normal_report_value-depth name (kind.Keyed f) d a = keyed_depth f d a
   normal_report_value-depth name kind.Elections d a =
       built_depth d (Member kind.Elections a.0) (Object role.Election) (wanted_within t clean (asked (Member kind.Elections a.0) d) a.1) refl refl a.1
-      (λ xs. xs) (λ P xs all. all) (normal_election t) normal_election-depth
+      (λ xs. xs) (λ P xs all. all) (normal_election π t) normal_election-depth
   normal_report_value-depth name k d a = outside_envelope_depth name k d a
 
   -- what is built of a report is nested no deeper
-  pub normal_tree-depth : IsNoDeeper (normal_tree t) t
+  pub normal_tree-depth : IsNoDeeper (normal_tree π t) t
   normal_tree-depth =
-      let inside : Data = normal_object_with (normal_report_value t) (class_of_object role.Report t) t in
-      no_deeper-trans (normal_tree t) inside t (in_envelope-depth inside)
-      (normal_object_with-depth (normal_report_value t) role.Report t (Within-root t) normal_report_value-depth)
+      let inside : Data = normal_object_with (normal_report_value π t) (class_of_object role.Report t) t in
+      no_deeper-trans (normal_tree π t) inside t (in_envelope-depth inside)
+      (normal_object_with-depth (normal_report_value π t) role.Report t (Within-root t) normal_report_value-depth)

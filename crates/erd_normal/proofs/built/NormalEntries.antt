@@ -16,6 +16,7 @@ use Rattle.erd_check.specs.Trees.{IsTree}
 use Rattle.erd_check.specs.Values.{entries_of, list_of_items, entries_at}
 use Rattle.erd_check.specs.Wants.{class_of_object}
 use Rattle.erd_check.proofs.Entries.{entries_in}
+use Rattle.erd_meaning.specs.Keys.{Preference}
 use Rattle.erd_meaning.specs.SelectionNames.{compact_cmp, rising_list, selection_role}
 use Rattle.erd_normal.specs.code.NormalTree.{array_of, by_key, by_name, normal_election, normal_object, normal_reference, normal_report_value, normal_selection, normal_tree, reference_cmp, unless_no_entry}
 use Rattle.erd_normal.proofs.built.NormalGets.{get_election, get_object, get_selection}
@@ -51,42 +52,42 @@ entries_built g none name d e is = ap entries_in is ∙ entries_of_built g none 
 
 -- ---- of an object of a family
 
-module _ (t : Data) (f : Family) (c : Class) (d : Data) (tree : IsTree d) (among : class_of_object (role.OfFamily f) d ≡ Some c) (name : List ℕ) (other : bytes_eq name (codes "@id") ≡ false) where
-  pub entries_of_identifiers : kind_of_member c name ≡ kind.Identifiers → entries_at name (normal_object t f d) ≡ rising_list compact_cmp (entries_at name d)
-  entries_of_identifiers is = entries_built (rising_list compact_cmp) refl name d (normal_object t f d) (get_object t f c d tree among name other ∙ rw is refl)
+module _ (π : Preference) (t : Data) (f : Family) (c : Class) (d : Data) (tree : IsTree d) (among : class_of_object (role.OfFamily f) d ≡ Some c) (name : List ℕ) (other : bytes_eq name (codes "@id") ≡ false) where
+  pub entries_of_identifiers : kind_of_member c name ≡ kind.Identifiers → entries_at name (normal_object π t f d) ≡ rising_list compact_cmp (entries_at name d)
+  entries_of_identifiers is = entries_built (rising_list compact_cmp) refl name d (normal_object π t f d) (get_object π t f c d tree among name other ∙ rw is refl)
 
-  pub entries_of_selections : kind_of_member c name ≡ kind.Keyed family.Selection → entries_at name (normal_object t f d) ≡ map (normal_selection t d) (rising_list (by_name t) (entries_at name d))
+  pub entries_of_selections : kind_of_member c name ≡ kind.Keyed family.Selection → entries_at name (normal_object π t f d) ≡ map (normal_selection π t d) (rising_list (by_name π t) (entries_at name d))
   entries_of_selections is =
-      entries_built (λ ds. map (normal_selection t d) (rising_list (by_name t) ds)) refl name d (normal_object t f d) (get_object t f c d tree among name other ∙ rw is refl)
+      entries_built (λ ds. map (normal_selection π t d) (rising_list (by_name π t) ds)) refl name d (normal_object π t f d) (get_object π t f c d tree among name other ∙ rw is refl)
 
 -- ---- of a selection
 
-module _ (t contest : Data) (c : Class) (d : Data) (tree : IsTree d) (among : class_of_object selection_role d ≡ Some c) (name : List ℕ) (other : bytes_eq name (codes "@id") ≡ false) where
-  pub selection_identifiers : kind_of_member c name ≡ kind.Identifiers → entries_at name (normal_selection t contest d) ≡ rising_list compact_cmp (entries_at name d)
-  selection_identifiers is = entries_built (rising_list compact_cmp) refl name d (normal_selection t contest d) (get_selection t contest c d tree among name other ∙ rw is refl)
+module _ (π : Preference) (t contest : Data) (c : Class) (d : Data) (tree : IsTree d) (among : class_of_object selection_role d ≡ Some c) (name : List ℕ) (other : bytes_eq name (codes "@id") ≡ false) where
+  pub selection_identifiers : kind_of_member c name ≡ kind.Identifiers → entries_at name (normal_selection π t contest d) ≡ rising_list compact_cmp (entries_at name d)
+  selection_identifiers is = entries_built (rising_list compact_cmp) refl name d (normal_selection π t contest d) (get_selection π t contest c d tree among name other ∙ rw is refl)
 
-  pub selection_references : (q : Family) → kind_of_member c name ≡ kind.Many q → entries_at name (normal_selection t contest d) ≡ map (normal_reference t q) (rising_list (reference_cmp t q) (entries_at name d))
+  pub selection_references : (q : Family) → kind_of_member c name ≡ kind.Many q → entries_at name (normal_selection π t contest d) ≡ map (normal_reference π t q) (rising_list (reference_cmp π t q) (entries_at name d))
   selection_references q is =
-      entries_built (λ ds. map (normal_reference t q) (rising_list (reference_cmp t q) ds)) refl name d (normal_selection t contest d) (get_selection t contest c d tree among name other ∙ rw is refl)
+      entries_built (λ ds. map (normal_reference π t q) (rising_list (reference_cmp π t q) ds)) refl name d (normal_selection π t contest d) (get_selection π t contest c d tree among name other ∙ rw is refl)
 
 -- ---- of the report and the election
 
-module _ (t : Data) (clean : NoneOf (ShapeFault t)) (tree : IsTree t) where
+module _ (π : Preference) (t : Data) (clean : NoneOf (ShapeFault t)) (tree : IsTree t) where
   pub entries_of_report : (f : Family) (name : List ℕ) → is_envelope_name name ≡ false → kind_of_member class.ElectionReport name ≡ kind.Keyed f
-      → entries_at name (normal_tree t) ≡ map (normal_object t f) (rising_list by_key (entries_at name t))
+      → entries_at name (normal_tree π t) ≡ map (normal_object π t f) (rising_list (by_key π) (entries_at name t))
   entries_of_report f name other is =
-      entries_built (λ ds. map (normal_object t f) (rising_list by_key ds)) refl name t (normal_tree t)
-      (get_report t clean tree name other ∙ ap (λ k. option_and_then (normal_report_value t name k) (get name t)) is)
+      entries_built (λ ds. map (normal_object π t f) (rising_list (by_key π) ds)) refl name t (normal_tree π t)
+      (get_report π t clean tree name other ∙ ap (λ k. option_and_then (normal_report_value π t name k) (get name t)) is)
 
   pub entries_of_election : (d : Data) → IsTree d → class_of_object role.Election d ≡ Some class.Election → (f : Family) (name : List ℕ) → kind_of_member class.Election name ≡ kind.Keyed f
-      → entries_at name (normal_election t d) ≡ map (normal_object t f) (rising_list by_key (entries_at name d))
+      → entries_at name (normal_election π t d) ≡ map (normal_object π t f) (rising_list (by_key π) (entries_at name d))
   entries_of_election d inside among f name is =
-      entries_built (λ ds. map (normal_object t f) (rising_list by_key ds)) refl name d (normal_election t d)
-      (get_election t d inside among name ∙ rw is refl)
+      entries_built (λ ds. map (normal_object π t f) (rising_list (by_key π) ds)) refl name d (normal_election π t d)
+      (get_election π t d inside among name ∙ rw is refl)
 
-  elections_listed : (o : Option Data) → entries_in (option_and_then (λ v. Some (array_of (map (normal_election t) (entries_of v)))) o) ≡ map (normal_election t) (entries_in o)
+  elections_listed : (o : Option Data) → entries_in (option_and_then (λ v. Some (array_of (map (normal_election π t) (entries_of v)))) o) ≡ map (normal_election π t) (entries_in o)
   elections_listed None = refl
-  elections_listed (Some d) = list_of_items-items_of (map (normal_election t) (entries_of d))
+  elections_listed (Some d) = list_of_items-items_of (map (normal_election π t) (entries_of d))
 
-  pub entries_of_elections : entries_at (codes "Election") (normal_tree t) ≡ map (normal_election t) (entries_at (codes "Election") t)
-  entries_of_elections = ap entries_in (get_report t clean tree (codes "Election") refl) ∙ elections_listed (get (codes "Election") t)
+  pub entries_of_elections : entries_at (codes "Election") (normal_tree π t) ≡ map (normal_election π t) (entries_at (codes "Election") t)
+  entries_of_elections = ap entries_in (get_report π t clean tree (codes "Election") refl) ∙ elections_listed (get (codes "Election") t)

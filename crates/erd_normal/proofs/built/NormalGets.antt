@@ -18,7 +18,7 @@ use Rattle.erd_check.specs.Faults.{is_object}
 use Rattle.erd_check.specs.Trees.{IsTree}
 use Rattle.erd_check.specs.Wants.{class_of_object}
 use Rattle.erd_check.proofs.TableKinds.{kind_of_id}
-use Rattle.erd_meaning.specs.Keys.{key_of}
+use Rattle.erd_meaning.specs.Keys.{Preference, key_of}
 use Rattle.erd_check.specs.Values.{entries_at}
 use Rattle.erd_meaning.specs.Objects.{id_of}
 use Rattle.erd_meaning.specs.Records.{class_of_node}
@@ -86,73 +86,73 @@ text_of_id d (Some id) is = rw is refl
 
 -- ---- the election
 
-module _ (t d : Data) (tree : IsTree d) (among : class_of_object role.Election d ≡ Some class.Election) where
-  pub get_election : (name : List ℕ) → get name (normal_election t d) ≡ option_and_then (normal_election_value t (kind_of_member class.Election name)) (get name d)
-  get_election name = get_object_with (λ name k v. normal_election_value t k v) role.Election class.Election name d tree among
+module _ (π : Preference) (t d : Data) (tree : IsTree d) (among : class_of_object role.Election d ≡ Some class.Election) where
+  pub get_election : (name : List ℕ) → get name (normal_election π t d) ≡ option_and_then (normal_election_value π t (kind_of_member class.Election name)) (get name d)
+  get_election name = get_object_with (λ name k v. normal_election_value π t k v) role.Election class.Election name d tree among
 
-  pub get_election-type : get (codes "@type") (normal_election t d) ≡ get (codes "@type") d
+  pub get_election-type : get (codes "@type") (normal_election π t d) ≡ get (codes "@type") d
   get_election-type = get_election (codes "@type") ∙ same_value (get (codes "@type") d)
 
 -- ---- an object of one of the first eight families
 
-module _ (t : Data) (f : Family) (c : Class) (d : Data) (tree : IsTree d) (among : class_of_object (role.OfFamily f) d ≡ Some c) where
-  pub get_object : (name : List ℕ) → bytes_eq name (codes "@id") ≡ false → get name (normal_object t f d) ≡ option_and_then (normal_object_value t d (kind_of_member c name)) (get name d)
+module _ (π : Preference) (t : Data) (f : Family) (c : Class) (d : Data) (tree : IsTree d) (among : class_of_object (role.OfFamily f) d ≡ Some c) where
+  pub get_object : (name : List ℕ) → bytes_eq name (codes "@id") ≡ false → get name (normal_object π t f d) ≡ option_and_then (normal_object_value π t d (kind_of_member c name)) (get name d)
   get_object name other =
-      get_with_id-other (id_of_key t f (key_of d)) name (normal_object_with (λ name k v. normal_object_value t d k v) (class_of_object (role.OfFamily f) d) d) other
-      ∙ get_object_with (λ name k v. normal_object_value t d k v) (role.OfFamily f) c name d tree among
+      get_with_id-other (id_of_key π t f (key_of π d)) name (normal_object_with (λ name k v. normal_object_value π t d k v) (class_of_object (role.OfFamily f) d) d) other
+      ∙ get_object_with (λ name k v. normal_object_value π t d k v) (role.OfFamily f) c name d tree among
 
-  pub get_object-type : get (codes "@type") (normal_object t f d) ≡ get (codes "@type") d
-  get_object-type = get_object (codes "@type") refl ∙ ap (λ k. option_and_then (normal_object_value t d k) (get (codes "@type") d)) (kind_of_type c) ∙ same_value (get (codes "@type") d)
+  pub get_object-type : get (codes "@type") (normal_object π t f d) ≡ get (codes "@type") d
+  get_object-type = get_object (codes "@type") refl ∙ ap (λ k. option_and_then (normal_object_value π t d k) (get (codes "@type") d)) (kind_of_type c) ∙ same_value (get (codes "@type") d)
 
   -- it keeps its class
-  pub class_of_built : class_of_object (role.OfFamily f) (normal_object t f d) ≡ Some c
+  pub class_of_built : class_of_object (role.OfFamily f) (normal_object π t f d) ≡ Some c
   class_of_built = ap (λ o. option_and_then (class_in_role (role.OfFamily f)) (option_and_then as_str o)) get_object-type ∙ among
 
-  pub get_object-id : get (codes "@id") (normal_object t f d) ≡ option_map string (id_of_key t f (key_of d))
+  pub get_object-id : get (codes "@id") (normal_object π t f d) ≡ option_map string (id_of_key π t f (key_of π d))
   get_object-id =
-      with_id_holds (λ name k v. normal_object_value t d k v) (role.OfFamily f) c (id_of_key t f (key_of d)) d tree among
-      (λ v. ap (λ k. normal_object_value t d k v) (kind_of_family_id c f (class_has_role (role.OfFamily f) c d among)))
+      with_id_holds (λ name k v. normal_object_value π t d k v) (role.OfFamily f) c (id_of_key π t f (key_of π d)) d tree among
+      (λ v. ap (λ k. normal_object_value π t d k v) (kind_of_family_id c f (class_has_role (role.OfFamily f) c d among)))
 
-  pub id_of_object : id_of (normal_object t f d) ≡ id_of_key t f (key_of d)
-  id_of_object = text_of_id (normal_object t f d) (id_of_key t f (key_of d)) get_object-id
+  pub id_of_object : id_of (normal_object π t f d) ≡ id_of_key π t f (key_of π d)
+  id_of_object = text_of_id (normal_object π t f d) (id_of_key π t f (key_of π d)) get_object-id
 
 -- ---- a selection
 
-module _ (t contest : Data) (c : Class) (d : Data) (tree : IsTree d) (among : class_of_object selection_role d ≡ Some c) where
-  pub get_selection : (name : List ℕ) → bytes_eq name (codes "@id") ≡ false → get name (normal_selection t contest d) ≡ option_and_then (normal_value t (kind_of_member c name)) (get name d)
+module _ (π : Preference) (t contest : Data) (c : Class) (d : Data) (tree : IsTree d) (among : class_of_object selection_role d ≡ Some c) where
+  pub get_selection : (name : List ℕ) → bytes_eq name (codes "@id") ≡ false → get name (normal_selection π t contest d) ≡ option_and_then (normal_value π t (kind_of_member c name)) (get name d)
   get_selection name other =
-      get_with_id-other (Some (id_of_selection t contest d)) name (normal_object_with (λ name k v. normal_value t k v) (class_of_object selection_role d) d) other
-      ∙ get_object_with (λ name k v. normal_value t k v) selection_role c name d tree among
+      get_with_id-other (Some (id_of_selection π t contest d)) name (normal_object_with (λ name k v. normal_value π t k v) (class_of_object selection_role d) d) other
+      ∙ get_object_with (λ name k v. normal_value π t k v) selection_role c name d tree among
 
-  pub get_selection-type : get (codes "@type") (normal_selection t contest d) ≡ get (codes "@type") d
-  get_selection-type = get_selection (codes "@type") refl ∙ ap (λ k. option_and_then (normal_value t k) (get (codes "@type") d)) (kind_of_type c) ∙ same_value (get (codes "@type") d)
+  pub get_selection-type : get (codes "@type") (normal_selection π t contest d) ≡ get (codes "@type") d
+  get_selection-type = get_selection (codes "@type") refl ∙ ap (λ k. option_and_then (normal_value π t k) (get (codes "@type") d)) (kind_of_type c) ∙ same_value (get (codes "@type") d)
 
   -- it keeps its class
-  pub class_of_built_selection : class_of_object selection_role (normal_selection t contest d) ≡ Some c
+  pub class_of_built_selection : class_of_object selection_role (normal_selection π t contest d) ≡ Some c
   class_of_built_selection = ap (λ o. option_and_then (class_in_role selection_role) (option_and_then as_str o)) get_selection-type ∙ among
 
-  pub get_selection-id : get (codes "@id") (normal_selection t contest d) ≡ Some (string (id_of_selection t contest d))
+  pub get_selection-id : get (codes "@id") (normal_selection π t contest d) ≡ Some (string (id_of_selection π t contest d))
   get_selection-id =
-      get_with_id (id_of_selection t contest d) (normal_object_with (λ name k v. normal_value t k v) (class_of_object selection_role d) d)
-      (is_object_with (λ name k v. normal_value t k v) (class_of_object selection_role d) d (class_of_object-object selection_role c d among))
+      get_with_id (id_of_selection π t contest d) (normal_object_with (λ name k v. normal_value π t k v) (class_of_object selection_role d) d)
+      (is_object_with (λ name k v. normal_value π t k v) (class_of_object selection_role d) d (class_of_object-object selection_role c d among))
 
-  pub id_of_built_selection : id_of (normal_selection t contest d) ≡ Some (id_of_selection t contest d)
-  id_of_built_selection = text_of_id (normal_selection t contest d) (Some (id_of_selection t contest d)) get_selection-id
+  pub id_of_built_selection : id_of (normal_selection π t contest d) ≡ Some (id_of_selection π t contest d)
+  id_of_built_selection = text_of_id (normal_selection π t contest d) (Some (id_of_selection π t contest d)) get_selection-id
 
 -- ---- a contest or a header of a ballot
 
-pub get_node : (t : Data) (c : Class) (name : List ℕ) (d : Data) → IsTree d → class_of_node d ≡ Some c
-    → get name (normal_node t d) ≡ option_and_then (λ v. normal_node_value t (Some (kind_of_member c name)) v (normal_content t v)) (get name d)
-get_node t c name (object ms) tree among = get_normal_node t (class_of_node (object ms)) name ms tree ∙ ap (λ o. option_and_then (node_value t o name) (get_member name ms)) among
-get_node t c name d tree among = cc
+pub get_node : (π : Preference) (t : Data) (c : Class) (name : List ℕ) (d : Data) → IsTree d → class_of_node d ≡ Some c
+    → get name (normal_node π t d) ≡ option_and_then (λ v. normal_node_value π t (Some (kind_of_member c name)) v (normal_content π t v)) (get name d)
+get_node π t c name (object ms) tree among = get_normal_node π t (class_of_node (object ms)) name ms tree ∙ ap (λ o. option_and_then (node_value π t o name) (get_member name ms)) among
+get_node π t c name d tree among = cc
 
-pub get_node-type : (t : Data) (c : Class) (d : Data) → IsTree d → class_of_node d ≡ Some c → get (codes "@type") (normal_node t d) ≡ get (codes "@type") d
-get_node-type t c d tree among =
-    get_node t c (codes "@type") d tree among
-    ∙ ap (λ k. option_and_then (λ v. normal_node_value t (Some k) v (normal_content t v)) (get (codes "@type") d)) (kind_of_type c) ∙ same_value (get (codes "@type") d)
+pub get_node-type : (π : Preference) (t : Data) (c : Class) (d : Data) → IsTree d → class_of_node d ≡ Some c → get (codes "@type") (normal_node π t d) ≡ get (codes "@type") d
+get_node-type π t c d tree among =
+    get_node π t c (codes "@type") d tree among
+    ∙ ap (λ k. option_and_then (λ v. normal_node_value π t (Some k) v (normal_content π t v)) (get (codes "@type") d)) (kind_of_type c) ∙ same_value (get (codes "@type") d)
 
-pub class_of_built_node : (t : Data) (c : Class) (d : Data) → IsTree d → class_of_node d ≡ Some c → class_of_node (normal_node t d) ≡ Some c
-class_of_built_node t c d tree among = ap (λ o. option_and_then (class_in_role role.Content) (option_and_then as_str o)) (get_node-type t c d tree among) ∙ among
+pub class_of_built_node : (π : Preference) (t : Data) (c : Class) (d : Data) → IsTree d → class_of_node d ≡ Some c → class_of_node (normal_node π t d) ≡ Some c
+class_of_built_node π t c d tree among = ap (λ o. option_and_then (class_in_role role.Content) (option_and_then as_str o)) (get_node-type π t c d tree among) ∙ among
 
 -- ---- a label
 

@@ -14,6 +14,7 @@ use Rattle.erd_check.proofs.Members.{get_member-before, get_member-first}
 use Rattle.erd_normal.specs.code.NormalTree.{normal_members, normal_node_members, normal_node_value, normal_content}
 use Rattle.erd_check.proofs.Whole.{get_member-later}
 use Rattle.erd_check.proofs.Deciding.{before_later}
+use Rattle.erd_meaning.specs.Keys.{Preference}
 
 -- ---- of any value by name
 
@@ -97,17 +98,17 @@ module _ (value_of : List ℕ → MemberKind → Data → Option Data) (c : Clas
 
 -- ---- of a contest or a header
 
-module _ (t : Data) (c : Option Class) where
+module _ (π : Preference) (t : Data) (c : Option Class) where
   -- the value by the name alone, with what is built of it as a list of contests and headers
   abbrev pub node_value : List ℕ → Data → Option Data
-  node_value name d = normal_node_value t (option_map (λ c. kind_of_member c name) c) d (normal_content t d)
+  node_value name d = normal_node_value π t (option_map (λ c. kind_of_member c name) c) d (normal_content π t d)
 
-  pub normal_node_members_each : (ms : Members) → normal_node_members t c ms ≡ each_member node_value ms
+  pub normal_node_members_each : (ms : Members) → normal_node_members π t c ms ≡ each_member node_value ms
   normal_node_members_each no_members = refl
   normal_node_members_each (member k d ms) = rw (normal_node_members_each ms) refl
 
-  pub get_normal_node : (name : List ℕ) (ms : Members) → AreMembers ms → get_member name (normal_node_members t c ms) ≡ option_and_then (node_value name) (get_member name ms)
+  pub get_normal_node : (name : List ℕ) (ms : Members) → AreMembers ms → get_member name (normal_node_members π t c ms) ≡ option_and_then (node_value name) (get_member name ms)
   get_normal_node name ms rise = ap (get_member name) (normal_node_members_each ms) ∙ get_each node_value name ms rise
 
-  pub normal_node_members-before : (k : List ℕ) (ms : Members) → AreMembers ms → IsBeforeFirst k ms → IsBeforeFirst k (normal_node_members t c ms)
+  pub normal_node_members-before : (k : List ℕ) (ms : Members) → AreMembers ms → IsBeforeFirst k ms → IsBeforeFirst k (normal_node_members π t c ms)
   normal_node_members-before k ms rise below = rw (normal_node_members_each ms) (before_each node_value k ms rise below)

@@ -7,6 +7,7 @@ use Rattle.erd_tables.specs.declared.place.Step.{Step}
 use Rattle.erd_tables.specs.declared.place.Step.TheVariants.{At, Name}
 use Rattle.erd_check.specs.Trees.{IsTree}
 use Rattle.erd_check.proofs.Rising.{Has}
+use Rattle.erd_meaning.specs.Keys.{Preference}
 use Rattle.erd_meaning.specs.Accepted.{IsAccepted}
 use Rattle.erd_meaning.specs.LaterFaults.{IsBefore, is_selection_in}
 use Rattle.erd_meaning.specs.Objects.{Placed, contests, has_id, id_of, objects, owner, placed_from, selections_of_contest}
@@ -53,7 +54,7 @@ contest_place c o h =
 
 -- ---- contests
 
-module _ (t : Data) (accepted : IsAccepted t) where
+module _ (π : Preference) (t : Data) (accepted : IsAccepted π t) where
   -- two contests that have one selection are one
   pub one_contest : (c d o : Placed) → Has (objects family.Contest t) c → Has (objects family.Contest t) d → Has (selections_of_contest c) o → Has (selections_of_contest d) o → c ≡ d
   one_contest c d o in_c in_d of_c of_d =
@@ -62,7 +63,7 @@ module _ (t : Data) (accepted : IsAccepted t) where
       let inside : c.place ++ Name (codes "ContestSelection") ∷ [] ≡ d.place ++ Name (codes "ContestSelection") ∷ [] =
       first_same (c.place ++ Name (codes "ContestSelection") ∷ []) (d.place ++ Name (codes "ContestSelection") ∷ []) (At k.0) (At l.0) (sym k.1 ∙ l.1) in
       let same : c.place ≡ d.place = first_same c.place d.place (Name (codes "ContestSelection")) (Name (codes "ContestSelection")) inside in
-      one_placed t accepted family.Contest family.Contest c d in_c in_d
+      one_placed π t accepted family.Contest family.Contest c d in_c in_d
       (λ before. never_before_itself c (before_same c d same before))
       (λ before. never_before_itself d (before_same d c (sym same) before))
     where
@@ -79,27 +80,27 @@ module _ (t : Data) (accepted : IsAccepted t) where
   module _ (tree : IsTree t) (bounded : IsBounded t) where
     -- what is built of a selection is a selection of what is built of its contest
     pub selection_in_built : (contest o : Placed) → Has (objects family.Contest t) contest → Has (selections_of_contest contest) o
-        → is_selection_in (normal_object t family.Contest contest.value) (id_of_selection t contest.value o.value) ≡ true
+        → is_selection_in (normal_object π t family.Contest contest.value) (id_of_selection π t contest.value o.value) ≡ true
     selection_in_built contest o of_report of_contest =
-        let id : List ℕ = id_of_selection t contest.value o.value in
-        let p = built_stands t accepted tree family.Contest refl contest of_report in
-        let q = selection_stands t accepted tree contest p.0 of_report (sym p.2) o of_contest in
-        let k : IsClassed family.Selection o.value = object_classed t accepted tree family.Selection o (flat-has selections_of_contest (contests t) contest o of_report of_contest) in
-        let own : id_of q.0.value ≡ Some id = ap id_of q.2 ∙ id_of_built_selection t contest.value k.0 o.value k.2 k.1 in
+        let id : List ℕ = id_of_selection π t contest.value o.value in
+        let p = built_stands π t accepted tree family.Contest refl contest of_report in
+        let q = selection_stands π t accepted tree contest p.0 of_report (sym p.2) o of_contest in
+        let k : IsClassed family.Selection o.value = object_classed π t accepted tree family.Selection o (flat-has selections_of_contest (contests t) contest o of_report of_contest) in
+        let own : id_of q.0.value ≡ Some id = ap id_of q.2 ∙ id_of_built_selection π t contest.value k.0 o.value k.2 k.1 in
         let there : Has (selection_values p.0) q.0.value = subst (λ xs. Has xs q.0.value) (listed p.0) (has_mapped (λ (x : Placed). x.value) (selections_of_contest p.0) q.0 q.1) in
         subst (λ x. is_selection_in x id ≡ true) p.2 (any-has (has_id id) (selection_values p.0) q.0.value there (has_id-from id q.0.value own))
 
     -- and so for references
     pub reference_in_built : (contest : Placed) (r d : Data) → Has (objects family.Contest t) contest → owner t family.Selection (text_of r) ≡ Some d → is_selection_in contest.value (text_of r) ≡ true
-        → is_selection_in (normal_object t family.Contest contest.value) (text_of (normal_selection_reference t r)) ≡ true
+        → is_selection_in (normal_object π t family.Contest contest.value) (text_of (normal_selection_reference π t r)) ≡ true
     reference_in_built contest r d of_report owned is =
-        let s : FoundSelection t (text_of r) d = named t accepted tree bounded r d owned in
+        let s : FoundSelection t (text_of r) d = named π t accepted tree bounded r d owned in
         let o = selection_with_id contest (text_of r) is in
         let own : id_of s.selection.value ≡ Some (text_of r) = ap id_of s.value ∙ (owned_by t family.Selection (text_of r) d owned).3 in
         let one : o.0 ≡ s.selection =
-        one_object t accepted family.Selection family.Selection o.0 s.selection (text_of r) (flat-has selections_of_contest (contests t) contest o.0 of_report o.1)
+        one_object π t accepted family.Selection family.Selection o.0 s.selection (text_of r) (flat-has selections_of_contest (contests t) contest o.0 of_report o.1)
         (flat-has selections_of_contest (contests t) s.contest s.selection s.of_report s.of_contest) o.2 own in
         let here : contest ≡ s.contest = one_contest contest s.contest s.selection of_report s.of_report (subst (Has (selections_of_contest contest)) one o.1) s.of_contest in
-        ap (λ x. is_selection_in (normal_object t family.Contest x.value) (text_of (normal_selection_reference t r))) here
-        ∙ ap (is_selection_in (normal_object t family.Contest s.contest.value)) (text_built t accepted tree bounded r d owned)
+        ap (λ x. is_selection_in (normal_object π t family.Contest x.value) (text_of (normal_selection_reference π t r))) here
+        ∙ ap (is_selection_in (normal_object π t family.Contest s.contest.value)) (text_built π t accepted tree bounded r d owned)
         ∙ selection_in_built s.contest s.selection s.of_report s.of_contest

@@ -11,7 +11,7 @@ use Rattle.erd_tables.specs.declared.place.Step.{Step}
 use Rattle.erd_tables.specs.declared.place.Step.TheVariants.{At}
 use Rattle.erd_check.proofs.Rising.{Has}
 use Rattle.erd_meaning.specs.Accepted.{IsAccepted}
-use Rattle.erd_meaning.specs.Keys.{has_keys, key_cmp, key_of, key_of_family_object}
+use Rattle.erd_meaning.specs.Keys.{Preference, has_keys, key_cmp, key_of, key_of_family_object}
 use Rattle.erd_check.specs.Values.{entries_at}
 use Rattle.erd_meaning.specs.Lookups.{key_in}
 use Rattle.erd_meaning.specs.NameParts.{NameParts}
@@ -31,19 +31,19 @@ use Rattle.erd_meaning.proofs.accepted.Skeleton.{values-placed_from}
 
 -- ---- objects by their keys
 
-key_at : (t : Data) (f : Family) (i : ℕ) (o : Placed) (k : Key) → has_keys f ≡ true → slice_get (objects f t) i ≡ Some o → key_of o.value ≡ Some k → key_in f t i ≡ Some k
-key_at t f i o k keyed a e = ap (option_and_then (λ (o : Placed). key_of_family_object f o.value)) a ∙ ap (λ b. cond b (key_of o.value) None) keyed ∙ e
+key_at : (π : Preference) (t : Data) (f : Family) (i : ℕ) (o : Placed) (k : Key) → has_keys f ≡ true → slice_get (objects f t) i ≡ Some o → key_of π o.value ≡ Some k → key_in π f t i ≡ Some k
+key_at π t f i o k keyed a e = ap (option_and_then (λ (o : Placed). key_of_family_object π f o.value)) a ∙ ap (λ b. cond b (key_of π o.value) None) keyed ∙ e
 
-pub objects_distinct : (t : Data) → IsAccepted t → (f : Family) → has_keys f ≡ true → IsDistinct (λ o p. eq_by_cmp by_key o.value p.value) (objects f t)
-objects_distinct t accepted f keyed = distinct_from_one_place (λ o p. eq_by_cmp by_key o.value p.value) (objects f t) (λ i j o p a b e.
-    let k = has_identifier t accepted f o keyed (has_from_In o (objects f t) (in_at (objects f t) i o a)) in
-    let l = has_identifier t accepted f p keyed (has_from_In p (objects f t) (in_at (objects f t) j p b)) in
+pub objects_distinct : (π : Preference) (t : Data) → IsAccepted π t → (f : Family) → has_keys f ≡ true → IsDistinct (λ o p. eq_by_cmp (by_key π) o.value p.value) (objects f t)
+objects_distinct π t accepted f keyed = distinct_from_one_place (λ o p. eq_by_cmp (by_key π) o.value p.value) (objects f t) (λ i j o p a b e.
+    let k = has_identifier π t accepted f o keyed (has_from_In o (objects f t) (in_at (objects f t) i o a)) in
+    let l = has_identifier π t accepted f p keyed (has_from_In p (objects f t) (in_at (objects f t) j p b)) in
     let same : k.0 ≡ l.0 = key_cmp_exact k.0 l.0 ((Equal-is (key_cmp k.0 l.0)).0 (sym (ap₂ (λ x y. is_eq (option_cmp key_cmp x y)) k.1 l.1) ∙ e)) in
-    one_key t f k.0 i j (no_identity_fault t accepted) (key_at t f i o k.0 keyed a k.1) (key_at t f j p k.0 keyed b (l.1 ∙ ap Some (sym same))))
+    one_key π t f k.0 i j (no_identity_fault π t accepted) (key_at π t f i o k.0 keyed a k.1) (key_at π t f j p k.0 keyed b (l.1 ∙ ap Some (sym same))))
 
 -- the values of a family's objects
-pub values_distinct : (t : Data) → IsAccepted t → (f : Family) → has_keys f ≡ true → IsDistinct (eq_by_cmp by_key) (map (λ o. o.value) (objects f t))
-values_distinct t accepted f keyed = distinct_map (λ o. o.value) (eq_by_cmp by_key) (objects f t) (objects_distinct t accepted f keyed)
+pub values_distinct : (π : Preference) (t : Data) → IsAccepted π t → (f : Family) → has_keys f ≡ true → IsDistinct (eq_by_cmp (by_key π)) (map (λ o. o.value) (objects f t))
+values_distinct π t accepted f keyed = distinct_map (λ o. o.value) (eq_by_cmp (by_key π)) (objects f t) (objects_distinct π t accepted f keyed)
 
 -- ---- selections by their names
 
@@ -65,20 +65,20 @@ one_place p ds i j o q a b e =
     let h : 0 + i ≡ 0 + j = one_index p (0 + i) (0 + j) (sym (placed_at p 0 ds i o a) ∙ ap (λ x. x.place) e ∙ placed_at p 0 ds j q b) in
     omega arith
 
-pub selections_distinct : (t : Data) → IsAccepted t → (contest : Placed) → Has (objects family.Contest t) contest → IsDistinct (λ o p. eq_by_cmp (by_name t) o.value p.value) (selections_of_contest contest)
-selections_distinct t accepted contest c = distinct_from_one_place (λ o p. eq_by_cmp (by_name t) o.value p.value) (selections_of_contest contest) (λ i j o p a b e.
+pub selections_distinct : (π : Preference) (t : Data) → IsAccepted π t → (contest : Placed) → Has (objects family.Contest t) contest → IsDistinct (λ o p. eq_by_cmp (by_name π t) o.value p.value) (selections_of_contest contest)
+selections_distinct π t accepted contest c = distinct_from_one_place (λ o p. eq_by_cmp (by_name π t) o.value p.value) (selections_of_contest contest) (λ i j o p a b e.
     let h = has_from_In o (selections_of_contest contest) (in_at (selections_of_contest contest) i o a) in
     let k = has_from_In p (selections_of_contest contest) (in_at (selections_of_contest contest) j p b) in
     let m = named o h in
     let n = named p k in
     let same : m.0 ≡ n.0 = name_cmp_exact m.0 n.0 ((Equal-is (name_cmp m.0 n.0)).0 (sym (ap₂ (λ x y. is_eq (option_cmp name_cmp x y)) m.1 n.1) ∙ e)) in
-    one_place _ (entries_at (codes "ContestSelection") contest.value) i j o p a b (one_named t accepted contest o p m.0 c h k m.1 (n.1 ∙ ap Some (sym same))))
+    one_place _ (entries_at (codes "ContestSelection") contest.value) i j o p a b (one_named π t accepted contest o p m.0 c h k m.1 (n.1 ∙ ap Some (sym same))))
   where
-    named : (o : Placed) → Has (selections_of_contest contest) o → (n : NameParts) × (name_of t o.value ≡ Some n)
-    named o h = has_name t accepted o.value (record { place = o.place; is = stands t accepted family.Selection o (flat-has selections_of_contest (contests t) contest o c h) })
+    named : (o : Placed) → Has (selections_of_contest contest) o → (n : NameParts) × (name_of π t o.value ≡ Some n)
+    named o h = has_name π t accepted o.value (record { place = o.place; is = stands π t accepted family.Selection o (flat-has selections_of_contest (contests t) contest o c h) })
 
 -- the values of a contest's selections
-pub selection_values_distinct : (t : Data) → IsAccepted t → (contest : Placed) → Has (objects family.Contest t) contest → IsDistinct (eq_by_cmp (by_name t)) (entries_at (codes "ContestSelection") contest.value)
-selection_values_distinct t accepted contest c =
-    subst (IsDistinct (eq_by_cmp (by_name t))) (values-placed_from _ 0 (entries_at (codes "ContestSelection") contest.value))
-    (distinct_map (λ o. o.value) (eq_by_cmp (by_name t)) (selections_of_contest contest) (selections_distinct t accepted contest c))
+pub selection_values_distinct : (π : Preference) (t : Data) → IsAccepted π t → (contest : Placed) → Has (objects family.Contest t) contest → IsDistinct (eq_by_cmp (by_name π t)) (entries_at (codes "ContestSelection") contest.value)
+selection_values_distinct π t accepted contest c =
+    subst (IsDistinct (eq_by_cmp (by_name π t))) (values-placed_from _ 0 (entries_at (codes "ContestSelection") contest.value))
+    (distinct_map (λ o. o.value) (eq_by_cmp (by_name π t)) (selections_of_contest contest) (selections_distinct π t accepted contest c))

@@ -28,7 +28,7 @@ use Rattle.erd_check.proofs.Order.{In}
 use Rattle.erd_check.proofs.Shapes.{Within, Within-step, faultless, not_within, unrepeated, wanted_within}
 use Rattle.erd_check.proofs.Whole.{entry_itself, is_simple_class}
 use Rattle.erd_meaning.specs.Accepted.{IsAccepted}
-use Rattle.erd_meaning.specs.Keys.{has_keys, key_cmp, key_of}
+use Rattle.erd_meaning.specs.Keys.{Preference, has_keys, key_cmp, key_of}
 use Rattle.erd_meaning.specs.LaterFaults.{is_reference_fault}
 use Rattle.erd_meaning.specs.Objects.{id_of, owner}
 use Rattle.erd_meaning.specs.code.Orders.{key_cmp_exact}
@@ -45,64 +45,64 @@ use Rattle.erd_check.proofs.Options.{and_then-Some}
 -- ---- sets of references
 
 -- how the references of an accepted report say what they name
-pub names_accepted : (t : Data) → IsAccepted t → Names t
-names_accepted t accepted = record {
-  resolves = resolves t accepted;
+pub names_accepted : (π : Preference) (t : Data) → IsAccepted π t → Names π t
+names_accepted π t accepted = record {
+  resolves = resolves π t accepted;
   one_name = λ f r s k keyed e g.
-      let x = and_then-Some key_of (owner t f r) k e in
-      let y = and_then-Some key_of (owner t f s) k g in
+      let x = and_then-Some (key_of π) (owner t f r) k e in
+      let y = and_then-Some (key_of π) (owner t f s) k g in
       let o = owned_by t f r x.0 x.1 in
       let p = owned_by t f s y.0 y.1 in
-      let same : o.0.value ≡ p.0.value = ap (λ z. z.value) (one_keyed t accepted f o.0 p.0 k keyed o.1 p.1 (ap key_of o.2 ∙ x.2) (ap key_of p.2 ∙ y.2)) in
+      let same : o.0.value ≡ p.0.value = ap (λ z. z.value) (one_keyed π t accepted f o.0 p.0 k keyed o.1 p.1 (ap (key_of π) o.2 ∙ x.2) (ap (key_of π) p.2 ∙ y.2)) in
       let ids : Some r ≡ Some s = sym o.3 ∙ ap id_of (sym o.2 ∙ same ∙ p.2) ∙ p.3 in
       cc;
 }
 
-first_reference : (t : Data) → IsAccepted t → (f : Family) (d : Data) (b : Bool) → Within t (record { want = Reference f; value = d; repeated = b }) → b ≡ false
-first_reference t accepted f d true w = absurd (not_within t (record { want = Reference f; value = d; repeated = true }) (λ x. IsTrue (is_reference_fault t x reason.Repeated)) w (no_reference_fault t accepted w.place reason.Repeated) refl)
-first_reference t accepted f d false w = refl
+first_reference : (π : Preference) (t : Data) → IsAccepted π t → (f : Family) (d : Data) (b : Bool) → Within t (record { want = Reference f; value = d; repeated = b }) → b ≡ false
+first_reference π t accepted f d true w = absurd (not_within t (record { want = Reference f; value = d; repeated = true }) (λ x. IsTrue (is_reference_fault t x reason.Repeated)) w (no_reference_fault π t accepted w.place reason.Repeated) refl)
+first_reference π t accepted f d false w = refl
 
-module _ (t : Data) (accepted : IsAccepted t) (f : Family) (keyed : has_keys f ≡ true) (r : Bool) (ds : Items) (w : Within t (asked (Member (kind.Many f) r) (array ds))) where
+module _ (π : Preference) (t : Data) (accepted : IsAccepted π t) (f : Family) (keyed : has_keys f ≡ true) (r : Bool) (ds : Items) (w : Within t (asked (Member (kind.Many f) r) (array ds))) where
   entry_of : (i : ℕ) (d : Data) → get_item i ds ≡ Some d → Within t (record { want = Reference f; value = d; repeated = is_repeated ds i d })
   entry_of i d e = Within-step t (asked (Member (kind.Many f) r) (array ds)) (record { want = Reference f; value = d; repeated = is_repeated ds i d }) (At i) w (rw e)
 
   first_of_references : (i : ℕ) (d : Data) → get_item i ds ≡ Some d → is_repeated ds i d ≡ false
-  first_of_references i d e = first_reference t accepted f d (is_repeated ds i d) (entry_of i d e)
+  first_of_references i d e = first_reference π t accepted f d (is_repeated ds i d) (entry_of i d e)
 
   -- a reference is a text
   reference_text : (d : Data) → In d (list_of_items ds) → (s : List ℕ) × (d ≡ string s) × Within t (asked (Reference f) (string s))
   reference_text d i =
       let p = list_of_items-place ds d (has_from_In d (list_of_items ds) i) in
       let w' : Within t (asked (Reference f) d) = subst (λ b. Within t (record { want = Reference f; value = d; repeated = b })) (first_of_references p.0 d p.1) (entry_of p.0 d p.1) in
-      let s = string_from_text d (wanted_within t (no_shape_fault t accepted) (asked (Reference f) d) w') in
+      let s = string_from_text d (wanted_within t (no_shape_fault π t accepted) (asked (Reference f) d) w') in
       (s.0, s.1, subst (λ x. Within t (asked (Reference f) x)) s.1 w')
 
-  texts_equal : (a b : List ℕ) → Within t (asked (Reference f) (string a)) → Within t (asked (Reference f) (string b)) → option_cmp key_cmp (key_named t f a) (key_named t f b) ≡ Equal → b ≡ a
+  texts_equal : (a b : List ℕ) → Within t (asked (Reference f) (string a)) → Within t (asked (Reference f) (string b)) → option_cmp key_cmp (key_named π t f a) (key_named π t f b) ≡ Equal → b ≡ a
   texts_equal a b x y e =
-      let names = names_accepted t accepted in
+      let names = names_accepted π t accepted in
       let k = names.resolves f a keyed x in
       let l = names.resolves f b keyed y in
       let same : k.0 ≡ l.0 = key_cmp_exact k.0 l.0 (sym (ap₂ (option_cmp key_cmp) k.1 l.1) ∙ e) in
       names.one_name f b a k.0 keyed (l.1 ∙ ap Some (sym same)) k.1
 
-  equal_references : (d e : Data) → In d (list_of_items ds) → In e (list_of_items ds) → reference_cmp t f d e ≡ Equal → is_same_json e d ≡ true
+  equal_references : (d e : Data) → In d (list_of_items ds) → In e (list_of_items ds) → reference_cmp π t f d e ≡ Equal → is_same_json e d ≡ true
   equal_references d e i j h =
       let a = reference_text d i in
       let b = reference_text e j in
-      let same : b.0 ≡ a.0 = texts_equal a.0 b.0 a.2 b.2 (sym (ap₂ (reference_cmp t f) a.1 b.1) ∙ h) in
+      let same : b.0 ≡ a.0 = texts_equal a.0 b.0 a.2 b.2 (sym (ap₂ (reference_cmp π t f) a.1 b.1) ∙ h) in
       ap₂ is_same_json (b.1 ∙ ap string same) a.1 ∙ text_itself a.0
 
-  pub references_distinct : IsDistinct (eq_by_cmp (reference_cmp t f)) (list_of_items ds)
-  references_distinct = unrepeated_by_cmp (reference_cmp t f) ds first_of_references equal_references
+  pub references_distinct : IsDistinct (eq_by_cmp (reference_cmp π t f)) (list_of_items ds)
+  references_distinct = unrepeated_by_cmp (reference_cmp π t f) ds first_of_references equal_references
 
 -- ---- sets of JSON values
 
-first_value : (t : Data) → IsAccepted t → (w : Want) (d : Data) (b : Bool) → Within t (record { want = w; value = d; repeated = b }) → (b ≡ true → is_shape_fault (record { want = w; value = d; repeated = true }) reason.Repeated ≡ true) → b ≡ false
-first_value t accepted w d true inside is = let h = sym (is refl) ∙ faultless t (no_shape_fault t accepted) (record { want = w; value = d; repeated = true }) reason.Repeated inside in h
-first_value t accepted w d false inside is = refl
+first_value : (π : Preference) (t : Data) → IsAccepted π t → (w : Want) (d : Data) (b : Bool) → Within t (record { want = w; value = d; repeated = b }) → (b ≡ true → is_shape_fault (record { want = w; value = d; repeated = true }) reason.Repeated ≡ true) → b ≡ false
+first_value π t accepted w d true inside is = let h = sym (is refl) ∙ faultless t (no_shape_fault π t accepted) (record { want = w; value = d; repeated = true }) reason.Repeated inside in h
+first_value π t accepted w d false inside is = refl
 
 -- a set whose entries are of a class with texts and carried members alone, where compact texts tell the entries apart
-module _ (t : Data) (accepted : IsAccepted t) (k : MemberKind) (r : Bool) (o : Role) (ds : Items) (w : Within t (asked (Member k r) (array ds))) (entries : entry_want (Member k r) ≡ Some (Object o))
+module _ (π : Preference) (t : Data) (accepted : IsAccepted π t) (k : MemberKind) (r : Bool) (o : Role) (ds : Items) (w : Within t (asked (Member k r) (array ds))) (entries : entry_want (Member k r) ≡ Some (Object o))
     (compared : is_compared_set (Member k r) ≡ true) (simple : (c : Class) → role_of_class c ≡ o → is_simple_class c ≡ true) (trees : AreTrees ds)
     (exact : (d e : Data) → In d (list_of_items ds) → In e (list_of_items ds) → compact_text d ≡ compact_text e → d ≡ e) where
   value_of : (i : ℕ) (d : Data) → get_item i ds ≡ Some d → Within t (record { want = Object o; value = d; repeated = is_compared_set (Member k r) && is_repeated ds i d })
@@ -110,15 +110,15 @@ module _ (t : Data) (accepted : IsAccepted t) (k : MemberKind) (r : Bool) (o : R
 
   first_of_values : (i : ℕ) (d : Data) → get_item i ds ≡ Some d → is_repeated ds i d ≡ false
   first_of_values i d e =
-      first_value t accepted (Object o) d (is_repeated ds i d) (subst (λ b. Within t (record { want = Object o; value = d; repeated = b && is_repeated ds i d })) compared (value_of i d e)) (λ h. refl)
+      first_value π t accepted (Object o) d (is_repeated ds i d) (subst (λ b. Within t (record { want = Object o; value = d; repeated = b && is_repeated ds i d })) compared (value_of i d e)) (λ h. refl)
 
   equal_values : (d e : Data) → In d (list_of_items ds) → In e (list_of_items ds) → compact_cmp d e ≡ Equal → is_same_json e d ≡ true
   equal_values d e i j h =
       let p = list_of_items-place ds d (has_from_In d (list_of_items ds) i) in
       let tree = list_of_items-tree ds d trees (has_from_In d (list_of_items ds) i) in
-      let inside : Within t (asked (Object o) d) = unrepeated t (no_shape_fault t accepted) (Object o) d (is_compared_set (Member k r) && is_repeated ds p.0 d) refl (value_of p.0 d p.1) in
+      let inside : Within t (asked (Object o) d) = unrepeated t (no_shape_fault π t accepted) (Object o) d (is_compared_set (Member k r) && is_repeated ds p.0 d) refl (value_of p.0 d p.1) in
       let same : d ≡ e = exact d e i j (exact_bytes (compact_text d) (compact_text e) h) in
-      ap (λ x. is_same_json x d) (sym same) ∙ entry_itself t (no_shape_fault t accepted) o d simple tree inside
+      ap (λ x. is_same_json x d) (sym same) ∙ entry_itself t (no_shape_fault π t accepted) o d simple tree inside
 
   pub json_values_distinct : IsDistinct (eq_by_cmp compact_cmp) (list_of_items ds)
   json_values_distinct = unrepeated_by_cmp compact_cmp ds first_of_values equal_values

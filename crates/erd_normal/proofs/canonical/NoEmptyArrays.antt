@@ -15,6 +15,7 @@ use Rattle.erd_check.specs.declared.want.Want.TheVariants.{Member}
 use Rattle.erd_check.proofs.Shapes.{Within, faultless, not_false, unrepeated, wanted_within}
 use Rattle.erd_check.proofs.Whole.{no_strange, no_unknown}
 use Rattle.erd_meaning.proofs.accepted.Phases.{no_shape_fault}
+use Rattle.erd_meaning.specs.Keys.{Preference}
 use Rattle.erd_meaning.specs.Accepted.{IsAccepted}
 use Rattle.erd_meaning.specs.SelectionNames.{compact_cmp, rising_list, with_rising_text}
 use Rattle.erd_normal.specs.Canonical.{HasNoEmptyArray, kind_wanted}
@@ -38,17 +39,17 @@ full_list : (d : Data) (f : Data → Data) (arrange : List Data → List Data) �
     → is_empty_array (array_of (map f (arrange (entries_of d)))) ≡ false
 full_list d f arrange same is full = as_empty d (map f (arrange (entries_of d))) is (length-map (arrange (entries_of d)) f ∙ same (entries_of d)) ∙ full
 
-full_nodes : (t : Data) (ds : Items) → length (list_of_items (normal_nodes t ds)) ≡ length (list_of_items ds)
-full_nodes t no_items = refl
-full_nodes t (item d ds) = ap suc (full_nodes t ds)
+full_nodes : (π : Preference) (t : Data) (ds : Items) → length (list_of_items (normal_nodes π t ds)) ≡ length (list_of_items ds)
+full_nodes π t no_items = refl
+full_nodes π t (item d ds) = ap suc (full_nodes π t ds)
 
-full_content : (t d : Data) → is_empty_array d ≡ false → is_empty_array (normal_content t d) ≡ false
-full_content t (array ds) full = ap (λ n. n == 0) (full_nodes t ds) ∙ full
-full_content t null full = full
-full_content t (boolean b) full = full
-full_content t (number n) full = full
-full_content t (string s) full = full
-full_content t (object ms) full = full
+full_content : (π : Preference) (t d : Data) → is_empty_array d ≡ false → is_empty_array (normal_content π t d) ≡ false
+full_content π t (array ds) full = ap (λ n. n == 0) (full_nodes π t ds) ∙ full
+full_content π t null full = full
+full_content π t (boolean b) full = full
+full_content π t (number n) full = full
+full_content π t (string s) full = full
+full_content π t (object ms) full = full
 
 full_one : (d : Data) → has_not_one_entry d ≡ false → is_empty_array d ≡ false
 full_one (array ds) one = let same : length (list_of_items ds) ≡ 1 = (Decides-eqb (length (list_of_items ds)) 1).0 (not_false (length (list_of_items ds) == 1) one) in ap (λ n. n == 0) same
@@ -58,7 +59,7 @@ full_one (number n) one = refl
 full_one (string s) one = refl
 full_one (object ms) one = refl
 
-module _ (t : Data) (clean : NoneOf (ShapeFault t)) (tree : IsTree t) where
+module _ (π : Preference) (t : Data) (clean : NoneOf (ShapeFault t)) (tree : IsTree t) where
   label_full : (required : Bool) (d : Data) → Within t (asked (Member kind.Label required) d) → is_empty_array (with_rising_text d) ≡ false
   label_full required (array ds) w = let x : false ≡ true = wanted_within t clean (asked (Member kind.Label required) (array ds)) w in cc
   label_full required (object ms) w = refl
@@ -88,49 +89,49 @@ module _ (t : Data) (clean : NoneOf (ShapeFault t)) (tree : IsTree t) where
       at (Member k required) d b q w apart e = apart_full k required d apart (unrepeated t clean (Member k required) d b refl w)
       at want d b q w apart e = cc
 
-  pub members : HoldsOfMembers t IsNotEmpty
+  pub members : HoldsOfMembers π t IsNotEmpty
   members = record {
     kept = kept_full;
     class_text = λ r c text named. full_value _ refl;
     label = λ required d w. full_value _ (label_full required d w);
     one = λ f named d w. full_value _ refl;
-    many = λ f named required d w full. full_value _ (full_list d (normal_reference t f) (rising_list (reference_cmp t f)) (length-rising (reference_cmp t f)) (wanted_within t clean (asked (Member (kind.Many f) required) d) w) full);
+    many = λ f named required d w full. full_value _ (full_list d (normal_reference π t f) (rising_list (reference_cmp π t f)) (length-rising (reference_cmp π t f)) (wanted_within t clean (asked (Member (kind.Many f) required) d) w) full);
     many_entry = λ f named required d w i e found. record { full = λ k h. cc };
     identifiers = λ required d w full. full_value _ (as_empty d (rising_list compact_cmp (entries_of d)) (wanted_within t clean (asked (Member kind.Identifiers required) d) w) (length-rising compact_cmp (entries_of d)) ∙ full);
     languages = λ required d w full. full_value _ (as_empty d (rising_list compact_cmp (entries_of d)) (wanted_within t clean (asked (Member kind.Languages required) d) w) (length-rising compact_cmp (entries_of d)) ∙ full);
-    ordered = λ required d w full. full_value _ (full_list d (normal_selection_reference t) (λ xs. xs) (λ xs. refl) (wanted_within t clean (asked (Member kind.Ordered required) d) w) full);
+    ordered = λ required d w full. full_value _ (full_list d (normal_selection_reference π t) (λ xs. xs) (λ xs. refl) (wanted_within t clean (asked (Member kind.Ordered required) d) w) full);
     ordered_entry = λ e w. full_value _ refl;
   }
 
-  pub objects : HoldsOfObjects t IsNotEmpty
+  pub objects : HoldsOfObjects π t IsNotEmpty
   objects = record {
     members = members;
     identity = λ required id. full_value _ refl;
-    content = λ required d w full. full_value _ (full_content t d full);
+    content = λ required d w full. full_value _ (full_content π t d full);
     node = λ d w. record { full = λ k e. cc };
-    selections = λ contest required d of stands w full. full_value _ (full_list d (normal_selection t contest.value) (rising_list (by_name t)) (length-rising (by_name t)) (wanted_within t clean (asked _ d) w) full);
+    selections = λ contest required d of stands w full. full_value _ (full_list d (normal_selection π t contest.value) (rising_list (by_name π t)) (length-rising (by_name π t)) (wanted_within t clean (asked _ d) w) full);
     selection = λ contest d w. record { full = λ k e. cc };
     object = λ f d w. record { full = λ k e. cc };
   }
 
-  pub built : HoldsOfBuilt t IsNotEmpty
+  pub built : HoldsOfBuilt π t IsNotEmpty
   built = record {
     parts = objects;
     word = λ required text. full_value _ refl;
     whole = λ required n. full_value _ refl;
-    keyed = λ f keyed required d w all full. full_value _ (full_list d (normal_object t f) (rising_list by_key) (length-rising by_key) (wanted_within t clean (asked (Member (kind.Keyed f) required) d) w) full);
+    keyed = λ f keyed required d w all full. full_value _ (full_list d (normal_object π t f) (rising_list (by_key π)) (length-rising (by_key π)) (wanted_within t clean (asked (Member (kind.Keyed f) required) d) w) full);
     elections = λ required d w.
         full_value _
-        (full_one (array_of (map (normal_election t) (entries_of d)))
-        (as_one d (map (normal_election t) (entries_of d)) (wanted_within t clean (asked (Member kind.Elections required) d) w) (length-map (entries_of d) (normal_election t))
+        (full_one (array_of (map (normal_election π t) (entries_of d)))
+        (as_one d (map (normal_election π t) (entries_of d)) (wanted_within t clean (asked (Member kind.Elections required) d) w) (length-map (entries_of d) (normal_election π t))
         ∙ faultless t clean (asked (Member kind.Elections required) d) reason.ElectionCount w));
     election = λ d w. record { full = λ k e. cc };
     report = record { full = λ k e. cc };
   }
 
-  pub no_empty_array_of_built : HasNoEmptyArray (normal_tree t)
-  no_empty_array_of_built p a k e want = (holds_of_built t clean tree IsNotEmpty built p a e).full k want
+  pub no_empty_array_of_built : HasNoEmptyArray (normal_tree π t)
+  no_empty_array_of_built p a k e want = (holds_of_built π t clean tree IsNotEmpty built p a e).full k want
 
 -- the report that is built of an accepted one has no empty array
-pub no_empty_array_built : (t : Data) → IsTree t → IsAccepted t → HasNoEmptyArray (normal_tree t)
-no_empty_array_built t tree accepted = no_empty_array_of_built t (no_shape_fault t accepted) tree
+pub no_empty_array_built : (π : Preference) (t : Data) → IsTree t → IsAccepted π t → HasNoEmptyArray (normal_tree π t)
+no_empty_array_built π t tree accepted = no_empty_array_of_built π t (no_shape_fault π t accepted) tree

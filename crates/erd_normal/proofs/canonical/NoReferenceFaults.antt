@@ -20,6 +20,7 @@ use Rattle.erd_check.specs.Faults.{NoneOf}
 use Rattle.erd_check.specs.Trees.{IsTree}
 use Rattle.erd_check.specs.Values.{entries_of, list_of_items, entries_at}
 use Rattle.erd_check.specs.Wants.{Asked, asked, asked_at, asked_from, asked_inside, asked_of_member, class_of_object, entry_want, is_compared_set, is_repeated, member_want, scope_inside, want_of_name}
+use Rattle.erd_meaning.specs.Keys.{Preference}
 use Rattle.erd_meaning.specs.Accepted.{IsAccepted}
 use Rattle.erd_meaning.specs.LaterFaults.{NamesOtherContest, ReferenceFault, is_other_selection, is_reference_fault}
 use Rattle.erd_meaning.specs.Records.{class_of_node}
@@ -181,11 +182,11 @@ none_elsewhere u listed p h =
 
 -- ---- the report that is built
 
-module _ (t : Data) (accepted : IsAccepted t) (tree : IsTree t) (bounded : IsBounded t) where
+module _ (π : Preference) (t : Data) (accepted : IsAccepted π t) (tree : IsTree t) (bounded : IsBounded t) where
   abbrev u : Data
-  u = normal_tree t
+  u = normal_tree π t
 
-  members : HoldsOfMembers t (IsListed u)
+  members : HoldsOfMembers π t (IsListed u)
   members = record {
     kept = λ a w apart. record { sound = λ e among. absurd (true≢false (sym apart ∙ ap is_apart e)) };
     class_text = λ r c text named. unlisted u _ _ false (λ e. cc);
@@ -199,18 +200,18 @@ module _ (t : Data) (accepted : IsAccepted t) (tree : IsTree t) (bounded : IsBou
     ordered_entry = λ e w. unlisted u _ _ false (λ e. cc);
   }
 
-  parts : HoldsOfObjects t (IsListed u)
+  parts : HoldsOfObjects π t (IsListed u)
   parts = record {
     members = members;
     identity = λ required id. unlisted u _ _ false (λ e. cc);
     content = λ required d w full. unlisted u _ _ false (λ e. cc);
-    node = λ d w. record { sound = λ e among. list_sound t accepted tree bounded d w among };
+    node = λ d w. record { sound = λ e among. list_sound π t accepted tree bounded d w among };
     selections = λ contest required d of_report stands w full. unlisted u _ _ false (λ e. cc);
     selection = λ contest d w. unlisted u _ _ false (λ e. let x : role.OfFamily family.Selection ≡ role.Content = cc in cc);
     object = λ f d w. unlisted u _ _ false (λ e. let x : role.OfFamily f ≡ role.Content = cc in cc);
   }
 
-  built : HoldsOfBuilt t (IsListed u)
+  built : HoldsOfBuilt π t (IsListed u)
   built = record {
     parts = parts;
     word = λ required text. unlisted u _ _ false (λ e. cc);
@@ -222,6 +223,6 @@ module _ (t : Data) (accepted : IsAccepted t) (tree : IsTree t) (bounded : IsBou
   }
 
   -- the report that is built has no fault of references
-  pub no_reference_fault_built : NoneOf (ReferenceFault (normal_tree t))
-  no_reference_fault_built p reason.SelectionOfOtherContest h = none_elsewhere (normal_tree t) (λ p a e. holds_of_built t (no_shape_fault t accepted) tree (IsListed u) built p a e) p h
-  no_reference_fault_built p r h = none_found (normal_tree t) (is_reference_fault (normal_tree t)) (references_sound t accepted tree bounded) p r h
+  pub no_reference_fault_built : NoneOf (ReferenceFault (normal_tree π t))
+  no_reference_fault_built p reason.SelectionOfOtherContest h = none_elsewhere (normal_tree π t) (λ p a e. holds_of_built π t (no_shape_fault π t accepted) tree (IsListed u) built p a e) p h
+  no_reference_fault_built p r h = none_found (normal_tree π t) (is_reference_fault (normal_tree π t)) (references_sound π t accepted tree bounded) p r h

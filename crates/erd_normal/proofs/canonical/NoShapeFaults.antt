@@ -30,6 +30,7 @@ use Rattle.erd_check.proofs.Shapes.{AsksObject, Within, faultless, of_label, of_
 use Rattle.erd_check.proofs.Whole.{not_true}
 use Rattle.erd_meaning.proofs.accepted.Phases.{no_shape_fault}
 use Rattle.erd_meaning.proofs.accepted.Skeleton.{Skeleton, skeleton_of_shape}
+use Rattle.erd_meaning.specs.Keys.{Preference}
 use Rattle.erd_meaning.specs.Accepted.{IsAccepted}
 use Rattle.erd_meaning.specs.SelectionNames.{compact_cmp, rising_list, selection_role, with_rising_text}
 use Rattle.erd_normal.specs.code.NormalTree.{by_key, by_name, normal_content, normal_election, normal_election_value, normal_node, normal_node_value, normal_nodes, normal_object, normal_object_value, normal_report_value, normal_selection, normal_selection_reference, normal_tree, reference_cmp}
@@ -145,27 +146,27 @@ required_inside name wanted = not_true (is_envelope_name name) (required_is (λ 
 
 -- ---- required members are not dropped
 
-node_value_kept : (t : Data) (k : MemberKind) (d inside : Data) → is_kept k ≡ true → IsFilled k d → normal_node_value t (Some k) d inside ≡ None → ⊥
-node_value_kept t kind.Content d inside kept full e = cc
-node_value_kept t k d inside kept full e = normal_value-kept t k d kept full e
+node_value_kept : (π : Preference) (t : Data) (k : MemberKind) (d inside : Data) → is_kept k ≡ true → IsFilled k d → normal_node_value π t (Some k) d inside ≡ None → ⊥
+node_value_kept π t kind.Content d inside kept full e = cc
+node_value_kept π t k d inside kept full e = normal_value-kept π t k d kept full e
 
-object_value_kept : (t o : Data) (k : MemberKind) (d : Data) → is_kept k ≡ true → IsFilled k d → normal_object_value t o k d ≡ None → ⊥
-object_value_kept t o (kind.Keyed f) d kept full e = cc
-object_value_kept t o kind.Content d kept full e = cc
-object_value_kept t o k d kept full e = normal_value-kept t k d kept full e
+object_value_kept : (π : Preference) (t o : Data) (k : MemberKind) (d : Data) → is_kept k ≡ true → IsFilled k d → normal_object_value π t o k d ≡ None → ⊥
+object_value_kept π t o (kind.Keyed f) d kept full e = cc
+object_value_kept π t o kind.Content d kept full e = cc
+object_value_kept π t o k d kept full e = normal_value-kept π t k d kept full e
 
-election_value_kept : (t : Data) (k : MemberKind) (d : Data) → is_kept k ≡ true → IsFilled k d → normal_election_value t k d ≡ None → ⊥
-election_value_kept t (kind.Keyed f) d kept full e = cc
-election_value_kept t k d kept full e = normal_value-kept t k d kept full e
+election_value_kept : (π : Preference) (t : Data) (k : MemberKind) (d : Data) → is_kept k ≡ true → IsFilled k d → normal_election_value π t k d ≡ None → ⊥
+election_value_kept π t (kind.Keyed f) d kept full e = cc
+election_value_kept π t k d kept full e = normal_value-kept π t k d kept full e
 
-report_value_kept : (t : Data) (name : List ℕ) (k : MemberKind) (d : Data) → is_envelope_name name ≡ false → is_kept k ≡ true → IsFilled k d → normal_report_value t name k d ≡ None → ⊥
-report_value_kept t name (kind.Keyed f) d other kept full e = cc
-report_value_kept t name kind.Elections d other kept full e = cc
-report_value_kept t name k d other kept full e = normal_value-kept t k d kept full (rw other at e)
+report_value_kept : (π : Preference) (t : Data) (name : List ℕ) (k : MemberKind) (d : Data) → is_envelope_name name ≡ false → is_kept k ≡ true → IsFilled k d → normal_report_value π t name k d ≡ None → ⊥
+report_value_kept π t name (kind.Keyed f) d other kept full e = cc
+report_value_kept π t name kind.Elections d other kept full e = cc
+report_value_kept π t name k d other kept full e = normal_value-kept π t k d kept full (rw other at e)
 
 -- ---- the parts that are built
 
-module _ (t : Data) (clean : NoneOf (ShapeFault t)) (tree : IsTree t) where
+module _ (π : Preference) (t : Data) (clean : NoneOf (ShapeFault t)) (tree : IsTree t) where
   label_faultless : (required : Bool) (d : Data) → Within t (asked (Member kind.Label required) d) → IsFaultless (asked (Member kind.Label required) (with_rising_text d))
   label_faultless required (object ms) w =
       object_faultless (Member kind.Label required) role.Label class.InternationalizedText (with_rising_text (object ms)) of_label l.among
@@ -176,8 +177,8 @@ module _ (t : Data) (clean : NoneOf (ShapeFault t)) (tree : IsTree t) where
   label_faultless required (string s) w = record { none = label_text_local required s }
   label_faultless required d w = let x : false ≡ true = wanted_within t clean (asked (Member kind.Label required) d) w in cc
 
-  content_faultless : (required : Bool) (d : Data) → Within t (asked (Member kind.Content required) d) → IsFaultless (asked (Member kind.Content required) (normal_content t d))
-  content_faultless required (array ds) w = record { none = content_local required (normal_nodes t ds) }
+  content_faultless : (required : Bool) (d : Data) → Within t (asked (Member kind.Content required) d) → IsFaultless (asked (Member kind.Content required) (normal_content π t d))
+  content_faultless required (array ds) w = record { none = content_local required (normal_nodes π t ds) }
   content_faultless required d w = let x : is_array d ≡ true = wanted_within t clean (asked (Member kind.Content required) d) w in cc
 
   built_faultless : (value_of : Builder) (special : List ℕ → Bool) (r : Role) (c : Class) (ms : Members) (d : Data) → BuiltObject t value_of special r c ms d
@@ -187,76 +188,76 @@ module _ (t : Data) (clean : NoneOf (ShapeFault t)) (tree : IsTree t) where
   built_faultless value_of special r c ms d o required keeps =
       object_faultless (Object r) r c d of_role o.among (has_required t clean value_of special r c ms d o required keeps)
 
-  node_faultless : (d : Data) → Within t (asked (Object role.Content) d) → IsFaultless (asked (Object role.Content) (normal_node t d))
+  node_faultless : (d : Data) → Within t (asked (Object role.Content) d) → IsFaultless (asked (Object role.Content) (normal_node π t d))
   node_faultless d w =
       let o : ObjectIn t role.Content d = object_in t clean role.Content d w in
-      subst (λ x. IsFaultless (asked (Object role.Content) (normal_node t x))) (sym o.is_object)
-      (built_faultless (node_builder t) no_name role.Content o.class o.ms (normal_node t (object o.ms)) (built_node t clean tree o.class o.ms o.at) (λ name wanted. refl)
-      (λ name v wanted kept full e. node_value_kept t (kind_of_member o.class name) v (normal_content t v) kept full e))
+      subst (λ x. IsFaultless (asked (Object role.Content) (normal_node π t x))) (sym o.is_object)
+      (built_faultless (node_builder π t) no_name role.Content o.class o.ms (normal_node π t (object o.ms)) (built_node π t clean tree o.class o.ms o.at) (λ name wanted. refl)
+      (λ name v wanted kept full e. node_value_kept π t (kind_of_member o.class name) v (normal_content π t v) kept full e))
 
-  selection_faultless : (contest d : Data) → Within t (asked (Object selection_role) d) → IsFaultless (asked (Object selection_role) (normal_selection t contest d))
+  selection_faultless : (contest d : Data) → Within t (asked (Object selection_role) d) → IsFaultless (asked (Object selection_role) (normal_selection π t contest d))
   selection_faultless contest d w =
       let o : ObjectIn t selection_role d = object_in t clean selection_role d w in
-      built_faultless (plain_builder t) is_id selection_role o.class o.ms (normal_selection t contest d) (built_selection t clean tree contest d o)
-      (λ name wanted. (required_other o.class name wanted).1) (λ name v wanted kept full e. normal_value-kept t (kind_of_member o.class name) v kept full e)
+      built_faultless (plain_builder π t) is_id selection_role o.class o.ms (normal_selection π t contest d) (built_selection π t clean tree contest d o)
+      (λ name wanted. (required_other o.class name wanted).1) (λ name v wanted kept full e. normal_value-kept π t (kind_of_member o.class name) v kept full e)
 
-  family_faultless : (f : Family) (d : Data) → Within t (asked (Object (role.OfFamily f)) d) → IsFaultless (asked (Object (role.OfFamily f)) (normal_object t f d))
+  family_faultless : (f : Family) (d : Data) → Within t (asked (Object (role.OfFamily f)) d) → IsFaultless (asked (Object (role.OfFamily f)) (normal_object π t f d))
   family_faultless f d w =
       let o : ObjectIn t (role.OfFamily f) d = object_in t clean (role.OfFamily f) d w in
-      built_faultless (object_builder t d) is_id (role.OfFamily f) o.class o.ms (normal_object t f d) (built_object t clean tree f d o)
-      (λ name wanted. (required_other o.class name wanted).1) (λ name v wanted kept full e. object_value_kept t d (kind_of_member o.class name) v kept full e)
+      built_faultless (object_builder π t d) is_id (role.OfFamily f) o.class o.ms (normal_object π t f d) (built_object π t clean tree f d o)
+      (λ name wanted. (required_other o.class name wanted).1) (λ name v wanted kept full e. object_value_kept π t d (kind_of_member o.class name) v kept full e)
 
-  election_faultless : (d : Data) → Within t (asked (Object role.Election) d) → IsFaultless (asked (Object role.Election) (normal_election t d))
+  election_faultless : (d : Data) → Within t (asked (Object role.Election) d) → IsFaultless (asked (Object role.Election) (normal_election π t d))
   election_faultless d w =
       let o : (ms : Members) × (d ≡ object ms) × ObjectAt t (Object role.Election) role.Election class.Election ms = object_at t clean role.Election class.Election election_class d w in
-      built_faultless (election_builder t) no_name role.Election class.Election o.0 (normal_election t d) (built_election t clean tree o.0 d o.1 o.2) (λ name wanted. refl)
-      (λ name v wanted kept full e. election_value_kept t (kind_of_member class.Election name) v kept full e)
+      built_faultless (election_builder π t) no_name role.Election class.Election o.0 (normal_election π t d) (built_election π t clean tree o.0 d o.1 o.2) (λ name wanted. refl)
+      (λ name v wanted kept full e. election_value_kept π t (kind_of_member class.Election name) v kept full e)
 
-  report_faultless : IsFaultless (asked (Object role.Report) (normal_tree t))
+  report_faultless : IsFaultless (asked (Object role.Report) (normal_tree π t))
   report_faultless =
       let s : Skeleton t = skeleton_of_shape t clean in
-      built_faultless (normal_report_value t) is_envelope_name role.Report class.ElectionReport s.ms (normal_tree t) (built_report t clean tree s) required_inside
-      (λ name v wanted kept full e. report_value_kept t name (kind_of_member class.ElectionReport name) v (required_inside name wanted) kept full e)
+      built_faultless (normal_report_value π t) is_envelope_name role.Report class.ElectionReport s.ms (normal_tree π t) (built_report π t clean tree s) required_inside
+      (λ name v wanted kept full e. report_value_kept π t name (kind_of_member class.ElectionReport name) v (required_inside name wanted) kept full e)
 
   -- ---- the report that is built
 
-  members : HoldsOfMembers t IsFaultless
+  members : HoldsOfMembers π t IsFaultless
   members = record {
     kept = λ a w apart. record { none = λ r. faultless t clean a r w };
     class_text = λ r c s named. record { none = class_text_local r s (ap is_none named) };
     label = label_faultless;
     one = λ f named d w. reference_faultless f _ false;
-    many = λ f named required d w full. record { none = many_local f required _ (((full_members t clean tree).many f named required d w full).full (kind.Many f) refl) };
+    many = λ f named required d w full. record { none = many_local f required _ (((full_members π t clean tree).many f named required d w full).full (kind.Many f) refl) };
     many_entry = λ f named required d w i e found.
-        let text = entry_holds (λ x. (s : List ℕ) × (x ≡ string s)) (built_references t f d) i e (built_texts t f (rising_list (reference_cmp t f) (entries_of d))) found in
-        subst (λ x. IsFaultless (record { want = Reference f; value = x; repeated = is_repeated (items_of (built_references t f d)) i e })) (sym text.1)
-        (reference_faultless f text.0 (is_repeated (items_of (built_references t f d)) i e));
+        let text = entry_holds (λ x. (s : List ℕ) × (x ≡ string s)) (built_references π t f d) i e (built_texts π t f (rising_list (reference_cmp π t f) (entries_of d))) found in
+        subst (λ x. IsFaultless (record { want = Reference f; value = x; repeated = is_repeated (items_of (built_references π t f d)) i e })) (sym text.1)
+        (reference_faultless f text.0 (is_repeated (items_of (built_references π t f d)) i e));
     identifiers = λ required d w full. record { none = identifiers_local required (items_of (rising_list compact_cmp (entries_of d))) };
-    languages = λ required d w full. record { none = languages_local required _ (((full_members t clean tree).languages required d w full).full kind.Languages refl) };
-    ordered = λ required d w full. record { none = ordered_local required (items_of (map (normal_selection_reference t) (entries_of d))) };
+    languages = λ required d w full. record { none = languages_local required _ (((full_members π t clean tree).languages required d w full).full kind.Languages refl) };
+    ordered = λ required d w full. record { none = ordered_local required (items_of (map (normal_selection_reference π t) (entries_of d))) };
     ordered_entry = λ e w. reference_faultless family.Selection _ false;
   }
 
-  objects : HoldsOfObjects t IsFaultless
+  objects : HoldsOfObjects π t IsFaultless
   objects = record {
     members = members;
     identity = λ required id. record { none = identity_local required id };
     content = λ required d w full. content_faultless required d w;
     node = node_faultless;
-    selections = λ contest required d of stands w full. record { none = keyed_local family.Selection required (items_of (map (normal_selection t contest.value) (rising_list (by_name t) (entries_of d)))) };
+    selections = λ contest required d of stands w full. record { none = keyed_local family.Selection required (items_of (map (normal_selection π t contest.value) (rising_list (by_name π t) (entries_of d)))) };
     selection = selection_faultless;
     object = family_faultless;
   }
 
-  built : HoldsOfBuilt t IsFaultless
+  built : HoldsOfBuilt π t IsFaultless
   built = record {
     parts = objects;
     word = λ required text. record { none = word_local required text };
     whole = λ required n. record { none = whole_local required n };
-    keyed = λ f keyed required d w all full. record { none = keyed_local f required (items_of (map (normal_object t f) (rising_list by_key (entries_of d)))) };
+    keyed = λ f keyed required d w all full. record { none = keyed_local f required (items_of (map (normal_object π t f) (rising_list (by_key π) (entries_of d)))) };
     elections = λ required d w. record {
-      none = elections_local required (items_of (map (normal_election t) (entries_of d)))
-          (as_one d (map (normal_election t) (entries_of d)) (wanted_within t clean (asked (Member kind.Elections required) d) w) (length-map (entries_of d) (normal_election t))
+      none = elections_local required (items_of (map (normal_election π t) (entries_of d)))
+          (as_one d (map (normal_election π t) (entries_of d)) (wanted_within t clean (asked (Member kind.Elections required) d) w) (length-map (entries_of d) (normal_election π t))
           ∙ faultless t clean (asked (Member kind.Elections required) d) reason.ElectionCount w);
     };
     election = election_faultless;
@@ -264,9 +265,9 @@ module _ (t : Data) (clean : NoneOf (ShapeFault t)) (tree : IsTree t) where
   }
 
   -- what is built of a report whose shape has no fault has none
-  pub no_shape_fault_of_built : NoneOf (ShapeFault (normal_tree t))
-  no_shape_fault_of_built = none_found (normal_tree t) is_shape_fault (λ p a r e. (holds_of_built t clean tree IsFaultless built p a e).none r)
+  pub no_shape_fault_of_built : NoneOf (ShapeFault (normal_tree π t))
+  no_shape_fault_of_built = none_found (normal_tree π t) is_shape_fault (λ p a r e. (holds_of_built π t clean tree IsFaultless built p a e).none r)
 
 -- the report that is built of an accepted one has no fault of the shape
-pub no_shape_fault_built : (t : Data) → IsTree t → IsAccepted t → NoneOf (ShapeFault (normal_tree t))
-no_shape_fault_built t tree accepted = no_shape_fault_of_built t (no_shape_fault t accepted) tree
+pub no_shape_fault_built : (π : Preference) (t : Data) → IsTree t → IsAccepted π t → NoneOf (ShapeFault (normal_tree π t))
+no_shape_fault_built π t tree accepted = no_shape_fault_of_built π t (no_shape_fault π t accepted) tree

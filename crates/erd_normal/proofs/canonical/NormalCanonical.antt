@@ -2,6 +2,7 @@
 use Rattle.serde_json.specs.Data.{Data}
 use Rattle.erd_check.specs.Numbers.{HasFittingNumbers}
 use Rattle.erd_check.specs.Trees.{IsTree}
+use Rattle.erd_meaning.specs.Keys.{Preference}
 use Rattle.erd_meaning.specs.Accepted.{IsAccepted}
 use Rattle.erd_meaning.proofs.accepted.Phases.{accepted_by_phases, no_shape_fault}
 use Rattle.erd_normal.specs.Canonical.{IsCanonical}
@@ -16,19 +17,19 @@ use Rattle.erd_normal.proofs.canonical.NormalSelectionNames.{no_selection_fault_
 use Rattle.erd_normal.proofs.canonical.NormalSelections.{has_canonical_ids}
 use Rattle.erd_normal.proofs.canonical.SetsInOrder.{sets_in_order_built}
 
-module _ (t : Data) (accepted : IsAccepted t) (tree : IsTree t) (bounded : IsBounded t) where
+module _ (π : Preference) (t : Data) (accepted : IsAccepted π t) (tree : IsTree t) (bounded : IsBounded t) where
   -- the report that is built has no fault
-  pub normal_is_accepted : IsAccepted (normal_tree t)
+  pub normal_is_accepted : IsAccepted π (normal_tree π t)
   normal_is_accepted =
-      accepted_by_phases (normal_tree t) (no_shape_fault_built t tree accepted) (no_identity_fault_built t accepted tree bounded)
-      (no_reference_fault_built t accepted tree bounded) (no_selection_fault_built t accepted tree bounded)
+      accepted_by_phases π (normal_tree π t) (no_shape_fault_built π t tree accepted) (no_identity_fault_built π t accepted tree bounded)
+      (no_reference_fault_built π t accepted tree bounded) (no_selection_fault_built π t accepted tree bounded)
 
   -- and it is canonical, if the numbers of the report fit
-  pub normal_is_canonical : HasFittingNumbers t → IsCanonical (normal_tree t)
+  pub normal_is_canonical : HasFittingNumbers t → IsCanonical π (normal_tree π t)
   normal_is_canonical fits = record {
     accepted = normal_is_accepted;
-    envelope = has_canonical_envelope t (no_shape_fault t accepted) tree;
-    no_empty_array = no_empty_array_built t tree accepted;
-    in_order = sets_in_order_built t accepted tree bounded fits;
-    ids = has_canonical_ids t accepted tree;
+    envelope = has_canonical_envelope π t (no_shape_fault π t accepted) tree;
+    no_empty_array = no_empty_array_built π t tree accepted;
+    in_order = sets_in_order_built π t accepted tree bounded fits;
+    ids = has_canonical_ids π t accepted tree;
   }

@@ -7,6 +7,7 @@ use Rattle.erd_check.specs.Trees.{IsTree}
 use Rattle.erd_check.specs.declared.want.Want.TheVariants.{Object}
 use Rattle.erd_check.proofs.Deciding.{tree_in_order}
 use Rattle.erd_check.proofs.ShapedReports.{no_fraction}
+use Rattle.erd_meaning.specs.Keys.{Preference}
 use Rattle.erd_meaning.specs.Accepted.{IsAccepted}
 use Rattle.erd_meaning.proofs.accepted.Phases.{no_shape_fault}
 use Rattle.erd_normal.specs.Canonical.{IsCanonicalFormOf}
@@ -17,18 +18,18 @@ use Rattle.erd_normal.proofs.canonical.NormalForms.{normal_is_canonical_form}
 use Rattle.erd_normal.proofs.built.NormalTrees.{normal_tree-tree}
 use Rattle.erd_normal.proofs.unique.Unique.{unique}
 
-module _ (t : Data) (accepted : IsAccepted t) (tree : IsTree t) (bounded : IsBounded t) (fits : HasFittingNumbers t) where
-  pub form_built : IsCanonicalFormOf t (normal_tree t)
-  form_built = normal_is_canonical_form t accepted tree bounded fits
+module _ (π : Preference) (t : Data) (accepted : IsAccepted π t) (tree : IsTree t) (bounded : IsBounded t) (fits : HasFittingNumbers t) where
+  pub form_built : IsCanonicalFormOf π t (normal_tree π t)
+  form_built = normal_is_canonical_form π t accepted tree bounded fits
 
-  pub only_form_built : (u : Data) → IsTree u → IsCanonicalFormOf t u → u ≡ normal_tree t
-  only_form_built u u_tree form = unique u (normal_tree t) (record {
+  pub only_form_built : (u : Data) → IsTree u → IsCanonicalFormOf π t u → u ≡ normal_tree π t
+  only_form_built u u_tree form = unique π u (normal_tree π t) (record {
     left_tree = u_tree;
-    right_tree = normal_tree-tree t tree;
+    right_tree = normal_tree-tree π t tree;
     left = form.canonical;
     right = form_built.canonical;
     same = form.same ∙ sym form_built.same;
   })
 
-  pub whole_built : has_float (normal_tree t) ≡ false
-  whole_built = no_fraction (normal_tree t) (no_shape_fault (normal_tree t) form_built.canonical.accepted) (tree_in_order (Object Report) (normal_tree t) (normal_tree-tree t tree))
+  pub whole_built : has_float (normal_tree π t) ≡ false
+  whole_built = no_fraction (normal_tree π t) (no_shape_fault π (normal_tree π t) form_built.canonical.accepted) (tree_in_order (Object Report) (normal_tree π t) (normal_tree-tree π t tree))

@@ -11,7 +11,7 @@ use Rattle.erd_check.specs.Faults.{NoneOf}
 use Rattle.erd_check.specs.Trees.{IsTree}
 use Rattle.erd_check.proofs.Rising.{Has}
 use Rattle.erd_meaning.specs.Accepted.{IsAccepted}
-use Rattle.erd_meaning.specs.Keys.{has_keys, key_of}
+use Rattle.erd_meaning.specs.Keys.{Preference, has_keys, key_of}
 use Rattle.erd_meaning.specs.LaterFaults.{IdentityFault, IsBefore, LacksIdentifier, RepeatsId, RepeatsKey}
 use Rattle.erd_meaning.specs.Objects.{Placed, contests, id_of, objects, selections_of_contest}
 use Rattle.erd_meaning.specs.SelectionNames.{rising_list}
@@ -44,38 +44,38 @@ keyed_or_selection family.Candidate = inl refl
 keyed_or_selection family.Contest = inl refl
 keyed_or_selection family.Style = inl refl
 
-module _ (t : Data) (accepted : IsAccepted t) (tree : IsTree t) where
+module _ (π : Preference) (t : Data) (accepted : IsAccepted π t) (tree : IsTree t) where
   -- ---- keys
 
   module _ (f : Family) (keyed : has_keys f ≡ true) where
     -- the rank of an object by its key is its position
-    position_by_key : (i : ℕ) (o : Placed) → slice_get (objects f (normal_tree t)) i ≡ Some o → rank_of t f (key_of o.value) ≡ i
+    position_by_key : (i : ℕ) (o : Placed) → slice_get (objects f (normal_tree π t)) i ≡ Some o → rank_of π t f (key_of π o.value) ≡ i
     position_by_key i o at =
-        let d = built_at t accepted tree f keyed i o at in
-        let k : IsClassed f d.0 = all_at (IsClassed f) (rising_list by_key (values_of f t)) i d.0 (rising_classed t accepted tree f) d.1 in
-        ap (rank_of t f) (ap key_of (sym d.2) ∙ key_of_object t f k.0 d.0 k.2 k.1) ∙ object_ranks t accepted f i d.0 keyed d.1
+        let d = built_at π t accepted tree f keyed i o at in
+        let k : IsClassed f d.0 = all_at (IsClassed f) (rising_list (by_key π) (values_of f t)) i d.0 (rising_classed π t accepted tree f) d.1 in
+        ap (rank_of π t f) (ap (key_of π) (sym d.2) ∙ key_of_object π π t f k.0 d.0 k.2 k.1) ∙ object_ranks π t accepted f i d.0 keyed d.1
 
-    pub one_keyed_built : (o p : Placed) → Has (objects f (normal_tree t)) o → Has (objects f (normal_tree t)) p → key_of o.value ≡ key_of p.value → o ≡ p
+    pub one_keyed_built : (o p : Placed) → Has (objects f (normal_tree π t)) o → Has (objects f (normal_tree π t)) p → key_of π o.value ≡ key_of π p.value → o ≡ p
     one_keyed_built o p in_o in_p same =
-        let i = position_of (objects f (normal_tree t)) o in_o in
-        let j = position_of (objects f (normal_tree t)) p in_p in
-        let one : i.0 ≡ j.0 = sym (position_by_key i.0 o i.1) ∙ ap (rank_of t f) same ∙ position_by_key j.0 p j.1 in
-        same_in_some o p (sym i.1 ∙ ap (slice_get (objects f (normal_tree t))) one ∙ j.1)
+        let i = position_of (objects f (normal_tree π t)) o in_o in
+        let j = position_of (objects f (normal_tree π t)) p in_p in
+        let one : i.0 ≡ j.0 = sym (position_by_key i.0 o i.1) ∙ ap (rank_of π t f) same ∙ position_by_key j.0 p j.1 in
+        same_in_some o p (sym i.1 ∙ ap (slice_get (objects f (normal_tree π t))) one ∙ j.1)
 
-    pub has_key_built : (o : Placed) → Has (objects f (normal_tree t)) o → key_of o.value ≡ None → ⊥
+    pub has_key_built : (o : Placed) → Has (objects f (normal_tree π t)) o → key_of π o.value ≡ None → ⊥
     has_key_built o in_o none =
-        let from = object_from t accepted tree f keyed o in_o in
-        let c : IsClassed f from.0.value = object_classed t accepted tree f from.0 from.1 in
-        let k = has_identifier t accepted f from.0 keyed from.1 in
-        let h : Some k.0 ≡ None = sym k.1 ∙ sym (key_of_object t f c.0 from.0.value c.2 c.1) ∙ ap key_of from.2 ∙ none in
+        let from = object_from π t accepted tree f keyed o in_o in
+        let c : IsClassed f from.0.value = object_classed π t accepted tree f from.0 from.1 in
+        let k = has_identifier π t accepted f from.0 keyed from.1 in
+        let h : Some k.0 ≡ None = sym k.1 ∙ sym (key_of_object π π t f c.0 from.0.value c.2 c.1) ∙ ap (key_of π) from.2 ∙ none in
         cc
 
-  no_lacking : (p : List Step) → LacksIdentifier (normal_tree t) p → ⊥
-  no_lacking p l = has_key_built l.family l.keyed l.placed (Has-Contains (objects l.family (normal_tree t)) l.placed l.stands) l.keyless
+  no_lacking : (p : List Step) → LacksIdentifier π (normal_tree π t) p → ⊥
+  no_lacking p l = has_key_built l.family l.keyed l.placed (Has-Contains (objects l.family (normal_tree π t)) l.placed l.stands) l.keyless
 
-  no_repeated_key : (p : List Step) → RepeatsKey (normal_tree t) p → ⊥
+  no_repeated_key : (p : List Step) → RepeatsKey π (normal_tree π t) p → ⊥
   no_repeated_key p r =
-      let os : List Placed = objects r.family (normal_tree t) in
+      let os : List Placed = objects r.family (normal_tree π t) in
       let one : r.earlier ≡ r.later =
       one_keyed_built r.family r.keyed r.earlier r.later (Has-Contains os r.earlier r.earlier_stands) (Has-Contains os r.later r.later_stands) (r.earlier_key ∙ sym r.later_key) in
       never_before_itself r.later (subst (λ x. IsBefore x r.later) one r.before)
@@ -83,56 +83,56 @@ module _ (t : Data) (accepted : IsAccepted t) (tree : IsTree t) where
   -- ---- `@id` texts
 
   module _ (bounded : IsBounded t) where
-    object_low : (f : Family) → has_keys f ≡ true → (i : ℕ) (p : Placed) → slice_get (objects f (normal_tree t)) i ≡ Some p → i + 1 < 2 ^ 64
+    object_low : (f : Family) → has_keys f ≡ true → (i : ℕ) (p : Placed) → slice_get (objects f (normal_tree π t)) i ≡ Some p → i + 1 < 2 ^ 64
     object_low f keyed i p at =
-        let low : i < length (objects f (normal_tree t)) = position_low (objects f (normal_tree t)) i p at in
+        let low : i < length (objects f (normal_tree π t)) = position_low (objects f (normal_tree π t)) i p at in
         let few : length (objects f t) < 2 ^ 64 = bounded.few f in
-        let same : length (objects f (normal_tree t)) ≡ length (objects f t) = as_many t accepted tree f keyed few in
+        let same : length (objects f (normal_tree π t)) ≡ length (objects f t) = as_many π t accepted tree f keyed few in
         omega (arith, low, few, same)
 
-    both_keyed : (f g : Family) (o p : Placed) (id : List ℕ) → has_keys f ≡ true → has_keys g ≡ true → Has (objects f (normal_tree t)) o → Has (objects g (normal_tree t)) p
+    both_keyed : (f g : Family) (o p : Placed) (id : List ℕ) → has_keys f ≡ true → has_keys g ≡ true → Has (objects f (normal_tree π t)) o → Has (objects g (normal_tree π t)) p
         → id_of o.value ≡ Some id → id_of p.value ≡ Some id → o ≡ p
     both_keyed f g o p id keyed keyed' in_o in_p e h =
-        let i = position_of (objects f (normal_tree t)) o in_o in
-        let j = position_of (objects g (normal_tree t)) p in_p in
-        let n = canonical_id_exact f g i.0 j.0 id (object_low f keyed i.0 o i.1) (object_low g keyed' j.0 p j.1) (sym (ids_by_rank t accepted tree f keyed i.0 o i.1) ∙ e) (sym (ids_by_rank t accepted tree g keyed' j.0 p j.1) ∙ h) in
-        same_in_some o p (sym i.1 ∙ ap₂ (λ f i. slice_get (objects f (normal_tree t)) i) n.0 n.1 ∙ j.1)
+        let i = position_of (objects f (normal_tree π t)) o in_o in
+        let j = position_of (objects g (normal_tree π t)) p in_p in
+        let n = canonical_id_exact f g i.0 j.0 id (object_low f keyed i.0 o i.1) (object_low g keyed' j.0 p j.1) (sym (ids_by_rank π t accepted tree f keyed i.0 o i.1) ∙ e) (sym (ids_by_rank π t accepted tree g keyed' j.0 p j.1) ∙ h) in
+        same_in_some o p (sym i.1 ∙ ap₂ (λ f i. slice_get (objects f (normal_tree π t)) i) n.0 n.1 ∙ j.1)
 
-    one_a_selection : (f : Family) (o p : Placed) (id : List ℕ) → has_keys f ≡ true → Has (objects f (normal_tree t)) o → Has (objects family.Selection (normal_tree t)) p
+    one_a_selection : (f : Family) (o p : Placed) (id : List ℕ) → has_keys f ≡ true → Has (objects f (normal_tree π t)) o → Has (objects family.Selection (normal_tree π t)) p
         → id_of o.value ≡ Some id → id_of p.value ≡ Some id → ⊥
     one_a_selection f o p id keyed in_o in_p e h =
-        let k = position_of (objects f (normal_tree t)) o in_o in
-        let c = has-flat selections_of_contest (contests (normal_tree t)) p in_p in
-        let i = position_of (objects family.Contest (normal_tree t)) c.0 c.1 in
+        let k = position_of (objects f (normal_tree π t)) o in_o in
+        let c = has-flat selections_of_contest (contests (normal_tree π t)) p in_p in
+        let i = position_of (objects family.Contest (normal_tree π t)) c.0 c.1 in
         let j = position_of (selections_of_contest c.0) p c.2 in
-        selection_id_apart f i.0 j.0 k.0 (sym (ids_by_rank t accepted tree f keyed k.0 o k.1) ∙ e ∙ sym h ∙ (has_canonical_ids t accepted tree).selections i.0 j.0 c.0 p i.1 j.1)
+        selection_id_apart f i.0 j.0 k.0 (sym (ids_by_rank π t accepted tree f keyed k.0 o k.1) ∙ e ∙ sym h ∙ (has_canonical_ids π t accepted tree).selections i.0 j.0 c.0 p i.1 j.1)
 
-    both_selections : (o p : Placed) (id : List ℕ) → Has (objects family.Selection (normal_tree t)) o → Has (objects family.Selection (normal_tree t)) p
+    both_selections : (o p : Placed) (id : List ℕ) → Has (objects family.Selection (normal_tree π t)) o → Has (objects family.Selection (normal_tree π t)) p
         → id_of o.value ≡ Some id → id_of p.value ≡ Some id → o ≡ p
     both_selections o p id in_o in_p e h =
-        let c = has-flat selections_of_contest (contests (normal_tree t)) o in_o in
-        let d = has-flat selections_of_contest (contests (normal_tree t)) p in_p in
-        (one_selection t accepted tree bounded c.0 d.0 o p c.1 d.1 c.2 d.2 (e ∙ sym h)).1
+        let c = has-flat selections_of_contest (contests (normal_tree π t)) o in_o in
+        let d = has-flat selections_of_contest (contests (normal_tree π t)) p in_p in
+        (one_selection π t accepted tree bounded c.0 d.0 o p c.1 d.1 c.2 d.2 (e ∙ sym h)).1
 
     -- two objects with one `@id` are one
-    pub one_object_built : (f g : Family) (o p : Placed) (id : List ℕ) → Has (objects f (normal_tree t)) o → Has (objects g (normal_tree t)) p → id_of o.value ≡ Some id → id_of p.value ≡ Some id → o ≡ p
+    pub one_object_built : (f g : Family) (o p : Placed) (id : List ℕ) → Has (objects f (normal_tree π t)) o → Has (objects g (normal_tree π t)) p → id_of o.value ≡ Some id → id_of p.value ≡ Some id → o ≡ p
     one_object_built f g o p id in_o in_p e h = at (keyed_or_selection f) (keyed_or_selection g)
       where
         at : (has_keys f ≡ true) ⊎ (f ≡ family.Selection) → (has_keys g ≡ true) ⊎ (g ≡ family.Selection) → o ≡ p
         at (inl k) (inl l) = both_keyed f g o p id k l in_o in_p e h
-        at (inl k) (inr is) = absurd (one_a_selection f o p id k in_o (subst (λ x. Has (objects x (normal_tree t)) p) is in_p) e h)
-        at (inr is) (inl l) = absurd (one_a_selection g p o id l in_p (subst (λ x. Has (objects x (normal_tree t)) o) is in_o) h e)
-        at (inr is) (inr its) = both_selections o p id (subst (λ x. Has (objects x (normal_tree t)) o) is in_o) (subst (λ x. Has (objects x (normal_tree t)) p) its in_p) e h
+        at (inl k) (inr is) = absurd (one_a_selection f o p id k in_o (subst (λ x. Has (objects x (normal_tree π t)) p) is in_p) e h)
+        at (inr is) (inl l) = absurd (one_a_selection g p o id l in_p (subst (λ x. Has (objects x (normal_tree π t)) o) is in_o) h e)
+        at (inr is) (inr its) = both_selections o p id (subst (λ x. Has (objects x (normal_tree π t)) o) is in_o) (subst (λ x. Has (objects x (normal_tree π t)) p) its in_p) e h
 
-    no_repeated_id : (p : List Step) → RepeatsId (normal_tree t) p → ⊥
+    no_repeated_id : (p : List Step) → RepeatsId (normal_tree π t) p → ⊥
     no_repeated_id p r =
         let one : r.earlier ≡ r.later =
-        one_object_built r.earlier_family r.family r.earlier r.later r.id (Has-Contains (objects r.earlier_family (normal_tree t)) r.earlier r.earlier_stands)
-        (Has-Contains (objects r.family (normal_tree t)) r.later r.later_stands) r.earlier_id r.later_id in
+        one_object_built r.earlier_family r.family r.earlier r.later r.id (Has-Contains (objects r.earlier_family (normal_tree π t)) r.earlier r.earlier_stands)
+        (Has-Contains (objects r.family (normal_tree π t)) r.later r.later_stands) r.earlier_id r.later_id in
         never_before_itself r.later (subst (λ x. IsBefore x r.later) one r.before)
 
     -- the report that is built has no fault of identity
-    pub no_identity_fault_built : NoneOf (IdentityFault (normal_tree t))
+    pub no_identity_fault_built : NoneOf (IdentityFault π (normal_tree π t))
     no_identity_fault_built p reason.NoIdentifier h = no_lacking p h
     no_identity_fault_built p reason.TwinIdentifier h = no_repeated_key p h
     no_identity_fault_built p reason.DuplicateId h = no_repeated_id p h

@@ -17,6 +17,7 @@ use Rattle.erd_check.specs.Wants.{Asked, asked, asked_at, asked_inside}
 use Rattle.erd_check.proofs.Entries.{array_from}
 use Rattle.erd_check.proofs.ObjectsAt.{ObjectIn, object_in}
 use Rattle.erd_check.proofs.Shapes.{Within, Within-step, asked_at-steps, asked_inside_object, lacks_none, of_role, wanted_within, within-tree}
+use Rattle.erd_meaning.specs.Keys.{Preference}
 use Rattle.erd_meaning.specs.Accepted.{IsAccepted}
 use Rattle.erd_meaning.specs.LaterFaults.{is_other_selection, is_selection_in}
 use Rattle.erd_meaning.specs.Objects.{owner}
@@ -43,9 +44,9 @@ list_name = codes "OrderedContestSelectionIds"
 abbrev pub IsListSound : Data → Data → Type 0
 IsListSound u d = AllByRecursion (λ e. is_other_selection u d (Reference family.Selection) e ≡ false) (entries_at list_name d)
 
-module _ (t : Data) (accepted : IsAccepted t) (tree : IsTree t) (bounded : IsBounded t) where
+module _ (π : Preference) (t : Data) (accepted : IsAccepted π t) (tree : IsTree t) (bounded : IsBounded t) where
   abbrev u : Data
-  u = normal_tree t
+  u = normal_tree π t
 
   -- an object with the class of contests in the order of a ballot
   module _ (ms : Members) (w : Within t (asked (Object role.Content) (object ms))) (among : class_of_node (object ms) ≡ Some class.OrderedContest) where
@@ -54,28 +55,28 @@ module _ (t : Data) (accepted : IsAccepted t) (tree : IsTree t) (bounded : IsBou
     contest_named = at (get_member (codes "ContestId") ms) refl
       where
         at : (o : Option Data) → get_member (codes "ContestId") ms ≡ o → (v : Data) × (get_member (codes "ContestId") ms ≡ Some v) × Refers t family.Contest v
-        at None is = absurd (lacks_none t (no_shape_fault t accepted) (asked (Object role.Content) (object ms)) (codes "ContestId") w (rw among refl) is)
+        at None is = absurd (lacks_none t (no_shape_fault π t accepted) (asked (Object role.Content) (object ms)) (codes "ContestId") w (rw among refl) is)
         at (Some v) is =
             let inside : Within t (asked (Reference family.Contest) v) =
             Within-step t (asked (Object role.Content) (object ms)) (asked (Reference family.Contest) v) (Name (codes "ContestId")) w
             (asked_inside_object (Object role.Content) role.Content ms class.OrderedContest (codes "ContestId") v of_role among refl is) in
-            (v, is, reference_refers t accepted family.Contest v inside)
+            (v, is, reference_refers π t accepted family.Contest v inside)
 
     abbrev here : IsTree (object ms)
     here = within-tree t (asked (Object role.Content) (object ms)) tree w
 
     -- the text of the reference that is built
-    built_text : text_at (codes "ContestId") (normal_node t (object ms)) ≡ normal_id t family.Contest contest_named.2.0
+    built_text : text_at (codes "ContestId") (normal_node π t (object ms)) ≡ normal_id π t family.Contest contest_named.2.0
     built_text =
         ap (λ o. unwrap_or (option_and_then as_str o) [])
-        (get_node t class.OrderedContest (codes "ContestId") (object ms) here among ∙ ap (option_and_then (λ v. normal_node_value t (Some (kind.One family.Contest)) v (normal_content t v))) contest_named.1)
-        ∙ ap (λ x. normal_id t family.Contest (text_of x)) contest_named.2.1
+        (get_node π t class.OrderedContest (codes "ContestId") (object ms) here among ∙ ap (option_and_then (λ v. normal_node_value π t (Some (kind.One family.Contest)) v (normal_content π t v))) contest_named.1)
+        ∙ ap (λ x. normal_id π t family.Contest (text_of x)) contest_named.2.1
 
     -- the contest that is built is the one that is named
-    built_contest : owner u family.Contest (text_at (codes "ContestId") (normal_node t (object ms))) ≡ Some (normal_object t family.Contest contest_named.2.2.0)
+    built_contest : owner u family.Contest (text_at (codes "ContestId") (normal_node π t (object ms))) ≡ Some (normal_object π t family.Contest contest_named.2.2.0)
     built_contest =
         ap (owner u family.Contest) built_text
-        ∙ owner_built t accepted tree family.Contest refl (bounded.few family.Contest) (codes "co") contest_named.2.0 contest_named.2.2.0 refl contest_named.2.2.1
+        ∙ owner_built π t accepted tree family.Contest refl (bounded.few family.Contest) (codes "co") contest_named.2.0 contest_named.2.2.0 refl contest_named.2.2.1
 
     -- a reference names a selection of the contest
     abbrev IsChosen : Data → Type 0
@@ -92,24 +93,24 @@ module _ (t : Data) (accepted : IsAccepted t) (tree : IsTree t) (bounded : IsBou
         let place : List Step = w.place ++ Name list_name ∷ At i ∷ [] in
         let is : asked_at t place ≡ Some (asked (Reference family.Selection) e) =
         asked_at-steps t w.place (asked (Object role.Content) (object ms)) list (asked (Reference family.Selection) e) (Name list_name) (At i) w.is first second in
-        let r : Refers t family.Selection e = reference_refers t accepted family.Selection e (record { place = place; is = is }) in
+        let r : Refers t family.Selection e = reference_refers π t accepted family.Selection e (record { place = place; is = is }) in
         let named : owner t family.Contest (text_at (codes "ContestId") (object ms)) ≡ Some contest_named.2.2.0 =
         ap (λ o. owner t family.Contest (unwrap_or (option_and_then as_str o) [])) contest_named.1
         ∙ ap (λ x. owner t family.Contest (text_of x)) contest_named.2.1 ∙ contest_named.2.2.1 in
         let chosen : is_selection_in contest_named.2.2.0 r.0 ≡ true =
-        selected t accepted (asked (Object role.Content) (object ms)) contest_named.2.2.0 w named i r.0 (is ∙ ap (λ x. Some (asked (Reference family.Selection) x)) r.1) in
+        selected π t accepted (asked (Object role.Content) (object ms)) contest_named.2.2.0 w named i r.0 (is ∙ ap (λ x. Some (asked (Reference family.Selection) x)) r.1) in
         (r, ap (λ x. is_selection_in contest_named.2.2.0 (text_of x)) r.1 ∙ chosen)
 
     -- what is built of it names a selection of the contest that is built
     entry_sound : (e : Data) → IsChosen e
-        → is_other_selection u (normal_node t (object ms)) (Reference family.Selection) (normal_selection_reference t e) ≡ false
+        → is_other_selection u (normal_node π t (object ms)) (Reference family.Selection) (normal_selection_reference π t e) ≡ false
     entry_sound e h =
         let o = owned_by t family.Contest contest_named.2.0 contest_named.2.2.0 contest_named.2.2.1 in
-        let id : List ℕ = text_of (normal_selection_reference t e) in
+        let id : List ℕ = text_of (normal_selection_reference π t e) in
         let owned : owner t family.Selection (text_of e) ≡ Some h.0.2.0 = ap (λ x. owner t family.Selection (text_of x)) h.0.1 ∙ h.0.2.1 in
-        let inside : is_selection_in (normal_object t family.Contest contest_named.2.2.0) id ≡ true =
-        subst (λ x. is_selection_in (normal_object t family.Contest x) id ≡ true) o.2
-        (reference_in_built t accepted tree bounded o.0 e h.0.2.0 o.1 owned (ap (λ x. is_selection_in x (text_of e)) o.2 ∙ h.1)) in
+        let inside : is_selection_in (normal_object π t family.Contest contest_named.2.2.0) id ≡ true =
+        subst (λ x. is_selection_in (normal_object π t family.Contest x) id ≡ true) o.2
+        (reference_in_built π t accepted tree bounded o.0 e h.0.2.0 o.1 owned (ap (λ x. is_selection_in x (text_of e)) o.2 ∙ h.1)) in
         ap (λ x. is_some (owner u family.Selection id) && option_map_or (λ contest. not (is_selection_in contest id)) x false) built_contest
         ∙ ap (λ b. is_some (owner u family.Selection id) && not b) inside ∙ and_no (is_some (owner u family.Selection id))
 
@@ -122,25 +123,25 @@ module _ (t : Data) (accepted : IsAccepted t) (tree : IsTree t) (bounded : IsBou
             let inside : Within t (asked (Member kind.Ordered false) v) =
             Within-step t (asked (Object role.Content) (object ms)) (asked (Member kind.Ordered false) v) (Name list_name) w
             (asked_inside_object (Object role.Content) role.Content ms class.OrderedContest list_name v of_role among refl is) in
-            let ds = array_from v (wanted_within t (no_shape_fault t accepted) (asked (Member kind.Ordered false) v) inside) in
+            let ds = array_from v (wanted_within t (no_shape_fault π t accepted) (asked (Member kind.Ordered false) v) inside) in
             let all : AllByRecursion IsChosen (list_of_items ds.0) = all_items IsChosen ds.0 (λ i e found. entry_in i ds.0 e (is ∙ ap Some ds.1) found) in
             rw (is, ds.1) all
 
-    list_built : entries_at list_name (normal_node t (object ms)) ≡ map (normal_selection_reference t) (entries_at list_name (object ms))
-    list_built = entries_built (map (normal_selection_reference t)) refl list_name (object ms) (normal_node t (object ms)) (get_node t class.OrderedContest list_name (object ms) here among)
+    list_built : entries_at list_name (normal_node π t (object ms)) ≡ map (normal_selection_reference π t) (entries_at list_name (object ms))
+    list_built = entries_built (map (normal_selection_reference π t)) refl list_name (object ms) (normal_node π t (object ms)) (get_node π t class.OrderedContest list_name (object ms) here among)
 
-    list_sound_here : IsListSound u (normal_node t (object ms))
+    list_sound_here : IsListSound u (normal_node π t (object ms))
     list_sound_here =
-        subst (AllByRecursion (λ e. is_other_selection u (normal_node t (object ms)) (Reference family.Selection) e ≡ false)) (sym list_built)
+        subst (AllByRecursion (λ e. is_other_selection u (normal_node π t (object ms)) (Reference family.Selection) e ≡ false)) (sym list_built)
         (all_map IsChosen
-        (λ e. is_other_selection u (normal_node t (object ms)) (Reference family.Selection) e ≡ false) (normal_selection_reference t) (entries_at list_name (object ms)) entry_sound entries_sound)
+        (λ e. is_other_selection u (normal_node π t (object ms)) (Reference family.Selection) e ≡ false) (normal_selection_reference π t) (entries_at list_name (object ms)) entry_sound entries_sound)
 
   -- the list of what is built of an object
-  pub list_sound : (d : Data) → Within t (asked (Object role.Content) d) → class_of_node (normal_node t d) ≡ Some class.OrderedContest → IsListSound (normal_tree t) (normal_node t d)
+  pub list_sound : (d : Data) → Within t (asked (Object role.Content) d) → class_of_node (normal_node π t d) ≡ Some class.OrderedContest → IsListSound (normal_tree π t) (normal_node π t d)
   list_sound d w among =
-      let o : ObjectIn t role.Content d = object_in t (no_shape_fault t accepted) role.Content d w in
+      let o : ObjectIn t role.Content d = object_in t (no_shape_fault π t accepted) role.Content d w in
       let inside : Within t (asked (Object role.Content) (object o.ms)) = subst (λ x. Within t (asked (Object role.Content) x)) o.is_object w in
-      let kept : class_of_node (normal_node t (object o.ms)) ≡ Some o.class = class_of_built_node t o.class (object o.ms) (within-tree t (asked (Object role.Content) (object o.ms)) tree inside) o.at.among in
-      let x : Some o.class ≡ Some class.OrderedContest = sym kept ∙ ap (λ x. class_of_node (normal_node t x)) (sym o.is_object) ∙ among in
+      let kept : class_of_node (normal_node π t (object o.ms)) ≡ Some o.class = class_of_built_node π t o.class (object o.ms) (within-tree t (asked (Object role.Content) (object o.ms)) tree inside) o.at.among in
+      let x : Some o.class ≡ Some class.OrderedContest = sym kept ∙ ap (λ x. class_of_node (normal_node π t x)) (sym o.is_object) ∙ among in
       let same : class_of_node (object o.ms) ≡ Some class.OrderedContest = o.at.among ∙ x in
-      subst (λ x. IsListSound (normal_tree t) (normal_node t x)) (sym o.is_object) (list_sound_here o.ms inside same)
+      subst (λ x. IsListSound (normal_tree π t) (normal_node π t x)) (sym o.is_object) (list_sound_here o.ms inside same)

@@ -27,7 +27,7 @@ use Rattle.erd_check.proofs.Exact.{text_exact}
 use Rattle.erd_check.proofs.Rising.{Has, here, later}
 use Rattle.erd_check.proofs.Shapes.{Within, false_unless, wanted_within}
 use Rattle.erd_meaning.specs.Accepted.{IsAccepted}
-use Rattle.erd_meaning.specs.Keys.{key_cmp}
+use Rattle.erd_meaning.specs.Keys.{Preference, key_cmp}
 use Rattle.erd_meaning.specs.LaterFaults.{is_reference_fault}
 use Rattle.erd_meaning.specs.Objects.{is_owned, owner}
 use Rattle.erd_meaning.specs.code.Orders.{key_cmp_total}
@@ -110,68 +110,68 @@ key_not_below : (k : Option Key) → option_cmp key_cmp k k ≡ Less → ⊥
 key_not_below k h = let e : Equal ≡ Less = sym (tied_itself (options_total key_cmp_total) k) ∙ h in cc
 
 -- texts whose keys rise are no two alike
-module _ (u : Data) (f : Family) (g : Data → List ℕ) where
-  text_apart : (d e : Data) → option_cmp key_cmp (key_named u f (g d)) (key_named u f (g e)) ≡ Less → is_same_json (string (g e)) (string (g d)) ≡ false
+module _ (π : Preference) (u : Data) (f : Family) (g : Data → List ℕ) where
+  text_apart : (d e : Data) → option_cmp key_cmp (key_named π u f (g d)) (key_named π u f (g e)) ≡ Less → is_same_json (string (g e)) (string (g d)) ≡ false
   text_apart d e low =
       false_unless (bytes_eq (g e) (g d))
       (λ h.
       let same : g e ≡ g d = text_exact (g e) (g d) h in
-      key_not_below (key_named u f (g d)) (subst (λ x. option_cmp key_cmp (key_named u f (g d)) (key_named u f x) ≡ Less) same low))
+      key_not_below (key_named π u f (g d)) (subst (λ x. option_cmp key_cmp (key_named π u f (g d)) (key_named π u f x) ≡ Less) same low))
 
-  first_apart : (d : Data) (ds : List Data) → AllByRecursion (λ k. option_cmp key_cmp (key_named u f (g d)) k ≡ Less) (keys_referred u f (map (λ x. string (g x)) ds))
+  first_apart : (d : Data) (ds : List Data) → AllByRecursion (λ k. option_cmp key_cmp (key_named π u f (g d)) k ≡ Less) (keys_referred π u f (map (λ x. string (g x)) ds))
       → AllByRecursion (λ y. is_same_json y (string (g d)) ≡ false) (map (λ x. string (g x)) ds)
   first_apart d [] all = tt
   first_apart d (e ∷ ds) all = (text_apart d e all.0, first_apart d ds all.1)
 
-  rising_texts : (ds : List Data) → IsStrictlySortedBy (option_cmp key_cmp) (keys_referred u f (map (λ x. string (g x)) ds)) → AreUnlike (map (λ x. string (g x)) ds)
+  rising_texts : (ds : List Data) → IsStrictlySortedBy (option_cmp key_cmp) (keys_referred π u f (map (λ x. string (g x)) ds)) → AreUnlike (map (λ x. string (g x)) ds)
   unfolding IsStrictlySortedBy IsDistinct
   rising_texts [] rise = tt
   rising_texts (d ∷ ds) rise = (first_apart d ds rise.0, rising_texts ds rise.1)
 
 -- ---- the parts that are built
 
-module _ (t : Data) (accepted : IsAccepted t) (tree : IsTree t) (bounded : IsBounded t) where
+module _ (π : Preference) (t : Data) (accepted : IsAccepted π t) (tree : IsTree t) (bounded : IsBounded t) where
   abbrev u : Data
-  u = normal_tree t
+  u = normal_tree π t
 
   -- a reference that is built
-  built_owned : (f : Family) → is_prefixed f ≡ true → (d : Data) → Refers t f d → (o : Data) × (owner u f (normal_id t f (text_of d)) ≡ Some o)
+  built_owned : (f : Family) → is_prefixed f ≡ true → (d : Data) → Refers t f d → (o : Data) × (owner u f (normal_id π t f (text_of d)) ≡ Some o)
   built_owned f named d r =
       let letters = letters_of f named in
-      subst (λ x. (o : Data) × (owner u f (normal_id t f (text_of x)) ≡ Some o)) (sym r.1)
-      (_, owner_built t accepted tree f (prefixed_keys f named) (bounded.few f) letters.0 r.0 r.2.0 letters.1 r.2.1)
+      subst (λ x. (o : Data) × (owner u f (normal_id π t f (text_of x)) ≡ Some o)) (sym r.1)
+      (_, owner_built π t accepted tree f (prefixed_keys f named) (bounded.few f) letters.0 r.0 r.2.0 letters.1 r.2.1)
 
-  one_sound : (f : Family) → is_prefixed f ≡ true → (d : Data) → Within t (asked (Reference f) d) → IsSoundIn u (asked (Reference f) (normal_reference t f d))
-  one_sound f named d w = let o = built_owned f named d (reference_refers t accepted f d w) in names_sound u f (normal_id t f (text_of d)) o.0 false refl o.1
+  one_sound : (f : Family) → is_prefixed f ≡ true → (d : Data) → Within t (asked (Reference f) d) → IsSoundIn u (asked (Reference f) (normal_reference π t f d))
+  one_sound f named d w = let o = built_owned f named d (reference_refers π t accepted f d w) in names_sound u f (normal_id π t f (text_of d)) o.0 false refl o.1
 
   -- a reference to a selection
-  selection_sound : (e : Data) → Within t (asked (Reference family.Selection) e) → IsSoundIn u (asked (Reference family.Selection) (normal_selection_reference t e))
+  selection_sound : (e : Data) → Within t (asked (Reference family.Selection) e) → IsSoundIn u (asked (Reference family.Selection) (normal_selection_reference π t e))
   selection_sound e w =
-      let r = reference_refers t accepted family.Selection e w in
+      let r = reference_refers π t accepted family.Selection e w in
       let owned : owner t family.Selection (text_of e) ≡ Some r.2.0 = ap (λ x. owner t family.Selection (text_of x)) r.1 ∙ r.2.1 in
-      names_sound u family.Selection (text_of (normal_selection_reference t e)) _ false refl (owner_of_reference t accepted tree bounded e r.2.0 owned)
+      names_sound u family.Selection (text_of (normal_selection_reference π t e)) _ false refl (owner_of_reference π t accepted tree bounded e r.2.0 owned)
 
-  references_owned : (f : Family) → is_prefixed f ≡ true → (required : Bool) (d : Data) → Within t (asked (Member (kind.Many f) required) d) → AllByRecursion (Refers u f) (built_references t f d)
+  references_owned : (f : Family) → is_prefixed f ≡ true → (required : Bool) (d : Data) → Within t (asked (Member (kind.Many f) required) d) → AllByRecursion (Refers u f) (built_references π t f d)
   references_owned f named required d w =
-      let ds = array_from d (wanted_within t (no_shape_fault t accepted) (asked (Member (kind.Many f) required) d) w) in
+      let ds = array_from d (wanted_within t (no_shape_fault π t accepted) (asked (Member (kind.Many f) required) d) w) in
       let inside : Within t (asked (Member (kind.Many f) required) (array ds.0)) = subst (λ x. Within t (asked (Member (kind.Many f) required) x)) ds.1 w in
-      subst (λ x. AllByRecursion (Refers u f) (built_references t f x)) (sym ds.1)
-      (all_map (Refers t f) (Refers u f) (normal_reference t f) (rising_list (reference_cmp t f) (list_of_items ds.0)) (λ x r. (normal_id t f (text_of x), refl, built_owned f named x r))
-      (all_rising (Refers t f) (reference_cmp t f) (list_of_items ds.0) (references_refer t accepted f required ds.0 inside)))
+      subst (λ x. AllByRecursion (Refers u f) (built_references π t f x)) (sym ds.1)
+      (all_map (Refers t f) (Refers u f) (normal_reference π t f) (rising_list (reference_cmp π t f) (list_of_items ds.0)) (λ x r. (normal_id π t f (text_of x), refl, built_owned f named x r))
+      (all_rising (Refers t f) (reference_cmp π t f) (list_of_items ds.0) (references_refer π t accepted f required ds.0 inside)))
 
   -- an entry of a set of references
   entry_sound : (f : Family) → is_prefixed f ≡ true → (required : Bool) (d : Data) → Within t (asked (Member (kind.Many f) required) d) → (i : ℕ) (e : Data)
-      → get_item i (items_of (built_references t f d)) ≡ Some e → IsSoundIn u (record { want = Reference f; value = e; repeated = is_repeated (items_of (built_references t f d)) i e })
+      → get_item i (items_of (built_references π t f d)) ≡ Some e → IsSoundIn u (record { want = Reference f; value = e; repeated = is_repeated (items_of (built_references π t f d)) i e })
   entry_sound f named required d w i e found =
-      let es : List Data = built_references t f d in
+      let es : List Data = built_references π t f d in
       let r : Refers u f e = entry_holds (Refers u f) es i e (references_owned f named required d w) found in
-      let unlike : AreUnlike es = rising_texts u f (λ x. normal_id t f (text_of x)) (rising_list (reference_cmp t f) (entries_of d)) (references_rising t accepted tree bounded f named required d w) in
+      let unlike : AreUnlike es = rising_texts π u f (λ x. normal_id π t f (text_of x)) (rising_list (reference_cmp π t f) (entries_of d)) (references_rising π t accepted tree bounded f named required d w) in
       let first : is_repeated (items_of es) i e ≡ false = unlike_unrepeated es i e unlike found in
       subst (λ x. IsSoundIn u (record { want = Reference f; value = x; repeated = is_repeated (items_of es) i e })) (sym r.1) (names_sound u f r.0 r.2.0 (is_repeated (items_of es) i e) first r.2.1)
 
   -- ---- the report that is built
 
-  members : HoldsOfMembers t (IsSoundIn u)
+  members : HoldsOfMembers π t (IsSoundIn u)
   members = record {
     kept = λ a w apart. kept_sound u a apart;
     class_text = λ r c text named. no_reference u _ _ refl;
@@ -185,7 +185,7 @@ module _ (t : Data) (accepted : IsAccepted t) (tree : IsTree t) (bounded : IsBou
     ordered_entry = selection_sound;
   }
 
-  parts : HoldsOfObjects t (IsSoundIn u)
+  parts : HoldsOfObjects π t (IsSoundIn u)
   parts = record {
     members = members;
     identity = λ required id. no_reference u _ _ refl;
@@ -196,7 +196,7 @@ module _ (t : Data) (accepted : IsAccepted t) (tree : IsTree t) (bounded : IsBou
     object = λ f d w. no_reference u _ _ refl;
   }
 
-  built : HoldsOfBuilt t (IsSoundIn u)
+  built : HoldsOfBuilt π t (IsSoundIn u)
   built = record {
     parts = parts;
     word = λ required text. no_reference u _ _ refl;
@@ -208,5 +208,5 @@ module _ (t : Data) (accepted : IsAccepted t) (tree : IsTree t) (bounded : IsBou
   }
 
   -- nothing that is asked for in the report that is built has a fault of references by itself
-  pub references_sound : (p : List Step) (a : Asked) (r : Reason) → asked_at (normal_tree t) p ≡ Some a → is_reference_fault (normal_tree t) a r ≡ false
-  references_sound p a r e = (holds_of_built t (no_shape_fault t accepted) tree (IsSoundIn u) built p a e).sound r
+  pub references_sound : (p : List Step) (a : Asked) (r : Reason) → asked_at (normal_tree π t) p ≡ Some a → is_reference_fault (normal_tree π t) a r ≡ false
+  references_sound p a r e = (holds_of_built π t (no_shape_fault π t accepted) tree (IsSoundIn u) built p a e).sound r

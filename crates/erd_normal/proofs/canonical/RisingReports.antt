@@ -19,7 +19,7 @@ use Rattle.erd_check.proofs.Order.{sorted_map}
 use Rattle.erd_check.proofs.Rising.{Has}
 use Rattle.erd_check.proofs.Shapes.{Within}
 use Rattle.erd_meaning.specs.Accepted.{IsAccepted}
-use Rattle.erd_meaning.specs.Keys.{has_keys, key_cmp, key_of}
+use Rattle.erd_meaning.specs.Keys.{Preference, has_keys, key_cmp, key_of}
 use Rattle.erd_meaning.specs.Objects.{Placed, objects}
 use Rattle.erd_meaning.specs.code.Orders.{compact_cmp_total, key_cmp_total, name_cmp_total}
 use Rattle.erd_meaning.specs.SelectionNames.{compact_cmp, key_named, name_cmp, name_of, rising_list}
@@ -33,69 +33,69 @@ use Rattle.erd_normal.proofs.unique.Labels.{identifier_simple, language_simple}
 use Rattle.erd_normal.proofs.lists.RisingOrders.{rising_strictly}
 use Rattle.erd_normal.proofs.lists.RisingRanks.{rank_by_at, rank_map}
 
-pub by_key_total : IsTotalOrder by_key
-by_key_total = on_total key_of (options_total key_cmp_total)
+pub by_key_total : (π : Preference) → IsTotalOrder (by_key π)
+by_key_total π = on_total (key_of π) (options_total key_cmp_total)
 
-pub by_name_total : (t : Data) → IsTotalOrder (by_name t)
-by_name_total t = on_total (name_of t) (options_total name_cmp_total)
+pub by_name_total : (π : Preference) (t : Data) → IsTotalOrder (by_name π t)
+by_name_total π t = on_total (name_of π t) (options_total name_cmp_total)
 
-pub reference_cmp_total : (t : Data) (f : Family) → IsTotalOrder (reference_cmp t f)
-reference_cmp_total t f = on_total (λ d. key_named t f (text_of d)) (options_total key_cmp_total)
+pub reference_cmp_total : (π : Preference) (t : Data) (f : Family) → IsTotalOrder (reference_cmp π t f)
+reference_cmp_total π t f = on_total (λ d. key_named π t f (text_of d)) (options_total key_cmp_total)
 
 -- ---- objects of a family
 
-pub objects_rise : (t : Data) → IsAccepted t → (f : Family) → has_keys f ≡ true → IsStrictlySortedBy (option_cmp key_cmp) (map key_of (rising_list by_key (map (λ o. o.value) (objects f t))))
-objects_rise t accepted f keyed =
-    sorted_map key_of by_key (option_cmp key_cmp) (λ x y h. h) (rising_list by_key (map (λ o. o.value) (objects f t)))
-    (rising_strictly by_key_total (map (λ o. o.value) (objects f t)) (values_distinct t accepted f keyed))
+pub objects_rise : (π : Preference) (t : Data) → IsAccepted π t → (f : Family) → has_keys f ≡ true → IsStrictlySortedBy (option_cmp key_cmp) (map (key_of π) (rising_list (by_key π) (map (λ o. o.value) (objects f t))))
+objects_rise π t accepted f keyed =
+    sorted_map (key_of π) (by_key π) (option_cmp key_cmp) (λ x y h. h) (rising_list (by_key π) (map (λ o. o.value) (objects f t)))
+    (rising_strictly (by_key_total π) (map (λ o. o.value) (objects f t)) (values_distinct π t accepted f keyed))
 
 -- the object at a position has that rank
-pub object_ranks : (t : Data) → IsAccepted t → (f : Family) (i : ℕ) (d : Data) → has_keys f ≡ true → slice_get (rising_list by_key (map (λ o. o.value) (objects f t))) i ≡ Some d → rank_of t f (key_of d) ≡ i
-object_ranks t accepted f i d keyed e =
-    sym (rank_map (λ (o : Placed). o.value) key_of (option_cmp key_cmp) (key_of d) (objects f t))
-    ∙ rank_by_at key_of (option_cmp key_cmp) (options_total key_cmp_total) (map (λ o. o.value) (objects f t)) i d (values_distinct t accepted f keyed) e
+pub object_ranks : (π : Preference) (t : Data) → IsAccepted π t → (f : Family) (i : ℕ) (d : Data) → has_keys f ≡ true → slice_get (rising_list (by_key π) (map (λ o. o.value) (objects f t))) i ≡ Some d → rank_of π t f (key_of π d) ≡ i
+object_ranks π t accepted f i d keyed e =
+    sym (rank_map (λ (o : Placed). o.value) (key_of π) (option_cmp key_cmp) (key_of π d) (objects f t))
+    ∙ rank_by_at (key_of π) (option_cmp key_cmp) (options_total key_cmp_total) (map (λ o. o.value) (objects f t)) i d (values_distinct π t accepted f keyed) e
 
 -- the `@id` of the object at a position
-pub object_ids : (t : Data) → IsAccepted t → (f : Family) (i : ℕ) (d : Data) → has_keys f ≡ true → slice_get (rising_list by_key (map (λ o. o.value) (objects f t))) i ≡ Some d → id_of_key t f (key_of d) ≡ canonical_id f i
-object_ids t accepted f i d keyed e = ap (canonical_id f) (object_ranks t accepted f i d keyed e)
+pub object_ids : (π : Preference) (t : Data) → IsAccepted π t → (f : Family) (i : ℕ) (d : Data) → has_keys f ≡ true → slice_get (rising_list (by_key π) (map (λ o. o.value) (objects f t))) i ≡ Some d → id_of_key π t f (key_of π d) ≡ canonical_id f i
+object_ids π t accepted f i d keyed e = ap (canonical_id f) (object_ranks π t accepted f i d keyed e)
 
 -- ---- selections of a contest
 
-module _ (t : Data) (accepted : IsAccepted t) (contest : Placed) (stands : Has (objects family.Contest t) contest) where
-  pub selections_rise : IsStrictlySortedBy (option_cmp name_cmp) (map (name_of t) (rising_list (by_name t) (entries_at (codes "ContestSelection") contest.value)))
+module _ (π : Preference) (t : Data) (accepted : IsAccepted π t) (contest : Placed) (stands : Has (objects family.Contest t) contest) where
+  pub selections_rise : IsStrictlySortedBy (option_cmp name_cmp) (map (name_of π t) (rising_list (by_name π t) (entries_at (codes "ContestSelection") contest.value)))
   selections_rise =
-      sorted_map (name_of t) (by_name t) (option_cmp name_cmp) (λ x y h. h) (rising_list (by_name t) (entries_at (codes "ContestSelection") contest.value))
-      (rising_strictly (by_name_total t) (entries_at (codes "ContestSelection") contest.value) (selection_values_distinct t accepted contest stands))
+      sorted_map (name_of π t) (by_name π t) (option_cmp name_cmp) (λ x y h. h) (rising_list (by_name π t) (entries_at (codes "ContestSelection") contest.value))
+      (rising_strictly (by_name_total π t) (entries_at (codes "ContestSelection") contest.value) (selection_values_distinct π t accepted contest stands))
 
   -- the selection at a position has that rank
-  pub selection_ranks : (i : ℕ) (d : Data) → slice_get (rising_list (by_name t) (entries_at (codes "ContestSelection") contest.value)) i ≡ Some d
-      → rank_of_name t (entries_at (codes "ContestSelection") contest.value) (name_of t d) ≡ i
+  pub selection_ranks : (i : ℕ) (d : Data) → slice_get (rising_list (by_name π t) (entries_at (codes "ContestSelection") contest.value)) i ≡ Some d
+      → rank_of_name π t (entries_at (codes "ContestSelection") contest.value) (name_of π t d) ≡ i
   selection_ranks i d e =
-      rank_by_at (name_of t) (option_cmp name_cmp) (options_total name_cmp_total) (entries_at (codes "ContestSelection") contest.value) i d (selection_values_distinct t accepted contest stands) e
+      rank_by_at (name_of π t) (option_cmp name_cmp) (options_total name_cmp_total) (entries_at (codes "ContestSelection") contest.value) i d (selection_values_distinct π t accepted contest stands) e
 
   -- the `@id` of the selection at a position, in the contest at a position
-  pub selection_ids : (i j : ℕ) (d : Data) → slice_get (rising_list by_key (map (λ o. o.value) (objects family.Contest t))) i ≡ Some contest.value
-      → slice_get (rising_list (by_name t) (entries_at (codes "ContestSelection") contest.value)) j ≡ Some d → id_of_selection t contest.value d ≡ canonical_selection_id i j
-  selection_ids i j d e g = ap₂ canonical_selection_id (object_ranks t accepted family.Contest i contest.value refl e) (selection_ranks j d g)
+  pub selection_ids : (i j : ℕ) (d : Data) → slice_get (rising_list (by_key π) (map (λ o. o.value) (objects family.Contest t))) i ≡ Some contest.value
+      → slice_get (rising_list (by_name π t) (entries_at (codes "ContestSelection") contest.value)) j ≡ Some d → id_of_selection π t contest.value d ≡ canonical_selection_id i j
+  selection_ids i j d e g = ap₂ canonical_selection_id (object_ranks π t accepted family.Contest i contest.value refl e) (selection_ranks j d g)
 
 -- ---- sets of references
 
-pub references_rise : (t : Data) → IsAccepted t → (f : Family) → has_keys f ≡ true → (r : Bool) (ds : Items) → Within t (asked (Member (kind.Many f) r) (array ds))
-    → IsStrictlySortedBy (option_cmp key_cmp) (map (λ d. key_named t f (text_of d)) (rising_list (reference_cmp t f) (list_of_items ds)))
-references_rise t accepted f keyed r ds w =
-    sorted_map (λ d. key_named t f (text_of d)) (reference_cmp t f) (option_cmp key_cmp) (λ x y h. h) (rising_list (reference_cmp t f) (list_of_items ds))
-    (rising_strictly (reference_cmp_total t f) (list_of_items ds) (references_distinct t accepted f keyed r ds w))
+pub references_rise : (π : Preference) (t : Data) → IsAccepted π t → (f : Family) → has_keys f ≡ true → (r : Bool) (ds : Items) → Within t (asked (Member (kind.Many f) r) (array ds))
+    → IsStrictlySortedBy (option_cmp key_cmp) (map (λ d. key_named π t f (text_of d)) (rising_list (reference_cmp π t f) (list_of_items ds)))
+references_rise π t accepted f keyed r ds w =
+    sorted_map (λ d. key_named π t f (text_of d)) (reference_cmp π t f) (option_cmp key_cmp) (λ x y h. h) (rising_list (reference_cmp π t f) (list_of_items ds))
+    (rising_strictly (reference_cmp_total π t f) (list_of_items ds) (references_distinct π t accepted f keyed r ds w))
 
 -- ---- sets of JSON values
 
-pub identifiers_rise : (t : Data) → IsAccepted t → (r : Bool) (ds : Items) → Within t (asked (Member kind.Identifiers r) (array ds)) → AreTrees ds → ItemsHaveFittingNumbers ds
+pub identifiers_rise : (π : Preference) (t : Data) → IsAccepted π t → (r : Bool) (ds : Items) → Within t (asked (Member kind.Identifiers r) (array ds)) → AreTrees ds → ItemsHaveFittingNumbers ds
     → IsStrictlySortedBy compact_cmp (rising_list compact_cmp (list_of_items ds))
-identifiers_rise t accepted r ds w trees fits =
+identifiers_rise π t accepted r ds w trees fits =
     rising_strictly compact_cmp_total (list_of_items ds)
-    (json_values_distinct t accepted kind.Identifiers r role.Identifier ds w refl refl identifier_simple trees (λ d e i j. compact_exact d e (entry-fitting ds d fits i) (entry-fitting ds e fits j)))
+    (json_values_distinct π t accepted kind.Identifiers r role.Identifier ds w refl refl identifier_simple trees (λ d e i j. compact_exact d e (entry-fitting ds d fits i) (entry-fitting ds e fits j)))
 
-pub languages_rise : (t : Data) → IsAccepted t → (r : Bool) (ds : Items) → Within t (asked (Member kind.Languages r) (array ds)) → AreTrees ds → ItemsHaveFittingNumbers ds
+pub languages_rise : (π : Preference) (t : Data) → IsAccepted π t → (r : Bool) (ds : Items) → Within t (asked (Member kind.Languages r) (array ds)) → AreTrees ds → ItemsHaveFittingNumbers ds
     → IsStrictlySortedBy compact_cmp (rising_list compact_cmp (list_of_items ds))
-languages_rise t accepted r ds w trees fits =
+languages_rise π t accepted r ds w trees fits =
     rising_strictly compact_cmp_total (list_of_items ds)
-    (json_values_distinct t accepted kind.Languages r role.Language ds w refl refl language_simple trees (λ d e i j. compact_exact d e (entry-fitting ds d fits i) (entry-fitting ds e fits j)))
+    (json_values_distinct π t accepted kind.Languages r role.Language ds w refl refl language_simple trees (λ d e i j. compact_exact d e (entry-fitting ds d fits i) (entry-fitting ds e fits j)))

@@ -9,7 +9,7 @@ use Rattle.erd_tables.specs.declared.class.Family.TheVariants as family
 use Rattle.erd_check.specs.Trees.{IsTree}
 use Rattle.erd_check.proofs.Rising.{Has}
 use Rattle.erd_meaning.specs.Accepted.{IsAccepted}
-use Rattle.erd_meaning.specs.Keys.{has_keys}
+use Rattle.erd_meaning.specs.Keys.{Preference, has_keys}
 use Rattle.erd_check.specs.Values.{entries_at, text_of}
 use Rattle.erd_meaning.specs.Objects.{Placed, contests, has_id, id_of, objects, owner, selections_of_contest}
 use Rattle.erd_meaning.specs.SelectionNames.{name_named, name_of, rising_list}
@@ -46,57 +46,57 @@ listed contest = values-placed_entries (codes "ContestSelection") contest
 counted : (contest : Placed) → length (selections_of_contest contest) ≡ length (selection_values contest)
 counted contest = sym (length-map (selections_of_contest contest) (λ o. o.value)) ∙ ap length (listed contest)
 
-module _ (t : Data) (accepted : IsAccepted t) (tree : IsTree t) where
+module _ (π : Preference) (t : Data) (accepted : IsAccepted π t) (tree : IsTree t) where
   -- an object of the report that is built is built of one
-  pub object_from : (f : Family) → has_keys f ≡ true → (p : Placed) → Has (objects f (normal_tree t)) p → (o : Placed) × Has (objects f t) o × (normal_object t f o.value ≡ p.value)
+  pub object_from : (f : Family) → has_keys f ≡ true → (p : Placed) → Has (objects f (normal_tree π t)) p → (o : Placed) × Has (objects f t) o × (normal_object π t f o.value ≡ p.value)
   object_from f keyed p h =
-      let value : Has (values_of f (normal_tree t)) p.value = has_mapped (λ (x : Placed). x.value) (objects f (normal_tree t)) p h in
-      let there : Has (map (normal_object t f) (rising_list by_key (values_of f t))) p.value = subst (λ xs. Has xs p.value) (objects_built t (no_shape_fault t accepted) tree f keyed) value in
-      let d = map_has (normal_object t f) (rising_list by_key (values_of f t)) p.value there in
-      let o = map_has (λ (x : Placed). x.value) (objects f t) d.0 (has_rising by_key (values_of f t) d.0 d.1) in
-      (o.0, o.1, ap (normal_object t f) o.2 ∙ d.2)
+      let value : Has (values_of f (normal_tree π t)) p.value = has_mapped (λ (x : Placed). x.value) (objects f (normal_tree π t)) p h in
+      let there : Has (map (normal_object π t f) (rising_list (by_key π) (values_of f t))) p.value = subst (λ xs. Has xs p.value) (objects_built π t (no_shape_fault π t accepted) tree f keyed) value in
+      let d = map_has (normal_object π t f) (rising_list (by_key π) (values_of f t)) p.value there in
+      let o = map_has (λ (x : Placed). x.value) (objects f t) d.0 (has_rising (by_key π) (values_of f t) d.0 d.1) in
+      (o.0, o.1, ap (normal_object π t f) o.2 ∙ d.2)
 
   -- what is built of an object stands in the report that is built
-  pub built_stands : (f : Family) → has_keys f ≡ true → (o : Placed) → Has (objects f t) o → (p : Placed) × Has (objects f (normal_tree t)) p × (p.value ≡ normal_object t f o.value)
+  pub built_stands : (f : Family) → has_keys f ≡ true → (o : Placed) → Has (objects f t) o → (p : Placed) × Has (objects f (normal_tree π t)) p × (p.value ≡ normal_object π t f o.value)
   built_stands f keyed o h =
       let value : Has (values_of f t) o.value = has_mapped (λ (x : Placed). x.value) (objects f t) o h in
-      let there : Has (map (normal_object t f) (rising_list by_key (values_of f t))) (normal_object t f o.value) =
-      has_mapped (normal_object t f) (rising_list by_key (values_of f t)) o.value (rising_has by_key (values_of f t) o.value value) in
-      map_has (λ (x : Placed). x.value) (objects f (normal_tree t)) (normal_object t f o.value)
-      (subst (λ xs. Has xs (normal_object t f o.value)) (sym (objects_built t (no_shape_fault t accepted) tree f keyed)) there)
+      let there : Has (map (normal_object π t f) (rising_list (by_key π) (values_of f t))) (normal_object π t f o.value) =
+      has_mapped (normal_object π t f) (rising_list (by_key π) (values_of f t)) o.value (rising_has (by_key π) (values_of f t) o.value value) in
+      map_has (λ (x : Placed). x.value) (objects f (normal_tree π t)) (normal_object π t f o.value)
+      (subst (λ xs. Has xs (normal_object π t f o.value)) (sym (objects_built π t (no_shape_fault π t accepted) tree f keyed)) there)
 
-  module _ (contest p : Placed) (of_report : Has (objects family.Contest t) contest) (is : normal_object t family.Contest contest.value ≡ p.value) where
+  module _ (contest p : Placed) (of_report : Has (objects family.Contest t) contest) (is : normal_object π t family.Contest contest.value ≡ p.value) where
     -- the selections of a contest that is built
-    pub selections_there : selection_values p ≡ map (normal_selection t contest.value) (rising_list (by_name t) (selection_values contest))
+    pub selections_there : selection_values p ≡ map (normal_selection π t contest.value) (rising_list (by_name π t) (selection_values contest))
     selections_there =
-        let k : IsClassed family.Contest contest.value = object_classed t accepted tree family.Contest contest of_report in
-        ap (entries_at (codes "ContestSelection")) (sym is) ∙ selections_built t k.0 contest.value k.2 k.1
+        let k : IsClassed family.Contest contest.value = object_classed π t accepted tree family.Contest contest of_report in
+        ap (entries_at (codes "ContestSelection")) (sym is) ∙ selections_built π t k.0 contest.value k.2 k.1
 
-    pub selection_stands : (o : Placed) → Has (selections_of_contest contest) o → (q : Placed) × Has (selections_of_contest p) q × (q.value ≡ normal_selection t contest.value o.value)
+    pub selection_stands : (o : Placed) → Has (selections_of_contest contest) o → (q : Placed) × Has (selections_of_contest p) q × (q.value ≡ normal_selection π t contest.value o.value)
     selection_stands o h =
         let value : Has (selection_values contest) o.value = subst (λ xs. Has xs o.value) (listed contest) (has_mapped (λ (x : Placed). x.value) (selections_of_contest contest) o h) in
-        let es : List Data = rising_list (by_name t) (selection_values contest) in
-        let there : Has (map (normal_selection t contest.value) es) (normal_selection t contest.value o.value) =
-        has_mapped (normal_selection t contest.value) es o.value (rising_has (by_name t) (selection_values contest) o.value value) in
-        map_has (λ (x : Placed). x.value) (selections_of_contest p) (normal_selection t contest.value o.value)
-        (subst (λ xs. Has xs (normal_selection t contest.value o.value)) (sym selections_there ∙ sym (listed p)) there)
+        let es : List Data = rising_list (by_name π t) (selection_values contest) in
+        let there : Has (map (normal_selection π t contest.value) es) (normal_selection π t contest.value o.value) =
+        has_mapped (normal_selection π t contest.value) es o.value (rising_has (by_name π t) (selection_values contest) o.value value) in
+        map_has (λ (x : Placed). x.value) (selections_of_contest p) (normal_selection π t contest.value o.value)
+        (subst (λ xs. Has xs (normal_selection π t contest.value o.value)) (sym selections_there ∙ sym (listed p)) there)
 
     pub as_many_selections : length (selections_of_contest p) ≡ length (selections_of_contest contest)
     as_many_selections =
-        let es : List Data = rising_list (by_name t) (selection_values contest) in
-        counted p ∙ ap length selections_there ∙ length-map es (normal_selection t contest.value) ∙ length-rising (by_name t) (selection_values contest) ∙ sym (counted contest)
+        let es : List Data = rising_list (by_name π t) (selection_values contest) in
+        counted p ∙ ap length selections_there ∙ length-map es (normal_selection π t contest.value) ∙ length-rising (by_name π t) (selection_values contest) ∙ sym (counted contest)
 
   -- ---- `@id` texts
 
   module _ (bounded : IsBounded t) where
-    contest_low : (i : ℕ) (p : Placed) → slice_get (objects family.Contest (normal_tree t)) i ≡ Some p → i + 1 < 2 ^ 64
+    contest_low : (i : ℕ) (p : Placed) → slice_get (objects family.Contest (normal_tree π t)) i ≡ Some p → i + 1 < 2 ^ 64
     contest_low i p at =
-        let low : i < length (objects family.Contest (normal_tree t)) = position_low (objects family.Contest (normal_tree t)) i p at in
+        let low : i < length (objects family.Contest (normal_tree π t)) = position_low (objects family.Contest (normal_tree π t)) i p at in
         let few : length (objects family.Contest t) < 2 ^ 64 = bounded.few family.Contest in
-        let same : length (objects family.Contest (normal_tree t)) ≡ length (objects family.Contest t) = as_many t accepted tree family.Contest refl few in
+        let same : length (objects family.Contest (normal_tree π t)) ≡ length (objects family.Contest t) = as_many π t accepted tree family.Contest refl few in
         omega (arith, low, few, same)
 
-    selection_low : (p : Placed) → Has (objects family.Contest (normal_tree t)) p → (j : ℕ) (q : Placed) → slice_get (selections_of_contest p) j ≡ Some q → j + 1 < 2 ^ 64
+    selection_low : (p : Placed) → Has (objects family.Contest (normal_tree π t)) p → (j : ℕ) (q : Placed) → slice_get (selections_of_contest p) j ≡ Some q → j + 1 < 2 ^ 64
     selection_low p h j q at =
         let contest = object_from family.Contest refl p h in
         let low : j < length (selections_of_contest p) = position_low (selections_of_contest p) j q at in
@@ -105,38 +105,38 @@ module _ (t : Data) (accepted : IsAccepted t) (tree : IsTree t) where
         omega (arith, low, few, same)
 
     -- two selections with one `@id` are one, of one contest
-    pub one_selection : (c d o q : Placed) → Has (objects family.Contest (normal_tree t)) c → Has (objects family.Contest (normal_tree t)) d → Has (selections_of_contest c) o → Has (selections_of_contest d) q
+    pub one_selection : (c d o q : Placed) → Has (objects family.Contest (normal_tree π t)) c → Has (objects family.Contest (normal_tree π t)) d → Has (selections_of_contest c) o → Has (selections_of_contest d) q
         → id_of o.value ≡ id_of q.value → (c ≡ d) × (o ≡ q)
     one_selection c d o q in_c in_d in_o in_q same =
-        let i = position_of (objects family.Contest (normal_tree t)) c in_c in
-        let k = position_of (objects family.Contest (normal_tree t)) d in_d in
+        let i = position_of (objects family.Contest (normal_tree π t)) c in_c in
+        let k = position_of (objects family.Contest (normal_tree π t)) d in_d in
         let j = position_of (selections_of_contest c) o in_o in
         let l = position_of (selections_of_contest d) q in_q in
-        let ids : HasCanonicalIds (normal_tree t) = has_canonical_ids t accepted tree in
+        let ids : HasCanonicalIds (normal_tree π t) = has_canonical_ids π t accepted tree in
         let text : canonical_selection_id i.0 j.0 ≡ canonical_selection_id k.0 l.0 =
         same_in_some (canonical_selection_id i.0 j.0) (canonical_selection_id k.0 l.0) (sym (ids.selections i.0 j.0 c o i.1 j.1) ∙ same ∙ ids.selections k.0 l.0 d q k.1 l.1) in
         let n = canonical_selection_id_exact i.0 j.0 k.0 l.0 (contest_low i.0 c i.1) (selection_low c in_c j.0 o j.1) (contest_low k.0 d k.1) (selection_low d in_d l.0 q l.1) text in
-        let one : c ≡ d = same_in_some c d (sym i.1 ∙ ap (slice_get (objects family.Contest (normal_tree t))) n.0 ∙ k.1) in
+        let one : c ≡ d = same_in_some c d (sym i.1 ∙ ap (slice_get (objects family.Contest (normal_tree π t))) n.0 ∙ k.1) in
         (one, same_in_some o q (sym j.1 ∙ ap (λ x. slice_get (selections_of_contest x) j.0) one ∙ ap (slice_get (selections_of_contest d)) n.1 ∙ l.1))
 
     -- a selection of the report that is built owns its `@id`
-    pub owner_of_selection : (p q : Placed) (id : List ℕ) → Has (objects family.Contest (normal_tree t)) p → Has (selections_of_contest p) q → id_of q.value ≡ Some id → owner (normal_tree t) family.Selection id ≡ Some q.value
+    pub owner_of_selection : (p q : Placed) (id : List ℕ) → Has (objects family.Contest (normal_tree π t)) p → Has (selections_of_contest p) q → id_of q.value ≡ Some id → owner (normal_tree π t) family.Selection id ≡ Some q.value
     owner_of_selection p q id in_p in_q e =
-        let xs : List Placed = objects family.Selection (normal_tree t) in
-        let there : Has xs q = flat-has selections_of_contest (contests (normal_tree t)) p q in_p in_q in
+        let xs : List Placed = objects family.Selection (normal_tree π t) in
+        let there : Has xs q = flat-has selections_of_contest (contests (normal_tree π t)) p q in_p in_q in
         let x = find-any (λ (o : Placed). has_id id o.value) xs (any-has (λ (o : Placed). has_id id o.value) xs q there (has_id-from id q.value e)) in
-        let c = has-flat selections_of_contest (contests (normal_tree t)) x.0 x.3 in
+        let c = has-flat selections_of_contest (contests (normal_tree π t)) x.0 x.3 in
         let one = one_selection c.0 p x.0 q c.1 in_p c.2 in_q (has_id-Some id x.0.value x.2 ∙ sym e) in
         ap (option_map (λ (o : Placed). o.value)) x.1 ∙ ap (λ (o : Placed). Some o.value) one.1
 
     pub owner_of_selection_built : (contest o : Placed) → Has (objects family.Contest t) contest → Has (selections_of_contest contest) o
-        → owner (normal_tree t) family.Selection (id_of_selection t contest.value o.value) ≡ Some (normal_selection t contest.value o.value)
+        → owner (normal_tree π t) family.Selection (id_of_selection π t contest.value o.value) ≡ Some (normal_selection π t contest.value o.value)
     owner_of_selection_built contest o of_report of_contest =
         let p = built_stands family.Contest refl contest of_report in
         let q = selection_stands contest p.0 of_report (sym p.2) o of_contest in
-        let k : IsClassed family.Selection o.value = object_classed t accepted tree family.Selection o (flat-has selections_of_contest (contests t) contest o of_report of_contest) in
-        let id : id_of q.0.value ≡ Some (id_of_selection t contest.value o.value) = ap id_of q.2 ∙ id_of_built_selection t contest.value k.0 o.value k.2 k.1 in
-        owner_of_selection p.0 q.0 (id_of_selection t contest.value o.value) p.1 q.1 id ∙ ap Some q.2
+        let k : IsClassed family.Selection o.value = object_classed π t accepted tree family.Selection o (flat-has selections_of_contest (contests t) contest o of_report of_contest) in
+        let id : id_of q.0.value ≡ Some (id_of_selection π t contest.value o.value) = ap id_of q.2 ∙ id_of_built_selection π t contest.value k.0 o.value k.2 k.1 in
+        owner_of_selection p.0 q.0 (id_of_selection π t contest.value o.value) p.1 q.1 id ∙ ap Some q.2
 
     -- ---- references
 
@@ -145,19 +145,21 @@ module _ (t : Data) (accepted : IsAccepted t) (tree : IsTree t) where
       abbrev pub named : FoundSelection t (text_of r) d
       named = owner_found t (text_of r) d owned
 
-      pub text_built : text_of (normal_selection_reference t r) ≡ id_of_selection t named.contest.value named.selection.value
+      pub text_built : text_of (normal_selection_reference π t r) ≡ id_of_selection π t named.contest.value named.selection.value
       text_built =
-          ap (λ x. option_map_or (λ (c : Placed). option_map_or (λ (o : Placed). id_of_selection t c.value o.value) (selection_with (text_of r) c) []) x []) named.contest_is
-          ∙ ap (λ x. option_map_or (λ (o : Placed). id_of_selection t named.contest.value o.value) x []) named.selection_is
+          ap (λ x. option_map_or (λ (c : Placed). option_map_or (λ (o : Placed). id_of_selection π t c.value o.value) (selection_with (text_of r) c) []) x []) named.contest_is
+          ∙ ap (λ x. option_map_or (λ (o : Placed). id_of_selection π t named.contest.value o.value) x []) named.selection_is
 
       -- a reference that is built names what is built of the selection
-      pub owner_of_reference : owner (normal_tree t) family.Selection (text_of (normal_selection_reference t r)) ≡ Some (normal_selection t named.contest.value named.selection.value)
+      pub owner_of_reference : owner (normal_tree π t) family.Selection (text_of (normal_selection_reference π t r)) ≡ Some (normal_selection π t named.contest.value named.selection.value)
       owner_of_reference =
-          ap (owner (normal_tree t) family.Selection) text_built ∙ owner_of_selection_built named.contest named.selection named.of_report named.of_contest
+          ap (owner (normal_tree π t) family.Selection) text_built ∙ owner_of_selection_built named.contest named.selection named.of_report named.of_contest
 
-      -- and so has the name of the selection
-      pub name_named_built : name_named (normal_tree t) (text_of (normal_selection_reference t r)) ≡ name_named t (text_of r)
-      name_named_built =
-          ap (option_and_then (name_of (normal_tree t))) owner_of_reference
-          ∙ name_built t accepted tree bounded named.contest named.selection named.of_report named.of_contest
-          ∙ ap (name_of t) named.value ∙ sym (ap (option_and_then (name_of t)) owned)
+-- the selection has the name of the one that the reference names, under each preference, whichever the tree is built under
+module _ (π ρ : Preference) (t : Data) (accepted : IsAccepted π t) (tree : IsTree t) (bounded : IsBounded t) where
+  pub name_named_built : (r d : Data) → owner t family.Selection (text_of r) ≡ Some d → name_named ρ (normal_tree π t) (text_of (normal_selection_reference π t r)) ≡ name_named ρ t (text_of r)
+  name_named_built r d owned =
+      let s : FoundSelection t (text_of r) d = named π t accepted tree bounded r d owned in
+      ap (option_and_then (name_of ρ (normal_tree π t))) (owner_of_reference π t accepted tree bounded r d owned)
+      ∙ name_built π ρ t accepted tree bounded s.contest s.selection s.of_report s.of_contest
+      ∙ ap (name_of ρ t) s.value ∙ sym (ap (option_and_then (name_of ρ t)) owned)

@@ -21,7 +21,7 @@ use Rattle.erd_check.proofs.Entries.{array_from}
 use Rattle.erd_check.proofs.Rising.{Has}
 use Rattle.erd_check.proofs.Shapes.{Within, wanted_within, within-tree}
 use Rattle.erd_meaning.specs.Accepted.{IsAccepted}
-use Rattle.erd_meaning.specs.Keys.{has_keys, key_cmp}
+use Rattle.erd_meaning.specs.Keys.{Preference, has_keys, key_cmp}
 use Rattle.erd_meaning.specs.Objects.{Placed, objects}
 use Rattle.erd_meaning.specs.SelectionNames.{compact_cmp, key_named, name_cmp, name_of, rising_list, selection_role}
 use Rattle.erd_meaning.proofs.accepted.Phases.{no_shape_fault}
@@ -44,28 +44,28 @@ use Rattle.erd_check.proofs.Lists.{list_of_items-items_of}
 -- ---- what has to hold of a value
 
 -- the entries of a value rise, if a member is asked for
-pub record IsRisingIn (u : Data) (a : Asked) : Type 0 where
-  pub rises : (k : MemberKind) → kind_wanted a.want ≡ Some k → RisesAs u k (entries_of a.value)
+pub record IsRisingIn (π : Preference) (u : Data) (a : Asked) : Type 0 where
+  pub rises : (k : MemberKind) → kind_wanted a.want ≡ Some k → RisesAs π u k (entries_of a.value)
 
-rising_value : (u : Data) (k : MemberKind) (required : Bool) (d : Data) → RisesAs u k (entries_of d) → IsRisingIn u (asked (Member k required) d)
-rising_value u k required d h = record { rises = λ q e. let same : k ≡ q = cc in subst (λ x. RisesAs u x (entries_of d)) same h }
+rising_value : (π : Preference) (u : Data) (k : MemberKind) (required : Bool) (d : Data) → RisesAs π u k (entries_of d) → IsRisingIn π u (asked (Member k required) d)
+rising_value π u k required d h = record { rises = λ q e. let same : k ≡ q = cc in subst (λ x. RisesAs π u x (entries_of d)) same h }
 
-apart_rises : (u : Data) (k : MemberKind) (required : Bool) (ds : List Data) → is_apart (Member k required) ≡ true → RisesAs u k ds
-apart_rises u kind.Identity required ds h = tt
-apart_rises u kind.Word required ds h = tt
-apart_rises u kind.Flag required ds h = tt
-apart_rises u kind.Whole required ds h = tt
-apart_rises u kind.StrangeReference required ds h = tt
-apart_rises u kind.StrangeIdentity required ds h = tt
-apart_rises u k required ds h = cc
+apart_rises : (π : Preference) (u : Data) (k : MemberKind) (required : Bool) (ds : List Data) → is_apart (Member k required) ≡ true → RisesAs π u k ds
+apart_rises π u kind.Identity required ds h = tt
+apart_rises π u kind.Word required ds h = tt
+apart_rises π u kind.Flag required ds h = tt
+apart_rises π u kind.Whole required ds h = tt
+apart_rises π u kind.StrangeReference required ds h = tt
+apart_rises π u kind.StrangeIdentity required ds h = tt
+apart_rises π u k required ds h = cc
 
-kept_rises : (u : Data) (w : Want) (d : Data) (k : MemberKind) → is_apart w ≡ true → kind_wanted w ≡ Some k → RisesAs u k (entries_of d)
-kept_rises u (Member k required) d q apart e = let same : k ≡ q = cc in subst (λ x. RisesAs u x (entries_of d)) same (apart_rises u k required (entries_of d) apart)
-kept_rises u w d q apart e = cc
+kept_rises : (π : Preference) (u : Data) (w : Want) (d : Data) (k : MemberKind) → is_apart w ≡ true → kind_wanted w ≡ Some k → RisesAs π u k (entries_of d)
+kept_rises π u (Member k required) d q apart e = let same : k ≡ q = cc in subst (λ x. RisesAs π u x (entries_of d)) same (apart_rises π u k required (entries_of d) apart)
+kept_rises π u w d q apart e = cc
 
-keyed_rises : (u : Data) (f : Family) (ds : List Data) → has_keys f ≡ true → IsStrictlySortedBy (option_cmp key_cmp) (keys_of ds) → RisesAs u (kind.Keyed f) ds
-keyed_rises u family.Selection ds keyed h = cc
-keyed_rises u f ds keyed h = h
+keyed_rises : (π : Preference) (u : Data) (f : Family) (ds : List Data) → has_keys f ≡ true → IsStrictlySortedBy (option_cmp key_cmp) (keys_of π ds) → RisesAs π u (kind.Keyed f) ds
+keyed_rises π u family.Selection ds keyed h = cc
+keyed_rises π u f ds keyed h = h
 
 -- a family whose objects have `@id` texts by their ranks has keys
 pub prefixed_keys : (f : Family) → is_prefixed f ≡ true → has_keys f ≡ true
@@ -81,31 +81,31 @@ letters_of f = at (id_prefix f)
 
 -- ---- the parts that are built
 
-module _ (t : Data) (accepted : IsAccepted t) (tree : IsTree t) where
-  keys_kept : (f : Family) (ds : List Data) → AllByRecursion (IsClassed f) ds → keys_of (map (normal_object t f) ds) ≡ keys_of ds
+module _ (π : Preference) (t : Data) (accepted : IsAccepted π t) (tree : IsTree t) where
+  keys_kept : (f : Family) (ds : List Data) → AllByRecursion (IsClassed f) ds → keys_of π (map (normal_object π t f) ds) ≡ keys_of π ds
   keys_kept f [] all = refl
-  keys_kept f (d ∷ ds) all = ap₂ (λ k ks. k ∷ ks) (key_of_object t f all.0.0 d all.0.2 all.0.1) (keys_kept f ds all.1)
+  keys_kept f (d ∷ ds) all = ap₂ (λ k ks. k ∷ ks) (key_of_object π π t f all.0.0 d all.0.2 all.0.1) (keys_kept f ds all.1)
 
-  objects_rising : (f : Family) → has_keys f ≡ true → (ds : List Data) → map (λ o. o.value) (objects f t) ≡ ds → RisesAs (normal_tree t) (kind.Keyed f) (entries_of (normal_objects t f ds))
+  objects_rising : (f : Family) → has_keys f ≡ true → (ds : List Data) → map (λ o. o.value) (objects f t) ≡ ds → RisesAs π (normal_tree π t) (kind.Keyed f) (entries_of (normal_objects π t f ds))
   objects_rising f keyed ds all =
-      keyed_rises (normal_tree t) f (entries_of (normal_objects t f ds)) keyed
-      (subst (λ xs. IsStrictlySortedBy (option_cmp key_cmp) (keys_of xs)) (sym (list_of_items-items_of (map (normal_object t f) (rising_list by_key ds))))
-      (subst (IsStrictlySortedBy (option_cmp key_cmp)) (sym (keys_kept f (rising_list by_key ds) (all_rising (IsClassed f) by_key ds (subst (AllByRecursion (IsClassed f)) all (values_classed t accepted tree f)))))
-      (subst (λ xs. IsStrictlySortedBy (option_cmp key_cmp) (keys_of (rising_list by_key xs))) all (objects_rise t accepted f keyed))))
+      keyed_rises π (normal_tree π t) f (entries_of (normal_objects π t f ds)) keyed
+      (subst (λ xs. IsStrictlySortedBy (option_cmp key_cmp) (keys_of π xs)) (sym (list_of_items-items_of (map (normal_object π t f) (rising_list (by_key π) ds))))
+      (subst (IsStrictlySortedBy (option_cmp key_cmp)) (sym (keys_kept f (rising_list (by_key π) ds) (all_rising (IsClassed f) (by_key π) ds (subst (AllByRecursion (IsClassed f)) all (values_classed π t accepted tree f)))))
+      (subst (λ xs. IsStrictlySortedBy (option_cmp key_cmp) (keys_of π (rising_list (by_key π) xs))) all (objects_rise π t accepted f keyed))))
 
   identifiers_rising : HasFittingNumbers t → (required : Bool) (d : Data) → Within t (asked (Member kind.Identifiers required) d) → IsStrictlySortedBy compact_cmp (rising_list compact_cmp (entries_of d))
   identifiers_rising fits required d w =
-      let ds = array_from d (wanted_within t (no_shape_fault t accepted) (asked (Member kind.Identifiers required) d) w) in
+      let ds = array_from d (wanted_within t (no_shape_fault π t accepted) (asked (Member kind.Identifiers required) d) w) in
       let inside : Within t (asked (Member kind.Identifiers required) (array ds.0)) = subst (λ x. Within t (asked (Member kind.Identifiers required) x)) ds.1 w in
       subst (λ x. IsStrictlySortedBy compact_cmp (rising_list compact_cmp (entries_of x))) (sym ds.1)
-      (identifiers_rise t accepted required ds.0 inside (within-tree t (asked (Member kind.Identifiers required) (array ds.0)) tree inside) (within-fitting t (asked (Member kind.Identifiers required) (array ds.0)) fits inside))
+      (identifiers_rise π t accepted required ds.0 inside (within-tree t (asked (Member kind.Identifiers required) (array ds.0)) tree inside) (within-fitting t (asked (Member kind.Identifiers required) (array ds.0)) fits inside))
 
   languages_rising : HasFittingNumbers t → (required : Bool) (d : Data) → Within t (asked (Member kind.Languages required) d) → IsStrictlySortedBy compact_cmp (rising_list compact_cmp (entries_of d))
   languages_rising fits required d w =
-      let ds = array_from d (wanted_within t (no_shape_fault t accepted) (asked (Member kind.Languages required) d) w) in
+      let ds = array_from d (wanted_within t (no_shape_fault π t accepted) (asked (Member kind.Languages required) d) w) in
       let inside : Within t (asked (Member kind.Languages required) (array ds.0)) = subst (λ x. Within t (asked (Member kind.Languages required) x)) ds.1 w in
       subst (λ x. IsStrictlySortedBy compact_cmp (rising_list compact_cmp (entries_of x))) (sym ds.1)
-      (languages_rise t accepted required ds.0 inside (within-tree t (asked (Member kind.Languages required) (array ds.0)) tree inside) (within-fitting t (asked (Member kind.Languages required) (array ds.0)) fits inside))
+      (languages_rise π t accepted required ds.0 inside (within-tree t (asked (Member kind.Languages required) (array ds.0)) tree inside) (within-fitting t (asked (Member kind.Languages required) (array ds.0)) fits inside))
 
   -- each entry of an array of objects is asked for
   objects_asked : (f : Family) (required : Bool) (d : Data) → is_array d ≡ true → Within t (asked (Member (kind.Keyed f) required) d) → AllByRecursion (λ e. Within t (asked (Object (role.OfFamily f)) e)) (entries_of d)
@@ -114,91 +114,91 @@ module _ (t : Data) (accepted : IsAccepted t) (tree : IsTree t) where
 
   module _ (bounded : IsBounded t) where
     keys_named_kept : (f : Family) (letters : List ℕ) → has_keys f ≡ true → id_prefix f ≡ Some letters → (ds : List Data) → AllByRecursion (Refers t f) ds
-        → keys_referred (normal_tree t) f (map (normal_reference t f) ds) ≡ map (λ d. key_named t f (text_of d)) ds
+        → keys_referred π (normal_tree π t) f (map (normal_reference π t f) ds) ≡ map (λ d. key_named π t f (text_of d)) ds
     keys_named_kept f letters keyed prefix [] all = refl
     keys_named_kept f letters keyed prefix (d ∷ ds) all =
-        let said : option_and_then (key_named t f) (as_str d) ≡ key_named t f (text_of d) =
-        ap (λ x. option_and_then (key_named t f) (as_str x)) all.0.1 ∙ ap (λ x. key_named t f (text_of x)) (sym all.0.1) in
-        ap₂ (λ k ks. k ∷ ks) (reference_key_built t accepted tree bounded f letters d keyed prefix all.0 ∙ said) (keys_named_kept f letters keyed prefix ds all.1)
+        let said : option_and_then (key_named π t f) (as_str d) ≡ key_named π t f (text_of d) =
+        ap (λ x. option_and_then (key_named π t f) (as_str x)) all.0.1 ∙ ap (λ x. key_named π t f (text_of x)) (sym all.0.1) in
+        ap₂ (λ k ks. k ∷ ks) (reference_key_built π π t accepted tree bounded f letters d keyed prefix all.0 ∙ said) (keys_named_kept f letters keyed prefix ds all.1)
 
     pub references_rising : (f : Family) → is_prefixed f ≡ true → (required : Bool) (d : Data) → Within t (asked (Member (kind.Many f) required) d)
-        → IsStrictlySortedBy (option_cmp key_cmp) (keys_referred (normal_tree t) f (built_references t f d))
+        → IsStrictlySortedBy (option_cmp key_cmp) (keys_referred π (normal_tree π t) f (built_references π t f d))
     references_rising f named required d w =
-        let ds = array_from d (wanted_within t (no_shape_fault t accepted) (asked (Member (kind.Many f) required) d) w) in
+        let ds = array_from d (wanted_within t (no_shape_fault π t accepted) (asked (Member (kind.Many f) required) d) w) in
         let inside : Within t (asked (Member (kind.Many f) required) (array ds.0)) = subst (λ x. Within t (asked (Member (kind.Many f) required) x)) ds.1 w in
         let letters = letters_of f named in
-        let all : AllByRecursion (Refers t f) (rising_list (reference_cmp t f) (list_of_items ds.0)) =
-        all_rising (Refers t f) (reference_cmp t f) (list_of_items ds.0) (references_refer t accepted f required ds.0 inside) in
-        subst (λ x. IsStrictlySortedBy (option_cmp key_cmp) (keys_referred (normal_tree t) f (built_references t f x))) (sym ds.1)
-        (subst (IsStrictlySortedBy (option_cmp key_cmp)) (sym (keys_named_kept f letters.0 (prefixed_keys f named) letters.1 (rising_list (reference_cmp t f) (list_of_items ds.0)) all))
-        (references_rise t accepted f (prefixed_keys f named) required ds.0 inside))
+        let all : AllByRecursion (Refers t f) (rising_list (reference_cmp π t f) (list_of_items ds.0)) =
+        all_rising (Refers t f) (reference_cmp π t f) (list_of_items ds.0) (references_refer π t accepted f required ds.0 inside) in
+        subst (λ x. IsStrictlySortedBy (option_cmp key_cmp) (keys_referred π (normal_tree π t) f (built_references π t f x))) (sym ds.1)
+        (subst (IsStrictlySortedBy (option_cmp key_cmp)) (sym (keys_named_kept f letters.0 (prefixed_keys f named) letters.1 (rising_list (reference_cmp π t f) (list_of_items ds.0)) all))
+        (references_rise π t accepted f (prefixed_keys f named) required ds.0 inside))
 
-    names_kept : (contest : Data) (ds : List Data) → AllByRecursion (λ e. Within t (asked (Object selection_role) e)) ds → map (name_of (normal_tree t)) (map (normal_selection t contest) ds) ≡ map (name_of t) ds
+    names_kept : (contest : Data) (ds : List Data) → AllByRecursion (λ e. Within t (asked (Object selection_role) e)) ds → map (name_of π (normal_tree π t)) (map (normal_selection π t contest) ds) ≡ map (name_of π t) ds
     names_kept contest [] all = refl
-    names_kept contest (d ∷ ds) all = ap₂ (λ n ns. n ∷ ns) (name_built_within t accepted tree bounded contest d all.0) (names_kept contest ds all.1)
+    names_kept contest (d ∷ ds) all = ap₂ (λ n ns. n ∷ ns) (name_built_within π π t accepted tree bounded contest d all.0) (names_kept contest ds all.1)
 
     selections_rising : (contest : Placed) (required : Bool) (d : Data) → Has (objects family.Contest t) contest → get (codes "ContestSelection") contest.value ≡ Some d
         → Within t (asked (Member (kind.Keyed family.Selection) required) d)
-        → IsStrictlySortedBy (option_cmp name_cmp) (map (name_of (normal_tree t)) (map (normal_selection t contest.value) (rising_list (by_name t) (entries_of d))))
+        → IsStrictlySortedBy (option_cmp name_cmp) (map (name_of π (normal_tree π t)) (map (normal_selection π t contest.value) (rising_list (by_name π t) (entries_of d))))
     selections_rising contest required d of_report stands w =
         let es : List Data = entries_of d in
         let listed : entries_at (codes "ContestSelection") contest.value ≡ es = ap (λ o. option_map_or entries_of o []) stands in
         let all : AllByRecursion (λ e. Within t (asked (Object selection_role) e)) es =
-        objects_asked family.Selection required d (wanted_within t (no_shape_fault t accepted) (asked (Member (kind.Keyed family.Selection) required) d) w) w in
-        subst (IsStrictlySortedBy (option_cmp name_cmp)) (sym (names_kept contest.value (rising_list (by_name t) es) (all_rising (λ e. Within t (asked (Object selection_role) e)) (by_name t) es all)))
-        (subst (λ xs. IsStrictlySortedBy (option_cmp name_cmp) (map (name_of t) (rising_list (by_name t) xs))) listed (selections_rise t accepted contest of_report))
+        objects_asked family.Selection required d (wanted_within t (no_shape_fault π t accepted) (asked (Member (kind.Keyed family.Selection) required) d) w) w in
+        subst (IsStrictlySortedBy (option_cmp name_cmp)) (sym (names_kept contest.value (rising_list (by_name π t) es) (all_rising (λ e. Within t (asked (Object selection_role) e)) (by_name π t) es all)))
+        (subst (λ xs. IsStrictlySortedBy (option_cmp name_cmp) (map (name_of π t) (rising_list (by_name π t) xs))) listed (selections_rise π t accepted contest of_report))
 
 -- ---- the report that is built
 
-module _ (t : Data) (accepted : IsAccepted t) (tree : IsTree t) (bounded : IsBounded t) (fits : HasFittingNumbers t) where
+module _ (π : Preference) (t : Data) (accepted : IsAccepted π t) (tree : IsTree t) (bounded : IsBounded t) (fits : HasFittingNumbers t) where
   abbrev u : Data
-  u = normal_tree t
+  u = normal_tree π t
 
-  members : HoldsOfMembers t (IsRisingIn u)
+  members : HoldsOfMembers π t (IsRisingIn π u)
   members = record {
-    kept = λ a w apart. record { rises = λ k e. kept_rises u a.want a.value k apart e };
+    kept = λ a w apart. record { rises = λ k e. kept_rises π u a.want a.value k apart e };
     class_text = λ r c text named. record { rises = λ k e. cc };
-    label = λ required d w. rising_value u kind.Label required _ tt;
+    label = λ required d w. rising_value π u kind.Label required _ tt;
     one = λ f named d w. record { rises = λ k e. cc };
     many = λ f named required d w full.
-        rising_value u (kind.Many f) required (array_of (built_references t f d))
-        (subst (λ xs. IsStrictlySortedBy (option_cmp key_cmp) (keys_referred u f xs)) (sym (list_of_items-items_of (built_references t f d))) (references_rising t accepted tree bounded f named required d w));
+        rising_value π u (kind.Many f) required (array_of (built_references π t f d))
+        (subst (λ xs. IsStrictlySortedBy (option_cmp key_cmp) (keys_referred π u f xs)) (sym (list_of_items-items_of (built_references π t f d))) (references_rising π t accepted tree bounded f named required d w));
     many_entry = λ f named required d w i e found. record { rises = λ k h. cc };
     identifiers = λ required d w full.
-        rising_value u kind.Identifiers required (array_of (rising_list compact_cmp (entries_of d)))
-        (subst (IsStrictlySortedBy compact_cmp) (sym (list_of_items-items_of (rising_list compact_cmp (entries_of d)))) (identifiers_rising t accepted tree fits required d w));
+        rising_value π u kind.Identifiers required (array_of (rising_list compact_cmp (entries_of d)))
+        (subst (IsStrictlySortedBy compact_cmp) (sym (list_of_items-items_of (rising_list compact_cmp (entries_of d)))) (identifiers_rising π t accepted tree fits required d w));
     languages = λ required d w full.
-        rising_value u kind.Languages required (array_of (rising_list compact_cmp (entries_of d)))
-        (subst (IsStrictlySortedBy compact_cmp) (sym (list_of_items-items_of (rising_list compact_cmp (entries_of d)))) (languages_rising t accepted tree fits required d w));
-    ordered = λ required d w full. rising_value u kind.Ordered required _ tt;
+        rising_value π u kind.Languages required (array_of (rising_list compact_cmp (entries_of d)))
+        (subst (IsStrictlySortedBy compact_cmp) (sym (list_of_items-items_of (rising_list compact_cmp (entries_of d)))) (languages_rising π t accepted tree fits required d w));
+    ordered = λ required d w full. rising_value π u kind.Ordered required _ tt;
     ordered_entry = λ e w. record { rises = λ k h. cc };
   }
 
-  parts : HoldsOfObjects t (IsRisingIn u)
+  parts : HoldsOfObjects π t (IsRisingIn π u)
   parts = record {
     members = members;
-    identity = λ required id. rising_value u kind.Identity required _ tt;
-    content = λ required d w full. rising_value u kind.Content required _ tt;
+    identity = λ required id. rising_value π u kind.Identity required _ tt;
+    content = λ required d w full. rising_value π u kind.Content required _ tt;
     node = λ d w. record { rises = λ k e. cc };
     selections = λ contest required d of_report stands w full.
-        let ds : List Data = map (normal_selection t contest.value) (rising_list (by_name t) (entries_of d)) in
-        rising_value u (kind.Keyed family.Selection) required (array_of ds)
-        (subst (λ xs. IsStrictlySortedBy (option_cmp name_cmp) (map (name_of u) xs)) (sym (list_of_items-items_of ds)) (selections_rising t accepted tree bounded contest required d of_report stands w));
+        let ds : List Data = map (normal_selection π t contest.value) (rising_list (by_name π t) (entries_of d)) in
+        rising_value π u (kind.Keyed family.Selection) required (array_of ds)
+        (subst (λ xs. IsStrictlySortedBy (option_cmp name_cmp) (map (name_of π u) xs)) (sym (list_of_items-items_of ds)) (selections_rising π t accepted tree bounded contest required d of_report stands w));
     selection = λ contest d w. record { rises = λ k e. cc };
     object = λ f d w. record { rises = λ k e. cc };
   }
 
-  built : HoldsOfBuilt t (IsRisingIn u)
+  built : HoldsOfBuilt π t (IsRisingIn π u)
   built = record {
     parts = parts;
-    word = λ required text. rising_value u kind.Word required _ tt;
-    whole = λ required n. rising_value u kind.Whole required _ tt;
-    keyed = λ f keyed required d w all full. rising_value u (kind.Keyed f) required (normal_objects t f (entries_of d)) (objects_rising t accepted tree f keyed (entries_of d) all);
-    elections = λ required d w. rising_value u kind.Elections required _ tt;
+    word = λ required text. rising_value π u kind.Word required _ tt;
+    whole = λ required n. rising_value π u kind.Whole required _ tt;
+    keyed = λ f keyed required d w all full. rising_value π u (kind.Keyed f) required (normal_objects π t f (entries_of d)) (objects_rising π t accepted tree f keyed (entries_of d) all);
+    elections = λ required d w. rising_value π u kind.Elections required _ tt;
     election = λ d w. record { rises = λ k e. cc };
     report = record { rises = λ k e. cc };
   }
 
   -- the sets of the report that is built rise
-  pub sets_in_order_built : AreSetsInOrder (normal_tree t)
-  sets_in_order_built p a k e want = (holds_of_built t (no_shape_fault t accepted) tree (IsRisingIn u) built p a e).rises k want
+  pub sets_in_order_built : AreSetsInOrder π (normal_tree π t)
+  sets_in_order_built p a k e want = (holds_of_built π t (no_shape_fault π t accepted) tree (IsRisingIn π u) built p a e).rises k want

@@ -37,18 +37,18 @@ election_in t = unwrap_or (option_map (λ o. o.value) (slice_get (elections t) 0
 
 -- the object of this key means the same in both
 abbrev MeansTheSame : Family → List ℕ → Type 0
-MeansTheSame f key = records_of canonical f (local_key key) ≡ records_of given f (local_key key)
+MeansTheSame f key = records_of None canonical f (local_key key) ≡ records_of None given f (local_key key)
 
-same : (f : Family) (key : List ℕ) (c : Class) → has_keys f ≡ true → ObjectsAgree canonical given f (local_key key) c → MeansTheSame f key
-same f key c keyed agree = same_at_key canonical given f (local_key key) c keyed agree
+same : (f : Family) (key : List ℕ) (c : Class) → has_keys f ≡ true → ObjectsAgree None canonical given f (local_key key) c → MeansTheSame f key
+same f key c keyed agree = same_at_key None canonical given f (local_key key) c keyed agree
 
-same_report : object_record canonical role.Report canonical ≡ object_record given role.Report given
+same_report : object_record None canonical role.Report canonical ≡ object_record None given role.Report given
 unfolding serde_json_on_literals
-same_report = same_object canonical given canonical given role.Report class.ElectionReport refl refl refl
+same_report = same_object None canonical given canonical given role.Report class.ElectionReport refl refl refl
 
-same_election : (meaning canonical).election ≡ (meaning given).election
+same_election : (meaning None canonical).election ≡ (meaning None given).election
 unfolding serde_json_on_literals
-same_election = same_object canonical given (election_in canonical) (election_in given) role.Election class.Election refl refl refl
+same_election = same_object None canonical given (election_in canonical) (election_in given) role.Election class.Election refl refl refl
 
 same_units : MeansTheSame family.Unit (codes "U1") × MeansTheSame family.Unit (codes "U2")
 unfolding serde_json_on_literals
@@ -94,18 +94,18 @@ abbrev no_name : NameParts
 no_name = record { class = class.CandidateSelection; keys = []; write_in = false; order = None; label = None; identifier = None }
 
 abbrev name_at : ℕ → ℕ → NameParts
-name_at i j = unwrap_or (option_and_then (name_of canonical) (slice_get (selections_in canonical i) j)) no_name
+name_at i j = unwrap_or (option_and_then (name_of None canonical) (slice_get (selections_in canonical i) j)) no_name
 
 abbrev selection_in : Data → ℕ → ℕ → Data
-selection_in t i j = selection_with_name t (selections_in t i) (name_at i j)
+selection_in t i j = selection_with_name None t (selections_in t i) (name_at i j)
 
 -- the selection of this name means the same in both
 abbrev NamedTheSame : ℕ → ℕ → Type 0
-NamedTheSame i j = selection_map canonical (selections_in canonical i) (name_at i j) ≡ selection_map given (selections_in given i) (name_at i j)
+NamedTheSame i j = selection_map None canonical (selections_in canonical i) (name_at i j) ≡ selection_map None given (selections_in given i) (name_at i j)
 
-same_selection : (i j : ℕ) (c : Class) (one : List ℕ) → SelectionsAgreeButOne canonical given (selections_in canonical i) (selections_in given i) (name_at i j) c one
-    → plain_member canonical (selection_in canonical i j) c one ≡ plain_member given (selection_in given i j) c one → NamedTheSame i j
-same_selection i j c one agree at_one = same_at_name canonical given (selections_in canonical i) (selections_in given i) (name_at i j) c one agree at_one
+same_selection : (i j : ℕ) (c : Class) (one : List ℕ) → SelectionsAgreeButOne None canonical given (selections_in canonical i) (selections_in given i) (name_at i j) c one
+    → plain_member None canonical (selection_in canonical i j) c one ≡ plain_member None given (selection_in given i j) c one → NamedTheSame i j
+same_selection i j c one agree at_one = same_at_name None canonical given (selections_in canonical i) (selections_in given i) (name_at i j) c one agree at_one
 
 write_in : NamedTheSame 0 0
 unfolding serde_json_on_literals
@@ -150,40 +150,40 @@ yes_selection =
 
 -- ---- contests
 
-first_names : HaveNames canonical (selections_in canonical 0) (name_at 0 0 ∷ name_at 0 1 ∷ name_at 0 2 ∷ [])
+first_names : HaveNames None canonical (selections_in canonical 0) (name_at 0 0 ∷ name_at 0 1 ∷ name_at 0 2 ∷ [])
 unfolding serde_json_on_literals
-first_names = names_of_selections canonical (selections_in canonical 0) (name_at 0 0 ∷ name_at 0 1 ∷ name_at 0 2 ∷ []) refl
+first_names = names_of_selections None canonical (selections_in canonical 0) (name_at 0 0 ∷ name_at 0 1 ∷ name_at 0 2 ∷ []) refl
 
-first_names_given : HaveNames given (selections_in given 0) (name_at 0 1 ∷ name_at 0 2 ∷ name_at 0 0 ∷ [])
+first_names_given : HaveNames None given (selections_in given 0) (name_at 0 1 ∷ name_at 0 2 ∷ name_at 0 0 ∷ [])
 unfolding serde_json_on_literals
-first_names_given = names_of_selections given (selections_in given 0) (name_at 0 1 ∷ name_at 0 2 ∷ name_at 0 0 ∷ []) refl
+first_names_given = names_of_selections None given (selections_in given 0) (name_at 0 1 ∷ name_at 0 2 ∷ name_at 0 0 ∷ []) refl
 
-second_names : HaveNames canonical (selections_in canonical 1) (name_at 1 0 ∷ name_at 1 1 ∷ [])
+second_names : HaveNames None canonical (selections_in canonical 1) (name_at 1 0 ∷ name_at 1 1 ∷ [])
 unfolding serde_json_on_literals
-second_names = names_of_selections canonical (selections_in canonical 1) (name_at 1 0 ∷ name_at 1 1 ∷ []) refl
+second_names = names_of_selections None canonical (selections_in canonical 1) (name_at 1 0 ∷ name_at 1 1 ∷ []) refl
 
-second_names_given : HaveNames given (selections_in given 1) (name_at 1 1 ∷ name_at 1 0 ∷ [])
+second_names_given : HaveNames None given (selections_in given 1) (name_at 1 1 ∷ name_at 1 0 ∷ [])
 unfolding serde_json_on_literals
-second_names_given = names_of_selections given (selections_in given 1) (name_at 1 1 ∷ name_at 1 0 ∷ []) refl
+second_names_given = names_of_selections None given (selections_in given 1) (name_at 1 1 ∷ name_at 1 0 ∷ []) refl
 
-first_selections : selection_map canonical (selections_in canonical 0) ≡ selection_map given (selections_in given 0)
+first_selections : selection_map None canonical (selections_in canonical 0) ≡ selection_map None given (selections_in given 0)
 first_selections =
-    same_selections canonical given (selections_in canonical 0) (selections_in given 0) (name_at 0 0 ∷ name_at 0 1 ∷ name_at 0 2 ∷ []) (name_at 0 1 ∷ name_at 0 2 ∷ name_at 0 0 ∷ [])
+    same_selections None canonical given (selections_in canonical 0) (selections_in given 0) (name_at 0 0 ∷ name_at 0 1 ∷ name_at 0 2 ∷ []) (name_at 0 1 ∷ name_at 0 2 ∷ name_at 0 0 ∷ [])
     first_names first_names_given ((1, lit< tt, refl), ((2, lit< tt, refl), ((0, lit< tt, refl), tt))) (write_in, (two_candidates, (one_candidate, tt)))
 
-second_selections : selection_map canonical (selections_in canonical 1) ≡ selection_map given (selections_in given 1)
+second_selections : selection_map None canonical (selections_in canonical 1) ≡ selection_map None given (selections_in given 1)
 second_selections =
-    same_selections canonical given (selections_in canonical 1) (selections_in given 1) (name_at 1 0 ∷ name_at 1 1 ∷ []) (name_at 1 1 ∷ name_at 1 0 ∷ [])
+    same_selections None canonical given (selections_in canonical 1) (selections_in given 1) (name_at 1 0 ∷ name_at 1 1 ∷ []) (name_at 1 1 ∷ name_at 1 0 ∷ [])
     second_names second_names_given ((1, lit< tt, refl), ((0, lit< tt, refl), tt)) (no_selection, (yes_selection, tt))
 
-same_with : (f : Family) (key : List ℕ) (c : Class) (one : List ℕ) → has_keys f ≡ true → ObjectsAgreeButOne canonical given f (local_key key) c one → SameMember canonical given f (local_key key) c one → MeansTheSame f key
-same_with f key c one keyed agree at_one = same_at_key_with canonical given f (local_key key) c one keyed agree at_one
+same_with : (f : Family) (key : List ℕ) (c : Class) (one : List ℕ) → has_keys f ≡ true → ObjectsAgreeButOne None canonical given f (local_key key) c one → SameMember None canonical given f (local_key key) c one → MeansTheSame f key
+same_with f key c one keyed agree at_one = same_at_key_with None canonical given f (local_key key) c one keyed agree at_one
 
-first_contest : SameMember canonical given family.Contest (local_key (codes "C1")) class.CandidateContest (codes "ContestSelection")
+first_contest : SameMember None canonical given family.Contest (local_key (codes "C1")) class.CandidateContest (codes "ContestSelection")
 unfolding serde_json_on_literals
 first_contest = ap (λ m. Some (a_selection_map m)) first_selections
 
-second_contest : SameMember canonical given family.Contest (local_key (codes "C2")) class.BallotMeasureContest (codes "ContestSelection")
+second_contest : SameMember None canonical given family.Contest (local_key (codes "C2")) class.BallotMeasureContest (codes "ContestSelection")
 unfolding serde_json_on_literals
 second_contest = ap (λ m. Some (a_selection_map m)) second_selections
 
@@ -197,7 +197,7 @@ same_contests = (
 -- ---- the style
 
 abbrev content_in : Data → Data
-content_in t = unwrap_or (get (codes "OrderedContent") (value_with_key t family.Style (local_key (codes "S1")))) null
+content_in t = unwrap_or (get (codes "OrderedContent") (value_with_key None t family.Style (local_key (codes "S1")))) null
 
 abbrev header_in : Data → Data
 header_in t = unwrap_or (slice_get (entries_of (content_in t)) 0) null
@@ -237,26 +237,26 @@ content_with names header first second =
     (first_node (a_contest (Some (local_key (codes "C2"))) [] second) no_content)
 
 abbrev names_canonical : List (Option NameParts)
-names_canonical = map (name_named canonical) (codes "cs1-3" ∷ codes "cs1-2" ∷ codes "cs1-1" ∷ [])
+names_canonical = map (name_named None canonical) (codes "cs1-3" ∷ codes "cs1-2" ∷ codes "cs1-1" ∷ [])
 
 abbrev names_given : List (Option NameParts)
-names_given = map (name_named given) (codes "a10" ∷ codes "a9" ∷ codes "a11" ∷ [])
+names_given = map (name_named None given) (codes "a10" ∷ codes "a9" ∷ codes "a11" ∷ [])
 
 same_names : names_canonical ≡ names_given
 unfolding serde_json_on_literals
 same_names = refl
 
-content_canonical : content_of canonical (content_in canonical)
+content_canonical : content_of None canonical (content_in canonical)
     ≡ content_with names_canonical (carried_members (Some class.OrderedHeader) (header_in canonical)) (carried_members (Some class.OrderedContest) (first_in canonical)) (carried_members (Some class.OrderedContest) (second_in canonical))
 unfolding serde_json_on_literals
 content_canonical = refl
 
-content_given : content_of given (content_in given)
+content_given : content_of None given (content_in given)
     ≡ content_with names_given (carried_members (Some class.OrderedHeader) (header_in given)) (carried_members (Some class.OrderedContest) (first_in given)) (carried_members (Some class.OrderedContest) (second_in given))
 unfolding serde_json_on_literals
 content_given = refl
 
-same_content : content_of canonical (content_in canonical) ≡ content_of given (content_in given)
+same_content : content_of None canonical (content_in canonical) ≡ content_of None given (content_in given)
 same_content =
     let header = carried_members (Some class.OrderedHeader) in let contest = carried_members (Some class.OrderedContest) in
     content_canonical
@@ -265,7 +265,7 @@ same_content =
     ∙ (ap (λ carried. content_with names_given (header (header_in given)) carried (contest (second_in canonical))) first_carries
     ∙ (ap (λ carried. content_with names_given (header (header_in given)) (contest (first_in given)) carried) second_carries ∙ sym content_given))))
 
-style_order : SameMember canonical given family.Style (local_key (codes "S1")) class.BallotStyle (codes "OrderedContent")
+style_order : SameMember None canonical given family.Style (local_key (codes "S1")) class.BallotStyle (codes "OrderedContent")
 unfolding serde_json_on_literals
 style_order = ap (λ c. Some (a_plain (a_content c))) same_content
 
@@ -292,25 +292,25 @@ keys_given family.Unit = local_key (codes "U2") ∷ local_key (codes "U1") ∷ [
 keys_given family.Candidate = local_key (codes "K3") ∷ local_key (codes "K1") ∷ local_key (codes "K2") ∷ []
 keys_given f = keys_of f
 
-every_key : (f : Family) → has_keys f ≡ true → HaveKeys canonical f (keys_of f)
+every_key : (f : Family) → has_keys f ≡ true → HaveKeys None canonical f (keys_of f)
 unfolding serde_json_on_literals
 every_key family.Selection keyed = absurd (cc keyed)
-every_key family.Unit keyed = keys_of_family canonical family.Unit (keys_of family.Unit) refl
-every_key f keyed = keys_of_family canonical f (keys_of f) refl
+every_key family.Unit keyed = keys_of_family None canonical family.Unit (keys_of family.Unit) refl
+every_key f keyed = keys_of_family None canonical f (keys_of f) refl
 
-every_key_given : (f : Family) → has_keys f ≡ true → HaveKeys given f (keys_given f)
+every_key_given : (f : Family) → has_keys f ≡ true → HaveKeys None given f (keys_given f)
 unfolding serde_json_on_literals
 every_key_given family.Selection keyed = absurd (cc keyed)
-every_key_given family.Unit keyed = keys_of_family given family.Unit (keys_given family.Unit) refl
-every_key_given f keyed = keys_of_family given f (keys_given f) refl
+every_key_given family.Unit keyed = keys_of_family None given family.Unit (keys_given family.Unit) refl
+every_key_given f keyed = keys_of_family None given f (keys_given f) refl
 
 abbrev AreAlike : Family → Type 0
-AreAlike f = AgreeAt (records_of canonical f) (records_of given f) (keys_of f)
+AreAlike f = AgreeAt (records_of None canonical f) (records_of None given f) (keys_of f)
 
-by_keys : (f : Family) → has_keys f ≡ true → AreAmong (keys_of f) (keys_given f) → AreAlike f → (k : Key) → records_of canonical f k ≡ records_of given f k
-by_keys f keyed among agree = same_family canonical given f (keys_of f) (keys_given f) (every_key f keyed) (every_key_given f keyed) among agree
+by_keys : (f : Family) → has_keys f ≡ true → AreAmong (keys_of f) (keys_given f) → AreAlike f → (k : Key) → records_of None canonical f k ≡ records_of None given f k
+by_keys f keyed among agree = same_family None canonical given f (keys_of f) (keys_given f) (every_key f keyed) (every_key_given f keyed) among agree
 
-same_objects : (f : Family) (k : Key) → records_of canonical f k ≡ records_of given f k
+same_objects : (f : Family) (k : Key) → records_of None canonical f k ≡ records_of None given f k
 same_objects family.Unit = by_keys family.Unit refl ((1, lit< tt, refl), ((0, lit< tt, refl), tt)) (same_units.0, (same_units.1, tt))
 same_objects family.Party = by_keys family.Party refl ((0, lit< tt, refl), tt) (same_party, tt)
 same_objects family.Person = by_keys family.Person refl ((0, lit< tt, refl), tt) (same_person, tt)
@@ -322,5 +322,5 @@ same_objects family.Style = by_keys family.Style refl ((0, lit< tt, refl), tt) (
 same_objects family.Selection = λ k. refl
 
 -- they mean the same
-pub canonical_ballot_means_the_same : meaning (tree_of small_ballot_canonical) ≡ meaning (tree_of small_ballot)
-canonical_ballot_means_the_same = same_meaning canonical given same_report same_election same_objects
+pub canonical_ballot_means_the_same : meaning None (tree_of small_ballot_canonical) ≡ meaning None (tree_of small_ballot)
+canonical_ballot_means_the_same = same_meaning None None canonical given same_report same_election same_objects

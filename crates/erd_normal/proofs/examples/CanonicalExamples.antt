@@ -62,9 +62,9 @@ entries_at_place t p = unwrap_or (option_map (λ a. entries_of a.value) (asked_a
 -- units, candidates, contests; the selections of each contest; a set of references; translations
 abbrev orders : Data → List Step → List Step → List Bool
 orders t references translations =
-    map (λ f. rises (option_cmp key_cmp) (keys_in f t)) (family.Unit ∷ family.Candidate ∷ family.Contest ∷ [])
-    ++ (map (λ contest. rises (option_cmp name_cmp) (names_in t contest)) (contests t)
-    ++ rises (option_cmp key_cmp) (keys_referred t family.Candidate (entries_at_place t references)) ∷ rises compact_cmp (entries_at_place t translations) ∷ [])
+    map (λ f. rises (option_cmp key_cmp) (keys_in None f t)) (family.Unit ∷ family.Candidate ∷ family.Contest ∷ [])
+    ++ (map (λ contest. rises (option_cmp name_cmp) (names_in None t contest)) (contests t)
+    ++ rises (option_cmp key_cmp) (keys_referred None t family.Candidate (entries_at_place t references)) ∷ rises compact_cmp (entries_at_place t translations) ∷ [])
 
 canonical_orders : orders (tree_of small_ballot_canonical) (Name (codes "Election") ∷ At 0 ∷ Name (codes "Contest") ∷ At 0 ∷ Name (codes "ContestSelection") ∷ At 1 ∷ Name (codes "CandidateIds") ∷ []) (Name (codes "Election") ∷ At 0 ∷ Name (codes "Contest") ∷ At 1 ∷ Name (codes "ContestSelection") ∷ At 1 ∷ Name (codes "Selection") ∷ Name (codes "Text") ∷ [])
     ≡ true ∷ true ∷ true ∷ true ∷ true ∷ true ∷ true ∷ []
@@ -105,8 +105,8 @@ renamed_unit = refl
 -- exchanged twice the report is as it was; once, its units and the keys of a set of references stand the other way round
 exchanged_units : (let t = tree_of small_ballot in
     (changed (an_exchange (Name (codes "GpUnit") ∷ []) 0 1) (changed (an_exchange (Name (codes "GpUnit") ∷ []) 0 1) t) ≡ t)
-    × (rises (option_cmp key_cmp) (keys_in family.Unit (exchanged (Name (codes "GpUnit") ∷ []) 0 1 t)) ≡ true)
-    × (rises (option_cmp key_cmp) (keys_referred t family.Candidate (entries_at_place (exchanged (Name (codes "Election") ∷ At 0 ∷ Name (codes "Contest") ∷ At 0 ∷ Name (codes "ContestSelection") ∷ At 0 ∷ Name (codes "CandidateIds") ∷ []) 0 1 t) (Name (codes "Election") ∷ At 0 ∷ Name (codes "Contest") ∷ At 0 ∷ Name (codes "ContestSelection") ∷ At 0 ∷ Name (codes "CandidateIds") ∷ []))) ≡ true))
+    × (rises (option_cmp key_cmp) (keys_in None family.Unit (exchanged (Name (codes "GpUnit") ∷ []) 0 1 t)) ≡ true)
+    × (rises (option_cmp key_cmp) (keys_referred None t family.Candidate (entries_at_place (exchanged (Name (codes "Election") ∷ At 0 ∷ Name (codes "Contest") ∷ At 0 ∷ Name (codes "ContestSelection") ∷ At 0 ∷ Name (codes "CandidateIds") ∷ []) 0 1 t) (Name (codes "Election") ∷ At 0 ∷ Name (codes "Contest") ∷ At 0 ∷ Name (codes "ContestSelection") ∷ At 0 ∷ Name (codes "CandidateIds") ∷ []))) ≡ true))
 unfolding serde_json_on_literals
 exchanged_units = (refl, refl, refl)
 
@@ -129,7 +129,7 @@ unfolding serde_json_on_literals
 rearranged_ids = refl
 
 -- the selections are named by the same keys, in the same order
-rearranged_names : (let u = rearranged (tree_of small_ballot) in map (λ contest. map key_values (names_in u contest)) (contests u))
+rearranged_names : (let u = rearranged (tree_of small_ballot) in map (λ contest. map key_values (names_in None u contest)) (contests u))
     ≡ ((codes "K1" ∷ codes "K2" ∷ []) ∷ (codes "K3" ∷ []) ∷ [] ∷ []) ∷ ([] ∷ [] ∷ []) ∷ []
 unfolding serde_json_on_literals
 rearranged_names = refl

@@ -55,29 +55,29 @@ rising cmp (x ∷ xs) e =
 
 -- the same of the entries of a set of this kind
 abbrev rises_as : Data → MemberKind → List Data → Bool
-rises_as t (kind.Keyed family.Selection) ds = rises (option_cmp name_cmp) (map (name_of t) ds)
-rises_as t (kind.Keyed f) ds = rises (option_cmp key_cmp) (keys_of ds)
+rises_as t (kind.Keyed family.Selection) ds = rises (option_cmp name_cmp) (map (name_of None t) ds)
+rises_as t (kind.Keyed f) ds = rises (option_cmp key_cmp) (keys_of None ds)
 rises_as t kind.Identifiers ds = rises compact_cmp ds
 rises_as t kind.Languages ds = rises compact_cmp ds
-rises_as t (kind.Many f) ds = rises (option_cmp key_cmp) (keys_referred t f ds)
+rises_as t (kind.Many f) ds = rises (option_cmp key_cmp) (keys_referred None t f ds)
 rises_as t k ds = true
 
-keyed_rising : (t : Data) (f : Family) (ds : List Data) → rises_as t (kind.Keyed f) ds ≡ true → RisesAs t (kind.Keyed f) ds
-keyed_rising t family.Selection ds e = rising (option_cmp name_cmp) (map (name_of t) ds) e
-keyed_rising t family.Unit ds e = rising (option_cmp key_cmp) (keys_of ds) e
-keyed_rising t family.Party ds e = rising (option_cmp key_cmp) (keys_of ds) e
-keyed_rising t family.Person ds e = rising (option_cmp key_cmp) (keys_of ds) e
-keyed_rising t family.Office ds e = rising (option_cmp key_cmp) (keys_of ds) e
-keyed_rising t family.Header ds e = rising (option_cmp key_cmp) (keys_of ds) e
-keyed_rising t family.Candidate ds e = rising (option_cmp key_cmp) (keys_of ds) e
-keyed_rising t family.Contest ds e = rising (option_cmp key_cmp) (keys_of ds) e
-keyed_rising t family.Style ds e = rising (option_cmp key_cmp) (keys_of ds) e
+keyed_rising : (t : Data) (f : Family) (ds : List Data) → rises_as t (kind.Keyed f) ds ≡ true → RisesAs None t (kind.Keyed f) ds
+keyed_rising t family.Selection ds e = rising (option_cmp name_cmp) (map (name_of None t) ds) e
+keyed_rising t family.Unit ds e = rising (option_cmp key_cmp) (keys_of None ds) e
+keyed_rising t family.Party ds e = rising (option_cmp key_cmp) (keys_of None ds) e
+keyed_rising t family.Person ds e = rising (option_cmp key_cmp) (keys_of None ds) e
+keyed_rising t family.Office ds e = rising (option_cmp key_cmp) (keys_of None ds) e
+keyed_rising t family.Header ds e = rising (option_cmp key_cmp) (keys_of None ds) e
+keyed_rising t family.Candidate ds e = rising (option_cmp key_cmp) (keys_of None ds) e
+keyed_rising t family.Contest ds e = rising (option_cmp key_cmp) (keys_of None ds) e
+keyed_rising t family.Style ds e = rising (option_cmp key_cmp) (keys_of None ds) e
 
-rising_as : (t : Data) (k : MemberKind) (ds : List Data) → rises_as t k ds ≡ true → RisesAs t k ds
+rising_as : (t : Data) (k : MemberKind) (ds : List Data) → rises_as t k ds ≡ true → RisesAs None t k ds
 rising_as t (kind.Keyed f) ds e = keyed_rising t f ds e
 rising_as t kind.Identifiers ds e = rising compact_cmp ds e
 rising_as t kind.Languages ds e = rising compact_cmp ds e
-rising_as t (kind.Many f) ds e = rising (option_cmp key_cmp) (keys_referred t f ds) e
+rising_as t (kind.Many f) ds e = rising (option_cmp key_cmp) (keys_referred None t f ds) e
 rising_as t k ds e = tt
 
 -- a member of the table is no empty array, and rises if it is a set
@@ -93,7 +93,7 @@ not_false true e = absurd (true≢false (sym e))
 not_false false e = refl
 
 in_form : (t : Data) → are_in_form t ≡ true → (p : List Step) (a : Asked) (k : MemberKind) → asked_at t p ≡ Some a → kind_wanted a.want ≡ Some k
-    → (is_empty_array a.value ≡ false) × RisesAs t k (entries_of a.value)
+    → (is_empty_array a.value ≡ false) × RisesAs None t k (entries_of a.value)
 in_form t test p a k at wanted =
     let here : is_in_form t (kind_wanted a.want) a.value ≡ true = tested_at (λ x. is_in_form t (kind_wanted x.1.want) x.1.value) t test p a at in
     let both = and_true (not (is_empty_array a.value)) (rises_as t k (entries_of a.value)) (subst (λ o. is_in_form t o a.value ≡ true) wanted here) in
@@ -102,7 +102,7 @@ in_form t test p a k at wanted =
 no_empty_array : (t : Data) → are_in_form t ≡ true → HasNoEmptyArray t
 no_empty_array t test p a k at wanted = (in_form t test p a k at wanted).0
 
-sets_in_order : (t : Data) → are_in_form t ≡ true → AreSetsInOrder t
+sets_in_order : (t : Data) → are_in_form t ≡ true → AreSetsInOrder None t
 sets_in_order t test p a k at wanted = (in_form t test p a k at wanted).1
 
 -- ---- the canonical form of the report of one unit
@@ -118,7 +118,7 @@ no_shape_fault : length (faults_found canonical) ≡ 0
 unfolding serde_json_on_literals
 no_shape_fault = refl
 
-no_identity_fault : length (identity_told canonical) ≡ 0
+no_identity_fault : length (identity_told None canonical) ≡ 0
 unfolding serde_json_on_literals
 no_identity_fault = refl
 
@@ -126,7 +126,7 @@ no_reference_fault : length (reference_faults canonical) ≡ 0
 unfolding serde_json_on_literals
 no_reference_fault = refl
 
-no_selection_fault : length (selections_told canonical) ≡ 0
+no_selection_fault : length (selections_told None canonical) ≡ 0
 unfolding serde_json_on_literals
 no_selection_fault = refl
 
@@ -134,11 +134,11 @@ one_unit_in_form : are_in_form canonical ≡ true
 unfolding serde_json_on_literals
 one_unit_in_form = refl
 
-pub one_unit_canonical_is_accepted : IsAccepted canonical
+pub one_unit_canonical_is_accepted : IsAccepted None canonical
 one_unit_canonical_is_accepted =
-    accepted_by_lists canonical (tree_sound canonical one_unit_tree) (no_fault_listed canonical one_unit_tree no_shape_fault) no_identity_fault no_reference_fault no_selection_fault
+    accepted_by_lists None canonical (tree_sound canonical one_unit_tree) (no_fault_listed canonical one_unit_tree no_shape_fault) no_identity_fault no_reference_fault no_selection_fault
 
-pub one_unit_is_canonical : IsCanonical (tree_of one_unit_canonical)
+pub one_unit_is_canonical : IsCanonical None (tree_of one_unit_canonical)
 one_unit_is_canonical = record {
   accepted = one_unit_canonical_is_accepted;
   envelope = envelope_of_one_unit;
@@ -147,7 +147,7 @@ one_unit_is_canonical = record {
   ids = ids_of_one_unit;
 }
 
-pub form_of_one_unit : IsCanonicalFormOf (tree_of one_unit) (tree_of one_unit_canonical)
+pub form_of_one_unit : IsCanonicalFormOf None (tree_of one_unit) (tree_of one_unit_canonical)
 form_of_one_unit = record { canonical = one_unit_is_canonical; same = canonical_means_the_same }
 
 -- ---- the canonical form of the small ballot
@@ -156,7 +156,7 @@ small_ballot_in_form : are_in_form (tree_of small_ballot_canonical) ≡ true
 unfolding serde_json_on_literals
 small_ballot_in_form = refl
 
-pub small_ballot_is_canonical : IsCanonical (tree_of small_ballot_canonical)
+pub small_ballot_is_canonical : IsCanonical None (tree_of small_ballot_canonical)
 small_ballot_is_canonical = record {
   accepted = small_ballot_canonical_is_accepted;
   envelope = canonical_envelope;
@@ -165,7 +165,7 @@ small_ballot_is_canonical = record {
   ids = ids_of_small_ballot;
 }
 
-pub form_of_small_ballot : IsCanonicalFormOf (tree_of small_ballot) (tree_of small_ballot_canonical)
+pub form_of_small_ballot : IsCanonicalFormOf None (tree_of small_ballot) (tree_of small_ballot_canonical)
 form_of_small_ballot = record { canonical = small_ballot_is_canonical; same = canonical_ballot_means_the_same }
 
 -- a canonical form is nested no deeper than its report
@@ -174,6 +174,6 @@ unfolding serde_json_on_literals
 no_deeper = omega arith
 
 -- as its vendor wrote it, the small ballot is not canonical
-small_ballot_is_not : IsCanonical (tree_of small_ballot) → ⊥
+small_ballot_is_not : IsCanonical None (tree_of small_ballot) → ⊥
 unfolding serde_json_on_literals
 small_ballot_is_not h = absurd (cc h.envelope.format)

@@ -1,5 +1,5 @@
 -- The report of one unit and its canonical form mean the same.
-use Rattle.std.proofs.Common.{◌≡◌, ℕ, List, [], ◌∷◌, codes, slice_get, refl}
+use Rattle.std.proofs.Common.{◌≡◌, ℕ, List, [], ◌∷◌, codes, slice_get, refl, None}
 use Rattle.std.specs.Prelude.{option_map, unwrap_or}
 use Rattle.serde_json.specs.Data.{Data, null}
 use Rattle.serde_json.proofs.OnLiterals.{serde_json_on_literals}
@@ -30,25 +30,25 @@ election_in t = unwrap_or (option_map (λ o. o.value) (slice_get (elections t) 0
 abbrev unit_in : Data → Data
 unit_in t = unwrap_or (option_map (λ o. o.value) (slice_get (objects family.Unit t) 0)) null
 
-same_report : object_record canonical role.Report canonical ≡ object_record given role.Report given
+same_report : object_record None canonical role.Report canonical ≡ object_record None given role.Report given
 unfolding serde_json_on_literals
-same_report = same_object canonical given canonical given role.Report class.ElectionReport refl refl refl
+same_report = same_object None canonical given canonical given role.Report class.ElectionReport refl refl refl
 
-same_election : (meaning canonical).election ≡ (meaning given).election
+same_election : (meaning None canonical).election ≡ (meaning None given).election
 unfolding serde_json_on_literals
-same_election = same_object canonical given (election_in canonical) (election_in given) role.Election class.Election refl refl refl
+same_election = same_object None canonical given (election_in canonical) (election_in given) role.Election class.Election refl refl refl
 
-same_unit : records_of canonical family.Unit (local_key (codes "U1")) ≡ records_of given family.Unit (local_key (codes "U1"))
+same_unit : records_of None canonical family.Unit (local_key (codes "U1")) ≡ records_of None given family.Unit (local_key (codes "U1"))
 unfolding serde_json_on_literals
-same_unit = same_object canonical given (unit_in canonical) (unit_in given) (role.OfFamily family.Unit) class.ReportingUnit refl refl refl
+same_unit = same_object None canonical given (unit_in canonical) (unit_in given) (role.OfFamily family.Unit) class.ReportingUnit refl refl refl
 
-same_objects : (f : Family) (k : Key) → records_of canonical f k ≡ records_of given f k
+same_objects : (f : Family) (k : Key) → records_of None canonical f k ≡ records_of None given f k
 unfolding serde_json_on_literals
 same_objects family.Unit k =
-    same_at_every_key (records_of canonical family.Unit) (records_of given family.Unit) (local_key (codes "U1") ∷ []) (same_unit, tt)
-    (no_record canonical family.Unit) (no_record given family.Unit) k
+    same_at_every_key (records_of None canonical family.Unit) (records_of None given family.Unit) (local_key (codes "U1") ∷ []) (same_unit, tt)
+    (no_record None canonical family.Unit) (no_record None given family.Unit) k
 same_objects f k = refl
 
 -- they mean the same
-pub canonical_means_the_same : meaning (tree_of one_unit_canonical) ≡ meaning (tree_of one_unit)
-canonical_means_the_same = same_meaning canonical given same_report same_election same_objects
+pub canonical_means_the_same : meaning None (tree_of one_unit_canonical) ≡ meaning None (tree_of one_unit)
+canonical_means_the_same = same_meaning None None canonical given same_report same_election same_objects

@@ -56,10 +56,10 @@ module _ {A R : Type 0} (test passes : A → Bool) (n : A → A) (f g : A → Op
       at true later = all.0.1
       at false later = later
 
-  pub found_in_order : (cmp : A → A → Ordering) (xs : List A) → ((x y : A) → test x ≡ true → test y ≡ true → cmp x y ≡ Equal) → IsDistinct (eq_by_cmp cmp) xs → AllByRecursion IsKept xs
+  -- whatever the order is
+  pub found_in_order : (cmp : A → A → Ordering) (xs : List A) → AreApart test xs → AllByRecursion IsKept xs
       → option_and_then g (find passes (map n (rising_list cmp xs))) ≡ option_and_then f (find test xs)
-  found_in_order cmp xs tied untied all =
-      found_built (rising_list cmp xs) (all_rising IsKept cmp xs all) ∙ ap (option_and_then f) (find_rising test cmp xs (apart_untied test cmp xs tied untied))
+  found_in_order cmp xs apart all = found_built (rising_list cmp xs) (all_rising IsKept cmp xs all) ∙ ap (option_and_then f) (find_rising test cmp xs apart)
 
 -- what is found by a value
 pub find_values : {A B : Type 0} (test : B → Bool) (value : A → B) (xs : List A) → option_map value (find (λ x. test (value x)) xs) ≡ find test (map value xs)

@@ -6,7 +6,7 @@ use Rattle.std.proofs.lemmas.Map.Lookups.{CmpEqualImpliesEq}
 use Rattle.serde_json.specs.Data.{Data}
 use Rattle.serde_json.specs.Find.{as_str}
 use Rattle.erd_tables.specs.declared.class.Family.{Family}
-use Rattle.erd_meaning.specs.Keys.{key_cmp}
+use Rattle.erd_meaning.specs.Keys.{Preference, key_cmp}
 use Rattle.erd_meaning.specs.code.Orders.{key_cmp_exact, key_cmp_total}
 use Rattle.erd_meaning.specs.SelectionNames.{key_named, keys_named, rising_list, with_inserted}
 use Rattle.erd_normal.proofs.lists.RisingOrders.{is_less, greater_turned, less_turned}
@@ -69,5 +69,5 @@ module _ {A : Type 0} {cmp : A → A → Ordering} (order : IsTotalOrder cmp) wh
     rising_kept_again f other = whole-rising (λ xs. rising_list cmp (filter_map f xs)) (λ x. with_kept (f x)) (λ x xs. kept_step (f x) (filter_map f xs)) (λ x y. kept_exchange (f x) (f y)) other
 
 -- the keys that references name, in rising order, in whichever order the references came
-pub rising_keys_named : (t : Data) (f : Family) (other : Data → Data → Ordering) (ds : List Data) → rising_list key_cmp (keys_named t f (rising_list other ds)) ≡ rising_list key_cmp (keys_named t f ds)
-rising_keys_named t f other ds = rising_kept_again key_cmp_total key_cmp_exact (λ r. option_and_then (key_named t f) (as_str r)) other ds
+pub rising_keys_named : (π : Preference) (t : Data) (f : Family) (other : Data → Data → Ordering) (ds : List Data) → rising_list key_cmp (keys_named π t f (rising_list other ds)) ≡ rising_list key_cmp (keys_named π t f ds)
+rising_keys_named π t f other ds = rising_kept_again key_cmp_total key_cmp_exact (λ r. option_and_then (key_named π t f) (as_str r)) other ds

@@ -1,4 +1,4 @@
--- What is built of a value means in the report that is built what the value means, but for the order of a ballot.
+-- What is built of a value means in the report that is built what the value means, under any preference, but for the order of a ballot.
 use Rattle.std.proofs.Common.{◌≡◌, ◌<◌, ◌^◌, ℕ, suc, List, [], ◌∷◌, map, filter_map, length, Bool, true, false, Option, Some, None, is_some, option_and_then, refl, sym, ap, ap₂, ◌∙◌, subst, arith}
 use Rattle.std.specs.List.{AllByRecursion, cons_option}
 use Rattle.serde_json.specs.Data.{Data, array, Items, no_items, item}
@@ -16,7 +16,7 @@ use Rattle.erd_check.specs.declared.want.Want.TheVariants.{Member, Reference}
 use Rattle.erd_check.proofs.Entries.{string_from_text}
 use Rattle.erd_check.proofs.Shapes.{Within, Within-step, wanted_within}
 use Rattle.erd_meaning.specs.Accepted.{IsAccepted}
-use Rattle.erd_meaning.specs.Keys.{has_keys, key_of}
+use Rattle.erd_meaning.specs.Keys.{Preference, has_keys, key_of}
 use Rattle.erd_meaning.specs.Meaning.{a_json_set, a_key, a_key_set, a_label}
 use Rattle.erd_meaning.specs.Objects.{objects, owner}
 use Rattle.erd_meaning.specs.Records.{json_set, key_set, plain_value, unless_empty}
@@ -99,45 +99,46 @@ nothing_of f (Some x) none = none x
 
 -- ---- values
 
-module _ (t : Data) (accepted : IsAccepted t) (tree : IsTree t) (few : (f : Family) → length (objects f t) < 2 ^ 64) where
+-- the tree is built under one preference, and what stands in it is read under another
+module _ (π ρ : Preference) (t : Data) (accepted : IsAccepted π t) (tree : IsTree t) (few : (f : Family) → length (objects f t) < 2 ^ 64) where
   -- a reference that is built names an object of the same key
   pub reference_meant : (f : Family) (d : Data) → is_referred f ≡ true → Within t (asked (Reference f) d)
-      → key_named (normal_tree t) f (normal_id t f (text_of d)) ≡ option_and_then (key_named t f) (as_str d)
+      → key_named ρ (normal_tree π t) f (normal_id π t f (text_of d)) ≡ option_and_then (key_named ρ t f) (as_str d)
   reference_meant f d is w =
       let p = letters_of f is in
-      let s = string_from_text d (wanted_within t (no_shape_fault t accepted) (asked (Reference f) d) w) in
-      let k = resolves t accepted f s.0 p.0 (subst (λ x. Within t (asked (Reference f) x)) s.1 w) in
-      let o = found_first key_of (owner t f s.0) k.0 k.1 in
-      ap (λ x. key_named (normal_tree t) f (normal_id t f (text_of x))) s.1
-      ∙ key_named_built t accepted tree f p.0 (few f) p.1 s.0 o.0 p.2 o.1
-      ∙ sym (ap (λ x. option_and_then (key_named t f) (as_str x)) s.1)
+      let s = string_from_text d (wanted_within t (no_shape_fault π t accepted) (asked (Reference f) d) w) in
+      let k = resolves π t accepted f s.0 p.0 (subst (λ x. Within t (asked (Reference f) x)) s.1 w) in
+      let o = found_first (key_of π) (owner t f s.0) k.0 k.1 in
+      ap (λ x. key_named ρ (normal_tree π t) f (normal_id π t f (text_of x))) s.1
+      ∙ key_named_built π ρ t accepted tree f p.0 (few f) p.1 s.0 o.0 p.2 o.1
+      ∙ sym (ap (λ x. option_and_then (key_named ρ t f) (as_str x)) s.1)
 
   -- the entry of a set of references means the same
   abbrev IsMeant : Family → Data → Type 0
-  IsMeant f d = option_and_then (key_named (normal_tree t) f) (as_str (normal_reference t f d)) ≡ option_and_then (key_named t f) (as_str d)
+  IsMeant f d = option_and_then (key_named ρ (normal_tree π t) f) (as_str (normal_reference π t f d)) ≡ option_and_then (key_named ρ t f) (as_str d)
 
   entries_meant : (f : Family) (r : Bool) (ds : Items) → is_referred f ≡ true → Within t (asked (Member (kind.Many f) r) (array ds)) → AllByRecursion (IsMeant f) (list_of_items ds)
   entries_meant f r ds is w =
       all_items (IsMeant f) ds (λ i d e.
-      reference_meant f d is (unrepeated_reference t accepted f d (is_repeated ds i d)
+      reference_meant f d is (unrepeated_reference π t accepted f d (is_repeated ds i d)
       (Within-step t (asked (Member (kind.Many f) r) (array ds)) (record { want = Reference f; value = d; repeated = is_repeated ds i d }) (At i) w (rw e))))
 
   keys_meant : (f : Family) (r : Bool) (d : Data) → is_referred f ≡ true → is_array d ≡ true → Within t (asked (Member (kind.Many f) r) d)
-      → key_set (keys_named (normal_tree t) f (map (normal_reference t f) (rising_list (reference_cmp t f) (entries_of d)))) ≡ key_set (keys_named t f (entries_of d))
+      → key_set (keys_named ρ (normal_tree π t) f (map (normal_reference π t f) (rising_list (reference_cmp π t f) (entries_of d)))) ≡ key_set (keys_named ρ t f (entries_of d))
   keys_meant f r (array ds) is listed w =
-      ap key_set (kept_map (λ x. option_and_then (key_named (normal_tree t) f) (as_str x)) (λ x. option_and_then (key_named t f) (as_str x)) (normal_reference t f)
-      (rising_list (reference_cmp t f) (list_of_items ds)) (all_rising (IsMeant f) (reference_cmp t f) (list_of_items ds) (entries_meant f r ds is w)))
-      ∙ keys_named-rising t f (reference_cmp t f) (list_of_items ds)
+      ap key_set (kept_map (λ x. option_and_then (key_named ρ (normal_tree π t) f) (as_str x)) (λ x. option_and_then (key_named ρ t f) (as_str x)) (normal_reference π t f)
+      (rising_list (reference_cmp π t f) (list_of_items ds)) (all_rising (IsMeant f) (reference_cmp π t f) (list_of_items ds) (entries_meant f r ds is w)))
+      ∙ keys_named-rising ρ t f (reference_cmp π t f) (list_of_items ds)
   keys_meant f r d is listed w = cc
 
   many_meant : (f : Family) (r : Bool) (d : Data) → is_referred f ≡ true → Within t (asked (Member (kind.Many f) r) d)
-      → option_and_then (plain_value (normal_tree t) (kind.Many f)) (normal_value t (kind.Many f) d) ≡ plain_value t (kind.Many f) d
+      → option_and_then (plain_value ρ (normal_tree π t) (kind.Many f)) (normal_value π t (kind.Many f) d) ≡ plain_value ρ t (kind.Many f) d
   many_meant f r d is w =
-      let listed : is_array d ≡ true = wanted_within t (no_shape_fault t accepted) (asked (Member (kind.Many f) r) d) w in
-      let rising : List Data = rising_list (reference_cmp t f) (entries_of d) in
-      arranged_meant (λ ds. a_key_set (key_set (keys_named (normal_tree t) f ds))) (λ ds. a_key_set (key_set (keys_named t f ds)))
-      (λ ds. map (normal_reference t f) (rising_list (reference_cmp t f) ds)) d listed
-      (length-map rising (normal_reference t f) ∙ length-rising (reference_cmp t f) (entries_of d))
+      let listed : is_array d ≡ true = wanted_within t (no_shape_fault π t accepted) (asked (Member (kind.Many f) r) d) w in
+      let rising : List Data = rising_list (reference_cmp π t f) (entries_of d) in
+      arranged_meant (λ ds. a_key_set (key_set (keys_named ρ (normal_tree π t) f ds))) (λ ds. a_key_set (key_set (keys_named ρ t f ds)))
+      (λ ds. map (normal_reference π t f) (rising_list (reference_cmp π t f) ds)) d listed
+      (length-map rising (normal_reference π t f) ∙ length-rising (reference_cmp π t f) (entries_of d))
       (ap a_key_set (keys_meant f r d is listed w))
 
   -- a set of JSON values in order
@@ -148,12 +149,12 @@ module _ (t : Data) (accepted : IsAccepted t) (tree : IsTree t) (few : (f : Fami
       (length-rising compact_cmp (entries_of d)) (ap a_json_set (json_set-rising compact_cmp (entries_of d)))
 
   -- a value that is asked for as a member of the kind
-  pub value_meant : (k : MemberKind) (d : Data) → is_flat k ≡ true → AskedAs t k d → option_and_then (plain_value (normal_tree t) k) (normal_value t k d) ≡ plain_value t k d
+  pub value_meant : (k : MemberKind) (d : Data) → is_flat k ≡ true → AskedAs t k d → option_and_then (plain_value ρ (normal_tree π t) k) (normal_value π t k d) ≡ plain_value ρ t k d
   value_meant kind.Label d flat a = ap (λ l. Some (a_label l)) (label_of-rising d)
   value_meant (kind.One f) d flat a = ap (λ k. Some (a_key k)) (reference_meant f d flat a.1)
   value_meant (kind.Many f) d flat a = many_meant f a.0 d flat a.1
-  value_meant kind.Identifiers d flat a = set_meant d (wanted_within t (no_shape_fault t accepted) (asked (Member kind.Identifiers a.0) d) a.1)
-  value_meant kind.Languages d flat a = set_meant d (wanted_within t (no_shape_fault t accepted) (asked (Member kind.Languages a.0) d) a.1)
+  value_meant kind.Identifiers d flat a = set_meant d (wanted_within t (no_shape_fault π t accepted) (asked (Member kind.Identifiers a.0) d) a.1)
+  value_meant kind.Languages d flat a = set_meant d (wanted_within t (no_shape_fault π t accepted) (asked (Member kind.Languages a.0) d) a.1)
   value_meant kind.Content d flat a = cc
-  value_meant kind.Ordered d flat a = nothing_of (plain_value (normal_tree t) kind.Ordered) (normal_value t kind.Ordered d) (λ v. refl)
+  value_meant kind.Ordered d flat a = nothing_of (plain_value ρ (normal_tree π t) kind.Ordered) (normal_value π t kind.Ordered d) (λ v. refl)
   value_meant k d flat a = refl

@@ -11,7 +11,7 @@ use Rattle.erd_tables.specs.declared.class.Family.{Family}
 use Rattle.erd_check.specs.Trees.{is_same_json}
 use Rattle.erd_check.specs.Values.{entries_of, entries_at}
 use Rattle.erd_check.proofs.Exact.{text_itself}
-use Rattle.erd_meaning.specs.Keys.{key_cmp}
+use Rattle.erd_meaning.specs.Keys.{Preference, key_cmp}
 use Rattle.erd_meaning.specs.Meaning.{translated}
 use Rattle.erd_meaning.specs.Records.{label_beside_text, json_set, key_set, label_of}
 use Rattle.erd_meaning.specs.SelectionNames.{compact_cmp, key_named, keys_named, rising_list, with_rising_text}
@@ -24,8 +24,8 @@ pub json_set-rising : (cmp : Data → Data → Ordering) (ds : List Data) → js
 json_set-rising cmp ds = fun_ext (λ d. any-rising cmp (is_same_json d) ds)
 
 -- the keys that the references of a sorted array name
-pub keys_named-rising : (t : Data) (f : Family) (cmp : Data → Data → Ordering) (ds : List Data) → key_set (keys_named t f (rising_list cmp ds)) ≡ key_set (keys_named t f ds)
-keys_named-rising t f cmp ds = fun_ext (λ k. any_filter_map-rising cmp (λ r. option_and_then (key_named t f) (as_str r)) (λ l. is_eq (key_cmp l k)) ds)
+pub keys_named-rising : (π : Preference) (t : Data) (f : Family) (cmp : Data → Data → Ordering) (ds : List Data) → key_set (keys_named π t f (rising_list cmp ds)) ≡ key_set (keys_named π t f ds)
+keys_named-rising π t f cmp ds = fun_ext (λ k. any_filter_map-rising cmp (λ r. option_and_then (key_named π t f) (as_str r)) (λ l. is_eq (key_cmp l k)) ds)
 
 -- ---- labels
 

@@ -9,7 +9,7 @@ use Rattle.serde_json.specs.Data.{Data}
 use Rattle.serde_json.specs.View.{items_of, items_view, view}
 use Rattle.serde_json.specs.Written.{has_float, items_have_float}
 use Rattle.serde_json.specs.declared.value.Value.{Value}
-use Rattle.erd_meaning.specs.Keys.{key_cmp, key_of}
+use Rattle.erd_meaning.specs.Keys.{Preference, key_cmp, key_of}
 use Rattle.erd_meaning.specs.NameParts.{NameParts}
 use Rattle.erd_meaning.specs.code.Orders.{key_cmp_total, name_cmp_total}
 use Rattle.erd_meaning.specs.SelectionNames.{name_cmp, name_of, rising_list}
@@ -47,14 +47,14 @@ placed_more see g f built vs i v x low here new earlier =
 
 -- ---- sorted
 
-module _ {T : Type 0} (value : T → Data) where
-  pub objects_in_order : (old new : List (Option Key × T)) (vs : List Value) → IsStablySorted (option_cmp key_cmp) old new → map (λ p. (p.0, value p.1)) old ≡ map (λ v. beside_own_key (view v)) vs
-      → map (λ (p : Option Key × T). value p.1) new ≡ rising_list by_key (map view vs)
-  objects_in_order old new vs sorted pairs = rising_by_part (option_cmp key_cmp) (options_total key_cmp_total) key_of value view old new vs sorted pairs
+module _ (π : Preference) {T : Type 0} (value : T → Data) where
+  pub objects_in_order : (old new : List (Option Key × T)) (vs : List Value) → IsStablySorted (option_cmp key_cmp) old new → map (λ p. (p.0, value p.1)) old ≡ map (λ v. beside_own_key π (view v)) vs
+      → map (λ (p : Option Key × T). value p.1) new ≡ rising_list (by_key π) (map view vs)
+  objects_in_order old new vs sorted pairs = rising_by_part (option_cmp key_cmp) (options_total key_cmp_total) (key_of π) value view old new vs sorted pairs
 
   pub selections_in_order : (u : Data) (old new : List (Option NameParts × T)) (vs : List Value) → IsStablySorted (option_cmp name_cmp) old new
-      → map (λ p. beside_name p.0 (value p.1)) old ≡ map (λ v. beside_name (name_of u (view v)) (view v)) vs → map (λ (p : Option NameParts × T). value p.1) new ≡ rising_list (by_name u) (map view vs)
-  selections_in_order u old new vs sorted pairs = rising_by_part (option_cmp name_cmp) (options_total name_cmp_total) (name_of u) value view old new vs sorted pairs
+      → map (λ p. beside_name p.0 (value p.1)) old ≡ map (λ v. beside_name (name_of π u (view v)) (view v)) vs → map (λ (p : Option NameParts × T). value p.1) new ≡ rising_list (by_name π u) (map view vs)
+  selections_in_order u old new vs sorted pairs = rising_by_part (option_cmp name_cmp) (options_total name_cmp_total) (name_of π u) value view old new vs sorted pairs
 
 -- ---- without fractions
 

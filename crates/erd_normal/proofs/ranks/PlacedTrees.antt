@@ -25,7 +25,7 @@ use Rattle.erd_meaning.proofs.accepted.Skeleton.{Skeleton, skeleton}
 use Rattle.erd_meaning.proofs.accepted.SoleElection.{SoleElection, only_sole, sole_election}
 use Rattle.erd_meaning.proofs.accepted.Standing.{stands}
 use Rattle.erd_meaning.specs.Accepted.{IsAccepted}
-use Rattle.erd_meaning.specs.Keys.{has_keys}
+use Rattle.erd_meaning.specs.Keys.{Preference, has_keys}
 use Rattle.erd_meaning.specs.Objects.{Placed, objects}
 use Rattle.erd_meaning.specs.SelectionNames.{rising_list, selection_role}
 use Rattle.erd_normal.proofs.built.BuiltFrom.{Builder}
@@ -38,8 +38,8 @@ use Rattle.erd_normal.proofs.lists.RisingSets.{has_rising}
 use Rattle.erd_check.proofs.Whole.{get_member-later}
 
 -- the report, with objects and selections numbered by their places
-abbrev pub placed_tree : Data → Data
-placed_tree t = in_envelope (normal_object_with (placed_report_value t) (class_of_object role.Report t) t)
+abbrev pub placed_tree : Preference → Data → Data
+placed_tree π t = in_envelope (normal_object_with (placed_report_value π t) (class_of_object role.Report t) t)
 
 -- ---- lists and members
 
@@ -61,55 +61,55 @@ members_agree f g c (member k d ms) rise each =
     ap₂ (λ r rest. option_map_or (λ v. member k v rest) r rest) (each k d (get_member-first k d ms))
     (members_agree f g c ms rise.2 (λ name e found. each name e (get_member-later k name d e ms rise found)))
 
-module _ (t : Data) (accepted : IsAccepted t) (tree : IsTree t) where
+module _ (π : Preference) (t : Data) (accepted : IsAccepted π t) (tree : IsTree t) where
   -- ---- the selections of a contest
 
-  selections_agree : (i : ℕ) (contest : Placed) → Has (objects family.Contest t) contest → slice_get (rising_list by_key (map (λ o. o.value) (objects family.Contest t))) i ≡ Some contest.value
-      → map_from (placed_selection t (i + 1)) 1 (rising_list (by_name t) (entries_at (codes "ContestSelection") contest.value))
-      ≡ map (normal_selection t contest.value) (rising_list (by_name t) (entries_at (codes "ContestSelection") contest.value))
+  selections_agree : (i : ℕ) (contest : Placed) → Has (objects family.Contest t) contest → slice_get (rising_list (by_key π) (map (λ o. o.value) (objects family.Contest t))) i ≡ Some contest.value
+      → map_from (placed_selection π t (i + 1)) 1 (rising_list (by_name π t) (entries_at (codes "ContestSelection") contest.value))
+      ≡ map (normal_selection π t contest.value) (rising_list (by_name π t) (entries_at (codes "ContestSelection") contest.value))
   selections_agree i contest h e =
-      map_by_place (placed_selection t (i + 1)) (normal_selection t contest.value) 1 (rising_list (by_name t) (entries_at (codes "ContestSelection") contest.value))
-      (λ j d at. ap (λ id. with_id (Some id) (normal_object_with (λ name k v. normal_value t k v) (class_of_object selection_role d) d)) (sym (selection_ids t accepted contest h i j d e at)))
+      map_by_place (placed_selection π t (i + 1)) (normal_selection π t contest.value) 1 (rising_list (by_name π t) (entries_at (codes "ContestSelection") contest.value))
+      (λ j d at. ap (λ id. with_id (Some id) (normal_object_with (λ name k v. normal_value π t k v) (class_of_object selection_role d) d)) (sym (selection_ids π t accepted contest h i j d e at)))
 
   -- ---- an object of a family
 
-  module _ (f : Family) (i : ℕ) (o : Placed) (h : Has (objects f t) o) (e : slice_get (rising_list by_key (map (λ o. o.value) (objects f t))) i ≡ Some o.value) where
+  module _ (f : Family) (i : ℕ) (o : Placed) (h : Has (objects f t) o) (e : slice_get (rising_list (by_key π) (map (λ o. o.value) (objects f t))) i ≡ Some o.value) where
     object_value : (c : Class) (ms : Members) (name : List ℕ) (v : Data) → role_of_class c ≡ role.OfFamily f → o.value ≡ object ms → get_member name ms ≡ Some v
-        → (k : MemberKind) → kind_of_member c name ≡ k → placed_object_value t (i + 1) k v ≡ normal_object_value t o.value k v
+        → (k : MemberKind) → kind_of_member c name ≡ k → placed_object_value π t (i + 1) k v ≡ normal_object_value π t o.value k v
     object_value c ms name v of is found (kind.Keyed family.Selection) named =
         let called : name ≡ codes "ContestSelection" = keyed_name c name family.Selection named in
         let contest : f ≡ family.Contest = contest_of_selections c f of (ap (kind_of_member c) (sym called) ∙ named) in
         let here : entries_at (codes "ContestSelection") o.value ≡ entries_of v = ap (entries_at (codes "ContestSelection")) is ∙ ap (λ x. option_map_or entries_of x []) (ap (λ n. get_member n ms) (sym called) ∙ found) in
         ap (λ ds. unless_no_entry v (array_of ds))
-        (subst (λ ds. map_from (placed_selection t (i + 1)) 1 (rising_list (by_name t) ds) ≡ map (normal_selection t o.value) (rising_list (by_name t) ds)) here
-        (selections_agree i o (subst (λ g. Has (objects g t) o) contest h) (subst (λ g. slice_get (rising_list by_key (map (λ o. o.value) (objects g t))) i ≡ Some o.value) contest e)))
+        (subst (λ ds. map_from (placed_selection π t (i + 1)) 1 (rising_list (by_name π t) ds) ≡ map (normal_selection π t o.value) (rising_list (by_name π t) ds)) here
+        (selections_agree i o (subst (λ g. Has (objects g t) o) contest h) (subst (λ g. slice_get (rising_list (by_key π) (map (λ o. o.value) (objects g t))) i ≡ Some o.value) contest e)))
     object_value c ms name v of is found k named = refl
 
-    object_agrees : has_keys f ≡ true → placed_object t f (i + 1) o.value ≡ normal_object t f o.value
+    object_agrees : has_keys f ≡ true → placed_object π t f (i + 1) o.value ≡ normal_object π t f o.value
     object_agrees keyed =
-        let w : Within t (asked (Object (role.OfFamily f)) o.value) = record { place = o.place; is = stands t accepted f o h } in
-        let x : ObjectIn t (role.OfFamily f) o.value = object_in t (no_shape_fault t accepted) (role.OfFamily f) o.value w in
+        let w : Within t (asked (Object (role.OfFamily f)) o.value) = record { place = o.place; is = stands π t accepted f o h } in
+        let x : ObjectIn t (role.OfFamily f) o.value = object_in t (no_shape_fault π t accepted) (role.OfFamily f) o.value w in
         let trees : AreMembers x.ms = subst IsTree x.is_object (within-tree t (asked (Object (role.OfFamily f)) o.value) tree w) in
         let among : class_of_object (role.OfFamily f) o.value ≡ Some x.class = ap (class_of_object (role.OfFamily f)) x.is_object ∙ x.at.among in
-        let left : Builder = λ name k v. placed_object_value t (i + 1) k v in
-        let right : Builder = λ name k v. normal_object_value t o.value k v in
+        let left : Builder = λ name k v. placed_object_value π t (i + 1) k v in
+        let right : Builder = λ name k v. normal_object_value π t o.value k v in
         let members : normal_object_with left (Some x.class) (object x.ms) ≡ normal_object_with right (Some x.class) (object x.ms) =
         ap object (members_agree left right x.class x.ms trees (λ name v found. object_value x.class x.ms name v x.role x.is_object found (kind_of_member x.class name) refl)) in
         let whole : normal_object_with left (class_of_object (role.OfFamily f) o.value) o.value ≡ normal_object_with right (class_of_object (role.OfFamily f) o.value) o.value =
         ap₂ (normal_object_with left) among x.is_object ∙ (members ∙ sym (ap₂ (normal_object_with right) among x.is_object)) in
-        ap₂ with_id (sym (object_ids t accepted f i o.value keyed e)) whole
+        ap₂ with_id (sym (object_ids π t accepted f i o.value keyed e)) whole
 
   -- ---- the objects of a family
 
-  objects_agree : (f : Family) → has_keys f ≡ true → (ds : List Data) → map (λ o. o.value) (objects f t) ≡ ds → placed_objects t f ds ≡ map (normal_object t f) (rising_list by_key ds)
+  objects_agree : (f : Family) → has_keys f ≡ true → (ds : List Data) → map (λ o. o.value) (objects f t) ≡ ds → placed_objects π t f ds ≡ map (normal_object π t f) (rising_list (by_key π) ds)
   objects_agree f keyed ds is =
-      subst (λ ds. placed_objects t f ds ≡ map (normal_object t f) (rising_list by_key ds)) is
-      (map_by_place (placed_object t f) (normal_object t f) 1 (rising_list by_key (map (λ o. o.value) (objects f t))) each)
+      subst (λ ds. placed_objects π t f ds ≡ map (normal_object π t f) (rising_list (by_key π) ds)) is
+      (map_by_place (placed_object π t f) (normal_object π t f) 1 (rising_list (by_key π) (map (λ o. o.value) (objects f t))) each)
     where
-      each : (i : ℕ) (d : Data) → slice_get (rising_list by_key (map (λ o. o.value) (objects f t))) i ≡ Some d → placed_object t f (i + 1) d ≡ normal_object t f d
+      each : (i : ℕ) (d : Data) → slice_get (rising_list (by_key π) (map (λ o. o.value) (objects f t))) i ≡ Some d → placed_object π t f (i + 1) d ≡ normal_object π t f d
       each i d at =
-          let o = map_has (λ (o : Placed). o.value) (objects f t) d (has_rising by_key (map (λ o. o.value) (objects f t)) d (has_at (rising_list by_key (map (λ o. o.value) (objects f t))) i d at)) in
-          subst (λ x. placed_object t f (i + 1) x ≡ normal_object t f x) o.2
+          let o = map_has (λ (o : Placed). o.value) (objects f t) d (has_rising (by_key π) (map (λ o. o.value) (objects f t)) d (has_at (rising_list (by_key π) (map (λ o. o.value) (objects f t))) i d at)) in
+          subst (λ x. placed_object π t f (i + 1) x ≡ normal_object π t f x) o.2
           (object_agrees f i o.0 o.1 (at ∙ ap Some (sym o.2)) keyed)
 
   -- ---- the election
@@ -119,7 +119,7 @@ module _ (t : Data) (accepted : IsAccepted t) (tree : IsTree t) where
     keyed_in_election family.Selection is = cc
     keyed_in_election f is = refl
 
-    election_value : (name : List ℕ) (v : Data) → get_member name sole.members ≡ Some v → (k : MemberKind) → kind_of_member class.Election name ≡ k → placed_election_value t k v ≡ normal_election_value t k v
+    election_value : (name : List ℕ) (v : Data) → get_member name sole.members ≡ Some v → (k : MemberKind) → kind_of_member class.Election name ≡ k → placed_election_value π t k v ≡ normal_election_value π t k v
     election_value name v found (kind.Keyed f) named =
         let called : name ≡ family_name f = keyed_name class.Election name f named in
         let is : kind_of_member class.Election (family_name f) ≡ kind.Keyed f = ap (kind_of_member class.Election) (sym called) ∙ named in
@@ -127,19 +127,19 @@ module _ (t : Data) (accepted : IsAccepted t) (tree : IsTree t) where
         (objects_agree f (keyed_in_election f is) (entries_of v) (election_objects_are t s sole f v is (ap (λ n. get_member n sole.members) (sym called) ∙ found)))
     election_value name v found k named = refl
 
-    election_agrees : placed_election t (object sole.members) ≡ normal_election t (object sole.members)
+    election_agrees : placed_election π t (object sole.members) ≡ normal_election π t (object sole.members)
     election_agrees =
-        let left : Builder = λ name k v. placed_election_value t k v in
-        let right : Builder = λ name k v. normal_election_value t k v in
+        let left : Builder = λ name k v. placed_election_value π t k v in
+        let right : Builder = λ name k v. normal_election_value π t k v in
         let trees : AreMembers sole.members = within-tree t (asked (Object role.Election) (object sole.members)) tree sole.at.inside in
         let members : normal_object_with left (Some class.Election) (object sole.members) ≡ normal_object_with right (Some class.Election) (object sole.members) =
         ap object (members_agree left right class.Election sole.members trees (λ name v found. election_value name v found (kind_of_member class.Election name) refl)) in
         ap (λ c. normal_object_with left c (object sole.members)) sole.at.among ∙ (members ∙ sym (ap (λ c. normal_object_with right c (object sole.members)) sole.at.among))
 
-    elections_agree : map (placed_election t) (list_of_items s.es) ≡ map (normal_election t) (list_of_items s.es)
+    elections_agree : map (placed_election π t) (list_of_items s.es) ≡ map (normal_election π t) (list_of_items s.es)
     elections_agree =
-        maps_agree (placed_election t) (normal_election t) (list_of_items s.es)
-        (λ d h. subst (λ x. placed_election t x ≡ normal_election t x) (sym (only_sole t s sole d h)) election_agrees)
+        maps_agree (placed_election π t) (normal_election π t) (list_of_items s.es)
+        (λ d h. subst (λ x. placed_election π t x ≡ normal_election π t x) (sym (only_sole t s sole d h)) election_agrees)
 
     -- ---- the report
 
@@ -147,7 +147,7 @@ module _ (t : Data) (accepted : IsAccepted t) (tree : IsTree t) where
     keyed_in_report family.Selection is = cc
     keyed_in_report f is = refl
 
-    report_value : (name : List ℕ) (v : Data) → get_member name s.ms ≡ Some v → (k : MemberKind) → kind_of_member class.ElectionReport name ≡ k → placed_report_value t name k v ≡ normal_report_value t name k v
+    report_value : (name : List ℕ) (v : Data) → get_member name s.ms ≡ Some v → (k : MemberKind) → kind_of_member class.ElectionReport name ≡ k → placed_report_value π t name k v ≡ normal_report_value π t name k v
     report_value name v found (kind.Keyed f) named =
         let called : name ≡ family_name f = keyed_name class.ElectionReport name f named in
         let is : kind_of_member class.ElectionReport (family_name f) ≡ kind.Keyed f = ap (kind_of_member class.ElectionReport) (sym called) ∙ named in
@@ -157,14 +157,14 @@ module _ (t : Data) (accepted : IsAccepted t) (tree : IsTree t) where
         let called : name ≡ codes "Election" = elections_name class.ElectionReport name named in
         let listed : Some v ≡ Some (array s.es) = sym found ∙ (ap (λ n. get_member n s.ms) called ∙ s.listed) in
         let same : v ≡ array s.es = cc in
-        subst (λ x. Some (array_of (map (placed_election t) (entries_of x))) ≡ Some (array_of (map (normal_election t) (entries_of x)))) (sym same)
+        subst (λ x. Some (array_of (map (placed_election π t) (entries_of x))) ≡ Some (array_of (map (normal_election π t) (entries_of x)))) (sym same)
         (ap (λ ds. Some (array_of ds)) elections_agree)
     report_value name v found k named = refl
 
-    report_agrees : placed_tree t ≡ normal_tree t
+    report_agrees : placed_tree π t ≡ normal_tree π t
     report_agrees =
-        let left : Builder = placed_report_value t in
-        let right : Builder = normal_report_value t in
+        let left : Builder = placed_report_value π t in
+        let right : Builder = normal_report_value π t in
         let trees : AreMembers s.ms = subst IsTree s.is_object tree in
         let among : class_of_object role.Report t ≡ Some class.ElectionReport = ap (class_of_object role.Report) s.is_object ∙ s.report.among in
         let members : normal_object_with left (Some class.ElectionReport) (object s.ms) ≡ normal_object_with right (Some class.ElectionReport) (object s.ms) =
@@ -172,5 +172,5 @@ module _ (t : Data) (accepted : IsAccepted t) (tree : IsTree t) where
         ap in_envelope (ap₂ (normal_object_with left) among s.is_object ∙ (members ∙ sym (ap₂ (normal_object_with right) among s.is_object)))
 
   -- the tree with numbers by places is the tree that is built
-  pub placed_is_normal : placed_tree t ≡ normal_tree t
-  placed_is_normal = let s : Skeleton t = skeleton t accepted in report_agrees s (sole_election t (no_shape_fault t accepted) s)
+  pub placed_is_normal : placed_tree π t ≡ normal_tree π t
+  placed_is_normal = let s : Skeleton t = skeleton π t accepted in report_agrees s (sole_election t (no_shape_fault π t accepted) s)

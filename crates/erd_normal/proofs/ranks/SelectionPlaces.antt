@@ -14,6 +14,7 @@ use Rattle.erd_tables.specs.declared.place.Step.{Step}
 use Rattle.erd_tables.specs.declared.place.Step.TheVariants.{Name}
 use Rattle.erd_check.proofs.Rising.{Has}
 use Rattle.erd_meaning.proofs.finding.OneObject.{in_at}
+use Rattle.erd_meaning.specs.Keys.{Preference}
 use Rattle.erd_meaning.specs.Accepted.{IsAccepted}
 use Rattle.erd_check.specs.Values.{entries_at}
 use Rattle.erd_meaning.specs.Objects.{Placed, contests, objects, placed_entries, placed_from, selections_of_contest}
@@ -31,30 +32,30 @@ use Rattle.erd_normal.specs.code.ObjectNumbers.{AreSelectionNumbers}
 use Rattle.erd_meaning.proofs.accepted.Skeleton.{values-placed_from}
 
 -- the numbers of the selections of an election, contest by contest
-abbrev pub numbers_in_election : Data → Data → List ℕ
-numbers_in_election t election = flat_map (numbers_in_contest t) (entries_at (codes "Contest") election)
+abbrev pub numbers_in_election : Preference → Data → Data → List ℕ
+numbers_in_election π t election = flat_map (numbers_in_contest π t) (entries_at (codes "Contest") election)
 
 -- those of a report
-abbrev pub numbers_in_report : Data → List ℕ
-numbers_in_report t = flat_map (numbers_in_election t) (entries_at (codes "Election") t)
+abbrev pub numbers_in_report : Preference → Data → List ℕ
+numbers_in_report π t = flat_map (numbers_in_election π t) (entries_at (codes "Election") t)
 
-module _ (t : Data) where
+module _ (π : Preference) (t : Data) where
   -- the numbers of the selections of a contest
   abbrev numbers_at : Placed → List ℕ
-  numbers_at contest = numbers_in_contest t contest.value
+  numbers_at contest = numbers_in_contest π t contest.value
 
   -- ---- contest by contest
 
   values_gathered : (h : Data → List ℕ) (p : List Step) (i : ℕ) (ds : List Data) → flat_map (λ o. h o.value) (placed_from p i ds) ≡ flat_map h ds
   values_gathered h p i ds = sym (flat_map-map h (λ (o : Placed). o.value) (placed_from p i ds)) ∙ ap (flat_map h) (values-placed_from p i ds)
 
-  elections_gathered : (p : List Step) (i : ℕ) (ds : List Data) → flat_map numbers_at (flat_map (placed_entries (codes "Contest")) (placed_from p i ds)) ≡ flat_map (numbers_in_election t) ds
+  elections_gathered : (p : List Step) (i : ℕ) (ds : List Data) → flat_map numbers_at (flat_map (placed_entries (codes "Contest")) (placed_from p i ds)) ≡ flat_map (numbers_in_election π t) ds
   elections_gathered p i [] = refl
   elections_gathered p i (d ∷ ds) =
       flat_map-append numbers_at (placed_from _ 0 (entries_at (codes "Contest") d)) (flat_map (placed_entries (codes "Contest")) (placed_from p (i + 1) ds))
-      ∙ ap₂ ◌++◌ (values_gathered (numbers_in_contest t) _ 0 (entries_at (codes "Contest") d)) (elections_gathered p (i + 1) ds)
+      ∙ ap₂ ◌++◌ (values_gathered (numbers_in_contest π t) _ 0 (entries_at (codes "Contest") d)) (elections_gathered p (i + 1) ds)
 
-  contests_gathered : flat_map numbers_at (contests t) ≡ numbers_in_report t
+  contests_gathered : flat_map numbers_at (contests t) ≡ numbers_in_report π t
   contests_gathered = elections_gathered (Name (codes "Election") ∷ []) 0 (entries_at (codes "Election") t)
 
   -- ---- one contest
@@ -62,32 +63,32 @@ module _ (t : Data) where
   as_many : (contest : Placed) → length (numbers_at contest) ≡ length (selections_of_contest contest)
   as_many contest =
       let ds = entries_at (codes "ContestSelection") contest.value in
-      length_places (option_cmp name_cmp) (map (name_of t) ds)
-      ∙ (length-map ds (name_of t)
+      length_places (option_cmp name_cmp) (map (name_of π t) ds)
+      ∙ (length-map ds (name_of π t)
       ∙ (sym (ap length (values-placed_from (contest.place ++ Name (codes "ContestSelection") ∷ []) 0 ds))
       ∙ length-map (selections_of_contest contest) (λ o. o.value)))
 
-  name_at : (contest : Placed) (m : ℕ) (o : Placed) → slice_get (selections_of_contest contest) m ≡ Some o → slice_get (map (name_of t) (entries_at (codes "ContestSelection") contest.value)) m ≡ Some (name_of t o.value)
+  name_at : (contest : Placed) (m : ℕ) (o : Placed) → slice_get (selections_of_contest contest) m ≡ Some o → slice_get (map (name_of π t) (entries_at (codes "ContestSelection") contest.value)) m ≡ Some (name_of π t o.value)
   name_at contest m o at =
       let ds = entries_at (codes "ContestSelection") contest.value in
-      slice_get-map (name_of t) ds m
-      ∙ ap (option_map (name_of t))
+      slice_get-map (name_of π t) ds m
+      ∙ ap (option_map (name_of π t))
       (ap (λ xs. slice_get xs m) (sym (values-placed_from (contest.place ++ Name (codes "ContestSelection") ∷ []) 0 ds))
       ∙ (slice_get-map (λ (o : Placed). o.value) (selections_of_contest contest) m
       ∙ ap (option_map (λ o. o.value)) at))
 
-  contest_number : IsAccepted t → (contest : Placed) → Has (objects family.Contest t) contest → (m : ℕ) (o : Placed) → slice_get (selections_of_contest contest) m ≡ Some o
-      → slice_get (numbers_at contest) m ≡ Some (rank_of_name t (entries_at (codes "ContestSelection") contest.value) (name_of t o.value) + 1)
+  contest_number : IsAccepted π t → (contest : Placed) → Has (objects family.Contest t) contest → (m : ℕ) (o : Placed) → slice_get (selections_of_contest contest) m ≡ Some o
+      → slice_get (numbers_at contest) m ≡ Some (rank_of_name π t (entries_at (codes "ContestSelection") contest.value) (name_of π t o.value) + 1)
   contest_number accepted contest has m o at =
       let ds = entries_at (codes "ContestSelection") contest.value in
-      place_is (option_cmp name_cmp) (options_total name_cmp_total) (map (name_of t) ds) m (name_of t o.value)
-      (distinct_map (name_of t) (eq_by_cmp (option_cmp name_cmp)) ds (selection_values_distinct t accepted contest has))
+      place_is (option_cmp name_cmp) (options_total name_cmp_total) (map (name_of π t) ds) m (name_of π t o.value)
+      (distinct_map (name_of π t) (eq_by_cmp (option_cmp name_cmp)) ds (selection_values_distinct π t accepted contest has))
       (name_at contest m o at)
-      ∙ ap (λ n. Some (n + 1)) (rank_map (name_of t) (λ name. name) (option_cmp name_cmp) (name_of t o.value) ds)
+      ∙ ap (λ n. Some (n + 1)) (rank_map (name_of π t) (λ name. name) (option_cmp name_cmp) (name_of π t o.value) ds)
 
   -- ---- the report
 
-  pub selection_numbered : IsAccepted t → (ns : List ℕ) → ns ≡ numbers_in_report t → AreSelectionNumbers t ns
+  pub selection_numbered : IsAccepted π t → (ns : List ℕ) → ns ≡ numbers_in_report π t → AreSelectionNumbers π t ns
   selection_numbered accepted ns is i c contest o numbered at =
       let h = in_part numbers_at selections_of_contest as_many (contests t) 0 i c o numbered in
       let after : c ≡ 0 + h.index = h.after in

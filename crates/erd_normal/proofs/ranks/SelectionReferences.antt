@@ -16,7 +16,7 @@ use Rattle.erd_meaning.proofs.finding.OneObject.{in_at, with_part}
 use Rattle.erd_meaning.proofs.accepted.References.{find-Some, option_map-Some}
 use Rattle.erd_meaning.proofs.accepted.Standing.{flat-has, has_id-Some, one_object, owner_is, stands}
 use Rattle.erd_meaning.specs.Accepted.{IsAccepted}
-use Rattle.erd_meaning.specs.Keys.{key_of}
+use Rattle.erd_meaning.specs.Keys.{Preference, key_of}
 use Rattle.erd_check.specs.Values.{entries_at}
 use Rattle.erd_meaning.specs.Lookups.{FindsId, id_in, selection_in}
 use Rattle.erd_meaning.specs.NameParts.{NameParts}
@@ -54,18 +54,18 @@ numbered_at t i o at =
 -- ---- the selection that has the `@id`
 
 -- the selection at a position with its contest
-record SelectionAt (t : Data) (id : List ℕ) (i : ℕ) : Type 0 where
+record SelectionAt (π : Preference) (t : Data) (id : List ℕ) (i : ℕ) : Type 0 where
   number : ℕ
   contest : Placed
   selection : Placed
   name : NameParts
   at : slice_get (numbered_selections t) i ≡ Some (number, selection)
   contest_at : slice_get (contests t) number ≡ Some contest
-  named : name_of t selection.value ≡ Some name
-  text : normal_selection_reference t (string id) ≡ string (id_of_selection t contest.value selection.value)
+  named : name_of π t selection.value ≡ Some name
+  text : normal_selection_reference π t (string id) ≡ string (id_of_selection π t contest.value selection.value)
 
-module _ (t : Data) (id : List ℕ) where
-  selection_at : (i : ℕ) → IsAccepted t → id_in family.Selection t i ≡ Some id → SelectionAt t id i
+module _ (π : Preference) (t : Data) (id : List ℕ) where
+  selection_at : (i : ℕ) → IsAccepted π t → id_in family.Selection t i ≡ Some id → SelectionAt π t id i
   selection_at i accepted here =
       let hit = with_part (λ o. id_of o.value) family.Selection t i id here in
       let o : Placed = hit.0.one in
@@ -74,13 +74,13 @@ module _ (t : Data) (id : List ℕ) where
       let of_report : Has (objects family.Selection t) o = has_from_In o (objects family.Selection t) (in_at (objects family.Selection t) i o o_at) in
       let s = numbered_at t i o o_at in
       let c : OfContest t (s.0, o) = of_its_contest t (s.0, o) (in_at {A = Numbered} (numbered_selections t) i (s.0, o) s.1) in
-      let n = has_name t accepted o.value (record { place = o.place; is = stands t accepted family.Selection o of_report }) in
-      let f : FoundSelection t id o.value = owner_found t id o.value (owner_is t accepted family.Selection o id of_report is) in
+      let n = has_name π t accepted o.value (record { place = o.place; is = stands π t accepted family.Selection o of_report }) in
+      let f : FoundSelection t id o.value = owner_found t id o.value (owner_is π t accepted family.Selection o id of_report is) in
       let one : f.selection ≡ o =
-      one_object t accepted family.Selection family.Selection f.selection o id (flat-has selections_of_contest (contests t) f.contest f.selection f.of_report f.of_contest) of_report
+      one_object π t accepted family.Selection family.Selection f.selection o id (flat-has selections_of_contest (contests t) f.contest f.selection f.of_report f.of_contest) of_report
       (ap id_of f.value ∙ is) is in
       let whole : f.contest ≡ c.contest =
-      one_contest t accepted f.contest c.contest o f.of_report (has_from_In c.contest (contests t) c.there) (subst (Has (selections_of_contest f.contest)) one f.of_contest)
+      one_contest π t accepted f.contest c.contest o f.of_report (has_from_In c.contest (contests t) c.there) (subst (Has (selections_of_contest f.contest)) one f.of_contest)
       (has_from_In o (selections_of_contest c.contest) c.inside) in
       record {
         number = s.0;
@@ -90,13 +90,13 @@ module _ (t : Data) (id : List ℕ) where
         at = s.1;
         contest_at = c.at;
         named = n.1;
-        text = ap (λ x. string (option_map_or (λ (c : Placed). option_map_or (λ (o : Placed). id_of_selection t c.value o.value) (selection_with id c) []) x [])) f.contest_is
-            ∙ ap (λ x. string (option_map_or (λ (o : Placed). id_of_selection t f.contest.value o.value) x [])) f.selection_is
-            ∙ ap₂ (λ (c o : Placed). string (id_of_selection t c.value o.value)) whole one;
+        text = ap (λ x. string (option_map_or (λ (c : Placed). option_map_or (λ (o : Placed). id_of_selection π t c.value o.value) (selection_with id c) []) x [])) f.contest_is
+            ∙ ap (λ x. string (option_map_or (λ (o : Placed). id_of_selection π t f.contest.value o.value) x [])) f.selection_is
+            ∙ ap₂ (λ (c o : Placed). string (id_of_selection π t c.value o.value)) whole one;
       }
 
   -- no selection has it
-  unnamed : ((i : ℕ) → id_in family.Selection t i ≡ Some id → ⊥) → string [] ≡ normal_selection_reference t (string id)
+  unnamed : ((i : ℕ) → id_in family.Selection t i ≡ Some id → ⊥) → string [] ≡ normal_selection_reference π t (string id)
   unnamed none = at (contest_with t id) refl
     where
       inside : (c : Placed) → Has (contests t) c → (o : Option Placed) → find (λ o. has_id id o.value) (selections_of_contest c) ≡ o → option_map_or (λ o. true) o false ≡ true → ⊥
@@ -107,37 +107,37 @@ module _ (t : Data) (id : List ℕ) where
           none place.0 (ap (option_and_then (λ (o : Placed). id_of o.value)) place.1 ∙ has_id-Some id o.value found.1)
 
       at : (c : Option Placed) → contest_with t id ≡ c
-          → string [] ≡ string (option_map_or (λ (c : Placed). option_map_or (λ (o : Placed). id_of_selection t c.value o.value) (selection_with id c) []) c [])
+          → string [] ≡ string (option_map_or (λ (c : Placed). option_map_or (λ (o : Placed). id_of_selection π t c.value o.value) (selection_with id c) []) c [])
       at None is = refl
       at (Some c) is =
           let found = find-Some (λ (c : Placed). option_map_or (λ (o : Placed). true) (find (λ o. has_id id o.value) (selections_of_contest c)) false) (contests t) c is in
           absurd (inside c found.0 (find (λ o. has_id id o.value) (selections_of_contest c)) refl found.1)
 
 -- a selection is found
-pub selection_here : (t : Data) (id : List ℕ) (n : ObjectNumbers) (g : Family) (i : ℕ) → AreObjectNumbers t n → FindsId t id (Some (g, i)) → (family_number g == family_number family.Selection) ≡ true
-    → string (option_map_or (λ s. selection_id_numbered (number_in n.contests.items s.0) (number_in n.selections.items i)) (selection_in t i) []) ≡ normal_selection_reference t (string id)
-selection_here t id n g i tables finds same =
+pub selection_here : (π : Preference) (t : Data) (id : List ℕ) (n : ObjectNumbers) (g : Family) (i : ℕ) → AreObjectNumbers π t n → FindsId t id (Some (g, i)) → (family_number g == family_number family.Selection) ≡ true
+    → string (option_map_or (λ s. selection_id_numbered (number_in n.contests.items s.0) (number_in n.selections.items i)) (selection_in π t i) []) ≡ normal_selection_reference π t (string id)
+selection_here π t id n g i tables finds same =
     let one : g ≡ family.Selection = family_exact g family.Selection same in
-    let s = selection_at t id i tables.accepted ((finds family.Selection i).0 (ap (λ h. Some (h, i)) one)) in
-    let there : selection_in t i ≡ Some (s.number, s.name) =
-    ap (option_and_then {T = Numbered} (λ x. option_map (λ n. (x.0, n)) (name_of t x.1.value))) s.at ∙ ap (option_map (λ n. (s.number, n))) s.named in
-    let contest : number_in n.contests.items s.number ≡ rank_of t family.Contest (key_of s.contest.value) + 1 =
+    let s = selection_at π t id i tables.accepted ((finds family.Selection i).0 (ap (λ h. Some (h, i)) one)) in
+    let there : selection_in π t i ≡ Some (s.number, s.name) =
+    ap (option_and_then {T = Numbered} (λ x. option_map (λ n. (x.0, n)) (name_of π t x.1.value))) s.at ∙ ap (option_map (λ n. (s.number, n))) s.named in
+    let contest : number_in n.contests.items s.number ≡ rank_of π t family.Contest (key_of π s.contest.value) + 1 =
     ap (λ m. unwrap_or m 1) (tables.numbers family.Contest refl s.number s.contest s.contest_at) in
-    let selection : number_in n.selections.items i ≡ rank_of_name t (entries_at (codes "ContestSelection") s.contest.value) (name_of t s.selection.value) + 1 =
+    let selection : number_in n.selections.items i ≡ rank_of_name π t (entries_at (codes "ContestSelection") s.contest.value) (name_of π t s.selection.value) + 1 =
     ap (λ m. unwrap_or m 1) (tables.selections i s.number s.contest s.selection s.at s.contest_at) in
     ap (λ x. string (option_map_or {T = ℕ × NameParts} (λ s. selection_id_numbered (number_in n.contests.items s.0) (number_in n.selections.items i)) x [])) there
     ∙ ap₂ (λ a b. string (selection_id_numbered a b)) contest selection
     ∙ sym s.text
 
 -- an object of another family is found
-pub selection_elsewhere : (t : Data) (id : List ℕ) (g : Family) (i : ℕ) → FindsId t id (Some (g, i)) → (family_number g == family_number family.Selection) ≡ false
-    → string [] ≡ normal_selection_reference t (string id)
-selection_elsewhere t id g i finds other = unnamed t id (λ j e.
+pub selection_elsewhere : (π : Preference) (t : Data) (id : List ℕ) (g : Family) (i : ℕ) → FindsId t id (Some (g, i)) → (family_number g == family_number family.Selection) ≡ false
+    → string [] ≡ normal_selection_reference π t (string id)
+selection_elsewhere π t id g i finds other = unnamed π t id (λ j e.
     let same : Some (g, i) ≡ Some (family.Selection, j) = (finds family.Selection j).1 e in
     let one : g ≡ family.Selection = ap (λ o. option_map_or (λ (x : Family × ℕ). x.0) o g) same in
     let equal : (family_number g == family_number family.Selection) ≡ true = subst (λ h. (family_number g == family_number h) ≡ true) one (itself (family_number g)) in
     true≢false (sym equal ∙ other))
 
 -- no object is found
-pub selection_nowhere : (t : Data) (id : List ℕ) → FindsId t id None → string [] ≡ normal_selection_reference t (string id)
-selection_nowhere t id finds = unnamed t id (λ j e. let none : None ≡ Some (family.Selection, j) = (finds family.Selection j).1 e in cc)
+pub selection_nowhere : (π : Preference) (t : Data) (id : List ℕ) → FindsId t id None → string [] ≡ normal_selection_reference π t (string id)
+selection_nowhere π t id finds = unnamed π t id (λ j e. let none : None ≡ Some (family.Selection, j) = (finds family.Selection j).1 e in cc)

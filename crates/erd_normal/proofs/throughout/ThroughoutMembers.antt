@@ -25,6 +25,7 @@ use Rattle.erd_check.proofs.Entries.{array_from}
 use Rattle.erd_check.proofs.Exact.{text_exact}
 use Rattle.erd_check.proofs.Shapes.{Classed, Within, classed, faultless, member_within, of_label, wanted_within}
 use Rattle.erd_check.proofs.TableKinds.{kind_of_unlisted_has}
+use Rattle.erd_meaning.specs.Keys.{Preference}
 use Rattle.erd_meaning.specs.SelectionNames.{compact_cmp, rising_list, with_rising_text}
 use Rattle.erd_normal.specs.Canonical.{id_prefix}
 use Rattle.erd_normal.specs.code.NormalTree.{array_of, normal_id, normal_reference, normal_selection_reference, normal_value, reference_cmp}
@@ -37,30 +38,30 @@ use Rattle.erd_normal.proofs.throughout.ThroughoutValues.{Throughout, apart_by_k
 -- ---- what is built
 
 -- a set of references
-abbrev pub built_references : Data → Family → Data → List Data
-built_references t f d = map (normal_reference t f) (rising_list (reference_cmp t f) (entries_of d))
+abbrev pub built_references : Preference → Data → Family → Data → List Data
+built_references π t f d = map (normal_reference π t f) (rising_list (reference_cmp π t f) (entries_of d))
 
 -- a family whose objects have `@id` texts by their ranks alone
 abbrev pub is_prefixed : Family → Bool
 is_prefixed f = is_some (id_prefix f)
 
 -- what has to hold for what is built of the members without objects, each by the value that it is built of
-pub record HoldsOfMembers (t : Data) (P : Asked → Type 0) : Type 0 where
+pub record HoldsOfMembers (π : Preference) (t : Data) (P : Asked → Type 0) : Type 0 where
   pub kept : (a : Asked) → Within t a → is_apart a.want ≡ true → P a
   pub class_text : (r : Role) (c : Class) (s : List ℕ) → class_in_role r s ≡ Some c → P (asked (ClassText r) (string s))
   pub label : (required : Bool) (d : Data) → Within t (asked (Member kind.Label required) d) → P (asked (Member kind.Label required) (with_rising_text d))
-  pub one : (f : Family) → is_prefixed f ≡ true → (d : Data) → Within t (asked (Reference f) d) → P (asked (Reference f) (normal_reference t f d))
+  pub one : (f : Family) → is_prefixed f ≡ true → (d : Data) → Within t (asked (Reference f) d) → P (asked (Reference f) (normal_reference π t f d))
   pub many : (f : Family) → is_prefixed f ≡ true → (required : Bool) (d : Data) → Within t (asked (Member (kind.Many f) required) d) → is_empty_array d ≡ false
-      → P (asked (Member (kind.Many f) required) (array_of (built_references t f d)))
-  pub many_entry : (f : Family) → is_prefixed f ≡ true → (required : Bool) (d : Data) → Within t (asked (Member (kind.Many f) required) d) → (i : ℕ) (e : Data) → get_item i (items_of (built_references t f d)) ≡ Some e
-      → P (record { want = Reference f; value = e; repeated = is_repeated (items_of (built_references t f d)) i e })
+      → P (asked (Member (kind.Many f) required) (array_of (built_references π t f d)))
+  pub many_entry : (f : Family) → is_prefixed f ≡ true → (required : Bool) (d : Data) → Within t (asked (Member (kind.Many f) required) d) → (i : ℕ) (e : Data) → get_item i (items_of (built_references π t f d)) ≡ Some e
+      → P (record { want = Reference f; value = e; repeated = is_repeated (items_of (built_references π t f d)) i e })
   pub identifiers : (required : Bool) (d : Data) → Within t (asked (Member kind.Identifiers required) d) → is_empty_array d ≡ false
       → P (asked (Member kind.Identifiers required) (array_of (rising_list compact_cmp (entries_of d))))
   pub languages : (required : Bool) (d : Data) → Within t (asked (Member kind.Languages required) d) → is_empty_array d ≡ false
       → P (asked (Member kind.Languages required) (array_of (rising_list compact_cmp (entries_of d))))
   pub ordered : (required : Bool) (d : Data) → Within t (asked (Member kind.Ordered required) d) → is_empty_array d ≡ false
-      → P (asked (Member kind.Ordered required) (array_of (map (normal_selection_reference t) (entries_of d))))
-  pub ordered_entry : (e : Data) → Within t (asked (Reference family.Selection) e) → P (asked (Reference family.Selection) (normal_selection_reference t e))
+      → P (asked (Member kind.Ordered required) (array_of (map (normal_selection_reference π t) (entries_of d))))
+  pub ordered_entry : (e : Data) → Within t (asked (Reference family.Selection) e) → P (asked (Reference family.Selection) (normal_selection_reference π t e))
 
 -- a kind of member, but for `@type`, that holds no objects and refers to none by itself that has no prefix
 abbrev pub is_plain_kind : MemberKind → Bool
@@ -87,9 +88,9 @@ type_text r c d v among stands = at v (subst (λ o. option_and_then (class_in_ro
     at v e = cc
 
 -- references that are built are texts
-pub built_texts : (t : Data) (f : Family) (ds : List Data) → AllByRecursion (λ x. (s : List ℕ) × (x ≡ string s)) (map (normal_reference t f) ds)
-built_texts t f [] = tt
-built_texts t f (x ∷ xs) = ((normal_id t f (text_of x), refl), built_texts t f xs)
+pub built_texts : (π : Preference) (t : Data) (f : Family) (ds : List Data) → AllByRecursion (λ x. (s : List ℕ) × (x ≡ string s)) (map (normal_reference π t f) ds)
+built_texts π t f [] = tt
+built_texts π t f (x ∷ xs) = ((normal_id π t f (text_of x), refl), built_texts π t f xs)
 
 -- a label that is an object, and the one that is built of it, whose translations rise
 pub record BuiltLabel (t : Data) (ms : Members) : Type 0 where
@@ -112,7 +113,7 @@ built_label t clean required ms w =
       stands = get_label-text (object ms) refl ∙ rw texts.1 refl;
     }
 
-module _ (t : Data) (clean : NoneOf (ShapeFault t)) (tree : IsTree t) (P : Asked → Type 0) (holds : HoldsOfMembers t P) where
+module _ (π : Preference) (t : Data) (clean : NoneOf (ShapeFault t)) (tree : IsTree t) (P : Asked → Type 0) (holds : HoldsOfMembers π t P) where
   pub throughout_type : (r : Role) (c : Class) (d v : Data) → class_of_object r d ≡ Some c → get (codes "@type") d ≡ Some v → Throughout P (asked (ClassText r) v)
   throughout_type r c d v among stands =
       let text = type_text r c d v among stands in
@@ -121,19 +122,19 @@ module _ (t : Data) (clean : NoneOf (ShapeFault t)) (tree : IsTree t) (P : Asked
   -- ---- sets
 
   references : (f : Family) → is_prefixed f ≡ true → (required : Bool) (d : Data) → is_empty_array d ≡ false → Within t (asked (Member (kind.Many f) required) d)
-      → Throughout P (asked (Member (kind.Many f) required) (array_of (built_references t f d)))
+      → Throughout P (asked (Member (kind.Many f) required) (array_of (built_references π t f d)))
   references f named required d filled w =
-      throughout_array P (Member (kind.Many f) required) (Reference f) (items_of (built_references t f d)) refl (holds.many f named required d w filled)
+      throughout_array P (Member (kind.Many f) required) (Reference f) (items_of (built_references π t f d)) refl (holds.many f named required d w filled)
       (λ i e found.
-      let text = entry_holds (λ x. (s : List ℕ) × (x ≡ string s)) (built_references t f d) i e (built_texts t f (rising_list (reference_cmp t f) (entries_of d))) found in
+      let text = entry_holds (λ x. (s : List ℕ) × (x ≡ string s)) (built_references π t f d) i e (built_texts π t f (rising_list (reference_cmp π t f) (entries_of d))) found in
       at i e text.0 text.1 (holds.many_entry f named required d w i e found))
     where
-      at : (i : ℕ) (e : Data) (s : List ℕ) → e ≡ string s → P (record { want = Reference f; value = e; repeated = is_repeated (items_of (built_references t f d)) i e })
-          → Throughout P (record { want = Reference f; value = e; repeated = is_repeated (items_of (built_references t f d)) i e })
+      at : (i : ℕ) (e : Data) (s : List ℕ) → e ≡ string s → P (record { want = Reference f; value = e; repeated = is_repeated (items_of (built_references π t f d)) i e })
+          → Throughout P (record { want = Reference f; value = e; repeated = is_repeated (items_of (built_references π t f d)) i e })
       at i e s is h =
-          subst (λ x. Throughout P (record { want = Reference f; value = x; repeated = is_repeated (items_of (built_references t f d)) i x })) (sym is)
-          (throughout_text P (Reference f) s (is_repeated (items_of (built_references t f d)) i (string s))
-          (subst (λ x. P (record { want = Reference f; value = x; repeated = is_repeated (items_of (built_references t f d)) i x })) is h))
+          subst (λ x. Throughout P (record { want = Reference f; value = x; repeated = is_repeated (items_of (built_references π t f d)) i x })) (sym is)
+          (throughout_text P (Reference f) s (is_repeated (items_of (built_references π t f d)) i (string s))
+          (subst (λ x. P (record { want = Reference f; value = x; repeated = is_repeated (items_of (built_references π t f d)) i x })) is h))
 
   languages : (required : Bool) (d : Data) → is_empty_array d ≡ false → Within t (asked (Member kind.Languages required) d)
       → Throughout P (asked (Member kind.Languages required) (array_of (rising_list compact_cmp (entries_of d))))
@@ -158,15 +159,15 @@ module _ (t : Data) (clean : NoneOf (ShapeFault t)) (tree : IsTree t) (P : Asked
       (λ e within. throughout_kept t P holds.kept (asked (Object role.Identifier) e) within refl)))
 
   ordered : (required : Bool) (d : Data) → is_empty_array d ≡ false → Within t (asked (Member kind.Ordered required) d)
-      → Throughout P (asked (Member kind.Ordered required) (array_of (map (normal_selection_reference t) (entries_of d))))
+      → Throughout P (asked (Member kind.Ordered required) (array_of (map (normal_selection_reference π t) (entries_of d))))
   ordered required d filled w =
       let ds = array_from d (wanted_within t clean (asked (Member kind.Ordered required) d) w) in
       let inside : Within t (asked (Member kind.Ordered required) (array ds.0)) = subst (λ x. Within t (asked (Member kind.Ordered required) x)) ds.1 w in
-      let here = subst (λ x. P (asked (Member kind.Ordered required) (array_of (map (normal_selection_reference t) (entries_of x))))) ds.1 (holds.ordered required d w filled) in
-      subst (λ x. Throughout P (asked (Member kind.Ordered required) (array_of (map (normal_selection_reference t) (entries_of x))))) (sym ds.1)
-      (throughout_list P (Member kind.Ordered required) (Reference family.Selection) (map (normal_selection_reference t) (list_of_items ds.0)) refl refl here
-      (all_map (λ e. Within t (asked (Reference family.Selection) e)) (λ e. Throughout P (asked (Reference family.Selection) e)) (normal_selection_reference t) (list_of_items ds.0)
-      (λ e within. throughout_text P (Reference family.Selection) (text_of (normal_selection_reference t e)) false (holds.ordered_entry e within))
+      let here = subst (λ x. P (asked (Member kind.Ordered required) (array_of (map (normal_selection_reference π t) (entries_of x))))) ds.1 (holds.ordered required d w filled) in
+      subst (λ x. Throughout P (asked (Member kind.Ordered required) (array_of (map (normal_selection_reference π t) (entries_of x))))) (sym ds.1)
+      (throughout_list P (Member kind.Ordered required) (Reference family.Selection) (map (normal_selection_reference π t) (list_of_items ds.0)) refl refl here
+      (all_map (λ e. Within t (asked (Reference family.Selection) e)) (λ e. Throughout P (asked (Reference family.Selection) e)) (normal_selection_reference π t) (list_of_items ds.0)
+      (λ e within. throughout_text P (Reference family.Selection) (text_of (normal_selection_reference π t e)) false (holds.ordered_entry e within))
       (entries_asked t (Member kind.Ordered required) (Reference family.Selection) ds.0 refl refl inside)))
 
   -- ---- labels
@@ -204,14 +205,14 @@ module _ (t : Data) (clean : NoneOf (ShapeFault t)) (tree : IsTree t) (P : Asked
   -- ---- by kind
 
   -- all that is asked inside what is built of a member without objects
-  pub throughout_value : (k : MemberKind) (required : Bool) (d v : Data) → is_plain_kind k ≡ true → Within t (asked (want_of_kind k required) d) → normal_value t k d ≡ Some v
+  pub throughout_value : (k : MemberKind) (required : Bool) (d v : Data) → is_plain_kind k ≡ true → Within t (asked (want_of_kind k required) d) → normal_value π t k d ≡ Some v
       → Throughout P (asked (want_of_kind k required) v)
   throughout_value kind.Label required d v plain w given = let same : with_rising_text d ≡ v = cc in subst (λ x. Throughout P (asked (Member kind.Label required) x)) same (label required d w)
   throughout_value (kind.One f) required d v plain w given =
-      let same : normal_reference t f d ≡ v = cc in
-      subst (λ x. Throughout P (asked (Reference f) x)) same (throughout_text P (Reference f) (normal_id t f (text_of d)) false (holds.one f plain d w))
+      let same : normal_reference π t f d ≡ v = cc in
+      subst (λ x. Throughout P (asked (Reference f) x)) same (throughout_text P (Reference f) (normal_id π t f (text_of d)) false (holds.one f plain d w))
   throughout_value (kind.Many f) required d v plain w given =
-      let parts = given_unless d (array_of (built_references t f d)) v given in
+      let parts = given_unless d (array_of (built_references π t f d)) v given in
       subst (λ x. Throughout P (asked (Member (kind.Many f) required) x)) parts.1 (references f plain required d parts.0 w)
   throughout_value kind.Identifiers required d v plain w given =
       let parts = given_unless d (array_of (rising_list compact_cmp (entries_of d))) v given in
@@ -220,7 +221,7 @@ module _ (t : Data) (clean : NoneOf (ShapeFault t)) (tree : IsTree t) (P : Asked
       let parts = given_unless d (array_of (rising_list compact_cmp (entries_of d))) v given in
       subst (λ x. Throughout P (asked (Member kind.Languages required) x)) parts.1 (languages required d parts.0 w)
   throughout_value kind.Ordered required d v plain w given =
-      let parts = given_unless d (array_of (map (normal_selection_reference t) (entries_of d))) v given in
+      let parts = given_unless d (array_of (map (normal_selection_reference π t) (entries_of d))) v given in
       subst (λ x. Throughout P (asked (Member kind.Ordered required) x)) parts.1 (ordered required d parts.0 w)
   throughout_value kind.Identity required d v plain w given = cc
   throughout_value kind.Outside required d v plain w given = cc

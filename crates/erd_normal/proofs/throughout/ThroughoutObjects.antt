@@ -27,6 +27,7 @@ use Rattle.erd_check.proofs.ObjectsAt.{ObjectAt, ObjectIn, object_in}
 use Rattle.erd_check.proofs.Rising.{Has, all-Has}
 use Rattle.erd_check.proofs.Shapes.{Within, wanted_within}
 use Rattle.erd_check.proofs.TableKinds.{kind_of_class, want_by_kind}
+use Rattle.erd_meaning.specs.Keys.{Preference}
 use Rattle.erd_meaning.specs.Objects.{Placed, objects}
 use Rattle.erd_meaning.specs.SelectionNames.{rising_list, selection_role}
 use Rattle.erd_normal.specs.code.NormalTree.{array_of, by_key, by_name, id_of_selection, normal_content, normal_node, normal_node_value, normal_nodes, normal_object, normal_object_value, normal_objects, normal_selection, normal_value}
@@ -41,16 +42,16 @@ use Rattle.erd_normal.proofs.throughout.ThroughoutValues.{Throughout, throughout
 use Rattle.erd_check.proofs.Positions.{map_has, all_by_entry}
 
 -- what has to hold for what is built of objects below the election and the report, each by the value that it is built of
-pub record HoldsOfObjects (t : Data) (P : Asked → Type 0) : Type 0 where
-  pub members : HoldsOfMembers t P
+pub record HoldsOfObjects (π : Preference) (t : Data) (P : Asked → Type 0) : Type 0 where
+  pub members : HoldsOfMembers π t P
   pub identity : (required : Bool) (id : List ℕ) → P (asked (Member kind.Identity required) (string id))
-  pub content : (required : Bool) (d : Data) → Within t (asked (Member kind.Content required) d) → is_empty_array d ≡ false → P (asked (Member kind.Content required) (normal_content t d))
-  pub node : (d : Data) → Within t (asked (Object role.Content) d) → P (asked (Object role.Content) (normal_node t d))
+  pub content : (required : Bool) (d : Data) → Within t (asked (Member kind.Content required) d) → is_empty_array d ≡ false → P (asked (Member kind.Content required) (normal_content π t d))
+  pub node : (d : Data) → Within t (asked (Object role.Content) d) → P (asked (Object role.Content) (normal_node π t d))
   pub selections : (contest : Placed) (required : Bool) (d : Data) → Has (objects family.Contest t) contest → get (codes "ContestSelection") contest.value ≡ Some d
       → Within t (asked (Member (kind.Keyed family.Selection) required) d) → is_empty_array d ≡ false
-      → P (asked (Member (kind.Keyed family.Selection) required) (array_of (map (normal_selection t contest.value) (rising_list (by_name t) (entries_of d)))))
-  pub selection : (contest d : Data) → Within t (asked (Object selection_role) d) → P (asked (Object selection_role) (normal_selection t contest d))
-  pub object : (f : Family) (d : Data) → Within t (asked (Object (role.OfFamily f)) d) → P (asked (Object (role.OfFamily f)) (normal_object t f d))
+      → P (asked (Member (kind.Keyed family.Selection) required) (array_of (map (normal_selection π t contest.value) (rising_list (by_name π t) (entries_of d)))))
+  pub selection : (contest d : Data) → Within t (asked (Object selection_role) d) → P (asked (Object selection_role) (normal_selection π t contest d))
+  pub object : (f : Family) (d : Data) → Within t (asked (Object (role.OfFamily f)) d) → P (asked (Object (role.OfFamily f)) (normal_object π t f d))
 
 -- ---- the kinds of members
 
@@ -92,18 +93,18 @@ object_rows c f r = (refl, refl)
 object_kind : (c : Class) (f : Family) (name : List ℕ) → bytes_eq name (codes "@type") ≡ false → role_of_class c ≡ role.OfFamily f → is_object_kind (kind_of_member c name) ≡ true
 object_kind c f name other r = let rows = object_rows c f r in kind_of_class is_object_kind c name other rows.0 rows.1 refl refl
 
-node_word : (t : Data) (k : MemberKind) (d inside v : Data) → k ≡ kind.Word → normal_node_value t (Some k) d inside ≡ Some v → d ≡ v
-node_word t k d inside v is e = let x : Some d ≡ Some v = ap (λ q. normal_node_value t (Some q) d inside) (sym is) ∙ e in let same : d ≡ v = cc in same
+node_word : (π : Preference) (t : Data) (k : MemberKind) (d inside v : Data) → k ≡ kind.Word → normal_node_value π t (Some k) d inside ≡ Some v → d ≡ v
+node_word π t k d inside v is e = let x : Some d ≡ Some v = ap (λ q. normal_node_value π t (Some q) d inside) (sym is) ∙ e in let same : d ≡ v = cc in same
 
-plain_word : (t : Data) (k : MemberKind) (d v : Data) → k ≡ kind.Word → normal_value t k d ≡ Some v → d ≡ v
-plain_word t k d v is e = let x : Some d ≡ Some v = ap (λ q. normal_value t q d) (sym is) ∙ e in let same : d ≡ v = cc in same
+plain_word : (π : Preference) (t : Data) (k : MemberKind) (d v : Data) → k ≡ kind.Word → normal_value π t k d ≡ Some v → d ≡ v
+plain_word π t k d v is e = let x : Some d ≡ Some v = ap (λ q. normal_value π t q d) (sym is) ∙ e in let same : d ≡ v = cc in same
 
-object_word : (t o : Data) (k : MemberKind) (d v : Data) → k ≡ kind.Word → normal_object_value t o k d ≡ Some v → d ≡ v
-object_word t o k d v is e = let x : Some d ≡ Some v = ap (λ q. normal_object_value t o q d) (sym is) ∙ e in let same : d ≡ v = cc in same
+object_word : (π : Preference) (t o : Data) (k : MemberKind) (d v : Data) → k ≡ kind.Word → normal_object_value π t o k d ≡ Some v → d ≡ v
+object_word π t o k d v is e = let x : Some d ≡ Some v = ap (λ q. normal_object_value π t o q d) (sym is) ∙ e in let same : d ≡ v = cc in same
 
 -- ---- objects
 
-module _ (t : Data) (clean : NoneOf (ShapeFault t)) (tree : IsTree t) (P : Asked → Type 0) (holds : HoldsOfMembers t P) where
+module _ (π : Preference) (t : Data) (clean : NoneOf (ShapeFault t)) (tree : IsTree t) (P : Asked → Type 0) (holds : HoldsOfMembers π t P) where
   -- a status stays
   pub throughout_status : (d : Data) → Within t (asked Status d) → Throughout P (asked Status d)
   throughout_status d w = throughout_kept t P holds.kept (asked Status d) w refl
@@ -115,7 +116,7 @@ module _ (t : Data) (clean : NoneOf (ShapeFault t)) (tree : IsTree t) (P : Asked
   throughout_object value_of special r c ms d o here specials built =
       throughout_by_steps P (asked (Object r) d) here
       (λ s b e. elim (inside_built t clean value_of special r c ms d o s b e) [
-        | inl type ↦ subst (Throughout P) (sym type.is) (throughout_type t clean tree P holds r c d type.text o.among type.stands)
+        | inl type ↦ subst (Throughout P) (sym type.is) (throughout_type π t clean tree P holds r c d type.text o.among type.stands)
         | inr (inl m) ↦ subst (Throughout P) (sym m.is) (specials m.name m.found m.named m.stands)
         | inr (inr m) ↦ subst (Throughout P) (sym m.is) (built m.name m.found m.origin)
       ])
@@ -133,26 +134,26 @@ module _ (t : Data) (clean : NoneOf (ShapeFault t)) (tree : IsTree t) (P : Asked
       (λ e h. (all-Has (λ x. Within t (asked v x)) (list_of_items ds) e (entries_asked t w v ds want apart inside) h, h)))))
   throughout_built_list w v _ is want apart inside arrange keeps f each here = cc
 
-module _ (t : Data) (clean : NoneOf (ShapeFault t)) (tree : IsTree t) (P : Asked → Type 0) (holds : HoldsOfObjects t P) where
+module _ (π : Preference) (t : Data) (clean : NoneOf (ShapeFault t)) (tree : IsTree t) (P : Asked → Type 0) (holds : HoldsOfObjects π t P) where
   -- ---- the order of a ballot
 
   -- it holds of all that is built of a value as a list of contests and headers
   abbrev IsContent : Data → Type 0
-  IsContent d = (required : Bool) → is_empty_array d ≡ false → Within t (asked (Member kind.Content required) d) → Throughout P (asked (Member kind.Content required) (normal_content t d))
+  IsContent d = (required : Bool) → is_empty_array d ≡ false → Within t (asked (Member kind.Content required) d) → Throughout P (asked (Member kind.Content required) (normal_content π t d))
 
   node_member : (k : MemberKind) (required : Bool) (d v : Data) → is_node_kind k ≡ true → IsContent d → Within t (asked (want_of_kind k required) d)
-      → normal_node_value t (Some k) d (normal_content t d) ≡ Some v → Throughout P (asked (want_of_kind k required) v)
+      → normal_node_value π t (Some k) d (normal_content π t d) ≡ Some v → Throughout P (asked (want_of_kind k required) v)
   node_member kind.Content required d v is content w given =
-      let parts = given_unless d (normal_content t d) v given in
+      let parts = given_unless d (normal_content π t d) v given in
       subst (λ x. Throughout P (asked (Member kind.Content required) x)) parts.1 (content required parts.0 w)
   node_member (kind.Keyed f) required d v is content w given = cc
   node_member kind.Elections required d v is content w given = cc
-  node_member k required d v is content w given = throughout_value t clean tree P holds.members k required d v is w given
+  node_member k required d v is content w given = throughout_value π t clean tree P holds.members k required d v is w given
 
   node_with : (ms : Members) → Within t (asked (Object role.Content) (object ms)) → ((name : List ℕ) (d : Data) → get_member name ms ≡ Some d → IsContent d)
-      → Throughout P (asked (Object role.Content) (normal_node t (object ms)))
+      → Throughout P (asked (Object role.Content) (normal_node π t (object ms)))
   node_with ms w contents =
-      throughout_object t clean tree P holds.members (node_builder t) no_name role.Content o.class ms (normal_node t (object ms)) (built_node t clean tree o.class ms here)
+      throughout_object π t clean tree P holds.members (node_builder π t) no_name role.Content o.class ms (normal_node π t (object ms)) (built_node π t clean tree o.class ms here)
       (holds.node (object ms) w) (λ name v is found. cc) built
     where
       o : ObjectIn t role.Content (object ms)
@@ -161,11 +162,11 @@ module _ (t : Data) (clean : NoneOf (ShapeFault t)) (tree : IsTree t) (P : Asked
       here : ObjectAt t (Object role.Content) role.Content o.class ms
       here = let is : object ms ≡ object o.ms = o.is_object in let same : o.ms ≡ ms = cc in subst (ObjectAt t (Object role.Content) role.Content o.class) same o.at
 
-      built : (name : List ℕ) (v : Data) → BuiltFrom t (node_builder t) o.class ms name v → Throughout P (asked (member_want o.class name) v)
+      built : (name : List ℕ) (v : Data) → BuiltFrom t (node_builder π t) o.class ms name v → Throughout P (asked (member_want o.class name) v)
       built name v b =
-          member_holds t clean (Throughout P) (throughout_status t clean tree P holds.members) (node_builder t) o.class ms name v b
+          member_holds t clean (Throughout P) (throughout_status π t clean tree P holds.members) (node_builder π t) o.class ms name v b
           (λ required inside. node_member (kind_of_member o.class name) required b.from v (node_kind o.class name b.other o.role) (contents name b.from b.stands) inside b.given)
-          (λ word. node_word t (kind_of_member o.class name) b.from (normal_content t b.from) v word b.given)
+          (λ word. node_word π t (kind_of_member o.class name) b.from (normal_content π t b.from) v word b.given)
 
   content_at : (name k : List ℕ) (e d : Data) (ms : Members) → get_member name (member k e ms) ≡ Some d → IsContent e → (get_member name ms ≡ Some d → IsContent d) → IsContent d
   content_at name k e d ms found here later = at (text_cmp name k) refl
@@ -178,17 +179,17 @@ module _ (t : Data) (clean : NoneOf (ShapeFault t)) (tree : IsTree t) (P : Asked
   mutual
     pub throughout_content : (d : Data) → IsContent d
     throughout_content (array ds) required filled w =
-        throughout_array P (Member kind.Content required) (Object role.Content) (normal_nodes t ds) refl (holds.content required (array ds) w filled)
+        throughout_array P (Member kind.Content required) (Object role.Content) (normal_nodes π t ds) refl (holds.content required (array ds) w filled)
         (throughout_nodes ds (entry_asked t (Member kind.Content required) (Object role.Content) ds refl refl w))
     throughout_content d required filled w = let x : is_array d ≡ true = wanted_within t clean (asked (Member kind.Content required) d) w in cc
 
     throughout_nodes : (ds : Items) → ((i : ℕ) (d : Data) → get_item i ds ≡ Some d → Within t (asked (Object role.Content) d))
-        → (i : ℕ) (e : Data) → get_item i (normal_nodes t ds) ≡ Some e → Throughout P (asked (Object role.Content) e)
+        → (i : ℕ) (e : Data) → get_item i (normal_nodes π t ds) ≡ Some e → Throughout P (asked (Object role.Content) e)
     throughout_nodes no_items each i e found = cc
-    throughout_nodes (item d ds) each zero e found = let same : normal_node t d ≡ e = cc in subst (λ x. Throughout P (asked (Object role.Content) x)) same (throughout_node d (each zero d refl))
+    throughout_nodes (item d ds) each zero e found = let same : normal_node π t d ≡ e = cc in subst (λ x. Throughout P (asked (Object role.Content) x)) same (throughout_node d (each zero d refl))
     throughout_nodes (item d ds) each (suc i) e found = throughout_nodes ds (λ j. each (suc j)) i e found
 
-    pub throughout_node : (d : Data) → Within t (asked (Object role.Content) d) → Throughout P (asked (Object role.Content) (normal_node t d))
+    pub throughout_node : (d : Data) → Within t (asked (Object role.Content) d) → Throughout P (asked (Object role.Content) (normal_node π t d))
     throughout_node (object ms) w = node_with ms w (throughout_contents ms)
     throughout_node d w = let x : false ≡ true = wanted_within t clean (asked (Object role.Content) d) w in cc
 
@@ -205,15 +206,15 @@ module _ (t : Data) (clean : NoneOf (ShapeFault t)) (tree : IsTree t) (P : Asked
       let new : Throughout P (asked (Member kind.Identity r) (string id)) = throughout_text P (Member kind.Identity r) id false (holds.identity r id) in
       subst (λ w. Throughout P (asked w v)) (sym want) (subst (λ x. Throughout P (asked (Member kind.Identity r) x)) (sym same) new)
 
-  pub throughout_selection : (contest d : Data) → Within t (asked (Object selection_role) d) → Throughout P (asked (Object selection_role) (normal_selection t contest d))
+  pub throughout_selection : (contest d : Data) → Within t (asked (Object selection_role) d) → Throughout P (asked (Object selection_role) (normal_selection π t contest d))
   throughout_selection contest d w =
       let o : ObjectIn t selection_role d = object_in t clean selection_role d w in
-      throughout_object t clean tree P holds.members (plain_builder t) is_id selection_role o.class o.ms (normal_selection t contest d) (built_selection t clean tree contest d o) (holds.selection contest d w)
-      (λ name v named found. throughout_id o.class family.Selection o.role (id_of_selection t contest d) name v named (selection_id t clean tree contest d o name v named found))
+      throughout_object π t clean tree P holds.members (plain_builder π t) is_id selection_role o.class o.ms (normal_selection π t contest d) (built_selection π t clean tree contest d o) (holds.selection contest d w)
+      (λ name v named found. throughout_id o.class family.Selection o.role (id_of_selection π t contest d) name v named (selection_id π t clean tree contest d o name v named found))
       (λ name v b.
-      member_holds t clean (Throughout P) (throughout_status t clean tree P holds.members) (plain_builder t) o.class o.ms name v b
-      (λ required inside. throughout_value t clean tree P holds.members (kind_of_member o.class name) required b.from v (selection_kind o.class name b.other o.role) inside b.given)
-      (λ word. plain_word t (kind_of_member o.class name) b.from v word b.given))
+      member_holds t clean (Throughout P) (throughout_status π t clean tree P holds.members) (plain_builder π t) o.class o.ms name v b
+      (λ required inside. throughout_value π t clean tree P holds.members (kind_of_member o.class name) required b.from v (selection_kind o.class name b.other o.role) inside b.given)
+      (λ word. plain_word π t (kind_of_member o.class name) b.from v word b.given))
 
   -- ---- objects of families
 
@@ -222,21 +223,21 @@ module _ (t : Data) (clean : NoneOf (ShapeFault t)) (tree : IsTree t) (P : Asked
   IsOfContest contest d = Has (objects family.Contest t) contest × (get (codes "ContestSelection") contest.value ≡ Some d)
 
   object_member : (o : Placed) (k : MemberKind) (required : Bool) (d v : Data) → is_object_kind k ≡ true → (k ≡ kind.Keyed family.Selection → IsOfContest o d) → Within t (asked (want_of_kind k required) d)
-      → normal_object_value t o.value k d ≡ Some v → Throughout P (asked (want_of_kind k required) v)
+      → normal_object_value π t o.value k d ≡ Some v → Throughout P (asked (want_of_kind k required) v)
   object_member o (kind.Keyed family.Selection) required d v is contest w given =
-      let es : List Data = rising_list (by_name t) (entries_of d) in
-      let parts = given_unless d (array_of (map (normal_selection t o.value) es)) v given in
+      let es : List Data = rising_list (by_name π t) (entries_of d) in
+      let parts = given_unless d (array_of (map (normal_selection π t o.value) es)) v given in
       subst (λ x. Throughout P (asked (Member (kind.Keyed family.Selection) required) x)) parts.1
-      (throughout_built_list t clean tree P holds.members (Member (kind.Keyed family.Selection) required) (Object selection_role) d
+      (throughout_built_list π t clean tree P holds.members (Member (kind.Keyed family.Selection) required) (Object selection_role) d
       (wanted_within t clean (asked (Member (kind.Keyed family.Selection) required) d) w) refl refl w
-      (rising_list (by_name t)) (λ Q xs all. all_rising Q (by_name t) xs all) (normal_selection t o.value) (λ e within h. throughout_selection o.value e within)
+      (rising_list (by_name π t)) (λ Q xs all. all_rising Q (by_name π t) xs all) (normal_selection π t o.value) (λ e within h. throughout_selection o.value e within)
       (holds.selections o required d (contest refl).0 (contest refl).1 w parts.0))
   object_member o kind.Content required d v is contest w given =
-      let parts = given_unless d (normal_content t d) v given in
+      let parts = given_unless d (normal_content π t d) v given in
       subst (λ x. Throughout P (asked (Member kind.Content required) x)) parts.1 (throughout_content d required parts.0 w)
   object_member o kind.Elections required d v is contest w given = cc
   object_member o (kind.Keyed f) required d v is contest w given = cc
-  object_member o k required d v is contest w given = throughout_value t clean tree P holds.members k required d v is w given
+  object_member o k required d v is contest w given = throughout_value π t clean tree P holds.members k required d v is w given
 
   -- an object with a member of selections is a contest
   of_contest : (f : Family) (d : Placed) (o : ObjectIn t (role.OfFamily f) d.value) (name : List ℕ) (from : Data) → Has (objects f t) d → get_member name o.ms ≡ Some from
@@ -247,27 +248,27 @@ module _ (t : Data) (clean : NoneOf (ShapeFault t)) (tree : IsTree t) (P : Asked
       (subst (λ g. Has (objects g t) d) contest h, ap (get (codes "ContestSelection")) o.is_object ∙ ap (λ n. get_member n o.ms) (sym named) ∙ stands)
 
   pub throughout_family_object : (f : Family) (d : Placed) → Has (objects f t) d → Within t (asked (Object (role.OfFamily f)) d.value)
-      → Throughout P (asked (Object (role.OfFamily f)) (normal_object t f d.value))
+      → Throughout P (asked (Object (role.OfFamily f)) (normal_object π t f d.value))
   throughout_family_object f d h w =
       let o : ObjectIn t (role.OfFamily f) d.value = object_in t clean (role.OfFamily f) d.value w in
-      throughout_object t clean tree P holds.members (object_builder t d.value) is_id (role.OfFamily f) o.class o.ms (normal_object t f d.value) (built_object t clean tree f d.value o)
+      throughout_object π t clean tree P holds.members (object_builder π t d.value) is_id (role.OfFamily f) o.class o.ms (normal_object π t f d.value) (built_object π t clean tree f d.value o)
       (holds.object f d.value w)
-      (λ name v named found. let text = object_id t clean tree f d.value o name v named found in throughout_id o.class f o.role text.0 name v named text.2)
+      (λ name v named found. let text = object_id π t clean tree f d.value o name v named found in throughout_id o.class f o.role text.0 name v named text.2)
       (λ name v b.
-      member_holds t clean (Throughout P) (throughout_status t clean tree P holds.members) (object_builder t d.value) o.class o.ms name v b
+      member_holds t clean (Throughout P) (throughout_status π t clean tree P holds.members) (object_builder π t d.value) o.class o.ms name v b
       (λ required inside.
       object_member d (kind_of_member o.class name) required b.from v (object_kind o.class f name b.other o.role) (of_contest f d o name b.from h b.stands) inside b.given)
-      (λ word. object_word t d.value (kind_of_member o.class name) b.from v word b.given))
+      (λ word. object_word π t d.value (kind_of_member o.class name) b.from v word b.given))
 
   -- the array of the objects of a family
   pub throughout_objects : (f : Family) (required : Bool) (d : Data) → map (λ o. o.value) (objects f t) ≡ entries_of d → Within t (asked (Member (kind.Keyed f) required) d)
-      → P (asked (Member (kind.Keyed f) required) (normal_objects t f (entries_of d))) → Throughout P (asked (Member (kind.Keyed f) required) (normal_objects t f (entries_of d)))
+      → P (asked (Member (kind.Keyed f) required) (normal_objects π t f (entries_of d))) → Throughout P (asked (Member (kind.Keyed f) required) (normal_objects π t f (entries_of d)))
   throughout_objects f required d all w here =
-      throughout_built_list t clean tree P holds.members (Member (kind.Keyed f) required) (Object (role.OfFamily f)) d (wanted_within t clean (asked (Member (kind.Keyed f) required) d) w) refl refl w
-      (rising_list by_key) (λ Q xs each. all_rising Q by_key xs each) (normal_object t f) one here
+      throughout_built_list π t clean tree P holds.members (Member (kind.Keyed f) required) (Object (role.OfFamily f)) d (wanted_within t clean (asked (Member (kind.Keyed f) required) d) w) refl refl w
+      (rising_list (by_key π)) (λ Q xs each. all_rising Q (by_key π) xs each) (normal_object π t f) one here
     where
-      one : (e : Data) → Within t (asked (Object (role.OfFamily f)) e) → Has (entries_of d) e → Throughout P (asked (Object (role.OfFamily f)) (normal_object t f e))
+      one : (e : Data) → Within t (asked (Object (role.OfFamily f)) e) → Has (entries_of d) e → Throughout P (asked (Object (role.OfFamily f)) (normal_object π t f e))
       one e within h =
           let o = map_has (λ (x : Placed). x.value) (objects f t) e (subst (λ xs. Has xs e) (sym all) h) in
-          subst (λ x. Throughout P (asked (Object (role.OfFamily f)) (normal_object t f x))) o.2
+          subst (λ x. Throughout P (asked (Object (role.OfFamily f)) (normal_object π t f x))) o.2
           (throughout_family_object f o.0 o.1 (subst (λ x. Within t (asked (Object (role.OfFamily f)) x)) (sym o.2) within))

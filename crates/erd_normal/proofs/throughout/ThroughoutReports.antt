@@ -27,7 +27,7 @@ use Rattle.erd_check.proofs.Shapes.{Within}
 use Rattle.erd_check.proofs.TableKinds.{kind_of_class}
 use Rattle.erd_meaning.proofs.accepted.Skeleton.{Skeleton, skeleton_of_shape}
 use Rattle.erd_meaning.proofs.accepted.SoleElection.{SoleElection, only_sole, sole_election}
-use Rattle.erd_meaning.specs.Keys.{has_keys}
+use Rattle.erd_meaning.specs.Keys.{Preference, has_keys}
 use Rattle.erd_meaning.specs.Objects.{objects}
 use Rattle.erd_normal.specs.code.NormalTree.{array_of, normal_election, normal_election_value, normal_objects, normal_report_value, normal_tree, normal_value}
 use Rattle.erd_normal.proofs.built.BuiltFrom.{BuiltFrom, member_holds}
@@ -40,15 +40,15 @@ use Rattle.erd_normal.proofs.throughout.ThroughoutObjects.{HoldsOfObjects, throu
 use Rattle.erd_normal.proofs.throughout.ThroughoutValues.{Throughout, throughout_by_steps, throughout_list, throughout_text}
 
 -- what has to hold for what is built of a report, each part by the value that it is built of
-pub record HoldsOfBuilt (t : Data) (P : Asked → Type 0) : Type 0 where
-  pub parts : HoldsOfObjects t P
+pub record HoldsOfBuilt (π : Preference) (t : Data) (P : Asked → Type 0) : Type 0 where
+  pub parts : HoldsOfObjects π t P
   pub word : (required : Bool) (s : List ℕ) → P (asked (Member kind.Word required) (string s))
   pub whole : (required : Bool) (n : ℕ) → P (asked (Member kind.Whole required) (number (unsigned n)))
   pub keyed : (f : Family) → has_keys f ≡ true → (required : Bool) (d : Data) → Within t (asked (Member (kind.Keyed f) required) d) → map (λ o. o.value) (objects f t) ≡ entries_of d → is_empty_array d ≡ false
-      → P (asked (Member (kind.Keyed f) required) (normal_objects t f (entries_of d)))
-  pub elections : (required : Bool) (d : Data) → Within t (asked (Member kind.Elections required) d) → P (asked (Member kind.Elections required) (array_of (map (normal_election t) (entries_of d))))
-  pub election : (d : Data) → Within t (asked (Object role.Election) d) → P (asked (Object role.Election) (normal_election t d))
-  pub report : P (asked (Object role.Report) (normal_tree t))
+      → P (asked (Member (kind.Keyed f) required) (normal_objects π t f (entries_of d)))
+  pub elections : (required : Bool) (d : Data) → Within t (asked (Member kind.Elections required) d) → P (asked (Member kind.Elections required) (array_of (map (normal_election π t) (entries_of d))))
+  pub election : (d : Data) → Within t (asked (Object role.Election) d) → P (asked (Object role.Election) (normal_election π t d))
+  pub report : P (asked (Object role.Report) (normal_tree π t))
 
 -- a member of the election
 abbrev is_election_kind : MemberKind → Bool
@@ -69,11 +69,11 @@ is_report_kind (kind.Keyed f) = has_keys f
 is_report_kind kind.Content = false
 is_report_kind k = true
 
-election_word : (t : Data) (k : MemberKind) (d v : Data) → k ≡ kind.Word → normal_election_value t k d ≡ Some v → d ≡ v
-election_word t k d v is e = let x : Some d ≡ Some v = ap (λ q. normal_election_value t q d) (sym is) ∙ e in let same : d ≡ v = cc in same
+election_word : (π : Preference) (t : Data) (k : MemberKind) (d v : Data) → k ≡ kind.Word → normal_election_value π t k d ≡ Some v → d ≡ v
+election_word π t k d v is e = let x : Some d ≡ Some v = ap (λ q. normal_election_value π t q d) (sym is) ∙ e in let same : d ≡ v = cc in same
 
-report_word : (t : Data) (name : List ℕ) (k : MemberKind) (d v : Data) → k ≡ kind.Word → normal_report_value t name k d ≡ Some v → d ≡ v
-report_word t name k d v is e = at (is_envelope_name name) (ap (λ q. normal_report_value t name q d) (sym is) ∙ e)
+report_word : (π : Preference) (t : Data) (name : List ℕ) (k : MemberKind) (d v : Data) → k ≡ kind.Word → normal_report_value π t name k d ≡ Some v → d ≡ v
+report_word π t name k d v is e = at (is_envelope_name name) (ap (λ q. normal_report_value π t name q d) (sym is) ∙ e)
   where
     at : (b : Bool) → (if b then None else Some d) ≡ Some v → d ≡ v
     at true e = cc
@@ -88,57 +88,57 @@ row_named P (row ∷ rows) name all named = at (bytes_eq name row.name) refl (ro
     at true is h = subst P (sym (text_exact name row.name is)) all.0
     at false is h = h (rw is at named)
 
-module _ (t : Data) (clean : NoneOf (ShapeFault t)) (tree : IsTree t) (P : Asked → Type 0) (holds : HoldsOfBuilt t P) where
+module _ (π : Preference) (t : Data) (clean : NoneOf (ShapeFault t)) (tree : IsTree t) (P : Asked → Type 0) (holds : HoldsOfBuilt π t P) where
   abbrev s : Skeleton t
   s = skeleton_of_shape t clean
 
   abbrev sole : SoleElection t s
   sole = sole_election t clean s
 
-  abbrev plain : HoldsOfMembers t P
+  abbrev plain : HoldsOfMembers π t P
   plain = holds.parts.members
 
   -- ---- the election
 
   election_member : (k : MemberKind) (required : Bool) (d v : Data) → is_election_kind k ≡ true → ((f : Family) → k ≡ kind.Keyed f → map (λ o. o.value) (objects f t) ≡ entries_of d)
-      → Within t (asked (want_of_kind k required) d) → normal_election_value t k d ≡ Some v → Throughout P (asked (want_of_kind k required) v)
+      → Within t (asked (want_of_kind k required) d) → normal_election_value π t k d ≡ Some v → Throughout P (asked (want_of_kind k required) v)
   election_member (kind.Keyed f) required d v is all w given =
-      let parts = given_unless d (normal_objects t f (entries_of d)) v given in
-      subst (λ x. Throughout P (asked (Member (kind.Keyed f) required) x)) parts.1 (throughout_objects t clean tree P holds.parts f required d (all f refl) w (holds.keyed f is required d w (all f refl) parts.0))
+      let parts = given_unless d (normal_objects π t f (entries_of d)) v given in
+      subst (λ x. Throughout P (asked (Member (kind.Keyed f) required) x)) parts.1 (throughout_objects π t clean tree P holds.parts f required d (all f refl) w (holds.keyed f is required d w (all f refl) parts.0))
   election_member kind.Elections required d v is all w given = cc
   election_member kind.Content required d v is all w given = cc
-  election_member k required d v is all w given = throughout_value t clean tree P plain k required d v is w given
+  election_member k required d v is all w given = throughout_value π t clean tree P plain k required d v is w given
 
   -- each array of objects in an election holds all objects of its family
   abbrev HoldsFamilies : Members → Type 0
   HoldsFamilies es = (name : List ℕ) (from : Data) → get_member name es ≡ Some from → (f : Family) → kind_of_member class.Election name ≡ kind.Keyed f → map (λ o. o.value) (objects f t) ≡ entries_of from
 
-  throughout_election : (es : Members) → ObjectAt t (Object role.Election) role.Election class.Election es → HoldsFamilies es → Throughout P (asked (Object role.Election) (normal_election t (object es)))
+  throughout_election : (es : Members) → ObjectAt t (Object role.Election) role.Election class.Election es → HoldsFamilies es → Throughout P (asked (Object role.Election) (normal_election π t (object es)))
   throughout_election es election family =
-      throughout_object t clean tree P plain (election_builder t) no_name role.Election class.Election es (normal_election t (object es)) (built_election t clean tree es (object es) refl election)
+      throughout_object π t clean tree P plain (election_builder π t) no_name role.Election class.Election es (normal_election π t (object es)) (built_election π t clean tree es (object es) refl election)
       (holds.election (object es) election.inside) (λ name v is found. cc) built
     where
-      built : (name : List ℕ) (v : Data) → BuiltFrom t (election_builder t) class.Election es name v → Throughout P (asked (member_want class.Election name) v)
+      built : (name : List ℕ) (v : Data) → BuiltFrom t (election_builder π t) class.Election es name v → Throughout P (asked (member_want class.Election name) v)
       built name v b =
-          member_holds t clean (Throughout P) (throughout_status t clean tree P plain) (election_builder t) class.Election es name v b
+          member_holds t clean (Throughout P) (throughout_status π t clean tree P plain) (election_builder π t) class.Election es name v b
           (λ required inside.
           election_member (kind_of_member class.Election name) required b.from v (kind_of_class is_election_kind class.Election name b.other refl refl refl refl) (family name b.from b.stands) inside b.given)
-          (λ word. election_word t (kind_of_member class.Election name) b.from v word b.given)
+          (λ word. election_word π t (kind_of_member class.Election name) b.from v word b.given)
 
   -- the array of elections
-  throughout_elections : ((d : Data) → Has (list_of_items s.es) d → Throughout P (asked (Object role.Election) (normal_election t d))) → (required : Bool) (d : Data) → d ≡ array s.es
-      → Within t (asked (Member kind.Elections required) d) → Throughout P (asked (Member kind.Elections required) (array_of (map (normal_election t) (entries_of d))))
+  throughout_elections : ((d : Data) → Has (list_of_items s.es) d → Throughout P (asked (Object role.Election) (normal_election π t d))) → (required : Bool) (d : Data) → d ≡ array s.es
+      → Within t (asked (Member kind.Elections required) d) → Throughout P (asked (Member kind.Elections required) (array_of (map (normal_election π t) (entries_of d))))
   throughout_elections each required d is w =
-      let here = subst (λ x. P (asked (Member kind.Elections required) (array_of (map (normal_election t) (entries_of x))))) is (holds.elections required d w) in
-      subst (λ x. Throughout P (asked (Member kind.Elections required) (array_of (map (normal_election t) (entries_of x))))) (sym is)
-      (throughout_list P (Member kind.Elections required) (Object role.Election) (map (normal_election t) (list_of_items s.es)) refl refl here
-      (all_map (λ e. Throughout P (asked (Object role.Election) (normal_election t e))) (λ e. Throughout P (asked (Object role.Election) e)) (normal_election t) (list_of_items s.es) (λ e h. h)
-      (all_by_entry (λ e. Throughout P (asked (Object role.Election) (normal_election t e))) (list_of_items s.es) each)))
+      let here = subst (λ x. P (asked (Member kind.Elections required) (array_of (map (normal_election π t) (entries_of x))))) is (holds.elections required d w) in
+      subst (λ x. Throughout P (asked (Member kind.Elections required) (array_of (map (normal_election π t) (entries_of x))))) (sym is)
+      (throughout_list P (Member kind.Elections required) (Object role.Election) (map (normal_election π t) (list_of_items s.es)) refl refl here
+      (all_map (λ e. Throughout P (asked (Object role.Election) (normal_election π t e))) (λ e. Throughout P (asked (Object role.Election) e)) (normal_election π t) (list_of_items s.es) (λ e h. h)
+      (all_by_entry (λ e. Throughout P (asked (Object role.Election) (normal_election π t e))) (list_of_items s.es) each)))
 
   -- the one election holds all objects of its families
-  throughout_sole : (d : Data) → Has (list_of_items s.es) d → Throughout P (asked (Object role.Election) (normal_election t d))
+  throughout_sole : (d : Data) → Has (list_of_items s.es) d → Throughout P (asked (Object role.Election) (normal_election π t d))
   throughout_sole d h =
-      subst (λ x. Throughout P (asked (Object role.Election) (normal_election t x))) (sym (only_sole t s sole d h)) (throughout_election sole.members sole.at family)
+      subst (λ x. Throughout P (asked (Object role.Election) (normal_election π t x))) (sym (only_sole t s sole d h)) (throughout_election sole.members sole.at family)
     where
       family : HoldsFamilies sole.members
       family name from stands f is =
@@ -155,30 +155,30 @@ module _ (t : Data) (clean : NoneOf (ShapeFault t)) (tree : IsTree t) (P : Asked
 
   -- a member of the envelope that is built
   abbrev IsMember : List ℕ → Type 0
-  IsMember name = (v : Data) → get name (normal_tree t) ≡ Some v → Throughout P (asked (member_want class.ElectionReport name) v)
+  IsMember name = (v : Data) → get name (normal_tree π t) ≡ Some v → Throughout P (asked (member_want class.ElectionReport name) v)
 
-  text_member : (name text : List ℕ) → member_want class.ElectionReport name ≡ Member kind.Word false → get name (normal_tree t) ≡ Some (string text) → IsMember name
+  text_member : (name text : List ℕ) → member_want class.ElectionReport name ≡ Member kind.Word false → get name (normal_tree π t) ≡ Some (string text) → IsMember name
   text_member name text want stands v found =
       let x : Some (string text) ≡ Some v = sym stands ∙ found in
       let same : string text ≡ v = cc in
       subst (λ w. Throughout P (asked w v)) (sym want)
       (subst (λ y. Throughout P (asked (Member kind.Word false) y)) same (throughout_text P (Member kind.Word false) text false (holds.word false text)))
 
-  number_member : (name : List ℕ) (n : ℕ) → member_want class.ElectionReport name ≡ Member kind.Whole false → get name (normal_tree t) ≡ Some (number (unsigned n)) → IsMember name
+  number_member : (name : List ℕ) (n : ℕ) → member_want class.ElectionReport name ≡ Member kind.Whole false → get name (normal_tree π t) ≡ Some (number (unsigned n)) → IsMember name
   number_member name n want stands v found =
       let x : Some (number (unsigned n)) ≡ Some v = sym stands ∙ found in
       let same : number (unsigned n) ≡ v = cc in
       subst (λ w. Throughout P (asked w v)) (sym want) (subst (λ y. Throughout P (asked (Member kind.Whole false) y)) same (throughout_whole false n))
 
-  absent_member : (name : List ℕ) → get name (normal_tree t) ≡ None → IsMember name
+  absent_member : (name : List ℕ) → get name (normal_tree π t) ≡ None → IsMember name
   absent_member name none v found = let x : None ≡ Some v = sym none ∙ found in cc
 
-  envelope_member : (name : List ℕ) (v : Data) → is_envelope_name name ≡ true → get name (normal_tree t) ≡ Some v → Throughout P (asked (member_want class.ElectionReport name) v)
+  envelope_member : (name : List ℕ) (v : Data) → is_envelope_name name ≡ true → get name (normal_tree π t) ≡ Some v → Throughout P (asked (member_want class.ElectionReport name) v)
   envelope_member name v named = row_named IsMember envelope_rows name all named v
     where
       all : AllByRecursion (λ row. IsMember row.name) envelope_rows
       all =
-          let e = has_canonical_envelope t clean tree in (
+          let e = has_canonical_envelope π t clean tree in (
             text_member (codes "Format") _ refl e.format,
             (
               text_member (codes "GeneratedDate") _ refl e.date,
@@ -204,26 +204,26 @@ module _ (t : Data) (clean : NoneOf (ShapeFault t)) (tree : IsTree t) (P : Asked
             ),
           )
 
-  other_member : (k : MemberKind) (required : Bool) (d v : Data) → is_plain_kind k ≡ true → Within t (asked (want_of_kind k required) d) → (inside : Bool) → (if inside then None else normal_value t k d) ≡ Some v
+  other_member : (k : MemberKind) (required : Bool) (d v : Data) → is_plain_kind k ≡ true → Within t (asked (want_of_kind k required) d) → (inside : Bool) → (if inside then None else normal_value π t k d) ≡ Some v
       → Throughout P (asked (want_of_kind k required) v)
   other_member k required d v is w true given = cc
-  other_member k required d v is w false given = throughout_value t clean tree P plain k required d v is w given
+  other_member k required d v is w false given = throughout_value π t clean tree P plain k required d v is w given
 
   report_member : (name : List ℕ) (k : MemberKind) (required : Bool) (d v : Data) → is_report_kind k ≡ true → ((f : Family) → k ≡ kind.Keyed f → map (λ o. o.value) (objects f t) ≡ entries_of d)
-      → (k ≡ kind.Elections → d ≡ array s.es) → Within t (asked (want_of_kind k required) d) → normal_report_value t name k d ≡ Some v
+      → (k ≡ kind.Elections → d ≡ array s.es) → Within t (asked (want_of_kind k required) d) → normal_report_value π t name k d ≡ Some v
       → Throughout P (asked (want_of_kind k required) v)
   report_member name (kind.Keyed f) required d v is all listed w given =
-      let parts = given_unless d (normal_objects t f (entries_of d)) v given in
-      subst (λ x. Throughout P (asked (Member (kind.Keyed f) required) x)) parts.1 (throughout_objects t clean tree P holds.parts f required d (all f refl) w (holds.keyed f is required d w (all f refl) parts.0))
+      let parts = given_unless d (normal_objects π t f (entries_of d)) v given in
+      subst (λ x. Throughout P (asked (Member (kind.Keyed f) required) x)) parts.1 (throughout_objects π t clean tree P holds.parts f required d (all f refl) w (holds.keyed f is required d w (all f refl) parts.0))
   report_member name kind.Elections required d v is all listed w given =
-      let same : array_of (map (normal_election t) (entries_of d)) ≡ v = cc in
+      let same : array_of (map (normal_election π t) (entries_of d)) ≡ v = cc in
       subst (λ x. Throughout P (asked (Member kind.Elections required) x)) same (throughout_elections throughout_sole required d (listed refl) w)
   report_member name kind.Content required d v is all listed w given = cc
   report_member name k required d v is all listed w given = other_member k required d v is w (is_envelope_name name) given
 
-  throughout_report : Throughout P (asked (Object role.Report) (normal_tree t))
+  throughout_report : Throughout P (asked (Object role.Report) (normal_tree π t))
   throughout_report =
-      throughout_object t clean tree P plain (normal_report_value t) is_envelope_name role.Report class.ElectionReport s.ms (normal_tree t) (built_report t clean tree s) holds.report envelope_member built
+      throughout_object π t clean tree P plain (normal_report_value π t) is_envelope_name role.Report class.ElectionReport s.ms (normal_tree π t) (built_report π t clean tree s) holds.report envelope_member built
     where
       family : (name : List ℕ) (from : Data) → get_member name s.ms ≡ Some from → (f : Family) → kind_of_member class.ElectionReport name ≡ kind.Keyed f → map (λ o. o.value) (objects f t) ≡ entries_of from
       family name from stands f is =
@@ -235,16 +235,16 @@ module _ (t : Data) (clean : NoneOf (ShapeFault t)) (tree : IsTree t) (P : Asked
           let x : Some from ≡ Some (array s.es) = sym stands ∙ ap (λ n. get_member n s.ms) (elections_name class.ElectionReport name is) ∙ s.listed in
           let same : from ≡ array s.es = cc in same
 
-      built : (name : List ℕ) (v : Data) → BuiltFrom t (normal_report_value t) class.ElectionReport s.ms name v → Throughout P (asked (member_want class.ElectionReport name) v)
+      built : (name : List ℕ) (v : Data) → BuiltFrom t (normal_report_value π t) class.ElectionReport s.ms name v → Throughout P (asked (member_want class.ElectionReport name) v)
       built name v b =
-          member_holds t clean (Throughout P) (throughout_status t clean tree P plain) (normal_report_value t) class.ElectionReport s.ms name v b
+          member_holds t clean (Throughout P) (throughout_status π t clean tree P plain) (normal_report_value π t) class.ElectionReport s.ms name v b
           (λ required inside.
           report_member name (kind_of_member class.ElectionReport name) required b.from v (kind_of_class is_report_kind class.ElectionReport name b.other refl refl refl refl) (family name b.from b.stands)
           (listed name b.from b.stands) inside b.given)
-          (λ word. report_word t name (kind_of_member class.ElectionReport name) b.from v word b.given)
+          (λ word. report_word π t name (kind_of_member class.ElectionReport name) b.from v word b.given)
 
   -- it holds of whatever is asked at a place of the report that is built
-  pub holds_of_built : (p : List Step) (a : Asked) → asked_at (normal_tree t) p ≡ Some a → P a
+  pub holds_of_built : (p : List Step) (a : Asked) → asked_at (normal_tree π t) p ≡ Some a → P a
   holds_of_built p a e = throughout_report.each p a e
 
 -- a test that nothing passes which is asked for finds nothing at any place

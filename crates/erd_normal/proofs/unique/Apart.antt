@@ -13,6 +13,7 @@ use Rattle.erd_check.proofs.Rising.{Has}
 use Rattle.erd_check.specs.Wants.{is_report_class}
 use Rattle.erd_check.proofs.TableKinds.{kind_of_name}
 use Rattle.erd_check.proofs.Exact.{text_exact}
+use Rattle.erd_meaning.specs.Keys.{Preference}
 use Rattle.erd_meaning.specs.Meaning.{PlainValue, MemberValue, a_plain}
 use Rattle.erd_meaning.specs.Records.{is_in_envelope, member_value}
 use Rattle.erd_meaning.proofs.orders.Sets.{has-any}
@@ -49,17 +50,17 @@ plain_of_value : Option MemberValue → Option PlainValue
 plain_of_value (Some (a_plain p)) = Some p
 plain_of_value o = None
 
-member_value-plain : (t : Data) (k : MemberKind) (o : Option Data) (p : Option PlainValue) → is_plain k ≡ true → member_value t k o p ≡ option_map a_plain p
-member_value-plain t (kind.Keyed f) o p h = cc
-member_value-plain t _ o p h = refl
+member_value-plain : (π : Preference) (t : Data) (k : MemberKind) (o : Option Data) (p : Option PlainValue) → is_plain k ≡ true → member_value π t k o p ≡ option_map a_plain p
+member_value-plain π t (kind.Keyed f) o p h = cc
+member_value-plain π t _ o p h = refl
 
 plain_again : (p : Option PlainValue) → plain_of_value (option_map a_plain p) ≡ p
 unfolding plain_of_value
 plain_again None = refl
 plain_again (Some p) = refl
 
-pub plain_from_value : (t u : Data) (k : MemberKind) (o o' : Option Data) (p q : Option PlainValue) → is_plain k ≡ true → member_value t k o p ≡ member_value u k o' q → p ≡ q
-plain_from_value t u k o o' p q h e = sym (plain_again p) ∙ ap plain_of_value (sym (member_value-plain t k o p h) ∙ e ∙ member_value-plain u k o' q h) ∙ plain_again q
+pub plain_from_value : (π : Preference) (t u : Data) (k : MemberKind) (o o' : Option Data) (p q : Option PlainValue) → is_plain k ≡ true → member_value π t k o p ≡ member_value π u k o' q → p ≡ q
+plain_from_value π t u k o o' p q h e = sym (plain_again p) ∙ ap plain_of_value (sym (member_value-plain π t k o p h) ∙ e ∙ member_value-plain π u k o' q h) ∙ plain_again q
 
 pub plain_unless_apart : (c : Class) (k : List ℕ) → is_apart c k ≡ false → is_plain (kind_of_member c k) ≡ true
 plain_unless_apart c k e = at (is_in_envelope c k) (is_plain (kind_of_member c k)) e

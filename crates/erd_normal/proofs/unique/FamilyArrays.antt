@@ -25,19 +25,19 @@ use Rattle.erd_check.specs.Values.{list_of_items, entries_at}
 use Rattle.erd_meaning.proofs.accepted.Skeleton.{Skeleton, values-placed_entries}
 use Rattle.erd_meaning.proofs.accepted.SoleElection.{SoleElection, values_in_sole}
 use Rattle.erd_meaning.specs.Objects.{objects, placed_entries, report_of}
-use Rattle.erd_meaning.specs.Keys.{key_cmp, key_of, has_keys}
+use Rattle.erd_meaning.specs.Keys.{Preference, has_keys, key_cmp, key_of}
 use Rattle.erd_meaning.proofs.accepted.Phases.{no_shape_fault}
 use Rattle.erd_normal.proofs.unique.Contents.{Filled, absent, filled}
 use Rattle.erd_normal.specs.Canonical.{IsCanonical, RisesAs}
 
-filled_from : (t : Data) → IsCanonical t → (f : Family) (r : Bool) (o : Option Data) → MayBeArray (λ ds. Within t (asked (Member (kind.Keyed f) r) (array ds))) o → Filled (λ ds. Within t (asked (Member (kind.Keyed f) r) (array ds))) o
-filled_from t canonical f r o is_absent = absent
-filled_from t canonical f r o (is_filled_array {ds = ds} w) = filled (canonical.no_empty_array w.place (asked (Member (kind.Keyed f) r) (array ds)) (kind.Keyed f) w.is refl) w
+filled_from : (π : Preference) (t : Data) → IsCanonical π t → (f : Family) (r : Bool) (o : Option Data) → MayBeArray (λ ds. Within t (asked (Member (kind.Keyed f) r) (array ds))) o → Filled (λ ds. Within t (asked (Member (kind.Keyed f) r) (array ds))) o
+filled_from π t canonical f r o is_absent = absent
+filled_from π t canonical f r o (is_filled_array {ds = ds} w) = filled (canonical.no_empty_array w.place (asked (Member (kind.Keyed f) r) (array ds)) (kind.Keyed f) w.is refl) w
 
 -- a keyed array of an object: it isn't empty
-pub keyed_array : (t : Data) → IsCanonical t → (w : Want) (q : Role) (c : Class) (ms : Members) → ObjectAt t w q c ms → (f : Family) (name : List ℕ) → bytes_eq name (codes "@type") ≡ false
+pub keyed_array : (π : Preference) (t : Data) → IsCanonical π t → (w : Want) (q : Role) (c : Class) (ms : Members) → ObjectAt t w q c ms → (f : Family) (name : List ℕ) → bytes_eq name (codes "@type") ≡ false
     → kind_of_member c name ≡ kind.Keyed f → (o : Option Data) → get_member name ms ≡ o → Filled (λ ds. Within t (asked (Member (kind.Keyed f) (is_required c name)) (array ds))) o
-keyed_array t canonical w q c ms a f name other keyed o e = filled_from t canonical f (is_required c name) o (keyed_list t (no_shape_fault t canonical.accepted) w q c ms a f name other keyed o e)
+keyed_array π t canonical w q c ms a f name other keyed o e = filled_from π t canonical f (is_required c name) o (keyed_list t (no_shape_fault π t canonical.accepted) w q c ms a f name other keyed o e)
 
 pub keyed_entry : (t : Data) (f : Family) (r : Bool) (o : Option Data) → Filled (λ ds. Within t (asked (Member (kind.Keyed f) r) (array ds))) o → (d : Data) → Has (entries_in o) d → Within t (asked (Object (role.OfFamily f)) d)
 keyed_entry t f r o absent d h = elim h [ ]
@@ -45,21 +45,21 @@ keyed_entry t f r o (filled {ds = ds} full w) d h =
     let p = list_of_items-place ds d h in
     Within-step t (asked (Member (kind.Keyed f) r) (array ds)) (asked (Object (role.OfFamily f)) d) (At p.0) w (rw p.1)
 
-rises_keyed : (t : Data) (f : Family) (ds : List Data) → has_keys f ≡ true → RisesAs t (kind.Keyed f) ds → IsStrictlySortedBy (option_cmp key_cmp) (map key_of ds)
-rises_keyed t family.Unit ds h rise = rise
-rises_keyed t family.Party ds h rise = rise
-rises_keyed t family.Person ds h rise = rise
-rises_keyed t family.Office ds h rise = rise
-rises_keyed t family.Header ds h rise = rise
-rises_keyed t family.Candidate ds h rise = rise
-rises_keyed t family.Contest ds h rise = rise
-rises_keyed t family.Style ds h rise = rise
-rises_keyed t family.Selection ds h rise = cc
+rises_keyed : (π : Preference) (t : Data) (f : Family) (ds : List Data) → has_keys f ≡ true → RisesAs π t (kind.Keyed f) ds → IsStrictlySortedBy (option_cmp key_cmp) (map (key_of π) ds)
+rises_keyed π t family.Unit ds h rise = rise
+rises_keyed π t family.Party ds h rise = rise
+rises_keyed π t family.Person ds h rise = rise
+rises_keyed π t family.Office ds h rise = rise
+rises_keyed π t family.Header ds h rise = rise
+rises_keyed π t family.Candidate ds h rise = rise
+rises_keyed π t family.Contest ds h rise = rise
+rises_keyed π t family.Style ds h rise = rise
+rises_keyed π t family.Selection ds h rise = cc
 
-pub keyed_rises : (t : Data) → IsCanonical t → (f : Family) (r : Bool) (o : Option Data) → has_keys f ≡ true → Filled (λ ds. Within t (asked (Member (kind.Keyed f) r) (array ds))) o → IsStrictlySortedBy (option_cmp key_cmp) (map key_of (entries_in o))
+pub keyed_rises : (π : Preference) (t : Data) → IsCanonical π t → (f : Family) (r : Bool) (o : Option Data) → has_keys f ≡ true → Filled (λ ds. Within t (asked (Member (kind.Keyed f) r) (array ds))) o → IsStrictlySortedBy (option_cmp key_cmp) (map (key_of π) (entries_in o))
 unfolding IsStrictlySortedBy
-keyed_rises t canonical f r o h absent = tt
-keyed_rises t canonical f r o h (filled {ds = ds} full w) = rises_keyed t f (list_of_items ds) h (canonical.in_order w.place (asked (Member (kind.Keyed f) r) (array ds)) (kind.Keyed f) w.is refl)
+keyed_rises π t canonical f r o h absent = tt
+keyed_rises π t canonical f r o h (filled {ds = ds} full w) = rises_keyed π t f (list_of_items ds) h (canonical.in_order w.place (asked (Member (kind.Keyed f) r) (array ds)) (kind.Keyed f) w.is refl)
 
 -- the entries of two arrays determine the members that they are
 pub arrays_same : (P Q : Items → Type 0) (o p : Option Data) → Filled P o → Filled Q p → entries_in o ≡ entries_in p → o ≡ p
@@ -83,17 +83,17 @@ array_of family.Style ms es = get_member (codes "BallotStyle") es
 array_of family.Selection ms es = None
 
 -- it isn't empty, in whichever election
-pub family_array : (t : Data) → IsCanonical t → (s : Skeleton t) (es : Members) → ObjectAt t (Object role.Election) role.Election class.Election es → (f : Family) → has_keys f ≡ true
+pub family_array : (π : Preference) (t : Data) → IsCanonical π t → (s : Skeleton t) (es : Members) → ObjectAt t (Object role.Election) role.Election class.Election es → (f : Family) → has_keys f ≡ true
     → Filled (λ ds. Within t (asked (Member (kind.Keyed f) false) (array ds))) (array_of f s.ms es)
-family_array t canonical s es election family.Unit h = keyed_array t canonical (Object role.Report) role.Report class.ElectionReport s.ms s.report family.Unit (codes "GpUnit") refl refl _ refl
-family_array t canonical s es election family.Party h = keyed_array t canonical (Object role.Report) role.Report class.ElectionReport s.ms s.report family.Party (codes "Party") refl refl _ refl
-family_array t canonical s es election family.Person h = keyed_array t canonical (Object role.Report) role.Report class.ElectionReport s.ms s.report family.Person (codes "Person") refl refl _ refl
-family_array t canonical s es election family.Office h = keyed_array t canonical (Object role.Report) role.Report class.ElectionReport s.ms s.report family.Office (codes "Office") refl refl _ refl
-family_array t canonical s es election family.Header h = keyed_array t canonical (Object role.Report) role.Report class.ElectionReport s.ms s.report family.Header (codes "Header") refl refl _ refl
-family_array t canonical s es election family.Candidate h = keyed_array t canonical (Object role.Election) role.Election class.Election es election family.Candidate (codes "Candidate") refl refl _ refl
-family_array t canonical s es election family.Contest h = keyed_array t canonical (Object role.Election) role.Election class.Election es election family.Contest (codes "Contest") refl refl _ refl
-family_array t canonical s es election family.Style h = keyed_array t canonical (Object role.Election) role.Election class.Election es election family.Style (codes "BallotStyle") refl refl _ refl
-family_array t canonical s es election family.Selection h = cc
+family_array π t canonical s es election family.Unit h = keyed_array π t canonical (Object role.Report) role.Report class.ElectionReport s.ms s.report family.Unit (codes "GpUnit") refl refl _ refl
+family_array π t canonical s es election family.Party h = keyed_array π t canonical (Object role.Report) role.Report class.ElectionReport s.ms s.report family.Party (codes "Party") refl refl _ refl
+family_array π t canonical s es election family.Person h = keyed_array π t canonical (Object role.Report) role.Report class.ElectionReport s.ms s.report family.Person (codes "Person") refl refl _ refl
+family_array π t canonical s es election family.Office h = keyed_array π t canonical (Object role.Report) role.Report class.ElectionReport s.ms s.report family.Office (codes "Office") refl refl _ refl
+family_array π t canonical s es election family.Header h = keyed_array π t canonical (Object role.Report) role.Report class.ElectionReport s.ms s.report family.Header (codes "Header") refl refl _ refl
+family_array π t canonical s es election family.Candidate h = keyed_array π t canonical (Object role.Election) role.Election class.Election es election family.Candidate (codes "Candidate") refl refl _ refl
+family_array π t canonical s es election family.Contest h = keyed_array π t canonical (Object role.Election) role.Election class.Election es election family.Contest (codes "Contest") refl refl _ refl
+family_array π t canonical s es election family.Style h = keyed_array π t canonical (Object role.Election) role.Election class.Election es election family.Style (codes "BallotStyle") refl refl _ refl
+family_array π t canonical s es election family.Selection h = cc
 
 pub values_in_report : (t : Data) (s : Skeleton t) (name : List ℕ) → map (λ o. o.value) (placed_entries name (report_of t)) ≡ entries_in (get_member name s.ms)
 values_in_report t s name = values-placed_entries name (report_of t) ∙ ap (entries_at name) s.is_object

@@ -3,6 +3,7 @@ use Rattle.std.proofs.Common.{◌≡◌, List, ◌∷◌, map, refl, ap₂}
 use Rattle.serde_json.specs.Data.{Data}
 use Rattle.erd_tables.specs.declared.class.Family.{Family}
 use Rattle.erd_tables.specs.declared.class.Family.TheVariants as family
+use Rattle.erd_meaning.specs.Keys.{Preference}
 use Rattle.erd_meaning.specs.Objects.{contests, id_of, objects, selections_of_contest}
 use Rattle.erd_meaning.specs.SelectionNames.{name_of}
 use Rattle.erd_normal.specs.Laws.{MeanAlike, NamesAgree, ids_in, names_in}
@@ -15,15 +16,15 @@ paired_map : {A B C : Type 0} {R : A → B → Type 0} (f : A → C) (g : B → 
 paired_map f g xs ys Paired.none each = refl
 paired_map f g xs ys (Paired.more {x = x} {y = y} {xs = xs'} {ys = ys'} r rest) each = ap₂ ◌∷◌ (each x y r) (paired_map f g xs' ys' rest each)
 
-ids_alike : (t u : Data) → MeanAlike t u → (f : Family) → ids_in f t ≡ ids_in f u
-ids_alike t u alike family.Selection =
-    paired_map (λ o. id_of o.value) (λ o. id_of o.value) (objects family.Selection t) (objects family.Selection u) (all_selections t u alike.left alike.right alike.same) (λ x y r. r.same_id)
-ids_alike t u alike f = paired_map (λ o. id_of o.value) (λ o. id_of o.value) (objects f t) (objects f u) (pairs_of t u alike.left alike.right alike.same f refl) (λ x y r. r.same_id)
+ids_alike : (π : Preference) (t u : Data) → MeanAlike π t u → (f : Family) → ids_in f t ≡ ids_in f u
+ids_alike π t u alike family.Selection =
+    paired_map (λ o. id_of o.value) (λ o. id_of o.value) (objects family.Selection t) (objects family.Selection u) (all_selections π t u alike.left alike.right alike.same) (λ x y r. r.same_id)
+ids_alike π t u alike f = paired_map (λ o. id_of o.value) (λ o. id_of o.value) (objects f t) (objects f u) (pairs_of π t u alike.left alike.right alike.same f refl) (λ x y r. r.same_id)
 
 pub names_agree : NamesAgree
-names_agree t u alike = record {
-  keys = λ f h. paired_map key_at key_at (objects f t) (objects f u) (pairs_of t u alike.left alike.right alike.same f h) (λ x y r. r.alike.0);
-  names = paired_map (names_in t) (names_in u) (contests t) (contests u) (contest_pairs t u alike.left alike.right alike.same)
-      (λ x y r. paired_map (λ o. name_of t o.value) (λ o. name_of u o.value) (selections_of_contest x) (selections_of_contest y) r.selections (λ v w q. q.alike.0));
-  ids = ids_alike t u alike;
+names_agree π t u alike = record {
+  keys = λ f h. paired_map (key_at π) (key_at π) (objects f t) (objects f u) (pairs_of π t u alike.left alike.right alike.same f h) (λ x y r. r.alike.0);
+  names = paired_map (names_in π t) (names_in π u) (contests t) (contests u) (contest_pairs π t u alike.left alike.right alike.same)
+      (λ x y r. paired_map (λ o. name_of π t o.value) (λ o. name_of π u o.value) (selections_of_contest x) (selections_of_contest y) r.selections (λ v w q. q.alike.0));
+  ids = ids_alike π t u alike;
 }

@@ -5,7 +5,7 @@ use Rattle.erd_tables.specs.declared.class.Family.{Family}
 use Rattle.erd_tables.specs.declared.class.Family.TheVariants as family
 use Rattle.erd_tables.specs.declared.class.Role.TheVariants as role
 use Rattle.erd_check.proofs.Rising.{Has}
-use Rattle.erd_meaning.specs.Keys.{has_keys}
+use Rattle.erd_meaning.specs.Keys.{Preference, has_keys}
 use Rattle.erd_meaning.specs.Objects.{Placed, IsObject, id_of, objects}
 use Rattle.erd_meaning.specs.Records.{object_record}
 use Rattle.erd_meaning.proofs.accepted.References.{Has-Contains}
@@ -16,30 +16,30 @@ use Rattle.erd_normal.proofs.unique.Unique.{leaves, object_unique, selection_sam
 use Rattle.erd_check.proofs.Positions.{position_of}
 
 -- contests are told apart by their `@id` texts
-one_contest : (t : Data) → IsCanonical t → (one other : Placed) → Has (objects family.Contest t) one → Has (objects family.Contest t) other → id_of one.value ≡ id_of other.value → one.value ≡ other.value
-one_contest t canonical one other h k ids =
+one_contest : (π : Preference) (t : Data) → IsCanonical π t → (one other : Placed) → Has (objects family.Contest t) one → Has (objects family.Contest t) other → id_of one.value ≡ id_of other.value → one.value ≡ other.value
+one_contest π t canonical one other h k ids =
     let i = position_of (objects family.Contest t) one h in
     let its_id = canonical.ids.families family.Contest i.0 one refl i.1 in
-    ap (λ o. o.value) (one_object t canonical.accepted family.Contest family.Contest one other _ h k its_id (sym ids ∙ its_id))
+    ap (λ o. o.value) (one_object π t canonical.accepted family.Contest family.Contest one other _ h k its_id (sym ids ∙ its_id))
 
-object_alike : (t u : Data) → MeanAlike t u → (f : Family) (one other : Placed) → has_keys f ≡ true → IsObject t f one → IsObject u f other
-    → object_record t (role.OfFamily f) one.value ≡ object_record u (role.OfFamily f) other.value → id_of one.value ≡ id_of other.value → one.value ≡ other.value
-object_alike t u alike family.Contest one other h a b records ids =
-    one_contest t alike.left one other (Has-Contains (objects family.Contest t) one a)
-    (Has-Contains (objects family.Contest t) other (subst (λ x. IsObject x family.Contest other) (sym (unique t u alike)) b)) ids
-object_alike t u alike family.Selection one other h a b records ids = cc
-object_alike t u alike f one other h a b records ids =
-    object_unique t u alike.left alike.right alike.same alike.left_tree alike.right_tree [] (role.OfFamily f) one.value other.value (leaves f)
-    (within_t t u alike.left alike.right alike.same alike.left_tree alike.right_tree f one (Has-Contains (objects f t) one a))
-    (within_u t u alike.left alike.right alike.same alike.left_tree alike.right_tree f other (Has-Contains (objects f u) other b))
+object_alike : (π : Preference) (t u : Data) → MeanAlike π t u → (f : Family) (one other : Placed) → has_keys f ≡ true → IsObject t f one → IsObject u f other
+    → object_record π t (role.OfFamily f) one.value ≡ object_record π u (role.OfFamily f) other.value → id_of one.value ≡ id_of other.value → one.value ≡ other.value
+object_alike π t u alike family.Contest one other h a b records ids =
+    one_contest π t alike.left one other (Has-Contains (objects family.Contest t) one a)
+    (Has-Contains (objects family.Contest t) other (subst (λ x. IsObject x family.Contest other) (sym (unique π t u alike)) b)) ids
+object_alike π t u alike family.Selection one other h a b records ids = cc
+object_alike π t u alike f one other h a b records ids =
+    object_unique π t u alike.left alike.right alike.same alike.left_tree alike.right_tree [] (role.OfFamily f) one.value other.value (leaves f)
+    (within_t π t u alike.left alike.right alike.same alike.left_tree alike.right_tree f one (Has-Contains (objects f t) one a))
+    (within_u π t u alike.left alike.right alike.same alike.left_tree alike.right_tree f other (Has-Contains (objects f u) other b))
     records ids (λ two n k. elim k [ ])
 
 pub objects_agree : ObjectsAgree
-objects_agree t u alike = record {
-  objects = object_alike t u alike;
+objects_agree π t u alike = record {
+  objects = object_alike π t u alike;
   selections = λ one other a b records ids.
-      selection_same t u alike.left alike.right alike.same alike.left_tree alike.right_tree one.value other.value
-      (within_t t u alike.left alike.right alike.same alike.left_tree alike.right_tree family.Selection one (Has-Contains (objects family.Selection t) one a))
-      (within_u t u alike.left alike.right alike.same alike.left_tree alike.right_tree family.Selection other (Has-Contains (objects family.Selection u) other b))
+      selection_same π t u alike.left alike.right alike.same alike.left_tree alike.right_tree one.value other.value
+      (within_t π t u alike.left alike.right alike.same alike.left_tree alike.right_tree family.Selection one (Has-Contains (objects family.Selection t) one a))
+      (within_u π t u alike.left alike.right alike.same alike.left_tree alike.right_tree family.Selection other (Has-Contains (objects family.Selection u) other b))
       records ids;
 }

@@ -28,7 +28,7 @@ use Rattle.erd_meaning.specs.Accepted.{IsAccepted}
 use Rattle.erd_meaning.proofs.accepted.References.{find-Some}
 use Rattle.erd_meaning.specs.NameParts.{NameParts}
 use Rattle.erd_meaning.proofs.accepted.Standing.{contest_selections}
-use Rattle.erd_meaning.specs.Keys.{has_keys}
+use Rattle.erd_meaning.specs.Keys.{Preference, has_keys}
 use Rattle.erd_meaning.specs.code.Orders.{name_cmp_exact, name_cmp_total}
 use Rattle.erd_meaning.proofs.accepted.Phases.{no_shape_fault}
 use Rattle.erd_normal.proofs.unique.Families.{Alike}
@@ -72,77 +72,77 @@ find_paired {C} R f g r xs ys (Paired.more {x = x} {y = y} {xs = xs'} {ys = ys'}
     at false e k = rw (e, sym same ∙ e) k
 
 -- the selections of a contest
-abbrev pub AlikeSelections : Data → Data → Data → Data → Type 0
-AlikeSelections t u d e = (name_of t d ≡ name_of u e) × (selection_record t d ≡ selection_record u e)
+abbrev pub AlikeSelections : Preference → Data → Data → Data → Data → Type 0
+AlikeSelections π t u d e = (name_of π t d ≡ name_of π u e) × (selection_record π t d ≡ selection_record π u e)
 
 -- a selection has a name
-pub has_name : (t : Data) → IsAccepted t → (d : Data) → Within t (asked (Object selection_role) d) → (n : NameParts) × (name_of t d ≡ Some n)
-has_name t accepted d w = let c = class_within t accepted selection_role d w in (_, ap (option_map (λ c. name_in_class t c d)) c.1)
+pub has_name : (π : Preference) (t : Data) → IsAccepted π t → (d : Data) → Within t (asked (Object selection_role) d) → (n : NameParts) × (name_of π t d ≡ Some n)
+has_name π t accepted d w = let c = class_within π t accepted selection_role d w in (_, ap (option_map (λ c. name_in_class π t c d)) c.1)
 
 -- a selection has a record
-has_selection_record : (t : Data) → IsAccepted t → (d : Data) → Within t (asked (Object selection_role) d) → (r : SelectionRecord) × (selection_record t d ≡ Some r)
-has_selection_record t accepted d w = let c = class_within t accepted selection_role d w in (_, record_with-Some (plain_member t d) selection_role d c.0 c.1)
+has_selection_record : (π : Preference) (t : Data) → IsAccepted π t → (d : Data) → Within t (asked (Object selection_role) d) → (r : SelectionRecord) × (selection_record π t d ≡ Some r)
+has_selection_record π t accepted d w = let c = class_within π t accepted selection_role d w in (_, record_with-Some (plain_member π t d) selection_role d c.0 c.1)
 
-abbrev selections_value : Data → Option Data → Option MemberValue
-selections_value t o = option_and_then (λ v. unless_empty (a_selection_map (selection_map t (entries_of v))) v) o
+abbrev selections_value : Preference → Data → Option Data → Option MemberValue
+selections_value π t o = option_and_then (λ v. unless_empty (a_selection_map (selection_map π t (entries_of v))) v) o
 
 abbrev map_in : Option MemberValue → NameParts → Option SelectionRecord
 map_in (Some (a_selection_map m)) = m
 map_in o = λ n. None
 
-names_listed : (t : Data) → IsCanonical t → (r : Bool) (ds : Items) → Within t (asked (Member (kind.Keyed family.Selection) r) (array ds)) → is_empty_array (array ds) ≡ false
-    → Keys (name_of t) (list_of_items ds) (filter_map (name_of t) (list_of_items ds))
-names_listed t canonical r ds w full = all_keys (name_of t) (list_of_items ds) (λ d h. has_name t canonical.accepted d (keyed_entry t family.Selection r (Some (array ds)) (filled full w) d h))
+names_listed : (π : Preference) (t : Data) → IsCanonical π t → (r : Bool) (ds : Items) → Within t (asked (Member (kind.Keyed family.Selection) r) (array ds)) → is_empty_array (array ds) ≡ false
+    → Keys (name_of π t) (list_of_items ds) (filter_map (name_of π t) (list_of_items ds))
+names_listed π t canonical r ds w full = all_keys (name_of π t) (list_of_items ds) (λ d h. has_name π t canonical.accepted d (keyed_entry t family.Selection r (Some (array ds)) (filled full w) d h))
 
-names_rise : (t : Data) → IsCanonical t → (r : Bool) (ds : Items) → Within t (asked (Member (kind.Keyed family.Selection) r) (array ds)) → is_empty_array (array ds) ≡ false
-    → IsStrictlySortedBy name_cmp (filter_map (name_of t) (list_of_items ds))
-names_rise t canonical r ds w full =
-    keys_rise name_cmp (name_of t) (list_of_items ds) (filter_map (name_of t) (list_of_items ds)) (names_listed t canonical r ds w full)
+names_rise : (π : Preference) (t : Data) → IsCanonical π t → (r : Bool) (ds : Items) → Within t (asked (Member (kind.Keyed family.Selection) r) (array ds)) → is_empty_array (array ds) ≡ false
+    → IsStrictlySortedBy name_cmp (filter_map (name_of π t) (list_of_items ds))
+names_rise π t canonical r ds w full =
+    keys_rise name_cmp (name_of π t) (list_of_items ds) (filter_map (name_of π t) (list_of_items ds)) (names_listed π t canonical r ds w full)
     (canonical.in_order w.place (asked (Member (kind.Keyed family.Selection) r) (array ds)) (kind.Keyed family.Selection) w.is refl)
 
 -- the record of the selection that is found by its name
-found_in : (t : Data) → IsCanonical t → (r : Bool) (ds : Items) → Within t (asked (Member (kind.Keyed family.Selection) r) (array ds)) → is_empty_array (array ds) ≡ false → (n : NameParts)
-    → option_map (selection_record t) (find (has_key name_cmp (name_of t) n) (list_of_items ds)) ≡ option_map Some (selection_map t (list_of_items ds) n)
-found_in t canonical r ds w full n =
-    map_from_found (selection_record t) (find (has_key name_cmp (name_of t) n) (list_of_items ds))
-    (λ d e. has_selection_record t canonical.accepted d (keyed_entry t family.Selection r (Some (array ds)) (filled full w) d (find-Some (has_key name_cmp (name_of t) n) (list_of_items ds) d e).0))
+found_in : (π : Preference) (t : Data) → IsCanonical π t → (r : Bool) (ds : Items) → Within t (asked (Member (kind.Keyed family.Selection) r) (array ds)) → is_empty_array (array ds) ≡ false → (n : NameParts)
+    → option_map (selection_record π t) (find (has_key name_cmp (name_of π t) n) (list_of_items ds)) ≡ option_map Some (selection_map π t (list_of_items ds) n)
+found_in π t canonical r ds w full n =
+    map_from_found (selection_record π t) (find (has_key name_cmp (name_of π t) n) (list_of_items ds))
+    (λ d e. has_selection_record π t canonical.accepted d (keyed_entry t family.Selection r (Some (array ds)) (filled full w) d (find-Some (has_key name_cmp (name_of π t) n) (list_of_items ds) d e).0))
 
-selections_paired_in : (t u : Data) → IsCanonical t → IsCanonical u → (r r' : Bool) (o p : Option Data) → Filled (λ ds. Within t (asked (Member (kind.Keyed family.Selection) r) (array ds))) o
-    → Filled (λ ds. Within u (asked (Member (kind.Keyed family.Selection) r') (array ds))) p → selections_value t o ≡ selections_value u p → Paired (AlikeSelections t u) (entries_in o) (entries_in p)
-selections_paired_in t u canonical canonical' r r' o p absent absent same = Paired.none
-selections_paired_in t u canonical canonical' r r' o p absent (filled {ds = no_items} full w) same = cc
-selections_paired_in t u canonical canonical' r r' o p absent (filled {ds = item d ds} full w) same = cc
-selections_paired_in t u canonical canonical' r r' o p (filled {ds = no_items} full w) absent same = cc
-selections_paired_in t u canonical canonical' r r' o p (filled {ds = item d ds} full w) absent same = cc
-selections_paired_in t u canonical canonical' r r' o p (filled {ds = ds} full w) (filled {ds = es} full' w') same =
-    paired name_cmp name_cmp_total name_cmp_exact (name_of t) (name_of u) (selection_record t) (selection_record u) (list_of_items ds) (list_of_items es)
-    (filter_map (name_of t) (list_of_items ds)) (filter_map (name_of u) (list_of_items es))
-    (names_listed t canonical r ds w full) (names_listed u canonical' r' es w' full') (names_rise t canonical r ds w full) (names_rise u canonical' r' es w' full')
-    (λ n. found_in t canonical r ds w full n
-    ∙ ap (λ m. option_map Some (map_in m n)) (sym (unless_empty-full (a_selection_map (selection_map t (list_of_items ds))) (array ds) full) ∙ same ∙ unless_empty-full (a_selection_map (selection_map u (list_of_items es))) (array es) full')
-    ∙ sym (found_in u canonical' r' es w' full' n))
+selections_paired_in : (π : Preference) (t u : Data) → IsCanonical π t → IsCanonical π u → (r r' : Bool) (o p : Option Data) → Filled (λ ds. Within t (asked (Member (kind.Keyed family.Selection) r) (array ds))) o
+    → Filled (λ ds. Within u (asked (Member (kind.Keyed family.Selection) r') (array ds))) p → selections_value π t o ≡ selections_value π u p → Paired (AlikeSelections π t u) (entries_in o) (entries_in p)
+selections_paired_in π t u canonical canonical' r r' o p absent absent same = Paired.none
+selections_paired_in π t u canonical canonical' r r' o p absent (filled {ds = no_items} full w) same = cc
+selections_paired_in π t u canonical canonical' r r' o p absent (filled {ds = item d ds} full w) same = cc
+selections_paired_in π t u canonical canonical' r r' o p (filled {ds = no_items} full w) absent same = cc
+selections_paired_in π t u canonical canonical' r r' o p (filled {ds = item d ds} full w) absent same = cc
+selections_paired_in π t u canonical canonical' r r' o p (filled {ds = ds} full w) (filled {ds = es} full' w') same =
+    paired name_cmp name_cmp_total name_cmp_exact (name_of π t) (name_of π u) (selection_record π t) (selection_record π u) (list_of_items ds) (list_of_items es)
+    (filter_map (name_of π t) (list_of_items ds)) (filter_map (name_of π u) (list_of_items es))
+    (names_listed π t canonical r ds w full) (names_listed π u canonical' r' es w' full') (names_rise π t canonical r ds w full) (names_rise π u canonical' r' es w' full')
+    (λ n. found_in π t canonical r ds w full n
+    ∙ ap (λ m. option_map Some (map_in m n)) (sym (unless_empty-full (a_selection_map (selection_map π t (list_of_items ds))) (array ds) full) ∙ same ∙ unless_empty-full (a_selection_map (selection_map π u (list_of_items es))) (array es) full')
+    ∙ sym (found_in π u canonical' r' es w' full' n))
 
-pub selection_array : (t : Data) → IsCanonical t → (c : Class) (ms : Members) → role_of_class c ≡ role.OfFamily family.Contest → ObjectAt t (Object (role.OfFamily family.Contest)) (role.OfFamily family.Contest) c ms
+pub selection_array : (π : Preference) (t : Data) → IsCanonical π t → (c : Class) (ms : Members) → role_of_class c ≡ role.OfFamily family.Contest → ObjectAt t (Object (role.OfFamily family.Contest)) (role.OfFamily family.Contest) c ms
     → Filled (λ ds. Within t (asked (Member (kind.Keyed family.Selection) (is_required c (codes "ContestSelection"))) (array ds))) (get_member (codes "ContestSelection") ms)
-selection_array t canonical c ms plays a = keyed_array t canonical (Object (role.OfFamily family.Contest)) (role.OfFamily family.Contest) c ms a family.Selection (codes "ContestSelection") refl (contest_selections c plays) _ refl
+selection_array π t canonical c ms plays a = keyed_array π t canonical (Object (role.OfFamily family.Contest)) (role.OfFamily family.Contest) c ms a family.Selection (codes "ContestSelection") refl (contest_selections c plays) _ refl
 
 -- the selections of two contests with equal records
-pub selections_paired : (t u : Data) → IsCanonical t → IsCanonical u → (d e : Data) → Within t (asked (Object (role.OfFamily family.Contest)) d) → Within u (asked (Object (role.OfFamily family.Contest)) e)
-    → object_record t (role.OfFamily family.Contest) d ≡ object_record u (role.OfFamily family.Contest) e → Paired (AlikeSelections t u) (entries_at (codes "ContestSelection") d) (entries_at (codes "ContestSelection") e)
-selections_paired t u canonical canonical' d e w w' same =
-    let a : ObjectIn t (role.OfFamily family.Contest) d = object_in t (no_shape_fault t canonical.accepted) (role.OfFamily family.Contest) d w in
-    let b : ObjectIn u (role.OfFamily family.Contest) e = object_in u (no_shape_fault u canonical'.accepted) (role.OfFamily family.Contest) e w' in
-    subst (λ x. Paired (AlikeSelections t u) (entries_at (codes "ContestSelection") x) (entries_at (codes "ContestSelection") e)) (sym a.is_object)
-    (subst (λ x. Paired (AlikeSelections t u) (entries_at (codes "ContestSelection") (object a.ms)) (entries_at (codes "ContestSelection") x)) (sym b.is_object)
-    (selections_paired_in t u canonical canonical' _ _ (get_member (codes "ContestSelection") a.ms) (get_member (codes "ContestSelection") b.ms)
-    (selection_array t canonical a.class a.ms a.role a.at) (selection_array u canonical' b.class b.ms b.role b.at)
+pub selections_paired : (π : Preference) (t u : Data) → IsCanonical π t → IsCanonical π u → (d e : Data) → Within t (asked (Object (role.OfFamily family.Contest)) d) → Within u (asked (Object (role.OfFamily family.Contest)) e)
+    → object_record π t (role.OfFamily family.Contest) d ≡ object_record π u (role.OfFamily family.Contest) e → Paired (AlikeSelections π t u) (entries_at (codes "ContestSelection") d) (entries_at (codes "ContestSelection") e)
+selections_paired π t u canonical canonical' d e w w' same =
+    let a : ObjectIn t (role.OfFamily family.Contest) d = object_in t (no_shape_fault π t canonical.accepted) (role.OfFamily family.Contest) d w in
+    let b : ObjectIn u (role.OfFamily family.Contest) e = object_in u (no_shape_fault π u canonical'.accepted) (role.OfFamily family.Contest) e w' in
+    subst (λ x. Paired (AlikeSelections π t u) (entries_at (codes "ContestSelection") x) (entries_at (codes "ContestSelection") e)) (sym a.is_object)
+    (subst (λ x. Paired (AlikeSelections π t u) (entries_at (codes "ContestSelection") (object a.ms)) (entries_at (codes "ContestSelection") x)) (sym b.is_object)
+    (selections_paired_in π t u canonical canonical' _ _ (get_member (codes "ContestSelection") a.ms) (get_member (codes "ContestSelection") b.ms)
+    (selection_array π t canonical a.class a.ms a.role a.at) (selection_array π u canonical' b.class b.ms b.role b.at)
     (members a.class b.class a.ms b.ms a.at b.at (contest_selections a.class a.role) (contest_selections b.class b.role)
-    (ap (object_record t (role.OfFamily family.Contest)) (sym a.is_object) ∙ same ∙ ap (object_record u (role.OfFamily family.Contest)) b.is_object))))
+    (ap (object_record π t (role.OfFamily family.Contest)) (sym a.is_object) ∙ same ∙ ap (object_record π u (role.OfFamily family.Contest)) b.is_object))))
   where
     members : (c c' : Class) (ms ns : Members) → ObjectAt t (Object (role.OfFamily family.Contest)) (role.OfFamily family.Contest) c ms → ObjectAt u (Object (role.OfFamily family.Contest)) (role.OfFamily family.Contest) c' ns
         → kind_of_member c (codes "ContestSelection") ≡ kind.Keyed family.Selection → kind_of_member c' (codes "ContestSelection") ≡ kind.Keyed family.Selection
-        → object_record t (role.OfFamily family.Contest) (object ms) ≡ object_record u (role.OfFamily family.Contest) (object ns)
-        → selections_value t (get_member (codes "ContestSelection") ms) ≡ selections_value u (get_member (codes "ContestSelection") ns)
+        → object_record π t (role.OfFamily family.Contest) (object ms) ≡ object_record π u (role.OfFamily family.Contest) (object ns)
+        → selections_value π t (get_member (codes "ContestSelection") ms) ≡ selections_value π u (get_member (codes "ContestSelection") ns)
     members c c' ms ns a b k k' same = rw (a.among, b.among, k, k') at (ap (λ r. members_in r (codes "ContestSelection")) same)
 
 -- two objects with one `@id`, entry by entry
@@ -150,22 +150,22 @@ abbrev pub SameId : Placed → Placed → Type 0
 SameId o p = id_of o.value ≡ id_of p.value
 
 -- two selections with one name, one record and one `@id`
-pub record SelectionPair (t u : Data) (o p : Placed) : Type 0 where
-  pub alike : AlikeSelections t u o.value p.value
+pub record SelectionPair (π : Preference) (t u : Data) (o p : Placed) : Type 0 where
+  pub alike : AlikeSelections π t u o.value p.value
   pub same_id : SameId o p
 
 -- two objects of a family with one key, one record and one `@id`
-pub record ObjectPair (t u : Data) (f : Family) (o p : Placed) : Type 0 where
-  pub alike : Alike t u f o p
+pub record ObjectPair (π : Preference) (t u : Data) (f : Family) (o p : Placed) : Type 0 where
+  pub alike : Alike π t u f o p
   pub same_id : SameId o p
 
-pub object_pairs : (t u : Data) → IsCanonical t → IsCanonical u → (f : Family) → has_keys f ≡ true → Paired (Alike t u f) (objects f t) (objects f u) → Paired (ObjectPair t u f) (objects f t) (objects f u)
-object_pairs t u canonical canonical' f h pairs = paired_at (Alike t u f) (ObjectPair t u f) (objects f t) (objects f u) pairs (λ i o p e g a. record { alike = a; same_id = canonical.ids.families f i o h e ∙ sym (canonical'.ids.families f i p h g) })
+pub object_pairs : (π : Preference) (t u : Data) → IsCanonical π t → IsCanonical π u → (f : Family) → has_keys f ≡ true → Paired (Alike π t u f) (objects f t) (objects f u) → Paired (ObjectPair π t u f) (objects f t) (objects f u)
+object_pairs π t u canonical canonical' f h pairs = paired_at (Alike π t u f) (ObjectPair π t u f) (objects f t) (objects f u) pairs (λ i o p e g a. record { alike = a; same_id = canonical.ids.families f i o h e ∙ sym (canonical'.ids.families f i p h g) })
 
 -- the selections of the contests at one place
-pub selection_pairs : (t u : Data) → IsCanonical t → IsCanonical u → (i : ℕ) (o p : Placed) → slice_get (objects family.Contest t) i ≡ Some o → slice_get (objects family.Contest u) i ≡ Some p
-    → Paired (AlikeSelections t u) (entries_at (codes "ContestSelection") o.value) (entries_at (codes "ContestSelection") p.value)
-    → Paired (SelectionPair t u) (placed_entries (codes "ContestSelection") o) (placed_entries (codes "ContestSelection") p)
-selection_pairs t u canonical canonical' i o p e g pairs =
-    paired_at (λ x y. AlikeSelections t u x.value y.value) (SelectionPair t u) _ _ (paired_placed (AlikeSelections t u) _ _ 0 0 _ _ pairs)
+pub selection_pairs : (π : Preference) (t u : Data) → IsCanonical π t → IsCanonical π u → (i : ℕ) (o p : Placed) → slice_get (objects family.Contest t) i ≡ Some o → slice_get (objects family.Contest u) i ≡ Some p
+    → Paired (AlikeSelections π t u) (entries_at (codes "ContestSelection") o.value) (entries_at (codes "ContestSelection") p.value)
+    → Paired (SelectionPair π t u) (placed_entries (codes "ContestSelection") o) (placed_entries (codes "ContestSelection") p)
+selection_pairs π t u canonical canonical' i o p e g pairs =
+    paired_at (λ x y. AlikeSelections π t u x.value y.value) (SelectionPair π t u) _ _ (paired_placed (AlikeSelections π t u) _ _ 0 0 _ _ pairs)
     (λ j x y k l a. record { alike = a; same_id = canonical.ids.selections i j o x e k ∙ sym (canonical'.ids.selections i j p y g l) })

@@ -26,7 +26,7 @@ use Rattle.erd_meaning.specs.Accepted.{IsAccepted}
 use Rattle.erd_meaning.specs.Objects.{Placed, elections, id_of, objects, selections_of_contest}
 use Rattle.erd_meaning.proofs.accepted.Skeleton.{Skeleton, skeleton, values-placed_entries}
 use Rattle.erd_meaning.proofs.accepted.SoleElection.{SoleElection, sole_election, sole_listed, sole_placed}
-use Rattle.erd_meaning.specs.Keys.{has_keys}
+use Rattle.erd_meaning.specs.Keys.{Preference, has_keys}
 use Rattle.erd_check.specs.Values.{entries_at}
 use Rattle.erd_meaning.specs.Records.{is_in_envelope, meaning, member_of_class, plain_member, selection_record, object_record}
 use Rattle.erd_meaning.specs.Meaning.{ObjectRecord, SelectionRecord}
@@ -57,10 +57,10 @@ pub record Two (t u : Data) (q : Role) (d e : Data) : Type 0 where
   at : ObjectAt t (Object q) q class ms
   at' : ObjectAt u (Object q) q class ns
 
-two_objects : (t u : Data) → IsCanonical t → IsCanonical u → (q : Role) (d e : Data) → Within t (asked (Object q) d) → Within u (asked (Object q) e) → class_of_object q d ≡ class_of_object q e → Two t u q d e
-two_objects t u canonical canonical' q d e w w' same =
-    let a : ObjectIn t q d = object_in t (no_shape_fault t canonical.accepted) q d w in
-    let b : ObjectIn u q e = object_in u (no_shape_fault u canonical'.accepted) q e w' in
+two_objects : (π : Preference) (t u : Data) → IsCanonical π t → IsCanonical π u → (q : Role) (d e : Data) → Within t (asked (Object q) d) → Within u (asked (Object q) e) → class_of_object q d ≡ class_of_object q e → Two t u q d e
+two_objects π t u canonical canonical' q d e w w' same =
+    let a : ObjectIn t q d = object_in t (no_shape_fault π t canonical.accepted) q d w in
+    let b : ObjectIn u q e = object_in u (no_shape_fault π u canonical'.accepted) q e w' in
     let both : Some b.class ≡ Some a.class = sym b.at.among ∙ ap (class_of_object q) (sym b.is_object) ∙ sym same ∙ ap (class_of_object q) a.is_object ∙ a.at.among in
     let one : b.class ≡ a.class = cc in
     record { ms = a.ms; ns = b.ms; class = a.class; role = a.role; is = a.is_object; is' = b.is_object; at = a.at; at' = subst (λ c. ObjectAt u (Object q) q c b.ms) one b.at }
@@ -95,18 +95,18 @@ left_out names c k h e f g =
     ⊎_elim (λ i. let x : false ≡ true = sym (no_envelope c k (not_true (is_report_class c) both.0)) ∙ i in cc) (λ i. apart_named names c k e f both.1 i) (apart_cases c k g)
 
 -- an object of a class that has no family has no `@id`
-no_id : (t : Data) → IsAccepted t → (w : Want) (q : Role) (c : Class) (ms : Members) → ObjectAt t w q c ms → is_some (family_of_class c) ≡ false → id_of (object ms) ≡ None
-no_id t accepted w q c ms a h = at (get_member (codes "@id") ms) refl
+no_id : (π : Preference) (t : Data) → IsAccepted π t → (w : Want) (q : Role) (c : Class) (ms : Members) → ObjectAt t w q c ms → is_some (family_of_class c) ≡ false → id_of (object ms) ≡ None
+no_id π t accepted w q c ms a h = at (get_member (codes "@id") ms) refl
   where
     at : (o : Option Data) → get_member (codes "@id") ms ≡ o → option_and_then as_str (get_member (codes "@id") ms) ≡ None
     at None e = ap (option_and_then as_str) e
     at (Some v) e =
         let strange : kind_of_identity c ≡ kind.StrangeIdentity = rw h in
-        absurd (no_strange t (no_shape_fault t accepted) v (is_required c (codes "@id")) (subst (λ k. Within t (asked (want_of_kind k (is_required c (codes "@id"))) v)) strange (id_within t accepted w q c ms a v e)))
+        absurd (no_strange t (no_shape_fault π t accepted) v (is_required c (codes "@id")) (subst (λ k. Within t (asked (want_of_kind k (is_required c (codes "@id"))) v)) strange (id_within π t accepted w q c ms a v e)))
 
 -- the election that the meaning tells of is the one election
-election_is : (t : Data) (a : Skeleton t) (sole : SoleElection t a) → option_and_then (λ o. object_record t role.Election o.value) (slice_get (elections t) 0) ≡ object_record t role.Election (object sole.members)
-election_is t a sole = ap (λ os. option_and_then (λ o. object_record t role.Election o.value) (slice_get os 0)) (sole_placed t a sole)
+election_is : (π : Preference) (t : Data) (a : Skeleton t) (sole : SoleElection t a) → option_and_then (λ o. object_record π t role.Election o.value) (slice_get (elections t) 0) ≡ object_record π t role.Election (object sole.members)
+election_is π t a sole = ap (λ os. option_and_then (λ o. object_record π t role.Election o.value) (slice_get os 0)) (sole_placed t a sole)
 
 -- the row of a name that rows have
 row_named : (k : List ℕ) (rows : List Row) → is_some (kind_in_rows rows k) ≡ true → (m : Row) × Has rows m × (bytes_eq k m.name ≡ true)
@@ -117,18 +117,18 @@ row_named k (row ∷ rows) e = at (bytes_eq k row.name) refl (row_named k rows)
     at true is h = (row, here, is)
     at false is h = let r = h (rw is at e) in (r.0, later r.1, r.2)
 
-module _ (t u : Data) (canonical : IsCanonical t) (canonical' : IsCanonical u) (same : meaning t ≡ meaning u) (tree : IsTree t) (tree' : IsTree u) where
-  members_value : (w w' : Want) (q : Role) (c : Class) (ms ns : Members) → ObjectAt t w q c ms → ObjectAt u w' q c ns → object_record t q (object ms) ≡ object_record u q (object ns)
-      → (k : List ℕ) → is_apart c k ≡ false → plain_member t (object ms) c k ≡ plain_member u (object ns) c k
+module _ (π : Preference) (t u : Data) (canonical : IsCanonical π t) (canonical' : IsCanonical π u) (same : meaning π t ≡ meaning π u) (tree : IsTree t) (tree' : IsTree u) where
+  members_value : (w w' : Want) (q : Role) (c : Class) (ms ns : Members) → ObjectAt t w q c ms → ObjectAt u w' q c ns → object_record π t q (object ms) ≡ object_record π u q (object ns)
+      → (k : List ℕ) → is_apart c k ≡ false → plain_member π t (object ms) c k ≡ plain_member π u (object ns) c k
   members_value w w' q c ms ns a b e k plain =
-      plain_from_value t u (kind_of_member c k) (get_member k ms) (get_member k ns) _ _ (plain_unless_apart c k plain) (rw (a.among, b.among) at (ap (λ r. members_in r k) e))
+      plain_from_value π t u (kind_of_member c k) (get_member k ms) (get_member k ns) _ _ (plain_unless_apart c k plain) (rw (a.among, b.among) at (ap (λ r. members_in r k) e))
 
-  pub selection_same : (d e : Data) → Within t (asked (Object selection_role) d) → Within u (asked (Object selection_role) e) → selection_record t d ≡ selection_record u e → id_of d ≡ id_of e → d ≡ e
+  pub selection_same : (d e : Data) → Within t (asked (Object selection_role) d) → Within u (asked (Object selection_role) e) → selection_record π t d ≡ selection_record π u e → id_of d ≡ id_of e → d ≡ e
   selection_same d e w w' alike ids =
-      let two : Two t u selection_role d e = two_objects t u canonical canonical' selection_role d e w w'
-      (sym (class_of_record (plain_member t d) selection_role d) ∙ ap (option_map (λ (x : SelectionRecord). x.class)) alike ∙ class_of_record (plain_member u e) selection_role e) in
-      let records : selection_record t (object two.ms) ≡ selection_record u (object two.ns) = sym (ap (selection_record t) two.is) ∙ alike ∙ ap (selection_record u) two.is' in
-      two.is ∙ ap object (object_same t u canonical canonical' (same_names t u canonical canonical' same) (Object selection_role) (Object selection_role) selection_role two.class two.ms two.ns two.at two.at'
+      let two : Two t u selection_role d e = two_objects π t u canonical canonical' selection_role d e w w'
+      (sym (class_of_record (plain_member π t d) selection_role d) ∙ ap (option_map (λ (x : SelectionRecord). x.class)) alike ∙ class_of_record (plain_member π u e) selection_role e) in
+      let records : selection_record π t (object two.ms) ≡ selection_record π u (object two.ns) = sym (ap (selection_record π t) two.is) ∙ alike ∙ ap (selection_record π u) two.is' in
+      two.is ∙ ap object (object_same π t u canonical canonical' (same_names π t u canonical canonical' same) (Object selection_role) (Object selection_role) selection_role two.class two.ms two.ns two.at two.at'
       (subst IsTree two.is (within-tree t (asked (Object selection_role) d) tree w)) (subst IsTree two.is' (within-tree u (asked (Object selection_role) e) tree' w'))
       (ap id_of (sym two.is) ∙ ids ∙ ap id_of two.is')
       (λ k f g h. elim (left_out [] two.class k (leaves family.Selection two.class two.role) f g h) [ ])
@@ -136,44 +136,44 @@ module _ (t u : Data) (canonical : IsCanonical t) (canonical' : IsCanonical u) (
 
   -- an object of a family whose records leave out these names
   pub object_unique : (names : List (List ℕ)) (q : Role) (d e : Data) → ((c : Class) → role_of_class c ≡ q → leaves_out names c ≡ true) → Within t (asked (Object q) d) → Within u (asked (Object q) e)
-      → object_record t q d ≡ object_record u q e → id_of d ≡ id_of e → ((two : Two t u q d e) (k : List ℕ) → Has names k → get_member k two.ms ≡ get_member k two.ns) → d ≡ e
+      → object_record π t q d ≡ object_record π u q e → id_of d ≡ id_of e → ((two : Two t u q d e) (k : List ℕ) → Has names k → get_member k two.ms ≡ get_member k two.ns) → d ≡ e
   object_unique names q d e plain w w' records ids given =
-      let two : Two t u q d e = two_objects t u canonical canonical' q d e w w'
-      (sym (class_of_record (member_of_class t d) q d) ∙ ap (option_map (λ (x : ObjectRecord). x.class)) records ∙ class_of_record (member_of_class u e) q e) in
-      two.is ∙ ap object (object_same t u canonical canonical' (same_names t u canonical canonical' same) (Object q) (Object q) q two.class two.ms two.ns two.at two.at'
+      let two : Two t u q d e = two_objects π t u canonical canonical' q d e w w'
+      (sym (class_of_record (member_of_class π t d) q d) ∙ ap (option_map (λ (x : ObjectRecord). x.class)) records ∙ class_of_record (member_of_class π u e) q e) in
+      two.is ∙ ap object (object_same π t u canonical canonical' (same_names π t u canonical canonical' same) (Object q) (Object q) q two.class two.ms two.ns two.at two.at'
       (subst IsTree two.is (within-tree t (asked (Object q) d) tree w)) (subst IsTree two.is' (within-tree u (asked (Object q) e) tree' w'))
       (ap id_of (sym two.is) ∙ ids ∙ ap id_of two.is')
       (λ k f g h. given two k (left_out names two.class k (plain two.class two.role) f g h))
-      (members_value (Object q) (Object q) q two.class two.ms two.ns two.at two.at' (sym (ap (object_record t q) two.is) ∙ records ∙ ap (object_record u q) two.is'))) ∙ sym two.is'
+      (members_value (Object q) (Object q) q two.class two.ms two.ns two.at two.at' (sym (ap (object_record π t q) two.is) ∙ records ∙ ap (object_record π u q) two.is'))) ∙ sym two.is'
 
   abbrev selection_member : List ℕ
   selection_member = codes "ContestSelection"
 
   pub within_t : (f : Family) (o : Placed) → Has (objects f t) o → Within t (asked (Object (role.OfFamily f)) o.value)
-  within_t f o h = record { place = o.place; is = stands t canonical.accepted f o h }
+  within_t f o h = record { place = o.place; is = stands π t canonical.accepted f o h }
 
   pub within_u : (f : Family) (o : Placed) → Has (objects f u) o → Within u (asked (Object (role.OfFamily f)) o.value)
-  within_u f o h = record { place = o.place; is = stands u canonical'.accepted f o h }
+  within_u f o h = record { place = o.place; is = stands π u canonical'.accepted f o h }
 
   -- the selections of two paired contests are equal
-  selections_same : (o p : Placed) → Has (objects family.Contest t) o → Has (objects family.Contest u) p → ContestPair t u o p → entries_at selection_member o.value ≡ entries_at selection_member p.value
+  selections_same : (o p : Placed) → Has (objects family.Contest t) o → Has (objects family.Contest u) p → ContestPair π t u o p → entries_at selection_member o.value ≡ entries_at selection_member p.value
   selections_same o p h k pair =
       sym (values-placed_entries selection_member o)
       ∙ paired_values (selections_of_contest o) (selections_of_contest p) pair.selections
       (λ x y i j r. selection_same x.value y.value (within_t family.Selection x (flat-has selections_of_contest (objects family.Contest t) o x h i)) (within_u family.Selection y (flat-has selections_of_contest (objects family.Contest u) p y k j)) r.alike.1 r.same_id)
       ∙ values-placed_entries selection_member p
 
-  contest_same : (o p : Placed) → Has (objects family.Contest t) o → Has (objects family.Contest u) p → ContestPair t u o p → o.value ≡ p.value
+  contest_same : (o p : Placed) → Has (objects family.Contest t) o → Has (objects family.Contest u) p → ContestPair π t u o p → o.value ≡ p.value
   contest_same o p h k pair =
       object_unique (selection_member ∷ []) (role.OfFamily family.Contest) o.value p.value (leaves family.Contest) (within_t family.Contest o h) (within_u family.Contest p k) pair.pair.alike.1 pair.pair.same_id
       (λ two n i. ⊎_elim (λ e. subst (λ x. get_member x two.ms ≡ get_member x two.ns) e
-      (arrays_same _ _ (get_member selection_member two.ms) (get_member selection_member two.ns) (selection_array t canonical two.class two.ms two.role two.at) (selection_array u canonical' two.class two.ns two.role two.at')
+      (arrays_same _ _ (get_member selection_member two.ms) (get_member selection_member two.ns) (selection_array π t canonical two.class two.ms two.role two.at) (selection_array π u canonical' two.class two.ns two.role two.at')
       (ap (entries_at selection_member) (sym two.is) ∙ selections_same o p h k pair ∙ ap (entries_at selection_member) two.is')))
       (λ j. elim j [ ]) (Has-cases selection_member n [] i))
 
   -- an object of a family without selections
   other_same : (f : Family) → has_keys f ≡ true → ((c : Class) → role_of_class c ≡ role.OfFamily f → leaves_out [] c ≡ true) → map (λ o. o.value) (objects f t) ≡ map (λ o. o.value) (objects f u)
-  other_same f h plain = paired_values (objects f t) (objects f u) (pairs_of t u canonical canonical' same f h)
+  other_same f h plain = paired_values (objects f t) (objects f u) (pairs_of π t u canonical canonical' same f h)
       (λ o p i j r. object_unique [] (role.OfFamily f) o.value p.value plain (within_t f o i) (within_u f p j) r.alike.1 r.same_id (λ two n k. elim k [ ]))
 
   family_same : (f : Family) → has_keys f ≡ true → map (λ o. o.value) (objects f t) ≡ map (λ o. o.value) (objects f u)
@@ -184,12 +184,12 @@ module _ (t u : Data) (canonical : IsCanonical t) (canonical' : IsCanonical u) (
   family_same family.Header h = other_same family.Header h (leaves family.Header)
   family_same family.Candidate h = other_same family.Candidate h (leaves family.Candidate)
   family_same family.Style h = other_same family.Style h (leaves family.Style)
-  family_same family.Contest h = paired_values (objects family.Contest t) (objects family.Contest u) (contest_pairs t u canonical canonical' same) contest_same
+  family_same family.Contest h = paired_values (objects family.Contest t) (objects family.Contest u) (contest_pairs π t u canonical canonical' same) contest_same
   family_same family.Selection h = cc
 
   array_same : (a : Skeleton t) (b : Skeleton u) (left : SoleElection t a) (right : SoleElection u b) (f : Family) → has_keys f ≡ true → array_of f a.ms left.members ≡ array_of f b.ms right.members
   array_same a b left right f h =
-      arrays_same _ _ (array_of f a.ms left.members) (array_of f b.ms right.members) (family_array t canonical a left.members left.at f h) (family_array u canonical' b right.members right.at f h)
+      arrays_same _ _ (array_of f a.ms left.members) (array_of f b.ms right.members) (family_array π t canonical a left.members left.at f h) (family_array π u canonical' b right.members right.at f h)
       (sym (values_of t a left f h) ∙ family_same f h ∙ values_of u b right f h)
 
   -- the names that an election's record and the report's leave out
@@ -206,11 +206,11 @@ module _ (t u : Data) (canonical : IsCanonical t) (canonical' : IsCanonical u) (
   module _ (a : Skeleton t) (b : Skeleton u) where
     -- two elections with one record and the same arrays
     election_same : (es fs : Members) (one : ObjectAt t (Object role.Election) role.Election class.Election es) (other : ObjectAt u (Object role.Election) role.Election class.Election fs)
-        → object_record t role.Election (object es) ≡ object_record u role.Election (object fs) → ((f : Family) → has_keys f ≡ true → array_of f a.ms es ≡ array_of f b.ms fs) → es ≡ fs
+        → object_record π t role.Election (object es) ≡ object_record π u role.Election (object fs) → ((f : Family) → has_keys f ≡ true → array_of f a.ms es ≡ array_of f b.ms fs) → es ≡ fs
     election_same es fs one other records arrays =
-        object_same t u canonical canonical' (same_names t u canonical canonical' same) (Object role.Election) (Object role.Election) role.Election class.Election es fs one other
+        object_same π t u canonical canonical' (same_names π t u canonical canonical' same) (Object role.Election) (Object role.Election) role.Election class.Election es fs one other
         (within-tree t (asked (Object role.Election) (object es)) tree one.inside) (within-tree u (asked (Object role.Election) (object fs)) tree' other.inside)
-        (no_id t canonical.accepted (Object role.Election) role.Election class.Election es one refl ∙ sym (no_id u canonical'.accepted (Object role.Election) role.Election class.Election fs other refl))
+        (no_id π t canonical.accepted (Object role.Election) role.Election class.Election es one refl ∙ sym (no_id π u canonical'.accepted (Object role.Election) role.Election class.Election fs other refl))
         (λ k f g h.
         each_name Same (codes "Candidate") _ k (arrays family.Candidate refl)
         (each_name Same (codes "Contest") _ k (arrays family.Contest refl)
@@ -241,19 +241,19 @@ module _ (t u : Data) (canonical : IsCanonical t) (canonical' : IsCanonical u) (
 
     report_same : (left : SoleElection t a) (right : SoleElection u b) → a.ms ≡ b.ms
     report_same left right =
-        object_same t u canonical canonical' (same_names t u canonical canonical' same) (Object role.Report) (Object role.Report) role.Report class.ElectionReport a.ms b.ms a.report b.report
+        object_same π t u canonical canonical' (same_names π t u canonical canonical' same) (Object role.Report) (Object role.Report) role.Report class.ElectionReport a.ms b.ms a.report b.report
         (within-tree t (asked (Object role.Report) (object a.ms)) tree a.report.inside) (within-tree u (asked (Object role.Report) (object b.ms)) tree' b.report.inside)
-        (no_id t canonical.accepted (Object role.Report) role.Report class.ElectionReport a.ms a.report refl ∙ sym (no_id u canonical'.accepted (Object role.Report) role.Report class.ElectionReport b.ms b.report refl))
+        (no_id π t canonical.accepted (Object role.Report) role.Report class.ElectionReport a.ms a.report refl ∙ sym (no_id π u canonical'.accepted (Object role.Report) role.Report class.ElectionReport b.ms b.report refl))
         (λ k f g h. ⊎_elim (in_envelope k) (λ plain. by_name k (apart_named report_names class.ElectionReport k f g refl plain)) (apart_cases class.ElectionReport k h))
         (members_value (Object role.Report) (Object role.Report) role.Report class.ElectionReport a.ms b.ms a.report b.report
-        (sym (ap (object_record t role.Report) a.is_object) ∙ ap (λ m. m.report) same ∙ ap (object_record u role.Report) b.is_object))
+        (sym (ap (object_record π t role.Report) a.is_object) ∙ ap (λ m. m.report) same ∙ ap (object_record π u role.Report) b.is_object))
       where
         Same : List ℕ → Type 0
         Same n = get_member n a.ms ≡ get_member n b.ms
 
         sole_same : left.members ≡ right.members
         sole_same =
-            election_same left.members right.members left.at right.at (sym (election_is t a left) ∙ ap (λ m. m.election) same ∙ election_is u b right) (array_same a b left right)
+            election_same left.members right.members left.at right.at (sym (election_is π t a left) ∙ ap (λ m. m.election) same ∙ election_is π u b right) (array_same a b left right)
 
         listed_same : Same (codes "Election")
         listed_same = sole_listed t a left ∙ ap (λ es. Some (array (item (object es) no_items))) sole_same ∙ sym (sole_listed u b right)
@@ -269,9 +269,9 @@ module _ (t u : Data) (canonical : IsCanonical t) (canonical' : IsCanonical u) (
 
 -- canonical trees that mean the same are equal
 pub unique : CanonicalIsUnique
-unique t u alike =
-    let a : Skeleton t = skeleton t alike.left.accepted in
-    let b : Skeleton u = skeleton u alike.right.accepted in
-    let left : SoleElection t a = sole_election t (no_shape_fault t alike.left.accepted) a in
-    let right : SoleElection u b = sole_election u (no_shape_fault u alike.right.accepted) b in
-    a.is_object ∙ ap object (report_same t u alike.left alike.right alike.same alike.left_tree alike.right_tree a b left right) ∙ sym b.is_object
+unique π t u alike =
+    let a : Skeleton t = skeleton π t alike.left.accepted in
+    let b : Skeleton u = skeleton π u alike.right.accepted in
+    let left : SoleElection t a = sole_election t (no_shape_fault π t alike.left.accepted) a in
+    let right : SoleElection u b = sole_election u (no_shape_fault π u alike.right.accepted) b in
+    a.is_object ∙ ap object (report_same π t u alike.left alike.right alike.same alike.left_tree alike.right_tree a b left right) ∙ sym b.is_object

@@ -5,7 +5,7 @@ use Rattle.std.specs.Option.{option_map_or}
 use Rattle.serde_json.specs.Data.{Data, Members, put}
 use Rattle.serde_json.specs.Written.{compact_text}
 use Rattle.erd_tables.specs.declared.class.Family.{Family}
-use Rattle.erd_meaning.specs.Keys.{key_of}
+use Rattle.erd_meaning.specs.Keys.{Preference, key_of}
 use Rattle.erd_meaning.specs.Objects.{objects, Placed}
 use Rattle.erd_meaning.specs.SelectionNames.{key_named}
 use Rattle.erd_meaning.specs.declared.keys.key.Key.{Key}
@@ -29,9 +29,9 @@ beside_compact_text d = beside (compact_text d) d
 -- ---- numbers of objects
 
 -- the keys of objects and their positions, from position i on
-abbrev pub key_positions : ℕ → List Placed → List (Option Key × ℕ)
-key_positions i [] = []
-key_positions i (o ∷ os) = (key_of o.value, i) ∷ key_positions (i + 1) os
+abbrev pub key_positions : Preference → ℕ → List Placed → List (Option Key × ℕ)
+key_positions π i [] = []
+key_positions π i (o ∷ os) = (key_of π o.value, i) ∷ key_positions π (i + 1) os
 
 -- numbers by position: each of the pairs puts its own at the position that it names, counted from r + 1 on
 abbrev pub numbered : {K : Type 0} → ℕ → List (K × ℕ) → List ℕ → List ℕ
@@ -39,8 +39,8 @@ numbered r [] ns = ns
 numbered r (p ∷ ps) ns = numbered (r + 1) ps (slice_set ns p.1 (r + 1))
 
 -- each object of the family has its rank as its number, counted from 1
-abbrev pub AreNumbers : Data → Family → List ℕ → Type 0
-AreNumbers t f ns = (i : ℕ) (o : Placed) → slice_get (objects f t) i ≡ Some o → slice_get ns i ≡ Some (rank_of t f (key_of o.value) + 1)
+abbrev pub AreNumbers : Preference → Data → Family → List ℕ → Type 0
+AreNumbers π t f ns = (i : ℕ) (o : Placed) → slice_get (objects f t) i ≡ Some o → slice_get ns i ≡ Some (rank_of π t f (key_of π o.value) + 1)
 
 -- the `@id` text of the object of this number, and no text in a family whose objects have none
 abbrev pub numbered_id : Family → ℕ → List ℕ
@@ -53,5 +53,5 @@ abbrev pub beside_key : Option Key → Data → Option Key × Data
 beside_key key d = (key, d)
 
 -- a reference beside the key of the object of the family that it names
-abbrev pub beside_named : Data → Family → Data → Option Key × Data
-beside_named t f d = beside_key (key_named t f (text_of d)) d
+abbrev pub beside_named : Preference → Data → Family → Data → Option Key × Data
+beside_named π t f d = beside_key (key_named π t f (text_of d)) d

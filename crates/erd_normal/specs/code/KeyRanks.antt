@@ -4,6 +4,7 @@ use Rattle.std.specs.Option.{option_cmp}
 use Rattle.std.specs.declared.cmp.Ordering.{Ordering}
 use Rattle.serde_json.specs.Data.{Data}
 use Rattle.erd_check.specs.Values.{entries_at}
+use Rattle.erd_meaning.specs.Keys.{Preference}
 use Rattle.erd_meaning.specs.SelectionNames.{name_cmp, name_of, rising_list}
 use Rattle.erd_normal.specs.code.Building.{numbered}
 
@@ -21,9 +22,9 @@ abbrev pub places_of : {K : Type 0} → (K → K → Ordering) → List K → Li
 places_of cmp ks = places_by (rising_list (λ p q. cmp p.0 q.0) (positioned 0 ks))
 
 -- the numbers of selections, which are those of a contest
-abbrev pub numbers_of_selections : Data → List Data → List ℕ
-numbers_of_selections t ds = places_of (option_cmp name_cmp) (map (name_of t) ds)
+abbrev pub numbers_of_selections : Preference → Data → List Data → List ℕ
+numbers_of_selections π t ds = places_of (option_cmp name_cmp) (map (name_of π t) ds)
 
 -- the numbers of the selections of a contest
-abbrev pub numbers_in_contest : Data → Data → List ℕ
-numbers_in_contest t contest = numbers_of_selections t (entries_at (codes "ContestSelection") contest)
+abbrev pub numbers_in_contest : Preference → Data → Data → List ℕ
+numbers_in_contest π t contest = numbers_of_selections π t (entries_at (codes "ContestSelection") contest)

@@ -15,7 +15,7 @@ use Rattle.erd_tables.specs.declared.member.MemberKind.TheVariants as kind
 use Rattle.erd_check.specs.Faults.{is_empty_array}
 use Rattle.erd_check.specs.Values.{entries_of, entries_at, text_of}
 use Rattle.erd_check.specs.Wants.{class_of_object}
-use Rattle.erd_meaning.specs.Keys.{key_cmp, key_of}
+use Rattle.erd_meaning.specs.Keys.{Preference, key_cmp, key_of}
 use Rattle.erd_meaning.specs.NameParts.{NameParts}
 use Rattle.erd_meaning.specs.Objects.{has_id, contests, objects, selections_of_contest, Placed}
 use Rattle.erd_meaning.specs.Records.{class_of_node}
@@ -26,33 +26,33 @@ use Rattle.erd_normal.specs.Canonical.{canonical_id, canonical_selection_id}
 -- ---- ranks and references
 
 -- how many objects of the family have lesser keys
-abbrev pub rank_of : Data → Family → Option Key → ℕ
-rank_of t f k = length (filter (λ o. is_lt (option_cmp key_cmp (key_of o.value) k)) (objects f t))
+abbrev pub rank_of : Preference → Data → Family → Option Key → ℕ
+rank_of π t f k = length (filter (λ o. is_lt (option_cmp key_cmp (key_of π o.value) k)) (objects f t))
 
 -- the canonical `@id` of the object of the family with this key, if objects of the family have one
-abbrev pub id_of_key : Data → Family → Option Key → Option (List ℕ)
-id_of_key t f k = canonical_id f (rank_of t f k)
+abbrev pub id_of_key : Preference → Data → Family → Option Key → Option (List ℕ)
+id_of_key π t f k = canonical_id f (rank_of π t f k)
 
 -- a reference to the object of the family that has the `@id`
-abbrev pub normal_id : Data → Family → List ℕ → List ℕ
-normal_id t f id = unwrap_or (id_of_key t f (key_named t f id)) []
+abbrev pub normal_id : Preference → Data → Family → List ℕ → List ℕ
+normal_id π t f id = unwrap_or (id_of_key π t f (key_named π t f id)) []
 
 -- a reference to an object of the family
-abbrev pub normal_reference : Data → Family → Data → Data
-normal_reference t f d = string (normal_id t f (text_of d))
+abbrev pub normal_reference : Preference → Data → Family → Data → Data
+normal_reference π t f d = string (normal_id π t f (text_of d))
 
 -- references by the keys of what they name
-abbrev pub reference_cmp : Data → Family → Data → Data → Ordering
-reference_cmp t f a b = option_cmp key_cmp (key_named t f (text_of a)) (key_named t f (text_of b))
+abbrev pub reference_cmp : Preference → Data → Family → Data → Data → Ordering
+reference_cmp π t f a b = option_cmp key_cmp (key_named π t f (text_of a)) (key_named π t f (text_of b))
 
 -- how many selections of the contest have lesser names
-abbrev pub rank_of_name : Data → List Data → Option NameParts → ℕ
-rank_of_name t ds name = length (filter (λ d. is_lt (option_cmp name_cmp (name_of t d) name)) ds)
+abbrev pub rank_of_name : Preference → Data → List Data → Option NameParts → ℕ
+rank_of_name π t ds name = length (filter (λ d. is_lt (option_cmp name_cmp (name_of π t d) name)) ds)
 
 -- the canonical `@id` of a selection of the contest
-abbrev pub id_of_selection : Data → Data → Data → List ℕ
-id_of_selection t contest d =
-    canonical_selection_id (rank_of t family.Contest (key_of contest)) (rank_of_name t (entries_at (codes "ContestSelection") contest) (name_of t d))
+abbrev pub id_of_selection : Preference → Data → Data → Data → List ℕ
+id_of_selection π t contest d =
+    canonical_selection_id (rank_of π t family.Contest (key_of π contest)) (rank_of_name π t (entries_at (codes "ContestSelection") contest) (name_of π t d))
 
 -- the contest that has a selection with the `@id`
 abbrev pub contest_with : Data → List ℕ → Option Placed
@@ -63,9 +63,9 @@ abbrev pub selection_with : List ℕ → Placed → Option Placed
 selection_with id c = find (λ o. has_id id o.value) (selections_of_contest c)
 
 -- a reference to a selection
-abbrev pub normal_selection_reference : Data → Data → Data
-normal_selection_reference t d =
-    string (option_map_or (λ c. option_map_or (λ o. id_of_selection t c.value o.value) (selection_with (text_of d) c) []) (contest_with t (text_of d)) [])
+abbrev pub normal_selection_reference : Preference → Data → Data → Data
+normal_selection_reference π t d =
+    string (option_map_or (λ c. option_map_or (λ o. id_of_selection π t c.value o.value) (selection_with (text_of d) c) []) (contest_with t (text_of d)) [])
 
 -- ---- members
 
@@ -82,16 +82,16 @@ abbrev pub normal_label : Data → Data
 normal_label d = with_rising_text d
 
 -- the value of a member of this kind that holds no objects; there is none for an empty set or list
-abbrev pub normal_value : Data → MemberKind → Data → Option Data
-normal_value t kind.Label d = Some (normal_label d)
-normal_value t (kind.One f) d = Some (normal_reference t f d)
-normal_value t (kind.Many f) d = unless_no_entry d (array_of (map (normal_reference t f) (rising_list (reference_cmp t f) (entries_of d))))
-normal_value t kind.Identifiers d = unless_no_entry d (array_of (rising_list compact_cmp (entries_of d)))
-normal_value t kind.Languages d = unless_no_entry d (array_of (rising_list compact_cmp (entries_of d)))
-normal_value t kind.Ordered d = unless_no_entry d (array_of (map (normal_selection_reference t) (entries_of d)))
-normal_value t kind.Identity d = None
-normal_value t kind.Outside d = None
-normal_value t k d = Some d
+abbrev pub normal_value : Preference → Data → MemberKind → Data → Option Data
+normal_value π t kind.Label d = Some (normal_label d)
+normal_value π t (kind.One f) d = Some (normal_reference π t f d)
+normal_value π t (kind.Many f) d = unless_no_entry d (array_of (map (normal_reference π t f) (rising_list (reference_cmp π t f) (entries_of d))))
+normal_value π t kind.Identifiers d = unless_no_entry d (array_of (rising_list compact_cmp (entries_of d)))
+normal_value π t kind.Languages d = unless_no_entry d (array_of (rising_list compact_cmp (entries_of d)))
+normal_value π t kind.Ordered d = unless_no_entry d (array_of (map (normal_selection_reference π t) (entries_of d)))
+normal_value π t kind.Identity d = None
+normal_value π t kind.Outside d = None
+normal_value π t k d = Some d
 
 -- the members of an object of the class, each by its name and kind
 abbrev pub normal_members : (List ℕ → MemberKind → Data → Option Data) → Class → Members → Members
@@ -107,32 +107,32 @@ normal_object_with value_of c d = d
 -- ---- the order of a ballot
 
 -- the value of a member of a contest or a header, with what its value is as a list of contests and headers
-abbrev pub normal_node_value : Data → Option MemberKind → Data → Data → Option Data
-normal_node_value t (Some kind.Content) d inside = unless_no_entry d inside
-normal_node_value t (Some k) d inside = normal_value t k d
-normal_node_value t None d inside = Some d
+abbrev pub normal_node_value : Preference → Data → Option MemberKind → Data → Data → Option Data
+normal_node_value π t (Some kind.Content) d inside = unless_no_entry d inside
+normal_node_value π t (Some k) d inside = normal_value π t k d
+normal_node_value π t None d inside = Some d
 
 abbrev mutual
   -- a list of contests and headers, at every depth of headers
-  pub normal_content : Data → Data → Data
-  normal_content t (array ds) = array (normal_nodes t ds)
-  normal_content t d = d
+  pub normal_content : Preference → Data → Data → Data
+  normal_content π t (array ds) = array (normal_nodes π t ds)
+  normal_content π t d = d
 
   -- contests and headers
-  pub normal_nodes : Data → Items → Items
-  normal_nodes t no_items = no_items
-  normal_nodes t (item d ds) = item (normal_node t d) (normal_nodes t ds)
+  pub normal_nodes : Preference → Data → Items → Items
+  normal_nodes π t no_items = no_items
+  normal_nodes π t (item d ds) = item (normal_node π t d) (normal_nodes π t ds)
 
   -- a contest or a header
-  pub normal_node : Data → Data → Data
-  normal_node t (object ms) = object (normal_node_members t (class_of_node (object ms)) ms)
-  normal_node t d = d
+  pub normal_node : Preference → Data → Data → Data
+  normal_node π t (object ms) = object (normal_node_members π t (class_of_node (object ms)) ms)
+  normal_node π t d = d
 
   -- the members of a contest or a header
-  pub normal_node_members : Data → Option Class → Members → Members
-  normal_node_members t c no_members = no_members
-  normal_node_members t c (member k d ms) =
-      option_map_or (λ v. member k v (normal_node_members t c ms)) (normal_node_value t (option_map (λ c. kind_of_member c k) c) d (normal_content t d)) (normal_node_members t c ms)
+  pub normal_node_members : Preference → Data → Option Class → Members → Members
+  normal_node_members π t c no_members = no_members
+  normal_node_members π t c (member k d ms) =
+      option_map_or (λ v. member k v (normal_node_members π t c ms)) (normal_node_value π t (option_map (λ c. kind_of_member c k) c) d (normal_content π t d)) (normal_node_members π t c ms)
 
 -- ---- objects
 
@@ -142,50 +142,50 @@ with_id (Some id) (object ms) = object (put (codes "@id") (string id) ms)
 with_id id d = d
 
 -- a selection of the contest
-abbrev pub normal_selection : Data → Data → Data → Data
-normal_selection t contest d =
-    with_id (Some (id_of_selection t contest d)) (normal_object_with (λ name k v. normal_value t k v) (class_of_object selection_role d) d)
+abbrev pub normal_selection : Preference → Data → Data → Data → Data
+normal_selection π t contest d =
+    with_id (Some (id_of_selection π t contest d)) (normal_object_with (λ name k v. normal_value π t k v) (class_of_object selection_role d) d)
 
 -- objects by their keys
-abbrev pub by_key : Data → Data → Ordering
-by_key a b = option_cmp key_cmp (key_of a) (key_of b)
+abbrev pub by_key : Preference → Data → Data → Ordering
+by_key π a b = option_cmp key_cmp (key_of π a) (key_of π b)
 
 -- selections by their names
-abbrev pub by_name : Data → Data → Data → Ordering
-by_name t a b = option_cmp name_cmp (name_of t a) (name_of t b)
+abbrev pub by_name : Preference → Data → Data → Data → Ordering
+by_name π t a b = option_cmp name_cmp (name_of π t a) (name_of π t b)
 
 -- a member of an object of a family; the object holds selections, if it is a contest
-abbrev pub normal_object_value : Data → Data → MemberKind → Data → Option Data
-normal_object_value t o (kind.Keyed family.Selection) d =
-    unless_no_entry d (array_of (map (normal_selection t o) (rising_list (by_name t) (entries_of d))))
-normal_object_value t o kind.Content d = unless_no_entry d (normal_content t d)
-normal_object_value t o k d = normal_value t k d
+abbrev pub normal_object_value : Preference → Data → Data → MemberKind → Data → Option Data
+normal_object_value π t o (kind.Keyed family.Selection) d =
+    unless_no_entry d (array_of (map (normal_selection π t o) (rising_list (by_name π t) (entries_of d))))
+normal_object_value π t o kind.Content d = unless_no_entry d (normal_content π t d)
+normal_object_value π t o k d = normal_value π t k d
 
 -- an object of one of the first eight families
-abbrev pub normal_object : Data → Family → Data → Data
-normal_object t f d =
-    with_id (id_of_key t f (key_of d)) (normal_object_with (λ name k v. normal_object_value t d k v) (class_of_object (role.OfFamily f) d) d)
+abbrev pub normal_object : Preference → Data → Family → Data → Data
+normal_object π t f d =
+    with_id (id_of_key π t f (key_of π d)) (normal_object_with (λ name k v. normal_object_value π t d k v) (class_of_object (role.OfFamily f) d) d)
 
 -- the objects of a family, in the order of their keys
-abbrev pub normal_objects : Data → Family → List Data → Data
-normal_objects t f ds = array_of (map (normal_object t f) (rising_list by_key ds))
+abbrev pub normal_objects : Preference → Data → Family → List Data → Data
+normal_objects π t f ds = array_of (map (normal_object π t f) (rising_list (by_key π) ds))
 
 -- a member of the election
-abbrev pub normal_election_value : Data → MemberKind → Data → Option Data
-normal_election_value t (kind.Keyed f) d = unless_no_entry d (normal_objects t f (entries_of d))
-normal_election_value t k d = normal_value t k d
+abbrev pub normal_election_value : Preference → Data → MemberKind → Data → Option Data
+normal_election_value π t (kind.Keyed f) d = unless_no_entry d (normal_objects π t f (entries_of d))
+normal_election_value π t k d = normal_value π t k d
 
 -- the election
-abbrev pub normal_election : Data → Data → Data
-normal_election t d = normal_object_with (λ name k v. normal_election_value t k v) (class_of_object role.Election d) d
+abbrev pub normal_election : Preference → Data → Data → Data
+normal_election π t d = normal_object_with (λ name k v. normal_election_value π t k v) (class_of_object role.Election d) d
 
 -- ---- the report
 
 -- a member of the report
-abbrev pub normal_report_value : Data → List ℕ → MemberKind → Data → Option Data
-normal_report_value t name (kind.Keyed f) d = unless_no_entry d (normal_objects t f (entries_of d))
-normal_report_value t name kind.Elections d = Some (array_of (map (normal_election t) (entries_of d)))
-normal_report_value t name k d = if is_envelope_name name then None else normal_value t k d
+abbrev pub normal_report_value : Preference → Data → List ℕ → MemberKind → Data → Option Data
+normal_report_value π t name (kind.Keyed f) d = unless_no_entry d (normal_objects π t f (entries_of d))
+normal_report_value π t name kind.Elections d = Some (array_of (map (normal_election π t) (entries_of d)))
+normal_report_value π t name k d = if is_envelope_name name then None else normal_value π t k d
 
 -- the members with the canonical envelope
 abbrev pub with_envelope : Members → Members
@@ -204,5 +204,5 @@ in_envelope (object ms) = object (with_envelope ms)
 in_envelope d = d
 
 -- the tree that is built for a report
-abbrev pub normal_tree : Data → Data
-normal_tree t = in_envelope (normal_object_with (normal_report_value t) (class_of_object role.Report t) t)
+abbrev pub normal_tree : Preference → Data → Data
+normal_tree π t = in_envelope (normal_object_with (normal_report_value π t) (class_of_object role.Report t) t)

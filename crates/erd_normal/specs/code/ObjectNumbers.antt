@@ -5,7 +5,7 @@ use Rattle.serde_json.specs.Data.{Data}
 use Rattle.erd_tables.specs.declared.class.Family.{Family}
 use Rattle.erd_tables.specs.declared.class.Family.TheVariants as family
 use Rattle.erd_meaning.specs.Accepted.{IsAccepted}
-use Rattle.erd_meaning.specs.Keys.{has_keys}
+use Rattle.erd_meaning.specs.Keys.{Preference, has_keys}
 use Rattle.erd_check.specs.Values.{entries_at}
 use Rattle.erd_meaning.specs.Objects.{Placed, contests, numbered_selections, objects}
 use Rattle.erd_meaning.specs.SelectionNames.{name_of}
@@ -30,18 +30,18 @@ abbrev pub number_in : List ℕ → ℕ → ℕ
 number_in ns i = unwrap_or (slice_get ns i) 1
 
 -- each selection has its rank in its contest as its number, counted from 1
-abbrev pub AreSelectionNumbers : Data → List ℕ → Type 0
-AreSelectionNumbers t ns =
+abbrev pub AreSelectionNumbers : Preference → Data → List ℕ → Type 0
+AreSelectionNumbers π t ns =
     (i c : ℕ) (contest o : Placed) → slice_get (numbered_selections t) i ≡ Some (c, o) → slice_get (contests t) c ≡ Some contest
-    → slice_get ns i ≡ Some (rank_of_name t (entries_at (codes "ContestSelection") contest.value) (name_of t o.value) + 1)
+    → slice_get ns i ≡ Some (rank_of_name π t (entries_at (codes "ContestSelection") contest.value) (name_of π t o.value) + 1)
 
 -- each family has few objects: a word counts them
 pub record IsBounded (t : Data) : Type 0 where
   pub few : (f : Family) → length (objects f t) < 2 ^ 64
 
 -- they are the numbers of the objects of the report, which is accepted
-pub record AreObjectNumbers (t : Data) (n : ObjectNumbers) : Type 0 where
-  pub accepted : IsAccepted t
+pub record AreObjectNumbers (π : Preference) (t : Data) (n : ObjectNumbers) : Type 0 where
+  pub accepted : IsAccepted π t
   pub bounded : IsBounded t
-  pub numbers : (f : Family) → has_keys f ≡ true → AreNumbers t f (numbers_of_family f n)
-  pub selections : AreSelectionNumbers t n.selections.items
+  pub numbers : (f : Family) → has_keys f ≡ true → AreNumbers π t f (numbers_of_family f n)
+  pub selections : AreSelectionNumbers π t n.selections.items

@@ -10,7 +10,7 @@ use Rattle.erd_tables.specs.declared.member.MemberKind.{MemberKind}
 use Rattle.erd_tables.specs.declared.member.MemberKind.TheVariants as kind
 use Rattle.erd_check.specs.Values.{entries_of}
 use Rattle.erd_check.specs.Wants.{class_of_object}
-use Rattle.erd_meaning.specs.Keys.{key_of}
+use Rattle.erd_meaning.specs.Keys.{Preference, key_of}
 use Rattle.erd_meaning.specs.NameParts.{NameParts}
 use Rattle.erd_meaning.specs.SelectionNames.{rising_list, selection_role}
 use Rattle.erd_meaning.specs.declared.keys.key.Key.{Key}
@@ -25,8 +25,8 @@ map_from f n (x ∷ xs) = f n x ∷ map_from f (n + 1) xs
 -- ---- pairs that are sorted
 
 -- a value beside its key
-abbrev pub beside_own_key : Data → Option Key × Data
-beside_own_key d = (key_of d, d)
+abbrev pub beside_own_key : Preference → Data → Option Key × Data
+beside_own_key π d = (key_of π d, d)
 
 -- a value beside a name
 abbrev pub beside_name : Option NameParts → Data → Option NameParts × Data
@@ -45,42 +45,42 @@ selection_id_numbered n m = codes "cs" ++ (decimal n ++ (codes "-" ++ decimal m)
 -- ---- objects of the report t
 
 -- selection m of contest n
-abbrev pub placed_selection : Data → ℕ → ℕ → Data → Data
-placed_selection t n m d =
-    with_id (Some (selection_id_numbered n m)) (normal_object_with (λ name k v. normal_value t k v) (class_of_object selection_role d) d)
+abbrev pub placed_selection : Preference → Data → ℕ → ℕ → Data → Data
+placed_selection π t n m d =
+    with_id (Some (selection_id_numbered n m)) (normal_object_with (λ name k v. normal_value π t k v) (class_of_object selection_role d) d)
 
 -- the selections of contest n, in the order of their names
-abbrev pub placed_selections : Data → ℕ → List Data → List Data
-placed_selections t n ds = map_from (placed_selection t n) 1 (rising_list (by_name t) ds)
+abbrev pub placed_selections : Preference → Data → ℕ → List Data → List Data
+placed_selections π t n ds = map_from (placed_selection π t n) 1 (rising_list (by_name π t) ds)
 
 -- a member of object n of a family; the object holds selections, if it is a contest
-abbrev pub placed_object_value : Data → ℕ → MemberKind → Data → Option Data
-placed_object_value t n (kind.Keyed family.Selection) d = unless_no_entry d (array_of (placed_selections t n (entries_of d)))
-placed_object_value t n kind.Content d = unless_no_entry d (normal_content t d)
-placed_object_value t n k d = normal_value t k d
+abbrev pub placed_object_value : Preference → Data → ℕ → MemberKind → Data → Option Data
+placed_object_value π t n (kind.Keyed family.Selection) d = unless_no_entry d (array_of (placed_selections π t n (entries_of d)))
+placed_object_value π t n kind.Content d = unless_no_entry d (normal_content π t d)
+placed_object_value π t n k d = normal_value π t k d
 
 -- object n of one of the first eight families
-abbrev pub placed_object : Data → Family → ℕ → Data → Data
-placed_object t f n d =
-    with_id (id_numbered f n) (normal_object_with (λ name k v. placed_object_value t n k v) (class_of_object (role.OfFamily f) d) d)
+abbrev pub placed_object : Preference → Data → Family → ℕ → Data → Data
+placed_object π t f n d =
+    with_id (id_numbered f n) (normal_object_with (λ name k v. placed_object_value π t n k v) (class_of_object (role.OfFamily f) d) d)
 
 -- the objects of a family, in the order of their keys
-abbrev pub placed_objects : Data → Family → List Data → List Data
-placed_objects t f ds = map_from (placed_object t f) 1 (rising_list by_key ds)
+abbrev pub placed_objects : Preference → Data → Family → List Data → List Data
+placed_objects π t f ds = map_from (placed_object π t f) 1 (rising_list (by_key π) ds)
 
 -- ---- the election and the report
 
 -- a member of the election
-abbrev pub placed_election_value : Data → MemberKind → Data → Option Data
-placed_election_value t (kind.Keyed f) d = unless_no_entry d (array_of (placed_objects t f (entries_of d)))
-placed_election_value t k d = normal_value t k d
+abbrev pub placed_election_value : Preference → Data → MemberKind → Data → Option Data
+placed_election_value π t (kind.Keyed f) d = unless_no_entry d (array_of (placed_objects π t f (entries_of d)))
+placed_election_value π t k d = normal_value π t k d
 
 -- the election
-abbrev pub placed_election : Data → Data → Data
-placed_election t d = normal_object_with (λ name k v. placed_election_value t k v) (class_of_object role.Election d) d
+abbrev pub placed_election : Preference → Data → Data → Data
+placed_election π t d = normal_object_with (λ name k v. placed_election_value π t k v) (class_of_object role.Election d) d
 
 -- a member of the report
-abbrev pub placed_report_value : Data → List ℕ → MemberKind → Data → Option Data
-placed_report_value t name (kind.Keyed f) d = unless_no_entry d (array_of (placed_objects t f (entries_of d)))
-placed_report_value t name kind.Elections d = Some (array_of (map (placed_election t) (entries_of d)))
-placed_report_value t name k d = if is_envelope_name name then None else normal_value t k d
+abbrev pub placed_report_value : Preference → Data → List ℕ → MemberKind → Data → Option Data
+placed_report_value π t name (kind.Keyed f) d = unless_no_entry d (array_of (placed_objects π t f (entries_of d)))
+placed_report_value π t name kind.Elections d = Some (array_of (map (placed_election π t) (entries_of d)))
+placed_report_value π t name k d = if is_envelope_name name then None else normal_value π t k d

@@ -16,10 +16,10 @@ pub(crate) fn family_numbers(
     report: &Report,
     family: Family,
 ) -> Result<Vec<usize>, AllocError>
-    requires accepted { IsAccepted (view report.now) }
+    requires accepted { IsAccepted report.now.prefer (view report.now.tree) }
     requires keyed { has_keys family ≡ true }
-    ensures numbers { IfOk result (λ numbers. AreNumbers (view report.now) family numbers.items) }
-    ensures few { OnOk result (length (objects family (view report.now)) < 2 ^ 64) }
+    ensures numbers { IfOk result (λ numbers. AreNumbers report.now.prefer (view report.now.tree) family numbers.items) }
+    ensures few { OnOk result (length (objects family (view report.now.tree)) < 2 ^ 64) }
 {
     let keyed = keyed_positions(alloc, report, family)?;
     let sorted = in_order(alloc, keyed)?;
@@ -32,14 +32,15 @@ fn keyed_positions(
     report: &Report,
     family: Family,
 ) -> Result<Vec<(Option<Key>, usize)>, AllocError>
-    ensures pairs { IfOk result (λ pairs. pairs.items ≡ key_positions 0 (objects family (view report.now))) }
-    ensures few { OnOk result (length (objects family (view report.now)) < 2 ^ 64) }
+    ensures pairs { IfOk result (λ pairs. pairs.items ≡ key_positions report.now.prefer 0 (objects family (view report.now.tree))) }
+    ensures few { OnOk result (length (objects family (view report.now.tree)) < 2 ^ 64) }
 {
     let mut pairs = Vec::new(alloc);
+    let prefer = report.preference();
     let count = report.count(family);
     for index in 0..count {
         match report.object(family, index) {
-            Some(object) => pairs.push((key_of(alloc, object)?, index))?,
+            Some(object) => pairs.push((key_of(alloc, object, prefer)?, index))?,
             None => {}
         }
     }

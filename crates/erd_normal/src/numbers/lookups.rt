@@ -17,8 +17,8 @@ use std::alloc::{AllocError, Global};
 
 /// The number of the object of a family that has the `@id`, and 1 where none has it.
 pub(crate) fn number_of(report: &Report, numbers: &ObjectNumbers, family: Family, id: &str) -> usize
-    requires { AreObjectNumbers (view report.now) numbers.now }
-    ensures { numbered_id family result ≡ normal_id (view report.now) family id.now }
+    requires { AreObjectNumbers report.now.prefer (view report.now.tree) numbers.now }
+    ensures { numbered_id family result ≡ normal_id report.now.prefer (view report.now.tree) family id.now }
 {
     match report.target(id) {
         Some((found, index)) => {
@@ -39,9 +39,9 @@ pub(crate) fn selection_id(
     numbers: &ObjectNumbers,
     id: &str,
 ) -> Result<String, AllocError>
-    requires { AreObjectNumbers (view report.now) numbers.now }
+    requires { AreObjectNumbers report.now.prefer (view report.now.tree) numbers.now }
     ensures { IfOk result (λ built. string (string_bytes built)
-        ≡ normal_selection_reference (view report.now) (string id.now)) }
+        ≡ normal_selection_reference report.now.prefer (view report.now.tree) (string id.now)) }
 {
     match report.target(id) {
         Some((found, index)) => {
@@ -64,7 +64,7 @@ fn selection_id_at(
 ) -> Result<String, AllocError>
     ensures { IfOk result (λ built. string_bytes built
         ≡ option_map_or (λ s. selection_id_numbered (number_in numbers.now.contests.items s.0)
-        (number_in numbers.now.selections.items index)) (selection_in (view report.now) index) []) }
+        (number_in numbers.now.selections.items index)) (selection_in report.now.prefer (view report.now.tree) index) []) }
 {
     match report.selection_at(index) {
         Some((position, _)) => {

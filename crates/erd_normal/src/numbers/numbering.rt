@@ -12,8 +12,8 @@ use std::alloc::{AllocError, Global};
 
 /// The numbers of the objects of a report: one sort for each family, and for selections one for each contest.
 pub(crate) fn numbers_of(alloc: Global, report: &Report) -> Result<ObjectNumbers, AllocError>
-    requires accepted { IsAccepted (view report.now) }
-    ensures { IfOk result (AreObjectNumbers (view report.now)) }
+    requires accepted { IsAccepted report.now.prefer (view report.now.tree) }
+    ensures { IfOk result (AreObjectNumbers report.now.prefer (view report.now.tree)) }
 {
     Ok(ObjectNumbers {
         units: family_numbers(alloc, report, Family::Unit)?,

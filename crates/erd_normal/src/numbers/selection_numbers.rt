@@ -19,9 +19,9 @@ use std::alloc::{AllocError, Global};
 
 /// The number of each selection, by its position in the report: its rank among the names of its contest, counted from 1.
 pub(crate) fn selection_numbers(alloc: Global, report: &Report) -> Result<Vec<usize>, AllocError>
-    requires accepted { IsAccepted (view report.now) }
-    ensures numbers { IfOk result (λ numbers. AreSelectionNumbers (view report.now) numbers.items) }
-    ensures few { OnOk result (length (objects family.Selection (view report.now)) < 2 ^ 64) }
+    requires accepted { IsAccepted report.now.prefer (view report.now.tree) }
+    ensures numbers { IfOk result (λ numbers. AreSelectionNumbers report.now.prefer (view report.now.tree) numbers.items) }
+    ensures few { OnOk result (length (objects family.Selection (view report.now.tree)) < 2 ^ 64) }
 {
     let count = report.count(Family::Selection);
     let mut numbers = Vec::with_capacity(alloc, count)?;
@@ -41,7 +41,7 @@ fn election_numbers(
 ) -> Result<Vec<usize>, AllocError>
     requires whole { items_have_float (items_view contests.now) ≡ false }
     ensures { IfOk result (λ numbers. numbers.items
-        ≡ flat_map (numbers_in_contest (view report.now)) (map view contests.now)) }
+        ≡ flat_map (numbers_in_contest report.now.prefer (view report.now.tree)) (map view contests.now)) }
 {
     let mut numbers = Vec::new(alloc);
     for contest in contests {
@@ -58,7 +58,7 @@ fn contest_numbers(
     selections: &[Value],
 ) -> Result<Vec<usize>, AllocError>
     requires whole { items_have_float (items_view selections.now) ≡ false }
-    ensures { IfOk result (λ numbers. numbers.items ≡ numbers_of_selections (view report.now) (map view selections.now)) }
+    ensures { IfOk result (λ numbers. numbers.items ≡ numbers_of_selections report.now.prefer (view report.now.tree) (map view selections.now)) }
 {
     let named = named_positions(alloc, report, selections)?;
     let sorted = in_order(alloc, named)?;
@@ -72,7 +72,7 @@ fn named_positions(
     selections: &[Value],
 ) -> Result<Vec<(Option<SelectionName>, usize)>, AllocError>
     requires whole { items_have_float (items_view selections.now) ≡ false }
-    ensures { IfOk result (λ pairs. pairs.items ≡ positioned 0 (map (name_of (view report.now)) (map view selections.now))) }
+    ensures { IfOk result (λ pairs. pairs.items ≡ positioned 0 (map (name_of report.now.prefer (view report.now.tree)) (map view selections.now))) }
 {
     let mut pairs = Vec::with_capacity(alloc, selections.len())?;
     for (index, selection) in selections.iter().enumerate() {

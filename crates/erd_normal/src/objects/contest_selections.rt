@@ -25,7 +25,7 @@ struct SelectionMembers<'a> {
 impl<'a> MemberRule for SelectionMembers<'a> {
     ghost use Rattle.erd_normal.specs.code.NormalTree.{normal_value};
 
-    ghost value_of = { λ rule name kind d. normal_value (view rule.numbered.now) kind d };
+    ghost value_of = { λ rule name kind d. normal_value rule.numbered.now.prefer (view rule.numbered.now.tree) kind d };
 
     fn value(
         &self,
@@ -47,7 +47,7 @@ pub(crate) fn contest_selections(
 ) -> Result<Vec<Value>, AllocError>
     requires whole { items_have_float (items_view selections.now) ≡ false }
     ensures { IfOk result (λ built. map view built.items
-        ≡ placed_selections (view numbered.now) contest (map view selections.now)) }
+        ≡ placed_selections numbered.now.prefer (view numbered.now.tree) contest (map view selections.now)) }
 {
     let pairs = with_names(alloc, numbered.report(), selections)?;
     let sorted = in_order(alloc, pairs)?;
@@ -62,7 +62,7 @@ fn with_names<'a>(
 ) -> Result<Vec<(Option<SelectionName>, &'a Value)>, AllocError>
     requires whole { items_have_float (items_view selections.now) ≡ false }
     ensures { IfOk result (λ pairs. map (λ p. beside_name p.0 (view p.1.now)) pairs.items
-        ≡ map (λ v. beside_name (name_of (view report.now) (view v)) (view v)) selections.now) }
+        ≡ map (λ v. beside_name (name_of report.now.prefer (view report.now.tree) (view v)) (view v)) selections.now) }
 {
     let mut pairs = Vec::with_capacity(alloc, selections.len())?;
     for selection in selections {
@@ -79,7 +79,7 @@ fn numbered_selections(
 ) -> Result<Vec<Value>, AllocError>
     requires whole { AllByRecursion (λ p. has_float (view p.1.now) ≡ false) sorted.now }
     ensures { IfOk result (λ built. map view built.items
-        ≡ map_from (placed_selection (view numbered.now) contest) 1 (map (λ p. view p.1.now) sorted.now)) }
+        ≡ map_from (placed_selection numbered.now.prefer (view numbered.now.tree) contest) 1 (map (λ p. view p.1.now) sorted.now)) }
 {
     let mut built = Vec::with_capacity(alloc, sorted.len())?;
     for (index, pair) in sorted.iter().enumerate() {
@@ -97,7 +97,7 @@ fn selection(
     value: &Value,
 ) -> Result<Value, AllocError>
     requires whole { has_float (view value.now) ≡ false }
-    ensures { IfOk result (λ built. view built ≡ placed_selection (view numbered.now) contest number (view value.now)) }
+    ensures { IfOk result (λ built. view built ≡ placed_selection numbered.now.prefer (view numbered.now.tree) contest number (view value.now)) }
 {
     let role = Role::OfFamily(Family::Selection);
     let built = object_by(alloc, &SelectionMembers { numbered }, role, value)?;

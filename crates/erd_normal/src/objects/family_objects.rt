@@ -15,7 +15,7 @@ use crate::order::stable_sort::in_order;
 use crate::values::content::content;
 use crate::values::value_of_kind::{unless_empty, value_of_kind};
 use erd_check::values::entries_of;
-use erd_meaning::{Key, key_of};
+use erd_meaning::{Key, Report, key_of};
 use erd_tables::{Family, MemberKind, Role};
 use serde_json::Value;
 use std::alloc::{AllocError, Global};
@@ -31,7 +31,7 @@ impl<'a> MemberRule for ObjectMembers<'a> {
     ghost use Rattle.serde_json.specs.View.{view};
     ghost use Rattle.erd_normal.specs.code.PlacedTree.{placed_object_value};
 
-    ghost value_of = { λ rule name kind d. placed_object_value (view rule.numbered.now) rule.number kind d };
+    ghost value_of = { λ rule name kind d. placed_object_value rule.numbered.now.prefer (view rule.numbered.now.tree) rule.number kind d };
 
     fn value(
         &self,
@@ -64,7 +64,7 @@ pub(crate) fn family_array(
 ) -> Result<Option<Value>, AllocError>
     requires whole { has_float (view value.now) ≡ false }
     ensures { IfOk result (λ built. option_map view built
-        ≡ unless_no_entry (view value.now) (array_of (placed_objects (view numbered.now) family (entries_of (view value.now))))) }
+        ≡ unless_no_entry (view value.now) (array_of (placed_objects numbered.now.prefer (view numbered.now.tree) family (entries_of (view value.now))))) }
 {
     let built = family_objects(alloc, numbered, family, entries_of(value))?;
     Ok(unless_empty(value, Value::Array(built)))
@@ -79,9 +79,9 @@ fn family_objects(
 ) -> Result<Vec<Value>, AllocError>
     requires whole { items_have_float (items_view objects.now) ≡ false }
     ensures { IfOk result (λ built. map view built.items
-        ≡ placed_objects (view numbered.now) family (map view objects.now)) }
+        ≡ placed_objects numbered.now.prefer (view numbered.now.tree) family (map view objects.now)) }
 {
-    let pairs = with_keys(alloc, objects)?;
+    let pairs = with_keys(alloc, numbered.report(), objects)?;
     let sorted = in_order(alloc, pairs)?;
     numbered_objects(alloc, numbered, family, &sorted)
 }
@@ -89,13 +89,15 @@ fn family_objects(
 /// Objects with their keys.
 fn with_keys<'a>(
     alloc: Global,
+    report: &Report,
     objects: &'a [Value],
 ) -> Result<Vec<(Option<Key>, &'a Value)>, AllocError>
-    ensures { IfOk result (λ pairs. map (λ p. (p.0, view p.1.now)) pairs.items ≡ map (λ v. beside_own_key (view v)) objects.now) }
+    ensures { IfOk result (λ pairs. map (λ p. (p.0, view p.1.now)) pairs.items ≡ map (λ v. beside_own_key report.now.prefer (view v)) objects.now) }
 {
+    let prefer = report.preference();
     let mut pairs = Vec::with_capacity(alloc, objects.len())?;
     for object in objects {
-        pairs.push((key_of(alloc, object)?, object))?;
+        pairs.push((key_of(alloc, object, prefer)?, object))?;
     }
     Ok(pairs)
 }
@@ -108,7 +110,7 @@ fn numbered_objects(
 ) -> Result<Vec<Value>, AllocError>
     requires whole { AllByRecursion (λ p. has_float (view p.1.now) ≡ false) sorted.now }
     ensures { IfOk result (λ built. map view built.items
-        ≡ map_from (placed_object (view numbered.now) family) 1 (map (λ p. view p.1.now) sorted.now)) }
+        ≡ map_from (placed_object numbered.now.prefer (view numbered.now.tree) family) 1 (map (λ p. view p.1.now) sorted.now)) }
 {
     let mut built = Vec::with_capacity(alloc, sorted.len())?;
     for (index, pair) in sorted.iter().enumerate() {
@@ -126,7 +128,7 @@ fn object(
     value: &Value,
 ) -> Result<Value, AllocError>
     requires whole { has_float (view value.now) ≡ false }
-    ensures { IfOk result (λ built. view built ≡ placed_object (view numbered.now) family number (view value.now)) }
+    ensures { IfOk result (λ built. view built ≡ placed_object numbered.now.prefer (view numbered.now.tree) family number (view value.now)) }
 {
     let rule = ObjectMembers { numbered, number };
     let built = object_by(alloc, &rule, Role::OfFamily(family), value)?;

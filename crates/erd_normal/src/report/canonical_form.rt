@@ -19,9 +19,9 @@ use std::alloc::{AllocError, Global};
 /// their names. Then the tree is built in one pass. It sorts both once more, since it writes them in this order, and it sorts
 /// the entries of each set. Each text is copied into the tree once, but translations are copied twice.
 pub fn normal_tree(alloc: Global, report: &Report) -> Result<Value, AllocError>
-    ensures canonical { IfOk result (λ tree. IsCanonicalFormOf (view report.now) (view tree)) }
-    ensures unique { IfOk result (λ tree. (u : Data) → IsTree u → IsCanonicalFormOf (view report.now) u → u ≡ view tree) }
-    ensures depth { IfOk result (λ tree. IsNoDeeper (view tree) (view report.now)) }
+    ensures canonical { IfOk result (λ tree. IsCanonicalFormOf report.now.prefer (view report.now.tree) (view tree)) }
+    ensures unique { IfOk result (λ tree. (u : Data) → IsTree u → IsCanonicalFormOf report.now.prefer (view report.now.tree) u → u ≡ view tree) }
+    ensures depth { IfOk result (λ tree. IsNoDeeper (view tree) (view report.now.tree)) }
     ensures is_tree { IfOk result (λ tree. IsTree (view tree)) }
     ensures whole { IfOk result (λ tree. has_float (view tree) ≡ false) }
 {

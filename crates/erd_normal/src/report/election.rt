@@ -25,7 +25,7 @@ impl<'a> MemberRule for ElectionMembers<'a> {
     ghost use Rattle.serde_json.specs.View.{view};
     ghost use Rattle.erd_normal.specs.code.PlacedTree.{placed_election_value};
 
-    ghost value_of = { λ rule name kind d. placed_election_value (view rule.numbered.now) kind d };
+    ghost value_of = { λ rule name kind d. placed_election_value rule.numbered.now.prefer (view rule.numbered.now.tree) kind d };
 
     fn value(
         &self,
@@ -49,7 +49,7 @@ pub(crate) fn election_array(
 ) -> Result<Value, AllocError>
     requires whole { has_float (view value.now) ≡ false }
     ensures { IfOk result (λ built. view built
-        ≡ array_of (map (placed_election (view numbered.now)) (entries_of (view value.now)))) }
+        ≡ array_of (map (placed_election numbered.now.prefer (view numbered.now.tree)) (entries_of (view value.now)))) }
 {
     let built = elections(alloc, numbered, entries_of(value))?;
     Ok(Value::Array(built))
@@ -62,7 +62,7 @@ fn elections(
 ) -> Result<Vec<Value>, AllocError>
     requires whole { items_have_float (items_view entries.now) ≡ false }
     ensures { IfOk result (λ built. map view built.items
-        ≡ map (λ v. placed_election (view numbered.now) (view v)) entries.now) }
+        ≡ map (λ v. placed_election numbered.now.prefer (view numbered.now.tree) (view v)) entries.now) }
 {
     let mut built = Vec::with_capacity(alloc, entries.len())?;
     for entry in entries {
@@ -74,7 +74,7 @@ fn elections(
 /// What an election becomes.
 fn election(alloc: Global, numbered: &NumberedReport, value: &Value) -> Result<Value, AllocError>
     requires whole { has_float (view value.now) ≡ false }
-    ensures { IfOk result (λ built. view built ≡ placed_election (view numbered.now) (view value.now)) }
+    ensures { IfOk result (λ built. view built ≡ placed_election numbered.now.prefer (view numbered.now.tree) (view value.now)) }
 {
     object_by(alloc, &ElectionMembers { numbered }, Role::Election, value)
 }

@@ -24,7 +24,7 @@ impl<'a> MemberRule for ReportMembers<'a> {
     ghost use Rattle.serde_json.specs.View.{view};
     ghost use Rattle.erd_normal.specs.code.PlacedTree.{placed_report_value};
 
-    ghost value_of = { λ rule name kind d. placed_report_value (view rule.numbered.now) name kind d };
+    ghost value_of = { λ rule name kind d. placed_report_value rule.numbered.now.prefer (view rule.numbered.now.tree) name kind d };
 
     fn value(
         &self,
@@ -52,7 +52,7 @@ impl<'a> MemberRule for ReportMembers<'a> {
 
 /// The tree that is built for a report, by the numbers of its objects.
 pub(crate) fn report_tree(alloc: Global, numbered: &NumberedReport) -> Result<Value, AllocError>
-    ensures { IfOk result (λ tree. view tree ≡ normal_tree (view numbered.now)) }
+    ensures { IfOk result (λ tree. view tree ≡ normal_tree numbered.now.prefer (view numbered.now.tree)) }
 {
     let root = numbered.report().tree();
     let built = object_by(alloc, &ReportMembers { numbered }, Role::Report, root)?;

@@ -19,7 +19,7 @@ pub(crate) fn content(
     numbered: &NumberedReport,
     value: &Value,
 ) -> Result<Value, AllocError>
-    ensures { IfOk result (λ built. has_float (view value.now) ≡ false → view built ≡ normal_content (view numbered.now) (view value.now)) }
+    ensures { IfOk result (λ built. has_float (view value.now) ≡ false → view built ≡ normal_content numbered.now.prefer (view numbered.now.tree) (view value.now)) }
 {
     match value {
         Value::Array(items) => Ok(Value::Array(nodes(alloc, numbered, items)?)),
@@ -34,7 +34,7 @@ fn nodes(
     items: &Vec<Value>,
 ) -> Result<Vec<Value>, AllocError>
     ensures { IfOk result (λ built. items_have_float (items_view items.now.items) ≡ false → map view built.items
-        ≡ map (λ v. normal_node (view numbered.now) (view v)) items.now.items) }
+        ≡ map (λ v. normal_node numbered.now.prefer (view numbered.now.tree) (view v)) items.now.items) }
 {
     let mut built = Vec::with_capacity(alloc, items.len())?;
     for item in items {
@@ -46,7 +46,7 @@ fn nodes(
 /// What a contest or a header becomes.
 #[cycle(content)]
 fn node(alloc: Global, numbered: &NumberedReport, value: &Value) -> Result<Value, AllocError>
-    ensures { IfOk result (λ built. has_float (view value.now) ≡ false → view built ≡ normal_node (view numbered.now) (view value.now)) }
+    ensures { IfOk result (λ built. has_float (view value.now) ≡ false → view built ≡ normal_node numbered.now.prefer (view numbered.now.tree) (view value.now)) }
 {
     match value {
         Value::Object(members) => {
@@ -65,7 +65,7 @@ fn node_members(
     members: &Map<String, Value>,
 ) -> Result<Map<String, Value>, AllocError>
     ensures { IfOk result (λ built. members_have_float (members_view members.now.entries) ≡ false → members_view built.entries
-        ≡ normal_node_members (view numbered.now) class (members_view members.now.entries)) }
+        ≡ normal_node_members numbered.now.prefer (view numbered.now.tree) class (members_view members.now.entries)) }
 {
     let mut built = Map::new(alloc);
     for (name, member) in members.iter() {
@@ -85,7 +85,7 @@ fn node_value(
     member: &Value,
 ) -> Result<Option<Value>, AllocError>
     ensures { IfOk result (λ built. has_float (view member.now) ≡ false → option_map view built
-        ≡ normal_node_value (view numbered.now) kind (view member.now) (normal_content (view numbered.now) (view member.now))) }
+        ≡ normal_node_value numbered.now.prefer (view numbered.now.tree) kind (view member.now) (normal_content numbered.now.prefer (view numbered.now.tree) (view member.now))) }
 {
     match kind {
         Some(kind) => value_in_node(alloc, numbered, kind, member),
@@ -101,7 +101,7 @@ fn value_in_node(
     member: &Value,
 ) -> Result<Option<Value>, AllocError>
     ensures { IfOk result (λ built. has_float (view member.now) ≡ false → option_map view built
-        ≡ normal_node_value (view numbered.now) (Some kind) (view member.now) (normal_content (view numbered.now) (view member.now))) }
+        ≡ normal_node_value numbered.now.prefer (view numbered.now.tree) (Some kind) (view member.now) (normal_content numbered.now.prefer (view numbered.now.tree) (view member.now))) }
 {
     match kind {
         MemberKind::Content => {

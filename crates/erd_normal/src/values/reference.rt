@@ -16,7 +16,7 @@ pub(crate) fn reference(
     family: Family,
     value: &Value,
 ) -> Result<Value, AllocError>
-    ensures { IfOk result (λ built. view built ≡ normal_reference (view numbered.now) family (view value.now)) }
+    ensures { IfOk result (λ built. view built ≡ normal_reference numbered.now.prefer (view numbered.now.tree) family (view value.now)) }
 {
     let number = numbered.number_of(family, text_of(value));
     Ok(Value::String(id_text(alloc, family, number)?))
@@ -28,7 +28,7 @@ pub(crate) fn selection_reference(
     numbered: &NumberedReport,
     value: &Value,
 ) -> Result<Value, AllocError>
-    ensures { IfOk result (λ built. view built ≡ normal_selection_reference (view numbered.now) (view value.now)) }
+    ensures { IfOk result (λ built. view built ≡ normal_selection_reference numbered.now.prefer (view numbered.now.tree) (view value.now)) }
 {
     Ok(Value::String(numbered.selection_id(alloc, text_of(value))?))
 }

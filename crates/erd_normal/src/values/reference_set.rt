@@ -1,4 +1,5 @@
 ghost use Rattle.std.specs.Prelude.{◌≡◌, map, option_and_then, option_map, IfOk};
+ghost use Rattle.std.specs.Option.{option_copied};
 ghost use Rattle.serde_json.specs.View.{view};
 ghost use Rattle.erd_meaning.specs.Accepted.{IsAccepted};
 ghost use Rattle.erd_meaning.specs.Keys.{key_of};
@@ -25,7 +26,7 @@ pub(crate) fn rising_references(
     values: &[Value],
 ) -> Result<Vec<Value>, AllocError>
     ensures { IfOk result (λ rising. map view rising.items
-        ≡ map (normal_reference (view numbered.now) family) (rising_list (reference_cmp (view numbered.now) family) (map view values.now))) }
+        ≡ map (normal_reference numbered.now.prefer (view numbered.now.tree) family) (rising_list (reference_cmp numbered.now.prefer (view numbered.now.tree) family) (map view values.now))) }
 {
     let pairs = with_keys(alloc, numbered.report(), family, values)?;
     let sorted = in_order(alloc, pairs)?;
@@ -39,9 +40,9 @@ fn with_keys<'a>(
     family: Family,
     values: &'a [Value],
 ) -> Result<Vec<(Option<Key>, &'a Value)>, AllocError>
-    requires accepted { IsAccepted (view report.now) }
+    requires accepted { IsAccepted report.now.prefer (view report.now.tree) }
     ensures { IfOk result (λ pairs. map (λ p. beside_key p.0 (view p.1.now)) pairs.items
-        ≡ map (λ v. beside_named (view report.now) family (view v)) values.now) }
+        ≡ map (λ v. beside_named report.now.prefer (view report.now.tree) family (view v)) values.now) }
 {
     let mut pairs = Vec::with_capacity(alloc, values.len())?;
     for value in values {
@@ -57,7 +58,7 @@ fn references_of(
     pairs: &[(Option<Key>, &Value)],
 ) -> Result<Vec<Value>, AllocError>
     ensures { IfOk result (λ built. map view built.items
-        ≡ map (λ p. normal_reference (view numbered.now) family (view p.1.now)) pairs.now) }
+        ≡ map (λ p. normal_reference numbered.now.prefer (view numbered.now.tree) family (view p.1.now)) pairs.now) }
 {
     let mut references = Vec::with_capacity(alloc, pairs.len())?;
     for pair in pairs {
@@ -73,13 +74,13 @@ fn key_referred(
     family: Family,
     value: &Value,
 ) -> Result<Option<Key>, AllocError>
-    requires accepted { IsAccepted (view report.now) }
-    ensures { IfOk result (λ key. key ≡ key_named (view report.now) family (text_of (view value.now))) }
+    requires accepted { IsAccepted report.now.prefer (view report.now.tree) }
+    ensures { IfOk result (λ key. key ≡ key_named report.now.prefer (view report.now.tree) family (text_of (view value.now))) }
 {
     match report.target(text_of(value)) {
         Some((found, index)) => {
             if is_same(found, family) {
-                key_of_object(alloc, report.object(family, index))
+                key_of_object(alloc, report.object(family, index), report.preference())
             } else {
                 Ok(None)
             }
@@ -88,11 +89,15 @@ fn key_referred(
     }
 }
 
-fn key_of_object(alloc: Global, object: Option<&Value>) -> Result<Option<Key>, AllocError>
-    ensures { IfOk result (λ key. key ≡ option_and_then key_of (option_map (λ v. view v.now) object.entry)) }
+fn key_of_object(
+    alloc: Global,
+    object: Option<&Value>,
+    prefer: Option<&str>,
+) -> Result<Option<Key>, AllocError>
+    ensures { IfOk result (λ key. key ≡ option_and_then (key_of (option_copied prefer.entry)) (option_map (λ v. view v.now) object.entry)) }
 {
     match object {
-        Some(object) => key_of(alloc, object),
+        Some(object) => key_of(alloc, object, prefer),
         None => Ok(None),
     }
 }

@@ -21,7 +21,7 @@ pub(crate) fn value_of_kind(
     value: &Value,
 ) -> Result<Option<Value>, AllocError>
     ensures { IfOk result (λ built. has_float (view value.now) ≡ false
-        → option_map view built ≡ normal_value (view numbered.now) kind (view value.now)) }
+        → option_map view built ≡ normal_value numbered.now.prefer (view numbered.now.tree) kind (view value.now)) }
 {
     match kind {
         MemberKind::Label => Ok(Some(with_rising_text(alloc, value)?)),
@@ -60,7 +60,7 @@ fn selection_references(
     values: &[Value],
 ) -> Result<Vec<Value>, AllocError>
     ensures { IfOk result (λ built. map view built.items
-        ≡ map (λ v. normal_selection_reference (view numbered.now) (view v)) values.now) }
+        ≡ map (λ v. normal_selection_reference numbered.now.prefer (view numbered.now.tree) (view v)) values.now) }
 {
     let mut references = Vec::with_capacity(alloc, values.len())?;
     for value in values {

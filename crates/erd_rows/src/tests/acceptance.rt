@@ -10,10 +10,11 @@ use erd_canon::{Outcome, ReadFrom, Refusal, WriteTo, canonical, check_bytes, run
 use std::alloc::Global;
 use std::test::Fail;
 
-const NOT_JSON: &str = "not JSON\n";
+// What is told of bytes that are not JSON.
+pub const NOT_JSON: &str = "not JSON\n";
 
 // What is told of a refusal.
-fn refusal_lines(alloc: Global, refusal: Refusal) -> Result<String, Fail> {
+pub fn refusal_lines(alloc: Global, refusal: Refusal) -> Result<String, Fail> {
     match refusal {
         Refusal::NotJson => Ok(String::from_str(alloc, NOT_JSON)?),
         Refusal::Faults(faults) => Ok(lines(alloc, &faults)?),

@@ -146,11 +146,11 @@ fn optional_keys_in_order(rt: HostRuntime) -> Result<(), Fail> {
     let mut pairs = Vec::new(alloc);
     for index in 0..report.count(Family::Candidate) {
         if let Some(candidate) = report.object(Family::Candidate, index) {
-            pairs.push((key_of(alloc, candidate)?, index))?;
+            pairs.push((key_of(alloc, candidate, None)?, index))?;
         }
     }
-    pairs.push((key_of(alloc, report.election())?, 3))?;
-    pairs.push((key_of(alloc, report.tree())?, 4))?;
+    pairs.push((key_of(alloc, report.election(), None)?, 3))?;
+    pairs.push((key_of(alloc, report.tree(), None)?, 4))?;
     let sorted = in_order(alloc, pairs)?;
     let positions = [3usize, 4, 1, 2, 0];
     assert!(rt; sorted.iter().map(|it| it.1).eq(positions.iter().copied()));

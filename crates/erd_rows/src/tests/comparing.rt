@@ -84,7 +84,7 @@ fn meanings_tell(alloc: Global, left: &str, right: &str, wanted: &str) -> Result
 }
 
 // The difference is told so, and so is none.
-fn is_told(alloc: Global, found: Option<&Difference>, wanted: &str) -> Result<(), Fail> {
+pub fn is_told(alloc: Global, found: Option<&Difference>, wanted: &str) -> Result<(), Fail> {
     let line = match found {
         Some(difference) => difference.line(alloc)?,
         None => String::from_str(alloc, SAME)?,

@@ -30,10 +30,15 @@ pub fn replaced(alloc: Global, text: &str, from: &str, to: &str) -> Option<Strin
 
 // The text with the prefix of class names for each `%`.
 pub fn spelled(alloc: Global, text: &str) -> Result<String, AllocError> {
+    filled(alloc, text, '%', "ElectionResults.")
+}
+
+// The text with this in place of each mark.
+pub fn filled(alloc: Global, text: &str, mark: char, with: &str) -> Result<String, AllocError> {
     let mut whole = String::new(alloc);
-    for (index, part) in text.split('%').enumerate() {
+    for (index, part) in text.split(mark).enumerate() {
         if index > 0 {
-            whole.push_str("ElectionResults.")?;
+            whole.push_str(with)?;
         }
         whole.push_str(part)?;
     }

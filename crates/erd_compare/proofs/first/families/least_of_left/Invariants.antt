@@ -6,4 +6,4 @@ use Rattle.erd_compare.proofs.first.families.least_of_left.Given as goal
 
 abbrev pub invariant-loop-index : goal.invariant-loop-index
 invariant-loop-index l =
-    TellsAmongKeys (records_of (view l.sides.left.now) l.family) (records_of (view l.sides.right.now) l.family) (HasKeyAmong (view l.sides.left.now) l.family l.index) l.least
+    TellsAmongKeys (records_of l.sides.left.now.prefer (view l.sides.left.now.tree) l.family) (records_of l.sides.right.now.prefer (view l.sides.right.now.tree) l.family) (HasKeyAmong l.sides.left.now.prefer (view l.sides.left.now.tree) l.family l.index) l.least

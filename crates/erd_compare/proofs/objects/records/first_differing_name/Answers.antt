@@ -10,8 +10,8 @@ use Rattle.erd_compare.proofs.objects.records.first_differing_name.Goals as goal
 
 pub loop-name-init : goal.loop-name-init
 loop-name-init c =
-    let m : MemberMap = member_of_class (view c.args.sides.left.now) (view c.args.one.now) c.args.class in
-    let n : MemberMap = member_of_class (view c.args.sides.right.now) (view c.args.other.now) c.args.class in
+    let m : MemberMap = member_of_class c.args.sides.left.now.prefer (view c.args.sides.left.now.tree) (view c.args.one.now) c.args.class in
+    let n : MemberMap = member_of_class c.args.sides.right.now.prefer (view c.args.sides.right.now.tree) (view c.args.other.now) c.args.class in
     let is : c.in-Some.members.now.entries ≡ c.into_iter-name-iterator.result = sym (c.into_iter-name-iterator.ensures.into_iter_gives ∙ c.iter-name-items.ensures.rest) in
     record {
       rise = subst (λ (es : List Entry). AreMembers (members_view es)) is (entries-rise (view c.args.named.now) c.in-Some.members.now.entries c.requires.named.is_tree c.in-Some.ensures);
@@ -20,8 +20,8 @@ loop-name-init c =
 
 pub returns-then-not-branch : goal.returns-then-not-branch
 returns-then-not-branch c =
-    let m : MemberMap = member_of_class (view c.args.sides.left.now) (view c.args.one.now) c.args.class in
-    let n : MemberMap = member_of_class (view c.args.sides.right.now) (view c.args.other.now) c.args.class in
+    let m : MemberMap = member_of_class c.args.sides.left.now.prefer (view c.args.sides.left.now.tree) (view c.args.one.now) c.args.class in
+    let n : MemberMap = member_of_class c.args.sides.right.now.prefer (view c.args.sides.right.now.tree) (view c.args.other.now) c.args.class in
     subst (λ k. TellsAmongNames m n (view c.args.named.now) (Some k)) (sym c.as_str-name.ensures.value)
     (one-found m n (view c.args.named.now) c.in-Some-2.name.now c.in-Some-2.field-0-1.now c.loop-name.name-iterator c.next.new.self c.in-Some-2.ensures.steps c.loop-name.invariant.rise
     (λ same. absurd (true≢false (sym (c.in_ok-is_same_member.ensures.1 (ap m c.as_str-name.ensures.value ∙ same ∙ sym (ap n c.as_str-name.ensures.value))) ∙ c.if-not-branch.true)))
@@ -29,8 +29,8 @@ returns-then-not-branch c =
 
 pub loop-name-preserved : goal.loop-name-preserved
 loop-name-preserved c =
-    let m : MemberMap = member_of_class (view c.args.sides.left.now) (view c.args.one.now) c.args.class in
-    let n : MemberMap = member_of_class (view c.args.sides.right.now) (view c.args.other.now) c.args.class in
+    let m : MemberMap = member_of_class c.args.sides.left.now.prefer (view c.args.sides.left.now.tree) (view c.args.one.now) c.args.class in
+    let n : MemberMap = member_of_class c.args.sides.right.now.prefer (view c.args.sides.right.now.tree) (view c.args.other.now) c.args.class in
     record {
       rise = (subst (λ (es : List Entry). AreMembers (members_view es)) c.in-Some-2.ensures.steps c.loop-name.invariant.rise).2;
       rest = one-passed m n (view c.args.named.now) c.in-Some-2.name.now c.in-Some-2.field-0-1.now c.loop-name.name-iterator c.next.new.self c.in-Some-2.ensures.steps
@@ -39,6 +39,6 @@ loop-name-preserved c =
 
 pub returns : goal.returns
 returns c =
-    let m : MemberMap = member_of_class (view c.args.sides.left.now) (view c.args.one.now) c.args.class in
-    let n : MemberMap = member_of_class (view c.args.sides.right.now) (view c.args.other.now) c.args.class in
+    let m : MemberMap = member_of_class c.args.sides.left.now.prefer (view c.args.sides.left.now.tree) (view c.args.one.now) c.args.class in
+    let n : MemberMap = member_of_class c.args.sides.right.now.prefer (view c.args.sides.right.now.tree) (view c.args.other.now) c.args.class in
     none-left m n (view c.args.named.now) c.loop-name.name-iterator c.in-None.ensures.steps.0 c.loop-name.invariant.rest

@@ -9,6 +9,6 @@ use Rattle.erd_compare.proofs.objects.records.first_differing_name.Given as goal
 abbrev pub invariant-loop-name : goal.invariant-loop-name
 invariant-loop-name l = record {
   rise : AreMembers (members_view l.name-iterator);
-  rest : (found : Option (List ℕ)) → TellsAmongNames (member_of_class (view l.sides.left.now) (view l.one) l.class) (member_of_class (view l.sides.right.now) (view l.other) l.class) (object (members_view l.name-iterator)) found
-      → TellsAmongNames (member_of_class (view l.sides.left.now) (view l.one) l.class) (member_of_class (view l.sides.right.now) (view l.other) l.class) (view l.named) found;
+  rest : (found : Option (List ℕ)) → TellsAmongNames (member_of_class l.sides.left.now.prefer (view l.sides.left.now.tree) (view l.one) l.class) (member_of_class l.sides.right.now.prefer (view l.sides.right.now.tree) (view l.other) l.class) (object (members_view l.name-iterator)) found
+      → TellsAmongNames (member_of_class l.sides.left.now.prefer (view l.sides.left.now.tree) (view l.one) l.class) (member_of_class l.sides.right.now.prefer (view l.sides.right.now.tree) (view l.other) l.class) (view l.named) found;
 }

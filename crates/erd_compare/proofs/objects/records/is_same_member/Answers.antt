@@ -9,6 +9,6 @@ use Rattle.erd_compare.proofs.objects.records.is_same_member.Goals as goal
 
 pub returns-else-is_selections : goal.returns-else-is_selections
 returns-else-is_selections c =
-    other_kind-Decides c.is_same_plain_member.result (view c.args.sides.left.now) (view c.args.sides.right.now) (kind_of_member c.args.class c.args.name.now)
+    other_kind-Decides c.args.sides.left.now.prefer c.args.sides.right.now.prefer c.is_same_plain_member.result (view c.args.sides.left.now.tree) (view c.args.sides.right.now.tree) (kind_of_member c.args.class c.args.name.now)
     (get c.args.name.now (view c.args.one.now)) (get c.args.name.now (view c.args.other.now)) _ _
     (ap is_selections (sym c.member_kind.ensures) ∙ sym c.is_selections.ensures ∙ c.if-is_selections.false) c.is_same_plain_member.ensures

@@ -10,9 +10,9 @@ pub returns-then-are_same_at : goal.returns-then-are_same_at
 returns-then-are_same_at c =
     let one = c.args.one.now in
     let other = c.args.other.now in
-    let m = selection_map (view one.report.now) (map view one.selections.now) in
-    let n = selection_map (view other.report.now) (map view other.selections.now) in (
-      λ h. same_maps (view one.report.now) (view other.report.now) one.selections.now other.selections.now
+    let m = selection_map one.report.now.prefer (view one.report.now.tree) (map view one.selections.now) in
+    let n = selection_map other.report.now.prefer (view other.report.now.tree) (map view other.selections.now) in (
+      λ h. same_maps one.report.now.prefer other.report.now.prefer (view one.report.now.tree) (view other.report.now.tree) one.selections.now other.selections.now
           (subst (AllByRecursion (AgreeAtOption m n)) (c.deref.ensures.value ∙ one.named) (c.are_same_at.ensures.0 c.if-are_same_at.true))
           (subst (AllByRecursion (AgreeAtOption m n)) (c.deref-then-are_same_at.ensures.value ∙ other.named) (c.are_same_at-then-are_same_at.ensures.0 h)),
       λ same. c.are_same_at-then-are_same_at.ensures.1 (agree_at_each m n c.deref-then-are_same_at.result.now same),
@@ -22,6 +22,6 @@ pub returns-else-are_same_at : goal.returns-else-are_same_at
 returns-else-are_same_at c =
     let one = c.args.one.now in
     let other = c.args.other.now in
-    let m = selection_map (view one.report.now) (map view one.selections.now) in
-    let n = selection_map (view other.report.now) (map view other.selections.now) in
+    let m = selection_map one.report.now.prefer (view one.report.now.tree) (map view one.selections.now) in
+    let n = selection_map other.report.now.prefer (view other.report.now.tree) (map view other.selections.now) in
     (λ h. absurd (cc), λ same. c.are_same_at.ensures.1 (agree_at_each m n c.deref.result.now same))

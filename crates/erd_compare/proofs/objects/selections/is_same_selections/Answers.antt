@@ -23,5 +23,5 @@ is_same_selection_map-requires-clause-others c =
 
 pub returns-in-Some-Some : goal.returns-in-Some-Some
 returns-in-Some-Some c =
-    selections-Decide c.is_same_selection_map.result (view c.args.sides.left.now) (view c.args.sides.right.now) (view c.in-Some-Some.ones.now) (view c.in-Some-Some.others.now) _ _ _ _
+    selections-Decide c.args.sides.left.now.prefer c.args.sides.right.now.prefer c.is_same_selection_map.result (view c.args.sides.left.now.tree) (view c.args.sides.right.now.tree) (view c.in-Some-Some.ones.now) (view c.in-Some-Some.others.now) _ _ _ _
     (sym c.filled.ensures ∙ ap seen c.in-Some-Some.is-0) (sym c.filled-2.ensures ∙ ap seen c.in-Some-Some.is-1) c.entries_of-ones.ensures c.entries_of-others.ensures c.is_same_selection_map.ensures

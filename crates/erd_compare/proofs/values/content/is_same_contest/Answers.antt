@@ -6,6 +6,7 @@ use Rattle.serde_json.specs.View.{view}
 use Rattle.serde_json.specs.declared.value.Value.{Value}
 use Rattle.erd_tables.specs.declared.class.Family.TheVariants as family
 use Rattle.erd_check.specs.Values.{entries_at, text_at}
+use Rattle.erd_meaning.specs.Keys.{Preference}
 use Rattle.erd_meaning.specs.NameParts.{NameParts}
 use Rattle.erd_meaning.specs.Records.{carried_members, class_of_node}
 use Rattle.erd_meaning.specs.SelectionNames.{key_named, name_named}
@@ -15,21 +16,21 @@ use Rattle.erd_compare.proofs.values.content.is_same_contest.Goals as goal
 use Rattle.erd_compare.proofs.values.content.is_same_contest.Goals.{then-is_same_owner, else-is_same_owner}
 
 -- the name of the selection that a reference names
-abbrev name_in : Data → Data → Option NameParts
-name_in t d = option_and_then (name_named t) (as_str d)
+abbrev name_in : Preference → Data → Data → Option NameParts
+name_in π t d = option_and_then (name_named π t) (as_str d)
 
 -- the names of the selections of a contest, from its entries
-names_at : (t d : Data) (vs : List Value) → map view vs ≡ entries_at (codes "OrderedContestSelectionIds") d → map (λ v. name_in t (view v)) vs ≡ map (name_in t) (entries_at (codes "OrderedContestSelectionIds") d)
-names_at t d vs is = sym (map-map (name_in t) view vs) ∙ ap (map (name_in t)) is
+names_at : (π : Preference) (t d : Data) (vs : List Value) → map view vs ≡ entries_at (codes "OrderedContestSelectionIds") d → map (λ v. name_in π t (view v)) vs ≡ map (name_in π t) (entries_at (codes "OrderedContestSelectionIds") d)
+names_at π t d vs is = sym (map-map (name_in π t) view vs) ∙ ap (map (name_in π t)) is
 
 pub returns-then-is_same_rest : goal.returns-then-is_same_rest
 returns-then-is_same_rest c =
-    let t = view c.args.sides.left.now in
-    let u = view c.args.sides.right.now in
+    let t = view c.args.sides.left.now.tree in
+    let u = view c.args.sides.right.now.tree in
     let d = view c.args.one.now in
     let e = view c.args.other.now in
-    let k = key_named t family.Contest (text_at (codes "ContestId") d) in
-    let l = key_named u family.Contest (text_at (codes "ContestId") e) in
+    let k = key_named c.args.sides.left.now.prefer t family.Contest (text_at (codes "ContestId") d) in
+    let l = key_named c.args.sides.right.now.prefer u family.Contest (text_at (codes "ContestId") e) in
     let m = carried_members (class_of_node d) d in
     let n = carried_members (class_of_node e) e in
     let both : (k ≡ l) × (m ≡ n) =
@@ -37,7 +38,7 @@ returns-then-is_same_rest c =
       | then-is_same_owner w ↦ (c.is_same_owner.ensures.0 w.if-is_same_owner.true, w.is_same_rest.ensures.0 (sym w.value-is ∙ c.if-is_same_rest.true))
       | else-is_same_owner w ↦ absurd (true≢false (sym c.if-is_same_rest.true ∙ (w.value-is ∙ w.if-is_same_owner.false)))
     ] in
-    let names = decides_as refl (names_at t d c.entries_at.result.now c.entries_at.ensures) (names_at u e c.entries_at-then-is_same_rest.result.now c.entries_at-then-is_same_rest.ensures) c.are_same_names.ensures in
-    contest-Decides c.are_same_names.result k l (map (name_in t) (entries_at (codes "OrderedContestSelectionIds") d)) (map (name_in u) (entries_at (codes "OrderedContestSelectionIds") e)) m n
+    let names = decides_as refl (names_at c.args.sides.left.now.prefer t d c.entries_at.result.now c.entries_at.ensures) (names_at c.args.sides.right.now.prefer u e c.entries_at-then-is_same_rest.result.now c.entries_at-then-is_same_rest.ensures) c.are_same_names.ensures in
+    contest-Decides c.are_same_names.result k l (map (name_in c.args.sides.left.now.prefer t) (entries_at (codes "OrderedContestSelectionIds") d)) (map (name_in c.args.sides.right.now.prefer u) (entries_at (codes "OrderedContestSelectionIds") e)) m n
     (λ h. (both.0, both.1, names.0 h))
     (λ a b s. names.1 s)

@@ -8,5 +8,5 @@ use Rattle.erd_compare.proofs.values.references.are_keys_among.Given as goal
 -- the references that are left decide
 abbrev pub invariant-loop-one : goal.invariant-loop-one
 invariant-loop-one l =
-    list_all (key_set (keys_named (view l.right) l.family (map view l.others))) (keys_named (view l.left) l.family (map view (drop l.one-index l.ones)))
-    ≡ list_all (key_set (keys_named (view l.right) l.family (map view l.others))) (keys_named (view l.left) l.family (map view l.ones))
+    list_all (key_set (keys_named l.right.prefer (view l.right.tree) l.family (map view l.others))) (keys_named l.left.prefer (view l.left.tree) l.family (map view (drop l.one-index l.ones)))
+    ≡ list_all (key_set (keys_named l.right.prefer (view l.right.tree) l.family (map view l.others))) (keys_named l.left.prefer (view l.left.tree) l.family (map view l.ones))

@@ -7,4 +7,4 @@ use Rattle.erd_compare.proofs.values.references.is_key_among.Given as goal
 -- the references that are left decide
 abbrev pub invariant-loop-value : goal.invariant-loop-value
 invariant-loop-value l =
-    key_set (keys_named (view l.report) l.family (map view (drop l.value-index l.values))) l.key ≡ key_set (keys_named (view l.report) l.family (map view l.values)) l.key
+    key_set (keys_named l.report.prefer (view l.report.tree) l.family (map view (drop l.value-index l.values))) l.key ≡ key_set (keys_named l.report.prefer (view l.report.tree) l.family (map view l.values)) l.key

@@ -6,13 +6,13 @@ use Rattle.erd_compare.proofs.values.references.key_with_id.Goals as goal
 
 pub returns-in_err-found : goal.returns-in_err-found
 returns-in_err-found c =
-    ap option_copied c.from_residual.ensures ∙ key_nowhere (view c.args.report.now) c.args.family c.args.id.now c.in_err-found.ensures
+    ap option_copied c.from_residual.ensures ∙ key_nowhere c.args.report.now.prefer (view c.args.report.now.tree) c.args.family c.args.id.now c.in_err-found.ensures
 
 pub returns-then-is_same_family : goal.returns-then-is_same_family
 returns-then-is_same_family c =
     c.key_at.ensures
-    ∙ key_here (view c.args.report.now) c.args.family c.args.id.now c.in_ok-found.found c.in_ok-found.index c.requires.keyed c.in_ok-found.ensures (sym c.is_same_family.ensures ∙ c.if-is_same_family.true)
+    ∙ key_here c.args.report.now.prefer (view c.args.report.now.tree) c.args.family c.args.id.now c.in_ok-found.found c.in_ok-found.index c.requires.keyed c.in_ok-found.ensures (sym c.is_same_family.ensures ∙ c.if-is_same_family.true)
 
 pub returns-else-is_same_family : goal.returns-else-is_same_family
 returns-else-is_same_family c =
-    key_elsewhere (view c.args.report.now) c.args.family c.args.id.now c.in_ok-found.found c.in_ok-found.index c.in_ok-found.ensures (sym c.is_same_family.ensures ∙ c.if-is_same_family.false)
+    key_elsewhere c.args.report.now.prefer (view c.args.report.now.tree) c.args.family c.args.id.now c.in_ok-found.found c.in_ok-found.index c.in_ok-found.ensures (sym c.is_same_family.ensures ∙ c.if-is_same_family.false)

@@ -35,12 +35,12 @@ meet_contest-requires c =
 
 pub loop-index-preserved : goal.loop-index-preserved
 loop-index-preserved c =
-    named_inside (name_among (map shown c.args.objects.now)) contests c.entries_at-contest-items.result.now c.loop-index.index c.contest-item.result (names_met c.loop-index.walk)
+    named_inside (name_among c.args.keys.now (map shown c.args.objects.now)) contests c.entries_at-contest-items.result.now c.loop-index.index c.contest-item.result (names_met c.loop-index.walk)
     (names_met c.meet_contest.new.walk) _ c.loop-index-test.true c.contest-item.is c.loop-index.invariant c.in_ok-meet_contest.ensures
 
 pub returns : goal.returns
 returns c =
-    let name = name_among (map shown c.args.objects.now) in
+    let name = name_among c.args.keys.now (map shown c.args.objects.now) in
     let all = selections_here (view c.args.report.now) c.requires.faultless c.entries_at.result.now c.entries_at-contest-items.result.now c.index-entries_at-0.result c.entries_at.ensures c.index-entries_at-0.is
     c.entries_at-contest-items.ensures in
     all_named name contests c.entries_at-contest-items.result.now c.loop-index.index (names_met c.loop-index.walk) _ c.loop-index-test.false c.loop-index.invariant

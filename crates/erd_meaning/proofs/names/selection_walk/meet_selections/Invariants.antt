@@ -8,5 +8,5 @@ use Rattle.erd_meaning.proofs.names.selection_walk.meet_selections.Given as goal
 
 abbrev pub invariant-loop-index : goal.invariant-loop-index
 invariant-loop-index l =
-    named_all (name_among (map shown l.objects)) (names_met l.walk) (of_contests_from (steps_of l.contests) l.index (drop l.index l.contest-items))
-    ≡ named_all (name_among (map shown l.objects)) (names_met l.initial.walk) (of_contests_from (steps_of l.contests) 0 l.contest-items)
+    named_all (name_among l.keys (map shown l.objects)) (names_met l.walk) (of_contests_from (steps_of l.contests) l.index (drop l.index l.contest-items))
+    ≡ named_all (name_among l.keys (map shown l.objects)) (names_met l.initial.walk) (of_contests_from (steps_of l.contests) 0 l.contest-items)

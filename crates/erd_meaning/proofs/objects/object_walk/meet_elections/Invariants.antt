@@ -9,5 +9,5 @@ use Rattle.erd_meaning.proofs.objects.object_walk.meet_elections.Given as goal
 
 abbrev pub invariant-loop-index : goal.invariant-loop-index
 invariant-loop-index l =
-    met_all (met_of l.walk) (flat_map election_located (placed_from (steps_of l.elections) l.index (map view (drop l.index l.election-items))))
-    ≡ met_all (met_of l.initial.walk) (flat_map election_located (placed_from (steps_of l.elections) 0 (map view l.election-items)))
+    met_all (met_of l.walk) (flat_map (election_located l.keys) (placed_from (steps_of l.elections) l.index (map view (drop l.index l.election-items))))
+    ≡ met_all (met_of l.initial.walk) (flat_map (election_located l.keys) (placed_from (steps_of l.elections) 0 (map view l.election-items)))

@@ -8,5 +8,5 @@ use Rattle.erd_meaning.proofs.objects.object_walk.meet_entries.Given as goal
 
 abbrev pub invariant-loop-index : goal.invariant-loop-index
 invariant-loop-index l =
-    met_all (met_of l.walk) (located l.family (placed_from (steps_of l.array) l.index (map view (drop l.index l.entry-items))))
-    ≡ met_all (met_of l.initial.walk) (located l.family (placed_from (steps_of l.array) 0 (map view l.entry-items)))
+    met_all (met_of l.walk) (located l.keys l.family (placed_from (steps_of l.array) l.index (map view (drop l.index l.entry-items))))
+    ≡ met_all (met_of l.initial.walk) (located l.keys l.family (placed_from (steps_of l.array) 0 (map view l.entry-items)))

@@ -1,4 +1,5 @@
 use Rattle.std.proofs.Common.{◌≡◌, ap, sym, subst, ◌∙◌}
+use Rattle.erd_meaning.specs.Judged.{Judged}
 use Rattle.erd_meaning.specs.code.Resolved.{IsResolved}
 use Rattle.erd_meaning.proofs.finding.Found.{key_found, key_missed, rank}
 use Rattle.erd_meaning.proofs.report.Report.find.Goals as goal
@@ -6,15 +7,15 @@ use Rattle.erd_meaning.proofs.report.Report.find.Goals as goal
 pub returns-in-Some : goal.returns-in-Some
 returns-in-Some c =
     let names = c.self.inside.names.items in
-    let resolved : IsResolved c.args.self.now c.deref.result.now names =
-    subst (λ v. IsResolved v c.deref.result.now names) c.self.view_is (subst (λ os. IsResolved c.self.inside.tree.now os names) (sym c.deref.ensures.value) c.self.invariant) in
+    let resolved : IsResolved c.args.self.now.prefer c.args.self.now.tree c.deref.result.now names =
+    subst (λ (r : Judged). IsResolved r.prefer r.tree c.deref.result.now names) c.self.view_is (subst (λ os. IsResolved c.self.inside.prefer c.self.inside.tree.now os names) (sym c.deref.ensures.value) c.self.invariant) in
     let counted : c.count_of.result ≡ rank c.args.family c.deref.result.now c.in-Some.place =
     c.count_of.ensures ∙ ap (λ os. rank c.args.family os c.in-Some.place) (c.deref-in-Some.ensures.value ∙ sym c.deref.ensures.value) in
-    key_found c.args.self.now c.deref.result.now names c.args.family c.args.key.now c.in-Some.place c.count_of.result resolved (sym c.in-Some.ensures) counted
+    key_found c.args.self.now.prefer c.args.self.now.tree c.deref.result.now names c.args.family c.args.key.now c.in-Some.place c.count_of.result resolved (sym c.in-Some.ensures) counted
 
 pub returns-in-None : goal.returns-in-None
 returns-in-None c =
     let names = c.self.inside.names.items in
-    let resolved : IsResolved c.args.self.now c.deref.result.now names =
-    subst (λ v. IsResolved v c.deref.result.now names) c.self.view_is (subst (λ os. IsResolved c.self.inside.tree.now os names) (sym c.deref.ensures.value) c.self.invariant) in
-    key_missed c.args.self.now c.deref.result.now names c.args.family c.args.key.now resolved (sym c.in-None.ensures)
+    let resolved : IsResolved c.args.self.now.prefer c.args.self.now.tree c.deref.result.now names =
+    subst (λ (r : Judged). IsResolved r.prefer r.tree c.deref.result.now names) c.self.view_is (subst (λ os. IsResolved c.self.inside.prefer c.self.inside.tree.now os names) (sym c.deref.ensures.value) c.self.invariant) in
+    key_missed c.args.self.now.prefer c.args.self.now.tree c.deref.result.now names c.args.family c.args.key.now resolved (sym c.in-None.ensures)

@@ -12,9 +12,9 @@ returns-then-len-eq0-clause-told_apart c =
     let after = c.meet_selections.new.walk in
     let kept = map shown c.args.objects.now in
     let tree = view c.args.tree.now in
-    let walked : NamesWalked before after kept tree =
+    let walked : NamesWalked c.args.keys.now before after kept tree =
     record { no_name = c.new.ensures.items; no_fault = c.new-2.ensures.items; kept = c.requires.kept; met = c.in_ok-meet_selections.ensures } in
-    no_twin_left before after kept tree walked c.of-twins.result c.of-twins.ensures (sym c.len.ensures ∙ c.if-len-eq0.true)
+    no_twin_left c.args.keys.now before after kept tree walked c.of-twins.result c.of-twins.ensures (sym c.len.ensures ∙ c.if-len-eq0.true)
 
 pub returns-then-len-eq0-clause-named : goal.returns-then-len-eq0-clause-named
 returns-then-len-eq0-clause-named c =
@@ -22,9 +22,9 @@ returns-then-len-eq0-clause-named c =
     let after = c.meet_selections.new.walk in
     let kept = map shown c.args.objects.now in
     let tree = view c.args.tree.now in
-    let walked : NamesWalked before after kept tree =
+    let walked : NamesWalked c.args.keys.now before after kept tree =
     record { no_name = c.new.ensures.items; no_fault = c.new-2.ensures.items; kept = c.requires.kept; met = c.in_ok-meet_selections.ensures } in
-    names_left before after kept tree walked c.requires.faultless
+    names_left c.args.keys.now before after kept tree walked c.requires.faultless
 
 pub returns-else-len-eq0-clause-refused : goal.returns-else-len-eq0-clause-refused
 returns-else-len-eq0-clause-refused c =
@@ -32,8 +32,8 @@ returns-else-len-eq0-clause-refused c =
     let after = c.meet_selections.new.walk in
     let kept = map shown c.args.objects.now in
     let tree = view c.args.tree.now in
-    let walked : NamesWalked before after kept tree =
+    let walked : NamesWalked c.args.keys.now before after kept tree =
     record { no_name = c.new.ensures.items; no_fault = c.new-2.ensures.items; kept = c.requires.kept; met = c.in_ok-meet_selections.ensures } in
     let list = c.of-twins.result in
     let some : list ≢ [] = λ empty. let zero : length list ≡ 0 = ap length empty in c.if-len-eq0.false (c.len.ensures ∙ zero) in
-    (twins_left before after kept tree walked list c.of-twins.ensures, some)
+    (twins_left c.args.keys.now before after kept tree walked list c.of-twins.ensures, some)

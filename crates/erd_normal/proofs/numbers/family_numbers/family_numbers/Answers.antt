@@ -15,9 +15,9 @@ pub returns-clause-numbers : goal.returns-clause-numbers
 returns-clause-numbers c =
     IfOk-weaker c.numbers_by.result
     (λ numbers. numbers.items ≡ numbered 0 c.deref.result.now (replicate (length c.deref.result.now) 0))
-    (λ numbers. AreNumbers (view c.args.report.now) c.args.family numbers.items)
+    (λ numbers. AreNumbers c.args.report.now.prefer (view c.args.report.now.tree) c.args.family numbers.items)
     (λ numbers e.
-    family_number (view c.args.report.now) c.requires.accepted c.args.family c.requires.keyed c.in_ok-sorted.sorted.items numbers.items
+    family_number c.args.report.now.prefer (view c.args.report.now.tree) c.requires.accepted c.args.family c.requires.keyed c.in_ok-sorted.sorted.items numbers.items
     (rising_from_stable (option_cmp key_cmp) (options_total key_cmp_total) c.in_ok-keyed.keyed.items c.in_ok-sorted.sorted.items c.in_ok-sorted.ensures
     ∙ ap (rising_list (by_first (option_cmp key_cmp))) c.in_ok-keyed.ensures.pairs)
     (e ∙ ap (λ ps. numbered 0 ps (replicate (length ps) 0)) c.deref.ensures.value))

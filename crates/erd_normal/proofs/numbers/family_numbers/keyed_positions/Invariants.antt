@@ -6,4 +6,4 @@ use Rattle.erd_normal.proofs.numbers.family_numbers.keyed_positions.Given as goa
 
 abbrev pub invariant-loop-index : goal.invariant-loop-index
 invariant-loop-index l =
-    l.pairs.items ++ key_positions l.index (drop l.index (objects l.family (view l.report))) ≡ key_positions 0 (objects l.family (view l.report))
+    l.pairs.items ++ key_positions l.report.prefer l.index (drop l.index (objects l.family (view l.report.tree))) ≡ key_positions l.report.prefer 0 (objects l.family (view l.report.tree))

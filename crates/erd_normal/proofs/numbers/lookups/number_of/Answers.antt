@@ -8,11 +8,11 @@ use Rattle.erd_normal.proofs.numbers.lookups.number_of.Goals as goal
 pub returns-then-is_same : goal.returns-then-is_same
 returns-then-is_same c =
     ap (numbered_id c.args.family) (c.number_at.ensures ∙ ap (λ ns. number_in ns c.in-Some.index) c.numbers_in.ensures)
-    ∙ named_here (view c.args.report.now) c.args.family c.args.id.now c.args.numbers.now c.in-Some.found c.in-Some.index c.requires c.in-Some.ensures (sym c.is_same.ensures ∙ c.if-is_same.true)
+    ∙ named_here c.args.report.now.prefer (view c.args.report.now.tree) c.args.family c.args.id.now c.args.numbers.now c.in-Some.found c.in-Some.index c.requires c.in-Some.ensures (sym c.is_same.ensures ∙ c.if-is_same.true)
 
 pub returns-else-is_same : goal.returns-else-is_same
 returns-else-is_same c =
-    named_elsewhere (view c.args.report.now) c.args.family c.args.id.now c.in-Some.found c.in-Some.index c.in-Some.ensures (sym c.is_same.ensures ∙ c.if-is_same.false)
+    named_elsewhere c.args.report.now.prefer (view c.args.report.now.tree) c.args.family c.args.id.now c.in-Some.found c.in-Some.index c.in-Some.ensures (sym c.is_same.ensures ∙ c.if-is_same.false)
 
 pub returns-in-None : goal.returns-in-None
-returns-in-None c = named_nowhere (view c.args.report.now) c.args.family c.args.id.now c.in-None.ensures
+returns-in-None c = named_nowhere c.args.report.now.prefer (view c.args.report.now.tree) c.args.family c.args.id.now c.in-None.ensures

@@ -4,7 +4,7 @@ use Rattle.erd_normal.proofs.numbers.numbering.numbers_of.Goals as goal
 
 pub returns : goal.returns
 returns c =
-    object_numbers_made (view c.args.report.now) _ c.requires.accepted
+    object_numbers_made c.args.report.now.prefer (view c.args.report.now.tree) _ c.requires.accepted
     (record { numbers = c.in_ok-family_numbers.ensures.numbers; few = c.in_ok-family_numbers.ensures.few })
     (record { numbers = c.in_ok-family_numbers-2.ensures.numbers; few = c.in_ok-family_numbers-2.ensures.few })
     (record { numbers = c.in_ok-family_numbers-3.ensures.numbers; few = c.in_ok-family_numbers-3.ensures.few })

@@ -5,4 +5,4 @@ use Rattle.erd_normal.specs.code.KeyRanks.{numbers_in_contest}
 use Rattle.erd_normal.proofs.numbers.selection_numbers.election_numbers.Given as goal
 
 abbrev pub invariant-loop-contest : goal.invariant-loop-contest
-invariant-loop-contest l = l.numbers.items ≡ flat_map (numbers_in_contest (view l.report)) (map view (take l.contest-index l.contests))
+invariant-loop-contest l = l.numbers.items ≡ flat_map (numbers_in_contest l.report.prefer (view l.report.tree)) (map view (take l.contest-index l.contests))

@@ -6,4 +6,4 @@ use Rattle.erd_normal.proofs.numbers.selection_numbers.named_positions.Given as 
 
 abbrev pub invariant-loop-index : goal.invariant-loop-index
 invariant-loop-index l =
-    l.pairs.items ++ positioned l.index (map (name_of (view l.report)) (map view (drop l.index l.selections))) ≡ positioned 0 (map (name_of (view l.report)) (map view l.selections))
+    l.pairs.items ++ positioned l.index (map (name_of l.report.prefer (view l.report.tree)) (map view (drop l.index l.selections))) ≡ positioned 0 (map (name_of l.report.prefer (view l.report.tree)) (map view l.selections))

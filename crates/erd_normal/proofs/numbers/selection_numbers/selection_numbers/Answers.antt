@@ -20,12 +20,12 @@ election_numbers-requires c = record {
 
 pub returns-clause-numbers : goal.returns-clause-numbers
 returns-clause-numbers c =
-    let t = view c.args.report.now in
+    let t = view c.args.report.now.tree in
     let elections = c.entries_at-elections.result.now in
     let end : c.loop-election.election-index ≡ length elections = omega arith in
-    selection_numbered t c.requires.accepted c.loop-election.numbers.items
+    selection_numbered c.args.report.now.prefer t c.requires.accepted c.loop-election.numbers.items
     (c.loop-election.invariant
-    ∙ ap (flat_map (numbers_in_election t))
+    ∙ ap (flat_map (numbers_in_election c.args.report.now.prefer t))
     (ap (map view) (ap (λ n. take n elections) end ∙ take-length elections)
     ∙ (c.entries_at-elections.ensures
     ∙ ap (λ d. entries_at (codes "Election") (view d)) c.tree.ensures.tree)))

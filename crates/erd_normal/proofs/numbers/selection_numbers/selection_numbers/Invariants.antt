@@ -5,4 +5,4 @@ use Rattle.erd_normal.proofs.ranks.SelectionPlaces.{numbers_in_election}
 use Rattle.erd_normal.proofs.numbers.selection_numbers.selection_numbers.Given as goal
 
 abbrev pub invariant-loop-election : goal.invariant-loop-election
-invariant-loop-election l = l.numbers.items ≡ flat_map (numbers_in_election (view l.report)) (map view (take l.election-index l.elections))
+invariant-loop-election l = l.numbers.items ≡ flat_map (numbers_in_election l.report.prefer (view l.report.tree)) (map view (take l.election-index l.elections))

@@ -5,4 +5,4 @@ use Rattle.erd_normal.proofs.objects.contest_selections.numbered_selections.Give
 
 abbrev pub invariant-loop-index : goal.invariant-loop-index
 invariant-loop-index l =
-    map view l.built.items ≡ map_from (placed_selection (view l.numbered) l.contest) 1 (map (λ p. view p.1.now) (take l.index l.sorted))
+    map view l.built.items ≡ map_from (placed_selection l.numbered.prefer (view l.numbered.tree) l.contest) 1 (map (λ p. view p.1.now) (take l.index l.sorted))

@@ -6,4 +6,4 @@ use Rattle.erd_normal.proofs.objects.contest_selections.with_names.Given as goal
 
 abbrev pub invariant-loop-selection : goal.invariant-loop-selection
 invariant-loop-selection l =
-    map (λ p. beside_name p.0 (view p.1.now)) l.pairs.items ≡ map (λ v. beside_name (name_of (view l.report) (view v)) (view v)) (take l.selection-index l.selections)
+    map (λ p. beside_name p.0 (view p.1.now)) l.pairs.items ≡ map (λ v. beside_name (name_of l.report.prefer (view l.report.tree) (view v)) (view v)) (take l.selection-index l.selections)

@@ -7,7 +7,7 @@ use Rattle.erd_normal.proofs.objects.family_objects.numbered_objects.Goals as go
 pub loop-index-preserved : goal.loop-index-preserved
 loop-index-preserved c =
     ap (map view) c.in_ok-push.ensures.items
-    ∙ placed_more view (λ p. view p.1.now) (placed_object (view c.args.numbered.now) c.args.family) c.loop-index.built.items c.args.sorted.now c.loop-index.index c.index-sorted-index.result
+    ∙ placed_more view (λ p. view p.1.now) (placed_object c.args.numbered.now.prefer (view c.args.numbered.now.tree) c.args.family) c.loop-index.built.items c.args.sorted.now c.loop-index.index c.index-sorted-index.result
     c.in_ok-object.field-0
     c.loop-index-test.true
     c.index-sorted-index.is

@@ -5,4 +5,4 @@ use Rattle.erd_normal.proofs.objects.family_objects.numbered_objects.Given as go
 
 abbrev pub invariant-loop-index : goal.invariant-loop-index
 invariant-loop-index l =
-    map view l.built.items ≡ map_from (placed_object (view l.numbered) l.family) 1 (map (λ p. view p.1.now) (take l.index l.sorted))
+    map view l.built.items ≡ map_from (placed_object l.numbered.prefer (view l.numbered.tree) l.family) 1 (map (λ p. view p.1.now) (take l.index l.sorted))

@@ -12,6 +12,6 @@ elections-requires c = record { whole = whole_list (view c.args.value.now) c.ent
 
 pub returns : goal.returns
 returns c =
-    let each = placed_election (view c.args.numbered.now) in
+    let each = placed_election c.args.numbered.now.prefer (view c.args.numbered.now.tree) in
     view-Array c.in_ok-built.built
     ∙ ap (λ ds. array (items_of ds)) (c.in_ok-built.ensures ∙ (map_after view each c.entries_of.result.now ∙ ap (map each) c.entries_of.ensures))

@@ -10,12 +10,12 @@ use Rattle.erd_normal.proofs.values.content.+content.Given as goal
 abbrev pub invariant-node_members-loop-name : goal.invariant-node_members-loop-name
 invariant-node_members-loop-name l = record {
   built : members_have_float (members_view l.members.entries) ≡ false
-      → put_each (node_value (view l.numbered) l.class) (members_view l.name-iterator) (members_view l.built.entries)
-      ≡ put_each (node_value (view l.numbered) l.class) (members_view l.members.entries) no_members;
+      → put_each (node_value l.numbered.prefer (view l.numbered.tree) l.class) (members_view l.name-iterator) (members_view l.built.entries)
+      ≡ put_each (node_value l.numbered.prefer (view l.numbered.tree) l.class) (members_view l.members.entries) no_members;
   whole : members_have_float (members_view l.members.entries) ≡ false → members_have_float (members_view l.name-iterator) ≡ false;
 }
 
 abbrev pub invariant-nodes-loop-item : goal.invariant-nodes-loop-item
 invariant-nodes-loop-item l =
     items_have_float (items_view l.item-items) ≡ false
-    → map view l.built.items ≡ map (λ v. normal_node (view l.numbered) (view v)) (take l.item-index l.item-items)
+    → map view l.built.items ≡ map (λ v. normal_node l.numbered.prefer (view l.numbered.tree) (view v)) (take l.item-index l.item-items)

@@ -11,4 +11,4 @@ returns c =
     seen
     ∙ ap string (c.in_ok-id_text.ensures
     ∙ (c.number_of-number.ensures
-    ∙ ap (normal_id (view c.args.numbered.now) c.args.family) c.text_of.ensures))
+    ∙ ap (normal_id c.args.numbered.now.prefer (view c.args.numbered.now.tree) c.args.family) c.text_of.ensures))

@@ -7,7 +7,7 @@ use Rattle.erd_normal.proofs.values.reference_set.references_of.Goals as goal
 pub loop-pair-preserved : goal.loop-pair-preserved
 loop-pair-preserved c =
     ap (map view) c.in_ok-push.ensures.items
-    ∙ one_more view (λ p. normal_reference (view c.args.numbered.now) c.args.family (view p.1.now)) c.loop-pair.references.items c.args.pairs.now c.loop-pair.pair-index
+    ∙ one_more view (λ p. normal_reference c.args.numbered.now.prefer (view c.args.numbered.now.tree) c.args.family (view p.1.now)) c.loop-pair.references.items c.args.pairs.now c.loop-pair.pair-index
     c.pair-item.result
     c.in_ok-reference.field-0
     c.loop-pair-test.true

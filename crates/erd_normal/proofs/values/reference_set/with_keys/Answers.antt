@@ -7,7 +7,7 @@ use Rattle.erd_normal.proofs.values.reference_set.with_keys.Goals as goal
 pub loop-value-preserved : goal.loop-value-preserved
 loop-value-preserved c =
     ap (map (λ p. beside_key p.0 (view p.1.now))) c.in_ok-push.ensures.items
-    ∙ one_more (λ p. beside_key p.0 (view p.1.now)) (λ v. beside_named (view c.args.report.now) c.args.family (view v)) c.loop-value.pairs.items c.args.values.now c.loop-value.value-index
+    ∙ one_more (λ p. beside_key p.0 (view p.1.now)) (λ v. beside_named c.args.report.now.prefer (view c.args.report.now.tree) c.args.family (view v)) c.loop-value.pairs.items c.args.values.now c.loop-value.value-index
     c.value-item.result
     _
     c.loop-value-test.true

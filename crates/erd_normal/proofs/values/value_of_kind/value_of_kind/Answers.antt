@@ -10,7 +10,7 @@ use Rattle.erd_normal.proofs.values.value_of_kind.value_of_kind.Goals as goal
 
 pub returns-in_ok-built-in-Identifiers : goal.returns-in_ok-built-in-Identifiers
 returns-in_ok-built-in-Identifiers c whole =
-    let t = view c.args.numbered.now in
+    let t = view c.args.numbered.now.tree in
     let d = view c.args.value.now in
     let entries = c.entries_of-in-Identifiers.ensures in
     let built : option_map view c.unless_empty-in-Identifiers.result ≡ unless_no_entry d (array_of (rising_list compact_cmp (entries_of d))) =
@@ -19,19 +19,19 @@ returns-in_ok-built-in-Identifiers c whole =
     (view-Array c.in_ok-built-in-Identifiers.built
     ∙ ap array_of (c.in_ok-built-in-Identifiers.ensures (whole_list d c.entries_of-in-Identifiers.result.now whole entries) ∙ ap (rising_list compact_cmp) entries)) in
     elim c.in-Identifiers.is [
-      | inl e ↦ built ∙ sym (ap (λ k. normal_value t k d) e)
-      | inr e ↦ built ∙ sym (ap (λ k. normal_value t k d) e)
+      | inl e ↦ built ∙ sym (ap (λ k. normal_value c.args.numbered.now.prefer t k d) e)
+      | inr e ↦ built ∙ sym (ap (λ k. normal_value c.args.numbered.now.prefer t k d) e)
     ]
 
 pub returns-in_ok-built-in-Ordered : goal.returns-in_ok-built-in-Ordered
 returns-in_ok-built-in-Ordered c whole =
-    let t = view c.args.numbered.now in
+    let t = view c.args.numbered.now.tree in
     let d = view c.args.value.now in
     c.unless_empty-in-Ordered.ensures
     ∙ (ap (unless_no_entry d)
     (view-Array c.in_ok-built-in-Ordered.built
     ∙ ap array_of
     (c.in_ok-built-in-Ordered.ensures
-    ∙ (map_after view (normal_selection_reference t) c.entries_of-in-Ordered.result.now
-    ∙ ap (map (normal_selection_reference t)) c.entries_of-in-Ordered.ensures)))
-    ∙ sym (ap (λ k. normal_value t k d) c.in-Ordered.is))
+    ∙ (map_after view (normal_selection_reference c.args.numbered.now.prefer t) c.entries_of-in-Ordered.result.now
+    ∙ ap (map (normal_selection_reference c.args.numbered.now.prefer t)) c.entries_of-in-Ordered.ensures)))
+    ∙ sym (ap (λ k. normal_value c.args.numbered.now.prefer t k d) c.in-Ordered.is))

@@ -5,4 +5,4 @@ use Rattle.erd_compare.proofs.objects.selections.NamedSelections.of.Given as goa
 
 abbrev pub invariant-loop-selection : goal.invariant-loop-selection
 invariant-loop-selection l =
-    l.names.items ++ map (λ v. name_of (view l.report) (view v)) (drop l.selection-index l.selections) ≡ map (λ v. name_of (view l.report) (view v)) l.selections
+    l.names.items ++ map (λ v. name_of l.report.prefer (view l.report.tree) (view v)) (drop l.selection-index l.selections) ≡ map (λ v. name_of l.report.prefer (view l.report.tree) (view v)) l.selections

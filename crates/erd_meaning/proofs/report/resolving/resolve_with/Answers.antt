@@ -1,3 +1,4 @@
+use Rattle.std.specs.Option.{option_copied}
 use Rattle.std.proofs.Common.{subst}
 use Rattle.std.proofs.lemmas.Result.{err_from_is_err_and}
 use Rattle.serde_json.specs.View.{view}
@@ -5,30 +6,30 @@ use Rattle.serde_json.specs.declared.value.Value.{Value}
 use Rattle.erd_check.specs.Refusals.{RefusedFor}
 use Rattle.erd_meaning.specs.Accepted.{IsFault}
 use Rattle.erd_meaning.proofs.refused.Refused.{refused_for_identity, refused_for_references, refused_for_selections}
-use Rattle.erd_meaning.proofs.report.resolving.resolve.Goals as goal
+use Rattle.erd_meaning.proofs.report.resolving.resolve_with.Goals as goal
 
 pub returns-in_err-objects-clause-refused : goal.returns-in_err-objects-clause-refused
 returns-in_err-objects-clause-refused c =
     let t = c.tree-tree.result.now in
     let e = c.in_err-objects.field-0.0 in
-    let refused : RefusedFor (IsFault (view t)) e = refused_for_identity (view t) e c.tree-tree.ensures.faultless c.in_err-objects.ensures.refused in
+    let refused : RefusedFor (IsFault (option_copied c.args.prefer) (view t)) e = refused_for_identity (option_copied c.args.prefer) (view t) e c.tree-tree.ensures.faultless c.in_err-objects.ensures.refused in
     let p = err_from_is_err_and c.from_residual.result c.from_residual.ensures.1 in
-    rw (p.1, p.2) (subst (λ (v : Value). RefusedFor (IsFault (view v)) e) c.tree-tree.ensures.tree refused)
+    rw (p.1, p.2) (subst (λ (v : Value). RefusedFor (IsFault (option_copied c.args.prefer) (view v)) e) c.tree-tree.ensures.tree refused)
 
 pub returns-in_err-check_references-clause-refused : goal.returns-in_err-check_references-clause-refused
 returns-in_err-check_references-clause-refused c =
     let t = c.tree-tree.result.now in
     let e = c.in_err-check_references.field-0.0 in
-    let refused : RefusedFor (IsFault (view t)) e =
-    refused_for_references (view t) e c.tree-tree.ensures.faultless c.in_ok-objects.ensures.identified c.in_err-check_references.ensures.refused in
+    let refused : RefusedFor (IsFault (option_copied c.args.prefer) (view t)) e =
+    refused_for_references (option_copied c.args.prefer) (view t) e c.tree-tree.ensures.faultless c.in_ok-objects.ensures.identified c.in_err-check_references.ensures.refused in
     let p = err_from_is_err_and c.from_residual-in_err-check_references.result c.from_residual-in_err-check_references.ensures.1 in
-    rw (p.1, p.2) (subst (λ (v : Value). RefusedFor (IsFault (view v)) e) c.tree-tree.ensures.tree refused)
+    rw (p.1, p.2) (subst (λ (v : Value). RefusedFor (IsFault (option_copied c.args.prefer) (view v)) e) c.tree-tree.ensures.tree refused)
 
 pub returns-in_err-names-clause-refused : goal.returns-in_err-names-clause-refused
 returns-in_err-names-clause-refused c =
     let t = c.tree-tree.result.now in
     let e = c.in_err-names.field-0.0 in
-    let refused : RefusedFor (IsFault (view t)) e =
-    refused_for_selections (view t) e c.tree-tree.ensures.faultless c.in_ok-objects.ensures.identified c.in_ok-check_references.ensures.referred c.in_err-names.ensures.refused in
+    let refused : RefusedFor (IsFault (option_copied c.args.prefer) (view t)) e =
+    refused_for_selections (option_copied c.args.prefer) (view t) e c.tree-tree.ensures.faultless c.in_ok-objects.ensures.identified c.in_ok-check_references.ensures.referred c.in_err-names.ensures.refused in
     let p = err_from_is_err_and c.from_residual-in_err-names.result c.from_residual-in_err-names.ensures.1 in
-    rw (p.1, p.2) (subst (λ (v : Value). RefusedFor (IsFault (view v)) e) c.tree-tree.ensures.tree refused)
+    rw (p.1, p.2) (subst (λ (v : Value). RefusedFor (IsFault (option_copied c.args.prefer) (view v)) e) c.tree-tree.ensures.tree refused)

@@ -1,17 +1,21 @@
+use Rattle.std.specs.Option.{option_copied}
 use Rattle.std.proofs.Common.{rules, ◌≡◌, sym, subst, ap}
 use Rattle.serde_json.specs.View.{view}
+use Rattle.erd_meaning.specs.Keys.{Preference}
+use Rattle.erd_meaning.specs.Records.{meaning}
+use Rattle.erd_compare.specs.Differences.{IsDifference}
 use Rattle.erd_canon.proofs.runs.Comparisons.{compared}
 use Rattle.erd_canon.proofs.forms.Refusing.{refused_tree}
 use Rattle.erd_canon.specs.Bytes.{IsTreeOf}
 use Rattle.erd_canon.specs.Refused.{RefusedAs, refusal_for}
-use Rattle.erd_canon.proofs.bytes.comparison.compare_bytes.Goals as goal
+use Rattle.erd_canon.proofs.bytes.comparison.compare_bytes_with.Goals as goal
 
 pub returns-in-Err-clause-refused : goal.returns-in-Err-clause-refused
 returns-in-Err-clause-refused c =
     let tree = view c.in_ok-left_tree.left_tree in
     let read : IsTreeOf c.args.left.now tree = search rules in
     let gives : c.from.result ≡ refusal_for c.in-Err.error = c.from.ensures in
-    subst (RefusedAs c.args.left.now) (sym gives) (refused_tree c.args.left.now tree c.in-Err.error read c.in-Err.ensures.refused)
+    subst (RefusedAs (option_copied c.args.prefer) c.args.left.now) (sym gives) (refused_tree (option_copied c.args.prefer) c.args.left.now tree c.in-Err.error read c.in-Err.ensures.refused)
 
 pub returns-in-Err-accepted-clause-refused : goal.returns-in-Err-accepted-clause-refused
 returns-in-Err-accepted-clause-refused c =
@@ -21,7 +25,7 @@ returns-in-Err-accepted-clause-refused c =
     let right_read : IsTreeOf c.args.right.now right_tree = search rules in
     let gives : c.from-in-Err-accepted.result ≡ refusal_for c.in-Err-accepted.error = c.from-in-Err-accepted.ensures in (
       (tree, record { read = read; accepted = c.in-Ok.ensures.accepted }),
-      subst (RefusedAs c.args.right.now) (sym gives) (refused_tree c.args.right.now right_tree c.in-Err-accepted.error right_read c.in-Err-accepted.ensures.refused),
+      subst (RefusedAs (option_copied c.args.prefer) c.args.right.now) (sym gives) (refused_tree (option_copied c.args.prefer) c.args.right.now right_tree c.in-Err-accepted.error right_read c.in-Err-accepted.ensures.refused),
     )
 
 pub returns-in-Ok-first_difference-clause-ok : goal.returns-in-Ok-first_difference-clause-ok
@@ -30,9 +34,14 @@ returns-in-Ok-first_difference-clause-ok c =
     let left_read : IsTreeOf c.args.left.now left_tree = search rules in
     let right_tree = view c.in_ok-right_tree.right_tree in
     let right_read : IsTreeOf c.args.right.now right_tree = search rules in
-    compared c.args.left.now c.args.right.now left_tree right_tree (view c.in-Ok.report) (view c.in-Ok-accepted.report) c.in-Ok-first_difference.found
+    let found = c.in-Ok-first_difference.found in
+    let one = view c.in-Ok.report.tree in
+    let other = view c.in-Ok-accepted.report.tree in
+    let under_left : IsDifference (meaning (option_copied c.args.prefer) one) (meaning c.in-Ok-accepted.report.prefer other) found =
+    subst (λ (π : Preference). IsDifference (meaning π one) (meaning c.in-Ok-accepted.report.prefer other) found) c.in-Ok.ensures.prefer c.in-Ok-first_difference.ensures in
+    compared (option_copied c.args.prefer) c.args.left.now c.args.right.now left_tree right_tree (view c.in-Ok.report.tree) (view c.in-Ok-accepted.report.tree) c.in-Ok-first_difference.found
     left_read c.in-Ok.ensures.accepted (ap view c.in-Ok.ensures.tree) right_read c.in-Ok-accepted.ensures.accepted (ap view c.in-Ok-accepted.ensures.tree)
-    c.in-Ok-first_difference.ensures
+    (subst (λ (π : Preference). IsDifference (meaning (option_copied c.args.prefer) one) (meaning π other) found) c.in-Ok-accepted.ensures.prefer under_left)
 
 pub returns-clause-refused : goal.returns-clause-refused
 returns-clause-refused c =

@@ -1,0 +1,34 @@
+ghost use Rattle.std.specs.Prelude.{◌≡◌, IfOk};
+ghost use Rattle.serde_json.specs.View.{view};
+ghost use Rattle.erd_meaning.specs.Keys.{key_of};
+
+use crate::keys::key::Key;
+use crate::keys::key_of::key_of;
+use serde_json::Value;
+use std::alloc::{AllocError, Global};
+use std::marker::Model;
+
+/// How keys are made: in this memory, and under a preference or none. Contracts see the preference.
+#[derive(Drop)]
+pub(crate) struct KeyRule<'p> {
+    pub(crate) alloc: Global,
+    pub(crate) prefer: Option<&'p str>,
+}
+
+impl<'p> Model for KeyRule<'p> {
+    ghost use Rattle.std.specs.Option.{option_copied};
+    ghost use Rattle.erd_meaning.specs.Keys.{Preference};
+
+    ghost Value = { Preference };
+
+    ghost view = { λ r. option_copied r.prefer };
+}
+
+impl<'p> KeyRule<'p> {
+    /// The key of an object, if it has an identifier.
+    pub(crate) fn key_of(&self, object: &Value) -> Result<Option<Key>, AllocError>
+        ensures { IfOk result (λ key. key ≡ key_of self.now (view object.now)) }
+    {
+        key_of(self.alloc, object, self.prefer)
+    }
+}
