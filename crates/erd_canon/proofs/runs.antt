@@ -2,3 +2,4 @@ pub mod KnownBytes
 pub mod FaultText
 pub mod CheckTexts
 pub mod Comparisons
+pub mod Agreement

@@ -1,10 +1,11 @@
--- The laws of canonical bytes, as statements.
-use Rattle.std.specs.Prelude.{ℕ, ◌≡◌, ◌↔◌, List}
+-- The laws of canonical bytes and of comparisons, as statements.
+use Rattle.std.specs.Prelude.{ℕ, ◌≡◌, ◌↔◌, List, Option, None}
 use Rattle.serde_json.specs.Data.{Data}
 use Rattle.erd_meaning.specs.Keys.{Preference}
 use Rattle.erd_meaning.specs.Records.{meaning}
 use Rattle.erd_normal.specs.Rearranged.{Change, IsRearrangement}
-use Rattle.erd_canon.specs.Bytes.{IsTreeOf, IsCanonicalBytes}
+use Rattle.erd_compare.specs.declared.difference.Difference.{Difference}
+use Rattle.erd_canon.specs.Bytes.{IsAcceptedReport, IsTreeOf, IsCanonicalBytes}
 
 -- c, written for the report in b, equals the canonical bytes of any report exactly if the two reports mean the same
 abbrev pub TellsMeanings : Preference → List ℕ → List ℕ → Type 0
@@ -27,3 +28,8 @@ IsItsOwnForm = (π : Preference) (b c : List ℕ) → IsCanonicalBytes π b c �
 abbrev pub SameFormWhenRearranged : Type 0
 SameFormWhenRearranged =
     (π : Preference) (b c d : List ℕ) (t u : Data) (changes : List Change) → IsCanonicalBytes π b c → IsTreeOf b t → IsTreeOf d u → IsRearrangement changes t u → IsCanonicalBytes π d c
+
+-- whatever preference both reports are accepted under too, nothing differs exactly if they mean the same under it
+abbrev pub AgreesUnderEach : List ℕ → List ℕ → Option Difference → Type 0
+AgreesUnderEach left right found =
+    (ρ : Preference) (t u : Data) → IsAcceptedReport ρ left t → IsAcceptedReport ρ right u → (found ≡ None) ↔ (meaning ρ t ≡ meaning ρ u)

@@ -1,5 +1,5 @@
 -- The objects of a report by family, with their places, and what an `@id` names.
-use Rattle.std.specs.Prelude.{ℕ, ◌+◌, List, [], ◌∷◌, ◌++◌, Bool, false, Option, option_and_then, option_map, is_some, find, map, codes, Contains}
+use Rattle.std.specs.Prelude.{ℕ, ◌+◌, ◌<◌, ◌^◌, List, [], ◌∷◌, ◌++◌, Bool, false, Option, option_and_then, option_map, is_some, find, length, map, codes, Contains}
 use Rattle.std.specs.List.{enumerate_from, flat_map, list_any}
 use Rattle.std.specs.Option.{option_map_or}
 use Rattle.std.specs.Str.{bytes_eq}
@@ -59,6 +59,10 @@ objects family.Selection t = flat_map selections_of_contest (contests t)
 -- an object of the family stands at its place
 abbrev pub IsObject : Data → Family → Placed → Type 0
 IsObject t f o = Contains (objects f t) o
+
+-- each family has few objects: a machine word counts them
+pub record IsBounded (t : Data) : Type 0 where
+  pub few : (f : Family) → length (objects f t) < 2 ^ 64
 
 -- the selections of contest i, each with the number i
 abbrev pub numbered_selections_of : ℕ × Placed → List (ℕ × Placed)

@@ -6,7 +6,7 @@ ghost use Rattle.erd_check.specs.Numbers.{HasFittingNumbers};
 ghost use Rattle.erd_check.specs.Trees.{IsTree};
 ghost use Rattle.erd_meaning.specs.Accepted.{IsAccepted};
 ghost use Rattle.erd_meaning.specs.Lookups.{FindsId, FindsKey, FindsSelection, key_in, selection_in};
-ghost use Rattle.erd_meaning.specs.Objects.{elections, objects};
+ghost use Rattle.erd_meaning.specs.Objects.{IsBounded, elections, objects};
 ghost use Rattle.erd_meaning.specs.code.Resolved.{IsResolved};
 ghost use Rattle.erd_meaning.specs.SelectionNames.{name_of};
 
@@ -77,15 +77,18 @@ impl<'a> Report<'a> {
         }
     }
 
-    /// The report that was handed in. It is accepted; the names of each object in it rise, and each number in it is whole and
-    /// fits 64 bits.
+    /// The report that was handed in. It is accepted; the names of each object in it rise, each number in it is whole and
+    /// fits 64 bits, and a machine word counts the objects of each family.
     pub fn tree(&self) -> &'a Value
         ensures tree { result.now ≡ self.now.tree }
         ensures accepted { IsAccepted self.now.prefer (view result.now) }
         ensures is_tree { IsTree (view result.now) }
         ensures whole { has_float (view result.now) ≡ false }
         ensures fits { HasFittingNumbers (view result.now) }
+        ensures bounded { IsBounded (view result.now) }
     {
+        // read for `bounded`: the list of all objects has a length
+        let _count = self.objects.len();
         self.tree
     }
 

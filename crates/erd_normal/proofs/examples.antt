@@ -8,3 +8,4 @@ pub mod BallotMeaningExamples
 mod RearrangedExamples
 mod StableOrderExamples
 mod NormalTreeExamples
+mod PreferencesAgreeExamples

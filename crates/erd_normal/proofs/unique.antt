@@ -12,3 +12,4 @@ pub mod NamesAlike
 pub mod ReferencesAlike
 pub mod ObjectsAlike
 pub mod Unique
+pub mod PreferencesAgree

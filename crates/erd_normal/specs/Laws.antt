@@ -1,18 +1,19 @@
--- The laws of the canonical form, as statements: it is unique, and a rearranged report has the same.
-use Rattle.std.specs.Prelude.{ℕ, ◌≡◌, List, Option, Some, map, IsTrue, Contains}
+-- The laws of the canonical form, as statements: it is unique, a rearranged report has the same, and preferences agree.
+use Rattle.std.specs.Prelude.{ℕ, ◌≡◌, ◌↔◌, List, Option, Some, map, IsTrue, Contains}
 use Rattle.serde_json.specs.Data.{Data}
 use Rattle.erd_tables.specs.declared.class.Family.{Family}
 use Rattle.erd_tables.specs.declared.class.Family.TheVariants as family
 use Rattle.erd_tables.specs.declared.class.Role.TheVariants as role
 use Rattle.erd_tables.specs.declared.member.MemberKind.TheVariants as kind
 use Rattle.erd_tables.specs.declared.place.Step.{Step}
+use Rattle.erd_check.specs.Numbers.{HasFittingNumbers}
 use Rattle.erd_check.specs.Trees.{IsTree}
 use Rattle.erd_check.specs.Values.{entries_of}
 use Rattle.erd_check.specs.Wants.{Asked, asked_at}
 use Rattle.erd_meaning.specs.Accepted.{IsAccepted}
 use Rattle.erd_meaning.specs.Keys.{Preference, has_keys, key_of}
 use Rattle.erd_meaning.specs.NameParts.{NameParts}
-use Rattle.erd_meaning.specs.Objects.{Placed, contests, objects, selections_of_contest, IsObject, id_of}
+use Rattle.erd_meaning.specs.Objects.{Placed, contests, objects, selections_of_contest, IsObject, IsBounded, id_of}
 use Rattle.erd_meaning.specs.Records.{content_of, key_set, object_record, selection_record, meaning}
 use Rattle.erd_meaning.specs.SelectionNames.{name_of, key_named, keys_named}
 use Rattle.erd_meaning.specs.declared.keys.key.Key.{Key}
@@ -104,3 +105,17 @@ abbrev pub RearrangedMeansTheSame : Type 0
 RearrangedMeansTheSame =
     (π : Preference) (t u : Data) (changes : List Change) → IsTree t → IsAccepted π t → IsRearrangement changes t u
     → IsAccepted π u × (meaning π u ≡ meaning π t)
+
+-- ---- two preferences
+
+-- a report as a call is handed it: a tree whose numbers fit, each of whose families a word counts
+pub record IsGiven (t : Data) : Type 0 where
+  pub is_tree : IsTree t
+  pub fits : HasFittingNumbers t
+  pub bounded : IsBounded t
+
+-- two reports that are accepted under two preferences mean the same under the one exactly if they do under the other
+abbrev pub PreferencesAgree : Type 0
+PreferencesAgree =
+    (π ρ : Preference) (t u : Data) → IsGiven t → IsGiven u → IsAccepted π t → IsAccepted π u → IsAccepted ρ t → IsAccepted ρ u
+    → (meaning π t ≡ meaning π u) ↔ (meaning ρ t ≡ meaning ρ u)

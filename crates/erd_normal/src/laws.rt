@@ -1,4 +1,4 @@
-ghost use Rattle.erd_normal.specs.Laws.{NamesAgree, ReferencesAgree, ObjectsAgree, CanonicalIsUnique};
+ghost use Rattle.erd_normal.specs.Laws.{NamesAgree, ReferencesAgree, ObjectsAgree, CanonicalIsUnique, PreferencesAgree};
 
 /// The law that two canonical reports that mean the same have the same keys, names and `@id` texts, in the same order. It
 /// runs nothing.
@@ -21,4 +21,10 @@ pub fn objects_agree()
 /// The law that two canonical reports that mean the same are equal. It runs nothing.
 pub fn canonical_is_unique()
     ensures law { CanonicalIsUnique }
+{}
+
+/// The law that two reports that are accepted under two preferences mean the same under the one exactly if they mean the same
+/// under the other. It does not say that a report that is accepted under one is accepted under the other. It runs nothing.
+pub fn preferences_agree()
+    ensures law { PreferencesAgree }
 {}

@@ -8,7 +8,9 @@ mod order;
 mod report;
 mod values;
 
-pub use laws::{canonical_is_unique, names_agree, objects_agree, references_agree};
+pub use laws::{
+    canonical_is_unique, names_agree, objects_agree, preferences_agree, references_agree,
+};
 pub use order::compact_text::CompactText;
 pub use order::set_order::SetOrder;
 pub use order::stable_sort::in_order;

@@ -3,7 +3,7 @@ use Rattle.std.specs.Prelude.{◌≡◌, ℕ, List, [], ◌∷◌, map, codes, O
 use Rattle.std.specs.Io.KnownBytes.{Appends}
 use Rattle.erd_tables.specs.Faults.{fault_line}
 use Rattle.erd_canon.specs.declared.engines.outcome.Outcome.{Outcome}
-use Rattle.erd_canon.specs.declared.engines.outcome.Outcome.TheVariants.{Good, Bad, NotJson}
+use Rattle.erd_canon.specs.declared.engines.outcome.Outcome.TheVariants.{Bad, NotJson}
 use Rattle.erd_canon.specs.EngineTexts.{lines_of_side, text_of_lines}
 use Rattle.erd_canon.specs.declared.bytes.refusal.Refusal.{Refusal}
 use Rattle.erd_canon.specs.declared.bytes.refusal.Refusal.TheVariants as refusal

@@ -1,5 +1,6 @@
 ghost use Rattle.std.specs.Prelude.{◌≡◌, IfErr, IfOk, None};
 ghost use Rattle.std.specs.Option.{option_copied};
+ghost use Rattle.erd_canon.specs.ByteLaws.{AgreesUnderEach};
 ghost use Rattle.erd_canon.specs.EngineTexts.{IsComparison};
 ghost use Rattle.erd_canon.specs.Refused.{RefusedSide};
 
@@ -12,6 +13,7 @@ use std::alloc::Global;
 /// `compare_bytes_with`, without a preference.
 pub fn compare_bytes(alloc: Global, left: &[u8], right: &[u8]) -> Result<Option<Difference>, Side>
     ensures ok { IfOk result (IsComparison None left.now right.now) }
+    ensures agree { IfOk result (AgreesUnderEach left.now right.now) }
     ensures refused { IfErr result (RefusedSide None left.now right.now) }
 {
     compare_bytes_with(alloc, left, right, None)
@@ -20,7 +22,8 @@ pub fn compare_bytes(alloc: Global, left: &[u8], right: &[u8]) -> Result<Option<
 /// The first difference of what two reports mean under a preference of a type of identifiers, and none exactly if they mean
 /// the same; or which report is refused, and why.
 ///
-/// The right report is judged only if the left one is accepted. Each is refused as `canonical_with` refuses it.
+/// The right report is judged only if the left one is accepted. Each is refused as `canonical_with` refuses it. Where there is
+/// an answer, the two mean the same under this preference exactly if they do under each other one that accepts both.
 #[tactic(auto, using(crate::proofs::forms::Refusing::refused_tree))]
 pub fn compare_bytes_with(
     alloc: Global,
@@ -29,6 +32,7 @@ pub fn compare_bytes_with(
     prefer: Option<&str>,
 ) -> Result<Option<Difference>, Side>
     ensures ok { IfOk result (IsComparison (option_copied prefer.entry) left.now right.now) }
+    ensures agree { IfOk result (AgreesUnderEach left.now right.now) }
     ensures refused { IfErr result (RefusedSide (option_copied prefer.entry) left.now right.now) }
 {
     let left_tree = tree_of(alloc, left).map_err(Side::Left)?;
@@ -41,6 +45,9 @@ pub fn compare_bytes_with(
         Ok(report) => report,
         Err(error) => return Err(Side::Right(Refusal::from(error))),
     };
+    // read for `agree`: each tree is one that a call is handed
+    let _left = left_report.tree();
+    let _right = right_report.tree();
     match first_difference(alloc, &left_report, &right_report) {
         Ok(found) => Ok(found),
         Err(_) => Err(Side::Memory),

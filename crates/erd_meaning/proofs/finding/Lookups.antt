@@ -1,14 +1,15 @@
 -- Objects by family and position: those that are kept of a report, and those of the definition.
-use Rattle.std.proofs.Common.{◌≡◌, ℕ, zero, suc, List, [], ◌∷◌, length, map, take, cond, Bool, true, false, Option, Some, option_and_then, option_map, refl, ap, ◌∙◌}
-use Rattle.std.specs.List.{slice_get}
+use Rattle.std.proofs.Common.{◌≡◌, ◌≤◌, ◌<◌, ◌^◌, ℕ, arith, zero, suc, List, [], ◌∷◌, length, map, take, cond, Bool, true, false, Option, Some, option_and_then, option_map, refl, ap, ◌∙◌}
+use Rattle.std.specs.List.{count_by, slice_get}
 use Rattle.std.proofs.lemmas.List.{length-map}
+use Rattle.std.proofs.lemmas.List.Sums.{count_by-le-length, length-filter}
 use Rattle.serde_json.specs.View.{view}
 use Rattle.serde_json.specs.declared.value.Value.{Value}
 use Rattle.serde_json.specs.Data.{Data}
 use Rattle.erd_tables.specs.declared.class.Family.{Family}
 use Rattle.erd_meaning.specs.Keys.{Preference}
 use Rattle.erd_meaning.specs.code.ObjectLookups.{is_of_family, those_of}
-use Rattle.erd_meaning.specs.Objects.{Placed, objects}
+use Rattle.erd_meaning.specs.Objects.{IsBounded, Placed, objects}
 use Rattle.erd_meaning.specs.code.ObjectWalk.{Kept, Located, all_located, kept, kept_objects, located}
 use Rattle.erd_meaning.specs.code.Resolved.{IsResolved}
 use Rattle.erd_meaning.specs.code.Shown.{shown}
@@ -40,6 +41,18 @@ those_shown π v os ns f r = ap (those_of f) r.kept ∙ those_kept π f (view v)
 
 pub counted : (π : Preference) (v : Value) (os : List Object) (ns : List NameInContest) (f : Family) → IsResolved π v os ns → length (those_of f (map shown os)) ≡ length (objects f (view v))
 counted π v os ns f r = ap length (those_shown π v os ns f r) ∙ length-map (objects f (view v)) (λ (o : Placed). kept π f o.value)
+
+-- each family has no more objects than are kept of the whole report
+pub few_objects : (π : Preference) (v : Value) (os : List Object) (ns : List NameInContest) → IsResolved π v os ns → length os < 2 ^ 64 → IsBounded (view v)
+few_objects π v os ns r word = record {
+  few = λ f.
+      let ks = map shown os in
+      let met : length (those_of f ks) ≡ count_by (is_of_family f) ks = length-filter (is_of_family f) ks in
+      let fewer : count_by (is_of_family f) ks ≤ length ks = count_by-le-length (is_of_family f) ks in
+      let all : length ks ≡ length os = length-map os shown in
+      let of_family : length (those_of f ks) ≡ length (objects f (view v)) = counted π v os ns f r in
+      omega arith;
+}
 
 -- ---- at a position
 

@@ -10,12 +10,11 @@ use Rattle.erd_check.proofs.Rising.{Has}
 use Rattle.erd_meaning.specs.Keys.{Preference}
 use Rattle.erd_meaning.specs.Accepted.{IsAccepted}
 use Rattle.erd_meaning.specs.LaterFaults.{IsBefore, is_selection_in}
-use Rattle.erd_meaning.specs.Objects.{Placed, contests, has_id, id_of, objects, owner, placed_from, selections_of_contest}
+use Rattle.erd_meaning.specs.Objects.{IsBounded, Placed, contests, has_id, id_of, objects, owner, placed_from, selections_of_contest}
 use Rattle.erd_meaning.proofs.orders.Sets.{any-has, has-any}
 use Rattle.erd_meaning.proofs.accepted.Standing.{flat-has, has_id-Some, has_id-from, one_object, one_placed, owned_by}
 use Rattle.erd_normal.specs.code.NormalTree.{id_of_selection, normal_object, normal_selection_reference}
 use Rattle.erd_check.specs.Values.{text_of}
-use Rattle.erd_normal.specs.code.ObjectNumbers.{IsBounded}
 use Rattle.erd_normal.proofs.lists.FoundInParts.{FoundSelection}
 use Rattle.erd_normal.proofs.built.NormalGets.{id_of_built_selection}
 use Rattle.erd_normal.proofs.canonical.NormalIdentity.{never_before_itself}

@@ -22,11 +22,11 @@ use Rattle.erd_check.specs.Values.{entries_of, list_of_items, entries_at}
 use Rattle.erd_check.specs.Wants.{Asked, asked, asked_at, asked_from, asked_inside, asked_of_member, class_of_object, entry_want, is_compared_set, is_repeated, member_want, scope_inside, want_of_name}
 use Rattle.erd_meaning.specs.Keys.{Preference}
 use Rattle.erd_meaning.specs.Accepted.{IsAccepted}
+use Rattle.erd_meaning.specs.Objects.{IsBounded}
 use Rattle.erd_meaning.specs.LaterFaults.{NamesOtherContest, ReferenceFault, is_other_selection, is_reference_fault}
 use Rattle.erd_meaning.specs.Records.{class_of_node}
 use Rattle.erd_meaning.proofs.accepted.Phases.{no_shape_fault}
 use Rattle.erd_normal.specs.code.NormalTree.{normal_tree}
-use Rattle.erd_normal.specs.code.ObjectNumbers.{IsBounded}
 use Rattle.erd_normal.proofs.built.NormalGets.{class_has_role}
 use Rattle.erd_normal.proofs.canonical.ReferenceLists.{IsListSound, list_name, list_sound}
 use Rattle.erd_normal.proofs.canonical.ReferencesBuilt.{references_sound}

@@ -4,10 +4,10 @@ use Rattle.erd_check.specs.Numbers.{HasFittingNumbers}
 use Rattle.erd_check.specs.Trees.{IsTree}
 use Rattle.erd_meaning.specs.Keys.{Preference}
 use Rattle.erd_meaning.specs.Accepted.{IsAccepted}
+use Rattle.erd_meaning.specs.Objects.{IsBounded}
 use Rattle.erd_meaning.proofs.accepted.Phases.{accepted_by_phases, no_shape_fault}
 use Rattle.erd_normal.specs.Canonical.{IsCanonical}
 use Rattle.erd_normal.specs.code.NormalTree.{normal_tree}
-use Rattle.erd_normal.specs.code.ObjectNumbers.{IsBounded}
 use Rattle.erd_normal.proofs.canonical.NoEmptyArrays.{no_empty_array_built}
 use Rattle.erd_normal.proofs.canonical.NoReferenceFaults.{no_reference_fault_built}
 use Rattle.erd_normal.proofs.canonical.NoShapeFaults.{no_shape_fault_built}

@@ -4,9 +4,9 @@ use Rattle.erd_check.specs.Numbers.{HasFittingNumbers}
 use Rattle.erd_check.specs.Trees.{IsTree}
 use Rattle.erd_meaning.specs.Keys.{Preference}
 use Rattle.erd_meaning.specs.Accepted.{IsAccepted}
+use Rattle.erd_meaning.specs.Objects.{IsBounded}
 use Rattle.erd_normal.specs.Canonical.{IsCanonicalFormOf}
 use Rattle.erd_normal.specs.code.NormalTree.{normal_tree}
-use Rattle.erd_normal.specs.code.ObjectNumbers.{IsBounded}
 use Rattle.erd_normal.proofs.canonical.NormalCanonical.{normal_is_canonical}
 use Rattle.erd_normal.proofs.meaning.NormalMeaning.{same_meaning_built}
 

@@ -9,10 +9,10 @@ use Rattle.erd_check.proofs.Deciding.{tree_in_order}
 use Rattle.erd_check.proofs.ShapedReports.{no_fraction}
 use Rattle.erd_meaning.specs.Keys.{Preference}
 use Rattle.erd_meaning.specs.Accepted.{IsAccepted}
+use Rattle.erd_meaning.specs.Objects.{IsBounded}
 use Rattle.erd_meaning.proofs.accepted.Phases.{no_shape_fault}
 use Rattle.erd_normal.specs.Canonical.{IsCanonicalFormOf}
 use Rattle.erd_normal.specs.code.NormalTree.{normal_tree}
-use Rattle.erd_normal.specs.code.ObjectNumbers.{IsBounded}
 use Rattle.erd_check.specs.Numbers.{HasFittingNumbers}
 use Rattle.erd_normal.proofs.canonical.NormalForms.{normal_is_canonical_form}
 use Rattle.erd_normal.proofs.built.NormalTrees.{normal_tree-tree}

@@ -13,12 +13,11 @@ use Rattle.erd_check.proofs.Rising.{Has}
 use Rattle.erd_meaning.specs.Accepted.{IsAccepted}
 use Rattle.erd_meaning.specs.Keys.{Preference, has_keys, key_of}
 use Rattle.erd_meaning.specs.LaterFaults.{IdentityFault, IsBefore, LacksIdentifier, RepeatsId, RepeatsKey}
-use Rattle.erd_meaning.specs.Objects.{Placed, contests, id_of, objects, selections_of_contest}
+use Rattle.erd_meaning.specs.Objects.{IsBounded, Placed, contests, id_of, objects, selections_of_contest}
 use Rattle.erd_meaning.specs.SelectionNames.{rising_list}
 use Rattle.erd_meaning.proofs.accepted.References.{Has-Contains, has_identifier}
 use Rattle.erd_meaning.proofs.accepted.HeldObjects.{has-flat}
 use Rattle.erd_normal.specs.code.NormalTree.{by_key, normal_tree, rank_of}
-use Rattle.erd_normal.specs.code.ObjectNumbers.{IsBounded}
 use Rattle.erd_normal.proofs.canonical.CanonicalIds.{canonical_id_exact, selection_id_apart}
 use Rattle.erd_normal.proofs.built.LeastKeys.{key_of_object}
 use Rattle.erd_normal.proofs.canonical.NormalKeys.{IsClassed, built_at, ids_by_rank, object_classed, rising_classed}

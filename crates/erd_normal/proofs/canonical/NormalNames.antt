@@ -25,7 +25,7 @@ use Rattle.erd_check.proofs.Rising.{Has}
 use Rattle.erd_check.proofs.Shapes.{Within, Within-step, wanted_within, within-tree}
 use Rattle.erd_meaning.specs.Accepted.{IsAccepted}
 use Rattle.erd_meaning.specs.Keys.{Preference, has_keys, key_cmp}
-use Rattle.erd_meaning.specs.Objects.{Placed, contests, objects, owner, selections_of_contest}
+use Rattle.erd_meaning.specs.Objects.{IsBounded, Placed, contests, objects, owner, selections_of_contest}
 use Rattle.erd_meaning.specs.SelectionNames.{is_write_in, key_named, keys_named, keys_of_selection, label_of_selection, name_in_class, name_of, order_of_selection, rising_list, selection_role, with_rising_text}
 use Rattle.erd_meaning.proofs.accepted.Phases.{no_shape_fault}
 use Rattle.erd_meaning.proofs.accepted.References.{owned, unrepeated_reference}
@@ -33,7 +33,6 @@ use Rattle.erd_meaning.proofs.accepted.Standing.{flat-has, stands}
 use Rattle.erd_normal.specs.Canonical.{id_prefix}
 use Rattle.erd_normal.specs.code.NormalTree.{normal_label, normal_value, normal_reference, normal_selection, normal_tree, reference_cmp}
 use Rattle.erd_normal.proofs.built.AskedMembers.{AskedAs, all_items, asked_as}
-use Rattle.erd_normal.specs.code.ObjectNumbers.{IsBounded}
 use Rattle.erd_normal.proofs.lists.BuiltLists.{all_rising}
 use Rattle.erd_normal.proofs.built.LeastKeys.{key_of_selection}
 use Rattle.erd_normal.proofs.built.NormalEntries.{selection_references}

@@ -11,11 +11,10 @@ use Rattle.erd_check.proofs.Rising.{Has}
 use Rattle.erd_meaning.specs.Keys.{Preference}
 use Rattle.erd_meaning.specs.Accepted.{IsAccepted}
 use Rattle.erd_meaning.specs.LaterFaults.{IsBefore, RepeatsName, SelectionFault}
-use Rattle.erd_meaning.specs.Objects.{Placed, objects, selections_of_contest}
+use Rattle.erd_meaning.specs.Objects.{IsBounded, Placed, objects, selections_of_contest}
 use Rattle.erd_meaning.specs.SelectionNames.{name_of, rising_list}
 use Rattle.erd_meaning.proofs.accepted.References.{Has-Contains, option_map-Some}
 use Rattle.erd_normal.specs.code.NormalTree.{by_name, normal_object, normal_selection, normal_tree, rank_of_name}
-use Rattle.erd_normal.specs.code.ObjectNumbers.{IsBounded}
 use Rattle.erd_normal.proofs.canonical.NormalIdentity.{never_before_itself}
 use Rattle.erd_normal.proofs.canonical.NormalNames.{name_built}
 use Rattle.erd_normal.proofs.canonical.RisingReports.{selection_ranks}

@@ -20,14 +20,13 @@ use Rattle.erd_check.proofs.Shapes.{Within, Within-step, asked_at-steps, asked_i
 use Rattle.erd_meaning.specs.Keys.{Preference}
 use Rattle.erd_meaning.specs.Accepted.{IsAccepted}
 use Rattle.erd_meaning.specs.LaterFaults.{is_other_selection, is_selection_in}
-use Rattle.erd_meaning.specs.Objects.{owner}
+use Rattle.erd_meaning.specs.Objects.{IsBounded, owner}
 use Rattle.erd_meaning.specs.Records.{class_of_node}
 use Rattle.erd_meaning.proofs.accepted.Phases.{no_shape_fault}
 use Rattle.erd_meaning.proofs.accepted.References.{selected}
 use Rattle.erd_meaning.proofs.accepted.Standing.{owned_by}
 use Rattle.erd_normal.specs.code.NormalTree.{normal_content, normal_id, normal_node, normal_node_value, normal_object, normal_selection_reference, normal_tree}
 use Rattle.erd_normal.proofs.built.AskedMembers.{all_items}
-use Rattle.erd_normal.specs.code.ObjectNumbers.{IsBounded}
 use Rattle.erd_normal.proofs.lists.BuiltLists.{all_map}
 use Rattle.erd_normal.proofs.canonical.ContestSelections.{reference_in_built}
 use Rattle.erd_normal.proofs.built.NormalEntries.{entries_built}

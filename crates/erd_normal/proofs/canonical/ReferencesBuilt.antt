@@ -29,7 +29,7 @@ use Rattle.erd_check.proofs.Shapes.{Within, false_unless, wanted_within}
 use Rattle.erd_meaning.specs.Accepted.{IsAccepted}
 use Rattle.erd_meaning.specs.Keys.{Preference, key_cmp}
 use Rattle.erd_meaning.specs.LaterFaults.{is_reference_fault}
-use Rattle.erd_meaning.specs.Objects.{is_owned, owner}
+use Rattle.erd_meaning.specs.Objects.{IsBounded, is_owned, owner}
 use Rattle.erd_meaning.specs.code.Orders.{key_cmp_total}
 use Rattle.erd_meaning.specs.SelectionNames.{key_named, rising_list}
 use Rattle.erd_meaning.specs.declared.keys.key.Key.{Key}
@@ -37,7 +37,6 @@ use Rattle.erd_meaning.proofs.accepted.Phases.{no_shape_fault}
 use Rattle.erd_meaning.proofs.orders.Sets.{any-has}
 use Rattle.erd_normal.specs.Canonical.{keys_referred}
 use Rattle.erd_normal.specs.code.NormalTree.{normal_id, normal_reference, normal_selection_reference, normal_tree, reference_cmp}
-use Rattle.erd_normal.specs.code.ObjectNumbers.{IsBounded}
 use Rattle.erd_normal.proofs.lists.BuiltLists.{all_map, all_rising, entry_holds}
 use Rattle.erd_normal.proofs.throughout.UnrepeatedEntries.{AreUnlike, unlike_unrepeated}
 use Rattle.erd_normal.proofs.canonical.NormalNames.{Refers, reference_refers, references_refer}

@@ -11,7 +11,7 @@ use Rattle.erd_check.proofs.Rising.{Has}
 use Rattle.erd_meaning.specs.Accepted.{IsAccepted}
 use Rattle.erd_meaning.specs.Keys.{Preference, has_keys}
 use Rattle.erd_check.specs.Values.{entries_at, text_of}
-use Rattle.erd_meaning.specs.Objects.{Placed, contests, has_id, id_of, objects, owner, selections_of_contest}
+use Rattle.erd_meaning.specs.Objects.{IsBounded, Placed, contests, has_id, id_of, objects, owner, selections_of_contest}
 use Rattle.erd_meaning.specs.SelectionNames.{name_named, name_of, rising_list}
 use Rattle.erd_meaning.proofs.accepted.Phases.{no_shape_fault}
 use Rattle.erd_meaning.proofs.accepted.References.{find-any}
@@ -22,7 +22,6 @@ use Rattle.erd_meaning.proofs.accepted.Standing.{flat-has, has_id-Some, has_id-f
 use Rattle.erd_normal.specs.Canonical.{HasCanonicalIds, canonical_selection_id}
 use Rattle.erd_normal.specs.code.NormalTree.{by_key, by_name, id_of_selection, normal_object, normal_selection, normal_selection_reference, normal_tree, selection_with}
 use Rattle.erd_normal.proofs.canonical.Bounds.{few_selections}
-use Rattle.erd_normal.specs.code.ObjectNumbers.{IsBounded}
 use Rattle.erd_normal.proofs.lists.FoundInParts.{FoundSelection, owner_found}
 use Rattle.erd_normal.proofs.built.NormalGets.{id_of_built_selection}
 use Rattle.erd_normal.proofs.canonical.NormalKeys.{IsClassed, object_classed}

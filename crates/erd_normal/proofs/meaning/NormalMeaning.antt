@@ -5,11 +5,10 @@ use Rattle.erd_tables.specs.declared.class.Family.TheVariants as family
 use Rattle.erd_check.specs.Trees.{IsTree}
 use Rattle.erd_meaning.specs.Keys.{Preference}
 use Rattle.erd_meaning.specs.Accepted.{IsAccepted}
-use Rattle.erd_meaning.specs.Objects.{owner}
+use Rattle.erd_meaning.specs.Objects.{IsBounded, owner}
 use Rattle.erd_meaning.specs.Records.{meaning}
 use Rattle.erd_normal.specs.code.NormalTree.{normal_tree}
 use Rattle.erd_check.specs.Values.{text_of}
-use Rattle.erd_normal.specs.code.ObjectNumbers.{IsBounded}
 use Rattle.erd_normal.proofs.meaning.MeantObjects.{Facts}
 use Rattle.erd_normal.proofs.meaning.MeantReports.{meaning_of_normal_tree}
 use Rattle.erd_normal.proofs.canonical.NormalNames.{Refers, name_built_within, reference_refers}

@@ -1,5 +1,5 @@
 -- The numbers of all objects of a report, by family and position.
-use Rattle.std.specs.Prelude.{◌≡◌, ◌<◌, ◌+◌, ◌^◌, ℕ, List, true, Some, length, codes, unwrap_or}
+use Rattle.std.specs.Prelude.{◌≡◌, ◌+◌, ℕ, List, true, Some, codes, unwrap_or}
 use Rattle.std.specs.List.{slice_get}
 use Rattle.serde_json.specs.Data.{Data}
 use Rattle.erd_tables.specs.declared.class.Family.{Family}
@@ -7,7 +7,7 @@ use Rattle.erd_tables.specs.declared.class.Family.TheVariants as family
 use Rattle.erd_meaning.specs.Accepted.{IsAccepted}
 use Rattle.erd_meaning.specs.Keys.{Preference, has_keys}
 use Rattle.erd_check.specs.Values.{entries_at}
-use Rattle.erd_meaning.specs.Objects.{Placed, contests, numbered_selections, objects}
+use Rattle.erd_meaning.specs.Objects.{IsBounded, Placed, contests, numbered_selections}
 use Rattle.erd_meaning.specs.SelectionNames.{name_of}
 use Rattle.erd_normal.specs.code.Building.{AreNumbers}
 use Rattle.erd_normal.specs.code.NormalTree.{rank_of_name}
@@ -34,10 +34,6 @@ abbrev pub AreSelectionNumbers : Preference → Data → List ℕ → Type 0
 AreSelectionNumbers π t ns =
     (i c : ℕ) (contest o : Placed) → slice_get (numbered_selections t) i ≡ Some (c, o) → slice_get (contests t) c ≡ Some contest
     → slice_get ns i ≡ Some (rank_of_name π t (entries_at (codes "ContestSelection") contest.value) (name_of π t o.value) + 1)
-
--- each family has few objects: a word counts them
-pub record IsBounded (t : Data) : Type 0 where
-  pub few : (f : Family) → length (objects f t) < 2 ^ 64
 
 -- they are the numbers of the objects of the report, which is accepted
 pub record AreObjectNumbers (π : Preference) (t : Data) (n : ObjectNumbers) : Type 0 where

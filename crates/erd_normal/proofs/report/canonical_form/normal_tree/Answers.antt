@@ -6,10 +6,10 @@ use Rattle.serde_json.specs.Written.{has_float}
 use Rattle.erd_check.specs.Trees.{IsNoDeeper, IsTree}
 use Rattle.erd_meaning.specs.Judged.{Judged}
 use Rattle.erd_meaning.specs.Accepted.{IsAccepted}
+use Rattle.erd_meaning.specs.Objects.{IsBounded}
 use Rattle.erd_meaning.proofs.accepted.Phases.{no_shape_fault}
 use Rattle.erd_normal.specs.Canonical.{IsCanonicalFormOf}
 use Rattle.erd_normal.specs.code.NormalTree.{normal_tree}
-use Rattle.erd_normal.specs.code.ObjectNumbers.{IsBounded}
 use Rattle.erd_check.specs.Numbers.{HasFittingNumbers}
 use Rattle.erd_normal.proofs.built.NormalDepths.{normal_tree-depth}
 use Rattle.erd_normal.proofs.canonical.NormalFormsOnly.{form_built, only_form_built, whole_built}

@@ -1,0 +1,49 @@
+-- What a comparison answers under one preference, it says under each other one that accepts both reports.
+use Rattle.std.proofs.Common.{◌≡◌, ◌↔◌, ℕ, List, Option, Some, None, refl, sym, ap, ◌∙◌, subst}
+use Rattle.serde_json.specs.Data.{Data}
+use Rattle.erd_meaning.specs.Accepted.{IsAccepted}
+use Rattle.erd_meaning.specs.Keys.{Preference}
+use Rattle.erd_meaning.specs.Meaning.{Meaning, ObjectRecord}
+use Rattle.erd_meaning.specs.Records.{meaning}
+use Rattle.erd_normal.specs.Laws.{IsGiven}
+use Rattle.erd_normal.proofs.unique.PreferencesAgree.{preferences_agree}
+use Rattle.erd_compare.specs.Differences.{Differ, IsDifference, record_at}
+use Rattle.erd_compare.specs.declared.difference.Difference.{Difference}
+use Rattle.erd_compare.specs.declared.difference.How.{How}
+use Rattle.erd_compare.specs.declared.difference.How.TheVariants.{Member, OnlyLeft, OnlyRight, OtherClass}
+use Rattle.erd_canon.specs.Bytes.{IsTreeOf}
+use Rattle.erd_canon.specs.ByteLaws.{AgreesUnderEach}
+use Rattle.erd_canon.specs.EngineTexts.{IsComparison}
+use Rattle.erd_canon.proofs.forms.Refusing.{one_tree}
+
+-- no record differs from itself
+not_itself : (r : Option ObjectRecord) (how : How) → Differ r r how → ⊥
+not_itself None how is = is
+not_itself (Some a) OnlyLeft is = is
+not_itself (Some a) OnlyRight is = is
+not_itself (Some a) OtherClass is = is refl
+not_itself (Some a) (Member name) is = is.differ refl
+
+-- nothing differs exactly if the meanings are equal
+none_differs : (m n : Meaning) (found : Option Difference) → IsDifference m n found → (found ≡ None) ↔ (m ≡ n)
+none_differs m n None is = (λ _. is, λ _. refl)
+none_differs m n (Some d) is = (
+  λ e. absurd (cc e),
+  λ same. absurd (not_itself (record_at m d.part d.key) d.how (subst (λ r. Differ (record_at m d.part d.key) r d.how) (ap (λ x. record_at x d.part d.key) (sym same)) is.differ)),
+)
+
+-- of two reports as a call is handed them
+pub agrees : (π : Preference) (left right : List ℕ) (found : Option Difference) (t u : Data) → IsTreeOf left t → IsGiven t → IsTreeOf right u → IsGiven u
+    → IsComparison π left right found → AgreesUnderEach left right found
+agrees π left right found t u left_read left_given right_read right_given is ρ left_tree right_tree under_left under_right =
+    let one : is.left_tree ≡ left_tree = one_tree left is.left_tree left_tree is.left_accepted.read under_left.read in
+    let other : is.right_tree ≡ right_tree = one_tree right is.right_tree right_tree is.right_accepted.read under_right.read in
+    let here = none_differs (meaning π is.left_tree) (meaning π is.right_tree) found is.difference in
+    let there = preferences_agree π ρ is.left_tree is.right_tree
+    (subst IsGiven (one_tree left t is.left_tree left_read is.left_accepted.read) left_given)
+    (subst IsGiven (one_tree right u is.right_tree right_read is.right_accepted.read) right_given)
+    is.left_accepted.accepted is.right_accepted.accepted
+    (subst (IsAccepted ρ) (sym one) under_left.accepted) (subst (IsAccepted ρ) (sym other) under_right.accepted) in (
+      λ none. sym (ap (meaning ρ) one) ∙ (there.0 (here.0 none) ∙ ap (meaning ρ) other),
+      λ same. here.1 (there.1 (ap (meaning ρ) one ∙ (same ∙ sym (ap (meaning ρ) other)))),
+    )

@@ -1,0 +1,152 @@
+-- Small reports under two preferences: what the law says of them.
+use Rattle.std.proofs.Common.{◌≡◌, ◌<◌, ◌^◌, ℕ, List, [], ◌∷◌, ◌++◌, true, false, true≢false, Some, None, codes, slice_index_or, length, map, refl, sym, ap, ◌∙◌, arith}
+use Rattle.std.specs.List.{slice_get}
+use Rattle.std.specs.Prelude.{is_some, option_map, unwrap_or}
+use Rattle.serde_json.specs.Data.{Data, null}
+use Rattle.serde_json.proofs.OnLiterals.{serde_json_on_literals}
+use Rattle.erd_tables.specs.Classes.{families}
+use Rattle.erd_tables.specs.declared.class.Class.TheVariants as class
+use Rattle.erd_tables.specs.declared.class.Family.{Family}
+use Rattle.erd_tables.specs.declared.class.Family.TheVariants as family
+use Rattle.erd_tables.specs.declared.class.Role.TheVariants as role
+use Rattle.erd_check.specs.Numbers.{HasFittingNumbers}
+use Rattle.erd_check.proofs.Deciding.{faults_found, is_tree, no_fault_listed, tree_sound}
+use Rattle.erd_check.proofs.Reports.{tree_of}
+use Rattle.erd_meaning.specs.Keys.{Preference}
+use Rattle.erd_meaning.specs.Objects.{IsBounded, objects, elections}
+use Rattle.erd_meaning.specs.Records.{object_record, records_of, meaning}
+use Rattle.erd_meaning.specs.declared.keys.key.Key.{Key}
+use Rattle.erd_meaning.proofs.examples.RecordExamples.{local_key}
+use Rattle.erd_meaning.proofs.identity.IdentityFaults.{identity_told}
+use Rattle.erd_meaning.proofs.meanings.WholeMeanings.{same_object, same_at_every_key, no_record, same_meaning}
+use Rattle.erd_meaning.proofs.references.SelectionEntries.{reference_faults}
+use Rattle.erd_meaning.proofs.refused.RefusedLists.{accepted_by_lists}
+use Rattle.erd_meaning.proofs.selections.SelectionFaults.{selections_told}
+use Rattle.erd_normal.specs.Laws.{keys_in}
+use Rattle.erd_normal.proofs.unique.PreferencesAgree.{IsGivenUnder, agree_across}
+
+-- ---- three reports, and two preferences
+
+-- the report of a unit with this `@id`, the number 20 in `fips` and this local identifier
+abbrev identified : List ℕ → List ℕ → Data
+identified id value =
+    tree_of (codes "{\"@type\":\"ElectionResults.ElectionReport\",\"Status\":\"pre-election\",\"GpUnit\":[{\"@id\":\"" ++ id ++ codes "\",\"@type\":\"ElectionResults.ReportingUnit\",\"Type\":\"county\",\"ExternalIdentifier\":[{\"@type\":\"ElectionResults.ExternalIdentifier\",\"Type\":\"fips\",\"Value\":\"20\"},{\"@type\":\"ElectionResults.ExternalIdentifier\",\"Type\":\"local-level\",\"Value\":\"" ++ value ++ codes "\"}]}],\"Election\":[{\"@type\":\"ElectionResults.Election\",\"Name\":\"Test\",\"Type\":\"general\",\"StartDate\":\"2026-11-03\",\"EndDate\":\"2026-11-03\",\"ElectionScopeId\":\"" ++ id ++ codes "\"}]}")
+
+abbrev given : Data
+given = identified (codes "u7") (codes "U1")
+
+-- another `@id`
+abbrev renamed : Data
+renamed = identified (codes "k") (codes "U1")
+
+-- another local identifier
+abbrev moved : Data
+moved = identified (codes "u7") (codes "U2")
+
+abbrev local : Preference
+local = Some (codes "local-level")
+
+abbrev fips_key : Key
+fips_key = record { kind = codes "fips"; other = []; value = codes "20" }
+
+-- the least of all keys is that of `fips`; with the preference the key is the local one
+keys_of_reports : (map (keys_in None family.Unit) (given ∷ renamed ∷ moved ∷ []) ≡ (Some fips_key ∷ []) ∷ (Some fips_key ∷ []) ∷ (Some fips_key ∷ []) ∷ [])
+    × (map (keys_in local family.Unit) (given ∷ renamed ∷ moved ∷ []) ≡ (Some (local_key (codes "U1")) ∷ []) ∷ (Some (local_key (codes "U1")) ∷ []) ∷ (Some (local_key (codes "U2")) ∷ []) ∷ [])
+unfolding serde_json_on_literals
+keys_of_reports = (refl, refl)
+
+-- ---- they are accepted under both
+
+-- how many objects each family has
+abbrev counts : Data → List ℕ
+counts t = map (λ f. length (objects f t)) families
+
+-- one unit, and nothing else
+bounded_by : (t : Data) → counts t ≡ 1 ∷ 0 ∷ 0 ∷ 0 ∷ 0 ∷ 0 ∷ 0 ∷ 0 ∷ 0 ∷ [] → IsBounded t
+bounded_by t e = record { few = at }
+  where
+    count : (i : ℕ) → slice_index_or (counts t) i 0 ≡ slice_index_or (1 ∷ 0 ∷ 0 ∷ 0 ∷ 0 ∷ 0 ∷ 0 ∷ 0 ∷ 0 ∷ []) i 0
+    count i = ap (λ ns. slice_index_or ns i 0) e
+
+    at : (f : Family) → length (objects f t) < 2 ^ 64
+    at family.Unit = let n : length (objects family.Unit t) ≡ 1 = count 0 in omega arith
+    at family.Party = let n : length (objects family.Party t) ≡ 0 = count 1 in omega arith
+    at family.Person = let n : length (objects family.Person t) ≡ 0 = count 2 in omega arith
+    at family.Office = let n : length (objects family.Office t) ≡ 0 = count 3 in omega arith
+    at family.Header = let n : length (objects family.Header t) ≡ 0 = count 4 in omega arith
+    at family.Candidate = let n : length (objects family.Candidate t) ≡ 0 = count 5 in omega arith
+    at family.Contest = let n : length (objects family.Contest t) ≡ 0 = count 6 in omega arith
+    at family.Style = let n : length (objects family.Style t) ≡ 0 = count 7 in omega arith
+    at family.Selection = let n : length (objects family.Selection t) ≡ 0 = count 8 in omega arith
+
+-- a tree of one unit whose numbers fit, without faults under either preference
+given_by : (t : Data) → is_tree t ≡ true → HasFittingNumbers t → counts t ≡ 1 ∷ 0 ∷ 0 ∷ 0 ∷ 0 ∷ 0 ∷ 0 ∷ 0 ∷ 0 ∷ []
+    → length (faults_found t) ≡ 0 → length (identity_told None t) ≡ 0 → length (identity_told local t) ≡ 0 → length (reference_faults t) ≡ 0
+    → length (selections_told None t) ≡ 0 → length (selections_told local t) ≡ 0 → IsGivenUnder None local t
+given_by t tree fits of_family shape identity local_identity reference selection local_selection = record {
+  given = record { is_tree = tree_sound t tree; fits = fits; bounded = bounded_by t of_family };
+  accepted = accepted_by_lists None t (tree_sound t tree) (no_fault_listed t tree shape) identity reference selection;
+  also_accepted = accepted_by_lists local t (tree_sound t tree) (no_fault_listed t tree shape) local_identity reference local_selection;
+}
+
+given_is : IsGivenUnder None local given
+unfolding serde_json_on_literals
+given_is = given_by given refl (tt, (((tt, (tt, (tt, (tt, (tt, (tt, tt)))))), tt), (((tt, (tt, (((tt, (tt, (tt, tt))), ((tt, (tt, (tt, tt))), tt)), (tt, tt)))), tt), (tt, tt)))) refl refl refl refl refl refl refl
+
+renamed_is : IsGivenUnder None local renamed
+unfolding serde_json_on_literals
+renamed_is = given_by renamed refl (tt, (((tt, (tt, (tt, (tt, (tt, (tt, tt)))))), tt), (((tt, (tt, (((tt, (tt, (tt, tt))), ((tt, (tt, (tt, tt))), tt)), (tt, tt)))), tt), (tt, tt)))) refl refl refl refl refl refl refl
+
+moved_is : IsGivenUnder None local moved
+unfolding serde_json_on_literals
+moved_is = given_by moved refl (tt, (((tt, (tt, (tt, (tt, (tt, (tt, tt)))))), tt), (((tt, (tt, (((tt, (tt, (tt, tt))), ((tt, (tt, (tt, tt))), tt)), (tt, tt)))), tt), (tt, tt)))) refl refl refl refl refl refl refl
+
+-- ---- equal under one, and so under the other
+
+abbrev election_in : Data → Data
+election_in t = unwrap_or (option_map (λ o. o.value) (slice_get (elections t) 0)) null
+
+abbrev unit_in : Data → Data
+unit_in t = unwrap_or (option_map (λ o. o.value) (slice_get (objects family.Unit t) 0)) null
+
+same_report : object_record None given role.Report given ≡ object_record None renamed role.Report renamed
+unfolding serde_json_on_literals
+same_report = same_object None given renamed given renamed role.Report class.ElectionReport refl refl refl
+
+same_election : (meaning None given).election ≡ (meaning None renamed).election
+unfolding serde_json_on_literals
+same_election = same_object None given renamed (election_in given) (election_in renamed) role.Election class.Election refl refl refl
+
+same_unit : records_of None given family.Unit fips_key ≡ records_of None renamed family.Unit fips_key
+unfolding serde_json_on_literals
+same_unit = same_object None given renamed (unit_in given) (unit_in renamed) (role.OfFamily family.Unit) class.ReportingUnit refl refl refl
+
+same_objects : (f : Family) (k : Key) → records_of None given f k ≡ records_of None renamed f k
+unfolding serde_json_on_literals
+same_objects family.Unit k =
+    same_at_every_key (records_of None given family.Unit) (records_of None renamed family.Unit) (fips_key ∷ []) (same_unit, tt)
+    (no_record None given family.Unit) (no_record None renamed family.Unit) k
+same_objects f k = refl
+
+equal_under_both : (meaning None given ≡ meaning None renamed) × (meaning local given ≡ meaning local renamed)
+equal_under_both =
+    let same : meaning None given ≡ meaning None renamed = same_meaning None None given renamed same_report same_election same_objects in
+    (same, agree_across None local given renamed given_is renamed_is same)
+
+-- ---- apart under one, and so under the other
+
+-- with the preference, one alone has a unit of the key; without, both have one of the same key, and they mean different units
+local_units : map (λ t. is_some (records_of local t family.Unit (local_key (codes "U1")))) (given ∷ moved ∷ []) ≡ true ∷ false ∷ []
+unfolding serde_json_on_literals
+local_units = refl
+
+apart_under_both : ¬ (meaning local given ≡ meaning local moved) × ¬ (meaning None given ≡ meaning None moved)
+apart_under_both = (apart, λ same. apart (agree_across None local given moved given_is moved_is same))
+  where
+    apart : ¬ (meaning local given ≡ meaning local moved)
+    apart same =
+        let one : is_some (records_of local given family.Unit (local_key (codes "U1"))) ≡ is_some (records_of local moved family.Unit (local_key (codes "U1"))) =
+        ap (λ m. is_some (m.objects family.Unit (local_key (codes "U1")))) same in
+        let here : is_some (records_of local given family.Unit (local_key (codes "U1"))) ≡ true = ap (λ bs. slice_index_or bs 0 false) local_units in
+        let there : is_some (records_of local moved family.Unit (local_key (codes "U1"))) ≡ false = ap (λ bs. slice_index_or bs 1 true) local_units in
+        absurd (true≢false (sym here ∙ (one ∙ there)))

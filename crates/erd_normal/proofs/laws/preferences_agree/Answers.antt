@@ -1,0 +1,5 @@
+use Rattle.erd_normal.proofs.unique.PreferencesAgree.{preferences_agree}
+use Rattle.erd_normal.proofs.laws.preferences_agree.Goals as goal
+
+pub returns : goal.returns
+returns c = record { law = preferences_agree }
