@@ -224,6 +224,7 @@ expect 'standard error closed, and needed' 3 "$work/empty" ''
 . tests/cli_words.sh
 . tests/cli_files.sh
 . tests/cli_rows.sh
+. tests/cli_preferences.sh
 
 # The vectors stand in three places.
 why=''

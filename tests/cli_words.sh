@@ -9,13 +9,13 @@ call -h
 expect_part 'help in short' 0 out 'Usage: erd [COMMAND]' '  check ' '  canon ' '  compare '
 for name in check canon compare; do
     call help "$name"
-    expect_part "help of $name" 0 out "Usage: erd $name <" 'Exit status:' 'Example:'
+    expect_part "help of $name" 0 out "Usage: erd $name [OPTIONS] <" '--prefer <TYPE>' 'Exit status:' 'Example:'
     cp "$work/out" "$work/help"
     call "$name" --help
     expect "help of $name as an option" 0 "$work/help" ''
 done
 call check "$one" --help
-expect_part 'help after a file' 0 out 'Usage: erd check <FILE>'
+expect_part 'help after a file' 0 out 'Usage: erd check [OPTIONS] <FILE>'
 
 # wrong PART WORD ..: these words are a usage fault, and the text about them has the part
 wrong() {
@@ -31,12 +31,12 @@ wrong 'Usage: erd [COMMAND]' --version
 wrong 'Usage: erd [COMMAND]' --check "$one"
 wrong 'Usage: erd [COMMAND]' "$one"
 wrong 'Usage: erd check <FILE>' check
-wrong 'Usage: erd check <FILE>' check "$one" "$one"
+wrong 'Usage: erd check [OPTIONS] <FILE>' check "$one" "$one"
 wrong 'Usage: erd canon <FILE>' canon
-wrong 'Usage: erd canon <FILE>' canon "$one" "$one"
+wrong 'Usage: erd canon [OPTIONS] <FILE>' canon "$one" "$one"
 wrong 'Usage: erd compare <LEFT> <RIGHT>' compare
 wrong 'Usage: erd compare <LEFT> <RIGHT>' compare "$one"
-wrong 'Usage: erd compare <LEFT> <RIGHT>' compare "$one" "$one" "$one"
+wrong 'Usage: erd compare [OPTIONS] <LEFT> <RIGHT>' compare "$one" "$one" "$one"
 wrong 'error: ' check -x
 wrong 'error: ' help nosuch
 

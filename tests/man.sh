@@ -1,6 +1,6 @@
 #!/usr/bin/env bash
 # Holds the manual page, and the table of the README, against the built program: its subcommands with what they take,
-# and its exit statuses. One line a case.
+# their option, and its exit statuses. One line a case.
 set -u
 cd "$(dirname "$0")/.." || exit 1
 erd=$PWD/erd
@@ -37,6 +37,12 @@ for name in $names; do
     [ "$name" = help ] && continue
     usage=$("$erd" help "$name" | sed -n 's/^Usage: erd //p' | tr -d '<>')
     agree "what $name takes" "$(terms SUBCOMMANDS | grep "^$name ")" "$usage"
+done
+
+option=$(terms OPTIONS | tr -d '\\')
+for name in $names; do
+    [ "$name" = help ] && continue
+    agree "the option of $name" "$option" "$("$erd" help "$name" | sed -n 's/^ *\(--[a-z]* <[A-Z]*>\)$/\1/p' | tr -d '<>')"
 done
 
 statuses=$("$erd" --help | under 'Exit status')

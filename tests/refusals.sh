@@ -83,6 +83,8 @@ program 'a check' "$work/empty" 0 "$work/accepted" '' check examples/small-ballo
 program 'a file that is not there' "$work/empty" 3 "$work/empty" $'cannot open\n' canon nosuch
 printf 'same\n' > "$work/same"
 program 'a comparison' "$work/empty" 0 "$work/same" '' compare examples/one-unit.json examples/one-unit.json
+program 'a comparison under a preference' "$work/empty" 0 "$work/same" '' \
+    compare --prefer local-level examples/one-unit.json examples/one-unit.json
 one_test tests::refused::refused_canonical
 one_test tests::refused::refused_run
 one_test tests::refused::refused_shape

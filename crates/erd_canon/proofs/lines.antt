@@ -1,2 +1,3 @@
 pub mod PlainWords
+pub mod PreferenceWords
 pub mod LineReadings

@@ -2,5 +2,6 @@
 
 pub(crate) mod builder;
 pub(crate) mod help;
+pub(crate) mod prefer;
 pub(crate) mod request;
 pub(crate) mod words;

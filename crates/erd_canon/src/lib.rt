@@ -12,6 +12,7 @@ pub use bytes::canonical::{canonical, canonical_with};
 pub use bytes::comparison::{compare_bytes, compare_bytes_with};
 pub use bytes::laws::{is_its_own_form, one_form_for_one_meaning};
 pub use bytes::refusal::{Refusal, Side};
+pub use commands::prefer::Prefer;
 pub use commands::request::{FileName, LineFault, Request};
 pub use commands::words::command_line;
 pub use devices::read_from::ReadFrom;

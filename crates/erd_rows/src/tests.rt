@@ -18,6 +18,7 @@ mod names;
 mod places;
 mod preferences;
 mod preferred_keys;
+mod preferred_lines;
 mod preferred_names;
 mod preferred_order;
 mod preferring;

@@ -1,40 +1,38 @@
 -- What `clap` makes of the exact lines.
-use Rattle.std.proofs.Common.{◌≡◌, ◌&&◌, ℕ, Bool, List, [], ◌∷◌, Option, Some, None, codes, true, false, refl, ap, ap₂, ◌∙◌, unwrap_or, slice_get, subst, sym}
-use Rattle.std.specs.List.{list_all}
-use Rattle.clap.specs.Words.{Row, Rule, Text, built, first_of, is_simple, subcommand_of, takes}
+use Rattle.std.proofs.Common.{◌≡◌, ◌&&◌, ◌++◌, ℕ, Bool, List, [], ◌∷◌, Option, Some, None, codes, length, lt-ltb, nat_lt, true, false, arith, refl, ap, ap₂, ◌∙◌, subst, sym}
+use Rattle.clap.specs.Words.{Row, Text, first_of, is_simple, subcommand_of, takes}
 use Rattle.clap.specs.Simple.{Shape}
-use Rattle.clap.specs.Takes.{default_passes, is_valid, level_passes, settle_passes, step_passes, turn_passes}
+use Rattle.clap.specs.Takes.{level_passes, step_passes, turn_passes}
 use Rattle.clap.specs.Walk.{Held, Walk, arg_by_index, finished, nothing_held, rows_after, to_positional, value, walked}
 use Rattle.clap.proofs.OnLiterals.{clap_on_literals}
 use Rattle.erd_canon.specs.code.Subcommands.{program, IsAskedBy}
-use Rattle.erd_canon.proofs.lines.PlainWords.{IsPlainWord, at, plain_word, walked_plain, turn_plain}
-use Rattle.erd_canon.specs.ExactLines.{HasFileNames, IsFileName, words_of}
+use Rattle.erd_canon.proofs.lines.PlainWords.{IsPlainWord, at, walked_plain, turn_plain}
+use Rattle.erd_canon.proofs.lines.PreferenceWords.{Prefers, canon_prefers, check_prefers, compare_prefers, ends, file_plain, held_first, level_preferring, rows_preferring, subcommand}
+use Rattle.erd_canon.specs.ExactLines.{HasPlainWords, IsPreferenceWord, preference_words, words_of}
 use Rattle.erd_canon.specs.declared.commands.request.Request.{Request}
 use Rattle.erd_canon.specs.declared.commands.request.Request.TheVariants.{Filter, Check, Canon, Compare}
 
--- a subcommand as built, by its place
-abbrev subcommand : ℕ → Shape
-subcommand i = unwrap_or (slice_get (built program).subs i) program.top
-
 -- the walk after one word
-abbrev first : Shape → Text → Walk
-first s word = to_positional s.rules (arg_by_index s.rules 1) word (at nothing_held 1) nothing_held
-
--- what is asked at the end of a level
-abbrev ends : Shape → Held → Bool
-ends s h = settle_passes s.rules s.args_override_self h && (list_all default_passes s.rules && is_valid s (finished s.rules h) false)
+abbrev first : Shape → Held → Text → Walk
+first s h word = to_positional s.rules (arg_by_index s.rules 1) word (at h 1) h
 
 -- whether a level takes one word
-level_one : (s : Shape) (word : Text) → IsPlainWord word
-    → level_passes s [] nothing_held (word ∷ []) false ≡ ((step_passes s 1 nothing_held value && true) && ends s (first s word).held)
+level_one : (s : Shape) (h : Held) (word : Text) → IsPlainWord word
+    → level_passes s [] h (word ∷ []) false ≡ ((step_passes s 1 h value && true) && ends s (first s h word).held)
 unfolding clap_on_literals
-level_one s word plain =
-    ap₂ (λ (b : Bool) (w : Walk). (b && true) && ends s w.held) (turn_plain s nothing_held 1 word plain) (walked_plain s.rules nothing_held 1 word plain)
+level_one s h word plain =
+    ap₂ (λ (b : Bool) (w : Walk). (b && true) && ends s w.held) (turn_plain s h 1 word plain) (walked_plain s.rules h 1 word plain)
 
--- what a level finds in one word
-rows_one : (c : List Rule) (word : Text) → IsPlainWord word
-    → rows_after c [] (word ∷ []) ≡ finished c (to_positional c (arg_by_index c 1) word (at nothing_held 1) nothing_held).held
-rows_one c word plain = ap (λ (w : Walk). finished c w.held) (walked_plain c nothing_held 1 word plain)
+-- the rows after a preference and one file
+abbrev rows_one : ℕ → Option Text → Text → List Row
+rows_one i prefer word = finished (subcommand i).rules (first (subcommand i) (held_first prefer) word).held
+
+-- what a level finds in them
+one_found : (i : ℕ) (prefer : Option Text) (word : Text) → Prefers (subcommand i) → IsPreferenceWord prefer → IsPlainWord word
+    → rows_after (subcommand i).rules [] (preference_words prefer ++ word ∷ []) ≡ rows_one i prefer word
+one_found i prefer word knows h plain =
+    rows_preferring (subcommand i) prefer (word ∷ []) knows h
+    ∙ ap (λ (w : Walk). finished (subcommand i).rules w.held) (walked_plain (subcommand i).rules (held_first prefer) 1 word plain)
 
 -- ---- no word
 
@@ -47,115 +45,191 @@ pub none_found : (name : Text) → subcommand_of program (name ∷ []) ≡ None
 unfolding clap_on_literals
 none_found name = refl
 
+-- a type that is there passes the parser of the option
+type_passes : (x : ℕ) (xs : Text) → (((nat_lt 0 (length (x ∷ xs)) && true) && true) && true) ≡ true
+type_passes x xs = ap (λ (b : Bool). ((b && true) && true) && true) (lt-ltb 0 (length (x ∷ xs)) (omega arith))
+
 -- ---- one file
 
-pub takes-check : (name word : Text) → IsPlainWord word → takes program (name ∷ codes "check" ∷ word ∷ []) ≡ true
+one_passes-check : (prefer : Option Text) (word : Text) → IsPreferenceWord prefer
+    → ((step_passes (subcommand 0) 1 (held_first prefer) value && true) && ends (subcommand 0) (first (subcommand 0) (held_first prefer) word).held) ≡ true
 unfolding clap_on_literals
-takes-check name word plain =
-    let enters : takes program (name ∷ codes "check" ∷ word ∷ []) ≡ (level_passes (subcommand 0) [] nothing_held (word ∷ []) false && true) = refl in
-    enters ∙ ap (λ b. b && true) (level_one (subcommand 0) word plain)
+one_passes-check None word h = refl
+one_passes-check (Some []) word h = absurd h
+one_passes-check (Some (x ∷ xs)) word h = type_passes x xs
 
-pub check_found : (name word : Text) → IsPlainWord word
-    → subcommand_of program (name ∷ codes "check" ∷ word ∷ []) ≡ Some (codes "check", finished (subcommand 0).rules (first (subcommand 0) word).held)
+enters-check : (name word : Text) (prefer : Option Text)
+    → takes program (name ∷ codes "check" ∷ (preference_words prefer ++ word ∷ []))
+    ≡ (level_passes (subcommand 0) [] nothing_held (preference_words prefer ++ word ∷ []) false && true)
 unfolding clap_on_literals
-check_found name word plain =
-    let enters : subcommand_of program (name ∷ codes "check" ∷ word ∷ []) ≡ Some (codes "check", rows_after (subcommand 0).rules [] (word ∷ [])) = refl in
-    enters ∙ ap (λ (r : List Row). Some (codes "check", r)) (rows_one (subcommand 0).rules word plain)
+enters-check name word None = refl
+enters-check name word (Some type) = refl
 
-pub check_file : (word : Text) → first_of (codes "FILE") (finished (subcommand 0).rules (first (subcommand 0) word).held) ≡ Some word
-unfolding clap_on_literals
-check_file word = refl
+pub takes-check : (name word : Text) (prefer : Option Text) → IsPlainWord word → IsPreferenceWord prefer
+    → takes program (name ∷ codes "check" ∷ (preference_words prefer ++ word ∷ [])) ≡ true
+takes-check name word prefer plain h =
+    enters-check name word prefer
+    ∙ ap (λ b. b && true) (level_preferring (subcommand 0) prefer (word ∷ []) check_prefers h ∙ (level_one (subcommand 0) (held_first prefer) word plain ∙ one_passes-check prefer word h))
 
-pub takes-canon : (name word : Text) → IsPlainWord word → takes program (name ∷ codes "canon" ∷ word ∷ []) ≡ true
+names-check : (name word : Text) (prefer : Option Text)
+    → subcommand_of program (name ∷ codes "check" ∷ (preference_words prefer ++ word ∷ []))
+    ≡ Some (codes "check", rows_after (subcommand 0).rules [] (preference_words prefer ++ word ∷ []))
 unfolding clap_on_literals
-takes-canon name word plain =
-    let enters : takes program (name ∷ codes "canon" ∷ word ∷ []) ≡ (level_passes (subcommand 1) [] nothing_held (word ∷ []) false && true) = refl in
-    enters ∙ ap (λ b. b && true) (level_one (subcommand 1) word plain)
+names-check name word None = refl
+names-check name word (Some type) = refl
 
-pub canon_found : (name word : Text) → IsPlainWord word
-    → subcommand_of program (name ∷ codes "canon" ∷ word ∷ []) ≡ Some (codes "canon", finished (subcommand 1).rules (first (subcommand 1) word).held)
-unfolding clap_on_literals
-canon_found name word plain =
-    let enters : subcommand_of program (name ∷ codes "canon" ∷ word ∷ []) ≡ Some (codes "canon", rows_after (subcommand 1).rules [] (word ∷ [])) = refl in
-    enters ∙ ap (λ (r : List Row). Some (codes "canon", r)) (rows_one (subcommand 1).rules word plain)
+pub check_found : (name word : Text) (prefer : Option Text) → IsPlainWord word → IsPreferenceWord prefer
+    → subcommand_of program (name ∷ codes "check" ∷ (preference_words prefer ++ word ∷ [])) ≡ Some (codes "check", rows_one 0 prefer word)
+check_found name word prefer plain h =
+    names-check name word prefer ∙ ap (λ (r : List Row). Some (codes "check", r)) (one_found 0 prefer word check_prefers h plain)
 
-pub canon_file : (word : Text) → first_of (codes "FILE") (finished (subcommand 1).rules (first (subcommand 1) word).held) ≡ Some word
+pub check_words : (prefer : Option Text) (word : Text)
+    → (first_of (codes "FILE") (rows_one 0 prefer word) ≡ Some word) × (first_of (codes "TYPE") (rows_one 0 prefer word) ≡ prefer)
 unfolding clap_on_literals
-canon_file word = refl
+check_words None word = (refl, refl)
+check_words (Some type) word = (refl, refl)
+
+one_passes-canon : (prefer : Option Text) (word : Text) → IsPreferenceWord prefer
+    → ((step_passes (subcommand 1) 1 (held_first prefer) value && true) && ends (subcommand 1) (first (subcommand 1) (held_first prefer) word).held) ≡ true
+unfolding clap_on_literals
+one_passes-canon None word h = refl
+one_passes-canon (Some []) word h = absurd h
+one_passes-canon (Some (x ∷ xs)) word h = type_passes x xs
+
+enters-canon : (name word : Text) (prefer : Option Text)
+    → takes program (name ∷ codes "canon" ∷ (preference_words prefer ++ word ∷ []))
+    ≡ (level_passes (subcommand 1) [] nothing_held (preference_words prefer ++ word ∷ []) false && true)
+unfolding clap_on_literals
+enters-canon name word None = refl
+enters-canon name word (Some type) = refl
+
+pub takes-canon : (name word : Text) (prefer : Option Text) → IsPlainWord word → IsPreferenceWord prefer
+    → takes program (name ∷ codes "canon" ∷ (preference_words prefer ++ word ∷ [])) ≡ true
+takes-canon name word prefer plain h =
+    enters-canon name word prefer
+    ∙ ap (λ b. b && true) (level_preferring (subcommand 1) prefer (word ∷ []) canon_prefers h ∙ (level_one (subcommand 1) (held_first prefer) word plain ∙ one_passes-canon prefer word h))
+
+names-canon : (name word : Text) (prefer : Option Text)
+    → subcommand_of program (name ∷ codes "canon" ∷ (preference_words prefer ++ word ∷ []))
+    ≡ Some (codes "canon", rows_after (subcommand 1).rules [] (preference_words prefer ++ word ∷ []))
+unfolding clap_on_literals
+names-canon name word None = refl
+names-canon name word (Some type) = refl
+
+pub canon_found : (name word : Text) (prefer : Option Text) → IsPlainWord word → IsPreferenceWord prefer
+    → subcommand_of program (name ∷ codes "canon" ∷ (preference_words prefer ++ word ∷ [])) ≡ Some (codes "canon", rows_one 1 prefer word)
+canon_found name word prefer plain h =
+    names-canon name word prefer ∙ ap (λ (r : List Row). Some (codes "canon", r)) (one_found 1 prefer word canon_prefers h plain)
+
+pub canon_words : (prefer : Option Text) (word : Text)
+    → (first_of (codes "FILE") (rows_one 1 prefer word) ≡ Some word) × (first_of (codes "TYPE") (rows_one 1 prefer word) ≡ prefer)
+unfolding clap_on_literals
+canon_words None word = (refl, refl)
+canon_words (Some type) word = (refl, refl)
 
 -- ---- two files
 
 -- the walk after two words, where the first leaves it at the second place
-abbrev second : Shape → Text → Text → Walk
-second s left right = to_positional s.rules (arg_by_index s.rules 2) right (at (first s left).held 2) (first s left).held
+abbrev second : Shape → Held → Text → Text → Walk
+second s h left right = to_positional s.rules (arg_by_index s.rules 2) right (at (first s h left).held 2) (first s h left).held
 
 -- the first word leaves the walk ready for the second
-abbrev GoesOn : Shape → Text → Type 0
-GoesOn s left = first s left ≡ at (first s left).held 2
+abbrev GoesOn : Shape → Held → Text → Type 0
+GoesOn s h left = first s h left ≡ at (first s h left).held 2
 
-walked_two : (s : Shape) (left right : Text) → GoesOn s left → IsPlainWord left → IsPlainWord right
-    → walked s.rules [] (walked s.rules [] (at nothing_held 1) left) right ≡ second s left right
-walked_two s left right goes_on plain plain2 =
-    ap (λ (w : Walk). walked s.rules [] w right) (walked_plain s.rules nothing_held 1 left plain ∙ goes_on) ∙ walked_plain s.rules (first s left).held 2 right plain2
+walked_two : (s : Shape) (h : Held) (left right : Text) → GoesOn s h left → IsPlainWord left → IsPlainWord right
+    → walked s.rules [] (walked s.rules [] (at h 1) left) right ≡ second s h left right
+walked_two s h left right goes_on plain plain2 =
+    ap (λ (w : Walk). walked s.rules [] w right) (walked_plain s.rules h 1 left plain ∙ goes_on) ∙ walked_plain s.rules (first s h left).held 2 right plain2
 
-turn_two : (s : Shape) (left right : Text) → GoesOn s left → IsPlainWord left → IsPlainWord right
-    → turn_passes s [] (walked s.rules [] (at nothing_held 1) left) right ≡ step_passes s 2 (first s left).held value
-turn_two s left right goes_on plain plain2 =
-    ap (λ (w : Walk). turn_passes s [] w right) (walked_plain s.rules nothing_held 1 left plain ∙ goes_on) ∙ turn_plain s (first s left).held 2 right plain2
+turn_two : (s : Shape) (h : Held) (left right : Text) → GoesOn s h left → IsPlainWord left → IsPlainWord right
+    → turn_passes s [] (walked s.rules [] (at h 1) left) right ≡ step_passes s 2 (first s h left).held value
+turn_two s h left right goes_on plain plain2 =
+    ap (λ (w : Walk). turn_passes s [] w right) (walked_plain s.rules h 1 left plain ∙ goes_on) ∙ turn_plain s (first s h left).held 2 right plain2
 
-level_two : (s : Shape) (left right : Text) → GoesOn s left → IsPlainWord left → IsPlainWord right
-    → level_passes s [] nothing_held (left ∷ right ∷ []) false
-    ≡ ((step_passes s 1 nothing_held value && (step_passes s 2 (first s left).held value && true)) && ends s (second s left right).held)
+level_two : (s : Shape) (h : Held) (left right : Text) → GoesOn s h left → IsPlainWord left → IsPlainWord right
+    → level_passes s [] h (left ∷ right ∷ []) false
+    ≡ ((step_passes s 1 h value && (step_passes s 2 (first s h left).held value && true)) && ends s (second s h left right).held)
 unfolding clap_on_literals
-level_two s left right goes_on plain plain2 =
+level_two s h left right goes_on plain plain2 =
     ap₂ (λ (b : Bool) (w : Walk). b && ends s w.held)
-    (ap₂ (λ (b : Bool) (d : Bool). b && (d && true)) (turn_plain s nothing_held 1 left plain) (turn_two s left right goes_on plain plain2))
-    (walked_two s left right goes_on plain plain2)
+    (ap₂ (λ (b : Bool) (d : Bool). b && (d && true)) (turn_plain s h 1 left plain) (turn_two s h left right goes_on plain plain2))
+    (walked_two s h left right goes_on plain plain2)
 
-compare_goes_on : (left : Text) → GoesOn (subcommand 2) left
-unfolding clap_on_literals
-compare_goes_on left = refl
+-- `compare` as built
+abbrev comparing : Shape
+comparing = subcommand 2
 
-pub takes-compare : (name left right : Text) → IsPlainWord left → IsPlainWord right → takes program (name ∷ codes "compare" ∷ left ∷ right ∷ []) ≡ true
+compare_goes_on : (prefer : Option Text) (left : Text) → GoesOn comparing (held_first prefer) left
 unfolding clap_on_literals
-takes-compare name left right plain plain2 =
-    let enters : takes program (name ∷ codes "compare" ∷ left ∷ right ∷ []) ≡ (level_passes (subcommand 2) [] nothing_held (left ∷ right ∷ []) false && true) = refl in
-    enters ∙ ap (λ b. b && true) (level_two (subcommand 2) left right (compare_goes_on left) plain plain2)
+compare_goes_on None left = refl
+compare_goes_on (Some type) left = refl
 
-pub compare_found : (name left right : Text) → IsPlainWord left → IsPlainWord right
-    → subcommand_of program (name ∷ codes "compare" ∷ left ∷ right ∷ []) ≡ Some (codes "compare", finished (subcommand 2).rules (second (subcommand 2) left right).held)
+two_pass : (prefer : Option Text) (left right : Text) → IsPreferenceWord prefer
+    → ((step_passes comparing 1 (held_first prefer) value && (step_passes comparing 2 (first comparing (held_first prefer) left).held value && true))
+    && ends comparing (second comparing (held_first prefer) left right).held) ≡ true
 unfolding clap_on_literals
-compare_found name left right plain plain2 =
-    let enters : subcommand_of program (name ∷ codes "compare" ∷ left ∷ right ∷ []) ≡ Some (codes "compare", rows_after (subcommand 2).rules [] (left ∷ right ∷ [])) = refl in
-    enters ∙ ap (λ (w : Walk). Some (codes "compare", finished (subcommand 2).rules w.held)) (walked_two (subcommand 2) left right (compare_goes_on left) plain plain2)
+two_pass None left right h = refl
+two_pass (Some []) left right h = absurd h
+two_pass (Some (x ∷ xs)) left right h = type_passes x xs
 
-pub compare_files : (left right : Text)
-    → (first_of (codes "LEFT") (finished (subcommand 2).rules (second (subcommand 2) left right).held) ≡ Some left)
-    × (first_of (codes "RIGHT") (finished (subcommand 2).rules (second (subcommand 2) left right).held) ≡ Some right)
+enters-compare : (name left right : Text) (prefer : Option Text)
+    → takes program (name ∷ codes "compare" ∷ (preference_words prefer ++ left ∷ right ∷ []))
+    ≡ (level_passes comparing [] nothing_held (preference_words prefer ++ left ∷ right ∷ []) false && true)
 unfolding clap_on_literals
-compare_files left right = (refl, refl)
+enters-compare name left right None = refl
+enters-compare name left right (Some type) = refl
+
+pub takes-compare : (name left right : Text) (prefer : Option Text) → IsPlainWord left → IsPlainWord right → IsPreferenceWord prefer
+    → takes program (name ∷ codes "compare" ∷ (preference_words prefer ++ left ∷ right ∷ [])) ≡ true
+takes-compare name left right prefer plain plain2 h =
+    let held = held_first prefer in
+    enters-compare name left right prefer
+    ∙ ap (λ b. b && true) (level_preferring comparing prefer (left ∷ right ∷ []) compare_prefers h
+    ∙ (level_two comparing held left right (compare_goes_on prefer left) plain plain2 ∙ two_pass prefer left right h))
+
+-- the rows after a preference and two files
+abbrev rows_two : Option Text → Text → Text → List Row
+rows_two prefer left right = finished comparing.rules (second comparing (held_first prefer) left right).held
+
+names-compare : (name left right : Text) (prefer : Option Text)
+    → subcommand_of program (name ∷ codes "compare" ∷ (preference_words prefer ++ left ∷ right ∷ []))
+    ≡ Some (codes "compare", rows_after comparing.rules [] (preference_words prefer ++ left ∷ right ∷ []))
+unfolding clap_on_literals
+names-compare name left right None = refl
+names-compare name left right (Some type) = refl
+
+pub compare_found : (name left right : Text) (prefer : Option Text) → IsPlainWord left → IsPlainWord right → IsPreferenceWord prefer
+    → subcommand_of program (name ∷ codes "compare" ∷ (preference_words prefer ++ left ∷ right ∷ [])) ≡ Some (codes "compare", rows_two prefer left right)
+compare_found name left right prefer plain plain2 h =
+    let found = rows_preferring comparing prefer (left ∷ right ∷ []) compare_prefers h
+    ∙ ap (λ (w : Walk). finished comparing.rules w.held) (walked_two comparing (held_first prefer) left right (compare_goes_on prefer left) plain plain2) in
+    names-compare name left right prefer ∙ ap (λ (r : List Row). Some (codes "compare", r)) found
+
+pub compare_words : (prefer : Option Text) (left right : Text)
+    → (first_of (codes "LEFT") (rows_two prefer left right) ≡ Some left)
+    × ((first_of (codes "RIGHT") (rows_two prefer left right) ≡ Some right) × (first_of (codes "TYPE") (rows_two prefer left right) ≡ prefer))
+unfolding clap_on_literals
+compare_words None left right = (refl, (refl, refl))
+compare_words (Some type) left right = (refl, (refl, refl))
 
 -- ---- each exact line
 
-file_plain : (file : Text) → IsFileName file → IsPlainWord file
-file_plain [] h = absurd h
-file_plain (x ∷ xs) h = plain_word x xs h
-
-pub takes-line : (request : Request) (name : Text) → HasFileNames request → takes program (name ∷ words_of request) ≡ true
+pub takes-line : (request : Request) (name : Text) → HasPlainWords request → takes program (name ∷ words_of request) ≡ true
 takes-line Filter name h = takes-none name
-takes-line (Check file) name h = takes-check name file (file_plain file h)
-takes-line (Canon file) name h = takes-canon name file (file_plain file h)
-takes-line (Compare left right) name h = takes-compare name left right (file_plain left h.0) (file_plain right h.1)
+takes-line (Check file prefer) name h = takes-check name file prefer (file_plain file h.0) h.1
+takes-line (Canon file prefer) name h = takes-canon name file prefer (file_plain file h.0) h.1
+takes-line (Compare left right prefer) name h = takes-compare name left right prefer (file_plain left h.0) (file_plain right h.1) h.2
 
-pub line_found : (request : Request) (name : Text) → HasFileNames request → IsAskedBy (subcommand_of program (name ∷ words_of request)) request
+pub line_found : (request : Request) (name : Text) → HasPlainWords request → IsAskedBy (subcommand_of program (name ∷ words_of request)) request
 line_found Filter name h = subst (λ (o : Option (Text × List Row)). IsAskedBy o Filter) (sym (none_found name)) tt
-line_found (Check file) name h =
-    subst (λ (o : Option (Text × List Row)). IsAskedBy o (Check file)) (sym (check_found name file (file_plain file h))) (refl, check_file file)
-line_found (Canon file) name h =
-    subst (λ (o : Option (Text × List Row)). IsAskedBy o (Canon file)) (sym (canon_found name file (file_plain file h))) (refl, canon_file file)
-line_found (Compare left right) name h =
-    subst (λ (o : Option (Text × List Row)). IsAskedBy o (Compare left right))
-    (sym (compare_found name left right (file_plain left h.0) (file_plain right h.1))) (refl, compare_files left right)
+line_found (Check file prefer) name h =
+    subst (λ (o : Option (Text × List Row)). IsAskedBy o (Check file prefer)) (sym (check_found name file prefer (file_plain file h.0) h.1)) (refl, check_words prefer file)
+line_found (Canon file prefer) name h =
+    subst (λ (o : Option (Text × List Row)). IsAskedBy o (Canon file prefer)) (sym (canon_found name file prefer (file_plain file h.0) h.1)) (refl, canon_words prefer file)
+line_found (Compare left right prefer) name h =
+    subst (λ (o : Option (Text × List Row)). IsAskedBy o (Compare left right prefer))
+    (sym (compare_found name left right prefer (file_plain left h.0) (file_plain right h.1) h.2)) (refl, compare_words prefer left right)
 
 pub program_simple : is_simple program ≡ true
 unfolding clap_on_literals

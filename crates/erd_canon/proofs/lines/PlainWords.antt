@@ -3,7 +3,7 @@ use Rattle.std.proofs.Common.{◌≡◌, ◌≢◌, ◌==◌, ◌&&◌, ℕ, Boo
 use Rattle.std.proofs.lemmas.Bool.{ne_eqb}
 use Rattle.std.specs.Str.{bytes_eq}
 use Rattle.clap.specs.Lexer.{long_of, short_of}
-use Rattle.clap.specs.Walk.{Held, Rule, Step, Text, Walk, after_step, arg_by_index, idle, to_positional, value, walked, word_met}
+use Rattle.clap.specs.Walk.{Held, Rule, Step, Text, Walk, after_step, arg_by_id, arg_by_index, idle, next, option, option_word, to_positional, value, walked, word_met}
 use Rattle.clap.specs.Simple.{Shape}
 use Rattle.clap.specs.Takes.{step_passes, turn_passes, word_passes}
 
@@ -42,3 +42,32 @@ walked_plain c h p word plain =
 pub turn_plain : (s : Shape) (h : Held) (p : ℕ) (word : Text) → IsPlainWord word → turn_passes s [] (at h p) word ≡ step_passes s p h value
 turn_plain s h p word plain =
     ap₂ (λ (b : Bool) (m : Held × Step). b && step_passes s p m.0 m.1) (plain_passes s word h plain) (plain_met s.rules p word h plain)
+
+-- ---- a value that an option waits for
+
+-- the walk after an option that waits for its value
+abbrev pub waits_for : Text → Held → ℕ → Walk
+waits_for id h p = record { held = h; waiting = option id; position = p; is_trailing = false; stopped = None }
+
+-- what such a word is then
+abbrev value_met : List Rule → Text → Text → Held → Held × Step
+value_met c id word h = ((option_word (arg_by_id c id) id word h).0, next (option_word (arg_by_id c id) id word h).1)
+
+waited_met : (c : List Rule) (id : Text) (p : ℕ) (word : Text) (h : Held) → IsPlainWord word
+    → word_met c [] false (option id) p word h ≡ value_met c id word h
+waited_met c id p word h plain = rw (plain.dashes, plain.long, plain.short) refl
+
+waited_passes : (s : Shape) (id word : Text) (h : Held) → IsPlainWord word → word_passes s [] false (option id) word h ≡ true
+waited_passes s id word h plain = rw (plain.dashes, plain.long, plain.short) refl
+
+-- the option takes it
+pub walked_waited : (c : List Rule) (id : Text) (h : Held) (p : ℕ) (word : Text) → IsPlainWord word
+    → walked c [] (waits_for id h p) word ≡ after_step c word (waits_for id h p) (value_met c id word h).0 (value_met c id word h).1
+unfolding walked
+walked_waited c id h p word plain =
+    ap (λ (m : Held × Step). after_step c word (waits_for id h p) m.0 m.1) (waited_met c id p word h plain)
+
+-- and the turn passes
+pub turn_waited : (s : Shape) (id : Text) (h : Held) (p : ℕ) (word : Text) → IsPlainWord word → turn_passes s [] (waits_for id h p) word ≡ true
+turn_waited s id h p word plain =
+    ap₂ (λ (b : Bool) (m : Held × Step). b && step_passes s p m.0 m.1) (waited_passes s id word h plain) (waited_met s.rules id p word h plain)

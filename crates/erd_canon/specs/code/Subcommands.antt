@@ -1,6 +1,7 @@
 -- The command line, as the parser of command lines sees it.
 use Rattle.std.specs.Prelude.{◌≡◌, true, List, ℕ, Option, Some, None, codes}
 use Rattle.clap.specs.Words.{App, Row, Rule, first_of, new_app, new_rule, with_rule, with_subcommand}
+use Rattle.clap.specs.declared.builder.value_parser.ValueParser.TheVariants.{NonEmptyString}
 use Rattle.erd_canon.specs.declared.commands.request.Request.{Request}
 use Rattle.erd_canon.specs.declared.commands.request.Request.TheVariants.{Filter, Check, Canon, Compare}
 
@@ -8,17 +9,25 @@ use Rattle.erd_canon.specs.declared.commands.request.Request.TheVariants.{Filter
 abbrev pub file_rule : List ℕ → Rule
 file_rule id = record (new_rule id) { required = true }
 
+-- `--prefer TYPE`, which may be left out; the type is not empty
+abbrev pub prefer_rule : Rule
+prefer_rule = record (new_rule (codes "TYPE")) { long = Some (codes "prefer"); parser = Some NonEmptyString }
+
+-- a subcommand of this name, which may be told a type to prefer
+abbrev pub preferring : List ℕ → App
+preferring name = with_rule (new_app name) prefer_rule
+
 -- `check FILE`
 abbrev pub check_subcommand : App
-check_subcommand = with_rule (new_app (codes "check")) (file_rule (codes "FILE"))
+check_subcommand = with_rule (preferring (codes "check")) (file_rule (codes "FILE"))
 
 -- `canon FILE`
 abbrev pub canon_subcommand : App
-canon_subcommand = with_rule (new_app (codes "canon")) (file_rule (codes "FILE"))
+canon_subcommand = with_rule (preferring (codes "canon")) (file_rule (codes "FILE"))
 
 -- `compare LEFT RIGHT`
 abbrev pub compare_subcommand : App
-compare_subcommand = with_rule (with_rule (new_app (codes "compare")) (file_rule (codes "LEFT"))) (file_rule (codes "RIGHT"))
+compare_subcommand = with_rule (with_rule (preferring (codes "compare")) (file_rule (codes "LEFT"))) (file_rule (codes "RIGHT"))
 
 -- the program
 abbrev pub program : App
@@ -27,8 +36,10 @@ program = with_subcommand (with_subcommand (with_subcommand (new_app (codes "erd
 -- a parse that met this subcommand, with these matches, asks for this
 abbrev pub IsAskedBy : Option (List ℕ × List Row) → Request → Type 0
 IsAskedBy None Filter = Unit {0}
-IsAskedBy (Some met) (Check file) = (met.0 ≡ codes "check") × (first_of (codes "FILE") met.1 ≡ Some file)
-IsAskedBy (Some met) (Canon file) = (met.0 ≡ codes "canon") × (first_of (codes "FILE") met.1 ≡ Some file)
-IsAskedBy (Some met) (Compare left right) = (met.0 ≡ codes "compare")
-    × ((first_of (codes "LEFT") met.1 ≡ Some left) × (first_of (codes "RIGHT") met.1 ≡ Some right))
+IsAskedBy (Some met) (Check file prefer) = (met.0 ≡ codes "check")
+    × ((first_of (codes "FILE") met.1 ≡ Some file) × (first_of (codes "TYPE") met.1 ≡ prefer))
+IsAskedBy (Some met) (Canon file prefer) = (met.0 ≡ codes "canon")
+    × ((first_of (codes "FILE") met.1 ≡ Some file) × (first_of (codes "TYPE") met.1 ≡ prefer))
+IsAskedBy (Some met) (Compare left right prefer) = (met.0 ≡ codes "compare")
+    × ((first_of (codes "LEFT") met.1 ≡ Some left) × ((first_of (codes "RIGHT") met.1 ≡ Some right) × (first_of (codes "TYPE") met.1 ≡ prefer)))
 IsAskedBy _ _ = ⊥

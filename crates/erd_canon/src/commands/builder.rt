@@ -1,9 +1,10 @@
 ghost use Rattle.std.specs.Prelude.{◌≡◌, IfOk, false, map};
-ghost use Rattle.erd_canon.specs.code.Subcommands.{canon_subcommand, check_subcommand, compare_subcommand, file_rule, program};
+ghost use Rattle.erd_canon.specs.code.Subcommands.{canon_subcommand, check_subcommand, compare_subcommand, file_rule, prefer_rule, program};
 ghost use Rattle.clap.specs.Words.{app_of, rule_of};
 ghost use Rattle.clap.specs.declared.builder.command.Command.TheViews.{out-Command};
 
 use crate::commands::help;
+use clap::builder::ValueParser;
 use clap::{Arg, Command};
 use std::alloc::{AllocError, Global};
 
@@ -20,7 +21,7 @@ pub(crate) fn program_command<'a>(alloc: Global) -> Result<Command<'a>, AllocErr
         .subcommand(compare_command(alloc)?)
 }
 
-// `check FILE`.
+// `check FILE`, and the option.
 fn check_command<'a>(alloc: Global) -> Result<Command<'a>, AllocError>
     ensures app { IfOk result (λ command. app_of command ≡ check_subcommand) }
     ensures local { IfOk result (λ command. (out-Command command).has_globals ≡ false) }
@@ -29,10 +30,11 @@ fn check_command<'a>(alloc: Global) -> Result<Command<'a>, AllocError>
         .about(help::CHECK)
         .long_about(help::CHECK_AT_LENGTH)
         .after_help(help::CHECK_ENDS)
+        .arg(prefer_argument(alloc))?
         .arg(file_argument(alloc, "FILE", help::FILE))
 }
 
-// `canon FILE`.
+// `canon FILE`, and the option.
 fn canon_command<'a>(alloc: Global) -> Result<Command<'a>, AllocError>
     ensures app { IfOk result (λ command. app_of command ≡ canon_subcommand) }
     ensures local { IfOk result (λ command. (out-Command command).has_globals ≡ false) }
@@ -41,10 +43,11 @@ fn canon_command<'a>(alloc: Global) -> Result<Command<'a>, AllocError>
         .about(help::CANON)
         .long_about(help::CANON_AT_LENGTH)
         .after_help(help::CANON_ENDS)
+        .arg(prefer_argument(alloc))?
         .arg(file_argument(alloc, "FILE", help::FILE))
 }
 
-// `compare LEFT RIGHT`.
+// `compare LEFT RIGHT`, and the option.
 fn compare_command<'a>(alloc: Global) -> Result<Command<'a>, AllocError>
     ensures app { IfOk result (λ command. app_of command ≡ compare_subcommand) }
     ensures local { IfOk result (λ command. (out-Command command).has_globals ≡ false) }
@@ -53,6 +56,7 @@ fn compare_command<'a>(alloc: Global) -> Result<Command<'a>, AllocError>
         .about(help::COMPARE)
         .long_about(help::COMPARE_AT_LENGTH)
         .after_help(help::COMPARE_ENDS)
+        .arg(prefer_argument(alloc))?
         .arg(file_argument(alloc, "LEFT", help::LEFT))?
         .arg(file_argument(alloc, "RIGHT", help::RIGHT))
 }
@@ -63,4 +67,16 @@ fn file_argument<'a>(alloc: Global, id: &'a str, text: &'a str) -> Arg<'a>
     ensures local { result.global ≡ false }
 {
     Arg::new(alloc, id).required(true).help(text)
+}
+
+// `--prefer TYPE`, which may be left out. An empty type is refused.
+fn prefer_argument<'a>(alloc: Global) -> Arg<'a>
+    ensures rule { rule_of result ≡ prefer_rule }
+    ensures local { result.global ≡ false }
+{
+    Arg::new(alloc, "TYPE")
+        .long("prefer")
+        .value_parser(ValueParser::NonEmptyString)
+        .help(help::PREFER)
+        .long_help(help::PREFER_AT_LENGTH)
 }

@@ -102,3 +102,14 @@ pub const LEFT: &str = "The file that holds the one report";
 
 /// What the right file of `compare` is.
 pub const RIGHT: &str = "The file that holds the other report";
+
+/// What the preferred type is.
+pub const PREFER: &str =
+    "The type of identifier that the keys of objects follow, as fips or local-level";
+
+/// What the preferred type is, what it changes, and when it is wanted.
+pub const PREFER_AT_LENGTH: &str =
+    "The type of identifier that the keys of objects follow, as fips or local-level. The key of an
+object is then the least of its identifiers of this type, and of all where it has none of it.
+Without this option it is the least of all. Objects with one key belong together, so this is for
+reports whose writers agree on the identifiers of one type alone";

@@ -1,3 +1,4 @@
+use crate::commands::prefer::Prefer;
 use erd_tables::Text;
 use std::alloc::AllocError;
 
@@ -9,12 +10,12 @@ pub type FileName = Text;
 pub enum Request {
     /// The canonical form of the report on standard input.
     Filter,
-    /// Whether the report in this file is accepted.
-    Check(FileName),
-    /// The canonical form of the report in this file.
-    Canon(FileName),
-    /// The first difference of the reports in two files, the left one and the right one.
-    Compare(FileName, FileName),
+    /// Whether the report in this file is accepted, under this preference.
+    Check(FileName, Prefer),
+    /// The canonical form of the report in this file, under this preference.
+    Canon(FileName, Prefer),
+    /// The first difference of the reports in two files, the left one and the right one, under this preference.
+    Compare(FileName, FileName, Prefer),
 }
 
 /// Why the words of a command line ask for none of these.

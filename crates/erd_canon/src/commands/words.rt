@@ -1,9 +1,10 @@
-ghost use Rattle.std.specs.Prelude.{◌≡◌, ℕ, List, ◌∷◌, Some, map, MatchResult, string_bytes};
-ghost use Rattle.erd_canon.specs.ExactLines.{HasFileNames, words_of};
+ghost use Rattle.std.specs.Prelude.{◌≡◌, ℕ, List, ◌∷◌, Some, map, MatchResult, codes, string_bytes};
+ghost use Rattle.erd_canon.specs.ExactLines.{HasPlainWords, words_of};
 ghost use Rattle.erd_canon.specs.code.Subcommands.{IsAskedBy};
 ghost use Rattle.clap.specs.Words.{first_of, found_of, kind_of, rows_of, subcommand_rows_of};
 
 use crate::commands::builder::program_command;
+use crate::commands::prefer::Prefer;
 use crate::commands::request::{FileName, LineFault, Request};
 use clap::error::ErrorKind;
 use clap::{ArgMatches, Error};
@@ -12,11 +13,12 @@ use std::alloc::Global;
 
 /// Reads the words of a command line, of which the first is the program's name.
 ///
-/// No further word is `Filter`; `check FILE`, `canon FILE` and `compare LEFT RIGHT` are what they are called, where no
-/// file name is empty or begins with `-`. Of these lines nothing but want of memory is answered in place of the request.
-/// Other words are read as `clap` reads them.
+/// No further word is `Filter`; `check FILE`, `canon FILE` and `compare LEFT RIGHT` are what they are called, with no
+/// preference. With `--prefer TYPE` between the subcommand and the first file name they are that with the preference TYPE.
+/// No file name and no TYPE is empty or begins with `-`. Of these lines nothing but want of memory is answered in place of
+/// the request. Other words are read as `clap` reads them.
 pub fn command_line(alloc: Global, words: &[String]) -> Result<Request, LineFault>
-    ensures exact { (request : Request) (name : List ℕ) → HasFileNames request
+    ensures exact { (request : Request) (name : List ℕ) → HasPlainWords request
         → map string_bytes words.now ≡ name ∷ words_of request
         → MatchResult result (λ answer. answer ≡ request) (λ fault. fault ≡ LineFault.Memory) }
 {
@@ -47,13 +49,14 @@ fn subcommand_request(
     ensures { (request : Request) → IsAskedBy (Some (name.now, rows_of (found_of matches.now))) request
         → MatchResult result (λ answer. answer ≡ request) (λ fault. fault ≡ LineFault.Memory) }
 {
+    let prefer = preference(alloc, matches)?;
     match name {
-        "check" => Ok(Request::Check(file_name(alloc, matches, "FILE")?)),
-        "canon" => Ok(Request::Canon(file_name(alloc, matches, "FILE")?)),
+        "check" => Ok(Request::Check(file_name(alloc, matches, "FILE")?, prefer)),
+        "canon" => Ok(Request::Canon(file_name(alloc, matches, "FILE")?, prefer)),
         _ => {
             let left = file_name(alloc, matches, "LEFT")?;
             let right = file_name(alloc, matches, "RIGHT")?;
-            Ok(Request::Compare(left, right))
+            Ok(Request::Compare(left, right, prefer))
         }
     }
 }
@@ -65,6 +68,17 @@ fn file_name(alloc: Global, matches: &ArgMatches<'_>, id: &str) -> Result<FileNa
 {
     let name = String::from_str(alloc, matches.get_str(id).unwrap_or(""))?;
     Ok(Text::of(name))
+}
+
+// The type that was given for the option, if it was given.
+fn preference(alloc: Global, matches: &ArgMatches<'_>) -> Result<Prefer, LineFault>
+    ensures { MatchResult result (λ answer. answer ≡ first_of (codes "TYPE") (rows_of (found_of matches.now)))
+        (λ fault. fault ≡ LineFault.Memory) }
+{
+    match matches.get_str("TYPE") {
+        Some(kind) => Ok(Prefer::of(Some(Text::of(String::from_str(alloc, kind)?)))),
+        None => Ok(Prefer::of(None)),
+    }
 }
 
 // What is answered where there are no matches.

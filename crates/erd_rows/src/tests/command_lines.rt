@@ -1,5 +1,5 @@
 //! What the words of command lines ask for.
-use erd_canon::{LineFault, Request, command_line};
+use erd_canon::{LineFault, Prefer, Request, command_line};
 use std::alloc::{AllocError, Global};
 use std::test::Fail;
 
@@ -13,22 +13,31 @@ pub fn line_of(alloc: Global, words: &[&str]) -> Result<Vec<String>, AllocError>
     Ok(line)
 }
 
-// What is answered for the words, with the names of files in brackets.
+// The preference in brackets, if there is one.
+fn under(alloc: Global, prefer: &Prefer) -> Result<String, AllocError> {
+    match prefer.text() {
+        Some(kind) => format!(in alloc; " under [{kind}]"),
+        None => String::from_str(alloc, ""),
+    }
+}
+
+// What is answered for the words, with the names of files and the preference in brackets.
 fn answer(alloc: Global, words: &[&str]) -> Result<String, AllocError> {
     let line = line_of(alloc, words)?;
     match command_line(alloc, line.as_slice()) {
         Ok(Request::Filter) => String::from_str(alloc, "filter"),
-        Ok(Request::Check(file)) => {
-            let file = file.as_str();
-            format!(in alloc; "check [{file}]")
+        Ok(Request::Check(file, prefer)) => {
+            let (file, prefer) = (file.as_str(), under(alloc, &prefer)?);
+            format!(in alloc; "check [{file}]{prefer}")
         }
-        Ok(Request::Canon(file)) => {
-            let file = file.as_str();
-            format!(in alloc; "canon [{file}]")
+        Ok(Request::Canon(file, prefer)) => {
+            let (file, prefer) = (file.as_str(), under(alloc, &prefer)?);
+            format!(in alloc; "canon [{file}]{prefer}")
         }
-        Ok(Request::Compare(left, right)) => {
+        Ok(Request::Compare(left, right, prefer)) => {
             let (left, right) = (left.as_str(), right.as_str());
-            format!(in alloc; "compare [{left}] [{right}]")
+            let prefer = under(alloc, &prefer)?;
+            format!(in alloc; "compare [{left}] [{right}]{prefer}")
         }
         Err(LineFault::Help(_)) => String::from_str(alloc, "help"),
         Err(LineFault::Usage(_)) => String::from_str(alloc, "usage"),
@@ -37,7 +46,7 @@ fn answer(alloc: Global, words: &[&str]) -> Result<String, AllocError> {
 }
 
 // Each line is answered so.
-fn all_are(alloc: Global, lines: &[(&[&str], &str)]) -> Result<(), Fail> {
+pub fn all_are(alloc: Global, lines: &[(&[&str], &str)]) -> Result<(), Fail> {
     for (words, wanted) in lines {
         let found = answer(alloc, words)?;
         if found.as_str() != *wanted {
@@ -139,7 +148,6 @@ fn wrong_lines(rt: HostRuntime) -> Result<(), Fail> {
             (&["canon", "a", "b"], "usage"),
             (&["compare", "a", "b", "c"], "usage"),
             (&["--check", "a"], "usage"),
-            (&["check", "--prefer", "a"], "usage"),
             (&["--version"], "usage"),
             (&["help", "nosuch"], "usage"),
         ],
@@ -186,19 +194,22 @@ fn texts_of_help(rt: HostRuntime) -> Result<(), Fail> {
         "Example:\n  erd < report.json > canonical.json\n",
     ];
     let check: &[&str] = &[
-        "Usage: erd check <FILE>\n",
+        "Usage: erd check [OPTIONS] <FILE>\n",
+        "--prefer <TYPE>",
         "standard output `accepted`",
         "Exit status:\n  0  accepted\n",
         "Example:\n  erd check report.json\n",
     ];
     let canon: &[&str] = &[
-        "Usage: erd canon <FILE>\n",
+        "Usage: erd canon [OPTIONS] <FILE>\n",
+        "--prefer <TYPE>",
         "canonical form to standard output",
         "Exit status:\n  0  written\n",
         "Example:\n  erd canon report.json > canonical.json\n",
     ];
     let compare: &[&str] = &[
-        "Usage: erd compare <LEFT> <RIGHT>\n",
+        "Usage: erd compare [OPTIONS] <LEFT> <RIGHT>\n",
+        "--prefer <TYPE>",
         "standard output `same`",
         "Exit status:\n  0  same\n",
         "Example:\n  erd compare vendor-a.json vendor-b.json\n",
@@ -236,7 +247,7 @@ fn texts_of_usage(rt: HostRuntime) -> Result<(), Fail> {
             ),
             (
                 &["canon", "a", "b"],
-                &["error: ", "'b'", "Usage: erd canon <FILE>\n"],
+                &["error: ", "'b'", "Usage: erd canon [OPTIONS] <FILE>\n"],
             ),
         ],
     )

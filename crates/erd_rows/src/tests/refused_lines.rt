@@ -4,14 +4,16 @@ use crate::tests::refused::{Answer, is_pair};
 use erd_canon::{LineFault, Request, command_line};
 use std::alloc::Global;
 
-// What is answered for the words of a comparison.
+// What is answered for the words of a comparison under a preference.
 fn comparison(alloc: Global) -> Answer {
-    let Ok(line) = line_of(alloc, &["compare", "left", "right"]) else {
+    let words = ["compare", "--prefer", "fips", "left", "right"];
+    let Ok(line) = line_of(alloc, words.as_slice()) else {
         return Answer::WantsMemory;
     };
     match command_line(alloc, line.as_slice()) {
-        Ok(Request::Compare(left, right)) => {
-            if left.as_str() == "left" && right.as_str() == "right" {
+        Ok(Request::Compare(left, right, prefer)) => {
+            let is_fips = matches!(prefer.text(), Some("fips"));
+            if left.as_str() == "left" && right.as_str() == "right" && is_fips {
                 Answer::Right
             } else {
                 Answer::Wrong

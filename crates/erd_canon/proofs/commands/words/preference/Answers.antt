@@ -1,0 +1,21 @@
+use Rattle.std.proofs.Common.{◌≡◌, ◌∙◌, ap, sym, Option, List, ℕ, Some, option_map, codes}
+use Rattle.std.specs.Borrow.{Bor}
+use Rattle.clap.specs.Words.{first_of, found_of, rows_of}
+use Rattle.clap.proofs.WalkLemmas.{first_value-rows}
+use Rattle.erd_canon.proofs.commands.words.preference.Goals as goal
+
+-- the text behind the reference, if there is one
+abbrev text_of : Option (Bor (List ℕ)) → Option (List ℕ)
+text_of = option_map (λ s. s.now)
+
+pub returns-in_ok-from_str-in-Some : goal.returns-in_ok-from_str-in-Some
+returns-in_ok-from_str-in-Some c =
+    let found : text_of c.get_str.result ≡ first_of (codes "TYPE") (rows_of (found_of c.args.matches.now)) =
+    c.get_str.ensures ∙ first_value-rows (found_of c.args.matches.now) (codes "TYPE") in
+    c.of-in-Some.ensures ∙ ap Some (c.of.ensures ∙ c.in_ok-from_str-in-Some.ensures.ok) ∙ ap text_of (sym c.in-Some.is) ∙ found
+
+pub returns-in-None : goal.returns-in-None
+returns-in-None c =
+    let found : text_of c.get_str.result ≡ first_of (codes "TYPE") (rows_of (found_of c.args.matches.now)) =
+    c.get_str.ensures ∙ first_value-rows (found_of c.args.matches.now) (codes "TYPE") in
+    c.of-in-None.ensures ∙ ap text_of (sym c.in-None.is) ∙ found
