@@ -1,5 +1,8 @@
+pub mod StepWalks
+pub mod RisingTables
 pub mod LesserNames
 pub mod KeyedRecords
-pub mod LeastDifferences
+pub mod KeyTables
+pub mod KeyWalks
 pub mod PartsTold
 pub mod PartsInOrder

@@ -31,8 +31,8 @@ const PARTS: [Part; 10] = [
 /// differs. Reports differ in a contest's selections at its member `ContestSelection`, in a ballot's order at its member
 /// `OrderedContent`.
 ///
-/// Nothing is built to compare, and no record is copied: members are compared where they stand, references by the keys that
-/// they name. Each object is looked up by its key by going over the objects.
+/// No record is copied or built: members are compared where they stand, references by the keys that they name. The keys of both
+/// reports in a family are sorted and walked in step, and the first of them at which the reports differ ends the walk.
 pub fn first_difference(
     alloc: Global,
     left: &Report,

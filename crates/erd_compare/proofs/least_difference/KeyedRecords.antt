@@ -1,5 +1,6 @@
--- The object of a family with a key, and its record: each object of an accepted report has a record, and no two have one key.
-use Rattle.std.proofs.Common.{◌≡◌, ℕ, ◌⊎◌, inl, inr, true, Option, Some, None, option_and_then, option_map, find, refl, sym, ap, ◌∙◌, subst}
+-- The object of a family at a position, and the record at its key: each object of an accepted report has a record, and no two
+-- have one key.
+use Rattle.std.proofs.Common.{◌≡◌, ℕ, zero, suc, inl, inr, List, [], ◌∷◌, true, Option, Some, None, option_and_then, option_map, find, refl, sym, ap, ◌∙◌, subst}
 use Rattle.std.specs.Cmp.{Equal-is}
 use Rattle.std.specs.List.{slice_get}
 use Rattle.std.specs.Option.{option_cmp}
@@ -13,8 +14,8 @@ use Rattle.erd_tables.specs.declared.class.Role.TheVariants as role
 use Rattle.erd_check.specs.Wants.{asked, class_of_object}
 use Rattle.erd_check.specs.declared.want.Want.TheVariants.{Object}
 use Rattle.erd_check.proofs.ObjectsAt.{ObjectIn, object_in}
-use Rattle.erd_check.proofs.Order.{any_at}
-use Rattle.erd_check.proofs.Rising.{Has}
+use Rattle.erd_check.proofs.Order.{In, any_at}
+use Rattle.erd_check.proofs.Rising.{Has, here, later}
 use Rattle.erd_check.proofs.Shapes.{Within}
 use Rattle.erd_meaning.specs.Keys.{Preference, has_keys, key_cmp, key_of, key_of_family_object}
 use Rattle.erd_meaning.specs.Lookups.{key_in}
@@ -29,10 +30,12 @@ use Rattle.erd_meaning.proofs.accepted.Phases.{no_identity_fault, no_shape_fault
 use Rattle.erd_meaning.proofs.accepted.References.{find-Some, find-any, option_map-Some}
 use Rattle.erd_meaning.proofs.accepted.Standing.{stands}
 use Rattle.erd_meaning.proofs.meanings.WholeMeanings.{has_key}
-use Rattle.erd_compare.specs.code.Comparing.{IsWholeTree}
+use Rattle.erd_compare.specs.code.Comparing.{IsWholeTree, TellsHow}
 use Rattle.erd_compare.specs.Differences.{Differ}
-use Rattle.erd_compare.specs.code.KeyedDifferences.{HasKey, IsComparable}
+use Rattle.erd_compare.specs.code.KeyedDifferences.{HasKey, IsComparable, TellsAtPositions}
+use Rattle.erd_compare.specs.declared.difference.How.{How}
 use Rattle.erd_compare.specs.declared.difference.How.TheVariants.{OnlyLeft, OnlyRight}
+use Rattle.erd_compare.proofs.least_difference.StepWalks.{IsNoneBeside}
 use Rattle.erd_compare.proofs.same_values.ReferencedKeys.{position_of}
 use Rattle.erd_compare.proofs.whole_trees.FamilyTrees.{whole_object}
 
@@ -78,9 +81,9 @@ module _ (π : Preference) (t : Data) (c : IsComparable π t) (f : Family) (keye
   -- the object at a position is found by its key
   find_at : (k : Key) (i : ℕ) → key_in π f t i ≡ Some k → find (has_key π k) (objects f t) ≡ slice_get (objects f t) i
   find_at k i e =
-      let here = part_of (λ (x : Placed). key_of_family_object π f x.value) (slice_get (objects f t) i) k e in
-      let its : key_of π here.0.value ≡ Some k = sym (kept_key_is here.0.value) ∙ here.2 in
-      let found = find-any (has_key π k) (objects f t) (any_at (has_key π k) here.0 (objects f t) (in_at (objects f t) i here.0 here.1) (has_its_key π k here.0 its)) in
+      let one = part_of (λ (x : Placed). key_of_family_object π f x.value) (slice_get (objects f t) i) k e in
+      let its : key_of π one.0.value ≡ Some k = sym (kept_key_is one.0.value) ∙ one.2 in
+      let found = find-any (has_key π k) (objects f t) (any_at (has_key π k) one.0 (objects f t) (in_at (objects f t) i one.0 one.1) (has_its_key π k one.0 its)) in
       let place = position_of (objects f t) found.0 found.3 in
       let same : place.0 ≡ i = one_key π t f k place.0 i (no_identity_fault π t c.accepted) (key_at place.0 found.0 place.1 ∙ its_key π k found.0 found.2) e in
       found.1 ∙ sym place.1 ∙ ap (slice_get (objects f t)) same
@@ -92,24 +95,6 @@ module _ (π : Preference) (t : Data) (c : IsComparable π t) (f : Family) (keye
   -- an object with a key is one at a position
   pub object_has : (k : Key) (d : Data) → object_with_key π t f k ≡ Some d → HasKey π t f k
   object_has k d e = let o = option_map-Some (λ (o : Placed). o.value) (find (has_key π k) (objects f t)) d e in found_has k o.0 o.1
-
-  pub object_absent : (k : Key) → (HasKey π t f k → ⊥) → object_with_key π t f k ≡ None
-  object_absent k none = at (object_with_key π t f k) refl
-    where
-      at : (o : Option Data) → object_with_key π t f k ≡ o → object_with_key π t f k ≡ None
-      at None is = is
-      at (Some d) is = absurd (none (object_has k d is))
-
-  -- a key is that of an object, or of none
-  pub key_or_none : (k : Key) → HasKey π t f k ⊎ (HasKey π t f k → ⊥)
-  key_or_none k = at (object_with_key π t f k) refl
-    where
-      at : (o : Option Data) → object_with_key π t f k ≡ o → HasKey π t f k ⊎ (HasKey π t f k → ⊥)
-      at None is =
-          inr (λ h.
-          let here = part_of (λ (x : Placed). key_of_family_object π f x.value) (slice_get (objects f t) h.0) k h.1 in
-          let clash : Some here.0.value ≡ None = sym (ap (option_map (λ (o : Placed). o.value)) here.1) ∙ object_at_key k h.0 h.1 ∙ is in cc)
-      at (Some d) is = inl (object_has k d is)
 
   -- ---- records
 
@@ -137,42 +122,49 @@ module _ (π : Preference) (t : Data) (c : IsComparable π t) (f : Family) (keye
   record_absent : (k : Key) → object_with_key π t f k ≡ None → records_of π t f k ≡ None
   record_absent k e = records_keyed π t f k keyed ∙ ap (option_and_then (object_record π t (role.OfFamily f))) e
 
-  -- an object with a key is a whole tree
-  pub object_whole : (k : Key) (d : Data) → object_with_key π t f k ≡ Some d → IsWholeTree d
-  object_whole k d e = let o = one_of k d e in subst IsWholeTree o.2 (whole_object t f c.whole o.0 o.1)
+  -- an object of the family that has the key has a record
+  pub record_at : (k : Key) (i : ℕ) → key_in π f t i ≡ Some k → (r : ObjectRecord) × (records_of π t f k ≡ Some r)
+  record_at k i is =
+      let one = part_of (λ (x : Placed). key_of_family_object π f x.value) (slice_get (objects f t) i) k is in
+      record_with k one.0.value (sym (object_at_key k i is) ∙ ap (option_map (λ (o : Placed). o.value)) one.1)
+
+  -- a key has no record, unless it is among these, among which is each key of an object
+  pub none_beside : (ks : List Key) → ((k : Key) → HasKey π t f k → In k ks) → (k : Key) → IsNoneBeside (records_of π t f) ks k
+  none_beside ks all k = at (object_with_key π t f k) refl
+    where
+      at : (o : Option Data) → object_with_key π t f k ≡ o → IsNoneBeside (records_of π t f) ks k
+      at None is = inl (record_absent k is)
+      at (Some d) is = inr (all k (object_has k d is))
+
+  -- what the object at a position means is the record at its key
+  pub record_here : (k : Key) (i : ℕ) (d : Data) → key_in π f t i ≡ Some k → Some d ≡ option_map (λ o. o.value) (slice_get (objects f t) i)
+      → object_record π t (role.OfFamily f) d ≡ records_of π t f k
+  record_here k i d is found =
+      sym (records_keyed π t f k keyed ∙ ap (option_and_then (object_record π t (role.OfFamily f))) (sym (found ∙ object_at_key k i is)))
+
+has_at : {A : Type 0} (xs : List A) (i : ℕ) (x : A) → slice_get xs i ≡ Some x → Has xs x
+has_at [] i x e = cc
+has_at (y ∷ xs) zero x e = let same : y ≡ x = cc in subst (Has (y ∷ xs)) same here
+has_at (y ∷ xs) (suc i) x e = later (has_at xs i x e)
+
+-- the object at a position is a whole tree
+pub whole_here : (π : Preference) (t : Data) (c : IsComparable π t) (f : Family) (i : ℕ) (d : Data) → Some d ≡ option_map (λ o. o.value) (slice_get (objects f t) i) → IsWholeTree d
+whole_here π t c f i d found =
+    let o = option_map-Some (λ (o : Placed). o.value) (slice_get (objects f t) i) d (sym found) in
+    subst IsWholeTree o.2 (whole_object t f c.whole o.0 (has_at (objects f t) i o.0 o.1))
 
 -- ---- two reports
 
-differ_left : (a b : Option ObjectRecord) (r : ObjectRecord) → a ≡ Some r → b ≡ None → Differ a b OnlyLeft
+pub differ_left : (a b : Option ObjectRecord) (r : ObjectRecord) → a ≡ Some r → b ≡ None → Differ a b OnlyLeft
 differ_left a b r e g = subst (λ x. Differ x b OnlyLeft) (sym e) (subst (λ x. Differ (Some r) x OnlyLeft) (sym g) refl)
 
-differ_right : (a b : Option ObjectRecord) (r : ObjectRecord) → a ≡ None → b ≡ Some r → Differ a b OnlyRight
+pub differ_right : (a b : Option ObjectRecord) (r : ObjectRecord) → a ≡ None → b ≡ Some r → Differ a b OnlyRight
 differ_right a b r e g = subst (λ x. Differ x b OnlyRight) (sym e) (subst (λ x. Differ None x OnlyRight) (sym g) refl)
 
--- an object whose key the other report lacks is told of one side
-pub only_left : (π ρ : Preference) (t u : Data) (f : Family) (k : Key) (d : Data) → IsComparable π t → IsComparable ρ u → has_keys f ≡ true → object_with_key π t f k ≡ Some d → object_with_key ρ u f k ≡ None
-    → Differ (records_of π t f k) (records_of ρ u f k) OnlyLeft
-only_left π ρ t u f k d c e keyed left right =
-    let r = record_with π t c f keyed k d left in
-    differ_left (records_of π t f k) (records_of ρ u f k) r.0 r.1 (record_absent ρ u e f keyed k right)
-
-pub only_right : (π ρ : Preference) (t u : Data) (f : Family) (k : Key) (i : ℕ) → IsComparable π t → IsComparable ρ u → has_keys f ≡ true → (HasKey π t f k → ⊥) → key_in ρ f u i ≡ Some k
-    → Differ (records_of π t f k) (records_of ρ u f k) OnlyRight
-only_right π ρ t u f k i c e keyed none is =
-    let here = part_of (λ (x : Placed). key_of_family_object ρ f x.value) (slice_get (objects f u) i) k is in
-    let d : object_with_key ρ u f k ≡ Some here.0.value = sym (object_at_key ρ u e f keyed k i is) ∙ ap (option_map (λ (o : Placed). o.value)) here.1 in
-    let r = record_with ρ u e f keyed k here.0.value d in
-    differ_right (records_of π t f k) (records_of ρ u f k) r.0 (record_absent π t c f keyed k (object_absent π t c f keyed k none)) r.1
-
--- a key of neither has no record in either
-pub neither_record : (π ρ : Preference) (t u : Data) (f : Family) (k : Key) → IsComparable π t → IsComparable ρ u → has_keys f ≡ true → (HasKey π t f k → ⊥) → (HasKey ρ u f k → ⊥) → records_of π t f k ≡ records_of ρ u f k
-neither_record π ρ t u f k c e keyed left right =
-    record_absent π t c f keyed k (object_absent π t c f keyed k left) ∙ sym (record_absent ρ u e f keyed k (object_absent ρ u e f keyed k right))
-
--- what is said of the records of two objects is said of the records at their key
-pub records_at_key : (π ρ : Preference) (Q : Option ObjectRecord → Option ObjectRecord → Type 0) (t u : Data) (f : Family) (k : Key) (d e : Data) → has_keys f ≡ true
-    → object_with_key π t f k ≡ Some d → object_with_key ρ u f k ≡ Some e → Q (object_record π t (role.OfFamily f) d) (object_record ρ u (role.OfFamily f) e) → Q (records_of π t f k) (records_of ρ u f k)
-records_at_key π ρ Q t u f k d e keyed left right h =
-    let one : object_record π t (role.OfFamily f) d ≡ records_of π t f k = sym (records_keyed π t f k keyed ∙ ap (option_and_then (object_record π t (role.OfFamily f))) left) in
-    let other : object_record ρ u (role.OfFamily f) e ≡ records_of ρ u f k = sym (records_keyed ρ u f k keyed ∙ ap (option_and_then (object_record ρ u (role.OfFamily f))) right) in
-    subst (λ x. Q x (records_of ρ u f k)) one (subst (λ x. Q (object_record π t (role.OfFamily f) d) x) other h)
+-- what is told of the objects at two positions is told of their records at a key that both have
+pub records_here : (π ρ : Preference) (t u : Data) (c : IsComparable π t) (d : IsComparable ρ u) (f : Family) (keyed : has_keys f ≡ true) (i j : ℕ) (one other : Data)
+    → Some one ≡ option_map (λ o. o.value) (slice_get (objects f t) i) → Some other ≡ option_map (λ o. o.value) (slice_get (objects f u) j) → (how : Option How)
+    → TellsHow (object_record π t (role.OfFamily f) one) (object_record ρ u (role.OfFamily f) other) how → TellsAtPositions π ρ t u f i j how
+records_here π ρ t u c d f keyed i j one other left right how told k mine its =
+    subst (λ x. TellsHow x (records_of ρ u f k) how) (record_here π t c f keyed k i one mine left)
+    (subst (λ y. TellsHow (object_record π t (role.OfFamily f) one) y how) (record_here ρ u d f keyed k j other its right) told)

@@ -1,7 +1,7 @@
--- The least key at which two reports differ in a family, among the keys that were gone over.
-use Rattle.std.specs.Prelude.{◌≡◌, ℕ, if◌then◌else◌, Option, Some, None, ⊤}
-use Rattle.std.specs.Ordering.{is_lt}
-use Rattle.std.specs.declared.cmp.Ordering.TheVariants.{Less}
+-- The least key at which two reports differ in a family.
+use Rattle.std.specs.Prelude.{◌≡◌, ℕ, List, map, Option, Some, None}
+use Rattle.std.specs.List.{AllByRecursion, Contains}
+use Rattle.std.specs.List.Sorted.{IsStrictlySortedBy}
 use Rattle.serde_json.specs.Data.{Data}
 use Rattle.erd_tables.specs.declared.class.Family.{Family}
 use Rattle.erd_tables.specs.declared.class.Family.TheVariants as family
@@ -9,14 +9,16 @@ use Rattle.erd_meaning.specs.Accepted.{IsAccepted}
 use Rattle.erd_meaning.specs.Keys.{Preference, key_cmp}
 use Rattle.erd_meaning.specs.Lookups.{key_in}
 use Rattle.erd_meaning.specs.Meaning.{ObjectRecord}
+use Rattle.erd_meaning.specs.Records.{records_of}
 use Rattle.erd_meaning.specs.declared.keys.key.Key.{Key}
-use Rattle.erd_compare.specs.code.Comparing.{DifferAtKey, IsWholeTree}
+use Rattle.erd_compare.specs.code.Comparing.{DifferAtKey, IsWholeTree, TellsHow}
 use Rattle.erd_compare.specs.Differences.{Differ}
 use Rattle.erd_compare.specs.declared.difference.Difference.{Difference}
 use Rattle.erd_compare.specs.declared.difference.How.{How}
 use Rattle.erd_compare.specs.declared.difference.Part.{Part}
 use Rattle.erd_compare.specs.declared.difference.Part.TheVariants as part
 use Rattle.erd_compare.specs.declared.first.families.KeyedDifference.{KeyedDifference}
+use denote.Ref.{Bor}
 
 -- ---- reports
 
@@ -38,36 +40,31 @@ family_of_part part.Candidate = Some family.Candidate
 family_of_part part.Contest = Some family.Contest
 family_of_part part.Style = Some family.Style
 
--- ---- keys that are gone over
+-- ---- tables of keys
 
 -- an object of the family has the key
 abbrev pub HasKey : Preference → Data → Family → Key → Type 0
 HasKey π t f k = (i : ℕ) × (key_in π f t i ≡ Some k)
 
--- an object of the family has the key in the second report, and none in the first
-abbrev pub HasKeyAlone : Preference → Preference → Data → Data → Family → Key → Type 0
-HasKeyAlone π ρ t u f k = HasKey ρ u f k × (HasKey π t f k → ⊥)
+-- the keys of a table
+abbrev pub keys_of : List (Bor Key × ℕ) → List Key
+keys_of entries = map (λ e. e.0.now) entries
 
--- any key
-abbrev pub IsAnyKey : Key → Type 0
-IsAnyKey k = ⊤
+-- the keys of a report in a family, rising, each with the position of its object
+pub record IsKeyTable (π : Preference) (t : Data) (f : Family) (entries : List (Bor Key × ℕ)) : Type 0 where
+  pub rises : IsStrictlySortedBy key_cmp (keys_of entries)
+  pub stand : AllByRecursion (λ e. key_in π f t e.1 ≡ Some e.0.now) entries
+  pub all : (k : Key) → HasKey π t f k → Contains (keys_of entries) k
 
--- ---- the least of them at which two maps differ
+-- how the objects at two positions differ, which have one key
+abbrev pub TellsAtPositions : Preference → Preference → Data → Data → Family → ℕ → ℕ → Option How → Type 0
+TellsAtPositions π ρ t u f i j how =
+    (k : Key) → key_in π f t i ≡ Some k → key_in ρ f u j ≡ Some k → TellsHow (records_of π t f k) (records_of ρ u f k) how
 
--- the maps differ at the key, and at no lesser one of these
-pub record DifferAmongKeys (m n : Key → Option ObjectRecord) (Among : Key → Type 0) (key : Key) (how : How) : Type 0 where
-  pub differ : Differ (m key) (n key) how
-  pub least : (k : Key) → Among k → key_cmp k key ≡ Less → m k ≡ n k
-
--- the least of these keys at which the maps differ, and none exactly if they differ at none
-abbrev pub TellsAmongKeys : (Key → Option ObjectRecord) → (Key → Option ObjectRecord) → (Key → Type 0) → Option KeyedDifference → Type 0
-TellsAmongKeys m n Among None = (k : Key) → Among k → m k ≡ n k
-TellsAmongKeys m n Among (Some d) = DifferAmongKeys m n Among d.key.now d.how
-
--- the one with the lesser key
-abbrev pub lesser_difference : Option KeyedDifference → KeyedDifference → KeyedDifference
-lesser_difference None other = other
-lesser_difference (Some one) other = if is_lt (key_cmp one.key.now other.key.now) then one else other
+-- the least key at which two maps differ, and none exactly if they differ at none
+abbrev pub TellsLeast : (Key → Option ObjectRecord) → (Key → Option ObjectRecord) → Option KeyedDifference → Type 0
+TellsLeast m n None = (k : Key) → m k ≡ n k
+TellsLeast m n (Some d) = DifferAtKey m n d.key.now d.how
 
 -- ---- told by part
 

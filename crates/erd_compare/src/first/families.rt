@@ -1,24 +1,43 @@
-ghost use Rattle.std.specs.Prelude.{◌≡◌, true, option_map, IfOk};
+ghost use Rattle.std.specs.Prelude.{◌≡◌, true, IfOk};
 ghost use Rattle.serde_json.specs.View.{view};
 ghost use Rattle.erd_meaning.specs.Keys.{has_keys};
-ghost use Rattle.erd_meaning.specs.Lookups.{key_in};
-ghost use Rattle.erd_meaning.specs.Records.{object_with_key, records_of};
-ghost use Rattle.erd_compare.specs.code.Comparing.{TellsHow};
-ghost use Rattle.erd_compare.specs.code.KeyedDifferences.{HasKey, HasKeyAlone, IsAnyKey, IsComparable, lesser_difference, TellsAmongKeys, TellsKeyed};
+ghost use Rattle.erd_meaning.specs.Records.{records_of};
+ghost use Rattle.erd_compare.specs.code.KeyedDifferences.{IsComparable, IsKeyTable, TellsAtPositions, TellsKeyed, TellsLeast};
+ghost use Rattle.erd_compare.specs.declared.difference.How.TheVariants.{OnlyLeft, OnlyRight};
 
 use crate::difference::{Difference, How, Part};
 use crate::objects::records::object_difference;
 use crate::sides::Sides;
 use erd_meaning::{Key, Report};
 use erd_tables::{Family, Role};
-use serde_json::Value;
 use std::alloc::{AllocError, Global};
+use std::cmp::Ordering;
 
 /// A difference of two reports at the objects of a family with a key.
 #[derive(Drop)]
 struct KeyedDifference<'a> {
     key: &'a Key,
     how: How,
+}
+
+impl<'a> KeyedDifference<'a> {
+    /// The left report alone has an object with the key.
+    fn only_left(key: &'a Key) -> KeyedDifference<'a>
+        ensures key { result.key.now ≡ key.now }
+        ensures how { result.how ≡ OnlyLeft }
+    {
+        let how = How::OnlyLeft;
+        KeyedDifference { key, how }
+    }
+
+    /// The right report alone has an object with the key.
+    fn only_right(key: &'a Key) -> KeyedDifference<'a>
+        ensures key { result.key.now ≡ key.now }
+        ensures how { result.how ≡ OnlyRight }
+    {
+        let how = How::OnlyRight;
+        KeyedDifference { key, how }
+    }
 }
 
 /// The difference at the least key at which two reports differ in a family.
@@ -42,7 +61,8 @@ pub(crate) fn family_difference(
     }
 }
 
-/// The least key at which two reports differ in a family.
+/// The least key at which two reports differ in a family. Their tables of keys rise and are walked in step: the first key that
+/// one of them has alone, or whose objects differ, is the least.
 fn least_difference<'a>(
     alloc: Global,
     sides: Sides<'a>,
@@ -51,104 +71,70 @@ fn least_difference<'a>(
     requires left { IsComparable sides.left.now.prefer (view sides.left.now.tree) }
     requires right { IsComparable sides.right.now.prefer (view sides.right.now.tree) }
     requires keyed { has_keys family ≡ true }
-    ensures { IfOk result (TellsAmongKeys (records_of sides.entry.left.now.prefer (view sides.entry.left.now.tree) family) (records_of sides.entry.right.now.prefer (view sides.entry.right.now.tree) family) IsAnyKey) }
+    ensures { IfOk result (TellsLeast (records_of sides.entry.left.now.prefer (view sides.entry.left.now.tree) family) (records_of sides.entry.right.now.prefer (view sides.entry.right.now.tree) family)) }
 {
-    let least = least_of_left(alloc, sides, family)?;
-    match least_of_right(sides, family) {
-        Some(other) => Ok(Some(lesser_difference(least, other))),
-        None => Ok(least),
+    let ones = key_table(alloc, sides.left, family)?;
+    let others = key_table(alloc, sides.right, family)?;
+    let mut rest = others.iter();
+    for &(key, index) in &ones {
+        let Some(&(other_key, other_index)) = rest.next() else {
+            return Ok(Some(KeyedDifference::only_left(key)));
+        };
+        match key.cmp(other_key) {
+            Ordering::Less => return Ok(Some(KeyedDifference::only_left(key))),
+            Ordering::Greater => return Ok(Some(KeyedDifference::only_right(other_key))),
+            Ordering::Equal => {
+                if let Some(how) = difference_at(alloc, sides, family, index, other_index)? {
+                    return Ok(Some(KeyedDifference { key, how }));
+                }
+            }
+        }
+    }
+    match rest.next() {
+        Some(&(key, _)) => Ok(Some(KeyedDifference::only_right(key))),
+        None => Ok(None),
     }
 }
 
-/// The least key of the left report at which the two differ in a family.
-fn least_of_left<'a>(
+/// The keys of a report in a family, rising, each with the position of its object.
+fn key_table<'a>(
     alloc: Global,
-    sides: Sides<'a>,
+    report: &'a Report,
     family: Family,
-) -> Result<Option<KeyedDifference<'a>>, AllocError>
-    requires left { IsComparable sides.left.now.prefer (view sides.left.now.tree) }
-    requires right { IsComparable sides.right.now.prefer (view sides.right.now.tree) }
-    requires keyed { has_keys family ≡ true }
-    ensures { IfOk result (TellsAmongKeys (records_of sides.entry.left.now.prefer (view sides.entry.left.now.tree) family) (records_of sides.entry.right.now.prefer (view sides.entry.right.now.tree) family) (HasKey sides.entry.left.now.prefer (view sides.entry.left.now.tree) family)) }
+) -> Result<Vec<(&'a Key, usize)>, AllocError>
+    requires comparable { IsComparable report.now.prefer (view report.now.tree) }
+    ensures { IfOk result (λ table. IsKeyTable report.now.prefer (view report.now.tree) family table.items) }
 {
-    let mut least = None;
-    for index in 0..sides.left.count(family) {
-        if let Some(key) = sides.left.key_at(family, index) {
-            if let Some(how) = difference_at(alloc, sides, family, index, key)? {
-                least = Some(lesser_difference(least, KeyedDifference { key, how }));
-            }
+    let mut table = Vec::with_capacity(alloc, report.count(family))?;
+    for index in 0..report.count(family) {
+        if let Some(key) = report.key_at(family, index) {
+            table.push((key, index))?;
         }
     }
-    Ok(least)
+    table.sort_unstable();
+    Ok(table)
 }
 
-/// The least key of the right report that the left one lacks in a family.
-fn least_of_right<'a>(sides: Sides<'a>, family: Family) -> Option<KeyedDifference<'a>>
-    requires left { IsComparable sides.left.now.prefer (view sides.left.now.tree) }
-    requires right { IsComparable sides.right.now.prefer (view sides.right.now.tree) }
-    requires keyed { has_keys family ≡ true }
-    ensures { TellsAmongKeys (records_of sides.entry.left.now.prefer (view sides.entry.left.now.tree) family) (records_of sides.entry.right.now.prefer (view sides.entry.right.now.tree) family) (HasKeyAlone sides.entry.left.now.prefer sides.entry.right.now.prefer (view sides.entry.left.now.tree) (view sides.entry.right.now.tree) family) result }
-{
-    let mut least = None;
-    for index in 0..sides.right.count(family) {
-        if let Some(key) = sides.right.key_at(family, index) {
-            if sides.left.find(family, key).is_none() {
-                let how = How::OnlyRight;
-                least = Some(lesser_difference(least, KeyedDifference { key, how }));
-            }
-        }
-    }
-    least
-}
-
-/// The one with the lesser key.
-fn lesser_difference<'a>(
-    least: Option<KeyedDifference<'a>>,
-    other: KeyedDifference<'a>,
-) -> KeyedDifference<'a>
-    ensures { result ≡ lesser_difference least.entry other.entry }
-{
-    let Some(least) = least else {
-        return other;
-    };
-    if least.key.cmp(other.key).is_lt() {
-        least
-    } else {
-        other
-    }
-}
-
-/// How the object of the left report at a position and the object of the right one with its key differ.
+/// How the objects of two reports at these positions, which have one key, differ.
 fn difference_at(
     alloc: Global,
     sides: Sides,
     family: Family,
     index: usize,
-    key: &Key,
+    other_index: usize,
 ) -> Result<Option<How>, AllocError>
     requires left { IsComparable sides.left.now.prefer (view sides.left.now.tree) }
     requires right { IsComparable sides.right.now.prefer (view sides.right.now.tree) }
     requires keyed { has_keys family ≡ true }
-    requires its_key { key_in sides.left.now.prefer family (view sides.left.now.tree) index ≡ Some key.now }
-    ensures { IfOk result (TellsHow (records_of sides.entry.left.now.prefer (view sides.entry.left.now.tree) family key.now) (records_of sides.entry.right.now.prefer (view sides.entry.right.now.tree) family key.now)) }
+    ensures { IfOk result (TellsAtPositions sides.entry.left.now.prefer sides.entry.right.now.prefer (view sides.entry.left.now.tree) (view sides.entry.right.now.tree) family index other_index) }
 {
-    // a position that has a key has an object
-    let Some(one) = sides.left.object(family, index) else {
-        return Ok(None);
-    };
     let role = Role::OfFamily(family);
-    match object_of(sides.right, family, key) {
-        Some(other) => object_difference(alloc, sides, role, one, other),
-        None => Ok(Some(How::OnlyLeft)),
+    match (
+        sides.left.object(family, index),
+        sides.right.object(family, other_index),
+    ) {
+        (Some(one), Some(other)) => object_difference(alloc, sides, role, one, other),
+        // a position that has a key has an object
+        _ => Ok(None),
     }
-}
-
-/// The object of a family with a key.
-fn object_of<'a>(report: &'a Report, family: Family, key: &Key) -> Option<&'a Value>
-    requires comparable { IsComparable report.now.prefer (view report.now.tree) }
-    requires keyed { has_keys family ≡ true }
-    ensures { option_map (λ v. view v.now) result ≡ object_with_key report.now.prefer (view report.now.tree) family key.now }
-{
-    let place = report.find(family, key)?;
-    report.object(family, place)
 }
