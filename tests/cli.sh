@@ -225,6 +225,7 @@ expect 'standard error closed, and needed' 3 "$work/empty" ''
 . tests/cli_files.sh
 . tests/cli_rows.sh
 . tests/cli_preferences.sh
+. tests/cli_pairs.sh
 
 # The vectors stand in three places.
 why=''
