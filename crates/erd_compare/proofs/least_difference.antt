@@ -1,6 +1,6 @@
 pub mod StepWalks
 pub mod RisingTables
-pub mod LesserNames
+pub mod NameWalks
 pub mod KeyedRecords
 pub mod KeyTables
 pub mod KeyWalks

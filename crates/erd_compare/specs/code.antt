@@ -4,5 +4,6 @@ pub mod ContentParts  -- values: what stands inside a header
 pub mod PlainParts  -- objects: what a member means by itself
 pub mod SelectionMembers  -- objects: the selections of a contest, as a member of it
 pub mod AgreeingSelections  -- objects: where what selections mean agrees, and which selection has a name
+pub mod NamesInStep  -- objects: the names that are left, as those of two objects are walked in step
 pub mod LeastNames  -- objects: the least name of a member at which two objects differ
 pub mod KeyedDifferences  -- the first difference: the least key at which two reports differ in a family

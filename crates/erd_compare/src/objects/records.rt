@@ -2,10 +2,11 @@ ghost use Rattle.std.specs.Prelude.{◌≡◌, option_map, IfOk, Some};
 ghost use Rattle.serde_json.specs.View.{view};
 ghost use Rattle.erd_meaning.specs.Records.{member_of_class, object_record};
 ghost use Rattle.erd_compare.specs.code.Comparing.{IsWholeTree, TellsHow, Decides};
-ghost use Rattle.erd_compare.specs.code.LeastNames.{TellsAmongNames, lesser_name, record_of_class};
+ghost use Rattle.erd_compare.specs.code.LeastNames.{IsObject, TellsLeastName, record_of_class};
 ghost use Rattle.erd_compare.specs.code.SelectionMembers.{is_selections};
 
 use crate::difference::How;
+use crate::objects::member_names::{NamesLeft, lesser_name};
 use crate::objects::plain_members::is_same_plain_member;
 use crate::objects::selections::is_same_selections;
 use crate::sides::Sides;
@@ -50,12 +51,12 @@ fn member_difference(
 ) -> Result<Option<How>, AllocError>
     requires one { IsWholeTree (view one.now) }
     requires other { IsWholeTree (view other.now) }
+    requires one_object { IsObject (view one.now) }
+    requires other_object { IsObject (view other.now) }
     ensures { IfOk result (TellsHow (Some (record_of_class sides.entry.left.now.prefer (view sides.entry.left.now.tree) class (view one.now)))
         (Some (record_of_class sides.entry.right.now.prefer (view sides.entry.right.now.tree) class (view other.now)))) }
 {
-    let first = first_differing_name(alloc, sides, class, one, one, other)?;
-    let second = first_differing_name(alloc, sides, class, other, one, other)?;
-    match lesser_name(first, second) {
+    match least_differing_name(alloc, sides, class, one, other)? {
         Some(name) => {
             let name = String::from_str(alloc, name)?;
             Ok(Some(How::Member(Text::of(name))))
@@ -64,42 +65,35 @@ fn member_difference(
     }
 }
 
-/// The first of the names of a value, in their order, at which the members of two objects of one class differ.
-fn first_differing_name<'a>(
+/// The least name at which the members of two objects of one class differ. The names of both are walked in step, each once.
+fn least_differing_name<'a>(
     alloc: Global,
     sides: Sides,
     class: Class,
-    named: &'a Value,
-    one: &Value,
-    other: &Value,
+    one: &'a Value,
+    other: &'a Value,
 ) -> Result<Option<&'a str>, AllocError>
-    requires named { IsWholeTree (view named.now) }
     requires one { IsWholeTree (view one.now) }
     requires other { IsWholeTree (view other.now) }
-    ensures { IfOk result (λ found. TellsAmongNames (member_of_class sides.entry.left.now.prefer (view sides.entry.left.now.tree) (view one.now) class)
-        (member_of_class sides.entry.right.now.prefer (view sides.entry.right.now.tree) (view other.now) class) (view named.now) (option_map (λ s. s.now) found)) }
+    requires one_object { IsObject (view one.now) }
+    requires other_object { IsObject (view other.now) }
+    ensures { IfOk result (λ found. TellsLeastName (member_of_class sides.entry.left.now.prefer (view sides.entry.left.now.tree) (view one.now) class)
+        (member_of_class sides.entry.right.now.prefer (view sides.entry.right.now.tree) (view other.now) class) (option_map (λ s. s.now) found)) }
 {
-    let Some(members) = named.as_object() else {
+    // what has a class is an object
+    let (Some(ones), Some(others)) = (one.as_object(), other.as_object()) else {
         return Ok(None);
     };
-    for (name, _) in members.iter() {
-        let name = name.as_str();
+    let mut ones = NamesLeft::of(ones);
+    let mut others = NamesLeft::of(others);
+    while let Some(name) = lesser_name(ones.first, others.first) {
         if !is_same_member(alloc, sides, class, name, one, other)? {
             return Ok(Some(name));
         }
+        ones.pass(name);
+        others.pass(name);
     }
     Ok(None)
-}
-
-/// The lesser of two names, where there are any.
-fn lesser_name<'a>(one: Option<&'a str>, other: Option<&'a str>) -> Option<&'a str>
-    ensures { option_map (λ s. s.now) result ≡ lesser_name (option_map (λ s. s.now) one.entry) (option_map (λ s. s.now) other.entry) }
-{
-    match (one, other) {
-        (Some(first), Some(second)) => Some(first.min(second)),
-        (Some(_), None) => one,
-        (None, _) => other,
-    }
 }
 
 /// Whether members of one name, of two objects of one class, mean the same.

@@ -1,0 +1,186 @@
+-- The names of the members of two objects, walked in step: the first name at which the objects differ is the least.
+use Rattle.std.proofs.Common.{◌≡◌, ◌<◌, ◌+◌, ℕ, inl, inr, List, [], ◌∷◌, length, Bor, Bool, true, false, cond, String, Global, Option, Some, None, option_map, Ordering, Less, Equal, Greater, refl, sym, ap, ap₂, ◌∙◌, subst, arith}
+use Rattle.std.specs.List.{AllByRecursion}
+use Rattle.std.specs.List.Sorted.{IsStrictlySortedBy}
+use Rattle.std.specs.Str.{bytes_eq}
+use Rattle.std.proofs.Math.Path.{fun_ext}
+use Rattle.std.proofs.lemmas.Slice.Eq.{bytes_eq-Decides}
+use Rattle.std.proofs.lemmas.Cmp.{nat_list_cmp_total, tied_itself}
+use Rattle.std.proofs.lemmas.Map.Lookups.{exact_bytes}
+use Rattle.serde_json.specs.Data.{Data, null, boolean, number, string, array, object, Members, no_members, member}
+use Rattle.serde_json.specs.Find.{as_object, get, get_member}
+use Rattle.serde_json.specs.declared.value.Value.{Value}
+use Rattle.erd_tables.specs.Texts.{text_cmp}
+use Rattle.erd_tables.specs.declared.class.Class.{Class}
+use Rattle.erd_check.specs.Trees.{AreMembers, IsBeforeFirst, IsTree}
+use Rattle.erd_check.specs.Values.{names}
+use Rattle.erd_check.proofs.Order.{In}
+use Rattle.erd_meaning.specs.Keys.{Preference}
+use Rattle.erd_meaning.specs.Records.{member_of_class}
+use Rattle.erd_meaning.proofs.meanings.WholeRecords.{absent_member}
+use Rattle.erd_compare.specs.Differences.{DifferFirstAt}
+use Rattle.erd_compare.specs.code.LeastNames.{DifferAtName, MemberMap, lesser_name, record_of_class}
+use Rattle.erd_compare.specs.code.NamesInStep.{names_from, names_past}
+use Rattle.erd_compare.proofs.least_difference.StepWalks.{IsInStep, IsNoneBeside, NoneLess, all_left, below_head, equal_all, none_less-before, none_less-empty, none_less-head, pass_both, pass_left, pass_right, turned}
+
+-- ---- the first name that is left
+
+abbrev pub first_of : List (List ℕ) → Option (List ℕ)
+first_of [] = None
+first_of (k ∷ ks) = Some k
+
+first_left : (first : Option (Bor (List ℕ))) (rest : List (String Global × Value)) → option_map (λ s. s.now) first ≡ first_of (names_from first rest)
+first_left None rest = refl
+first_left (Some name) rest = refl
+
+pub firsts_left : (f g : Option (Bor (List ℕ))) (r s : List (String Global × Value)) (o : Option (List ℕ)) → o ≡ lesser_name (option_map (λ k. k.now) f) (option_map (λ k. k.now) g)
+    → lesser_name (first_of (names_from f r)) (first_of (names_from g s)) ≡ o
+firsts_left f g r s o e = ap₂ lesser_name (sym (first_left f r)) (sym (first_left g s)) ∙ sym e
+
+-- ---- a name is passed by
+
+name_itself : (k : List ℕ) → bytes_eq k k ≡ true
+name_itself k = (bytes_eq-Decides k k).1 refl
+
+names_apart : (k l : List ℕ) → text_cmp k l ≡ Less → bytes_eq l k ≡ false
+names_apart k l low = at (bytes_eq l k) refl
+  where
+    at : (b : Bool) → bytes_eq l k ≡ b → bytes_eq l k ≡ false
+    at false is = is
+    at true is =
+        let same : l ≡ k = (bytes_eq-Decides l k).0 is in
+        let clash : Equal ≡ Less = sym (tied_itself nat_list_cmp_total k) ∙ subst (λ x. text_cmp k x ≡ Less) same low in cc
+
+past_first : (k : List ℕ) (ks : List (List ℕ)) → names_past k (k ∷ ks) ≡ ks
+past_first k ks = ap (λ b. cond b ks (k ∷ ks)) (name_itself k)
+
+past_later : (k l : List ℕ) (ls : List (List ℕ)) → text_cmp k l ≡ Less → names_past k (l ∷ ls) ≡ l ∷ ls
+past_later k l ls low = ap (λ b. cond b ls (l ∷ ls)) (names_apart k l low)
+
+-- the lesser of the first names that are left: it can be passed by, no name that is left is less, and fewer are left after it
+pub record IsNextName (m n : MemberMap) (ls rs : List (List ℕ)) (k : List ℕ) : Type 0 where
+  pub pass : m k ≡ n k → IsInStep text_cmp m n (names_past k ls) (names_past k rs)
+  pub left : NoneLess text_cmp k ls
+  pub right : NoneLess text_cmp k rs
+  pub fewer : length (names_past k ls) + length (names_past k rs) < length ls + length rs
+
+module _ (m n : MemberMap) where
+  next_left : (k : List ℕ) (ls rs : List (List ℕ)) → IsInStep text_cmp m n (k ∷ ls) rs → AllByRecursion (λ l. text_cmp k l ≡ Less) rs → names_past k rs ≡ rs → NoneLess text_cmp k rs → IsNextName m n (k ∷ ls) rs k
+  next_left k ls rs step below past none = record {
+    pass = λ same. subst (IsInStep text_cmp m n (names_past k (k ∷ ls))) (sym past) (subst (λ xs. IsInStep text_cmp m n xs rs) (sym (past_first k ls)) (pass_left nat_list_cmp_total m n k ls rs step below same));
+    left = none_less-head nat_list_cmp_total k ls step.left;
+    right = none;
+    fewer = subst (λ xs. length xs + length (names_past k rs) < length (k ∷ ls) + length rs) (sym (past_first k ls)) (subst (λ xs. length ls + length xs < length (k ∷ ls) + length rs) (sym past) (omega arith));
+  }
+
+  next_right : (k : List ℕ) (ls rs : List (List ℕ)) → IsInStep text_cmp m n ls (k ∷ rs) → AllByRecursion (λ l. text_cmp k l ≡ Less) ls → names_past k ls ≡ ls → NoneLess text_cmp k ls → IsNextName m n ls (k ∷ rs) k
+  next_right k ls rs step below past none = record {
+    pass = λ same. subst (IsInStep text_cmp m n (names_past k ls)) (sym (past_first k rs)) (subst (λ xs. IsInStep text_cmp m n xs rs) (sym past) (pass_right nat_list_cmp_total m n k ls rs step below same));
+    left = none;
+    right = none_less-head nat_list_cmp_total k rs step.right;
+    fewer = subst (λ xs. length (names_past k ls) + length xs < length ls + length (k ∷ rs)) (sym (past_first k rs)) (subst (λ xs. length xs + length rs < length ls + length (k ∷ rs)) (sym past) (omega arith));
+  }
+
+  next_both : (k : List ℕ) (ls rs : List (List ℕ)) → IsInStep text_cmp m n (k ∷ ls) (k ∷ rs) → IsNextName m n (k ∷ ls) (k ∷ rs) k
+  next_both k ls rs step = record {
+    pass = λ same. subst (IsInStep text_cmp m n (names_past k (k ∷ ls))) (sym (past_first k rs)) (subst (λ xs. IsInStep text_cmp m n xs rs) (sym (past_first k ls)) (pass_both nat_list_cmp_total m n k ls rs step same));
+    left = none_less-head nat_list_cmp_total k ls step.left;
+    right = none_less-head nat_list_cmp_total k rs step.right;
+    fewer = subst (λ xs. length xs + length (names_past k (k ∷ rs)) < length (k ∷ ls) + length (k ∷ rs)) (sym (past_first k ls)) (subst (λ xs. length ls + length xs < length (k ∷ ls) + length (k ∷ rs)) (sym (past_first k rs)) (omega arith));
+  }
+
+  pub next_name : (ls rs : List (List ℕ)) (k : List ℕ) → IsInStep text_cmp m n ls rs → lesser_name (first_of ls) (first_of rs) ≡ Some k → IsNextName m n ls rs k
+  next_name [] [] k step e = cc
+  next_name [] (b ∷ rs) k step e =
+      let same : b ≡ k = cc in subst (IsNextName m n [] (b ∷ rs)) same (next_right b [] rs step tt refl (none_less-empty nat_list_cmp_total b))
+  next_name (a ∷ ls) [] k step e =
+      let same : a ≡ k = cc in subst (IsNextName m n (a ∷ ls) []) same (next_left a ls [] step tt refl (none_less-empty nat_list_cmp_total a))
+  next_name (a ∷ ls) (b ∷ rs) k step e = at (text_cmp b a) refl
+    where
+      at : (o : Ordering) → text_cmp b a ≡ o → IsNextName m n (a ∷ ls) (b ∷ rs) k
+      at Less is =
+          let told : Some b ≡ Some k = rw is at e in
+          let same : b ≡ k = cc in
+          subst (IsNextName m n (a ∷ ls) (b ∷ rs)) same (next_right b (a ∷ ls) rs step (below_head nat_list_cmp_total b a ls is step.left) (past_later b a ls is)
+          (none_less-before nat_list_cmp_total b a (a ∷ ls) is (none_less-head nat_list_cmp_total a ls step.left)))
+      at Equal is =
+          let told : Some a ≡ Some k = rw is at e in
+          let same : a ≡ k = cc in
+          let one : b ≡ a = exact_bytes b a is in
+          subst (IsNextName m n (a ∷ ls) (b ∷ rs)) same (subst (λ x. IsNextName m n (a ∷ ls) (x ∷ rs) a) (sym one) (next_both a ls rs (subst (λ x. IsInStep text_cmp m n (a ∷ ls) (x ∷ rs)) one step)))
+      at Greater is =
+          let told : Some a ≡ Some k = rw is at e in
+          let same : a ≡ k = cc in
+          let low = turned nat_list_cmp_total b a is in
+          subst (IsNextName m n (a ∷ ls) (b ∷ rs)) same (next_left a ls (b ∷ rs) step (below_head nat_list_cmp_total a b rs low step.right) (past_later a b rs low)
+          (none_less-before nat_list_cmp_total a b (b ∷ rs) low (none_less-head nat_list_cmp_total b rs step.right)))
+
+  -- where no name is left the objects are equal
+  pub none_left : (ls rs : List (List ℕ)) → IsInStep text_cmp m n ls rs → lesser_name (first_of ls) (first_of rs) ≡ None → m ≡ n
+  none_left [] [] step e = fun_ext (equal_all nat_list_cmp_total m n step)
+  none_left [] (b ∷ rs) step e = cc
+  none_left (a ∷ ls) [] step e = cc
+  none_left (a ∷ ls) (b ∷ rs) step e = at (text_cmp b a) refl
+    where
+      at : (o : Ordering) → text_cmp b a ≡ o → m ≡ n
+      at Less is = let told : Some b ≡ None = rw is at e in cc
+      at Equal is = let told : Some a ≡ None = rw is at e in cc
+      at Greater is = let told : Some a ≡ None = rw is at e in cc
+
+-- ---- at first all names are left
+
+before_all : (k : List ℕ) (ms : Members) → AreMembers ms → IsBeforeFirst k ms → AllByRecursion (λ j. text_cmp k j ≡ Less) (names ms)
+before_all k no_members rise low = tt
+before_all k (member l d no_members) rise low = (low, tt)
+before_all k (member l d (member j e ms)) rise low = (low, before_all k (member j e ms) rise.2 (nat_list_cmp_total.trans k l j low rise.0))
+
+names_rise : (ms : Members) → AreMembers ms → IsStrictlySortedBy text_cmp (names ms)
+unfolding IsStrictlySortedBy
+names_rise no_members trees = tt
+names_rise (member k d ms) trees = (before_all k ms trees.2 trees.0, names_rise ms trees.2)
+
+-- a name that is not among these has no member
+named : (k : List ℕ) (v : Data) (ms : Members) → get_member k ms ≡ Some v → In k (names ms)
+named k v no_members e = cc
+named k v (member l d ms) e = at (text_cmp k l) refl (named k v ms)
+  where
+    at : (o : Ordering) → text_cmp k l ≡ o → (get_member k ms ≡ Some v → In k (names ms)) → In k (l ∷ names ms)
+    at Less is rest = inr (rest (rw is at e))
+    at Equal is rest = inl (sym (exact_bytes k l is))
+    at Greater is rest = inr (rest (rw is at e))
+
+none_beside : (π : Preference) (t d : Data) (c : Class) (ms : Members) → Some ms ≡ as_object d → (k : List ℕ) → IsNoneBeside (member_of_class π t d c) (names ms) k
+none_beside π t d c ms is k = at (get k d) refl
+  where
+    found : (d : Data) (v : Data) → Some ms ≡ as_object d → get k d ≡ Some v → get_member k ms ≡ Some v
+    found null v e h = cc
+    found (boolean b) v e h = cc
+    found (number x) v e h = cc
+    found (string s) v e h = cc
+    found (array ds) v e h = cc
+    found (object ns) v e h = let same : ms ≡ ns = cc in subst (λ x. get_member k x ≡ Some v) (sym same) h
+
+    at : (o : Option Data) → get k d ≡ o → IsNoneBeside (member_of_class π t d c) (names ms) k
+    at None e = inl (absent_member π t d c k e)
+    at (Some v) e = inr (named k v ms (found d v is e))
+
+rise_in : (d : Data) (ms : Members) → IsTree d → Some ms ≡ as_object d → IsStrictlySortedBy text_cmp (names ms)
+rise_in null ms tree e = cc
+rise_in (boolean b) ms tree e = cc
+rise_in (number x) ms tree e = cc
+rise_in (string s) ms tree e = cc
+rise_in (array ds) ms tree e = cc
+rise_in (object ns) ms tree e = let same : ns ≡ ms = cc in names_rise ms (subst AreMembers same tree)
+
+pub both_objects : (π ρ : Preference) (t u d e : Data) (c : Class) (ms ns : Members) → IsTree d → IsTree e → Some ms ≡ as_object d → Some ns ≡ as_object e
+    → IsInStep text_cmp (member_of_class π t d c) (member_of_class ρ u e c) (names ms) (names ns)
+both_objects π ρ t u d e c ms ns mine its left right =
+    all_left nat_list_cmp_total (member_of_class π t d c) (member_of_class ρ u e c) (names ms) (names ns) (rise_in d ms mine left) (rise_in e ns its right)
+    (none_beside π t d c ms left) (none_beside ρ u e c ns right)
+
+-- ---- what is told of the objects
+
+-- a difference of the members of two objects of one class is one of their records
+pub member_told : (π ρ : Preference) (t u d e : Data) (c : Class) (name : List ℕ) → DifferAtName (member_of_class π t d c) (member_of_class ρ u e c) name
+    → DifferFirstAt (record_of_class π t c d) (record_of_class ρ u c e) name
+member_told π ρ t u d e c name h = record { same_class = refl; differ = h.differ; least = h.least }
