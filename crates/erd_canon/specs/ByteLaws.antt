@@ -24,10 +24,14 @@ IsOwnForm π c = IsCanonicalBytes π c c × ((d : List ℕ) → IsCanonicalBytes
 abbrev pub IsItsOwnForm : Type 0
 IsItsOwnForm = (π : Preference) (b c : List ℕ) → IsCanonicalBytes π b c → IsOwnForm π c
 
+-- c, written for the report in b, are the canonical bytes of each input whose tree is a rearrangement of that report
+abbrev pub KeepsForm : Preference → List ℕ → List ℕ → Type 0
+KeepsForm π b c =
+    (d : List ℕ) (t u : Data) (changes : List Change) → IsTreeOf b t → IsTreeOf d u → IsRearrangement changes t u → IsCanonicalBytes π d c
+
 -- a rearranged report has the same canonical bytes
 abbrev pub SameFormWhenRearranged : Type 0
-SameFormWhenRearranged =
-    (π : Preference) (b c d : List ℕ) (t u : Data) (changes : List Change) → IsCanonicalBytes π b c → IsTreeOf b t → IsTreeOf d u → IsRearrangement changes t u → IsCanonicalBytes π d c
+SameFormWhenRearranged = (π : Preference) (b c : List ℕ) → IsCanonicalBytes π b c → KeepsForm π b c
 
 -- whatever preference both reports are accepted under too, nothing differs exactly if they mean the same under it
 abbrev pub AgreesUnderEach : List ℕ → List ℕ → Option Difference → Type 0

@@ -10,7 +10,7 @@ mod engines;
 pub use bytes::acceptance::{check_bytes, check_bytes_with};
 pub use bytes::canonical::{canonical, canonical_with};
 pub use bytes::comparison::{compare_bytes, compare_bytes_with};
-pub use bytes::laws::{is_its_own_form, one_form_for_one_meaning};
+pub use bytes::laws::{is_its_own_form, one_form_for_one_meaning, same_form_when_rearranged};
 pub use bytes::refusal::{Refusal, Side};
 pub use commands::prefer::Prefer;
 pub use commands::request::{FileName, LineFault, Request};

@@ -7,3 +7,4 @@ pub mod meaning
 pub mod unique
 pub mod ranks
 pub mod examples
+pub mod rearranged

@@ -16,6 +16,7 @@ pub mod ContestSelections
 pub mod NoShapeFaults
 pub mod NoEmptyArrays
 pub mod SetsInOrder
+pub mod ChosenEntries
 pub mod ReferenceLists
 pub mod ReferencesBuilt
 pub mod NoReferenceFaults

@@ -1,4 +1,5 @@
 -- Lists in rising order, lists whose entries are distinct, and what is found in them.
+pub mod Reordered
 pub mod RisingSets
 pub mod RisingOrders
 pub mod RisingAgain
@@ -11,4 +12,5 @@ pub mod Lists
 pub mod FoundInParts
 pub mod FoundBuilt
 pub mod Paired
+pub mod Matched
 pub mod NumberedParts

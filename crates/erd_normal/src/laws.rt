@@ -1,4 +1,4 @@
-ghost use Rattle.erd_normal.specs.Laws.{NamesAgree, ReferencesAgree, ObjectsAgree, CanonicalIsUnique, PreferencesAgree};
+ghost use Rattle.erd_normal.specs.Laws.{NamesAgree, ReferencesAgree, ObjectsAgree, CanonicalIsUnique, PreferencesAgree, RearrangedMeansTheSame};
 
 /// The law that two canonical reports that mean the same have the same keys, names and `@id` texts, in the same order. It
 /// runs nothing.
@@ -27,4 +27,10 @@ pub fn canonical_is_unique()
 /// under the other. It does not say that a report that is accepted under one is accepted under the other. It runs nothing.
 pub fn preferences_agree()
     ensures law { PreferencesAgree }
+{}
+
+/// The law that a report with other `@id` texts and other orders of its sets is accepted as it was and means the same. It
+/// runs nothing.
+pub fn rearranged_means_the_same()
+    ensures law { RearrangedMeansTheSame }
 {}

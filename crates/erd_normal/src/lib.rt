@@ -9,7 +9,8 @@ mod report;
 mod values;
 
 pub use laws::{
-    canonical_is_unique, names_agree, objects_agree, preferences_agree, references_agree,
+    canonical_is_unique, names_agree, objects_agree, preferences_agree, rearranged_means_the_same,
+    references_agree,
 };
 pub use order::compact_text::CompactText;
 pub use order::set_order::SetOrder;

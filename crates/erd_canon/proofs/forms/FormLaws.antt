@@ -1,14 +1,16 @@
--- Canonical bytes are equal exactly for equal meanings, and are their own canonical bytes.
+-- Canonical bytes are equal exactly for equal meanings, are their own canonical bytes, and those of each rearrangement.
 use Rattle.std.proofs.Common.{◌≡◌, ℕ, List, refl, sym, ◌∙◌, ap, subst}
 use Rattle.serde_json.specs.Data.{Data}
 use Rattle.serde_json.specs.Written.{compact_text}
 use Rattle.erd_check.proofs.ReadTrees.{read_is_tree}
+use Rattle.erd_meaning.specs.Accepted.{IsAccepted}
 use Rattle.erd_meaning.specs.Keys.{Preference}
 use Rattle.erd_meaning.specs.Records.{meaning}
+use Rattle.erd_normal.proofs.rearranged.RearrangedReports.{rearranged_means_the_same}
 use Rattle.erd_normal.proofs.unique.Unique.{unique}
 use Rattle.erd_normal.specs.Laws.{MeanAlike}
 use Rattle.erd_canon.proofs.forms.Refusing.{one_tree}
-use Rattle.erd_canon.specs.ByteLaws.{OneFormForOneMeaning, IsItsOwnForm}
+use Rattle.erd_canon.specs.ByteLaws.{OneFormForOneMeaning, IsItsOwnForm, SameFormWhenRearranged}
 use Rattle.erd_canon.specs.Bytes.{IsTreeOf, IsCanonicalBytes}
 
 -- the tree of canonical bytes means what the report means
@@ -52,3 +54,17 @@ is_its_own_form π b c k = (
   own_bytes π b c k,
   λ d other. sym ((one_form_for_one_meaning π c c (own_bytes π b c k) c d k.tree k.tree other k.reads_back k.reads_back).1 refl),
 )
+
+-- the canonical bytes of a report are those of each rearrangement of it
+pub same_form_when_rearranged : SameFormWhenRearranged
+same_form_when_rearranged π b c k d t u changes is is_other rearranged =
+    let accepted : IsAccepted π t = subst (IsAccepted π) (one_tree b k.report t k.is_accepted.read is) k.is_accepted.accepted in
+    let other = rearranged_means_the_same π t u changes (read_is_tree b t is.1) accepted rearranged in
+    record {
+      report = u;
+      is_accepted = record { read = is_other; accepted = other.0 };
+      tree = k.tree;
+      is_canonical = record { canonical = k.is_canonical.canonical; same = meant π b c t k is ∙ sym other.1 };
+      written = k.written;
+      reads_back = k.reads_back;
+    }

@@ -1,6 +1,6 @@
 ghost use Rattle.std.specs.Prelude.{◌≡◌, IfOk, IfErr, None};
 ghost use Rattle.std.specs.Option.{option_copied};
-ghost use Rattle.erd_canon.specs.ByteLaws.{IsOwnForm, TellsMeanings};
+ghost use Rattle.erd_canon.specs.ByteLaws.{KeepsForm, IsOwnForm, TellsMeanings};
 ghost use Rattle.erd_canon.specs.Bytes.{IsCanonicalBytes};
 ghost use Rattle.erd_canon.specs.Refused.{RefusedAs};
 
@@ -14,6 +14,7 @@ pub fn canonical(alloc: Global, bytes: &[u8]) -> Result<Vec<u8>, Refusal>
     ensures ok { IfOk result (λ text. IsCanonicalBytes None bytes.now text.items) }
     ensures unique { IfOk result (λ text. TellsMeanings None bytes.now text.items) }
     ensures own { IfOk result (λ text. IsOwnForm None text.items) }
+    ensures rearranged { IfOk result (λ text. KeepsForm None bytes.now text.items) }
     ensures refused { IfErr result (RefusedAs None bytes.now) }
 {
     canonical_with(alloc, bytes, None)
@@ -28,6 +29,7 @@ pub fn canonical_with(alloc: Global, bytes: &[u8], prefer: Option<&str>) -> Resu
     ensures ok { IfOk result (λ text. IsCanonicalBytes (option_copied prefer.entry) bytes.now text.items) }
     ensures unique { IfOk result (λ text. TellsMeanings (option_copied prefer.entry) bytes.now text.items) }
     ensures own { IfOk result (λ text. IsOwnForm (option_copied prefer.entry) text.items) }
+    ensures rearranged { IfOk result (λ text. KeepsForm (option_copied prefer.entry) bytes.now text.items) }
     ensures refused { IfErr result (RefusedAs (option_copied prefer.entry) bytes.now) }
 {
     let tree = tree_of(alloc, bytes)?;

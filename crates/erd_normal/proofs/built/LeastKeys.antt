@@ -24,7 +24,7 @@ use Rattle.erd_meaning.specs.declared.keys.key.Key.{Key}
 use Rattle.erd_normal.specs.code.NormalTree.{normal_object, normal_selection}
 use Rattle.erd_normal.proofs.built.NormalEntries.{entries_of_identifiers, selection_identifiers}
 use Rattle.erd_normal.proofs.built.NormalGets.{class_has_role}
-use Rattle.erd_normal.proofs.lists.RisingSets.{whole-rising}
+use Rattle.erd_normal.proofs.lists.Reordered.{Reordered, reordered_rising, whole-reordered}
 
 -- ---- the lesser of two
 
@@ -94,12 +94,15 @@ module _ (π : Preference) where
   key_is_chosen [] = key_is_choice π []
   key_is_chosen (d ∷ ds) = key_is_choice π (d ∷ ds) ∙ sym (chosen_after (triple_of d) ds)
 
-  chosen-rising : (cmp : Data → Data → Ordering) (ds : List Data) → chosen (rising_list cmp ds) ≡ chosen ds
-  chosen-rising =
-      whole-rising chosen (λ d f o. f (with_one o (triple_of d))) (λ d ds. refl) (λ d e f. fun_ext (λ o. ap f (with_one_exchanges o (triple_of d) (triple_of e))))
+  chosen-reordered : {ds es : List Data} → Reordered ds es → chosen ds ≡ chosen es
+  chosen-reordered h =
+      whole-reordered chosen (λ d f o. f (with_one o (triple_of d))) (λ d ds. refl) (λ d e f. fun_ext (λ o. ap f (with_one_exchanges o (triple_of d) (triple_of e)))) h
+
+  pub key_of_identifiers-reordered : (ds es : List Data) → Reordered ds es → key_of_identifiers π ds ≡ key_of_identifiers π es
+  key_of_identifiers-reordered ds es h = key_is_chosen ds ∙ ap (λ f. f None) (chosen-reordered h) ∙ sym (key_is_chosen es)
 
   pub key_of_identifiers-rising : (cmp : Data → Data → Ordering) (ds : List Data) → key_of_identifiers π (rising_list cmp ds) ≡ key_of_identifiers π ds
-  key_of_identifiers-rising cmp ds = key_is_chosen (rising_list cmp ds) ∙ ap (λ f. f None) (chosen-rising cmp ds) ∙ sym (key_is_chosen ds)
+  key_of_identifiers-rising cmp ds = sym (key_of_identifiers-reordered ds (rising_list cmp ds) (reordered_rising cmp ds))
 
 -- ---- keys of what is built
 

@@ -28,7 +28,8 @@ use Rattle.erd_meaning.specs.Records.{class_of_node}
 use Rattle.erd_meaning.proofs.accepted.Phases.{no_shape_fault}
 use Rattle.erd_normal.specs.code.NormalTree.{normal_tree}
 use Rattle.erd_normal.proofs.built.NormalGets.{class_has_role}
-use Rattle.erd_normal.proofs.canonical.ReferenceLists.{IsListSound, list_name, list_sound}
+use Rattle.erd_normal.proofs.canonical.ReferenceLists.{IsListSound, list_sound}
+use Rattle.erd_normal.proofs.canonical.ChosenEntries.{list_name}
 use Rattle.erd_normal.proofs.canonical.ReferencesBuilt.{references_sound}
 use Rattle.erd_normal.proofs.throughout.ThroughoutMembers.{HoldsOfMembers}
 use Rattle.erd_normal.proofs.throughout.ThroughoutObjects.{HoldsOfObjects}
@@ -161,7 +162,7 @@ elsewhere_wants u d (Reference family.Selection) e h = refl
 elsewhere_wants u d w e h = cc
 
 -- where each list holds selections of its contest, no entry is one of another
-none_elsewhere : (u : Data) → ((p : List Step) (a : Asked) → asked_at u p ≡ Some a → IsListed u a) → (p : List Step) → NamesOtherContest u p → ⊥
+pub none_elsewhere : (u : Data) → ((p : List Step) (a : Asked) → asked_at u p ≡ Some a → IsListed u a) → (p : List Step) → NamesOtherContest u p → ⊥
 none_elsewhere u listed p h =
     let steps : asked_at u (h.object_place ++ Name list_name ∷ At h.position ∷ []) ≡ Some h.entry = ap (asked_at u) (sym h.place) ∙ h.entry_stands in
     let inside : asked_from h.ordered_contest (Name list_name ∷ At h.position ∷ []) ≡ Some h.entry =

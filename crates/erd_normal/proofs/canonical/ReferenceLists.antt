@@ -1,43 +1,35 @@
 -- Each entry of an object's list in the report that is built is a selection of the contest that the object names.
-use Rattle.std.proofs.Common.{◌≡◌, ℕ, List, [], ◌∷◌, ◌++◌, map, Option, Some, None, option_and_then, unwrap_or, is_some, true, false, not, ◌&&◌, codes, refl, sym, ap, ◌∙◌, subst}
+use Rattle.std.proofs.Common.{◌≡◌, ℕ, List, [], map, Some, option_and_then, unwrap_or, is_some, true, false, not, ◌&&◌, codes, refl, sym, ap, ◌∙◌, subst}
 use Rattle.std.specs.List.{AllByRecursion}
 use Rattle.std.specs.Option.{option_map_or}
-use Rattle.serde_json.specs.Data.{Data, array, object, Items, Members}
-use Rattle.serde_json.specs.Find.{as_str, get_item, get_member}
+use Rattle.serde_json.specs.Data.{Data, object, Members}
+use Rattle.serde_json.specs.Find.{as_str, get_member}
 use Rattle.erd_tables.specs.declared.class.Class.TheVariants as class
 use Rattle.erd_tables.specs.declared.class.Family.TheVariants as family
 use Rattle.erd_tables.specs.declared.class.Role.TheVariants as role
 use Rattle.erd_tables.specs.declared.member.MemberKind.TheVariants as kind
-use Rattle.erd_tables.specs.declared.place.Step.{Step}
-use Rattle.erd_tables.specs.declared.place.Step.TheVariants.{Name, At}
-use Rattle.erd_check.specs.declared.want.Want.TheVariants.{Member, Object, Reference}
+use Rattle.erd_check.specs.declared.want.Want.TheVariants.{Object, Reference}
 use Rattle.erd_check.specs.Trees.{IsTree}
-use Rattle.erd_check.specs.Values.{list_of_items, entries_at, text_at, text_of}
-use Rattle.erd_check.specs.Wants.{Asked, asked, asked_at, asked_inside}
-use Rattle.erd_check.proofs.Entries.{array_from}
+use Rattle.erd_check.specs.Values.{entries_at, text_at, text_of}
+use Rattle.erd_check.specs.Wants.{asked}
 use Rattle.erd_check.proofs.ObjectsAt.{ObjectIn, object_in}
-use Rattle.erd_check.proofs.Shapes.{Within, Within-step, asked_at-steps, asked_inside_object, lacks_none, of_role, wanted_within, within-tree}
+use Rattle.erd_check.proofs.Shapes.{Within, within-tree}
 use Rattle.erd_meaning.specs.Keys.{Preference}
 use Rattle.erd_meaning.specs.Accepted.{IsAccepted}
 use Rattle.erd_meaning.specs.LaterFaults.{is_other_selection, is_selection_in}
 use Rattle.erd_meaning.specs.Objects.{IsBounded, owner}
 use Rattle.erd_meaning.specs.Records.{class_of_node}
 use Rattle.erd_meaning.proofs.accepted.Phases.{no_shape_fault}
-use Rattle.erd_meaning.proofs.accepted.References.{selected}
 use Rattle.erd_meaning.proofs.accepted.Standing.{owned_by}
 use Rattle.erd_normal.specs.code.NormalTree.{normal_content, normal_id, normal_node, normal_node_value, normal_object, normal_selection_reference, normal_tree}
-use Rattle.erd_normal.proofs.built.AskedMembers.{all_items}
 use Rattle.erd_normal.proofs.lists.BuiltLists.{all_map}
+use Rattle.erd_normal.proofs.canonical.ChosenEntries.{IsChosen, contest_named as contest_named_by, entries_chosen, list_name}
 use Rattle.erd_normal.proofs.canonical.ContestSelections.{reference_in_built}
 use Rattle.erd_normal.proofs.built.NormalEntries.{entries_built}
 use Rattle.erd_normal.proofs.built.NormalGets.{class_of_built_node, get_node}
-use Rattle.erd_normal.proofs.canonical.NormalNames.{Refers, reference_refers}
+use Rattle.erd_normal.proofs.canonical.NormalNames.{Refers}
 use Rattle.erd_normal.proofs.canonical.NormalOwners.{owner_built}
 use Rattle.erd_normal.proofs.canonical.ReferencesBuilt.{and_no}
-
--- the name of the list of an object of the class OrderedContest
-abbrev pub list_name : List ℕ
-list_name = codes "OrderedContestSelectionIds"
 
 -- the entries of the list of an object that names one contest are selections of it
 abbrev pub IsListSound : Data → Data → Type 0
@@ -49,17 +41,8 @@ module _ (π : Preference) (t : Data) (accepted : IsAccepted π t) (tree : IsTre
 
   -- an object with the class of contests in the order of a ballot
   module _ (ms : Members) (w : Within t (asked (Object role.Content) (object ms))) (among : class_of_node (object ms) ≡ Some class.OrderedContest) where
-    -- the reference to the contest
-    contest_named : (v : Data) × (get_member (codes "ContestId") ms ≡ Some v) × Refers t family.Contest v
-    contest_named = at (get_member (codes "ContestId") ms) refl
-      where
-        at : (o : Option Data) → get_member (codes "ContestId") ms ≡ o → (v : Data) × (get_member (codes "ContestId") ms ≡ Some v) × Refers t family.Contest v
-        at None is = absurd (lacks_none t (no_shape_fault π t accepted) (asked (Object role.Content) (object ms)) (codes "ContestId") w (rw among refl) is)
-        at (Some v) is =
-            let inside : Within t (asked (Reference family.Contest) v) =
-            Within-step t (asked (Object role.Content) (object ms)) (asked (Reference family.Contest) v) (Name (codes "ContestId")) w
-            (asked_inside_object (Object role.Content) role.Content ms class.OrderedContest (codes "ContestId") v of_role among refl is) in
-            (v, is, reference_refers π t accepted family.Contest v inside)
+    abbrev contest_named : (v : Data) × (get_member (codes "ContestId") ms ≡ Some v) × Refers t family.Contest v
+    contest_named = contest_named_by π t accepted ms w among
 
     abbrev here : IsTree (object ms)
     here = within-tree t (asked (Object role.Content) (object ms)) tree w
@@ -77,31 +60,8 @@ module _ (π : Preference) (t : Data) (accepted : IsAccepted π t) (tree : IsTre
         ap (owner u family.Contest) built_text
         ∙ owner_built π t accepted tree family.Contest refl (bounded.few family.Contest) (codes "co") contest_named.2.0 contest_named.2.2.0 refl contest_named.2.2.1
 
-    -- a reference names a selection of the contest
-    abbrev IsChosen : Data → Type 0
-    IsChosen e = Refers t family.Selection e × (is_selection_in contest_named.2.2.0 (text_of e) ≡ true)
-
-    -- so does each reference of the list
-    entry_in : (i : ℕ) (ds : Items) (e : Data) → get_member list_name ms ≡ Some (array ds) → get_item i ds ≡ Some e
-        → IsChosen e
-    entry_in i ds e stands found =
-        let list : Asked = asked (Member kind.Ordered false) (array ds) in
-        let first : asked_inside (Object role.Content) (object ms) (Name list_name) ≡ Some list =
-        asked_inside_object (Object role.Content) role.Content ms class.OrderedContest list_name (array ds) of_role among refl stands in
-        let second : asked_inside list.want list.value (At i) ≡ Some (asked (Reference family.Selection) e) = rw found refl in
-        let place : List Step = w.place ++ Name list_name ∷ At i ∷ [] in
-        let is : asked_at t place ≡ Some (asked (Reference family.Selection) e) =
-        asked_at-steps t w.place (asked (Object role.Content) (object ms)) list (asked (Reference family.Selection) e) (Name list_name) (At i) w.is first second in
-        let r : Refers t family.Selection e = reference_refers π t accepted family.Selection e (record { place = place; is = is }) in
-        let named : owner t family.Contest (text_at (codes "ContestId") (object ms)) ≡ Some contest_named.2.2.0 =
-        ap (λ o. owner t family.Contest (unwrap_or (option_and_then as_str o) [])) contest_named.1
-        ∙ ap (λ x. owner t family.Contest (text_of x)) contest_named.2.1 ∙ contest_named.2.2.1 in
-        let chosen : is_selection_in contest_named.2.2.0 r.0 ≡ true =
-        selected π t accepted (asked (Object role.Content) (object ms)) contest_named.2.2.0 w named i r.0 (is ∙ ap (λ x. Some (asked (Reference family.Selection) x)) r.1) in
-        (r, ap (λ x. is_selection_in contest_named.2.2.0 (text_of x)) r.1 ∙ chosen)
-
     -- what is built of it names a selection of the contest that is built
-    entry_sound : (e : Data) → IsChosen e
+    entry_sound : (e : Data) → IsChosen π t accepted ms w among e
         → is_other_selection u (normal_node π t (object ms)) (Reference family.Selection) (normal_selection_reference π t e) ≡ false
     entry_sound e h =
         let o = owned_by t family.Contest contest_named.2.0 contest_named.2.2.0 contest_named.2.2.1 in
@@ -113,27 +73,14 @@ module _ (π : Preference) (t : Data) (accepted : IsAccepted π t) (tree : IsTre
         ap (λ x. is_some (owner u family.Selection id) && option_map_or (λ contest. not (is_selection_in contest id)) x false) built_contest
         ∙ ap (λ b. is_some (owner u family.Selection id) && not b) inside ∙ and_no (is_some (owner u family.Selection id))
 
-    entries_sound : AllByRecursion IsChosen (entries_at list_name (object ms))
-    entries_sound = at (get_member list_name ms) refl
-      where
-        at : (o : Option Data) → get_member list_name ms ≡ o → AllByRecursion IsChosen (entries_at list_name (object ms))
-        at None is = rw is tt
-        at (Some v) is =
-            let inside : Within t (asked (Member kind.Ordered false) v) =
-            Within-step t (asked (Object role.Content) (object ms)) (asked (Member kind.Ordered false) v) (Name list_name) w
-            (asked_inside_object (Object role.Content) role.Content ms class.OrderedContest list_name v of_role among refl is) in
-            let ds = array_from v (wanted_within t (no_shape_fault π t accepted) (asked (Member kind.Ordered false) v) inside) in
-            let all : AllByRecursion IsChosen (list_of_items ds.0) = all_items IsChosen ds.0 (λ i e found. entry_in i ds.0 e (is ∙ ap Some ds.1) found) in
-            rw (is, ds.1) all
-
     list_built : entries_at list_name (normal_node π t (object ms)) ≡ map (normal_selection_reference π t) (entries_at list_name (object ms))
     list_built = entries_built (map (normal_selection_reference π t)) refl list_name (object ms) (normal_node π t (object ms)) (get_node π t class.OrderedContest list_name (object ms) here among)
 
     list_sound_here : IsListSound u (normal_node π t (object ms))
     list_sound_here =
         subst (AllByRecursion (λ e. is_other_selection u (normal_node π t (object ms)) (Reference family.Selection) e ≡ false)) (sym list_built)
-        (all_map IsChosen
-        (λ e. is_other_selection u (normal_node π t (object ms)) (Reference family.Selection) e ≡ false) (normal_selection_reference π t) (entries_at list_name (object ms)) entry_sound entries_sound)
+        (all_map (IsChosen π t accepted ms w among)
+        (λ e. is_other_selection u (normal_node π t (object ms)) (Reference family.Selection) e ≡ false) (normal_selection_reference π t) (entries_at list_name (object ms)) entry_sound (entries_chosen π t accepted ms w among))
 
   -- the list of what is built of an object
   pub list_sound : (d : Data) → Within t (asked (Object role.Content) d) → class_of_node (normal_node π t d) ≡ Some class.OrderedContest → IsListSound (normal_tree π t) (normal_node π t d)

@@ -91,7 +91,7 @@ listed_family family.Style = later (later (later (later (later (later (later her
 listed_family family.Selection = later (later (later (later (later (later (later (later here)))))))
 
 -- a reference that names an object of the family, and repeats none
-names_sound : (u : Data) (f : Family) (s : List ℕ) (o : Data) (b : Bool) → b ≡ false → owner u f s ≡ Some o → IsSoundIn u (record { want = Reference f; value = string s; repeated = b })
+pub names_sound : (u : Data) (f : Family) (s : List ℕ) (o : Data) (b : Bool) → b ≡ false → owner u f s ≡ Some o → IsSoundIn u (record { want = Reference f; value = string s; repeated = b })
 names_sound u f s o b first owned = record { sound = at }
   where
     known : is_owned u s ≡ true

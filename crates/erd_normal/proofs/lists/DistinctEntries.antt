@@ -1,5 +1,5 @@
 -- Lists in which no two entries compare as equal, from what is known of their positions, and of arrays that are sets.
-use Rattle.std.proofs.Common.{◌≡◌, ◌<◌, ℕ, zero, suc, inl, inr, List, [], ◌∷◌, map, take, Bool, true, false, true≢false, Some, Ordering, Equal, slice_get, refl, sym, ap, ◌∙◌, subst, arith}
+use Rattle.std.proofs.Common.{◌≡◌, ◌<◌, ℕ, zero, suc, ◌⊎◌, inl, inr, List, [], ◌∷◌, map, take, Bool, true, false, true≢false, Some, Ordering, Equal, slice_get, refl, sym, ap, ◌∙◌, subst, arith}
 use Rattle.std.specs.Cmp.{Equal-is}
 use Rattle.std.specs.List.{IsDistinct}
 use Rattle.std.specs.Ordering.{eq_by_cmp}
@@ -8,6 +8,8 @@ use Rattle.serde_json.specs.Find.{get_item}
 use Rattle.erd_check.specs.Trees.{is_same_json}
 use Rattle.erd_check.specs.Values.{list_of_items}
 use Rattle.erd_check.specs.Wants.{is_repeated}
+use Rattle.erd_check.proofs.Positions.{has_mapped}
+use Rattle.erd_check.proofs.Rising.{Has, Has-cases, all-Has}
 use Rattle.erd_check.proofs.Order.{In, In-all, In-map_from, all_from_In, any_at}
 use Rattle.erd_check.proofs.Shapes.{false_unless}
 
@@ -58,6 +60,23 @@ distinct_less test test' (x ∷ xs) less h = (
       false_unless (test' x y) (λ e. true≢false (sym (less x y (inl refl) (inr i) e) ∙ In-all (λ y. test x y ≡ false) y xs h.0 i))),
   distinct_less test test' xs (λ y z i j. less y z (inr i) (inr j)) h.1,
 )
+
+-- of two entries whose values pass the test both ways there is one
+pub distinct_one : {A B : Type 0} (g : A → B) (test : B → B → Bool) (xs : List A) → IsDistinct test (map g xs) → (x y : A) → Has xs x → Has xs y
+    → test (g x) (g y) ≡ true → test (g y) (g x) ≡ true → x ≡ y
+unfolding IsDistinct
+distinct_one g test [] d x y h k t u = elim h [ ]
+distinct_one {A} g test (z ∷ zs) d x y h k t u = at (Has-cases z x zs h) (Has-cases z y zs k) (distinct_one g test zs d.1 x y)
+  where
+    at : (z ≡ x) ⊎ Has zs x → (z ≡ y) ⊎ Has zs y → (Has zs x → Has zs y → test (g x) (g y) ≡ true → test (g y) (g x) ≡ true → x ≡ y) → x ≡ y
+    at (inl e) (inl f) more = sym e ∙ f
+    at (inl e) (inr j) more =
+        let no_such : test (g x) (g y) ≡ false = subst (λ w. test (g w) (g y) ≡ false) e (all-Has (λ b. test (g z) b ≡ false) (map g zs) (g y) d.0 (has_mapped g zs y j)) in
+        absurd (true≢false (sym t ∙ no_such))
+    at (inr i) (inl f) more =
+        let no_such : test (g y) (g x) ≡ false = subst (λ w. test (g w) (g x) ≡ false) f (all-Has (λ b. test (g z) b ≡ false) (map g zs) (g x) d.0 (has_mapped g zs x i)) in
+        absurd (true≢false (sym u ∙ no_such))
+    at (inr i) (inr j) more = more i j t u
 
 -- ---- sets
 

@@ -9,8 +9,8 @@ use Rattle.erd_tables.specs.declared.class.Family.{Family}
 use Rattle.erd_meaning.specs.Keys.{Preference, key_cmp}
 use Rattle.erd_meaning.specs.code.Orders.{key_cmp_exact, key_cmp_total}
 use Rattle.erd_meaning.specs.SelectionNames.{key_named, keys_named, rising_list, with_inserted}
+use Rattle.erd_normal.proofs.lists.Reordered.{Reordered, reordered_rising, whole-reordered}
 use Rattle.erd_normal.proofs.lists.RisingOrders.{is_less, greater_turned, less_turned}
-use Rattle.erd_normal.proofs.lists.RisingSets.{whole-rising}
 
 -- ---- two values go in, one after the other
 
@@ -65,9 +65,19 @@ module _ {A : Type 0} {cmp : A → A → Ordering} (order : IsTotalOrder cmp) wh
     kept_exchange (Some x) None zs = refl
     kept_exchange (Some x) (Some y) zs = inserted_exchange x y zs
 
+    pub rising_kept-reordered : {B : Type 0} (f : B → Option A) {xs ys : List B} → Reordered xs ys → rising_list cmp (filter_map f xs) ≡ rising_list cmp (filter_map f ys)
+    rising_kept-reordered f h =
+        whole-reordered (λ xs. rising_list cmp (filter_map f xs)) (λ x. with_kept (f x)) (λ x xs. kept_step (f x) (filter_map f xs)) (λ x y. kept_exchange (f x) (f y)) h
+
+    pub rising-reordered : {xs ys : List A} → Reordered xs ys → rising_list cmp xs ≡ rising_list cmp ys
+    rising-reordered h = whole-reordered (rising_list cmp) (with_inserted cmp) (λ x xs. refl) inserted_exchange h
+
     pub rising_kept_again : {B : Type 0} (f : B → Option A) (other : B → B → Ordering) (xs : List B) → rising_list cmp (filter_map f (rising_list other xs)) ≡ rising_list cmp (filter_map f xs)
-    rising_kept_again f other = whole-rising (λ xs. rising_list cmp (filter_map f xs)) (λ x. with_kept (f x)) (λ x xs. kept_step (f x) (filter_map f xs)) (λ x y. kept_exchange (f x) (f y)) other
+    rising_kept_again f other xs = sym (rising_kept-reordered f (reordered_rising other xs))
 
 -- the keys that references name, in rising order, in whichever order the references came
 pub rising_keys_named : (π : Preference) (t : Data) (f : Family) (other : Data → Data → Ordering) (ds : List Data) → rising_list key_cmp (keys_named π t f (rising_list other ds)) ≡ rising_list key_cmp (keys_named π t f ds)
 rising_keys_named π t f other ds = rising_kept_again key_cmp_total key_cmp_exact (λ r. option_and_then (key_named π t f) (as_str r)) other ds
+
+pub rising_keys_named-reordered : (π : Preference) (t : Data) (f : Family) {ds es : List Data} → Reordered ds es → rising_list key_cmp (keys_named π t f ds) ≡ rising_list key_cmp (keys_named π t f es)
+rising_keys_named-reordered π t f h = rising_kept-reordered key_cmp_total key_cmp_exact (λ r. option_and_then (key_named π t f) (as_str r)) h

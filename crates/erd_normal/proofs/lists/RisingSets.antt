@@ -1,78 +1,32 @@
 -- A list in rising order has the same entries, each as often, and is ordered before or after a map alike.
-use Rattle.std.proofs.Common.{◌≡◌, ℕ, suc, ◌⊎◌, inl, inr, List, [], ◌∷◌, map, filter, filter_map, length, Bool, true, false, ◌||◌, cond, Option, Some, None, Ordering, is_lt, refl, sym, ap, ◌∙◌, subst}
-use Rattle.std.specs.List.{cons_option, list_any}
+use Rattle.std.proofs.Common.{◌≡◌, suc, ◌⊎◌, inl, inr, List, [], ◌∷◌, map, filter, filter_map, length, Bool, true, false, cond, Option, Ordering, is_lt, refl, sym, ap, subst}
+use Rattle.std.specs.List.{list_any}
 use Rattle.erd_check.proofs.Order.{In}
 use Rattle.erd_check.proofs.Rising.{Has, Has-cases, here, later}
 use Rattle.erd_meaning.specs.SelectionNames.{rising_list, with_inserted}
+use Rattle.erd_normal.proofs.lists.Reordered.{any-reordered, any_filter_map-reordered, count-reordered, length-reordered, reordered_rising, whole-reordered}
 
 -- ---- what doesn't depend on the order of a list
 
 -- a value made of a list entry by entry, whose entries change places freely
-module _ {A B : Type 0} (whole : List A → B) (step : A → B → B) (steps : (x : A) (xs : List A) → whole (x ∷ xs) ≡ step x (whole xs))
-    (exchanges : (x y : A) (b : B) → step x (step y b) ≡ step y (step x b)) (cmp : A → A → Ordering) where
-  inserted_at : (x y : A) (ys : List A) (b : Bool) → whole (with_inserted cmp x ys) ≡ step x (whole ys) → whole (cond b (y ∷ with_inserted cmp x ys) (x ∷ (y ∷ ys))) ≡ step x (step y (whole ys))
-  inserted_at x y ys true h = steps y (with_inserted cmp x ys) ∙ ap (step y) h ∙ exchanges y x (whole ys)
-  inserted_at x y ys false h = steps x (y ∷ ys) ∙ ap (step x) (steps y ys)
-
-  inserted : (x : A) (ys : List A) → whole (with_inserted cmp x ys) ≡ step x (whole ys)
-  inserted x [] = steps x []
-  inserted x (y ∷ ys) = inserted_at x y ys (is_lt (cmp y x)) (inserted x ys) ∙ ap (step x) (sym (steps y ys))
-
-  pub whole-rising : (xs : List A) → whole (rising_list cmp xs) ≡ whole xs
-  whole-rising [] = refl
-  whole-rising (x ∷ xs) = inserted x (rising_list cmp xs) ∙ ap (step x) (whole-rising xs) ∙ sym (steps x xs)
-
-or_exchanges : (a b c : Bool) → a || (b || c) ≡ b || (a || c)
-or_exchanges true true c = refl
-or_exchanges true false c = refl
-or_exchanges false true c = refl
-or_exchanges false false c = refl
+pub whole-rising : {A B : Type 0} (whole : List A → B) (step : A → B → B) → ((x : A) (xs : List A) → whole (x ∷ xs) ≡ step x (whole xs))
+    → ((x y : A) (b : B) → step x (step y b) ≡ step y (step x b)) → (cmp : A → A → Ordering) (xs : List A) → whole (rising_list cmp xs) ≡ whole xs
+whole-rising whole step steps exchanges cmp xs = sym (whole-reordered whole step steps exchanges (reordered_rising cmp xs))
 
 -- whether an entry passes a test
 pub any-rising : {A : Type 0} (cmp : A → A → Ordering) (test : A → Bool) (xs : List A) → list_any test (rising_list cmp xs) ≡ list_any test xs
-any-rising cmp test = whole-rising (list_any test) (λ x b. test x || b) (λ x xs. refl) (λ x y b. or_exchanges (test x) (test y) b) cmp
+any-rising cmp test xs = sym (any-reordered test (reordered_rising cmp xs))
 
 -- and of the values that there are
-abbrev any_kept : {B : Type 0} (test : B → Bool) → Option B → Bool → Bool
-any_kept test None b = b
-any_kept test (Some y) b = test y || b
-
-any_cons : {B : Type 0} (test : B → Bool) (o : Option B) (ys : List B) → list_any test (cons_option o ys) ≡ any_kept test o (list_any test ys)
-any_cons test None ys = refl
-any_cons test (Some y) ys = refl
-
-kept_exchanges : {B : Type 0} (test : B → Bool) (o p : Option B) (b : Bool) → any_kept test o (any_kept test p b) ≡ any_kept test p (any_kept test o b)
-kept_exchanges test None None b = refl
-kept_exchanges test None (Some y) b = refl
-kept_exchanges test (Some x) None b = refl
-kept_exchanges test (Some x) (Some y) b = or_exchanges (test x) (test y) b
-
 pub any_filter_map-rising : {A B : Type 0} (cmp : A → A → Ordering) (f : A → Option B) (test : B → Bool) (xs : List A) → list_any test (filter_map f (rising_list cmp xs)) ≡ list_any test (filter_map f xs)
-any_filter_map-rising cmp f test =
-    whole-rising (λ xs. list_any test (filter_map f xs)) (λ x b. any_kept test (f x) b) (λ x xs. any_cons test (f x) (filter_map f xs)) (λ x y b. kept_exchanges test (f x) (f y) b) cmp
+any_filter_map-rising cmp f test xs = sym (any_filter_map-reordered f test (reordered_rising cmp xs))
 
 pub length-rising : {A : Type 0} (cmp : A → A → Ordering) (xs : List A) → length (rising_list cmp xs) ≡ length xs
-length-rising cmp = whole-rising length (λ x n. suc n) (λ x xs. refl) (λ x y n. refl) cmp
-
--- one more, where there is one
-abbrev more_if : Bool → ℕ → ℕ
-more_if true n = suc n
-more_if false n = n
-
-count_step : {A : Type 0} (x : A) (xs : List A) (b : Bool) → length (cond b (x ∷ xs) xs) ≡ more_if b (length xs)
-count_step x xs true = refl
-count_step x xs false = refl
-
-more_exchanges : (a b : Bool) (n : ℕ) → more_if a (more_if b n) ≡ more_if b (more_if a n)
-more_exchanges true true n = refl
-more_exchanges true false n = refl
-more_exchanges false true n = refl
-more_exchanges false false n = refl
+length-rising cmp xs = sym (length-reordered (reordered_rising cmp xs))
 
 -- how many entries pass a test
 pub count-rising : {A : Type 0} (cmp : A → A → Ordering) (test : A → Bool) (xs : List A) → length (filter test (rising_list cmp xs)) ≡ length (filter test xs)
-count-rising cmp test =
-    whole-rising (λ xs. length (filter test xs)) (λ x n. more_if (test x) n) (λ x xs. count_step x (filter test xs) (test x)) (λ x y n. more_exchanges (test x) (test y) n) cmp
+count-rising cmp test xs = sym (count-reordered test (reordered_rising cmp xs))
 
 count_map_at : {A B : Type 0} (f : A → B) (x : A) (xs : List A) (ys : List B) (b : Bool) → length ys ≡ length xs → length (cond b (f x ∷ ys) ys) ≡ length (cond b (x ∷ xs) xs)
 count_map_at f x xs ys true h = ap suc h

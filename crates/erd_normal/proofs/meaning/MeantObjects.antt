@@ -136,10 +136,10 @@ selections_kept π t u k value o p m n is built same =
 -- ---- the names of selections
 
 -- a selection has the name
-abbrev is_named : Preference → Data → NameParts → Data → Bool
+abbrev pub is_named : Preference → Data → NameParts → Data → Bool
 is_named π t name d = is_eq (option_cmp name_cmp (name_of π t d) (Some name))
 
-named_tied : (π : Preference) (t : Data) (name : NameParts) (x y : Data) → is_named π t name x ≡ true → is_named π t name y ≡ true → by_name π t x y ≡ Equal
+pub named_tied : (π : Preference) (t : Data) (name : NameParts) (x y : Data) → is_named π t name x ≡ true → is_named π t name y ≡ true → by_name π t x y ≡ Equal
 named_tied π t name x y h k =
     ap₂ (option_cmp name_cmp) (options_exact name_cmp equal_names (name_of π t x) (Some name) h) (options_exact name_cmp equal_names (name_of π t y) (Some name) k)
     ∙ tied_itself (options_total name_cmp_total) (Some name)

@@ -51,19 +51,19 @@ use Rattle.erd_check.proofs.Positions.{all_by_entry}
 use Rattle.erd_normal.proofs.canonical.DistinctObjects.{values_distinct}
 
 -- an object has the key
-abbrev is_of_key : Preference → Key → Data → Bool
+abbrev pub is_of_key : Preference → Key → Data → Bool
 is_of_key π k d = is_eq (option_cmp key_cmp (key_of π d) (Some k))
 
-keys_tied : (π : Preference) (k : Key) (x y : Data) → is_of_key π k x ≡ true → is_of_key π k y ≡ true → by_key π x y ≡ Equal
+pub keys_tied : (π : Preference) (k : Key) (x y : Data) → is_of_key π k x ≡ true → is_of_key π k y ≡ true → by_key π x y ≡ Equal
 keys_tied π k x y h l =
     ap₂ (option_cmp key_cmp) (options_exact key_cmp equal_keys (key_of π x) (Some k) h) (options_exact key_cmp equal_keys (key_of π y) (Some k) l)
     ∙ tied_itself (options_total key_cmp_total) (Some k)
 
 -- a meaning of its three parts
-abbrev made_meaning : Option ObjectRecord → Option ObjectRecord → (Family → Key → Option ObjectRecord) → Meaning
+abbrev pub made_meaning : Option ObjectRecord → Option ObjectRecord → (Family → Key → Option ObjectRecord) → Meaning
 made_meaning r e os = record { report = r; election = e; objects = os }
 
-same_meaning : (r s e f : Option ObjectRecord) (m n : Family → Key → Option ObjectRecord) → r ≡ s → e ≡ f → ((g : Family) (k : Key) → m g k ≡ n g k) → made_meaning r e m ≡ made_meaning s f n
+pub same_meaning : (r s e f : Option ObjectRecord) (m n : Family → Key → Option ObjectRecord) → r ≡ s → e ≡ f → ((g : Family) (k : Key) → m g k ≡ n g k) → made_meaning r e m ≡ made_meaning s f n
 same_meaning r s e f m n reports elections same = ap₂ (λ x y. made_meaning x y m) reports elections ∙ ap (made_meaning s f) (fun_ext (λ g. fun_ext (same g)))
 
 module _ (π ρ : Preference) (t : Data) (facts : Facts π ρ t) where

@@ -16,9 +16,17 @@ use Rattle.erd_meaning.specs.Meaning.{translated}
 use Rattle.erd_meaning.specs.Records.{label_beside_text, json_set, key_set, label_of}
 use Rattle.erd_meaning.specs.SelectionNames.{compact_cmp, key_named, keys_named, rising_list, with_rising_text}
 use Rattle.erd_check.proofs.Lists.{list_of_items-items_of}
+use Rattle.erd_normal.proofs.lists.Reordered.{Reordered, any-reordered, any_filter_map-reordered}
 use Rattle.erd_normal.proofs.lists.RisingSets.{any-rising, any_filter_map-rising}
 
 -- ---- sets
+
+pub json_set-reordered : {ds es : List Data} → Reordered ds es → json_set ds ≡ json_set es
+json_set-reordered h = fun_ext (λ d. any-reordered (is_same_json d) h)
+
+-- the set of the keys that references name
+pub keys_named-reordered : (π : Preference) (t : Data) (f : Family) {ds es : List Data} → Reordered ds es → key_set (keys_named π t f ds) ≡ key_set (keys_named π t f es)
+keys_named-reordered π t f h = fun_ext (λ k. any_filter_map-reordered (λ r. option_and_then (key_named π t f) (as_str r)) (λ l. is_eq (key_cmp l k)) h)
 
 pub json_set-rising : (cmp : Data → Data → Ordering) (ds : List Data) → json_set (rising_list cmp ds) ≡ json_set ds
 json_set-rising cmp ds = fun_ext (λ d. any-rising cmp (is_same_json d) ds)

@@ -9,7 +9,7 @@ use Rattle.serde_json.specs.declared.value.Value.{Value}
 use Rattle.erd_check.specs.Values.{entries_of, list_of_items, entries_at}
 use Rattle.erd_meaning.proofs.selections.WholeParts.{whole_get}
 
-listed_items : (ds : Items) → items_of (list_of_items ds) ≡ ds
+pub listed_items : (ds : Items) → items_of (list_of_items ds) ≡ ds
 listed_items no_items = refl
 listed_items (item d ds) = ap (item d) (listed_items ds)
 

@@ -61,7 +61,7 @@ distinct-rising test cmp (x ∷ xs) turned all =
 abbrev pub AreUnlike : List Data → Type 0
 AreUnlike ds = IsDistinct (λ d e. is_same_json e d) ds
 
-same_turned : (d e : Data) → IsTree d → IsTree e → is_same_json e d ≡ false → is_same_json d e ≡ false
+pub same_turned : (d e : Data) → IsTree d → IsTree e → is_same_json e d ≡ false → is_same_json d e ≡ false
 same_turned d e tree tree' apart = false_unless (is_same_json d e) (λ h.
     let same : d ≡ e = is_same_exact d e tree tree' h in
     true≢false (sym (subst (λ x. is_same_json x d ≡ true) same (subst (λ x. is_same_json d x ≡ true) (sym same) h)) ∙ apart))

@@ -5,7 +5,7 @@ use Rattle.serde_json.specs.View.{view}
 use Rattle.erd_meaning.specs.Keys.{Preference}
 use Rattle.erd_normal.specs.Canonical.{IsCanonicalFormOf}
 use Rattle.erd_canon.proofs.forms.CanonicalTexts.{canonical_text}
-use Rattle.erd_canon.proofs.forms.FormLaws.{one_form_for_one_meaning, is_its_own_form}
+use Rattle.erd_canon.proofs.forms.FormLaws.{same_form_when_rearranged, one_form_for_one_meaning, is_its_own_form}
 use Rattle.erd_canon.proofs.forms.Refusing.{refused_tree}
 use Rattle.erd_canon.proofs.bytes.canonical.canonical_with.Goals as goal
 
@@ -32,3 +32,6 @@ returns-clause-unique c = one_form_for_one_meaning (option_copied c.args.prefer)
 
 pub returns-clause-own : goal.returns-clause-own
 returns-clause-own c = is_its_own_form (option_copied c.args.prefer) c.args.bytes.now c.in_ok-text.text.items (returns-clause-ok c)
+
+pub returns-clause-rearranged : goal.returns-clause-rearranged
+returns-clause-rearranged c = same_form_when_rearranged (option_copied c.args.prefer) c.args.bytes.now c.in_ok-text.text.items (returns-clause-ok c)

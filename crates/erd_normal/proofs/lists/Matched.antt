@@ -1,0 +1,229 @@
+-- Lists whose entries are related one by one, but for their order.
+use Rattle.std.proofs.Common.{◌≡◌, ◌≤◌, suc, List, [], ◌∷◌, ◌++◌, map, filter, filter_map, flat_map, find, length, Bool, true, false, true≢false, ◌||◌, cond, Option, Some, None, refl, sym, ap, ap₂, ◌∙◌, subst, arith}
+use Rattle.std.specs.List.{AllByRecursion, IsDistinct, cons_option, list_any}
+use Rattle.erd_check.proofs.Positions.{all_weakened}
+use Rattle.erd_check.proofs.Shapes.{false_unless}
+use Rattle.erd_check.proofs.Rising.{Has, here, later}
+use Rattle.erd_normal.proofs.lists.FoundBuilt.{AreApart}
+use Rattle.erd_normal.proofs.lists.Paired.{Paired, none, more}
+use Rattle.erd_normal.proofs.lists.Reordered.{Reordered, no_entry, one_kept, two_exchanged, in_turn, any-reordered, count-reordered, length-reordered, reordered_after, reordered_back, reordered_before, reordered_flat, reordered_map, reordered_self, reordered-has}
+
+-- the entries of the one list are related to those of the other, each to one, in some order
+pub record Matched {A B : Type 0} (R : A → B → Type 0) (xs : List A) (ys : List B) : Type 0 where
+  pub middle : List B
+  pub paired : Paired R xs middle
+  pub reordered : Reordered middle ys
+
+-- ---- entry by entry
+
+paired_self : {A : Type 0} (xs : List A) → Paired (λ x y. x ≡ y) xs xs
+paired_self [] = none
+paired_self (x ∷ xs) = more refl (paired_self xs)
+
+pub paired_map : {A B C : Type 0} {R : A → B → Type 0} (f : A → C) (g : B → C) → ((x : A) (y : B) → R x y → f x ≡ g y) → {xs : List A} {ys : List B} → Paired R xs ys → map f xs ≡ map g ys
+paired_map f g same none = refl
+paired_map f g same (more {x = x} {y = y} r rest) = ap₂ ◌∷◌ (same x y r) (paired_map f g same rest)
+
+pub paired_append : {A B : Type 0} {R : A → B → Type 0} {xs : List A} {ys : List B} (us : List A) (vs : List B) → Paired R xs ys → Paired R us vs → Paired R (xs ++ us) (ys ++ vs)
+paired_append us vs none h = h
+paired_append us vs (more r rest) h = more r (paired_append us vs rest h)
+
+-- a relation that holds of related entries of the lists
+pub paired_within : {A B : Type 0} {R : A → B → Type 0} (S : A → B → Type 0) {xs : List A} {ys : List B} → ((x : A) (y : B) → Has xs x → R x y → S x y) → Paired R xs ys → Paired S xs ys
+paired_within S h none = none
+paired_within S h (more {x = x} {y = y} r rest) = more (h x y here r) (paired_within S (λ a b i. h a b (later i)) rest)
+
+paired_back : {A B : Type 0} {R : A → B → Type 0} {xs : List A} {ys : List B} (y : B) → Paired R xs ys → Has ys y → (x : A) × Has xs x × R x y
+paired_back y none h = elim h [ ]
+paired_back y (more {x = x} r rest) here = (x, here, r)
+paired_back y (more r rest) (later h) = let b = paired_back y rest h in (b.0, later b.1, b.2)
+
+-- ---- in some order
+
+pub matched_in_order : {A B : Type 0} {R : A → B → Type 0} {xs : List A} {ys : List B} → Paired R xs ys → Matched R xs ys
+matched_in_order {ys = ys} h = record { middle = ys; paired = h; reordered = reordered_self ys }
+
+pub matched_none : {A B : Type 0} (R : A → B → Type 0) → Matched R [] []
+matched_none R = record { middle = []; paired = none; reordered = no_entry }
+
+pub matched_then : {A B : Type 0} {R : A → B → Type 0} {xs : List A} {ys zs : List B} → Matched R xs ys → Reordered ys zs → Matched R xs zs
+matched_then h k = record { middle = h.middle; paired = h.paired; reordered = in_turn h.reordered k }
+
+pub matched_within : {A B : Type 0} {R : A → B → Type 0} (S : A → B → Type 0) {xs : List A} {ys : List B} → ((x : A) (y : B) → Has xs x → R x y → S x y) → Matched R xs ys → Matched S xs ys
+matched_within S h m = record { middle = m.middle; paired = paired_within S h m.paired; reordered = m.reordered }
+
+-- each entry of the second list has one of the first to which it is related
+pub matched_back : {A B : Type 0} {R : A → B → Type 0} {xs : List A} {ys : List B} (y : B) → Matched R xs ys → Has ys y → (x : A) × Has xs x × R x y
+matched_back y m h = paired_back y m.paired (reordered-has y (reordered_back m.reordered) h)
+
+-- what the relation keeps is reordered
+pub matched_map : {A B C : Type 0} {R : A → B → Type 0} (f : A → C) (g : B → C) → ((x : A) (y : B) → R x y → f x ≡ g y) → {xs : List A} {ys : List B} → Matched R xs ys → Reordered (map f xs) (map g ys)
+matched_map f g same {ys = ys} m = subst (λ zs. Reordered zs (map g ys)) (sym (paired_map f g same m.paired)) (reordered_map g m.reordered)
+
+pub matched_append : {A B : Type 0} {R : A → B → Type 0} {xs us : List A} {ys vs : List B} → Matched R xs ys → Matched R us vs → Matched R (xs ++ us) (ys ++ vs)
+matched_append {ys = ys} m n = record {
+  middle = m.middle ++ n.middle;
+  paired = paired_append _ n.middle m.paired n.paired;
+  reordered = in_turn (reordered_before n.middle m.reordered) (reordered_after ys n.reordered);
+}
+
+flat_paired : {A B C D : Type 0} {R : A → B → Type 0} {S : C → D → Type 0} (f : A → List C) (g : B → List D) → {xs : List A} {ys : List B} → ((x : A) (y : B) → Has xs x → R x y → Matched S (f x) (g y))
+    → Paired R xs ys → Matched S (flat_map f xs) (flat_map g ys)
+flat_paired {S = S} f g each none = matched_none S
+flat_paired f g each (more {x = x} {y = y} r rest) = matched_append (each x y here r) (flat_paired f g (λ a b h. each a b (later h)) rest)
+
+-- lists of lists
+pub matched_flat : {A B C D : Type 0} {R : A → B → Type 0} {S : C → D → Type 0} (f : A → List C) (g : B → List D) → {xs : List A} {ys : List B} → ((x : A) (y : B) → Has xs x → R x y → Matched S (f x) (g y))
+    → Matched R xs ys → Matched S (flat_map f xs) (flat_map g ys)
+matched_flat f g each m = matched_then (flat_paired f g each m.paired) (reordered_flat g m.reordered)
+
+-- ---- what is found
+
+-- one entry at most passes the test
+pub record AtMostOne {A : Type 0} (test : A → Bool) (xs : List A) : Type 0 where
+  pub few : length (filter test xs) ≤ 1
+
+nothing_kept : {A : Type 0} (test : A → Bool) (xs : List A) → AllByRecursion (λ x. test x ≡ false) xs → filter test xs ≡ []
+nothing_kept test [] h = refl
+nothing_kept test (x ∷ xs) h = ap (λ b. cond b (x ∷ filter test xs) (filter test xs)) h.0 ∙ nothing_kept test xs h.1
+
+pub one_if_apart : {A : Type 0} (test : A → Bool) (xs : List A) → AreApart test xs → AtMostOne test xs
+one_if_apart test [] h = record { few = omega arith }
+one_if_apart {A} test (x ∷ xs) h = at (test x) refl (one_if_apart test xs h.1)
+  where
+    at : (b : Bool) → test x ≡ b → AtMostOne test xs → AtMostOne test (x ∷ xs)
+    at true is few =
+        record { few = let e : filter test (x ∷ xs) ≡ x ∷ [] = rw (is, nothing_kept test xs (h.0 is)) refl in let l = ap length e in omega arith }
+    at false is few = record { few = let e : filter test (x ∷ xs) ≡ filter test xs = rw is refl in let l = ap length e in let f = few.few in omega arith }
+
+rest_few : {A : Type 0} (test : A → Bool) (x : A) (xs : List A) → AtMostOne test (x ∷ xs) → AtMostOne test xs
+rest_few {A} test x xs h = at (test x) refl
+  where
+    at : (b : Bool) → test x ≡ b → AtMostOne test xs
+    at true is = record { few = let e : filter test (x ∷ xs) ≡ x ∷ filter test xs = rw is refl in let l = ap length e in let f = h.few in omega arith }
+    at false is = record { few = let e : filter test (x ∷ xs) ≡ filter test xs = rw is refl in let l = ap length e in let f = h.few in omega arith }
+
+not_both : {A : Type 0} (test : A → Bool) (x y : A) (xs : List A) → AtMostOne test (x ∷ (y ∷ xs)) → test x ≡ true → test y ≡ true → ⊥
+not_both test x y xs h p q =
+    let e : filter test (x ∷ (y ∷ xs)) ≡ x ∷ (y ∷ filter test xs) = rw (p, q) refl in
+    let l = ap length e in let f = h.few in omega arith
+
+either_first : {A : Type 0} (test : A → Bool) (x y : A) (xs : List A) → AtMostOne test (x ∷ (y ∷ xs)) → find test (x ∷ (y ∷ xs)) ≡ find test (y ∷ (x ∷ xs))
+either_first {A} test x y xs h = at (test x) (test y) refl refl
+  where
+    at : (a b : Bool) → test x ≡ a → test y ≡ b → cond (test x) (Some x) (cond (test y) (Some y) (find test xs)) ≡ cond (test y) (Some y) (cond (test x) (Some x) (find test xs))
+    at true true p q = absurd (not_both test x y xs h p q)
+    at true false p q = rw (p, q) refl
+    at false true p q = rw (p, q) refl
+    at false false p q = rw (p, q) refl
+
+pub find-reordered : {A : Type 0} (test : A → Bool) {xs ys : List A} → Reordered xs ys → AtMostOne test xs → find test xs ≡ find test ys
+find-reordered test no_entry few = refl
+find-reordered test (one_kept {x = x} {xs = xs} h) few = ap (λ o. cond (test x) (Some x) o) (find-reordered test h (rest_few test x xs few))
+find-reordered test (two_exchanged {x = x} {y = y} {xs = xs}) few = either_first test x y xs few
+find-reordered test (in_turn h k) few =
+    find-reordered test h few ∙ find-reordered test k (record { few = subst (λ n. n ≤ 1) (count-reordered test h) few.few })
+
+-- what is found in both, or in neither
+pub data Both {A B : Type 0} (R : A → B → Type 0) : Option A → Option B → Type 0 where
+  neither : Both R None None
+  both : {x : A} {y : B} → R x y → Both R (Some x) (Some y)
+
+module _ {A B : Type 0} {R : A → B → Type 0} (test : A → Bool) (test' : B → Bool) (same : (x : A) (y : B) → R x y → test x ≡ test' y) where
+  pub paired_find : {xs : List A} {ys : List B} → Paired R xs ys → Both R (find test xs) (find test' ys)
+  paired_find none = neither
+  paired_find (more {x = x} {y = y} {xs = xs} {ys = ys} r rest) = at (test x) (test' y) (same x y r) (paired_find rest)
+    where
+      at : (a b : Bool) → a ≡ b → Both R (find test xs) (find test' ys) → Both R (cond a (Some x) (find test xs)) (cond b (Some y) (find test' ys))
+      at true true e h = both r
+      at true false e h = cc
+      at false true e h = cc
+      at false false e h = h
+
+  paired_count : {xs : List A} {ys : List B} → Paired R xs ys → length (filter test xs) ≡ length (filter test' ys)
+  paired_count none = refl
+  paired_count (more {x = x} {y = y} {xs = xs} {ys = ys} r rest) = at (test x) (test' y) (same x y r) (paired_count rest)
+    where
+      at : (a b : Bool) → a ≡ b → length (filter test xs) ≡ length (filter test' ys) → length (cond a (x ∷ filter test xs) (filter test xs)) ≡ length (cond b (y ∷ filter test' ys) (filter test' ys))
+      at true true e h = ap suc h
+      at true false e h = cc
+      at false true e h = cc
+      at false false e h = h
+
+  pub matched_find : {xs : List A} {ys : List B} → Matched R xs ys → AtMostOne test xs → Both R (find test xs) (find test' ys)
+  matched_find {xs = xs} m few =
+      subst (Both R (find test xs)) (find-reordered test' m.reordered (record { few = subst (λ n. n ≤ 1) (paired_count m.paired) few.few })) (paired_find m.paired)
+
+  pub matched_count : {xs : List A} {ys : List B} → Matched R xs ys → length (filter test xs) ≡ length (filter test' ys)
+  matched_count m = paired_count m.paired ∙ count-reordered test' m.reordered
+
+-- ---- lists of values that are all different
+
+all_reordered : {A : Type 0} (P : A → Type 0) {xs ys : List A} → Reordered xs ys → AllByRecursion P xs → AllByRecursion P ys
+all_reordered P no_entry a = a
+all_reordered P (one_kept h) a = (a.0, all_reordered P h a.1)
+all_reordered P two_exchanged a = (a.1.0, (a.0, a.1.1))
+all_reordered P (in_turn h k) a = all_reordered P k (all_reordered P h a)
+
+pub distinct-reordered : {A : Type 0} (test : A → A → Bool) {xs ys : List A} → ((x y : A) → Has xs x → Has xs y → test x y ≡ false → test y x ≡ false)
+    → Reordered xs ys → IsDistinct test xs → IsDistinct test ys
+unfolding IsDistinct
+distinct-reordered test turns no_entry d = d
+distinct-reordered test turns (one_kept {x = x} h) d =
+    (all_reordered (λ y. test x y ≡ false) h d.0, distinct-reordered test (λ y z i j. turns y z (later i) (later j)) h d.1)
+distinct-reordered test turns (two_exchanged {x = x} {y = y}) d = ((turns x y here (later here) d.0.0, d.1.0), (d.0.1, d.1.1))
+distinct-reordered test turns (in_turn h k) d =
+    distinct-reordered test (λ x y i j. turns x y (reordered-has x (reordered_back h) i) (reordered-has y (reordered_back h) j)) k (distinct-reordered test turns h d)
+
+-- lists of values that are all different are matched by such lists, where a test that tells the others' entries apart tells theirs apart
+pub distinct-paired : {A B : Type 0} {R : A → B → Type 0} (test : A → A → Bool) (test' : B → B → Bool) {xs : List A} {ys : List B}
+    → ((x x' : A) (y y' : B) → Has xs x → Has xs x' → R x y → R x' y' → test' y y' ≡ true → test x x' ≡ true) → Paired R xs ys → IsDistinct test xs → IsDistinct test' ys
+unfolding IsDistinct
+distinct-paired test test' tells none d = tt
+distinct-paired {A} {B} {R} test test' tells (more {x = x} {y = y} {xs = xs} {ys = ys} r rest) d = (
+  apart (λ x' h. h) rest d.0,
+  distinct-paired test test' (λ a a' b b' i j. tells a a' b b' (later i) (later j)) rest d.1,
+)
+  where
+    apart : {us : List A} {vs : List B} → ((x' : A) → Has us x' → Has xs x') → Paired R us vs → AllByRecursion (λ x'. test x x' ≡ false) us → AllByRecursion (λ y'. test' y y' ≡ false) vs
+    apart inside none a = tt
+    apart inside (more {x = x'} {y = y'} s more_of) a =
+        (false_unless (test' y y') (λ e. true≢false (sym (tells x x' y y' here (later (inside x' here)) r s e) ∙ a.0)), apart (λ z h. inside z (later h)) more_of a.1)
+
+-- as many entries
+paired_length : {A B : Type 0} {R : A → B → Type 0} {xs : List A} {ys : List B} → Paired R xs ys → length xs ≡ length ys
+paired_length none = refl
+paired_length (more r rest) = ap suc (paired_length rest)
+
+pub matched_length : {A B : Type 0} {R : A → B → Type 0} {xs : List A} {ys : List B} → Matched R xs ys → length xs ≡ length ys
+matched_length m = paired_length m.paired ∙ length-reordered m.reordered
+
+-- entries that are equal are the same entries in some order
+paired_equal : {A : Type 0} {R : A → A → Type 0} {xs ys : List A} → ((x y : A) → R x y → x ≡ y) → Paired R xs ys → xs ≡ ys
+paired_equal same none = refl
+paired_equal same (more {x = x} {y = y} r rest) = ap₂ ◌∷◌ (same x y r) (paired_equal same rest)
+
+pub matched_equal : {A : Type 0} {R : A → A → Type 0} {xs ys : List A} → ((x y : A) → R x y → x ≡ y) → Matched R xs ys → Reordered xs ys
+matched_equal {ys = ys} same m = subst (λ zs. Reordered zs ys) (sym (paired_equal same m.paired)) m.reordered
+
+-- whether an entry passes a test
+paired_any : {A B : Type 0} {R : A → B → Type 0} (test : A → Bool) (test' : B → Bool) {xs : List A} {ys : List B} → ((x : A) (y : B) → R x y → test x ≡ test' y) → Paired R xs ys → list_any test xs ≡ list_any test' ys
+paired_any test test' same none = refl
+paired_any test test' same (more {x = x} {y = y} r rest) = ap₂ ◌||◌ (same x y r) (paired_any test test' same rest)
+
+pub matched_any : {A B : Type 0} {R : A → B → Type 0} (test : A → Bool) (test' : B → Bool) {xs : List A} {ys : List B} → ((x : A) (y : B) → R x y → test x ≡ test' y) → Matched R xs ys → list_any test xs ≡ list_any test' ys
+matched_any test test' same m = paired_any test test' same m.paired ∙ any-reordered test' m.reordered
+
+-- no two entries pass a test that two different ones do not pass
+pub apart_distinct : {A : Type 0} (test : A → Bool) (both_pass : A → A → Bool) (xs : List A) → ((x y : A) → test x ≡ true → test y ≡ true → both_pass x y ≡ true) → IsDistinct both_pass xs → AreApart test xs
+unfolding IsDistinct
+apart_distinct test both_pass [] passes d = tt
+apart_distinct test both_pass (x ∷ xs) passes d = (
+  λ h. all_weakened (λ y. both_pass x y ≡ false) (λ y. test y ≡ false) xs (λ y apart. false_unless (test y) (λ k. true≢false (sym (passes x y h k) ∙ apart))) d.0,
+  apart_distinct test both_pass xs passes d.1,
+)
+
+-- the values that a function keeps
+pub paired_kept : {A B C : Type 0} {R : A → B → Type 0} (f : A → Option C) (g : B → Option C) {xs : List A} {ys : List B} → ((x : A) (y : B) → R x y → f x ≡ g y) → Paired R xs ys → filter_map f xs ≡ filter_map g ys
+paired_kept f g same none = refl
+paired_kept f g same (more {x = x} {y = y} r rest) = ap₂ cons_option (same x y r) (paired_kept f g same rest)

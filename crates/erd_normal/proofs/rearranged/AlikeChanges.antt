@@ -1,0 +1,198 @@
+-- A renaming and an exchange of two entries of a set make values that are alike.
+use Rattle.std.proofs.Common.{◌≡◌, ◌<◌, ℕ, zero, suc, List, [], ◌∷◌, Bool, true, false, cond, ◌&&◌, length, Option, Some, None, option_and_then, option_map, is_eq, Ordering, Less, Equal, Greater, nat_cmp, refl, sym, ap, ◌∙◌, subst, arith}
+use Rattle.std.proofs.lemmas.Map.Text.{is_eq-slice_cmp}
+use Rattle.std.specs.Cmp.Lexicographic.{slice_cmp}
+use Rattle.std.specs.List.{swap}
+use Rattle.std.specs.Prelude.{IsSomeAnd, IsTrue}
+use Rattle.serde_json.specs.Data.{Data, null, boolean, number, string, array, object, Items, no_items, item, Members, no_members, member}
+use Rattle.serde_json.specs.Find.{get_item, get_member}
+use Rattle.serde_json.specs.View.{items_of}
+use Rattle.erd_tables.specs.declared.class.Role.TheVariants as role
+use Rattle.erd_tables.specs.declared.place.Step.{Step}
+use Rattle.erd_tables.specs.declared.place.Step.TheVariants.{Name, At}
+use Rattle.erd_check.specs.Values.{entries_of, list_of_items}
+use Rattle.erd_check.specs.Wants.{Asked, asked, asked_from, asked_inside, asked_of_member, entry_want, is_compared_set, is_repeated, is_table_set, scope_inside, want_of_name}
+use Rattle.erd_check.specs.declared.want.Scope.{Scope}
+use Rattle.erd_check.specs.declared.want.Want.{Want}
+use Rattle.erd_check.specs.declared.want.Want.TheVariants.{Object}
+use Rattle.erd_check.proofs.Lists.{list_of_items-items_of}
+use Rattle.erd_check.proofs.Steps.{text_from_equal}
+use Rattle.erd_normal.specs.Rearranged.{HasEntries, Renaming, changed_at, exchanged, is_id_text, item_changed, member_changed, renamed_items, renamed_members, renamed_value, replaced_text, swapped}
+use Rattle.erd_normal.proofs.lists.Reordered.{Reordered, reordered_self, reordered_swap}
+use Rattle.erd_normal.proofs.rearranged.Alike.{Alike, AlikeMembers, AreAlike, IsArranged}
+
+arranged_self : (b : Bool) (ds : List Data) → IsArranged b ds ds
+arranged_self true ds = reordered_self ds
+arranged_self false ds = refl
+
+-- ---- renaming
+
+text_renamed : (pairs : Renaming) (s : List ℕ) (b : Bool) → cond b (string (replaced_text pairs s)) (string s) ≡ string (cond b (replaced_text pairs s) s)
+text_renamed pairs s true = refl
+text_renamed pairs s false = refl
+
+mutual
+  pub renamed_alike : (pairs : Renaming) (w : Option Want) (d : Data) → Alike (replaced_text pairs) w d (renamed_value pairs w d)
+  renamed_alike pairs None null = refl
+  renamed_alike pairs None (boolean b) = refl
+  renamed_alike pairs None (number n) = refl
+  renamed_alike pairs None (string s) = refl
+  renamed_alike pairs None (array ds) = refl
+  renamed_alike pairs None (object ms) = refl
+  renamed_alike pairs (Some w) null = refl
+  renamed_alike pairs (Some w) (boolean b) = refl
+  renamed_alike pairs (Some w) (number n) = refl
+  renamed_alike pairs (Some w) (string s) = text_renamed pairs s (is_id_text w)
+  renamed_alike pairs (Some w) (array ds) =
+      let es = renamed_items pairs (entry_want w) ds in
+      (list_of_items es, es, refl, renamed_entries pairs (entry_want w) ds, arranged_self (is_table_set w) (list_of_items es))
+  renamed_alike pairs (Some w) (object ms) =
+      (renamed_members pairs (scope_inside w (object ms)) ms, refl, renamed_names pairs (scope_inside w (object ms)) ms)
+
+  renamed_entries : (pairs : Renaming) (w : Option Want) (ds : Items) → AreAlike (replaced_text pairs) w ds (list_of_items (renamed_items pairs w ds))
+  renamed_entries pairs w no_items = refl
+  renamed_entries pairs w (item d ds) =
+      (renamed_value pairs w d, list_of_items (renamed_items pairs w ds), refl, renamed_alike pairs w d, renamed_entries pairs w ds)
+
+  renamed_names : (pairs : Renaming) (s : Scope) (ms : Members) → AlikeMembers (replaced_text pairs) s ms (renamed_members pairs s ms)
+  renamed_names pairs s no_members = refl
+  renamed_names pairs s (member k d ms) =
+      (renamed_value pairs (want_of_name s k) d, renamed_members pairs s ms, refl, renamed_alike pairs (want_of_name s k) d, renamed_names pairs s ms)
+
+-- ---- nothing changed
+
+abbrev pub as_it_is : List ℕ → List ℕ
+as_it_is s = s
+
+text_kept : (s : List ℕ) (b : Bool) → string s ≡ string (cond b s s)
+text_kept s true = refl
+text_kept s false = refl
+
+mutual
+  pub alike_self : (w : Option Want) (d : Data) → Alike as_it_is w d d
+  alike_self None null = refl
+  alike_self None (boolean b) = refl
+  alike_self None (number n) = refl
+  alike_self None (string s) = refl
+  alike_self None (array ds) = refl
+  alike_self None (object ms) = refl
+  alike_self (Some w) null = refl
+  alike_self (Some w) (boolean b) = refl
+  alike_self (Some w) (number n) = refl
+  alike_self (Some w) (string s) = text_kept s (is_id_text w)
+  alike_self (Some w) (array ds) = (list_of_items ds, ds, refl, entries_self (entry_want w) ds, arranged_self (is_table_set w) (list_of_items ds))
+  alike_self (Some w) (object ms) = (ms, refl, members_self (scope_inside w (object ms)) ms)
+
+  entries_self : (w : Option Want) (ds : Items) → AreAlike as_it_is w ds (list_of_items ds)
+  entries_self w no_items = refl
+  entries_self w (item d ds) = (d, list_of_items ds, refl, alike_self w d, entries_self w ds)
+
+  members_self : (s : Scope) (ms : Members) → AlikeMembers as_it_is s ms ms
+  members_self s no_members = refl
+  members_self s (member k d ms) = (d, ms, refl, alike_self (want_of_name s k) d, members_self s ms)
+
+-- ---- exchanging
+
+-- an array of a set with two entries exchanged
+abbrev Ends : ℕ → ℕ → Asked → Type 0
+Ends i j a = IsTrue (is_table_set a.want) × (i < length (entries_of a.value)) × (j < length (entries_of a.value))
+
+swapped_alike : (i j : ℕ) (w : Want) (d : Data) → is_table_set w ≡ true → i < length (entries_of d) → j < length (entries_of d) → Alike as_it_is (Some w) d (swapped i j d)
+swapped_alike i j w (array ds) set low high =
+    let es = items_of (swap (list_of_items ds) i j) in (
+      list_of_items ds,
+      es,
+      refl,
+      entries_self (entry_want w) ds,
+      subst (λ b. IsArranged b (list_of_items ds) (list_of_items es)) (sym set)
+          (subst (Reordered (list_of_items ds)) (sym (list_of_items-items_of (swap (list_of_items ds) i j))) (reordered_swap (list_of_items ds) i j low high)),
+    )
+swapped_alike i j w null set low high = absurd (omega arith)
+swapped_alike i j w (boolean b) set low high = absurd (omega arith)
+swapped_alike i j w (number n) set low high = absurd (omega arith)
+swapped_alike i j w (string s) set low high = absurd (omega arith)
+swapped_alike i j w (object ms) set low high = absurd (omega arith)
+
+-- a change inside a value that is alike to what stood there
+abbrev MakesAlike : (Data → Data) → Data → Want → Type 0
+MakesAlike f d w = Alike as_it_is (Some w) d (f d)
+
+item_alike : (f : Data → Data) (ss : List Step) (w : Want) (i : ℕ) (ds : Items) → ((d : Data) → get_item i ds ≡ Some d → Alike as_it_is (Some w) d (changed_at f ss d))
+    → AreAlike as_it_is (Some w) ds (list_of_items (item_changed f i ss ds))
+item_alike f ss w i no_items each = refl
+item_alike f ss w zero (item d ds) each = (changed_at f ss d, list_of_items ds, refl, each d refl, entries_self (Some w) ds)
+item_alike f ss w (suc i) (item d ds) each = (d, list_of_items (item_changed f i ss ds), refl, alike_self (Some w) d, item_alike f ss w i ds each)
+
+member_alike : (f : Data → Data) (ss : List Step) (s : Scope) (n : List ℕ) (w : Want) (ms : Members) → want_of_name s n ≡ Some w
+    → ((d : Data) → get_member n ms ≡ Some d → Alike as_it_is (Some w) d (changed_at f ss d)) → AlikeMembers as_it_is s ms (member_changed f n ss ms)
+member_alike f ss s n w no_members asks each = refl
+member_alike f ss s n w (member k d ms) asks each =
+    subst (λ b. AlikeMembers as_it_is s (member k d ms) (cond b (member k (changed_at f ss d) ms) (member k d (member_changed f n ss ms)))) (is_eq-slice_cmp n k)
+    (at (slice_cmp nat_cmp n k) refl (member_alike f ss s n w ms asks))
+  where
+    Later : Type 0
+    Later = ((e : Data) → get_member n ms ≡ Some e → Alike as_it_is (Some w) e (changed_at f ss e)) → AlikeMembers as_it_is s ms (member_changed f n ss ms)
+
+    at : (o : Ordering) → slice_cmp nat_cmp n k ≡ o → Later
+        → AlikeMembers as_it_is s (member k d ms) (cond (is_eq o) (member k (changed_at f ss d) ms) (member k d (member_changed f n ss ms)))
+    at Less is more =
+        (d, member_changed f n ss ms, refl, alike_self (want_of_name s k) d, more (λ e g. each e (rw is g)))
+    at Equal is more =
+        let same : n ≡ k = text_from_equal n k is in (
+          changed_at f ss d,
+          ms,
+          refl,
+          subst (λ o. Alike as_it_is o d (changed_at f ss d)) (sym asks ∙ ap (want_of_name s) same) (each d (rw is refl)),
+          members_self s ms,
+        )
+    at Greater is more =
+        (d, member_changed f n ss ms, refl, alike_self (want_of_name s k) d, more (λ e g. each e (rw is g)))
+
+module _ (i j : ℕ) where
+  -- what is asked at a place inside a value is such a set
+  abbrev HoldsSet : List Step → Asked → Type 0
+  HoldsSet ss a = IsSomeAnd (asked_from a ss) (Ends i j)
+
+  abbrev Inside : List Step → Type 0
+  Inside ss = (a : Asked) → HoldsSet ss a → Alike as_it_is (Some a.want) a.value (changed_at (swapped i j) ss a.value)
+
+  abbrev HoldsInside : List Step → Option Asked → Type 0
+  HoldsInside ss o = IsSomeAnd (option_and_then (λ b. asked_from b ss) o) (Ends i j)
+
+  under_name : (ss : List Step) → Inside ss → (s : Scope) (n : List ℕ) (ms : Members) (v : Option Want) (o : Option Data) → want_of_name s n ≡ v → get_member n ms ≡ o
+      → HoldsInside ss (asked_of_member v o) → AlikeMembers as_it_is s ms (member_changed (swapped i j) n ss ms)
+  under_name ss inside s n ms None o asks found h = absurd h
+  under_name ss inside s n ms (Some v) None asks found h = absurd h
+  under_name ss inside s n ms (Some v) (Some x) asks found h =
+      member_alike (swapped i j) ss s n v ms asks (λ d e.
+      let same : x ≡ d = cc in subst (λ y. Alike as_it_is (Some v) y (changed_at (swapped i j) ss y)) same (inside (asked v x) h))
+
+  at_position : (ss : List Step) → Inside ss → (v : Option Want) (in_set : Bool) (k : ℕ) (ds : Items) (o : Option Data) → get_item k ds ≡ o
+      → HoldsInside ss (option_and_then (λ w. option_map (λ d. record { want = w; value = d; repeated = in_set && is_repeated ds k d }) o) v)
+      → AreAlike as_it_is v ds (list_of_items (item_changed (swapped i j) k ss ds))
+  at_position ss inside None in_set k ds o found h = absurd h
+  at_position ss inside (Some v) in_set k ds None found h = absurd h
+  at_position ss inside (Some v) in_set k ds (Some x) found h =
+      item_alike (swapped i j) ss v k ds (λ d e.
+      let same : x ≡ d = cc in
+      subst (λ y. Alike as_it_is (Some v) y (changed_at (swapped i j) ss y)) same (inside (record { want = v; value = x; repeated = in_set && is_repeated ds k x }) h))
+
+  one_step : (ss : List Step) → Inside ss → (w : Want) (d : Data) (s : Step) → HoldsInside ss (asked_inside w d s) → Alike as_it_is (Some w) d (changed_at (swapped i j) (s ∷ ss) d)
+  one_step ss inside w (object ms) (Name n) h =
+      (member_changed (swapped i j) n ss ms, refl, under_name ss inside (scope_inside w (object ms)) n ms (want_of_name (scope_inside w (object ms)) n) (get_member n ms) refl refl h)
+  one_step ss inside w (array ds) (At k) h =
+      let es = item_changed (swapped i j) k ss ds in
+      (list_of_items es, es, refl, at_position ss inside (entry_want w) (is_compared_set w) k ds (get_item k ds) refl h, arranged_self (is_table_set w) (list_of_items es))
+  one_step ss inside w null s h = absurd h
+  one_step ss inside w (boolean b) s h = absurd h
+  one_step ss inside w (number n) s h = absurd h
+  one_step ss inside w (string t) s h = absurd h
+  one_step ss inside w (array ds) (Name n) h = absurd h
+  one_step ss inside w (object ms) (At k) h = absurd h
+
+  exchanged_from : (ss : List Step) → Inside ss
+  exchanged_from [] a h = swapped_alike i j a.want a.value h.0 h.1 h.2
+  exchanged_from (s ∷ ss) a h = one_step ss (exchanged_from ss) a.want a.value s h
+
+pub exchanged_alike : (t : Data) (p : List Step) (i j : ℕ) → HasEntries t p i j → Alike as_it_is (Some (Object role.Report)) t (exchanged p i j t)
+exchanged_alike t p i j h = exchanged_from i j p (asked (Object role.Report) t) h

@@ -1,0 +1,149 @@
+-- What stands in an object of a report, and what in one that is alike to it: under each name, and in each array.
+use Rattle.std.proofs.Common.{◌≡◌, ℕ, List, [], true, false, if◌then◌else◌, Option, Some, None, option_map, codes, refl, sym, ap, ◌∙◌, subst}
+use Rattle.std.specs.Option.{option_map_or}
+use Rattle.std.specs.Str.{bytes_eq}
+use Rattle.serde_json.specs.Data.{Data, null, boolean, number, string, array, object, Members}
+use Rattle.serde_json.specs.Find.{as_str, get, get_member}
+use Rattle.erd_tables.specs.Table.{is_required, kind_of_member}
+use Rattle.erd_tables.specs.declared.class.Class.{Class}
+use Rattle.erd_tables.specs.declared.class.Family.{Family}
+use Rattle.erd_tables.specs.declared.class.Role.{Role}
+use Rattle.erd_tables.specs.declared.class.Role.TheVariants as role
+use Rattle.erd_tables.specs.declared.member.MemberKind.TheVariants as kind
+use Rattle.erd_tables.specs.declared.place.Step.TheVariants.{At}
+use Rattle.erd_check.specs.Faults.{NoneOf, ShapeFault}
+use Rattle.erd_check.specs.Values.{entries_at, entries_of, list_of_items}
+use Rattle.erd_check.specs.Wants.{asked, is_table_set, class_of_object, entry_want, is_compared_set, member_want, scope_inside, want_of_name}
+use Rattle.erd_check.specs.declared.want.Scope.TheVariants as scope
+use Rattle.erd_check.specs.declared.want.Want.{Want}
+use Rattle.erd_check.specs.declared.want.Want.TheVariants.{ClassText, Member, Object}
+use Rattle.erd_check.proofs.Entries.{list_of_items-place}
+use Rattle.erd_check.proofs.ObjectsAt.{ObjectAt, ObjectIn}
+use Rattle.erd_check.proofs.Rising.{Has}
+use Rattle.erd_check.proofs.Shapes.{AsksObject, Within, Within-step, member_within, of_label, of_role}
+use Rattle.erd_check.proofs.TableKinds.{want_by_kind}
+use Rattle.erd_normal.specs.Rearranged.{is_id_text}
+use Rattle.erd_normal.proofs.lists.Matched.{Both, both, neither, Matched, matched_none, matched_within, paired_within}
+use Rattle.erd_normal.proofs.lists.Paired.{Paired, none}
+use Rattle.erd_normal.proofs.rearranged.Alike.{Alike}
+use Rattle.erd_normal.proofs.rearranged.PlainValues.{in_order}
+use Rattle.erd_normal.proofs.rearranged.AlikeParts.{alike_array, alike_entries, alike_member}
+
+-- ---- arrays
+
+module _ (ρ : List ℕ → List ℕ) where
+  -- what has no entries is alike to what has none
+  pub alike_listed : (w : Want) (d e : Data) → Alike ρ (Some w) d e → Matched (Alike ρ (entry_want w)) (entries_of d) (entries_of e)
+  alike_listed w null e h = subst (λ x. Matched (Alike ρ (entry_want w)) [] (entries_of x)) h (matched_none _)
+  alike_listed w (boolean b) e h = subst (λ x. Matched (Alike ρ (entry_want w)) [] (entries_of x)) h (matched_none _)
+  alike_listed w (number n) e h = subst (λ x. Matched (Alike ρ (entry_want w)) [] (entries_of x)) h (matched_none _)
+  alike_listed w (string s) e h = subst (λ x. Matched (Alike ρ (entry_want w)) [] (entries_of x)) (sym h) (matched_none _)
+  alike_listed w (array ds) e h =
+      subst (λ x. Matched (Alike ρ (entry_want w)) (entries_of (array ds)) (entries_of x)) (sym h.2) (alike_array ρ w ds h.1 (subst (Alike ρ (Some w) (array ds)) h.2 h))
+  alike_listed w (object ms) e h = subst (λ x. Matched (Alike ρ (entry_want w)) [] (entries_of x)) (sym h.1) (matched_none _)
+
+  -- the entries of a list are alike one by one
+  pub alike_ordered : (w : Want) (d e : Data) → is_table_set w ≡ false → Alike ρ (Some w) d e → Paired (Alike ρ (entry_want w)) (entries_of d) (entries_of e)
+  alike_ordered w null e list h = subst (λ x. Paired (Alike ρ (entry_want w)) [] (entries_of x)) h none
+  alike_ordered w (boolean b) e list h = subst (λ x. Paired (Alike ρ (entry_want w)) [] (entries_of x)) h none
+  alike_ordered w (number n) e list h = subst (λ x. Paired (Alike ρ (entry_want w)) [] (entries_of x)) h none
+  alike_ordered w (string s) e list h = subst (λ x. Paired (Alike ρ (entry_want w)) [] (entries_of x)) (sym h) none
+  alike_ordered w (array ds) e list h =
+      subst (λ x. Paired (Alike ρ (entry_want w)) (entries_of (array ds)) (entries_of x)) (sym h.2)
+      (subst (Paired (Alike ρ (entry_want w)) (list_of_items ds)) (in_order (is_table_set w) h.0 (list_of_items h.1) list h.4) (alike_entries ρ (entry_want w) ds h.0 h.3))
+  alike_ordered w (object ms) e list h = subst (λ x. Paired (Alike ρ (entry_want w)) [] (entries_of x)) (sym h.1) none
+
+-- ---- values of a report
+
+-- a value of the report of which this is asked, and one that is alike
+pub record Related (ρ : List ℕ → List ℕ) (t : Data) (w : Want) (d e : Data) : Type 0 where
+  pub inside : Within t (asked w d)
+  pub is_alike : Alike ρ (Some w) d e
+
+module _ (ρ : List ℕ → List ℕ) (t : Data) where
+  entry_inside : (w v : Want) (d : Data) → entry_want w ≡ Some v → is_compared_set w ≡ false → Within t (asked w d) → (x : Data) → Has (entries_of d) x → Within t (asked v x)
+  entry_inside w v (array ds) asks apart inside x h =
+      let j = list_of_items-place ds x h in
+      Within-step t (asked w (array ds)) (asked v x) (At j.0) inside (rw (asks, apart, j.1) refl)
+  entry_inside w v null asks apart inside x h = elim h [ ]
+  entry_inside w v (boolean b) asks apart inside x h = elim h [ ]
+  entry_inside w v (number n) asks apart inside x h = elim h [ ]
+  entry_inside w v (string s) asks apart inside x h = elim h [ ]
+  entry_inside w v (object ms) asks apart inside x h = elim h [ ]
+
+  -- the entries of arrays that are not compared with one another
+  pub related_entries : (w v : Want) (d e : Data) → entry_want w ≡ Some v → is_compared_set w ≡ false → Related ρ t w d e → Matched (Related ρ t v) (entries_of d) (entries_of e)
+  related_entries w v d e asks apart r =
+      matched_within (Related ρ t v) (λ x y h k. record { inside = entry_inside w v d asks apart r.inside x h; is_alike = k })
+      (subst (λ o. Matched (Alike ρ o) (entries_of d) (entries_of e)) asks (alike_listed ρ w d e r.is_alike))
+
+  -- the entries of lists, one by one
+  pub related_ordered : (w v : Want) (d e : Data) → entry_want w ≡ Some v → is_compared_set w ≡ false → is_table_set w ≡ false → Related ρ t w d e → Paired (Related ρ t v) (entries_of d) (entries_of e)
+  related_ordered w v d e asks apart list r =
+      paired_within (Related ρ t v) (λ x y h k. record { inside = entry_inside w v d asks apart r.inside x h; is_alike = k })
+      (subst (λ o. Paired (Alike ρ o) (entries_of d) (entries_of e)) asks (alike_ordered ρ w d e list r.is_alike))
+
+  -- of a list that may be absent
+  pub related_list : (w v : Want) (o p : Option Data) → entry_want w ≡ Some v → is_compared_set w ≡ false → is_table_set w ≡ false → Both (Related ρ t w) o p
+      → Paired (Related ρ t v) (option_map_or entries_of o []) (option_map_or entries_of p [])
+  related_list w v None None asks apart list neither = none
+  related_list w v (Some d) (Some e) asks apart list (both r) = related_ordered w v d e asks apart list r
+  related_list w v None (Some e) asks apart list k = elim k [ ]
+  related_list w v (Some d) None asks apart list k = elim k [ ]
+
+  -- of an array that may be absent
+  pub related_listed : (w v : Want) (o p : Option Data) → entry_want w ≡ Some v → is_compared_set w ≡ false → Both (Related ρ t w) o p
+      → Matched (Related ρ t v) (option_map_or entries_of o []) (option_map_or entries_of p [])
+  related_listed w v None None asks apart neither = matched_none _
+  related_listed w v (Some d) (Some e) asks apart (both r) = related_entries w v d e asks apart r
+  related_listed w v None (Some e) asks apart k = elim k [ ]
+  related_listed w v (Some d) None asks apart k = elim k [ ]
+
+  -- ---- objects
+
+  module _ (clean : NoneOf (ShapeFault t)) where
+    scope_known : (w : Want) (q : Role) (c : Class) (ms : Members) → AsksObject w q → class_of_object q (object ms) ≡ Some c → scope_inside w (object ms) ≡ scope.Members q (Some c)
+    scope_known w q c ms of_role among = ap (scope.Members q) among
+    scope_known w q c ms of_label among = ap (scope.Members role.Label) among
+
+    want_known : (q : Role) (c : Class) (name : List ℕ) → bytes_eq name (codes "@type") ≡ false → want_of_name (scope.Members q (Some c)) name ≡ Some (member_want c name)
+    want_known q c name other = ap (λ b. if b then Some (ClassText q) else Some (member_want c name)) other
+
+    -- under each name but `@type` stand values that are related, or none
+    pub related_member : (w : Want) (q : Role) (c : Class) (ms : Members) → ObjectAt t w q c ms → (e : Data) → Alike ρ (Some w) (object ms) e
+        → (name : List ℕ) → bytes_eq name (codes "@type") ≡ false → Both (Related ρ t (member_want c name)) (get_member name ms) (get name e)
+    related_member w q c ms a e h name other =
+        subst (λ x. Both (Related ρ t (member_want c name)) (get_member name ms) (get name x)) (sym h.1)
+        (at (get_member name ms) (get_member name h.0) refl
+        (subst (λ o. Both (Alike ρ o) (get_member name ms) (get_member name h.0)) (ap (λ s. want_of_name s name) (scope_known w q c ms a.asks a.among) ∙ want_known q c name other)
+        (alike_member ρ (scope_inside w (object ms)) ms h.0 h.2 name)))
+      where
+        at : (o p : Option Data) → get_member name ms ≡ o → Both (Alike ρ (Some (member_want c name))) o p → Both (Related ρ t (member_want c name)) o p
+        at None None found neither = neither
+        at (Some d) (Some f) found (both r) = both (record { inside = member_within t clean w q ms c name d a.asks a.among other a.inside found; is_alike = r })
+        at None (Some f) found k = elim k [ ]
+        at (Some d) None found k = elim k [ ]
+
+    -- the same of an object with a role
+    pub related_in : (r : Role) (d e : Data) (o : ObjectIn t r d) → Related ρ t (Object r) d e → (name : List ℕ) → bytes_eq name (codes "@type") ≡ false
+        → Both (Related ρ t (member_want o.class name)) (get name d) (get name e)
+    related_in r d e o related name other =
+        subst (λ x. Both (Related ρ t (member_want o.class name)) (get name x) (get name e)) (sym o.is_object)
+        (related_member (Object r) r o.class o.ms o.at e (subst (λ x. Alike ρ (Some (Object r)) x e) o.is_object related.is_alike) name other)
+
+    -- the objects of a keyed array
+    pub related_array : (r : Role) (d e : Data) (o : ObjectIn t r d) → Related ρ t (Object r) d e → (f : Family) (name : List ℕ) → bytes_eq name (codes "@type") ≡ false
+        → kind_of_member o.class name ≡ kind.Keyed f → Matched (Related ρ t (Object (role.OfFamily f))) (entries_at name d) (entries_at name e)
+    related_array r d e o related f name other keyed =
+        related_listed (Member (kind.Keyed f) (is_required o.class name)) (Object (role.OfFamily f)) (get name d) (get name e) refl refl
+        (subst (λ x. Both (Related ρ t x) (get name d) (get name e)) (want_by_kind o.class name (kind.Keyed f) keyed refl) (related_in r d e o related name other))
+
+-- ---- texts of `@id`s and references
+
+pub related_id_text : (ρ : List ℕ → List ℕ) (w : Want) (d e : Data) → is_id_text w ≡ true → Alike ρ (Some w) d e → as_str e ≡ option_map ρ (as_str d)
+related_id_text ρ w null e is h = sym (ap as_str h)
+related_id_text ρ w (boolean b) e is h = sym (ap as_str h)
+related_id_text ρ w (number n) e is h = sym (ap as_str h)
+related_id_text ρ w (string s) e is h = ap as_str h ∙ ap (λ b. Some (if b then ρ s else s)) is
+related_id_text ρ w (array ds) e is h = ap as_str h.2
+related_id_text ρ w (object ms) e is h = ap as_str h.1

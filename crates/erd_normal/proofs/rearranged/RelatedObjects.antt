@@ -1,0 +1,170 @@
+-- The objects of a report and those of one that is alike to it: those of each family are matched, related objects have one key, and `@id`s that are
+-- one but for the function of texts.
+use Rattle.std.proofs.Common.{◌≡◌, ℕ, List, [], map, flat_map, Bool, false, Option, Some, None, option_and_then, option_map, codes, refl, sym, ap, ◌∙◌, subst}
+use Rattle.std.specs.Option.{option_map_or}
+use Rattle.std.specs.Str.{bytes_eq}
+use Rattle.serde_json.specs.Data.{Data}
+use Rattle.serde_json.specs.Find.{as_str, get}
+use Rattle.erd_tables.specs.Table.{is_required, kind_of_member}
+use Rattle.erd_tables.specs.declared.class.Class.TheVariants as class
+use Rattle.erd_tables.specs.declared.class.Family.{Family}
+use Rattle.erd_tables.specs.declared.class.Family.TheVariants as family
+use Rattle.erd_tables.specs.declared.class.Role.{Role}
+use Rattle.erd_tables.specs.declared.class.Role.TheVariants as role
+use Rattle.erd_tables.specs.declared.member.MemberKind.TheVariants as kind
+use Rattle.erd_check.specs.Faults.{NoneOf, ShapeFault}
+use Rattle.erd_check.specs.Values.{entries_at, entries_of}
+use Rattle.erd_check.specs.declared.want.Want.TheVariants.{Member, Object}
+use Rattle.erd_check.proofs.ObjectsAt.{ObjectIn, election_class, object_in, report_class}
+use Rattle.erd_check.proofs.Rising.{Has}
+use Rattle.erd_check.proofs.Shapes.{Within-root}
+use Rattle.erd_check.proofs.TableKinds.{want_by_kind}
+use Rattle.erd_meaning.specs.Keys.{Preference, key_of}
+use Rattle.erd_meaning.specs.Objects.{contests, elections, id_of, objects, placed_entries, report_of}
+use Rattle.erd_meaning.proofs.accepted.Skeleton.{values-placed_entries, values-placed_flat}
+use Rattle.erd_meaning.proofs.accepted.Standing.{contest_selections}
+use Rattle.erd_normal.proofs.built.LeastKeys.{key_of_identifiers-reordered, kind_of_identifiers}
+use Rattle.erd_normal.proofs.built.NormalGets.{kind_of_family_id}
+use Rattle.erd_normal.proofs.lists.Matched.{Both, both, neither, Matched, matched_equal, matched_flat, matched_map}
+use Rattle.erd_normal.proofs.lists.Paired.{Paired}
+use Rattle.erd_normal.proofs.lists.Reordered.{Reordered, no_entry}
+use Rattle.erd_normal.proofs.rearranged.Alike.{Alike}
+use Rattle.erd_normal.proofs.rearranged.PlainValues.{alike_plain}
+use Rattle.erd_normal.proofs.rearranged.RelatedMembers.{Related, alike_listed, related_array, related_id_text, related_in, related_list, related_listed}
+
+-- ---- values without their places
+
+-- the values of the objects of a family
+abbrev pub family_values : Family → Data → List Data
+family_values family.Unit t = entries_at (codes "GpUnit") t
+family_values family.Party t = entries_at (codes "Party") t
+family_values family.Person t = entries_at (codes "Person") t
+family_values family.Office t = entries_at (codes "Office") t
+family_values family.Header t = entries_at (codes "Header") t
+family_values family.Candidate t = flat_map (entries_at (codes "Candidate")) (entries_at (codes "Election") t)
+family_values family.Contest t = flat_map (entries_at (codes "Contest")) (entries_at (codes "Election") t)
+family_values family.Style t = flat_map (entries_at (codes "BallotStyle")) (entries_at (codes "Election") t)
+family_values family.Selection t = flat_map (entries_at (codes "ContestSelection")) (flat_map (entries_at (codes "Contest")) (entries_at (codes "Election") t))
+
+election_values : (t : Data) → map (λ o. o.value) (elections t) ≡ entries_at (codes "Election") t
+election_values t = values-placed_entries (codes "Election") (report_of t)
+
+values_in_elections : (t : Data) (name : List ℕ) → map (λ o. o.value) (flat_map (placed_entries name) (elections t)) ≡ flat_map (entries_at name) (entries_at (codes "Election") t)
+values_in_elections t name = values-placed_flat name (elections t) ∙ ap (flat_map (entries_at name)) (election_values t)
+
+pub object_values : (f : Family) (t : Data) → map (λ o. o.value) (objects f t) ≡ family_values f t
+object_values family.Unit t = values-placed_entries (codes "GpUnit") (report_of t)
+object_values family.Party t = values-placed_entries (codes "Party") (report_of t)
+object_values family.Person t = values-placed_entries (codes "Person") (report_of t)
+object_values family.Office t = values-placed_entries (codes "Office") (report_of t)
+object_values family.Header t = values-placed_entries (codes "Header") (report_of t)
+object_values family.Candidate t = values_in_elections t (codes "Candidate")
+object_values family.Contest t = values_in_elections t (codes "Contest")
+object_values family.Style t = values_in_elections t (codes "BallotStyle")
+object_values family.Selection t =
+    values-placed_flat (codes "ContestSelection") (contests t) ∙ ap (flat_map (entries_at (codes "ContestSelection"))) (values_in_elections t (codes "Contest"))
+
+-- ---- objects that are related
+
+module _ (ρ : List ℕ → List ℕ) (t : Data) (clean : NoneOf (ShapeFault t)) where
+  abbrev RelatedIn : Role → Data → Data → Type 0
+  RelatedIn r = Related ρ t (Object r)
+
+  identified : (required : Bool) (o p : Option Data) → Both (Related ρ t (Member kind.Identifiers required)) o p
+      → Reordered (option_map_or entries_of o []) (option_map_or entries_of p [])
+  identified required None None neither = no_entry
+  identified required (Some d) (Some e) (both r) =
+      matched_equal (λ x y h. alike_plain ρ (Object role.Identifier) x y refl h) (alike_listed ρ (Member kind.Identifiers required) d e r.is_alike)
+  identified required None (Some e) h = elim h [ ]
+  identified required (Some d) None h = elim h [ ]
+
+  -- related objects of a family have one key
+  pub related_key : (π : Preference) (f : Family) (d e : Data) → RelatedIn (role.OfFamily f) d e → key_of π d ≡ key_of π e
+  related_key π f d e r =
+      let o : ObjectIn t (role.OfFamily f) d = object_in t clean (role.OfFamily f) d r.inside in
+      let name = codes "ExternalIdentifier" in
+      key_of_identifiers-reordered π (entries_at name d) (entries_at name e)
+      (identified (is_required o.class name) (get name d) (get name e)
+      (subst (λ w. Both (Related ρ t w) (get name d) (get name e)) (want_by_kind o.class name kind.Identifiers (kind_of_identifiers o.class f o.role) refl)
+      (related_in ρ t clean (role.OfFamily f) d e o r name refl)))
+
+  -- and the same `@id` but for the function of texts
+  ids_found : (required : Bool) (o p : Option Data) → Both (Related ρ t (Member kind.Identity required)) o p → option_and_then as_str p ≡ option_map ρ (option_and_then as_str o)
+  ids_found required None None neither = refl
+  ids_found required (Some d) (Some e) (both r) = related_id_text ρ (Member kind.Identity required) d e refl r.is_alike
+  ids_found required None (Some e) h = elim h [ ]
+  ids_found required (Some d) None h = elim h [ ]
+
+  pub id_became : (f : Family) (d e : Data) → RelatedIn (role.OfFamily f) d e → id_of e ≡ option_map ρ (id_of d)
+  id_became f d e r =
+      let o : ObjectIn t (role.OfFamily f) d = object_in t clean (role.OfFamily f) d r.inside in
+      let name = codes "@id" in
+      ids_found (is_required o.class name) (get name d) (get name e)
+      (subst (λ w. Both (Related ρ t w) (get name d) (get name e)) (want_by_kind o.class name kind.Identity (kind_of_family_id o.class f o.role) refl)
+      (related_in ρ t clean (role.OfFamily f) d e o r name refl))
+
+  -- ---- the objects of each family
+
+  module _ (u : Data) (alike : Alike ρ (Some (Object role.Report)) t u) where
+    report : RelatedIn role.Report t u
+    report = record { inside = Within-root t; is_alike = alike }
+
+    top : ObjectIn t role.Report t
+    top = object_in t clean role.Report t (Within-root t)
+
+    in_report : (f : Family) (name : List ℕ) → bytes_eq name (codes "@type") ≡ false → kind_of_member class.ElectionReport name ≡ kind.Keyed f
+        → Matched (RelatedIn (role.OfFamily f)) (entries_at name t) (entries_at name u)
+    in_report f name other keyed = related_array ρ t clean role.Report t u top report f name other (ap (λ c. kind_of_member c name) (report_class top.class top.role) ∙ keyed)
+
+    elections_both : Both (Related ρ t (Member kind.Elections (is_required top.class (codes "Election")))) (get (codes "Election") t) (get (codes "Election") u)
+    elections_both =
+        let name = codes "Election" in
+        let listed : kind_of_member top.class name ≡ kind.Elections = ap (λ c. kind_of_member c name) (report_class top.class top.role) in
+        subst (λ w. Both (Related ρ t w) (get name t) (get name u)) (want_by_kind top.class name kind.Elections listed refl) (related_in ρ t clean role.Report t u top report name refl)
+
+    -- the elections, in their order
+    pub elections_paired : Paired (RelatedIn role.Election) (entries_at (codes "Election") t) (entries_at (codes "Election") u)
+    elections_paired = related_list ρ t (Member kind.Elections (is_required top.class (codes "Election"))) (Object role.Election) (get (codes "Election") t) (get (codes "Election") u) refl refl refl elections_both
+
+    elections_in_some_order : Matched (RelatedIn role.Election) (entries_at (codes "Election") t) (entries_at (codes "Election") u)
+    elections_in_some_order =
+        related_listed ρ t (Member kind.Elections (is_required top.class (codes "Election"))) (Object role.Election) (get (codes "Election") t) (get (codes "Election") u) refl refl elections_both
+
+    in_elections : (f : Family) (name : List ℕ) → bytes_eq name (codes "@type") ≡ false → kind_of_member class.Election name ≡ kind.Keyed f
+        → Matched (RelatedIn (role.OfFamily f)) (flat_map (entries_at name) (entries_at (codes "Election") t)) (flat_map (entries_at name) (entries_at (codes "Election") u))
+    in_elections f name other keyed = matched_flat (entries_at name) (entries_at name) each elections_in_some_order
+      where
+        each : (x y : Data) → Has (entries_at (codes "Election") t) x → RelatedIn role.Election x y → Matched (RelatedIn (role.OfFamily f)) (entries_at name x) (entries_at name y)
+        each x y h r =
+            let o : ObjectIn t role.Election x = object_in t clean role.Election x r.inside in
+            related_array ρ t clean role.Election x y o r f name other (ap (λ c. kind_of_member c name) (election_class o.class o.role) ∙ keyed)
+
+    -- the selections of contests that are related
+    pub selections_matched : (x y : Data) → RelatedIn (role.OfFamily family.Contest) x y
+        → Matched (RelatedIn (role.OfFamily family.Selection)) (entries_at (codes "ContestSelection") x) (entries_at (codes "ContestSelection") y)
+    selections_matched x y r =
+        let o : ObjectIn t (role.OfFamily family.Contest) x = object_in t clean (role.OfFamily family.Contest) x r.inside in
+        related_array ρ t clean (role.OfFamily family.Contest) x y o r family.Selection (codes "ContestSelection") refl (contest_selections o.class o.role)
+
+    pub family_matched : (f : Family) → Matched (RelatedIn (role.OfFamily f)) (family_values f t) (family_values f u)
+    family_matched family.Unit = in_report family.Unit (codes "GpUnit") refl refl
+    family_matched family.Party = in_report family.Party (codes "Party") refl refl
+    family_matched family.Person = in_report family.Person (codes "Person") refl refl
+    family_matched family.Office = in_report family.Office (codes "Office") refl refl
+    family_matched family.Header = in_report family.Header (codes "Header") refl refl
+    family_matched family.Candidate = in_elections family.Candidate (codes "Candidate") refl refl
+    family_matched family.Contest = in_elections family.Contest (codes "Contest") refl refl
+    family_matched family.Style = in_elections family.Style (codes "BallotStyle") refl refl
+    family_matched family.Selection =
+        matched_flat (entries_at (codes "ContestSelection")) (entries_at (codes "ContestSelection")) (λ x y h r. selections_matched x y r)
+        (in_elections family.Contest (codes "Contest") refl refl)
+
+    -- ---- their keys and `@id`s
+
+    -- the keys of a family are the same, in some order
+    pub keys_matched : (π : Preference) (f : Family) → Reordered (map (key_of π) (family_values f t)) (map (key_of π) (family_values f u))
+    keys_matched π f = matched_map (key_of π) (key_of π) (related_key π f) (family_matched f)
+
+    -- and so are the `@id`s, but for the function of texts
+    pub ids_matched : (f : Family) → Reordered (map (λ d. option_map ρ (id_of d)) (family_values f t)) (map id_of (family_values f u))
+    ids_matched f = matched_map (λ d. option_map ρ (id_of d)) id_of (λ d e r. sym (id_became f d e r)) (family_matched f)

@@ -1,0 +1,83 @@
+-- The `@id`s of a report: what shares one, and a function of texts that tells them apart.
+use Rattle.std.proofs.Common.{◌≡◌, ℕ, List, Bool, true, false, Option, Some, None, option_and_then, refl, sym, ap, ◌∙◌, subst}
+use Rattle.std.specs.List.{IsDistinct}
+use Rattle.std.specs.Option.{option_map_or}
+use Rattle.std.specs.Prelude.{slice_get}
+use Rattle.std.specs.Str.{bytes_eq}
+use Rattle.serde_json.specs.Data.{Data}
+use Rattle.erd_tables.specs.declared.class.Family.{Family}
+use Rattle.erd_check.proofs.Exact.{text_exact, text_itself}
+use Rattle.erd_check.proofs.Positions.{has_mapped, map_has, position_of}
+use Rattle.erd_check.proofs.Rising.{Has}
+use Rattle.erd_meaning.specs.Keys.{Preference}
+use Rattle.erd_meaning.specs.Accepted.{IsAccepted}
+use Rattle.erd_meaning.specs.Lookups.{id_in}
+use Rattle.erd_meaning.specs.Objects.{Placed, has_id, id_of, objects}
+use Rattle.erd_meaning.proofs.accepted.Phases.{no_identity_fault}
+use Rattle.erd_meaning.proofs.finding.OneObject.{one_id}
+use Rattle.erd_normal.proofs.lists.DistinctEntries.{distinct_from_one_place, distinct_map}
+use Rattle.erd_normal.proofs.rearranged.RelatedObjects.{family_values, object_values}
+
+-- an object of the report writes this `@id`
+pub record IsId (t : Data) (id : List ℕ) : Type 0 where
+  pub family : Family
+  pub value : Data
+  pub stands : Has (family_values family t) value
+  pub is : id_of value ≡ Some id
+
+-- no two of the report's `@id`s become one
+abbrev pub TellsIds : (List ℕ → List ℕ) → Data → Type 0
+TellsIds ρ t = (a b : List ℕ) → IsId t a → IsId t b → ρ a ≡ ρ b → a ≡ b
+
+-- the two values write one `@id`
+abbrev pub have_one_id : Data → Data → Bool
+have_one_id d e = option_map_or (λ id. has_id id e) (id_of d) false
+
+pub has_id-is : (id : List ℕ) (d : Data) → has_id id d ≡ true → id_of d ≡ Some id
+has_id-is id d h = at (id_of d) refl h
+  where
+    at : (o : Option (List ℕ)) → id_of d ≡ o → option_map_or (bytes_eq id) o false ≡ true → id_of d ≡ Some id
+    at None is h = cc
+    at (Some x) is h = is ∙ ap Some (sym (text_exact id x h))
+
+pub is-has_id : (id : List ℕ) (d : Data) → id_of d ≡ Some id → has_id id d ≡ true
+is-has_id id d e = rw e (text_itself id)
+
+pub id_of_both : (d e : Data) → have_one_id d e ≡ true → (id : List ℕ) × (id_of d ≡ Some id) × (id_of e ≡ Some id)
+id_of_both d e h = at (id_of d) refl h
+  where
+    at : (o : Option (List ℕ)) → id_of d ≡ o → option_map_or (λ id. has_id id e) o false ≡ true → (id : List ℕ) × (id_of d ≡ Some id) × (id_of e ≡ Some id)
+    at None is h = cc
+    at (Some x) is h = (x, is, has_id-is x e h)
+
+pub by_one_id : (d e : Data) (id : List ℕ) → id_of d ≡ Some id → id_of e ≡ Some id → have_one_id d e ≡ true
+by_one_id d e id a b = rw a (is-has_id id e b)
+
+-- the place of a value that stands among a family's objects
+pub value_placed : (f : Family) (t d : Data) → Has (family_values f t) d → (o : Placed) × Has (objects f t) o × (o.value ≡ d)
+value_placed f t d h = map_has (λ (o : Placed). o.value) (objects f t) d (subst (λ ds. Has ds d) (sym (object_values f t)) h)
+
+pub placed_value : (f : Family) (t : Data) (o : Placed) → Has (objects f t) o → Has (family_values f t) o.value
+placed_value f t o h = subst (λ ds. Has ds o.value) (object_values f t) (has_mapped (λ (o : Placed). o.value) (objects f t) o h)
+
+module _ (π : Preference) (t : Data) (accepted : IsAccepted π t) where
+  id_at : (f : Family) (i : ℕ) (o : Placed) (id : List ℕ) → slice_get (objects f t) i ≡ Some o → id_of o.value ≡ Some id → id_in f t i ≡ Some id
+  id_at f i o id at is = ap (option_and_then (λ (o : Placed). id_of o.value)) at ∙ is
+
+  -- no two objects of a family share one
+  pub ids_distinct : (f : Family) → IsDistinct have_one_id (family_values f t)
+  ids_distinct f =
+      subst (IsDistinct have_one_id) (object_values f t)
+      (distinct_map (λ (o : Placed). o.value) have_one_id (objects f t)
+      (distinct_from_one_place (λ o p. have_one_id o.value p.value) (objects f t) (λ i j o p a b e.
+      let s = id_of_both o.value p.value e in
+      (one_id π t s.0 f f i j (no_identity_fault π t accepted) (id_at f i o s.0 a s.1) (id_at f j p s.0 b s.2)).1)))
+
+  -- and objects that do are of one family
+  pub one_family : (f g : Family) (d e : Data) (id : List ℕ) → Has (family_values f t) d → Has (family_values g t) e → id_of d ≡ Some id → id_of e ≡ Some id → f ≡ g
+  one_family f g d e id h k a b =
+      let o = value_placed f t d h in
+      let p = value_placed g t e k in
+      let i = position_of (objects f t) o.0 o.1 in
+      let j = position_of (objects g t) p.0 p.1 in
+      (one_id π t id f g i.0 j.0 (no_identity_fault π t accepted) (id_at f i.0 o.0 id i.1 (ap id_of o.2 ∙ a)) (id_at g j.0 p.0 id j.1 (ap id_of p.2 ∙ b))).0
