@@ -1,4 +1,6 @@
 //! Comparisons whose memory may be refused: `tests/refusals.sh` refuses each request of memory in turn.
+ghost use Rattle.std.specs.Prelude.{◌≡◌};
+
 use crate::tests::edits::replaced;
 use crate::tests::refused::{Answer, is_pair};
 use crate::vectors::{OTHER_VENDOR, SMALL_BALLOT, THREE_SHAPE_FAULTS};
@@ -30,8 +32,10 @@ fn told(alloc: Global, found: Option<&Difference>) -> Answer {
     }
 }
 
-// The first difference of what two reports mean.
-fn meanings(alloc: Global, left: &Report, right: &Report) -> Answer {
+// The first difference of what two reports of one preference mean.
+fn meanings(alloc: Global, left: &Report, right: &Report) -> Answer
+    requires { left.now.prefer ≡ right.now.prefer }
+{
     match first_difference(alloc, left, right) {
         Ok(found) => told(alloc, found.as_ref()),
         Err(_) => Answer::WantsMemory,
