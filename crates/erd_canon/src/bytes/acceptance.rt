@@ -14,7 +14,7 @@ use erd_meaning::{Report, resolve_with};
 use serde_json::Value;
 use std::alloc::Global;
 
-/// Whether the bytes are an accepted report, and if not, why: `check_bytes_with`, without a preference.
+/// Whether the bytes are an accepted report, and if not, why. There is no preference; `check_bytes_with` takes one.
 pub fn check_bytes(alloc: Global, bytes: &[u8]) -> Result<(), Refusal>
     ensures ok { OnOk result (IsSomeReport None bytes.now) }
     ensures refused { IfErr result (RefusedAs None bytes.now) }
@@ -22,7 +22,7 @@ pub fn check_bytes(alloc: Global, bytes: &[u8]) -> Result<(), Refusal>
     check_bytes_with(alloc, bytes, None)
 }
 
-/// Whether the bytes are a report that is accepted under a preference of a type of identifiers, and if not, why.
+/// Whether the bytes are a report that is accepted under a preferred type of identifier, or under none, and if not, why.
 pub fn check_bytes_with(alloc: Global, bytes: &[u8], prefer: Option<&str>) -> Result<(), Refusal>
     ensures ok { OnOk result (IsSomeReport (option_copied prefer.entry) bytes.now) }
     ensures refused { IfErr result (RefusedAs (option_copied prefer.entry) bytes.now) }
@@ -45,8 +45,8 @@ pub(crate) fn tree_of(alloc: Global, bytes: &[u8]) -> Result<Value, Refusal>
     }
 }
 
-/// The tree as a report that is accepted under the preference, or why it is refused: first the shape is judged, and only a report whose shape has no
-/// fault is judged further.
+/// The tree as a report that is accepted under the preference, or why it is refused. The shape is judged first, and a report
+/// whose shape has a fault is not judged further.
 pub(crate) fn accepted<'a>(
     alloc: Global,
     tree: &'a Value,

@@ -9,7 +9,8 @@ use crate::bytes::refusal::Refusal;
 use erd_normal::normal_tree;
 use std::alloc::Global;
 
-/// The canonical bytes of an accepted report; or why the given bytes are refused: `canonical_with`, without a preference.
+/// The canonical bytes of an accepted report, or why the given bytes are refused. There is no preference; `canonical_with`
+/// takes one.
 pub fn canonical(alloc: Global, bytes: &[u8]) -> Result<Vec<u8>, Refusal>
     ensures ok { IfOk result (λ text. IsCanonicalBytes None bytes.now text.items) }
     ensures unique { IfOk result (λ text. TellsMeanings None bytes.now text.items) }
@@ -20,11 +21,12 @@ pub fn canonical(alloc: Global, bytes: &[u8]) -> Result<Vec<u8>, Refusal>
     canonical_with(alloc, bytes, None)
 }
 
-/// The canonical bytes of a report that is accepted under a preference of a type of identifiers; or why the given bytes are
-/// refused.
+/// The canonical bytes of a report that is accepted under a preferred type of identifier, or under none; or why the given bytes
+/// are refused.
 ///
-/// They are the text without blanks of the one canonical report that means what the given one means, under the preference. So
-/// two reports have equal canonical bytes exactly if they mean the same, and canonical bytes are their own.
+/// They are the text, without blanks, of the one canonical report that means what the given one means under the preference. So
+/// two reports have equal canonical bytes if and only if they mean the same, and canonical bytes are their own canonical bytes.
+/// Renaming identifiers in the report or permuting its sets changes no byte.
 pub fn canonical_with(alloc: Global, bytes: &[u8], prefer: Option<&str>) -> Result<Vec<u8>, Refusal>
     ensures ok { IfOk result (λ text. IsCanonicalBytes (option_copied prefer.entry) bytes.now text.items) }
     ensures unique { IfOk result (λ text. TellsMeanings (option_copied prefer.entry) bytes.now text.items) }

@@ -9,8 +9,8 @@ use crate::bytes::refusal::{Refusal, Side};
 use erd_compare::{Difference, first_difference};
 use std::alloc::Global;
 
-/// The first difference of what two reports mean, and none exactly if they mean the same; or which report is refused, and why:
-/// `compare_bytes_with`, without a preference.
+/// The first difference in what two reports mean, and none if and only if they mean the same; or which report is refused, and
+/// why. There is no preference; `compare_bytes_with` takes one.
 pub fn compare_bytes(alloc: Global, left: &[u8], right: &[u8]) -> Result<Option<Difference>, Side>
     ensures ok { IfOk result (IsComparison None left.now right.now) }
     ensures agree { IfOk result (AgreesUnderEach left.now right.now) }
@@ -19,11 +19,11 @@ pub fn compare_bytes(alloc: Global, left: &[u8], right: &[u8]) -> Result<Option<
     compare_bytes_with(alloc, left, right, None)
 }
 
-/// The first difference of what two reports mean under a preference of a type of identifiers, and none exactly if they mean
-/// the same; or which report is refused, and why.
+/// The first difference in what two reports mean under a preferred type of identifier, or under none, and no difference if and
+/// only if they mean the same; or which report is refused, and why.
 ///
-/// The right report is judged only if the left one is accepted. Each is refused as `canonical_with` refuses it. Where there is
-/// an answer, the two mean the same under this preference exactly if they do under each other one that accepts both.
+/// The right report is judged only if the left one is accepted. Each is refused as `canonical_with` refuses it. If both are
+/// accepted, they mean the same under this preference if and only if they do under each other preference that accepts both.
 #[tactic(auto, using(crate::proofs::forms::Refusing::refused_tree))]
 pub fn compare_bytes_with(
     alloc: Global,

@@ -13,10 +13,10 @@ use std::alloc::Global;
 
 /// Reads the words of a command line, of which the first is the program's name.
 ///
-/// No further word is `Filter`; `check FILE`, `canon FILE` and `compare LEFT RIGHT` are what they are called, with no
-/// preference. With `--prefer TYPE` between the subcommand and the first file name they are that with the preference TYPE.
-/// No file name and no TYPE is empty or begins with `-`. Of these lines nothing but want of memory is answered in place of
-/// the request. Other words are read as `clap` reads them.
+/// If no word follows, the answer is `Filter`. `check FILE`, `canon FILE` and `compare LEFT RIGHT` give the request of the same
+/// name without a preference. With `--prefer TYPE` between the subcommand and the first file name, they give it with the
+/// preference TYPE. All this holds if no file name and no TYPE is empty or begins with `-`; such a line is answered with its
+/// request, or with `LineFault::Memory` if memory runs out. `clap` decides how other words are read.
 pub fn command_line(alloc: Global, words: &[String]) -> Result<Request, LineFault>
     ensures exact { (request : Request) (name : List ℕ) → HasPlainWords request
         → map string_bytes words.now ≡ name ∷ words_of request

@@ -12,7 +12,7 @@ use crate::engines::outcome::{Outcome, RunFault};
 use crate::engines::write_and_flush::write_both;
 use std::alloc::Global;
 
-/// Reads a report, judges it, and writes its canonical bytes: `run_canon_with`, without a preference.
+/// Reads a report, judges it, and writes its canonical bytes, as `run_canon_with` does without a preference.
 pub fn run_canon<S: Source, O: Sink, E: Sink>(
     alloc: Global,
     reader: &mut S,
@@ -53,8 +53,8 @@ pub fn run_canon<S: Source, O: Sink, E: Sink>(
     run_canon_with(alloc, reader, out, err, None)
 }
 
-/// Reads a report to its end, judges it under a preference of a type of identifiers, writes its canonical bytes to `out`, and
-/// flushes `out` and then `err`.
+/// Reads a report to its end, judges it under a preferred type of identifier, or under none, writes its canonical bytes to
+/// `out`, and flushes `out` and then `err`.
 ///
 /// The canonical bytes, as `canonical_with` gives them, go to `out` with no line end, and then nothing goes to `err`. Of a
 /// report that is not accepted nothing goes to `out`, and one line for each fault goes to `err`; of bytes that are no

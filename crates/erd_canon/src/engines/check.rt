@@ -12,7 +12,7 @@ use crate::engines::outcome::{Outcome, RunFault};
 use crate::engines::write_and_flush::write_one;
 use std::alloc::Global;
 
-/// Reads a report, judges it, and writes whether it is accepted: `run_check_with`, without a preference.
+/// Reads a report, judges it, and writes whether it is accepted, as `run_check_with` does without a preference.
 pub fn run_check<S: Source, O: Sink>(
     alloc: Global,
     reader: &mut S,
@@ -43,8 +43,8 @@ pub fn run_check<S: Source, O: Sink>(
     run_check_with(alloc, reader, out, None)
 }
 
-/// Reads a report to its end, judges it under a preference of a type of identifiers, writes to `out` whether it is accepted,
-/// and flushes `out`.
+/// Reads a report to its end, judges it under a preferred type of identifier, or under none, writes to `out` whether it is
+/// accepted, and flushes `out`.
 ///
 /// It writes `accepted`, or one line for each fault, or `not JSON`, each line ended by one line feed, and nothing else. A
 /// reader holds at most 67,108,864 bytes. The devices must not have failed yet; after a failure nothing more is read,

@@ -17,7 +17,7 @@ use crate::engines::write_and_flush::write_one;
 use erd_compare::Difference;
 use std::alloc::{AllocError, Global};
 
-/// Reads two reports, compares them, and writes what is found: `run_compare_with`, without a preference.
+/// Reads two reports, compares them, and writes what is found, as `run_compare_with` does without a preference.
 pub fn run_compare<S: Source, T: Source, O: Sink>(
     alloc: Global,
     left: &mut S,
@@ -57,8 +57,8 @@ pub fn run_compare<S: Source, T: Source, O: Sink>(
     run_compare_with(alloc, left, right, out, None)
 }
 
-/// Reads two reports to their ends, the left one and then the right one, compares them under a preference of a type of
-/// identifiers, writes to `out` what is found, and flushes `out`.
+/// Reads two reports to their ends, the left one and then the right one, compares them under a preferred type of identifier,
+/// or under none, writes to `out` what is found, and flushes `out`.
 ///
 /// It writes `same`, or the line of the first difference; or, of the first report that is refused, the left one before the
 /// right, the lines that `run_check_with` writes, each after `left: ` or `right: `. Each line is ended by one line feed, and

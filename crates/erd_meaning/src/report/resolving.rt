@@ -23,7 +23,7 @@ use erd_tables::{FaultList, Text};
 use serde_json::Value;
 use std::alloc::{AllocError, Global};
 
-/// Takes a report that is accepted, or refuses it: `resolve_with`, without a preference.
+/// Resolves a report without a preference, as `resolve_with` does.
 pub fn resolve<'a>(alloc: Global, shaped: Shaped<'a>) -> Result<Report<'a>, CheckError>
     ensures tree { IfOk result (λ r. r.tree ≡ shaped.entry) }
     ensures prefer { IfOk result (λ r. r.prefer ≡ None) }
@@ -33,10 +33,13 @@ pub fn resolve<'a>(alloc: Global, shaped: Shaped<'a>) -> Result<Report<'a>, Chec
     resolve_with(alloc, shaped, None)
 }
 
-/// Takes a report that is accepted under a preference of a type of identifiers, or refuses it. It is refused with all its faults
-/// of identity (reasons 12 to 14), or, where it has none of these, with all its faults of references (reason 11 of references,
-/// and reasons 15 to 17), or, where it has none of these either, with all its faults of selections (reason 18), by place, then
-/// by reason, each once, of which there is one at least. Where memory is wanting, it says so. The preference is copied.
+/// Resolves a report under a preferred type of identifier, or under none. The report keeps its own copy of the preference.
+///
+/// # Errors
+///
+/// A report that is not accepted is refused with the faults of the first phase that has any: identity (reasons 12 to 14), then
+/// references (reason 11 of references, and reasons 15 to 17), then selections (reason 18). All faults of that phase are
+/// listed, each once, by place and then by reason. If memory runs out, the answer is `CheckError::Memory`.
 ///
 /// Each object is compared with all earlier ones, each reference is looked up among all, and each name of a selection is
 /// compared with all earlier ones, so the time grows with the square of their number.
