@@ -13,6 +13,8 @@ pub mod Reports
 pub mod Members
 pub mod Rising
 pub mod Exact
+pub mod JsonTies
+pub mod ValueSets
 pub mod Entries
 pub mod Shapes
 pub mod ObjectsAt

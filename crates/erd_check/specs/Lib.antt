@@ -1,5 +1,6 @@
 pub mod Values  -- what is read off a JSON value: entries, texts and names
 pub mod Trees  -- trees, and equality as JSON
+pub mod ValueSets  -- sets of values in which an equal value is found fast
 pub mod Numbers  -- whole numbers that fit 64 bits
 pub mod Wants  -- what the table asks of the value at each place
 pub mod Faults  -- the faults of the shape

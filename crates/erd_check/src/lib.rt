@@ -1,12 +1,16 @@
 //! The shape of a report: what the table asks of the value at each place, and the faults of a report that does not meet it.
 #![tactic(auto)]
 
+mod earlier;
 mod equality;
 pub mod error;
+mod json_order;
 mod judge;
+mod ordered_value;
 pub mod path;
 mod shape_faults;
 mod shaped;
+pub mod value_set;
 pub mod values;
 pub mod visitor;
 pub mod walk;
@@ -16,3 +20,4 @@ pub use equality::{is_among, same_json};
 pub use error::CheckError;
 pub use shape_faults::faults;
 pub use shaped::{Shaped, shape};
+pub use value_set::{FEW_VALUES, ValueSet};

@@ -16,7 +16,8 @@ use std::alloc::{AllocError, Global};
 /// All faults of the shape of a report (reasons 1 to 11), by place, then by reason, each once; no fault, where the shape
 /// is as the table asks. The report is nested at most 127 deep, as each is that `serde_json` reads.
 ///
-/// The report is walked once. Memory is taken for the faults alone, so none for a report without a fault.
+/// The report is walked once. Memory is taken for the faults, and for the entries of a set of more than 16, which are put in
+/// order; so none for a usual report without a fault.
 pub fn faults(alloc: Global, tree: &Value) -> Result<FaultList, AllocError>
     requires nests { IsShallow (view tree.now) }
     ensures { IfOk result (ListsAll (ShapeFault (view tree.now))) }

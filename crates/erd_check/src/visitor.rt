@@ -30,7 +30,8 @@ pub struct Position<'a> {
 pub struct Visit<'a> {
     /// What is asked of the value.
     pub want: Want,
-    /// The earlier entries of its set, where it is an entry of a set whose entries are compared, and else none.
+    /// Earlier entries of its set, where it is an entry of a set whose entries are compared, and else none: one of them is equal
+    /// to the value exactly if one of all is.
     pub earlier: &'a [Value],
     pub position: Position<'a>,
 }

@@ -13,6 +13,7 @@ ghost use Rattle.erd_check.specs.code.Walk.{told_at, told_of_items, told_of_memb
 ghost use Rattle.erd_check.specs.declared.want.Want.TheVariants.{Object};
 ghost use Rattle.erd_tables.specs.declared.class.Role.TheVariants.{Report};
 
+use crate::earlier::{earlier_of, equal_entries};
 use crate::path::Path;
 use crate::visitor::{Position, Visit, Visitor};
 use crate::want::{Scope, Want, is_set_wanted, scope_of, want_in, want_of_entry};
@@ -96,11 +97,12 @@ fn walk_items<'a, V: Visitor>(
         return Ok(());
     };
     let is_set = is_set_wanted(want);
+    let told = equal_entries(alloc, is_set, &*items)?;
     for (index, item) in items.iter().enumerate() {
         let path = Path::Entry(&*inside.path, index);
         let visit = Visit {
             want: entry,
-            earlier: compared_before(is_set, &*items, index),
+            earlier: earlier_of(is_set, &*items, &told, index, item),
             position: Position {
                 path: &path,
                 owner: &*inside.owner,
@@ -110,15 +112,6 @@ fn walk_items<'a, V: Visitor>(
         walk(alloc, visitor, visit, item, faults)?;
     }
     Ok(())
-}
-
-/// The entries before a position, where they are compared, and else none.
-fn compared_before(is_set: bool, items: &[Value], index: usize) -> &[Value]
-    requires { index ≤ length items.now }
-    ensures { (d : Data) → list_any (is_same_json d) (map view result.now)
-        ≡ (is_set && list_any (is_same_json d) (map view (take index items.now))) }
-{
-    if is_set { &items[..index] } else { &[] }
 }
 
 /// Adds what is told of the members of an object, which has this scope; the path is that of the object.

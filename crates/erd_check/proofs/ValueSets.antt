@@ -1,0 +1,122 @@
+-- A set of values: one value more, and the value that is tied with a given one.
+use Rattle.std.proofs.Common.{◌≡◌, List, [], ◌∷◌, ◌++◌, Bool, true, false, ◌||◌, true≢false, Some, None, Ordering, Less, Equal, Greater, is_eq, map, find, refl, sym, ap, ◌∙◌}
+use Rattle.std.specs.BTreeSet.{insert_key}
+use Rattle.std.specs.Cmp.{Equal-is}
+use Rattle.std.specs.List.{list_any}
+use Rattle.std.specs.Ordering.{match_ordering}
+use Rattle.std.proofs.lemmas.List.Folds.{list_any-append}
+use Rattle.serde_json.specs.Data.{Data}
+use Rattle.serde_json.specs.View.{view}
+use Rattle.erd_check.specs.Trees.{is_same_json}
+use Rattle.erd_check.specs.ValueSets.{StandsFor}
+use Rattle.erd_check.specs.code.JsonOrder.{json_cmp}
+use Rattle.erd_check.specs.declared.ordered_value.OrderedValue.{OrderedValue}
+use Rattle.erd_check.specs.declared.value_set.ValueSet.{ValueSet}
+use Rattle.erd_check.proofs.JsonTies.{same_as_tied, same_itself, same_tied, tied_same}
+
+-- what a value of a set is
+abbrev pub data_of : OrderedValue → Data
+data_of v = view v.value.now
+
+abbrev pub value_cmp : OrderedValue → OrderedValue → Ordering
+value_cmp a b = json_cmp (view a.value.now) (view b.value.now)
+
+-- ---- one value more
+
+or_exchanged : (a b c : Bool) → a || (b || c) ≡ b || (a || c)
+or_exchanged true true c = refl
+or_exchanged true false c = refl
+or_exchanged false b c = refl
+
+absorbed : (a b c : Bool) → (b ≡ true → a ≡ true) → a || c ≡ b || (a || c)
+absorbed true true c h = refl
+absorbed true false c h = refl
+absorbed false true c h = let clash : false ≡ true = h refl in cc
+absorbed false false c h = refl
+
+put : (vs : List OrderedValue) (v : OrderedValue) (d : Data) → list_any (is_same_json d) (map data_of (insert_key value_cmp vs v)) ≡ is_same_json d (data_of v) || list_any (is_same_json d) (map data_of vs)
+put [] v d = refl
+put (w ∷ vs) v d = at (value_cmp v w) refl (put vs v d)
+  where
+    at : (o : Ordering) → value_cmp v w ≡ o → list_any (is_same_json d) (map data_of (insert_key value_cmp vs v)) ≡ is_same_json d (data_of v) || list_any (is_same_json d) (map data_of vs)
+        → list_any (is_same_json d) (map data_of (insert_key value_cmp (w ∷ vs) v)) ≡ is_same_json d (data_of v) || list_any (is_same_json d) (map data_of (w ∷ vs))
+    at Less is later = rw is refl
+    at Equal is later =
+        ap (λ o. list_any (is_same_json d) (map data_of (match_ordering o (v ∷ w ∷ vs) (w ∷ vs) (w ∷ insert_key value_cmp vs v)))) is
+        ∙ absorbed (is_same_json d (data_of w)) (is_same_json d (data_of v)) (list_any (is_same_json d) (map data_of vs)) (same_as_tied d (data_of v) (data_of w) is)
+    at Greater is later =
+        rw is (ap (λ b. is_same_json d (data_of w) || b) later ∙ or_exchanged (is_same_json d (data_of w)) (is_same_json d (data_of v)) (list_any (is_same_json d) (map data_of vs)))
+
+swapped : (a b : Bool) → a || b ≡ b || (a || false)
+swapped true true = refl
+swapped true false = refl
+swapped false true = refl
+swapped false false = refl
+
+pub one_more : (s n : ValueSet) (v : OrderedValue) (ds : List Data) → n.ordered.keys ≡ insert_key value_cmp s.ordered.keys v → StandsFor ds s → StandsFor (ds ++ data_of v ∷ []) n
+one_more s n v ds keys h d =
+    ap (λ vs. list_any (is_same_json d) (map data_of vs)) keys
+    ∙ (put s.ordered.keys v d
+    ∙ (ap (λ b. is_same_json d (data_of v) || b) (h d)
+    ∙ (swapped (is_same_json d (data_of v)) (list_any (is_same_json d) ds)
+    ∙ sym (list_any-append (is_same_json d) ds (data_of v ∷ [])))))
+
+-- ---- the value that is tied with one
+
+untied : (d e : Data) → is_eq (json_cmp d e) ≡ false → is_same_json d e ≡ false
+untied d e apart = at (is_same_json d e) refl
+  where
+    at : (b : Bool) → is_same_json d e ≡ b → b ≡ false
+    at false is = refl
+    at true is = absurd (true≢false (sym (ap is_eq (same_tied d e is)) ∙ apart))
+
+-- none is tied
+pub none_tied : (vs : List OrderedValue) (d : Data) → find (λ v. is_eq (json_cmp d (data_of v))) vs ≡ None → list_any (is_same_json d) (map data_of vs) ≡ false
+none_tied [] d e = refl
+none_tied (w ∷ vs) d e = at (is_eq (json_cmp d (data_of w))) refl (none_tied vs d)
+  where
+    at : (b : Bool) → is_eq (json_cmp d (data_of w)) ≡ b → (find (λ v. is_eq (json_cmp d (data_of v))) vs ≡ None → list_any (is_same_json d) (map data_of vs) ≡ false) → list_any (is_same_json d) (map data_of (w ∷ vs)) ≡ false
+    at true is later = let clash : Some w ≡ None = rw is at e in cc
+    at false is later = rw (untied d (data_of w) is) (later (rw is at e))
+
+-- a value that is not equal to itself is equal to none
+unequal_one : (d e : Data) → is_same_json d d ≡ false → is_same_json d e ≡ false
+unequal_one d e own = at (is_same_json d e) refl
+  where
+    at : (b : Bool) → is_same_json d e ≡ b → b ≡ false
+    at true is = absurd (true≢false (sym (same_itself d e is) ∙ own))
+    at false is = refl
+
+unequal : (vs : List OrderedValue) (d : Data) → is_same_json d d ≡ false → list_any (is_same_json d) (map data_of vs) ≡ false
+unequal [] d own = refl
+unequal (w ∷ vs) d own = rw (unequal_one d (data_of w) own) (unequal vs d own)
+
+or_true : (a b : Bool) → b ≡ true → a || b ≡ true
+or_true true b h = refl
+or_true false b h = h
+
+-- a value that is equal to itself is equal to the one that it is tied with
+found : (vs : List OrderedValue) (d : Data) (w : OrderedValue) → is_same_json d d ≡ true → find (λ v. is_eq (json_cmp d (data_of v))) vs ≡ Some w → (list_any (is_same_json d) (map data_of vs) ≡ true) × (is_same_json d (data_of w) ≡ true)
+found [] d w own e = cc
+found (x ∷ xs) d w own e = step (is_eq (json_cmp d (data_of x))) refl (found xs d w own)
+  where
+    step : (b : Bool) → is_eq (json_cmp d (data_of x)) ≡ b → (find (λ v. is_eq (json_cmp d (data_of v))) xs ≡ Some w → (list_any (is_same_json d) (map data_of xs) ≡ true) × (is_same_json d (data_of w) ≡ true))
+        → (list_any (is_same_json d) (map data_of (x ∷ xs)) ≡ true) × (is_same_json d (data_of w) ≡ true)
+    step true is later =
+        let told : Some x ≡ Some w = rw is at e in
+        let one : x ≡ w = cc in
+        let same : is_same_json d (data_of x) ≡ true = tied_same d (data_of x) ((Equal-is (json_cmp d (data_of x))).0 is) own in
+        (ap (λ b. b || list_any (is_same_json d) (map data_of xs)) same, ap (λ v. is_same_json d (data_of v)) (sym one) ∙ same)
+    step false is later = let r = later (rw is at e) in (or_true (is_same_json d (data_of x)) (list_any (is_same_json d) (map data_of xs)) r.0, r.1)
+
+-- one is
+pub one_tied : (vs : List OrderedValue) (d : Data) (w : OrderedValue) → find (λ v. is_eq (json_cmp d (data_of v))) vs ≡ Some w → list_any (is_same_json d) (map data_of vs) ≡ is_same_json d (data_of w)
+one_tied vs d w e = at (is_same_json d d) refl
+  where
+    at : (b : Bool) → is_same_json d d ≡ b → list_any (is_same_json d) (map data_of vs) ≡ is_same_json d (data_of w)
+    at true own = let both = found vs d w own e in both.0 ∙ sym both.1
+    at false own = unequal vs d own ∙ sym (unequal_one d (data_of w) own)
+
+pub alone : (b : Bool) → b || false ≡ b
+alone true = refl
+alone false = refl

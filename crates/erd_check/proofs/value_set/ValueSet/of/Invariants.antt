@@ -1,0 +1,7 @@
+use Rattle.std.proofs.Common.{map, take}
+use Rattle.serde_json.specs.View.{view}
+use Rattle.erd_check.specs.ValueSets.{StandsFor}
+use Rattle.erd_check.proofs.value_set.ValueSet.of.Given as goal
+
+abbrev pub invariant-loop-value : goal.invariant-loop-value
+invariant-loop-value l = StandsFor (map view (take l.value-index l.values)) l.set
