@@ -3,3 +3,8 @@ pub mod OneObject
 pub mod Lookups
 pub mod Found
 pub mod FoundSelections
+pub mod OneFamily  -- an `@id` names an object of one family
+pub mod OwnedKeys  -- the test by which an index of keys is asked
+pub mod FoundWithId  -- what the index of `@id` texts leads to
+pub mod Known  -- what the indexes know of earlier objects
+pub mod Pushed  -- what the indexes answer once an object was added

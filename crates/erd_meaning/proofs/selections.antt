@@ -7,3 +7,4 @@ pub mod SelectionsMet
 pub mod WalkedNames
 pub mod AmongNames
 pub mod WholeParts
+pub mod NameTests  -- the test by which an index of names is asked

@@ -5,8 +5,12 @@ pub mod TranslationOrder  -- the order of translations, as the program sorts the
 pub mod NameHashes  -- what a hasher is given of a key and of a name
 pub mod ObjectWalk  -- the objects in the order in which the program meets them, with the faults of identity
 pub mod ObjectLookups  -- look-ups among the objects that are kept
+pub mod ObjectIndexes  -- the indexes that the program keeps of the objects
+pub mod Indexed  -- when these indexes are those of the objects
 pub mod ReferenceReasons  -- the reasons of a reference, as the program tells them
 pub mod NamesAmong  -- the names of selections by these look-ups
 pub mod SelectionWalk  -- the names of selections in the order in which the program meets them, with the faults of selections
+pub mod Held  -- what clauses see of a name that is held or lent
 pub mod Shown  -- what the program's own structs stand for
+pub mod ShownWalks  -- what clauses see of the walks
 pub mod Resolved  -- what holds of a report after each phase, and of an accepted one

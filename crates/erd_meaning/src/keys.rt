@@ -4,3 +4,4 @@ pub mod key;
 pub mod key_of;
 pub(crate) mod key_rule;
 pub(crate) mod shared_key;
+pub(crate) mod triple;

@@ -3,3 +3,5 @@
 pub(crate) mod lookup;
 pub(crate) mod object;
 pub(crate) mod object_walk;
+pub(crate) mod places;
+pub(crate) mod table;

@@ -15,13 +15,13 @@ pub(crate) mod resolving;
 
 use crate::keys::key::Key;
 use crate::keys::key_rule::KeyRule;
-use crate::names::name_in_contest::{NameInContest, place_of_name};
+use crate::names::held_name::HeldName;
 use crate::names::naming::name_of_selection;
 use crate::names::selection_name::SelectionName;
-use crate::objects::lookup::{count_of, nth_of, place_of_id, place_of_key};
-use crate::objects::object::Object;
+use crate::objects::table::ObjectTable;
 use erd_check::values::entries_at;
 use erd_tables::{Family, Text};
+use indexmap::IndexSet;
 use serde_json::Value;
 use std::alloc::{AllocError, Global};
 use std::marker::Model;
@@ -34,8 +34,8 @@ use std::marker::Model;
 #[derive(Debug, Drop)]
 pub struct Report<'a> {
     tree: &'a Value,
-    objects: Vec<Object<'a>>,
-    names: Vec<NameInContest>,
+    objects: ObjectTable<'a>,
+    names: IndexSet<(usize, HeldName<'a>)>,
     prefer: Option<Text>,
 }
 
@@ -54,18 +54,18 @@ impl<'a> Model for Report<'a> {
       prefer = r.prefer;
     } };
 
-    ghost invariant = { λ r. IsResolved r.prefer r.tree.now r.objects.items r.names.items };
+    ghost invariant = { λ r. IsResolved r.prefer r.tree.now r.objects r.names.keys };
 }
 
 impl<'a> Report<'a> {
     /// The report of this tree, with its objects and the names of its selections in the order of their places.
     pub(crate) fn of(
         tree: &'a Value,
-        objects: Vec<Object<'a>>,
-        names: Vec<NameInContest>,
+        objects: ObjectTable<'a>,
+        names: IndexSet<(usize, HeldName<'a>)>,
         prefer: Option<Text>,
     ) -> Report<'a>
-        requires { IsResolved prefer tree.now objects.items names.items }
+        requires { IsResolved prefer tree.now objects names.keys }
         ensures tree { result.tree ≡ tree.now }
         ensures prefer { result.prefer ≡ prefer }
     {
@@ -109,19 +109,18 @@ impl<'a> Report<'a> {
         &entries_at(self.tree, "Election")[0]
     }
 
-    /// How many objects of the family there are. All are gone over.
+    /// How many objects of the family there are.
     pub fn count(&self, family: Family) -> usize
         ensures { result ≡ length (objects family (view self.now.tree)) }
     {
-        count_of(&self.objects, family)
+        self.objects.count(family)
     }
 
-    /// The object of the family at the position, if there is one. It is found by going over the objects, as are all that
-    /// are asked for below.
+    /// The object of the family at the position, if there is one.
     pub fn object(&self, family: Family, index: usize) -> Option<&'a Value>
         ensures { option_map (λ v. view v.now) result ≡ option_map (λ o. o.value) (slice_get (objects family (view self.now.tree)) index) }
     {
-        match nth_of(&self.objects, family, index) {
+        match self.objects.get(family, index) {
             Some(object) => Some(object.value),
             None => None,
         }
@@ -132,7 +131,7 @@ impl<'a> Report<'a> {
     pub fn key_at(&self, family: Family, index: usize) -> Option<&Key>
         ensures { option_copied result ≡ key_in self.now.prefer family (view self.now.tree) index }
     {
-        match nth_of(&self.objects, family, index) {
+        match self.objects.get(family, index) {
             Some(object) => object.shown_key(),
             None => None,
         }
@@ -142,33 +141,22 @@ impl<'a> Report<'a> {
     pub fn find(&self, family: Family, key: &Key) -> Option<usize>
         ensures { FindsKey self.now.prefer (view self.now.tree) family key.now result }
     {
-        match place_of_key(&self.objects, family, key) {
-            Some(place) => Some(count_of(&self.objects[..place], family)),
-            None => None,
-        }
+        self.objects.position_of_key(family, key)
     }
 
     /// The family and the position of the object with the `@id`, if there is one. No two objects have one `@id`.
     pub fn target(&self, id: &str) -> Option<(Family, usize)>
         ensures { FindsId (view self.now.tree) id.now result }
     {
-        match place_of_id(&self.objects, id) {
-            Some(place) => {
-                let family = self.objects[place].family;
-                Some((family, count_of(&self.objects[..place], family)))
-            }
-            None => None,
-        }
+        self.objects.position_of_id(id)
     }
 
     /// The position of the contest of the selection at the position, and its name, if there is a selection.
     pub fn selection_at(&self, index: usize) -> Option<(usize, &SelectionName)>
         ensures { option_map (λ s. (s.0, s.1.now)) result ≡ selection_in self.now.prefer (view self.now.tree) index }
     {
-        match self.names.get(index) {
-            Some(selection) => Some((selection.contest, &selection.name)),
-            None => None,
-        }
+        let (contest, name) = self.names.get_index(index)?;
+        Some((*contest, name.name()))
     }
 
     /// The position of the selection of the contest at a position with the name, if there is one. No two selections of one
@@ -176,7 +164,7 @@ impl<'a> Report<'a> {
     pub fn find_selection(&self, contest: usize, name: &SelectionName) -> Option<usize>
         ensures { FindsSelection self.now.prefer (view self.now.tree) contest name.now result }
     {
-        place_of_name(&self.names, contest, name)
+        self.names.get_index_of(&(contest, HeldName::lent(name)))
     }
 
     /// The name of a selection in this report, if it is of a class of selection.

@@ -1,114 +1,110 @@
 -- What is found by a key or by an `@id` is what has it.
-use Rattle.std.proofs.Common.{◌≡◌, ℕ, List, length, map, take, get_or, true, Option, Some, None, option_and_then, refl, sym, ap, ap₂, ◌∙◌, subst}
+use Rattle.std.proofs.Common.{◌≡◌, ℕ, List, map, true, Option, Some, None, option_and_then, option_map, refl, sym, ap, ap₂, ◌∙◌, subst}
 use Rattle.std.specs.List.{position, slice_get}
 use Rattle.std.specs.Ordering.{is_eq}
 use Rattle.std.proofs.lemmas.Cmp.{tied_itself}
-use Rattle.std.proofs.lemmas.Option.{get_or_from_slice_get, same_Some, some_pair_parts}
+use Rattle.std.proofs.lemmas.Option.{same_Some, some_pair_parts}
 use Rattle.std.proofs.lemmas.Slice.Eq.{bytes_eq-Decides}
 use Rattle.serde_json.specs.View.{view}
 use Rattle.serde_json.specs.declared.value.Value.{Value}
 use Rattle.erd_tables.specs.declared.class.Family.{Family}
 use Rattle.erd_tables.specs.Classes.{family_number}
-use Rattle.erd_check.proofs.Order.{In, In-filter, In-map_from}
+use Rattle.erd_check.proofs.Order.{In, In-filter}
 use Rattle.erd_check.proofs.Reasons.{and_true, both_true}
 use Rattle.erd_meaning.specs.Keys.{Preference}
 use Rattle.erd_meaning.specs.Lookups.{FindsId, FindsKey, id_in, key_in}
+use Rattle.erd_meaning.specs.code.ObjectIndexes.{number_at, number_of_id, number_of_key, rank}
 use Rattle.erd_meaning.specs.code.ObjectLookups.{is_keyed, keeps_id, is_of_family, those_of}
 use Rattle.erd_meaning.specs.code.ObjectWalk.{Kept, same_id, same_key}
 use Rattle.erd_meaning.specs.code.Resolved.{IsResolved}
 use Rattle.erd_meaning.specs.code.Shown.{shown}
 use Rattle.erd_meaning.specs.declared.keys.key.Key.{Key}
-use Rattle.erd_meaning.specs.declared.names.name_in_contest.NameInContest.{NameInContest}
+use Rattle.erd_meaning.specs.code.SelectionWalk.{NumberedName}
 use Rattle.erd_meaning.specs.declared.objects.object.Object.{Object}
-use Rattle.erd_meaning.proofs.finding.OneObject.{Hit, hit, in_at, missed, one_id, one_key}
+use Rattle.erd_meaning.proofs.finding.OneObject.{hit, in_at, missed, one_id, one_key}
 use Rattle.erd_meaning.proofs.identity.IdentityFaults.{same_id_from, same_key_from}
 use Rattle.erd_meaning.proofs.finding.Lookups.{part_at, ranked}
 use Rattle.erd_meaning.proofs.identity.ObjectFamilies.{itself}
 use Rattle.erd_meaning.specs.code.Orders.{key_cmp_total}
 
--- the position in its family of the object at this place among all
-abbrev pub rank : Family → List Object → ℕ → ℕ
-rank f os n = length (those_of f (map shown (take n os)))
-
 -- what a family has at a position, with the object that is kept
-record Standing (os : List Object) (f : Family) (part : Kept → Type 0) : Type 0 where
-  one : Object
-  there : In one os
-  family : is_of_family f (shown one) ≡ true
-  has : part (shown one)
+record Standing (ks : List Kept) (f : Family) (part : Kept → Type 0) : Type 0 where
+  one : Kept
+  there : In one ks
+  family : is_of_family f one ≡ true
+  has : part one
 
-standing : {A : Type 0} (g : Kept → Option A) (os : List Object) (f : Family) (i : ℕ) (a : A)
-    → option_and_then g (slice_get (those_of f (map shown os)) i) ≡ Some a → Standing os f (λ k. g k ≡ Some a)
-standing {A} g os f i a e = at (slice_get (those_of f (map shown os)) i) refl e
+standing : {A : Type 0} (g : Kept → Option A) (ks : List Kept) (f : Family) (i : ℕ) (a : A)
+    → option_and_then g (slice_get (those_of f ks) i) ≡ Some a → Standing ks f (λ k. g k ≡ Some a)
+standing {A} g ks f i a e = at (slice_get (those_of f ks) i) refl e
   where
-    at : (o : Option Kept) → slice_get (those_of f (map shown os)) i ≡ o → option_and_then g o ≡ Some a → Standing os f (λ k. g k ≡ Some a)
+    at : (o : Option Kept) → slice_get (those_of f ks) i ≡ o → option_and_then g o ≡ Some a → Standing ks f (λ k. g k ≡ Some a)
     at None is h = cc
     at (Some k) is h =
-        let kept = In-filter (is_of_family f) k (map shown os) (in_at (those_of f (map shown os)) i k is) in
-        let from = In-map_from shown os k kept.0 in
-        record {
-          one = from.from;
-          there = from.inside;
-          family = subst (λ j. is_of_family f j ≡ true) (sym from.is) kept.1;
-          has = subst (λ j. g j ≡ Some a) (sym from.is) h;
-        }
+        let both = In-filter (is_of_family f) k ks (in_at (those_of f ks) i k is) in
+        record { one = k; there = both.0; family = both.1; has = h }
 
 -- ---- by a key
 
-key_here : (π : Preference) (v : Value) (os : List Object) (ns : List NameInContest) (f : Family) (key : Key) (n : ℕ) → IsResolved π v os ns → Hit (λ o. is_keyed f key (shown o)) os n
-    → key_in π f (view v) (rank f os n) ≡ Some key
-key_here π v os ns f key n r h =
-    let both = and_true (is_of_family f (shown h.one)) (same_key (shown h.one).key (Some key)) h.passes in
-    let same = same_key_from (shown h.one).key (Some key) both.1 in
-    sym (part_at π (λ k. k.key) v os ns f (rank f os n) r) ∙ ap (option_and_then (λ (k : Kept). k.key)) (ranked f os n h.one h.at both.0) ∙ same.1 ∙ sym same.2
+key_here : (π : Preference) (v : Value) (os : List Object) (ns : List NumberedName) (f : Family) (key : Key) (n : ℕ) → IsResolved π v os ns
+    → position (is_keyed f key) (map shown os) ≡ Some n → key_in π f (view v) (rank f (map shown os) n) ≡ Some key
+key_here π v os ns f key n r e =
+    let ks = map shown os in
+    let h = hit (is_keyed f key) ks n e in
+    let both = and_true (is_of_family f h.one) (same_key h.one.key (Some key)) h.passes in
+    let same = same_key_from h.one.key (Some key) both.1 in
+    sym (part_at π (λ k. k.key) v os ns f (rank f ks n) r) ∙ ap (option_and_then (λ (k : Kept). k.key)) (ranked f ks n h.one h.at both.0) ∙ same.1 ∙ sym same.2
 
-pub key_found : (π : Preference) (v : Value) (os : List Object) (ns : List NameInContest) (f : Family) (key : Key) (n i : ℕ) → IsResolved π v os ns → position (λ o. is_keyed f key (shown o)) os ≡ Some n
-    → i ≡ rank f os n → FindsKey π (view v) f key (Some i)
-key_found π v os ns f key n i r e is j =
-    let here : key_in π f (view v) i ≡ Some key = subst (λ m. key_in π f (view v) m ≡ Some key) (sym is) (key_here π v os ns f key n r (hit (λ o. is_keyed f key (shown o)) os n e)) in (
-      λ same. subst (λ m. key_in π f (view v) m ≡ Some key) (same_Some i j same) here,
-      λ there. ap Some (one_key π (view v) f key i j r.identified here there),
-    )
+key_missed : (π : Preference) (v : Value) (os : List Object) (ns : List NumberedName) (f : Family) (key : Key) (j : ℕ) → IsResolved π v os ns
+    → position (is_keyed f key) (map shown os) ≡ None → key_in π f (view v) j ≡ Some key → ⊥
+key_missed π v os ns f key j r e there =
+    let ks = map shown os in
+    let s = standing (λ (k : Kept). k.key) ks f j key (part_at π (λ k. k.key) v os ns f j r ∙ there) in
+    let same : same_key s.one.key (Some key) ≡ true = ap (λ k. same_key k (Some key)) s.has ∙ ap is_eq (tied_itself key_cmp_total key) in
+    missed (is_keyed f key) ks s.one e s.there (both_true (is_of_family f s.one) (same_key s.one.key (Some key)) s.family same)
 
-pub key_missed : (π : Preference) (v : Value) (os : List Object) (ns : List NameInContest) (f : Family) (key : Key) → IsResolved π v os ns → position (λ o. is_keyed f key (shown o)) os ≡ None
-    → FindsKey π (view v) f key None
-key_missed π v os ns f key r e j = (λ same. cc, λ there. absurd (nowhere there))
+pub finds_key : (π : Preference) (v : Value) (os : List Object) (ns : List NumberedName) (f : Family) (key : Key) → IsResolved π v os ns
+    → FindsKey π (view v) f key (number_of_key (map shown os) f key)
+finds_key π v os ns f key r = at (position (is_keyed f key) (map shown os)) refl
   where
-    nowhere : key_in π f (view v) j ≡ Some key → ⊥
-    nowhere there =
-        let s = standing (λ (k : Kept). k.key) os f j key (part_at π (λ k. k.key) v os ns f j r ∙ there) in
-        let same : same_key (shown s.one).key (Some key) ≡ true = ap (λ k. same_key k (Some key)) s.has ∙ ap is_eq (tied_itself key_cmp_total key) in
-        missed (λ o. is_keyed f key (shown o)) os s.one e s.there (both_true (is_of_family f (shown s.one)) (same_key (shown s.one).key (Some key)) s.family same)
+    at : (o : Option ℕ) → position (is_keyed f key) (map shown os) ≡ o → FindsKey π (view v) f key (option_map (rank f (map shown os)) o)
+    at None e j = (λ same. cc, λ there. absurd (key_missed π v os ns f key j r e there))
+    at (Some n) e j =
+        let i = rank f (map shown os) n in
+        let here = key_here π v os ns f key n r e in (
+          λ same. subst (λ m. key_in π f (view v) m ≡ Some key) (same_Some i j same) here,
+          λ there. ap Some (one_key π (view v) f key i j r.identified here there),
+        )
 
 -- ---- by an `@id`
 
-id_here : (π : Preference) (v : Value) (os : List Object) (ns : List NameInContest) (id : List ℕ) (n : ℕ) → IsResolved π v os ns → (h : Hit (λ o. keeps_id id (shown o)) os n)
-    → id_in h.one.family (view v) (rank h.one.family os n) ≡ Some id
-id_here π v os ns id n r h =
-    let f = h.one.family in
-    let same = same_id_from (shown h.one).id (Some id) h.passes in
-    sym (part_at π (λ k. k.id) v os ns f (rank f os n) r) ∙ ap (option_and_then (λ (k : Kept). k.id)) (ranked f os n h.one h.at (itself (family_number f))) ∙ same.1 ∙ sym same.2
+id_missed : (π : Preference) (v : Value) (os : List Object) (ns : List NumberedName) (id : List ℕ) (f : Family) (j : ℕ) → IsResolved π v os ns
+    → position (keeps_id id) (map shown os) ≡ None → id_in f (view v) j ≡ Some id → ⊥
+id_missed π v os ns id f j r e there =
+    let ks = map shown os in
+    let s = standing (λ (k : Kept). k.id) ks f j id (part_at π (λ k. k.id) v os ns f j r ∙ there) in
+    let same : same_id s.one.id (Some id) ≡ true = ap (λ k. same_id k (Some id)) s.has ∙ (bytes_eq-Decides id id).1 refl in
+    missed (keeps_id id) ks s.one e s.there same
 
-pub id_found : (π : Preference) (v : Value) (os : List Object) (ns : List NameInContest) (id : List ℕ) (n i : ℕ) (o : Object) → IsResolved π v os ns → position (λ o. keeps_id id (shown o)) os ≡ Some n
-    → o ≡ get_or os n o → i ≡ rank o.family os n → FindsId (view v) id (Some (o.family, i))
-id_found π v os ns id n i o r e at is g j =
-    let h = hit (λ o. keeps_id id (shown o)) os n e in
-    let one : h.one ≡ o = sym (get_or_from_slice_get os n h.one o h.at) ∙ sym at in
-    let ranked_here : id_in o.family (view v) (rank o.family os n) ≡ Some id = subst (λ (p : Object). id_in p.family (view v) (rank p.family os n) ≡ Some id) one (id_here π v os ns id n r h) in
-    let here : id_in o.family (view v) i ≡ Some id = subst (λ m. id_in o.family (view v) m ≡ Some id) (sym is) ranked_here in (
-      λ same.
-          let parts = some_pair_parts o.family g i j same in
-          subst (λ m. id_in g (view v) m ≡ Some id) parts.1 (subst (λ f. id_in f (view v) i ≡ Some id) parts.0 here),
-      λ there.
-          let parts = one_id π (view v) id o.family g i j r.identified here there in
-          ap₂ (λ f m. Some (f, m)) parts.0 parts.1,
-    )
-
-pub id_missed : (π : Preference) (v : Value) (os : List Object) (ns : List NameInContest) (id : List ℕ) → IsResolved π v os ns → position (λ o. keeps_id id (shown o)) os ≡ None → FindsId (view v) id None
-id_missed π v os ns id r e f j = (λ same. cc, λ there. absurd (nowhere there))
+pub finds_id : (π : Preference) (v : Value) (os : List Object) (ns : List NumberedName) (id : List ℕ) → IsResolved π v os ns
+    → FindsId (view v) id (number_of_id (map shown os) id)
+finds_id π v os ns id r = at (position (keeps_id id) (map shown os)) refl
   where
-    nowhere : id_in f (view v) j ≡ Some id → ⊥
-    nowhere there =
-        let s = standing (λ (k : Kept). k.id) os f j id (part_at π (λ k. k.id) v os ns f j r ∙ there) in
-        let same : same_id (shown s.one).id (Some id) ≡ true = ap (λ k. same_id k (Some id)) s.has ∙ (bytes_eq-Decides id id).1 refl in
-        missed (λ o. keeps_id id (shown o)) os s.one e s.there same
+    at : (o : Option ℕ) → position (keeps_id id) (map shown os) ≡ o → FindsId (view v) id (option_and_then (number_at (map shown os)) o)
+    at None e f j = (λ same. cc, λ there. absurd (id_missed π v os ns id f j r e there))
+    at (Some n) e g j =
+        let ks = map shown os in
+        let h = hit (keeps_id id) ks n e in
+        let f = h.one.family in
+        let i = rank f ks n in
+        let found : number_at ks n ≡ Some (f, i) = ap (option_map {U = Family × ℕ} (λ (k : Kept). (k.family, rank k.family ks n))) h.at in
+        let same = same_id_from h.one.id (Some id) h.passes in
+        let here : id_in f (view v) i ≡ Some id =
+        sym (part_at π (λ k. k.id) v os ns f i r) ∙ ap (option_and_then (λ (k : Kept). k.id)) (ranked f ks n h.one h.at (itself (family_number f))) ∙ same.1 ∙ sym same.2 in (
+          λ named.
+              let parts = some_pair_parts f g i j (sym found ∙ named) in
+              subst (λ m. id_in g (view v) m ≡ Some id) parts.1 (subst (λ f. id_in f (view v) i ≡ Some id) parts.0 here),
+          λ there.
+              let parts = one_id π (view v) id f g i j r.identified here there in
+              found ∙ ap₂ (λ f m. Some (f, m)) parts.0 parts.1,
+        )

@@ -8,12 +8,13 @@ use Rattle.serde_json.specs.declared.value.Value.{Value}
 use Rattle.serde_json.specs.Data.{Data}
 use Rattle.erd_tables.specs.declared.class.Family.{Family}
 use Rattle.erd_meaning.specs.Keys.{Preference}
+use Rattle.erd_meaning.specs.code.ObjectIndexes.{rank}
 use Rattle.erd_meaning.specs.code.ObjectLookups.{is_of_family, those_of}
 use Rattle.erd_meaning.specs.Objects.{IsBounded, Placed, objects}
 use Rattle.erd_meaning.specs.code.ObjectWalk.{Kept, Located, all_located, kept, kept_objects, located}
 use Rattle.erd_meaning.specs.code.Resolved.{IsResolved}
 use Rattle.erd_meaning.specs.code.Shown.{shown}
-use Rattle.erd_meaning.specs.declared.names.name_in_contest.NameInContest.{NameInContest}
+use Rattle.erd_meaning.specs.code.SelectionWalk.{NumberedName}
 use Rattle.erd_meaning.specs.declared.objects.object.Object.{Object}
 use Rattle.erd_meaning.proofs.identity.ObjectFamilies.{is_of, objects_met, pick}
 
@@ -36,14 +37,14 @@ objects_located π f (o ∷ os) = ap (λ ks. kept π f o.value ∷ ks) (objects_
 pub those_kept : (π : Preference) (f : Family) (t : Data) → those_of f (kept_objects π t) ≡ kept_of π f (objects f t)
 those_kept π f t = those_located f (all_located π t) ∙ ap (map (λ (x : Located). x.object)) (objects_met π f t) ∙ objects_located π f (objects f t)
 
-pub those_shown : (π : Preference) (v : Value) (os : List Object) (ns : List NameInContest) (f : Family) → IsResolved π v os ns → those_of f (map shown os) ≡ kept_of π f (objects f (view v))
+pub those_shown : (π : Preference) (v : Value) (os : List Object) (ns : List NumberedName) (f : Family) → IsResolved π v os ns → those_of f (map shown os) ≡ kept_of π f (objects f (view v))
 those_shown π v os ns f r = ap (those_of f) r.kept ∙ those_kept π f (view v)
 
-pub counted : (π : Preference) (v : Value) (os : List Object) (ns : List NameInContest) (f : Family) → IsResolved π v os ns → length (those_of f (map shown os)) ≡ length (objects f (view v))
+pub counted : (π : Preference) (v : Value) (os : List Object) (ns : List NumberedName) (f : Family) → IsResolved π v os ns → length (those_of f (map shown os)) ≡ length (objects f (view v))
 counted π v os ns f r = ap length (those_shown π v os ns f r) ∙ length-map (objects f (view v)) (λ (o : Placed). kept π f o.value)
 
 -- each family has no more objects than are kept of the whole report
-pub few_objects : (π : Preference) (v : Value) (os : List Object) (ns : List NameInContest) → IsResolved π v os ns → length os < 2 ^ 64 → IsBounded (view v)
+pub few_objects : (π : Preference) (v : Value) (os : List Object) (ns : List NumberedName) → IsResolved π v os ns → length os < 2 ^ 64 → IsBounded (view v)
 few_objects π v os ns r word = record {
   few = λ f.
       let ks = map shown os in
@@ -67,24 +68,26 @@ value_get π f [] i = refl
 value_get π f (o ∷ os) zero = refl
 value_get π f (o ∷ os) (suc i) = value_get π f os i
 
--- what is known of the object that is kept at a position
-pub part_at : (π : Preference) {A : Type 0} (g : Kept → Option A) (v : Value) (os : List Object) (ns : List NameInContest) (f : Family) (i : ℕ) → IsResolved π v os ns
-    → option_and_then g (slice_get (those_of f (map shown os)) i) ≡ option_and_then (λ o. g (kept π f o.value)) (slice_get (objects f (view v)) i)
-part_at π g v os ns f i r = ap (λ (ks : List Kept). option_and_then g (slice_get ks i)) (those_shown π v os ns f r) ∙ kept_get π g f (objects f (view v)) i
+pub kept_part : (π : Preference) {A : Type 0} (g : Kept → Option A) (f : Family) (t : Data) (i : ℕ)
+    → option_and_then g (slice_get (those_of f (kept_objects π t)) i) ≡ option_and_then (λ o. g (kept π f o.value)) (slice_get (objects f t) i)
+kept_part π g f t i = ap (λ (ks : List Kept). option_and_then g (slice_get ks i)) (those_kept π f t) ∙ kept_get π g f (objects f t) i
 
-pub value_at : (π : Preference) (v : Value) (os : List Object) (ns : List NameInContest) (f : Family) (i : ℕ) → IsResolved π v os ns
+-- what is known of the object that is kept at a position
+pub part_at : (π : Preference) {A : Type 0} (g : Kept → Option A) (v : Value) (os : List Object) (ns : List NumberedName) (f : Family) (i : ℕ) → IsResolved π v os ns
+    → option_and_then g (slice_get (those_of f (map shown os)) i) ≡ option_and_then (λ o. g (kept π f o.value)) (slice_get (objects f (view v)) i)
+part_at π g v os ns f i r = ap (λ (ks : List Kept). option_and_then g (slice_get (those_of f ks) i)) r.kept ∙ kept_part π g f (view v) i
+
+pub value_at : (π : Preference) (v : Value) (os : List Object) (ns : List NumberedName) (f : Family) (i : ℕ) → IsResolved π v os ns
     → option_map (λ k. k.value) (slice_get (those_of f (map shown os)) i) ≡ option_map (λ o. o.value) (slice_get (objects f (view v)) i)
 value_at π v os ns f i r = ap (λ (ks : List Kept). option_map (λ k. k.value) (slice_get ks i)) (those_shown π v os ns f r) ∙ value_get π f (objects f (view v)) i
 
 -- ---- the rank of an object in its family
 
-pub ranked : (f : Family) (os : List Object) (n : ℕ) (o : Object) → slice_get os n ≡ Some o → is_of_family f (shown o) ≡ true
-    → slice_get (those_of f (map shown os)) (length (those_of f (map shown (take n os)))) ≡ Some (shown o)
-ranked f [] n o e t = cc
-ranked f (p ∷ os) zero o e t = let same : p ≡ o = cc in rw same (rw t refl)
-ranked f (p ∷ os) (suc n) o e t =
-    at (is_of_family f (shown p)) (those_of f (map shown os)) (those_of f (map shown (take n os))) (ranked f os n o e t)
+pub ranked : (f : Family) (ks : List Kept) (n : ℕ) (k : Kept) → slice_get ks n ≡ Some k → is_of_family f k ≡ true → slice_get (those_of f ks) (rank f ks n) ≡ Some k
+ranked f [] n k e t = cc
+ranked f (l ∷ ks) zero k e t = let same : l ≡ k = cc in rw same (rw t refl)
+ranked f (l ∷ ks) (suc n) k e t = at (is_of_family f l) (those_of f ks) (those_of f (take n ks)) (ranked f ks n k e t)
   where
-    at : (b : Bool) (ks js : List Kept) → slice_get ks (length js) ≡ Some (shown o) → slice_get (cond b (shown p ∷ ks) ks) (length (cond b (shown p ∷ js) js)) ≡ Some (shown o)
-    at true ks js h = h
-    at false ks js h = h
+    at : (b : Bool) (ls js : List Kept) → slice_get ls (length js) ≡ Some k → slice_get (cond b (l ∷ ls) ls) (length (cond b (l ∷ js) js)) ≡ Some k
+    at true ls js h = h
+    at false ls js h = h

@@ -8,7 +8,8 @@ use Rattle.erd_check.proofs.FaultLists.{none_from_empty}
 use Rattle.erd_meaning.specs.Keys.{Preference}
 use Rattle.erd_meaning.specs.LaterFaults.{IdentityFault}
 use Rattle.erd_meaning.specs.code.ObjectWalk.{ObjectsMet, all_located, kept_objects, met_all}
-use Rattle.erd_meaning.specs.code.Shown.{met_of, shown}
+use Rattle.erd_meaning.specs.code.Shown.{shown}
+use Rattle.erd_meaning.specs.code.ShownWalks.{met_of}
 use Rattle.erd_meaning.specs.declared.objects.object.Object.{Object}
 use Rattle.erd_meaning.specs.declared.objects.object_walk.ObjectWalk.{ObjectWalk}
 use Rattle.erd_meaning.proofs.identity.IdentityFaults.{identity_listed, identity_told}
@@ -16,11 +17,11 @@ use Rattle.erd_meaning.proofs.identity.ToldFaults.{met_faults, met_objects, told
 
 -- a walk that began with nothing has met this report
 pub record Walked (π : Preference) (w v : ObjectWalk) (t : Data) : Type 0 where
-  pub no_object : w.objects.items ≡ []
+  pub no_object : w.objects ≡ []
   pub no_fault : w.faults.items ≡ []
   pub met : met_of v ≡ met_all (met_of w) (all_located π t)
 
-pub walked_objects : (π : Preference) (w v : ObjectWalk) (t : Data) → Walked π w v t → map shown v.objects.items ≡ kept_objects π t
+pub walked_objects : (π : Preference) (w v : ObjectWalk) (t : Data) → Walked π w v t → map shown v.objects ≡ kept_objects π t
 walked_objects π w v t h =
     ap (λ (m : ObjectsMet). m.objects) h.met ∙ met_objects (met_of w) (all_located π t) ∙ ap (λ (os : List Object). map shown os ++ kept_objects π t) h.no_object
 

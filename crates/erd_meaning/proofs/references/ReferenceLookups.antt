@@ -10,13 +10,16 @@ use Rattle.erd_tables.specs.declared.class.Family.{Family}
 use Rattle.erd_tables.specs.declared.class.Family.TheVariants as family
 use Rattle.erd_check.proofs.Order.{In, any_at}
 use Rattle.erd_check.proofs.Reasons.{both_true}
+use Rattle.erd_check.specs.Faults.{NoneOf}
 use Rattle.erd_meaning.specs.Keys.{Preference}
+use Rattle.erd_meaning.specs.LaterFaults.{IdentityFault}
 use Rattle.erd_meaning.specs.code.ObjectLookups.{is_of_family, keeps_id}
 use Rattle.erd_meaning.specs.Objects.{Placed, has_id, id_of, is_owned, objects, owner}
 use Rattle.erd_meaning.specs.code.ObjectWalk.{Kept, kept, kept_objects, same_id}
 use Rattle.erd_meaning.specs.code.ReferenceReasons.{is_known, owner_among}
 use Rattle.erd_meaning.proofs.identity.IdentityFaults.{any_from}
 use Rattle.erd_meaning.proofs.finding.Lookups.{kept_of, those_kept}
+use Rattle.erd_meaning.proofs.finding.OneFamily.{among_first}
 use Rattle.erd_meaning.proofs.identity.ObjectFamilies.{itself}
 
 -- ---- families
@@ -34,12 +37,12 @@ every_family family.Selection = inr (inr (inr (inr (inr (inr (inr (inr (inl refl
 
 -- ---- tests and searches
 
-both_tests : (a b : Bool) → (a ≡ true → b ≡ true) → (b ≡ true → a ≡ true) → a ≡ b
+pub both_tests : (a b : Bool) → (a ≡ true → b ≡ true) → (b ≡ true → a ≡ true) → a ≡ b
 both_tests true b f g = sym (f refl)
 both_tests false true f g = g refl
 both_tests false false f g = refl
 
-text_same : (a b : List ℕ) → bytes_eq a b ≡ bytes_eq b a
+pub text_same : (a b : List ℕ) → bytes_eq a b ≡ bytes_eq b a
 text_same a b =
     both_tests (bytes_eq a b) (bytes_eq b a) (λ h. (bytes_eq-Decides b a).1 (sym ((bytes_eq-Decides a b).0 h))) (λ h. (bytes_eq-Decides a b).1 (sym ((bytes_eq-Decides b a).0 h)))
 
@@ -72,6 +75,10 @@ found_any g q p (x ∷ xs) h = at (q x) (p x) (found_any g q p xs) h
 
 -- ---- the object of a family
 
+-- the first object of a family with the `@id`
+abbrev first_owner : List Kept → Family → List ℕ → Option Data
+first_owner ks f id = option_map (λ k. k.value) (find (λ k. is_of_family f k && keeps_id id k) ks)
+
 pub named_same : (id : List ℕ) (o : Option (List ℕ)) → same_id o (Some id) ≡ option_map_or (bytes_eq id) o false
 named_same id None = refl
 named_same id (Some a) = text_same a id
@@ -87,10 +94,13 @@ find_kept π f id (o ∷ os) = at (keeps_id id (kept π f o.value)) (has_id id o
     at false true e h = cc
     at false false e h = h
 
-pub owner_same : (π : Preference) (t : Data) (f : Family) (id : List ℕ) → owner_among (kept_objects π t) f id ≡ owner t f id
-owner_same π t f id =
+first_owner_same : (π : Preference) (t : Data) (f : Family) (id : List ℕ) → first_owner (kept_objects π t) f id ≡ owner t f id
+first_owner_same π t f id =
     ap (option_map (λ (k : Kept). k.value)) (find_both (is_of_family f) (keeps_id id) (kept_objects π t) ∙ ap (find (keeps_id id)) (those_kept π f t))
     ∙ find_kept π f id (objects f t)
+
+pub owner_same : (π : Preference) (t : Data) (f : Family) (id : List ℕ) → NoneOf (IdentityFault π t) → owner_among (kept_objects π t) f id ≡ owner t f id
+owner_same π t f id none = ap (option_map (λ (k : Kept). k.value)) (among_first π t f id none) ∙ first_owner_same π t f id
 
 -- ---- an object of any family
 
@@ -99,14 +109,14 @@ from_known π t id h =
     let x = any_from (keeps_id id) (kept_objects π t) h in
     let f = x.0.family in
     let passes : is_of_family f x.0 && keeps_id id x.0 ≡ true = both_true (is_of_family f x.0) (keeps_id id x.0) (itself (family_number f)) x.2 in
-    let found : is_some (owner_among (kept_objects π t) f id) ≡ true =
+    let found : is_some (first_owner (kept_objects π t) f id) ≡ true =
     found_some (λ (k : Kept). k.value) (λ k. is_of_family f k && keeps_id id k) x.0 (kept_objects π t) x.1 passes in
-    any_at (λ f. is_some (owner t f id)) f families (every_family f) (ap is_some (sym (owner_same π t f id)) ∙ found)
+    any_at (λ f. is_some (owner t f id)) f families (every_family f) (ap is_some (sym (first_owner_same π t f id)) ∙ found)
 
 to_known : (π : Preference) (t : Data) (id : List ℕ) → is_owned t id ≡ true → is_known (kept_objects π t) id ≡ true
 to_known π t id h =
     let x = any_from (λ f. is_some (owner t f id)) families h in
-    found_any (λ (k : Kept). k.value) (is_of_family x.0) (keeps_id id) (kept_objects π t) (ap is_some (owner_same π t x.0 id) ∙ x.2)
+    found_any (λ (k : Kept). k.value) (is_of_family x.0) (keeps_id id) (kept_objects π t) (ap is_some (first_owner_same π t x.0 id) ∙ x.2)
 
 pub known_same : (π : Preference) (t : Data) (id : List ℕ) → is_known (kept_objects π t) id ≡ is_owned t id
 known_same π t id = both_tests (is_known (kept_objects π t) id) (is_owned t id) (from_known π t id) (to_known π t id)

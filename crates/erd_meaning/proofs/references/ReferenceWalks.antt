@@ -17,7 +17,8 @@ use Rattle.erd_check.specs.declared.want.Want.{Want}
 use Rattle.erd_check.specs.declared.want.Want.TheVariants.{Object, Reference}
 use Rattle.erd_check.proofs.Walks.{walk_lists, Agrees, Around}
 use Rattle.erd_meaning.specs.Keys.{Preference}
-use Rattle.erd_meaning.specs.LaterFaults.{is_in_other_contest, is_other_selection, is_selection_in, ReferenceFault}
+use Rattle.erd_check.specs.Faults.{NoneOf}
+use Rattle.erd_meaning.specs.LaterFaults.{IdentityFault, is_in_other_contest, is_other_selection, is_selection_in, ReferenceFault}
 use Rattle.erd_meaning.specs.Objects.{is_owned, owner}
 use Rattle.erd_meaning.specs.code.ObjectWalk.{kept_objects}
 use Rattle.erd_meaning.specs.code.ReferenceReasons.{id_reasons, is_elsewhere, is_known, is_of_others, is_selection_family, reason_if, reference_reasons_told}
@@ -56,23 +57,23 @@ all_told test =
     ∙ ap (λ rs. reason_if (test Unresolved) Unresolved ++ rs) (first_told WrongFamily (test WrongFamily) _
     ∙ ap (λ rs. reason_if (test WrongFamily) WrongFamily ++ rs) (first_told SelectionOfOtherContest (test SelectionOfOtherContest) [] ∙ append-nil _)))
 
-elsewhere_same : (π : Preference) (t u : Data) (id : List ℕ) → is_elsewhere (kept_objects π t) u id ≡ is_in_other_contest t u id
-elsewhere_same π t u id =
+elsewhere_same : (π : Preference) (t u : Data) (id : List ℕ) → NoneOf (IdentityFault π t) → is_elsewhere (kept_objects π t) u id ≡ is_in_other_contest t u id
+elsewhere_same π t u id none =
     ap₂ (λ (a b : Option Data). is_some a && option_map_or (λ contest. not (is_selection_in contest id)) b false)
-    (owner_same π t family.Selection id) (owner_same π t family.Contest (text_at (codes "ContestId") u))
+    (owner_same π t family.Selection id none) (owner_same π t family.Contest (text_at (codes "ContestId") u) none)
 
-of_others_same : (π : Preference) (t : Data) (f : Family) (id : List ℕ) → is_of_others (kept_objects π t) f id ≡ (is_none (owner t f id) && is_owned t id)
-of_others_same π t f id = ap₂ (λ (a : Option Data) (b : Bool). is_none a && b) (owner_same π t f id) (known_same π t id)
+of_others_same : (π : Preference) (t : Data) (f : Family) (id : List ℕ) → NoneOf (IdentityFault π t) → is_of_others (kept_objects π t) f id ≡ (is_none (owner t f id) && is_owned t id)
+of_others_same π t f id none = ap₂ (λ (a : Option Data) (b : Bool). is_none a && b) (owner_same π t f id none) (known_same π t id)
 
-by_text : (π : Preference) (t u : Data) (f : Family) (repeated : Bool) (o : Option (List ℕ))
+by_text : (π : Preference) (t u : Data) (f : Family) (repeated : Bool) (o : Option (List ℕ)) → NoneOf (IdentityFault π t)
     → reason_if repeated Repeated ++ option_map_or (id_reasons (kept_objects π t) u f) o []
     ≡ if_told repeated (option_map_or (λ id. not (is_owned t id)) o false) (option_map_or (λ id. is_none (owner t f id) && is_owned t id) o false)
     (is_selection_family f && option_map_or (is_in_other_contest t u) o false)
-by_text π t u f repeated None = sym (if_told-same repeated false false (is_selection_family f && false) repeated false false false refl refl refl (and_false (is_selection_family f)))
-by_text π t u f repeated (Some id) =
+by_text π t u f repeated None none = sym (if_told-same repeated false false (is_selection_family f && false) repeated false false false refl refl refl (and_false (is_selection_family f)))
+by_text π t u f repeated (Some id) none =
     if_told-same repeated (not (is_known (kept_objects π t) id)) (is_of_others (kept_objects π t) f id) (is_selection_family f && is_elsewhere (kept_objects π t) u id)
     repeated (not (is_owned t id)) (is_none (owner t f id) && is_owned t id) (is_selection_family f && is_in_other_contest t u id)
-    refl (ap not (known_same π t id)) (of_others_same π t f id) (ap (λ b. is_selection_family f && b) (elsewhere_same π t u id))
+    refl (ap not (known_same π t id)) (of_others_same π t f id none) (ap (λ b. is_selection_family f && b) (elsewhere_same π t u id none))
 
 other_same : (t u : Data) (f : Family) (d : Data) → is_other_selection t u (Reference f) d ≡ (is_selection_family f && option_map_or (is_in_other_contest t u) (as_str d) false)
 other_same t u family.Selection d = refl
@@ -92,23 +93,23 @@ none_here : (t u : Data) (p : List Step) (near : Data) (a : Asked) → Around t 
 none_here t u p near a around e =
     if_told-same (a.repeated && false) false false (told_other t p a) false false false false (and_false a.repeated) refl refl (other_there t u p near a around ∙ e)
 
-tests_here : (π : Preference) (t u : Data) (p : List Step) (near : Data) (w : Want) (repeated : Bool) (d : Data) → Around t p u near
+tests_here : (π : Preference) (t u : Data) (p : List Step) (near : Data) (w : Want) (repeated : Bool) (d : Data) → NoneOf (IdentityFault π t) → Around t p u near
     → let a : Asked = asked_with w repeated d in
     if_told (has_reference_fault t p a Repeated) (has_reference_fault t p a Unresolved) (has_reference_fault t p a WrongFamily) (told_other t p a)
     ≡ reference_reasons_told (kept_objects π t) u w repeated d
-tests_here π t u p near (Reference f) repeated d around =
+tests_here π t u p near (Reference f) repeated d none around =
     let a : Asked = asked_with (Reference f) repeated d in
     if_told-same (repeated && true) (option_map_or (λ id. not (is_owned t id)) (as_str d) false) (option_map_or (λ id. is_none (owner t f id) && is_owned t id) (as_str d) false) (told_other t p a)
     repeated (option_map_or (λ id. not (is_owned t id)) (as_str d) false) (option_map_or (λ id. is_none (owner t f id) && is_owned t id) (as_str d) false)
     (is_selection_family f && option_map_or (is_in_other_contest t u) (as_str d) false)
     (and_true_is repeated) refl refl (other_there t u p near a around ∙ other_same t u f d)
-    ∙ sym (by_text π t u f repeated (as_str d))
-tests_here π t u p near w repeated d around = none_here t u p near (asked_with w repeated d) around refl
+    ∙ sym (by_text π t u f repeated (as_str d) none)
+tests_here π t u p near w repeated d none around = none_here t u p near (asked_with w repeated d) around refl
 
 -- ---- the walk
 
-told_there : (π : Preference) (t : Data) → Agrees t (reference_reasons_told (kept_objects π t)) (reasons_there t)
-told_there π t = record { same = λ p outer owner w repeated d around. sym (all_told (has_reference_fault t p (asked_with w repeated d)) ∙ tests_here π t outer p owner w repeated d around) }
+told_there : (π : Preference) (t : Data) → NoneOf (IdentityFault π t) → Agrees t (reference_reasons_told (kept_objects π t)) (reasons_there t)
+told_there π t none = record { same = λ p outer owner w repeated d around. sym (all_told (has_reference_fault t p (asked_with w repeated d)) ∙ tests_here π t outer p owner w repeated d none around) }
 
-pub references_all : (π : Preference) (t : Data) → IsInOrder (Object Report) t → ListsAll (ReferenceFault t) (told_of_report (reference_reasons_told (kept_objects π t)) t)
-references_all π t order = walk_lists t (reference_reasons_told (kept_objects π t)) (reasons_there t) (ReferenceFault t) (told_there π t) order (reasons_all t)
+pub references_all : (π : Preference) (t : Data) → NoneOf (IdentityFault π t) → IsInOrder (Object Report) t → ListsAll (ReferenceFault t) (told_of_report (reference_reasons_told (kept_objects π t)) t)
+references_all π t none order = walk_lists t (reference_reasons_told (kept_objects π t)) (reasons_there t) (ReferenceFault t) (told_there π t none) order (reasons_all t)

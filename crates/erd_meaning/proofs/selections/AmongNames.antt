@@ -7,7 +7,9 @@ use Rattle.erd_tables.specs.declared.class.Class.{Class}
 use Rattle.erd_tables.specs.declared.class.Class.TheVariants as class
 use Rattle.erd_tables.specs.declared.class.Family.{Family}
 use Rattle.erd_tables.specs.declared.class.Family.TheVariants as family
+use Rattle.erd_check.specs.Faults.{NoneOf}
 use Rattle.erd_check.specs.Wants.{class_of_object}
+use Rattle.erd_meaning.specs.LaterFaults.{IdentityFault}
 use Rattle.erd_meaning.specs.Keys.{Preference, has_keys, key_cmp, key_of, key_of_family_object}
 use Rattle.erd_check.specs.Values.{entries_at}
 use Rattle.erd_meaning.specs.code.ObjectLookups.{is_of_family, keeps_id}
@@ -16,6 +18,7 @@ use Rattle.erd_meaning.specs.Objects.{Placed, has_id, id_of, objects}
 use Rattle.erd_meaning.specs.code.ObjectWalk.{Kept, kept, kept_objects}
 use Rattle.erd_meaning.specs.SelectionNames.{is_write_in, key_named, keys_named, keys_of_selection, label_of_selection, name_in_class, name_of, order_of_selection, rising_list, selection_role}
 use Rattle.erd_meaning.proofs.finding.Lookups.{kept_of, those_kept}
+use Rattle.erd_meaning.proofs.finding.OneFamily.{among_first}
 use Rattle.erd_meaning.proofs.references.ReferenceLookups.{find_both, named_same}
 
 -- ---- the key of what an `@id` names
@@ -36,33 +39,33 @@ key_found π f id (o ∷ os) h = at (keeps_id id (kept π f o.value)) (has_id id
     at false true e k = cc
     at false false e k = k
 
-key_same : (π : Preference) (t : Data) (f : Family) (id : List ℕ) → has_keys f ≡ true → key_among (kept_objects π t) f id ≡ key_named π t f id
-key_same π t f id h =
-    ap (option_and_then (λ (k : Kept). k.key)) (find_both (is_of_family f) (keeps_id id) (kept_objects π t) ∙ ap (find (keeps_id id)) (those_kept π f t))
+key_same : (π : Preference) (t : Data) (f : Family) (id : List ℕ) → NoneOf (IdentityFault π t) → has_keys f ≡ true → key_among (kept_objects π t) f id ≡ key_named π t f id
+key_same π t f id none h =
+    ap (option_and_then (λ (k : Kept). k.key)) (among_first π t f id none ∙ find_both (is_of_family f) (keeps_id id) (kept_objects π t) ∙ ap (find (keeps_id id)) (those_kept π f t))
     ∙ key_found π f id (objects f t) h
 
 -- ---- the keys of a selection
 
-referred_same : (π : Preference) (t : Data) (f : Family) (o : Option (List ℕ)) → has_keys f ≡ true → option_and_then (key_among (kept_objects π t) f) o ≡ option_and_then (key_named π t f) o
-referred_same π t f None h = refl
-referred_same π t f (Some id) h = key_same π t f id h
+referred_same : (π : Preference) (t : Data) (f : Family) (o : Option (List ℕ)) → NoneOf (IdentityFault π t) → has_keys f ≡ true → option_and_then (key_among (kept_objects π t) f) o ≡ option_and_then (key_named π t f) o
+referred_same π t f None none h = refl
+referred_same π t f (Some id) none h = key_same π t f id none h
 
-keys_same : (π : Preference) (t : Data) (f : Family) (ds : List Data) → has_keys f ≡ true → keys_among (kept_objects π t) f ds ≡ keys_named π t f ds
-keys_same π t f [] h = refl
-keys_same π t f (d ∷ ds) h =
-    ap (λ o. cons_option o (keys_among (kept_objects π t) f ds)) (referred_same π t f (as_str d) h)
-    ∙ ap (cons_option (option_and_then (key_named π t f) (as_str d))) (keys_same π t f ds h)
+keys_same : (π : Preference) (t : Data) (f : Family) (ds : List Data) → NoneOf (IdentityFault π t) → has_keys f ≡ true → keys_among (kept_objects π t) f ds ≡ keys_named π t f ds
+keys_same π t f [] none h = refl
+keys_same π t f (d ∷ ds) none h =
+    ap (λ o. cons_option o (keys_among (kept_objects π t) f ds)) (referred_same π t f (as_str d) none h)
+    ∙ ap (cons_option (option_and_then (key_named π t f) (as_str d))) (keys_same π t f ds none h)
 
-selection_keys_same : (π : Preference) (t : Data) (c : Class) (d : Data) → selection_keys_among (kept_objects π t) c d ≡ keys_of_selection π t c d
-selection_keys_same π t class.CandidateSelection d = keys_same π t family.Candidate (entries_at (codes "CandidateIds") d) refl
-selection_keys_same π t class.PartySelection d = keys_same π t family.Party (entries_at (codes "PartyIds") d) refl
-selection_keys_same π t c d = refl
+selection_keys_same : (π : Preference) (t : Data) (c : Class) (d : Data) → NoneOf (IdentityFault π t) → selection_keys_among (kept_objects π t) c d ≡ keys_of_selection π t c d
+selection_keys_same π t class.CandidateSelection d none = keys_same π t family.Candidate (entries_at (codes "CandidateIds") d) none refl
+selection_keys_same π t class.PartySelection d none = keys_same π t family.Party (entries_at (codes "PartyIds") d) none refl
+selection_keys_same π t c d none = refl
 
 -- ---- names
 
-class_name_same : (π : Preference) (t : Data) (c : Class) (d : Data) → class_name_among π (kept_objects π t) c d ≡ name_in_class π t c d
-class_name_same π t c d =
-    let keys_equal = selection_keys_same π t c d in
+class_name_same : (π : Preference) (t : Data) (c : Class) (d : Data) → NoneOf (IdentityFault π t) → class_name_among π (kept_objects π t) c d ≡ name_in_class π t c d
+class_name_same π t c d none =
+    let keys_equal = selection_keys_same π t c d none in
     λ i. record {
       class = c;
       keys = rising_list key_cmp (keys_equal i);
@@ -72,9 +75,9 @@ class_name_same π t c d =
       identifier = key_of π d;
     }
 
-pub name_same : (π : Preference) (t d : Data) → name_among π (kept_objects π t) d ≡ name_of π t d
-name_same π t d = at (class_of_object selection_role d)
+pub name_same : (π : Preference) (t d : Data) → NoneOf (IdentityFault π t) → name_among π (kept_objects π t) d ≡ name_of π t d
+name_same π t d none = at (class_of_object selection_role d)
   where
     at : (o : Option Class) → option_map (λ c. class_name_among π (kept_objects π t) c d) o ≡ option_map (λ c. name_in_class π t c d) o
     at None = refl
-    at (Some c) = ap Some (class_name_same π t c d)
+    at (Some c) = ap Some (class_name_same π t c d none)

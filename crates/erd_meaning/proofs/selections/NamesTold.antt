@@ -1,10 +1,11 @@
 -- What the walk over selections tells of them: of each selection with a name, after all that stand before it, and in order.
-use Rattle.std.proofs.Common.{◌≡◌, ℕ, ◌⊎◌, inl, inr, List, [], ◌∷◌, ◌++◌, true, ◌==◌, Ordering, Less, is_eq, Option, Some, None, refl, sym, ap, ap₂, ◌∙◌, subst, append_assoc, append-nil}
+use Rattle.std.proofs.Common.{◌≡◌, ℕ, ◌⊎◌, inl, inr, List, [], ◌∷◌, ◌++◌, ◌||◌, Bool, cond, true, false, ◌==◌, Ordering, Less, is_eq, Option, Some, None, refl, sym, ap, ap₂, ◌∙◌, subst, append_assoc, append-nil}
 use Rattle.std.specs.List.{flat_map}
 use Rattle.std.specs.List.Sorted.{IsStrictlySortedBy}
 use Rattle.std.specs.Option.{option_map_or}
 use Rattle.std.proofs.lemmas.Bool.Decides.{Decides-eqb}
 use Rattle.std.proofs.lemmas.Cmp.{tied_itself}
+use Rattle.std.proofs.lemmas.List.Folds.{list_any-append}
 use Rattle.serde_json.specs.Data.{Data}
 use Rattle.erd_tables.specs.Faults.{fault_cmp}
 use Rattle.erd_tables.specs.Places.{place_cmp}
@@ -18,7 +19,7 @@ use Rattle.erd_meaning.specs.Objects.{Placed}
 use Rattle.erd_meaning.specs.code.ObjectWalk.{fault_if}
 use Rattle.erd_meaning.specs.code.Orders.{name_cmp_exact, name_cmp_total}
 use Rattle.erd_meaning.specs.SelectionNames.{name_cmp}
-use Rattle.erd_meaning.specs.code.SelectionWalk.{NamesMet, NumberedName, is_selection_named, is_taken, named_all, named_one, with_name}
+use Rattle.erd_meaning.specs.code.SelectionWalk.{NamesMet, NumberedName, added_name, is_selection_named, is_taken, named_all, named_one, with_name}
 use Rattle.erd_meaning.proofs.identity.IdentityFaults.{any_from, at_true, tied_from}
 use Rattle.erd_meaning.proofs.identity.ObjectFamilies.{itself}
 use Rattle.erd_meaning.proofs.identity.ToldFaults.{if_sorted, in_if, less_itself, turned}
@@ -51,27 +52,6 @@ abbrev pub names_told : (Data → Option NameParts) → List NumberedName → Li
 names_told name earlier [] = []
 names_told name earlier (x ∷ xs) = fault_after name earlier x ++ names_told name (earlier ++ name_list name x) xs
 
-one_names : (m : NamesMet) (x : Numbered) (o : Option NameParts) → (option_map_or (with_name m x.1.place x.0) o m).names ≡ m.names ++ name_if x.0 o
-one_names m x None = sym (append-nil m.names)
-one_names m x (Some n) = refl
-
-one_faults : (m : NamesMet) (x : Numbered) (o : Option NameParts) → (option_map_or (with_name m x.1.place x.0) o m).faults ≡ m.faults ++ fault_of m.names x o
-one_faults m x None = sym (append-nil m.faults)
-one_faults m x (Some n) = refl
-
-pub all_names : (name : Data → Option NameParts) (m : NamesMet) (xs : List Numbered) → (named_all name m xs).names ≡ m.names ++ flat_map (name_list name) xs
-all_names name m [] = sym (append-nil m.names)
-all_names name m (x ∷ xs) =
-    all_names name (named_one name m x) xs ∙ ap (λ (ns : List NumberedName). ns ++ flat_map (name_list name) xs) (one_names m x (name x.1.value))
-    ∙ append_assoc m.names (name_list name x) (flat_map (name_list name) xs)
-
-pub all_faults : (name : Data → Option NameParts) (m : NamesMet) (xs : List Numbered) → (named_all name m xs).faults ≡ m.faults ++ names_told name m.names xs
-all_faults name m [] = sym (append-nil m.faults)
-all_faults name m (x ∷ xs) =
-    all_faults name (named_one name m x) xs
-    ∙ ap₂ (λ (fs : List Fault) (ns : List NumberedName). fs ++ names_told name ns xs) (one_faults m x (name x.1.value)) (one_names m x (name x.1.value))
-    ∙ append_assoc m.faults (fault_after name m.names x) (names_told name (m.names ++ name_list name x) xs)
-
 -- ---- names that are taken
 
 pub is_named_from : (s : NumberedName) (c : ℕ) (n : NameParts) → is_selection_named c n s ≡ true → ◌≡◌ {A = NumberedName} s (c, n)
@@ -89,6 +69,75 @@ taken_from names c n h =
 
 taken_by : (names : List NumberedName) (c : ℕ) (n : NameParts) → In {A = NumberedName} (c, n) names → is_taken names c n ≡ true
 taken_by names c n i = any_at {A = NumberedName} (is_selection_named c n) (c, n) names i (is_named_itself c n)
+
+-- ---- the walk keeps the first of several equal names
+
+-- two lists have the same names
+abbrev HasSame : List NumberedName → List NumberedName → Type 0
+HasSame ns ms = (c : ℕ) (n : NameParts) → is_taken ns c n ≡ is_taken ms c n
+
+or_more : (a b : Bool) → (b ≡ true → a ≡ true) → a ≡ (a || b)
+or_more true b h = refl
+or_more false true h = h refl
+or_more false false h = refl
+
+or_false : (a : Bool) → (a || false) ≡ a
+or_false true = refl
+or_false false = refl
+
+added_same : (ns ms : List NumberedName) (c : ℕ) (n : NameParts) → HasSame ns ms → HasSame (added_name ns c n) (ms ++ (c, n) ∷ [])
+added_same ns ms c n h d k = at (is_taken ns c n) refl ∙ sym (list_any-append {X = NumberedName} (is_selection_named d k) ms ((c, n) ∷ []))
+  where
+    at : (b : Bool) → is_taken ns c n ≡ b → is_taken (cond b ns (ns ++ (c, n) ∷ [])) d k ≡ (is_taken ms d k || (is_selection_named d k (c, n) || false))
+    at false e = list_any-append {X = NumberedName} (is_selection_named d k) ns ((c, n) ∷ []) ∙ ap (λ b. b || (is_selection_named d k (c, n) || false)) (h d k)
+    at true e =
+        h d k
+        ∙ or_more (is_taken ms d k) (is_selection_named d k (c, n) || false)
+        (λ t.
+        let one = is_named_from (c, n) d k (sym (or_false (is_selection_named d k (c, n))) ∙ t) in
+        sym (h d k) ∙ ap (λ (s : NumberedName). is_taken ns s.0 s.1) (sym one) ∙ e)
+
+one_same : (m : NamesMet) (full : List NumberedName) (x : Numbered) (o : Option NameParts) → HasSame m.names full
+    → HasSame (option_map_or (with_name m x.1.place x.0) o m).names (full ++ name_if x.0 o)
+one_same m full x None h = subst (HasSame m.names) (sym (append-nil full)) h
+one_same m full x (Some n) h = added_same m.names full x.0 n h
+
+one_faults : (m : NamesMet) (full : List NumberedName) (x : Numbered) (o : Option NameParts) → HasSame m.names full
+    → (option_map_or (with_name m x.1.place x.0) o m).faults ≡ m.faults ++ fault_of full x o
+one_faults m full x None h = sym (append-nil m.faults)
+one_faults m full x (Some n) h = ap (λ b. m.faults ++ fault_if b (fault_at x.1.place TwinSelection)) (h x.0 n)
+
+pub all_faults : (name : Data → Option NameParts) (m : NamesMet) (full : List NumberedName) (xs : List Numbered) → HasSame m.names full
+    → (named_all name m xs).faults ≡ m.faults ++ names_told name full xs
+all_faults name m full [] h = sym (append-nil m.faults)
+all_faults name m full (x ∷ xs) h =
+    all_faults name (named_one name m x) (full ++ name_list name x) xs (one_same m full x (name x.1.value) h)
+    ∙ ap (λ (fs : List Fault). fs ++ names_told name (full ++ name_list name x) xs) (one_faults m full x (name x.1.value) h)
+    ∙ append_assoc m.faults (fault_after name full x) (names_told name (full ++ name_list name x) xs)
+
+both_empty : (fs gs : List Fault) → fs ++ gs ≡ [] → (fs ≡ []) × (gs ≡ [])
+both_empty [] gs e = (refl, e)
+both_empty (f ∷ fs) gs e = cc
+
+not_told : (b : Bool) (f : Fault) → fault_if b f ≡ [] → b ≡ false
+not_told true f e = cc
+not_told false f e = refl
+
+one_names : (m : NamesMet) (x : Numbered) (o : Option NameParts) → fault_of m.names x o ≡ [] → (option_map_or (with_name m x.1.place x.0) o m).names ≡ m.names ++ name_if x.0 o
+one_names m x None e = sym (append-nil m.names)
+one_names m x (Some n) e = ap (λ b. cond b m.names (m.names ++ (x.0, n) ∷ [])) (not_told (is_taken m.names x.0 n) (fault_at x.1.place TwinSelection) e)
+
+-- where none is told, all are kept
+pub all_names : (name : Data → Option NameParts) (m : NamesMet) (xs : List Numbered) → names_told name m.names xs ≡ []
+    → (named_all name m xs).names ≡ m.names ++ flat_map (name_list name) xs
+all_names name m [] e = sym (append-nil m.names)
+all_names name m (x ∷ xs) e =
+    let none = both_empty (fault_after name m.names x) (names_told name (m.names ++ name_list name x) xs) e in
+    let one : (named_one name m x).names ≡ m.names ++ name_list name x = one_names m x (name x.1.value) none.0 in
+    all_names name (named_one name m x) xs (ap (λ (ns : List NumberedName). names_told name ns xs) one ∙ none.1)
+    ∙ ap (λ (ns : List NumberedName). ns ++ flat_map (name_list name) xs) one ∙ append_assoc m.names (name_list name x) (flat_map (name_list name) xs)
+
+-- ---- the names of a selection
 
 in_name : (c : ℕ) (o : Option NameParts) (d : ℕ) (n : NameParts) → In {A = NumberedName} (d, n) (name_if c o) → (c ≡ d) × (o ≡ Some n)
 in_name c None d n i = absurd i

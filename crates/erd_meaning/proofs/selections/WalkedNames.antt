@@ -1,21 +1,20 @@
 -- What the walk over the selections of a report leaves.
-use Rattle.std.proofs.Common.{◌≡◌, List, [], ◌++◌, flat_map, map, length, sym, ap, ap₂, ◌∙◌, subst, Option}
+use Rattle.std.proofs.Common.{◌≡◌, List, [], ◌∷◌, ◌++◌, refl, flat_map, length, sym, ap, ◌∙◌, subst, Option}
 use Rattle.serde_json.specs.Data.{Data}
 use Rattle.erd_tables.specs.Faults.{ListsAll}
 use Rattle.erd_tables.specs.declared.fault.Fault.{Fault}
 use Rattle.erd_check.specs.Faults.{NoneOf, ShapeFault}
 use Rattle.erd_check.proofs.FaultLists.{none_from_empty}
 use Rattle.erd_meaning.specs.Keys.{Preference}
-use Rattle.erd_meaning.specs.LaterFaults.{SelectionFault}
+use Rattle.erd_meaning.specs.LaterFaults.{IdentityFault, SelectionFault}
 use Rattle.erd_meaning.specs.NameParts.{NameParts}
 use Rattle.erd_meaning.specs.code.NamesAmong.{name_among}
 use Rattle.erd_meaning.specs.Objects.{numbered_selections}
 use Rattle.erd_meaning.specs.code.ObjectWalk.{Kept, kept_objects}
 use Rattle.erd_meaning.specs.code.Resolved.{AreNames}
 use Rattle.erd_meaning.specs.SelectionNames.{name_of}
-use Rattle.erd_meaning.specs.code.SelectionWalk.{NamesMet, named_all}
-use Rattle.erd_meaning.specs.code.Shown.{name_shown, names_met}
-use Rattle.erd_meaning.specs.declared.names.name_in_contest.NameInContest.{NameInContest}
+use Rattle.erd_meaning.specs.code.SelectionWalk.{NamesMet, NumberedName, is_taken, named_all}
+use Rattle.erd_meaning.specs.code.ShownWalks.{names_met}
 use Rattle.erd_meaning.specs.declared.names.selection_walk.SelectionWalk.{SelectionWalk}
 use Rattle.erd_meaning.proofs.selections.AmongNames.{name_same}
 use Rattle.erd_meaning.proofs.selections.NamesTold.{all_faults, all_names, name_list, names_told}
@@ -24,28 +23,38 @@ use Rattle.erd_meaning.proofs.selections.SelectionsMet.{names_listed}
 
 -- a walk that began with nothing has met the selections of this report, among these objects
 pub record NamesWalked (π : Preference) (w v : SelectionWalk) (ks : List Kept) (t : Data) : Type 0 where
-  pub no_name : w.names.items ≡ []
+  pub no_name : w.names.keys ≡ []
   pub no_fault : w.faults.items ≡ []
   pub kept : ks ≡ kept_objects π t
+  pub identified : NoneOf (IdentityFault π t)
   pub met : names_met v ≡ named_all (name_among π ks) (names_met w) (numbered_selections t)
 
 met_by_name : (π : Preference) (w v : SelectionWalk) (ks : List Kept) (t : Data) → NamesWalked π w v ks t → names_met v ≡ named_all (name_of π t) (names_met w) (numbered_selections t)
 met_by_name π w v ks t h =
-    let same : name_among π (kept_objects π t) ≡ name_of π t = λ i d. name_same π t d i in
+    let same : name_among π (kept_objects π t) ≡ name_of π t = λ i d. name_same π t d h.identified i in
     h.met ∙ ap (λ (name : Data → Option NameParts). named_all name (names_met w) (numbered_selections t)) (ap (name_among π) h.kept ∙ same)
-
-walked_names : (π : Preference) (w v : SelectionWalk) (ks : List Kept) (t : Data) → NamesWalked π w v ks t → map name_shown v.names.items ≡ flat_map (name_list (name_of π t)) (numbered_selections t)
-walked_names π w v ks t h =
-    ap (λ (m : NamesMet). m.names) (met_by_name π w v ks t h) ∙ all_names (name_of π t) (names_met w) (numbered_selections t)
-    ∙ ap (λ (ns : List NameInContest). map name_shown ns ++ flat_map (name_list (name_of π t)) (numbered_selections t)) h.no_name
 
 walked_faults : (π : Preference) (w v : SelectionWalk) (ks : List Kept) (t : Data) → NamesWalked π w v ks t → v.faults.items ≡ selections_told π t
 walked_faults π w v ks t h =
-    ap (λ (m : NamesMet). m.faults) (met_by_name π w v ks t h) ∙ all_faults (name_of π t) (names_met w) (numbered_selections t)
-    ∙ ap₂ (λ (fs : List Fault) (ns : List NameInContest). fs ++ names_told (name_of π t) (map name_shown ns) (numbered_selections t)) h.no_fault h.no_name
+    ap (λ (m : NamesMet). m.faults) (met_by_name π w v ks t h)
+    ∙ all_faults (name_of π t) (names_met w) [] (numbered_selections t) (λ c n. ap (λ (ns : List NumberedName). is_taken ns c n) h.no_name)
+    ∙ ap (λ (fs : List Fault). fs ++ names_told (name_of π t) [] (numbered_selections t)) h.no_fault
 
-pub names_left : (π : Preference) (w v : SelectionWalk) (ks : List Kept) (t : Data) → NamesWalked π w v ks t → NoneOf (ShapeFault t) → AreNames π t (map name_shown v.names.items)
-names_left π w v ks t h none = subst (AreNames π t) (sym (walked_names π w v ks t h)) (names_listed π t none)
+walked_names : (π : Preference) (w v : SelectionWalk) (ks : List Kept) (t : Data) → NamesWalked π w v ks t → v.faults.items ≡ []
+    → v.names.keys ≡ flat_map (name_list (name_of π t)) (numbered_selections t)
+walked_names π w v ks t h none =
+    let told : names_told (name_of π t) (names_met w).names (numbered_selections t) ≡ [] =
+    ap (λ (ns : List NumberedName). names_told (name_of π t) ns (numbered_selections t)) h.no_name ∙ sym (walked_faults π w v ks t h) ∙ none in
+    ap (λ (m : NamesMet). m.names) (met_by_name π w v ks t h) ∙ all_names (name_of π t) (names_met w) (numbered_selections t) told
+    ∙ ap (λ (ns : List NumberedName). ns ++ flat_map (name_list (name_of π t)) (numbered_selections t)) h.no_name
+
+no_entries : (fs : List Fault) → length fs ≡ 0 → fs ≡ []
+no_entries [] e = refl
+no_entries (f ∷ fs) e = cc
+
+pub names_left : (π : Preference) (w v : SelectionWalk) (ks : List Kept) (t : Data) → NamesWalked π w v ks t → NoneOf (ShapeFault t)
+    → (fs : List Fault) → fs ≡ v.faults.items → length fs ≡ 0 → AreNames π t v.names.keys
+names_left π w v ks t h none fs e empty = subst (AreNames π t) (sym (walked_names π w v ks t h (sym e ∙ no_entries fs empty))) (names_listed π t none)
 
 pub twins_left : (π : Preference) (w v : SelectionWalk) (ks : List Kept) (t : Data) → NamesWalked π w v ks t → (fs : List Fault) → fs ≡ v.faults.items → ListsAll (SelectionFault π t) fs
 twins_left π w v ks t h fs e = subst (ListsAll (SelectionFault π t)) (sym (e ∙ walked_faults π w v ks t h)) (selections_listed π t)

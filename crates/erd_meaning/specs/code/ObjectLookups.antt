@@ -1,6 +1,6 @@
 -- What the program looks up among the objects that it keeps of a report. It is no definition of the profile: that what is
 -- found is what `Lookups` and `Objects` say is proved in `Found` and `ReferenceLookups`.
-use Rattle.std.specs.Prelude.{ℕ, List, Bool, ◌&&◌, ◌==◌, Option, Some, filter, find}
+use Rattle.std.specs.Prelude.{ℕ, List, Bool, ◌&&◌, ◌==◌, Option, Some, None, option_and_then, filter, find, if◌then◌else◌}
 use Rattle.erd_tables.specs.Classes.{family_number}
 use Rattle.erd_tables.specs.declared.class.Family.{Family}
 use Rattle.erd_meaning.specs.code.ObjectWalk.{Kept, same_id, same_key}
@@ -22,6 +22,6 @@ is_keyed f key k = is_of_family f k && same_key k.key (Some key)
 abbrev pub keeps_id : List ℕ → Kept → Bool
 keeps_id id k = same_id k.id (Some id)
 
--- the first object of a family with an `@id`
+-- the first object with an `@id`, if it is of the family
 abbrev pub object_among : List Kept → Family → List ℕ → Option Kept
-object_among ks f id = find (λ k. is_of_family f k && keeps_id id k) ks
+object_among ks f id = option_and_then (λ k. if is_of_family f k then Some k else None) (find (keeps_id id) ks)

@@ -95,12 +95,15 @@ has_same_id a b = same_id a.id b.id
 abbrev pub fault_if : Bool → Fault → List Fault
 fault_if b f = if b then f ∷ [] else []
 
+-- the faults of an object that lacks a key, whose key an earlier one has, whose `@id` an earlier one has
+abbrev pub faults_told : Bool → Bool → Bool → List Step → List Fault
+faults_told lacks_key has_key has_id p =
+    fault_if lacks_key (fault_at p NoIdentifier)
+    ++ (fault_if has_key (fault_at p TwinIdentifier) ++ fault_if has_id (fault_at (p ++ Name (codes "@id") ∷ []) DuplicateId))
+
 -- the faults of an object after these earlier ones
 abbrev pub faults_after : List Kept → List Step → Kept → List Fault
-faults_after earlier p k =
-    fault_if (has_keys k.family && is_none k.key) (fault_at p NoIdentifier)
-    ++ (fault_if (list_any (has_same_key k) earlier) (fault_at p TwinIdentifier)
-    ++ fault_if (list_any (has_same_id k) earlier) (fault_at (p ++ Name (codes "@id") ∷ []) DuplicateId))
+faults_after earlier p k = faults_told (has_keys k.family && is_none k.key) (list_any (has_same_key k) earlier) (list_any (has_same_id k) earlier) p
 
 -- ---- the walk
 

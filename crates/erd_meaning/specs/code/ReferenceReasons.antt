@@ -1,5 +1,5 @@
 -- The reasons of a reference as the program tells them, by look-ups among the objects that are kept: those of `ReferenceFault` (`ReferenceWalks`).
-use Rattle.std.specs.Prelude.{ℕ, List, [], ◌∷◌, ◌++◌, Bool, true, false, not, ◌&&◌, if◌then◌else◌, Option, option_map, is_some, is_none, find, codes}
+use Rattle.std.specs.Prelude.{ℕ, List, [], ◌∷◌, ◌++◌, Bool, true, false, not, ◌&&◌, if◌then◌else◌, Option, option_map, is_some, is_none, codes}
 use Rattle.std.specs.List.{list_any}
 use Rattle.std.specs.Option.{option_map_or}
 use Rattle.serde_json.specs.Data.{Data}
@@ -12,7 +12,7 @@ use Rattle.erd_check.specs.Values.{text_at}
 use Rattle.erd_check.specs.declared.want.Want.{Want}
 use Rattle.erd_check.specs.declared.want.Want.TheVariants.{Reference}
 use Rattle.erd_meaning.specs.LaterFaults.{is_selection_in}
-use Rattle.erd_meaning.specs.code.ObjectLookups.{is_of_family, keeps_id}
+use Rattle.erd_meaning.specs.code.ObjectLookups.{keeps_id, object_among}
 use Rattle.erd_meaning.specs.code.ObjectWalk.{Kept}
 
 -- ---- look-ups
@@ -21,9 +21,9 @@ use Rattle.erd_meaning.specs.code.ObjectWalk.{Kept}
 abbrev pub is_known : List Kept → List ℕ → Bool
 is_known ks id = list_any (keeps_id id) ks
 
--- the object of a family with the `@id`
+-- the first object with the `@id`, if it is of the family
 abbrev pub owner_among : List Kept → Family → List ℕ → Option Data
-owner_among ks f id = option_map (λ k. k.value) (find (λ k. is_of_family f k && keeps_id id k) ks)
+owner_among ks f id = option_map (λ k. k.value) (object_among ks f id)
 
 -- an object with the `@id` is there, but none of the family
 abbrev pub is_of_others : List Kept → Family → List ℕ → Bool

@@ -14,8 +14,7 @@ use Rattle.erd_meaning.specs.LaterFaults.{IdentityFault, ReferenceFault, Selecti
 use Rattle.erd_meaning.specs.Lookups.{selection_in}
 use Rattle.erd_meaning.specs.code.ObjectWalk.{kept_objects}
 use Rattle.erd_meaning.specs.code.SelectionWalk.{NumberedName}
-use Rattle.erd_meaning.specs.code.Shown.{name_shown, shown}
-use Rattle.erd_meaning.specs.declared.names.name_in_contest.NameInContest.{NameInContest}
+use Rattle.erd_meaning.specs.code.Shown.{shown}
 use Rattle.erd_meaning.specs.declared.objects.object.Object.{Object}
 
 -- no two objects of one family have one key, no two objects of the report have one `@id`, and those that need a key have one
@@ -36,7 +35,7 @@ abbrev pub AreNames : Preference → Data → List NumberedName → Type 0
 AreNames π t names = (i : ℕ) → slice_get names i ≡ selection_in π t i
 
 -- an accepted report, its objects and the names of its selections, each in the order of their places
-pub record IsResolved (π : Preference) (tree : Value) (objects : List Object) (names : List NameInContest) : Type 0 where
+pub record IsResolved (π : Preference) (tree : Value) (objects : List Object) (names : List NumberedName) : Type 0 where
   pub faultless : IsFaultless tree
   pub is_tree : IsTree (view tree)
   pub whole : has_float (view tree) ≡ false
@@ -45,4 +44,4 @@ pub record IsResolved (π : Preference) (tree : Value) (objects : List Object) (
   pub referred : IsReferred tree
   pub told_apart : IsToldApart π tree
   pub kept : map shown objects ≡ kept_objects π (view tree)
-  pub named : AreNames π (view tree) (map name_shown names)
+  pub named : AreNames π (view tree) names

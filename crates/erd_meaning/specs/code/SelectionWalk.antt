@@ -1,7 +1,7 @@
 -- The names of the selections of a report in the order of their places, as the program goes over them, with the faults of
 -- selections that it tells on the way. It is no definition of the profile: that the names are those of `selection_in` is
 -- proved in `SelectionsMet`, and that the faults are those of `SelectionFault` in `SelectionFaults`.
-use Rattle.std.specs.Prelude.{ℕ, List, [], ◌∷◌, ◌++◌, Bool, ◌&&◌, ◌==◌, Option}
+use Rattle.std.specs.Prelude.{ℕ, List, [], ◌∷◌, ◌++◌, Bool, ◌&&◌, ◌==◌, if◌then◌else◌, Option}
 use Rattle.std.specs.List.{list_any}
 use Rattle.std.specs.Option.{option_map_or}
 use Rattle.std.specs.Ordering.{is_eq}
@@ -36,9 +36,13 @@ pub record NamesMet : Type 0 where
   pub names : List NumberedName
   pub faults : List Fault
 
+-- one more name, if it is not there
+abbrev pub added_name : List NumberedName → ℕ → NameParts → List NumberedName
+added_name names c n = if is_taken names c n then names else names ++ (c, n) ∷ []
+
 -- one more name, of a selection at this place
 abbrev pub with_name : NamesMet → List Step → ℕ → NameParts → NamesMet
-with_name m p c n = record { names = m.names ++ (c, n) ∷ []; faults = m.faults ++ fault_if (is_taken m.names c n) (fault_at p TwinSelection) }
+with_name m p c n = record { names = added_name m.names c n; faults = m.faults ++ fault_if (is_taken m.names c n) (fault_at p TwinSelection) }
 
 -- one more selection: it is passed over where it has no name
 abbrev pub named_one : (Data → Option NameParts) → NamesMet → ℕ × Placed → NamesMet

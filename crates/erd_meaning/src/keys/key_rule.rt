@@ -3,7 +3,8 @@ ghost use Rattle.serde_json.specs.View.{view};
 ghost use Rattle.erd_meaning.specs.Keys.{key_of};
 
 use crate::keys::key::Key;
-use crate::keys::key_of::key_of;
+use crate::keys::key_of::{chosen_triple, key_of};
+use crate::keys::triple::Triple;
 use serde_json::Value;
 use std::alloc::{AllocError, Global};
 use std::marker::Model;
@@ -25,6 +26,13 @@ impl<'p> Model for KeyRule<'p> {
 }
 
 impl<'p> KeyRule<'p> {
+    /// The identifier that gives an object its key, if it has one.
+    pub(crate) fn triple_of<'a>(&self, object: &'a Value) -> Option<Triple<'a>>
+        ensures { result ≡ key_of self.now (view object.now) }
+    {
+        chosen_triple(object, self.prefer)
+    }
+
     /// The key of an object, if it has an identifier.
     pub(crate) fn key_of(&self, object: &Value) -> Result<Option<Key>, AllocError>
         ensures { IfOk result (λ key. key ≡ key_of self.now (view object.now)) }

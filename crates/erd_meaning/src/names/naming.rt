@@ -11,7 +11,7 @@ use crate::keys::shared_key::SharedKey;
 use crate::names::label::label_text;
 use crate::names::selection_name::SelectionName;
 use crate::objects::lookup::key_referred;
-use crate::objects::object::Object;
+use crate::objects::table::ObjectTable;
 use erd_check::values::{class_of_object, entries_at};
 use erd_tables::{Class, Family, Role, Text};
 use serde_json::{Number, Value};
@@ -20,7 +20,7 @@ use std::alloc::{AllocError, Global};
 /// The name of a selection, if it is of a class of selection. What its references name is looked up among the objects.
 pub(crate) fn name_of_selection(
     keys: &KeyRule,
-    objects: &[Object],
+    objects: &ObjectTable,
     selection: &Value,
 ) -> Result<Option<SelectionName>, AllocError>
     requires whole { has_float (view selection.now) ≡ false }
@@ -45,7 +45,7 @@ pub(crate) fn name_of_selection(
 /// The keys of the candidates or the parties that a selection is for, in rising order.
 fn selection_keys(
     alloc: Global,
-    objects: &[Object],
+    objects: &ObjectTable,
     class: Class,
     selection: &Value,
 ) -> Result<Vec<SharedKey>, AllocError>
@@ -67,7 +67,7 @@ fn in_rising_order(mut keys: Vec<SharedKey>) -> Result<Vec<SharedKey>, AllocErro
 /// The keys of the candidates or the parties that a selection is for, in the order of its references.
 fn named_keys(
     alloc: Global,
-    objects: &[Object],
+    objects: &ObjectTable,
     class: Class,
     selection: &Value,
 ) -> Result<Vec<SharedKey>, AllocError>
@@ -90,7 +90,7 @@ fn named_keys(
 /// The keys of what the references name.
 fn keys_among(
     alloc: Global,
-    objects: &[Object],
+    objects: &ObjectTable,
     family: Family,
     references: &[Value],
 ) -> Result<Vec<SharedKey>, AllocError>

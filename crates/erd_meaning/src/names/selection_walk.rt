@@ -6,23 +6,26 @@ ghost use Rattle.erd_check.specs.Shapes.{IsFaultless};
 ghost use Rattle.erd_meaning.specs.code.NamesAmong.{name_among};
 ghost use Rattle.erd_meaning.specs.Objects.{numbered_selections, numbered_selections_of};
 ghost use Rattle.erd_meaning.specs.code.SelectionWalk.{named_all, named_one, with_name};
-ghost use Rattle.erd_meaning.specs.code.Shown.{names_met, placed_at, shown};
+ghost use Rattle.erd_meaning.specs.code.Shown.{placed_at, shown};
+ghost use Rattle.erd_meaning.specs.code.ShownWalks.{names_met};
 
 use crate::keys::key_rule::KeyRule;
-use crate::names::name_in_contest::{NameInContest, is_taken};
+use crate::names::held_name::HeldName;
 use crate::names::naming::name_of_selection;
 use crate::names::selection_name::SelectionName;
-use crate::objects::object::Object;
+use crate::objects::table::ObjectTable;
 use erd_check::path::{Path, push_fault};
 use erd_check::values::entries_at;
 use erd_tables::{Fault, Reason};
+use indexmap::IndexSet;
 use serde_json::Value;
 use std::alloc::{AllocError, Global};
 
-/// The names of the selections that were met, in the order of their places, and the faults of selections.
+/// The names of the selections that were met, each with the position of its contest, in the order of their places, and the
+/// faults of selections. Of several selections of one contest with one name the first is kept.
 #[derive(Drop)]
-pub(crate) struct SelectionWalk {
-    pub(crate) names: Vec<NameInContest>,
+pub(crate) struct SelectionWalk<'a> {
+    pub(crate) names: IndexSet<(usize, HeldName<'a>)>,
     pub(crate) faults: Vec<Fault>,
 }
 
@@ -30,8 +33,8 @@ pub(crate) struct SelectionWalk {
 pub(crate) fn meet_selections(
     keys: &KeyRule,
     report: &Value,
-    objects: &[Object],
-    walk: &mut SelectionWalk,
+    objects: &ObjectTable,
+    walk: &mut SelectionWalk<'_>,
 ) -> Result<(), AllocError>
     requires faultless { IsFaultless report.now }
     requires whole { has_float (view report.now) ≡ false }
@@ -52,11 +55,11 @@ pub(crate) fn meet_selections(
 /// Meets the selections of the contest with this number.
 fn meet_contest(
     keys: &KeyRule,
-    objects: &[Object],
+    objects: &ObjectTable,
     number: usize,
     contest: &Value,
     path: &Path,
-    walk: &mut SelectionWalk,
+    walk: &mut SelectionWalk<'_>,
 ) -> Result<(), AllocError>
     requires whole { has_float (view contest.now) ≡ false }
     ensures { IfOk result (λ _. names_met walk.new
@@ -73,11 +76,11 @@ fn meet_contest(
 /// Meets a selection. One of no class of selection has no name, and is passed over.
 fn meet_selection(
     keys: &KeyRule,
-    objects: &[Object],
+    objects: &ObjectTable,
     contest: usize,
     selection: &Value,
     path: &Path,
-    walk: &mut SelectionWalk,
+    walk: &mut SelectionWalk<'_>,
 ) -> Result<(), AllocError>
     requires whole { has_float (view selection.now) ≡ false }
     ensures { IfOk result (λ _. names_met walk.new
@@ -94,13 +97,12 @@ fn meet_name(
     contest: usize,
     name: SelectionName,
     path: &Path,
-    walk: &mut SelectionWalk,
+    walk: &mut SelectionWalk<'_>,
 ) -> Result<(), AllocError>
     ensures { IfOk result (λ _. names_met walk.new ≡ with_name (names_met walk.old) (steps_of path.now) contest name) }
 {
-    if is_taken(&walk.names, contest, &name) {
+    if !walk.names.insert((contest, HeldName::own(name)))? {
         push_fault(alloc, path, Reason::TwinSelection, &mut walk.faults)?;
     }
-    walk.names.push(NameInContest { contest, name })?;
     Ok(())
 }

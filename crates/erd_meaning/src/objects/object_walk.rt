@@ -1,15 +1,17 @@
-ghost use Rattle.std.specs.Prelude.{◌≡◌, ◌++◌, map, codes, flat_map, IfOk};
-ghost use Rattle.std.specs.List.{list_any};
+ghost use Rattle.std.specs.Prelude.{◌≡◌, ◌++◌, codes, flat_map, IfOk};
 ghost use Rattle.serde_json.specs.View.{view};
 ghost use Rattle.erd_check.specs.code.Paths.{steps_of};
-ghost use Rattle.erd_meaning.specs.Objects.{placed_entries};
-ghost use Rattle.erd_meaning.specs.code.ObjectWalk.{kept, faults_after, has_same_key, has_same_id, located, located_one, contest_located, election_located, all_located, met_one, met_all};
-ghost use Rattle.erd_meaning.specs.code.Shown.{shown, met_of, placed_at};
+ghost use Rattle.erd_meaning.specs.Keys.{key_of_family_object};
+ghost use Rattle.erd_meaning.specs.Objects.{id_of, placed_entries};
+ghost use Rattle.erd_meaning.specs.code.ObjectWalk.{faults_told, located, located_one, contest_located, election_located, all_located, met_one, met_all};
+ghost use Rattle.erd_meaning.specs.code.Shown.{shown, placed_at};
+ghost use Rattle.erd_meaning.specs.code.ShownWalks.{met_of};
 
-use crate::keys::key::Key;
 use crate::keys::key_rule::KeyRule;
 use crate::keys::shared_key::SharedKey;
+use crate::keys::triple::Triple;
 use crate::objects::object::Object;
+use crate::objects::table::{Earlier, ObjectTable};
 use erd_check::path::{Path, push_fault};
 use erd_check::values::entries_at;
 use erd_tables::{Family, Fault, Reason};
@@ -19,7 +21,7 @@ use std::alloc::{AllocError, Global};
 /// The objects that were met, in the order of their places, and their faults of identity.
 #[derive(Drop)]
 pub(crate) struct ObjectWalk<'a> {
-    pub(crate) objects: Vec<Object<'a>>,
+    pub(crate) objects: ObjectTable<'a>,
     pub(crate) faults: Vec<Fault>,
 }
 
@@ -129,19 +131,33 @@ fn meet_object<'a>(
     ensures { IfOk result (λ _. met_of walk.new
         ≡ met_one (met_of walk.old) (located_one keys.now family (placed_at path.now value.now))) }
 {
-    let object = object_of(keys, family, value)?;
-    push_identity_faults(keys.alloc, &object, &walk.objects, path, &mut walk.faults)?;
-    walk.objects.push(object)?;
-    Ok(())
+    let key = chosen_triple(keys, family, value);
+    let object = object_of(keys.alloc, family, value, &key)?;
+    let lacks_key = family != Family::Selection && key.is_none();
+    let earlier = walk.objects.push(object, key)?;
+    push_identity_faults(keys.alloc, lacks_key, earlier, path, &mut walk.faults)
 }
 
-fn object_of<'a>(keys: &KeyRule, family: Family, value: &'a Value) -> Result<Object<'a>, AllocError>
-    ensures { IfOk result (λ object. shown object ≡ kept keys.now family (view value.now)) }
+/// The identifier that gives an object its key, if its family has keys.
+fn chosen_triple<'a>(keys: &KeyRule, family: Family, value: &'a Value) -> Option<Triple<'a>>
+    ensures { result ≡ key_of_family_object keys.now family (view value.now) }
 {
-    let key = match family {
+    match family {
         Family::Selection => None,
-        _ => shared(keys.alloc, keys.key_of(value)?)?,
-    };
+        _ => keys.triple_of(value),
+    }
+}
+
+fn object_of<'a>(
+    alloc: Global,
+    family: Family,
+    value: &'a Value,
+    key: &Option<Triple>,
+) -> Result<Object<'a>, AllocError>
+    ensures { IfOk result (λ object. shown object
+        ≡ record { family = family; value = view value.now; key = key.now; id = id_of (view value.now) }) }
+{
+    let key = shared(alloc, key)?;
     let id = value.get("@id").and_then(Value::as_str);
     Ok(Object {
         family,
@@ -151,48 +167,34 @@ fn object_of<'a>(keys: &KeyRule, family: Family, value: &'a Value) -> Result<Obj
     })
 }
 
-fn shared(alloc: Global, key: Option<Key>) -> Result<Option<SharedKey>, AllocError>
-    ensures { IfOk result (λ shared. shared ≡ key) }
+fn shared(alloc: Global, key: &Option<Triple>) -> Result<Option<SharedKey>, AllocError>
+    ensures { IfOk result (λ shared. shared ≡ key.now) }
 {
     match key {
-        Some(key) => Ok(Some(SharedKey::of(alloc, key)?)),
+        Some(key) => Ok(Some(SharedKey::of(alloc, key.to_key(alloc)?)?)),
         None => Ok(None),
     }
 }
 
 fn push_identity_faults(
     alloc: Global,
-    object: &Object,
-    earlier: &[Object],
+    lacks_key: bool,
+    earlier: Earlier,
     path: &Path,
     faults: &mut Vec<Fault>,
 ) -> Result<(), AllocError>
     ensures { IfOk result (λ _. faults.new.items ≡ faults.old.items
-        ++ faults_after (map shown earlier.now) (steps_of path.now) (shown object.now)) }
+        ++ faults_told lacks_key earlier.has_key earlier.has_id (steps_of path.now)) }
 {
-    if object.family != Family::Selection && object.key.is_none() {
+    if lacks_key {
         push_fault(alloc, path, Reason::NoIdentifier, faults)?;
     }
-    if has_twin(object, earlier) {
+    if earlier.has_key {
         push_fault(alloc, path, Reason::TwinIdentifier, faults)?;
     }
-    if is_named_before(object, earlier) {
+    if earlier.has_id {
         let id = Path::Member(&*path, "@id");
         push_fault(alloc, &id, Reason::DuplicateId, faults)?;
     }
     Ok(())
-}
-
-/// Whether an earlier object of the family has the key.
-fn has_twin(object: &Object, earlier: &[Object]) -> bool
-    ensures { result ≡ list_any (has_same_key (shown object.now)) (map shown earlier.now) }
-{
-    earlier.iter().any(|other| object.is_twin(other))
-}
-
-/// Whether an earlier object has the `@id`.
-fn is_named_before(object: &Object, earlier: &[Object]) -> bool
-    ensures { result ≡ list_any (has_same_id (shown object.now)) (map shown earlier.now) }
-{
-    earlier.iter().any(|other| object.has_id_of(other))
 }

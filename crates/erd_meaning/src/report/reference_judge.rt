@@ -6,12 +6,13 @@ ghost use Rattle.erd_check.specs.code.Walk.{faults_of};
 ghost use Rattle.erd_meaning.specs.LaterFaults.{ReferenceFault, is_selection_in};
 ghost use Rattle.erd_meaning.specs.Objects.{has_id};
 ghost use Rattle.erd_meaning.specs.code.ObjectWalk.{kept_objects};
+ghost use Rattle.erd_meaning.specs.code.Resolved.{IsIdentified};
 ghost use Rattle.erd_meaning.specs.code.ReferenceReasons.{id_reasons, is_elsewhere, is_of_others, reason_if};
 ghost use Rattle.erd_meaning.specs.code.Shown.{shown};
 
 use crate::keys::key_rule::KeyRule;
-use crate::objects::lookup::{is_id_known, owner_of};
-use crate::objects::object::Object;
+use crate::objects::lookup::owner_of;
+use crate::objects::table::ObjectTable;
 use erd_check::is_among;
 use erd_check::path::{Path, push_fault};
 use erd_check::values::{entries_at, text_at};
@@ -25,13 +26,14 @@ use std::alloc::{AllocError, Global};
 /// All faults of references of a report (reason 11 of references, and reasons 15 to 17), by place, then by reason, each
 /// once. Each reference is looked up among the objects of the report.
 ///
-/// Memory is taken for the faults alone.
+/// Memory is taken for the faults, and for the entries of a set of more than 16, which are put in order.
 pub(crate) fn reference_faults(
     keys: &KeyRule,
     tree: &Value,
-    objects: &[Object],
+    objects: &ObjectTable,
 ) -> Result<FaultList, AllocError>
     requires kept { map shown objects.now ≡ kept_objects keys.now (view tree.now) }
+    requires identified { IsIdentified keys.now tree.now }
     ensures { IfOk result (ListsAll (ReferenceFault (view tree.now))) }
 {
     let found = walk_report(keys.alloc, &ReferenceJudge { objects }, tree)?;
@@ -41,7 +43,7 @@ pub(crate) fn reference_faults(
 /// Tells the faults of references, which name these objects.
 #[derive(Drop)]
 struct ReferenceJudge<'b, 'a> {
-    objects: &'b [Object<'a>],
+    objects: &'b ObjectTable<'a>,
 }
 
 impl<'b, 'a> Visitor for ReferenceJudge<'b, 'a> {
@@ -89,7 +91,7 @@ impl<'b, 'a> ReferenceJudge<'b, 'a> {
             (id_reasons (map shown self.now.objects.now) (view position.entry.outer.now) family id.now)) }
     {
         let Position { path, outer, .. } = position;
-        let is_missing = !is_id_known(self.objects, id);
+        let is_missing = !self.objects.has_id(id);
         push_if(alloc, is_missing, path, Reason::Unresolved, faults)?;
         let is_astray = is_of_others(self.objects, family, id);
         push_if(alloc, is_astray, path, Reason::WrongFamily, faults)?;
@@ -116,14 +118,14 @@ fn push_if(
 }
 
 /// Whether an object has the `@id`, but none of the family.
-fn is_of_others(objects: &[Object], family: Family, id: &str) -> bool
+fn is_of_others(objects: &ObjectTable, family: Family, id: &str) -> bool
     ensures { result ≡ is_of_others (map shown objects.now) family id.now }
 {
-    owner_of(objects, family, id).is_none() && is_id_known(objects, id)
+    owner_of(objects, family, id).is_none() && objects.has_id(id)
 }
 
 /// Whether a selection has the `@id`, but none of the contest that the object names.
-fn is_elsewhere(objects: &[Object], object: &Value, id: &str) -> bool
+fn is_elsewhere(objects: &ObjectTable, object: &Value, id: &str) -> bool
     ensures { result ≡ is_elsewhere (map shown objects.now) (view object.now) id.now }
 {
     if owner_of(objects, Family::Selection, id).is_none() {

@@ -9,17 +9,18 @@ ghost use Rattle.erd_meaning.specs.Accepted.{IsAccepted, IsFault};
 ghost use Rattle.erd_meaning.specs.LaterFaults.{IdentityFault, ReferenceFault, SelectionFault};
 ghost use Rattle.erd_meaning.specs.code.ObjectWalk.{kept_objects};
 ghost use Rattle.erd_meaning.specs.code.Resolved.{AreNames, IsIdentified, IsReferred, IsToldApart};
-ghost use Rattle.erd_meaning.specs.code.Shown.{name_shown, shown};
+ghost use Rattle.erd_meaning.specs.code.Shown.{shown};
 
 use crate::keys::key_rule::KeyRule;
-use crate::names::name_in_contest::NameInContest;
+use crate::names::held_name::HeldName;
 use crate::names::selection_walk::{SelectionWalk, meet_selections};
-use crate::objects::object::Object;
 use crate::objects::object_walk::{ObjectWalk, meet_report};
+use crate::objects::table::ObjectTable;
 use crate::report::Report;
 use crate::report::reference_judge::reference_faults;
 use erd_check::{CheckError, Shaped};
 use erd_tables::{FaultList, Text};
+use indexmap::IndexSet;
 use serde_json::Value;
 use std::alloc::{AllocError, Global};
 
@@ -41,8 +42,7 @@ pub fn resolve<'a>(alloc: Global, shaped: Shaped<'a>) -> Result<Report<'a>, Chec
 /// references (reason 11 of references, and reasons 15 to 17), then selections (reason 18). All faults of that phase are
 /// listed, each once, by place and then by reason. If memory runs out, the answer is `CheckError::Memory`.
 ///
-/// Each object is compared with all earlier ones, each reference is looked up among all, and each name of a selection is
-/// compared with all earlier ones, so the time grows with the square of their number.
+/// Objects are indexed by their `@id` and by their key, selections by their contest and their name.
 pub fn resolve_with<'a>(
     alloc: Global,
     shaped: Shaped<'a>,
@@ -73,13 +73,13 @@ fn preference_of(keys: &KeyRule) -> Result<Option<Text>, AllocError>
 }
 
 /// The objects of a report, or its faults of identity.
-fn objects_told_apart<'a>(keys: &KeyRule, tree: &'a Value) -> Result<Vec<Object<'a>>, CheckError>
+fn objects_told_apart<'a>(keys: &KeyRule, tree: &'a Value) -> Result<ObjectTable<'a>, CheckError>
     ensures identified { IfOk result (λ _. IsIdentified keys.now tree.now) }
-    ensures kept { IfOk result (λ objects. map shown objects.items ≡ kept_objects keys.now (view tree.now)) }
+    ensures kept { IfOk result (λ objects. map shown objects ≡ kept_objects keys.now (view tree.now)) }
     ensures refused { IfErr result (RefusedFor (IdentityFault keys.now (view tree.now))) }
 {
     let mut walk = ObjectWalk {
-        objects: Vec::new(keys.alloc),
+        objects: ObjectTable::new(keys.alloc),
         faults: Vec::new(keys.alloc),
     };
     meet_report(keys, tree, &mut walk)?;
@@ -93,8 +93,9 @@ fn objects_told_apart<'a>(keys: &KeyRule, tree: &'a Value) -> Result<Vec<Object<
 }
 
 /// Refuses a report that has faults of references.
-fn check_references(keys: &KeyRule, tree: &Value, objects: &[Object]) -> Result<(), CheckError>
+fn check_references(keys: &KeyRule, tree: &Value, objects: &ObjectTable) -> Result<(), CheckError>
     requires kept { map shown objects.now ≡ kept_objects keys.now (view tree.now) }
+    requires identified { IsIdentified keys.now tree.now }
     ensures referred { IfOk result (λ _. IsReferred tree.now) }
     ensures refused { IfErr result (RefusedFor (ReferenceFault (view tree.now))) }
 {
@@ -107,20 +108,21 @@ fn check_references(keys: &KeyRule, tree: &Value, objects: &[Object]) -> Result<
 }
 
 /// The names of the selections of a report, or its faults of selections.
-fn names_told_apart(
+fn names_told_apart<'a>(
     keys: &KeyRule,
     tree: &Value,
-    objects: &[Object],
-) -> Result<Vec<NameInContest>, CheckError>
+    objects: &ObjectTable,
+) -> Result<IndexSet<(usize, HeldName<'a>)>, CheckError>
     requires kept { map shown objects.now ≡ kept_objects keys.now (view tree.now) }
+    requires identified { IsIdentified keys.now tree.now }
     requires faultless { IsFaultless tree.now }
     requires whole { has_float (view tree.now) ≡ false }
     ensures told_apart { IfOk result (λ _. IsToldApart keys.now tree.now) }
-    ensures named { IfOk result (λ names. AreNames keys.now (view tree.now) (map name_shown names.items)) }
+    ensures named { IfOk result (λ names. AreNames keys.now (view tree.now) names.keys) }
     ensures refused { IfErr result (RefusedFor (SelectionFault keys.now (view tree.now))) }
 {
     let mut walk = SelectionWalk {
-        names: Vec::new(keys.alloc),
+        names: IndexSet::new(keys.alloc),
         faults: Vec::new(keys.alloc),
     };
     meet_selections(keys, tree, objects, &mut walk)?;

@@ -4,7 +4,8 @@ use Rattle.erd_check.specs.code.Paths.{steps_of}
 use Rattle.erd_meaning.specs.code.NamesAmong.{name_among}
 use Rattle.erd_meaning.specs.Objects.{Placed, placed_from}
 use Rattle.erd_meaning.specs.code.SelectionWalk.{named_all}
-use Rattle.erd_meaning.specs.code.Shown.{names_met, shown}
+use Rattle.erd_meaning.specs.code.Shown.{shown}
+use Rattle.erd_meaning.specs.code.ShownWalks.{names_met}
 use Rattle.erd_meaning.proofs.names.selection_walk.meet_contest.Given as goal
 
 abbrev pub invariant-loop-index : goal.invariant-loop-index

@@ -5,7 +5,8 @@ use Rattle.erd_tables.specs.declared.place.Step.{Step}
 use Rattle.erd_tables.specs.declared.place.Step.TheVariants.{At, Name}
 use Rattle.erd_meaning.specs.code.NamesAmong.{name_among}
 use Rattle.erd_meaning.specs.code.SelectionWalk.{named_all}
-use Rattle.erd_meaning.specs.code.Shown.{names_met, shown}
+use Rattle.erd_meaning.specs.code.Shown.{shown}
+use Rattle.erd_meaning.specs.code.ShownWalks.{names_met}
 use Rattle.erd_meaning.proofs.selections.MetSelections.{all_named, named_inside, selections_here}
 use Rattle.erd_meaning.proofs.accepted.SoleElection.{sole_value}
 use Rattle.erd_meaning.proofs.selections.WholeParts.{whole_entry}

@@ -2,7 +2,8 @@ use Rattle.std.proofs.Common.{◌≡◌, drop, map}
 use Rattle.erd_check.specs.code.Paths.{steps_of}
 use Rattle.erd_meaning.specs.code.NamesAmong.{name_among}
 use Rattle.erd_meaning.specs.code.SelectionWalk.{named_all}
-use Rattle.erd_meaning.specs.code.Shown.{names_met, shown}
+use Rattle.erd_meaning.specs.code.Shown.{shown}
+use Rattle.erd_meaning.specs.code.ShownWalks.{names_met}
 use Rattle.erd_meaning.proofs.selections.MetSelections.{of_contests_from}
 use Rattle.erd_meaning.proofs.names.selection_walk.meet_selections.Given as goal
 

@@ -4,7 +4,7 @@ use Rattle.serde_json.specs.View.{view}
 use Rattle.erd_check.specs.code.Paths.{steps_of}
 use Rattle.erd_meaning.specs.Objects.{placed_from}
 use Rattle.erd_meaning.specs.code.ObjectWalk.{contest_located, met_all}
-use Rattle.erd_meaning.specs.code.Shown.{met_of}
+use Rattle.erd_meaning.specs.code.ShownWalks.{met_of}
 use Rattle.erd_meaning.proofs.objects.object_walk.meet_contests.Given as goal
 
 abbrev pub invariant-loop-index : goal.invariant-loop-index

@@ -1,4 +1,4 @@
-use Rattle.std.proofs.Common.{map, ◌≡◌, IfOk, Option, ap, ◌∙◌, sym, subst}
+use Rattle.std.proofs.Common.{map, ◌≡◌, IfOk, Option, ap, ◌∙◌, subst}
 use Rattle.serde_json.specs.View.{view}
 use Rattle.erd_meaning.specs.Judged.{Judged}
 use Rattle.erd_meaning.specs.Keys.{Preference}
@@ -11,12 +11,11 @@ use Rattle.erd_meaning.proofs.report.Report.name_of.Goals as goal
 
 pub returns : goal.returns
 returns c =
-    let names = c.self.inside.names.items in
-    let resolved : IsResolved c.args.self.now.prefer c.args.self.now.tree c.deref.result.now names =
-    subst (λ (r : Judged). IsResolved r.prefer r.tree c.deref.result.now names) c.self.view_is (subst (λ os. IsResolved c.self.inside.prefer c.self.inside.tree.now os names) (sym c.deref.ensures.value) c.self.invariant) in
+    let resolved : IsResolved c.args.self.now.prefer c.args.self.now.tree c.self.inside.objects c.self.inside.names.keys =
+    subst (λ (r : Judged). IsResolved r.prefer r.tree c.self.inside.objects c.self.inside.names.keys) c.self.view_is c.self.invariant in
     let selection = view c.args.selection.now in
     subst (λ (n : Option NameParts). IfOk c.name_of_selection.result (λ name. name ≡ n))
-    (ap (λ (π : Preference). name_among π (map shown c.deref.result.now) selection) c.preference.ensures
+    (ap (λ (π : Preference). name_among π (map shown c.self.inside.objects) selection) c.preference.ensures
     ∙ ap (λ ks. name_among c.args.self.now.prefer ks selection) resolved.kept
-    ∙ name_same c.args.self.now.prefer (view c.args.self.now.tree) selection)
+    ∙ name_same c.args.self.now.prefer (view c.args.self.now.tree) selection resolved.identified)
     c.name_of_selection.ensures

@@ -12,4 +12,4 @@ pub returns : goal.returns
 returns c =
     let t = view c.args.tree.now in
     let kept = ap (λ (ks : List Kept). told_of_report (reference_reasons_told ks) t) c.requires.kept in
-    subst (ListsAll (ReferenceFault t)) (sym (c.of.ensures ∙ c.in_ok-found.ensures.told ∙ kept)) (references_all c.args.keys.now t c.in_ok-found.ensures.in_order)
+    subst (ListsAll (ReferenceFault t)) (sym (c.of.ensures ∙ c.in_ok-found.ensures.told ∙ kept)) (references_all c.args.keys.now t c.requires.identified c.in_ok-found.ensures.in_order)

@@ -10,7 +10,7 @@ returns-then-len-eq0-clause-identified c =
     let before : ObjectWalk = record { objects = c.new.result; faults = c.new-2.result } in
     let after = c.meet_report.new.walk in
     let tree = view c.args.tree.now in
-    let walked : Walked c.args.keys.now before after tree = record { no_object = c.new.ensures.items; no_fault = c.new-2.ensures.items; met = c.in_ok-meet_report.ensures } in
+    let walked : Walked c.args.keys.now before after tree = record { no_object = c.new.ensures; no_fault = c.new-2.ensures.items; met = c.in_ok-meet_report.ensures } in
     none_told c.args.keys.now before after tree walked c.of-identity.result c.of-identity.ensures (sym c.len.ensures ∙ c.if-len-eq0.true)
 
 pub returns-then-len-eq0-clause-kept : goal.returns-then-len-eq0-clause-kept
@@ -18,7 +18,7 @@ returns-then-len-eq0-clause-kept c =
     let before : ObjectWalk = record { objects = c.new.result; faults = c.new-2.result } in
     let after = c.meet_report.new.walk in
     let tree = view c.args.tree.now in
-    let walked : Walked c.args.keys.now before after tree = record { no_object = c.new.ensures.items; no_fault = c.new-2.ensures.items; met = c.in_ok-meet_report.ensures } in
+    let walked : Walked c.args.keys.now before after tree = record { no_object = c.new.ensures; no_fault = c.new-2.ensures.items; met = c.in_ok-meet_report.ensures } in
     walked_objects c.args.keys.now before after tree walked
 
 pub returns-clause-refused : goal.returns-clause-refused
@@ -26,7 +26,7 @@ returns-clause-refused c =
     let before : ObjectWalk = record { objects = c.new.result; faults = c.new-2.result } in
     let after = c.meet_report.new.walk in
     let tree = view c.args.tree.now in
-    let walked : Walked c.args.keys.now before after tree = record { no_object = c.new.ensures.items; no_fault = c.new-2.ensures.items; met = c.in_ok-meet_report.ensures } in
+    let walked : Walked c.args.keys.now before after tree = record { no_object = c.new.ensures; no_fault = c.new-2.ensures.items; met = c.in_ok-meet_report.ensures } in
     let list = c.of-identity.result in
     let some : list ≢ [] = λ empty. let zero : length list ≡ 0 = ap length empty in c.if-len-eq0.false (c.len.ensures ∙ zero) in
     (all_told c.args.keys.now before after tree walked list c.of-identity.ensures, some)

@@ -4,7 +4,7 @@ use Rattle.serde_json.specs.View.{view}
 use Rattle.serde_json.specs.declared.value.Value.{Value}
 use Rattle.erd_meaning.specs.Keys.{triple_of}
 use Rattle.erd_meaning.specs.code.ChosenKeys.{choice_of}
-use Rattle.erd_meaning.proofs.keys.key_of.key_of.Given as goal
+use Rattle.erd_meaning.proofs.keys.key_of.chosen_triple.Given as goal
 
 abbrev pub invariant-loop-identifier : goal.invariant-loop-identifier
 invariant-loop-identifier l =

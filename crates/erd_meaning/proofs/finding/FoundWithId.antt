@@ -1,0 +1,90 @@
+-- The object that an index of `@id` texts leads to is the first object with the `@id`, if it is of the family.
+use Rattle.std.proofs.Common.{◌≡◌, ◌==◌, ◌+◌, ℕ, List, [], ◌∷◌, ◌++◌, length, cond, find, Bool, true, false, Option, Some, None, option_and_then, option_map, refl, sym, ap, ◌∙◌, subst}
+use Rattle.std.specs.List.{position, position_from, slice_get}
+use Rattle.std.proofs.Math.Seq.{append_snoc}
+use Rattle.std.proofs.lemmas.Iterator.Adapters.{position_from-zero}
+use Rattle.std.proofs.lemmas.List.{length_push}
+use Rattle.std.proofs.lemmas.Option.{some_pair_parts}
+use Rattle.erd_tables.specs.Classes.{family_number}
+use Rattle.erd_tables.specs.declared.class.Family.{Family}
+use Rattle.erd_meaning.specs.code.ObjectIndexes.{number_at, number_of_id, rank}
+use Rattle.erd_meaning.specs.code.ObjectLookups.{is_of_family, keeps_id, object_among, those_of}
+use Rattle.erd_meaning.specs.code.ObjectWalk.{Kept}
+use Rattle.erd_meaning.proofs.finding.Lookups.{ranked}
+use Rattle.erd_meaning.proofs.finding.OneObject.{hit}
+use Rattle.erd_meaning.proofs.finding.Pushed.{get_last}
+use Rattle.erd_meaning.proofs.identity.ObjectFamilies.{family_exact, itself}
+
+-- ---- lists
+
+find_after : {X : Type 0} (p : X → Bool) (ys xs : List X) → find p xs ≡ option_and_then (slice_get (ys ++ xs)) (position_from p (length ys) xs)
+find_after p ys [] = refl
+find_after {X} p ys (x ∷ xs) = at (p x)
+    (subst (λ (zs : List X). find p xs ≡ option_and_then (slice_get zs) (position_from p (length ys + 1) xs)) (append_snoc ys x xs)
+    (subst (λ n. find p xs ≡ option_and_then (slice_get ((ys ++ x ∷ []) ++ xs)) (position_from p n xs)) (length_push ys x) (find_after p (ys ++ x ∷ []) xs)))
+  where
+    at : (b : Bool) → find p xs ≡ option_and_then (slice_get (ys ++ x ∷ xs)) (position_from p (length ys + 1) xs)
+        → cond b (Some x) (find p xs) ≡ option_and_then (slice_get (ys ++ x ∷ xs)) (cond b (Some (length ys)) (position_from p (length ys + 1) xs))
+    at true h = sym (get_last ys xs x)
+    at false h = h
+
+find_at : {X : Type 0} (p : X → Bool) (xs : List X) → find p xs ≡ option_and_then (slice_get xs) (position p xs)
+find_at p xs = find_after p [] xs ∙ ap (option_and_then (slice_get xs)) (sym (position_from-zero p xs))
+
+-- ---- objects
+
+of_family : Family → Kept → Option Kept
+of_family f k = cond (is_of_family f k) (Some k) None
+
+-- how the first object with an `@id` stands among all
+record First (ks : List Kept) (id : List ℕ) (g : Family) (i : ℕ) : Type 0 where
+  one : Kept
+  found : find (keeps_id id) ks ≡ Some one
+  family : one.family ≡ g
+  place : slice_get (those_of g ks) i ≡ Some one
+
+first : (ks : List Kept) (id : List ℕ) (g : Family) (i : ℕ) → number_of_id ks id ≡ Some (g, i) → First ks id g i
+first ks id g i e = at (position (keeps_id id) ks) refl e
+  where
+    at : (o : Option ℕ) → position (keeps_id id) ks ≡ o → option_and_then (number_at ks) o ≡ Some (g, i) → First ks id g i
+    at None is h = cc
+    at (Some n) is h =
+        let there = hit (keeps_id id) ks n is in
+        let k = there.one in
+        let number : number_at ks n ≡ Some (k.family, rank k.family ks n) = ap (option_map {U = Family × ℕ} (λ (k : Kept). (k.family, rank k.family ks n))) there.at in
+        let parts = some_pair_parts k.family g (rank k.family ks n) i (sym number ∙ h) in
+        record {
+          one = k;
+          found = find_at (keeps_id id) ks ∙ ap (option_and_then (slice_get ks)) is ∙ there.at;
+          family = parts.0;
+          place = subst (λ (f : Family). slice_get (those_of f ks) i ≡ Some k) parts.0
+              (subst (λ m. slice_get (those_of k.family ks) m ≡ Some k) parts.1 (ranked k.family ks n k there.at (itself (family_number k.family))));
+        }
+
+nothing : {A X : Type 0} {x : X} → Some x ≡ None → A
+nothing e = cc
+
+pub with_id_none : (ks : List Kept) (f : Family) (id : List ℕ) → number_of_id ks id ≡ None → object_among ks f id ≡ None
+unfolding of_family
+with_id_none ks f id e = ap (option_and_then (of_family f)) (find_at (keeps_id id) ks ∙ at (position (keeps_id id) ks) refl e)
+  where
+    at : (o : Option ℕ) → position (keeps_id id) ks ≡ o → option_and_then (number_at ks) o ≡ None → option_and_then (slice_get ks) o ≡ None
+    at None is h = refl
+    at (Some n) is h =
+        let there = hit (keeps_id id) ks n is in
+        let k = there.one in
+        let number : number_at ks n ≡ Some (k.family, rank k.family ks n) = ap (option_map {U = Family × ℕ} (λ (k : Kept). (k.family, rank k.family ks n))) there.at in
+        nothing (sym number ∙ h)
+
+among_one : (ks : List Kept) (f g : Family) (id : List ℕ) (i : ℕ) (h : First ks id g i) (b : Bool) → (family_number g == family_number f) ≡ b → object_among ks f id ≡ cond b (Some h.one) None
+unfolding of_family
+among_one ks f g id i h b e = ap (option_and_then (of_family f)) h.found ∙ ap (λ c. cond c (Some h.one) None) (ap (λ j. family_number j == family_number f) h.family ∙ e)
+
+pub with_id_of_other : (ks : List Kept) (f g : Family) (id : List ℕ) (i : ℕ) → number_of_id ks id ≡ Some (g, i) → (family_number g == family_number f) ≡ false → object_among ks f id ≡ None
+with_id_of_other ks f g id i e other = among_one ks f g id i (first ks id g i e) false other
+
+pub with_id_of_family : (ks : List Kept) (f g : Family) (id : List ℕ) (i : ℕ) → number_of_id ks id ≡ Some (g, i) → (family_number g == family_number f) ≡ true
+    → slice_get (those_of f ks) i ≡ object_among ks f id
+with_id_of_family ks f g id i e same =
+    let h = first ks id g i e in
+    ap (λ (j : Family). slice_get (those_of j ks) i) (sym (family_exact g f same)) ∙ h.place ∙ sym (among_one ks f g id i h true same)

@@ -1,0 +1,134 @@
+-- What earlier objects have is what the indexes know.
+use Rattle.std.proofs.Common.{Bor, ◌≡◌, ◌==◌, ◌&&◌, ◌||◌, ◌+◌, ℕ, List, [], ◌∷◌, length, cond, Bool, true, false, Option, Some, None, is_some, option_and_then, option_map, refl, sym, ap, ap₂, ◌∙◌}
+use Rattle.std.specs.Cmp.{Equal-is}
+use Rattle.std.specs.List.{list_any, position, position_from}
+use Rattle.std.specs.Option.{option_map_or}
+use Rattle.std.specs.Ordering.{is_eq}
+use Rattle.std.proofs.lemmas.Bool.Decides.{Decides-eqb}
+use Rattle.std.proofs.lemmas.Cmp.{tied_itself}
+use Rattle.std.proofs.lemmas.Iterator.Adapters.{position_from-zero}
+use Rattle.erd_tables.specs.Classes.{family_number}
+use Rattle.erd_tables.specs.declared.class.Family.{Family}
+use Rattle.erd_meaning.specs.Keys.{key_cmp}
+use Rattle.erd_meaning.specs.code.Indexed.{same_owned}
+use Rattle.erd_meaning.specs.code.ObjectIndexes.{number_at, number_of_id, number_of_key, rank}
+use Rattle.erd_meaning.specs.code.ObjectLookups.{is_keyed, keeps_id, those_of}
+use Rattle.erd_meaning.specs.code.ObjectWalk.{Kept, has_same_id, has_same_key, same_id, same_key}
+use Rattle.erd_meaning.specs.code.Orders.{key_cmp_exact, key_cmp_total}
+use Rattle.erd_meaning.specs.declared.keys.key.Key.{Key}
+use Rattle.erd_meaning.proofs.finding.OneObject.{hit}
+use Rattle.erd_meaning.proofs.finding.OwnedKeys.{owned_exact}
+use Rattle.erd_meaning.proofs.references.ReferenceLookups.{both_tests, text_same}
+
+-- ---- positions
+
+some_from : {X : Type 0} (p : X → Bool) (i : ℕ) (xs : List X) → is_some (position_from p i xs) ≡ list_any p xs
+some_from p i [] = refl
+some_from p i (x ∷ xs) = at (p x) (some_from p (i + 1) xs)
+  where
+    at : (b : Bool) → is_some (position_from p (i + 1) xs) ≡ list_any p xs → is_some (cond b (Some i) (position_from p (i + 1) xs)) ≡ (b || list_any p xs)
+    at true h = refl
+    at false h = h
+
+some_position : {X : Type 0} (p : X → Bool) (xs : List X) → is_some (position p xs) ≡ list_any p xs
+some_position p xs = ap is_some (position_from-zero p xs) ∙ some_from p 0 xs
+
+any_none : {X : Type 0} (xs : List X) → list_any (λ x. false) xs ≡ false
+any_none [] = refl
+any_none (x ∷ xs) = any_none xs
+
+-- ---- by an `@id`
+
+pub id_known : (ks : List Kept) (id : List ℕ) → is_some (number_of_id ks id) ≡ list_any (keeps_id id) ks
+id_known ks id = at (position (keeps_id id) ks) refl ∙ some_position (keeps_id id) ks
+  where
+    at : (o : Option ℕ) → position (keeps_id id) ks ≡ o → is_some (option_and_then (number_at ks) o) ≡ is_some o
+    at None e = refl
+    at (Some n) e =
+        let h = hit (keeps_id id) ks n e in
+        ap (λ (o : Option Kept). is_some (option_map {U = Family × ℕ} (λ (k : Kept). (k.family, rank k.family ks n)) o)) h.at
+
+id_swap : (a b : Option (List ℕ)) → same_id a b ≡ same_id b a
+id_swap (Some a) (Some b) = text_same a b
+id_swap (Some a) None = refl
+id_swap None (Some b) = refl
+id_swap None None = refl
+
+same_id_known : (ks : List Kept) (k : Kept) (id : List ℕ) → k.id ≡ Some id → list_any (has_same_id k) ks ≡ is_some (number_of_id ks id)
+same_id_known ks k id e =
+    ap (λ (test : Kept → Bool). list_any test ks) (λ i j. (ap (λ o. same_id o j.id) e ∙ id_swap (Some id) j.id) i) ∙ sym (id_known ks id)
+
+no_id_known : (ks : List Kept) (k : Kept) → k.id ≡ None → list_any (has_same_id k) ks ≡ false
+no_id_known ks k e = ap (λ (test : Kept → Bool). list_any test ks) (λ i j. same_id (e i) j.id) ∙ any_none ks
+
+-- ---- by a key
+
+key_known : (ks : List Kept) (f : Family) (key : Key) → is_some (number_of_key ks f key) ≡ list_any (is_keyed f key) ks
+key_known ks f key = at (position (is_keyed f key) ks) ∙ some_position (is_keyed f key) ks
+  where
+    at : (o : Option ℕ) → is_some (option_map (rank f ks) o) ≡ is_some o
+    at None = refl
+    at (Some n) = refl
+
+pub number_swap : (m n : ℕ) → (m == n) ≡ (n == m)
+number_swap m n = both_tests (m == n) (n == m) (λ h. (Decides-eqb n m).1 (sym ((Decides-eqb m n).0 h))) (λ h. (Decides-eqb m n).1 (sym ((Decides-eqb n m).0 h)))
+
+keys_one_way : (k l : Key) → is_eq (key_cmp k l) ≡ true → is_eq (key_cmp l k) ≡ true
+keys_one_way k l h =
+    let same : k ≡ l = key_cmp_exact k l ((Equal-is (key_cmp k l)).0 h) in
+    ap (λ m. is_eq (key_cmp l m)) same ∙ ap is_eq (tied_itself key_cmp_total l)
+
+keys_swap : (k l : Key) → is_eq (key_cmp k l) ≡ is_eq (key_cmp l k)
+keys_swap k l = both_tests (is_eq (key_cmp k l)) (is_eq (key_cmp l k)) (keys_one_way k l) (keys_one_way l k)
+
+key_swap : (a b : Option Key) → same_key a b ≡ same_key b a
+key_swap (Some a) (Some b) = keys_swap a b
+key_swap (Some a) None = refl
+key_swap None (Some b) = refl
+key_swap None None = refl
+
+same_key_known : (ks : List Kept) (k : Kept) (key : Key) → k.key ≡ Some key → list_any (has_same_key k) ks ≡ is_some (number_of_key ks k.family key)
+same_key_known ks k key e =
+    ap (λ (test : Kept → Bool). list_any test ks)
+    (λ i j. number_swap (family_number k.family) (family_number j.family) i && (ap (λ o. same_key o j.key) e ∙ key_swap (Some key) j.key) i)
+    ∙ sym (key_known ks k.family key)
+
+and_none : (b : Bool) → (b && false) ≡ false
+and_none true = refl
+and_none false = refl
+
+no_key_known : (ks : List Kept) (k : Kept) → k.key ≡ None → list_any (has_same_key k) ks ≡ false
+no_key_known ks k e =
+    ap (λ (test : Kept → Bool). list_any test ks)
+    (λ i j. (ap (λ o. (family_number k.family == family_number j.family) && same_key o j.key) e ∙ and_none (family_number k.family == family_number j.family)) i) ∙ any_none ks
+
+-- what is noted of a key is what is found of it
+noted_key : (ks : List Kept) (k : Kept) (f : Family) (key l : Key) → k.key ≡ Some l
+    → cond (same_owned (f, key) (k.family, l)) (Some (length (those_of k.family ks))) None ≡ cond (is_keyed f key k) (Some (length (those_of f ks))) None
+noted_key ks k f key l e =
+    at (same_owned (f, key) (k.family, l)) (λ h. (owned_exact f k.family key l h).0)
+    ∙ ap (λ b. cond b (Some (length (those_of f ks))) None)
+    (ap₂ (λ a b. a && b) (number_swap (family_number f) (family_number k.family)) (keys_swap key l) ∙ ap (λ o. (family_number k.family == family_number f) && same_key o (Some key)) (sym e))
+  where
+    at : (b : Bool) → (b ≡ true → f ≡ k.family) → cond b (Some (length (those_of k.family ks))) None ≡ cond b (Some (length (those_of f ks))) None
+    at true h = ap (λ g. Some (length (those_of g ks))) (sym (h refl))
+    at false h = refl
+
+not_keyed : (k : Kept) (f : Family) (key : Key) → k.key ≡ None → is_keyed f key k ≡ false
+not_keyed k f key e = ap (λ o. (family_number k.family == family_number f) && same_key o (Some key)) e ∙ and_none (family_number k.family == family_number f)
+
+-- ---- where there may be none
+
+pub noted_any : (ks : List Kept) (k : Kept) (f : Family) (key : Key) (o : Option Key) → k.key ≡ o
+    → option_map_or (λ l. cond (same_owned (f, key) (k.family, l)) (Some (length (those_of k.family ks))) None) o None ≡ cond (is_keyed f key k) (Some (length (those_of f ks))) None
+noted_any ks k f key None e = ap (λ b. cond b (Some (length (those_of f ks))) None) (sym (not_keyed k f key e))
+noted_any ks k f key (Some l) e = noted_key ks k f key l e
+
+pub has_key_known : (ks : List Kept) (k : Kept) (o : Option Key) → k.key ≡ o → list_any (has_same_key k) ks ≡ option_map_or (λ l. is_some (number_of_key ks k.family l)) o false
+has_key_known ks k None e = no_key_known ks k e
+has_key_known ks k (Some l) e = same_key_known ks k l e
+
+pub has_id_known : (ks : List Kept) (k : Kept) (o : Option (Bor (List ℕ))) → k.id ≡ option_map (λ s. s.now) o
+    → list_any (has_same_id k) ks ≡ option_map_or (λ s. is_some (number_of_id ks s.now)) o false
+has_id_known ks k None e = no_id_known ks k e
+has_id_known ks k (Some s) e = same_id_known ks k s.now e

@@ -1,0 +1,12 @@
+use Rattle.std.proofs.Common.{ap, length, map, List, ◌∙◌}
+use Rattle.erd_meaning.specs.code.ObjectLookups.{those_of}
+use Rattle.erd_meaning.specs.code.Shown.{shown}
+use Rattle.erd_meaning.specs.declared.objects.object.Object.{Object}
+use Rattle.erd_meaning.proofs.finding.Pushed.{places_length}
+use Rattle.erd_meaning.proofs.objects.table.ObjectTable.count.Goals as goal
+
+pub returns : goal.returns
+returns c =
+    let ks = map shown c.self.inside.objects.items in
+    ap length (c.of.ensures ∙ c.self.invariant.places_are c.args.family) ∙ places_length c.args.family 0 ks
+    ∙ ap (λ (os : List Object). length (those_of c.args.family (map shown os))) c.self.view_is

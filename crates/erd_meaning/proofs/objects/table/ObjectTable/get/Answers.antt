@@ -1,0 +1,48 @@
+use Rattle.std.proofs.Common.{arith, ◌≡◌, ap, ◌∙◌, Some, None, option_map, option_and_then, length, List, ℕ, map, refl, sym}
+use Rattle.std.specs.List.{slice_get}
+use Rattle.std.proofs.lemmas.Option.{slice_get-map, slice_get_past, slice_get_read}
+use Rattle.erd_meaning.specs.code.ObjectLookups.{those_of}
+use Rattle.erd_meaning.specs.code.Shown.{shown}
+use Rattle.erd_meaning.specs.declared.objects.object.Object.{Object}
+use Rattle.erd_meaning.proofs.finding.Pushed.{places_get}
+use Rattle.erd_meaning.proofs.objects.table.ObjectTable.get.Goals as goal
+
+pub returns-in_err-place : goal.returns-in_err-place
+returns-in_err-place c =
+    let os = c.self.inside.objects.items in
+    let list = c.of.ensures ∙ c.self.invariant.places_are c.args.family in
+    let past : slice_get c.of.result.now c.args.index ≡ None = slice_get_past c.of.result.now c.args.index (omega (arith, c.in_err-place.ensures.lookup)) in
+    ap (option_map (λ o. shown o.now)) c.from_residual.ensures
+    ∙ sym (ap (option_and_then (slice_get (map shown os))) (sym (ap (λ (ps : List ℕ). slice_get ps c.args.index) list) ∙ past))
+    ∙ places_get c.args.family (map shown os) c.args.index
+    ∙ ap (λ (os : List Object). slice_get (those_of c.args.family (map shown os)) c.args.index) c.self.view_is
+
+pub returns-in_err-object : goal.returns-in_err-object
+returns-in_err-object c =
+    let os = c.self.inside.objects.items in
+    let list = c.of.ensures ∙ c.self.invariant.places_are c.args.family in
+    let n = c.in_ok-place.field-0.now in
+    let place : slice_get c.of.result.now c.args.index ≡ Some n =
+    slice_get_read c.of.result.now (length c.of.result.now) c.args.index n refl c.in_ok-place.ensures.lookup.3.0 c.in_ok-place.ensures.lookup.1 in
+    let past : slice_get os n ≡ None = ap (λ (os : List Object). slice_get os n) (sym c.deref.ensures.value) ∙ slice_get_past c.deref.result.now n (omega (arith, c.in_err-object.ensures.lookup)) in
+    ap (option_map (λ o. shown o.now)) c.from_residual-in_err-object.ensures
+    ∙ sym (slice_get-map shown os n ∙ ap (option_map shown) past)
+    ∙ sym (ap (option_and_then (slice_get (map shown os))) (sym (ap (λ (ps : List ℕ). slice_get ps c.args.index) list) ∙ place))
+    ∙ places_get c.args.family (map shown os) c.args.index
+    ∙ ap (λ (os : List Object). slice_get (those_of c.args.family (map shown os)) c.args.index) c.self.view_is
+
+pub returns : goal.returns
+returns c =
+    let os = c.self.inside.objects.items in
+    let list = c.of.ensures ∙ c.self.invariant.places_are c.args.family in
+    let n = c.in_ok-place.field-0.now in
+    let o = c.in_ok-object.object.now in
+    let place : slice_get c.of.result.now c.args.index ≡ Some n =
+    slice_get_read c.of.result.now (length c.of.result.now) c.args.index n refl c.in_ok-place.ensures.lookup.3.0 c.in_ok-place.ensures.lookup.1 in
+    let there : slice_get os n ≡ Some o =
+    ap (λ (os : List Object). slice_get os n) (sym c.deref.ensures.value)
+    ∙ slice_get_read c.deref.result.now (length c.deref.result.now) n o refl c.in_ok-object.ensures.lookup.3.0 c.in_ok-object.ensures.lookup.1 in
+    sym (slice_get-map shown os n ∙ ap (option_map shown) there)
+    ∙ sym (ap (option_and_then (slice_get (map shown os))) (sym (ap (λ (ps : List ℕ). slice_get ps c.args.index) list) ∙ place))
+    ∙ places_get c.args.family (map shown os) c.args.index
+    ∙ ap (λ (os : List Object). slice_get (those_of c.args.family (map shown os)) c.args.index) c.self.view_is

@@ -1,0 +1,58 @@
+use Rattle.std.proofs.Common.{Bor, ◌≡◌, ◌+◌, ℕ, List, [], ◌∷◌, ◌++◌, length, map, cond, false, Option, Some, None, is_some, refl, sym, ap, ap₂, ◌∙◌, arith}
+use Rattle.std.specs.List.{list_any}
+use Rattle.std.specs.Map.{lookup}
+use Rattle.std.specs.Option.{option_map_or, option_or}
+use Rattle.std.proofs.lemmas.List.{length-map, map-append}
+use Rattle.erd_tables.specs.declared.class.Family.{Family}
+use Rattle.erd_meaning.specs.code.Indexed.{same_owned}
+use Rattle.erd_meaning.specs.code.ObjectIndexes.{number_of_id, number_of_key, places_from, with_place}
+use Rattle.erd_meaning.specs.code.ObjectLookups.{keeps_id, those_of}
+use Rattle.erd_meaning.specs.code.ObjectWalk.{has_same_id, has_same_key}
+use Rattle.erd_meaning.specs.code.Shown.{shown}
+use Rattle.erd_meaning.specs.declared.keys.key.Key.{Key}
+use Rattle.erd_meaning.specs.declared.objects.object.Object.{Object}
+use Rattle.erd_meaning.proofs.finding.Known.{has_id_known, has_key_known, noted_any}
+use Rattle.erd_meaning.proofs.finding.Pushed.{number_of_id_push, number_of_key_push, places_length, places_push}
+use Rattle.erd_meaning.proofs.objects.table.ObjectTable.push.Goals as goal
+
+pub invariant_of-self-2 : goal.invariant_of-self-2
+invariant_of-self-2 c =
+    let os = c.self.inside.objects.items in
+    let ks = map shown os in
+    let k = shown c.args.object in
+    let g = c.args.object.family in
+    let all : map shown c.push_reserved-2.new.self.items ≡ ks ++ k ∷ [] =
+    ap (map shown) (c.push_reserved-2.ensures.items ∙ ap (λ (js : List Object). js ++ c.args.object ∷ []) c.in_ok-reserve.ensures.items) ∙ map-append shown os (c.args.object ∷ []) in
+    let count : length c.of-number.result.now ≡ length (those_of g ks) = ap length (c.of-number.ensures ∙ c.self.invariant.places_are g) ∙ places_length g 0 ks in
+    let place : c.len-place.result ≡ 0 + length ks = let same : length ks ≡ length os = length-map os shown in omega arith in
+    record {
+      places_are = λ f.
+          c.push_reserved.ensures f ∙ ap₂ (λ n ps. with_place g n f ps) place (c.in_ok-reserve-3.ensures.kept f ∙ c.self.invariant.places_are f)
+          ∙ sym (places_push f 0 ks k) ∙ ap (places_from f 0) (sym all);
+      ids_are = λ id.
+          c.in_ok-has_id.ensures.noted id
+          ∙ ap₂ option_or (c.self.invariant.ids_are id) (ap (λ n. cond {A = Option (Family × ℕ)} (keeps_id id k) (Some (g, n)) None) count)
+          ∙ sym (number_of_id_push ks k id) ∙ ap (λ ls. number_of_id ls id) (sym all);
+      keys_are = λ f key.
+          c.note_any_key-has_key.ensures.noted f key
+          ∙ ap₂ option_or (ap (lookup (same_owned (f, key))) c.in_ok-reserve-2.ensures.entries ∙ c.self.invariant.keys_are f key)
+          (ap₂ (λ (o : Option Key) n. option_map_or (λ l. cond (same_owned (f, key) (g, l)) (Some n) None) o None) c.requires count ∙ noted_any ks k f key k.key refl)
+          ∙ sym (number_of_key_push ks k f key) ∙ ap (λ ls. number_of_key ls f key) (sym all);
+    }
+
+pub returns-clause-has_key : goal.returns-clause-has_key
+returns-clause-has_key c =
+    let ks = map shown c.self.inside.objects.items in
+    let k = shown c.args.object in
+    c.note_any_key-has_key.ensures.known
+    ∙ ap₂ (λ (found : Key → Option ℕ) (o : Option Key). option_map_or (λ l. is_some (found l)) o false)
+    (λ i l. (ap (lookup (same_owned (k.family, l))) c.in_ok-reserve-2.ensures.entries ∙ c.self.invariant.keys_are k.family l) i) c.requires
+    ∙ sym (has_key_known ks k k.key refl) ∙ ap (λ (os : List Object). list_any (has_same_key k) (map shown os)) c.self.view_is
+
+pub returns-clause-has_id : goal.returns-clause-has_id
+returns-clause-has_id c =
+    let ks = map shown c.self.inside.objects.items in
+    let k = shown c.args.object in
+    c.in_ok-has_id.ensures.known
+    ∙ ap (λ (found : List ℕ → Option (Family × ℕ)). option_map_or (λ (s : Bor (List ℕ)). is_some (found s.now)) c.args.object.id false) (λ i id. c.self.invariant.ids_are id i)
+    ∙ sym (has_id_known ks k c.args.object.id refl) ∙ ap (λ (os : List Object). list_any (has_same_id k) (map shown os)) c.self.view_is

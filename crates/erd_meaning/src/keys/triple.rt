@@ -1,0 +1,135 @@
+ghost use Rattle.std.specs.Prelude.{◌≡◌, IfOk};
+ghost use Rattle.std.specs.Option.{option_copied};
+ghost use Rattle.std.specs.Ordering.{is_lt};
+ghost use Rattle.serde_json.specs.View.{view};
+ghost use Rattle.erd_meaning.specs.Keys.{key_cmp, triple_of};
+ghost use Rattle.erd_meaning.specs.code.ChosenKeys.{choice_cmp, is_preferred};
+
+use crate::keys::key::Key;
+use erd_check::values::text_at;
+use erd_tables::Text;
+use serde_json::Value;
+use std::alloc::{AllocError, Global};
+use std::cmp::Ordering;
+use std::hash::{Hash, Hasher};
+use std::marker::Model;
+
+/// The three texts of an identifier or of a key, borrowed. Contracts see them as a key.
+#[derive(Drop)]
+pub(crate) struct Triple<'a> {
+    kind: &'a str,
+    other: &'a str,
+    value: &'a str,
+}
+
+impl<'a> Model for Triple<'a> {
+    ghost use Rattle.erd_meaning.specs.declared.keys.key.Key.{Key};
+
+    ghost Value = { Key };
+
+    ghost view = { λ t. record {
+      kind = t.kind.now;
+      other = t.other.now;
+      value = t.value.now;
+    } };
+}
+
+impl<'a> Triple<'a> {
+    /// The texts of an identifier.
+    pub(crate) fn of(identifier: &'a Value) -> Triple<'a>
+        ensures { result ≡ triple_of (view identifier.now) }
+    {
+        Triple {
+            kind: text_at(identifier, "Type"),
+            other: text_at(identifier, "OtherType"),
+            value: text_at(identifier, "Value"),
+        }
+    }
+
+    /// The texts of a key.
+    pub(crate) fn of_key(key: &'a Key) -> Triple<'a>
+        ensures { result ≡ key.now }
+    {
+        Triple {
+            kind: key.kind.as_str(),
+            other: key.other.as_str(),
+            value: key.value.as_str(),
+        }
+    }
+
+    fn is_of_type(&self, kind: Option<&str>) -> bool
+        ensures { result ≡ is_preferred (option_copied kind.entry) self.now }
+    {
+        match kind {
+            Some(kind) => self.kind == kind,
+            None => false,
+        }
+    }
+
+    fn compare(&self, other: &Triple) -> Ordering
+        ensures { result ≡ key_cmp self.now other.now }
+    {
+        self.kind
+            .cmp(other.kind)
+            .then(self.other.cmp(other.other))
+            .then(self.value.cmp(other.value))
+    }
+
+    /// Whether it is to be chosen rather than the other: triples of the preferred type come first, and then the lesser.
+    pub(crate) fn goes_before(&self, other: &Triple, prefer: Option<&str>) -> bool
+        ensures { result ≡ is_lt (choice_cmp (option_copied prefer.entry) self.now other.now) }
+    {
+        other
+            .is_of_type(prefer)
+            .cmp(&self.is_of_type(prefer))
+            .then(self.compare(other))
+            .is_lt()
+    }
+
+    /// A key with copies of the texts.
+    pub(crate) fn to_key(&self, alloc: Global) -> Result<Key, AllocError>
+        ensures { IfOk result (λ key. key ≡ self.now) }
+    {
+        let kind = Text::of(String::from_str(alloc, self.kind)?);
+        let other = Text::of(String::from_str(alloc, self.other)?);
+        let value = Text::of(String::from_str(alloc, self.value)?);
+        Ok(Key { kind, other, value })
+    }
+}
+
+impl<'a> PartialEq for Triple<'a> {
+    ghost use Rattle.std.specs.Cmp.{eq_by_cmp_equiv, partial_equiv_from_equiv};
+    ghost use Rattle.std.specs.Ordering.{eq_by_cmp};
+    ghost use Rattle.erd_meaning.specs.Keys.{key_cmp};
+    ghost use Rattle.erd_meaning.specs.code.Orders.{key_cmp_total};
+
+    ghost eq = { eq_by_cmp key_cmp };
+
+    ghost laws = { partial_equiv_from_equiv (eq_by_cmp_equiv key_cmp_total) };
+
+    fn eq(&self, other: &Triple<'a>) -> bool {
+        self.compare(other).is_eq()
+    }
+}
+
+impl<'a> Eq for Triple<'a> {
+    ghost use Rattle.std.specs.Cmp.{eq_by_cmp_equiv};
+    ghost use Rattle.erd_meaning.specs.code.Orders.{key_cmp_total};
+
+    ghost laws = { eq_by_cmp_equiv key_cmp_total };
+}
+
+impl<'a> Hash for Triple<'a> {
+    ghost use Rattle.erd_meaning.specs.code.NameHashes.{key_writes};
+    ghost use Rattle.erd_meaning.specs.code.Orders.{equal_keys_alike};
+
+    ghost hash_input = { key_writes };
+
+    ghost respects_eq = { equal_keys_alike key_writes };
+
+    fn hash<H: Hasher>(&self, state: &mut H) {
+        self.kind.hash(state);
+        self.other.hash(state);
+        self.value.hash(state);
+    }
+}

@@ -1,0 +1,73 @@
+ghost use Rattle.std.specs.Prelude.{◌≡◌, [], OnOk};
+ghost use Rattle.erd_tables.specs.Classes.{family_number};
+ghost use Rattle.erd_tables.specs.declared.class.Family.{Family};
+ghost use Rattle.erd_meaning.specs.code.ObjectIndexes.{HasRoom, list_of, with_place};
+
+use erd_tables::Family;
+use std::alloc::{AllocError, Global};
+
+/// Where the objects of each family stand among all objects of a report, in rising order.
+#[derive(Debug, Drop)]
+pub(crate) struct FamilyPlaces {
+    lists: [Vec<usize>; 9],
+}
+
+impl FamilyPlaces {
+    /// No places.
+    pub(crate) fn new(alloc: Global) -> FamilyPlaces
+        ensures { (f : Family) → list_of result f ≡ [] }
+    {
+        FamilyPlaces {
+            lists: [
+                Vec::new(alloc),
+                Vec::new(alloc),
+                Vec::new(alloc),
+                Vec::new(alloc),
+                Vec::new(alloc),
+                Vec::new(alloc),
+                Vec::new(alloc),
+                Vec::new(alloc),
+                Vec::new(alloc),
+            ],
+        }
+    }
+
+    /// The places of the objects of a family.
+    pub(crate) fn of(&self, family: Family) -> &[usize]
+        ensures { result.now ≡ list_of self.now family }
+    {
+        &self.lists[number_of(family)]
+    }
+
+    /// Makes room for one more place in the list of a family.
+    pub(crate) fn reserve(&mut self, family: Family) -> Result<(), AllocError>
+        ensures kept { (f : Family) → list_of self.new f ≡ list_of self.old f }
+        ensures room { OnOk result (HasRoom self.new family) }
+    {
+        self.lists[number_of(family)].reserve(1)
+    }
+
+    /// Adds the place of an object of a family, for which there is room.
+    pub(crate) fn push_reserved(&mut self, family: Family, place: usize)
+        requires { HasRoom self.old family }
+        ensures { (f : Family) → list_of self.new f ≡ with_place family place f (list_of self.old f) }
+    {
+        self.lists[number_of(family)].push_reserved(place);
+    }
+}
+
+fn number_of(family: Family) -> usize
+    ensures { result ≡ family_number family }
+{
+    match family {
+        Family::Unit => 0,
+        Family::Party => 1,
+        Family::Person => 2,
+        Family::Office => 3,
+        Family::Header => 4,
+        Family::Candidate => 5,
+        Family::Contest => 6,
+        Family::Style => 7,
+        Family::Selection => 8,
+    }
+}

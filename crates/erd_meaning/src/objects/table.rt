@@ -1,0 +1,240 @@
+ghost use Rattle.std.specs.Prelude.{◌≡◌, ◌<◌, ◌++◌, ◌∷◌, ℕ, List, [], length, map, option_map, slice_get, is_some, false, OnOk, OnErr, IfOk, if◌then◌else◌, Some, None};
+ghost use Rattle.std.specs.Option.{option_map_or, option_or};
+ghost use Rattle.std.specs.Str.{bytes_eq};
+ghost use Rattle.indexmap.specs.IndexMap.{get_by, spare};
+ghost use Rattle.erd_meaning.specs.code.ObjectIndexes.{number_of_id, number_of_key};
+ghost use Rattle.erd_tables.specs.declared.class.Family.{Family};
+ghost use Rattle.erd_meaning.specs.code.Indexed.{same_owned};
+ghost use Rattle.std.specs.List.{list_any};
+ghost use Rattle.erd_meaning.specs.code.ObjectLookups.{object_among, those_of};
+ghost use Rattle.erd_meaning.specs.code.ReferenceReasons.{is_known};
+ghost use Rattle.erd_meaning.specs.code.ObjectWalk.{has_same_id, has_same_key, same_id};
+ghost use Rattle.erd_meaning.specs.code.Shown.{shown};
+ghost use Rattle.erd_meaning.specs.declared.keys.key.Key.{Key};
+
+use crate::keys::key::Key;
+use crate::keys::triple::Triple;
+use crate::objects::object::Object;
+use crate::objects::places::FamilyPlaces;
+use erd_tables::Family;
+use indexmap::IndexMap;
+use std::alloc::{AllocError, Global};
+use std::fmt;
+use std::marker::Model;
+
+/// Whether an earlier object has what is asked of one: its family and its key, or its `@id`.
+#[derive(Drop)]
+pub(crate) struct Earlier {
+    pub(crate) has_key: bool,
+    pub(crate) has_id: bool,
+}
+
+/// The objects of a report in the order of their places, indexed by family, by `@id` and by key. Contracts see the objects.
+///
+/// Of several objects with one `@id`, or of one family with one key, the indexes hold the first.
+#[derive(Drop)]
+pub(crate) struct ObjectTable<'a> {
+    objects: Vec<Object<'a>>,
+    places: FamilyPlaces,
+    ids: IndexMap<&'a str, (Family, usize)>,
+    keys: IndexMap<(Family, Triple<'a>), usize>,
+}
+
+impl<'a> Model for ObjectTable<'a> {
+    ghost use Rattle.std.specs.Prelude.{List, map};
+    ghost use Rattle.std.specs.Str.{bytes_eq};
+    ghost use Rattle.indexmap.specs.IndexMap.{get_by};
+    ghost use Rattle.std.specs.Coded.{codes};
+    ghost use Rattle.serde_json.specs.contracts.value.Value as tree_value;
+    ghost use Rattle.erd_meaning.specs.declared.objects.object.Object.{Object};
+    ghost use Rattle.erd_meaning.specs.code.Indexed.{IsIndexed, same_owned};
+    ghost use Rattle.erd_meaning.specs.code.ObjectIndexes.{list_of};
+    ghost use Rattle.erd_meaning.specs.code.Shown.{shown};
+
+    ghost Value = { List Object };
+
+    ghost coded = { Prim.hlevel (codes, tree_value.the_row.coded) };
+
+    ghost view = { λ t. t.objects.items };
+
+    ghost invariant = { λ t. IsIndexed
+        (map shown t.objects.items)
+        (list_of t.places)
+        (λ id. get_by (λ k. bytes_eq id k.now) t.ids)
+        (λ f key. get_by (same_owned (f, key)) t.keys) };
+}
+
+impl<'a> ObjectTable<'a> {
+    /// No objects.
+    pub(crate) fn new(alloc: Global) -> ObjectTable<'a>
+        ensures { result ≡ [] }
+    {
+        ObjectTable {
+            objects: Vec::new(alloc),
+            places: FamilyPlaces::new(alloc),
+            ids: IndexMap::new(alloc),
+            keys: IndexMap::new(alloc),
+        }
+    }
+
+    /// Adds an object with its key. Answers what earlier objects have of it.
+    pub(crate) fn push(
+        &mut self,
+        object: Object<'a>,
+        key: Option<Triple<'a>>,
+    ) -> Result<Earlier, AllocError>
+        requires { key ≡ object.key }
+        ensures pushed { OnOk result (self.new ≡ self.old ++ object.entry ∷ []) }
+        ensures has_key { IfOk result (λ earlier. earlier.has_key ≡ list_any (has_same_key (shown object.entry)) (map shown self.old)) }
+        ensures has_id { IfOk result (λ earlier. earlier.has_id ≡ list_any (has_same_id (shown object.entry)) (map shown self.old)) }
+    {
+        let family = object.family;
+        let number = self.places.of(family).len();
+        let place = self.objects.len();
+        self.objects.reserve(1)?;
+        self.keys.reserve(1)?;
+        self.places.reserve(family)?;
+        let has_id = note_any_id(&mut self.ids, object.id, (family, number))?;
+        let has_key = note_any_key(&mut self.keys, family, key, number);
+        self.places.push_reserved(family, place);
+        self.objects.push_reserved(object);
+        Ok(Earlier { has_key, has_id })
+    }
+
+    /// How many objects there are.
+    pub(crate) fn len(&self) -> usize
+        ensures { result ≡ length self.now }
+    {
+        self.objects.len()
+    }
+
+    /// How many of the objects are of the family.
+    pub(crate) fn count(&self, family: Family) -> usize
+        ensures { result ≡ length (those_of family (map shown self.now)) }
+    {
+        self.places.of(family).len()
+    }
+
+    /// The object at this position among those of the family.
+    pub(crate) fn get(&self, family: Family, index: usize) -> Option<&Object<'a>>
+        ensures { option_map (λ o. shown o.now) result ≡ slice_get (those_of family (map shown self.now)) index }
+    {
+        let place = *self.places.of(family).get(index)?;
+        let object = self.objects.get(place)?;
+        Some(object)
+    }
+
+    /// Whether an object has the `@id`.
+    pub(crate) fn has_id(&self, id: &str) -> bool
+        ensures { result ≡ is_known (map shown self.now) id.now }
+    {
+        self.ids.contains_key(id)
+    }
+
+    /// The object with the `@id`, if it is of the family.
+    pub(crate) fn with_id(&self, family: Family, id: &str) -> Option<&Object<'a>>
+        ensures { option_map (λ o. shown o.now) result ≡ object_among (map shown self.now) family id.now }
+    {
+        let (own, index) = self.position_of_id(id)?;
+        if own != family {
+            return None;
+        }
+        self.get(family, index)
+    }
+
+    /// The position in its family of the object with the key.
+    pub(crate) fn position_of_key(&self, family: Family, key: &Key) -> Option<usize>
+        ensures { result ≡ number_of_key (map shown self.now) family key.now }
+    {
+        self.keys.get(&(family, Triple::of_key(key))).copied()
+    }
+
+    /// The family of the object with the `@id`, and its position there.
+    pub(crate) fn position_of_id(&self, id: &str) -> Option<(Family, usize)>
+        ensures { result ≡ number_of_id (map shown self.now) id.now }
+    {
+        self.ids.get(id).copied()
+    }
+}
+
+impl<'a> fmt::Debug for ObjectTable<'a> {
+    fn fmt<W: fmt::Write>(&self, f: &mut fmt::Formatter<W>) -> fmt::Result {
+        f.debug_list().entries(self.objects.as_slice()).finish()
+    }
+}
+
+/// Adds an `@id`, if there is one, as `note_id` does.
+fn note_any_id<'a>(
+    ids: &mut IndexMap<&'a str, (Family, usize)>,
+    id: Option<&'a str>,
+    number: (Family, usize),
+) -> Result<bool, AllocError>
+    ensures known { IfOk result (λ known. known ≡ option_map_or (λ s. is_some (get_by (λ k. bytes_eq s.now k.now) ids.old)) id.entry false) }
+    ensures noted { OnOk result ((i : List ℕ) → get_by (λ k. bytes_eq i k.now) ids.new
+        ≡ option_or (get_by (λ k. bytes_eq i k.now) ids.old) (if same_id (option_map (λ s. s.now) id.entry) (Some i) then Some number else None)) }
+    ensures kept { OnErr result ((i : List ℕ) → get_by (λ k. bytes_eq i k.now) ids.new ≡ get_by (λ k. bytes_eq i k.now) ids.old) }
+{
+    match id {
+        Some(id) => note_id(ids, id, number),
+        None => Ok(false),
+    }
+}
+
+/// Adds an `@id` with the family of its object and its position there, if it is not in the index. Answers whether it was.
+fn note_id<'a>(
+    ids: &mut IndexMap<&'a str, (Family, usize)>,
+    id: &'a str,
+    number: (Family, usize),
+) -> Result<bool, AllocError>
+    ensures known { IfOk result (λ known. known ≡ is_some (get_by (λ k. bytes_eq id.now k.now) ids.old)) }
+    ensures noted { OnOk result ((i : List ℕ) → get_by (λ k. bytes_eq i k.now) ids.new
+        ≡ option_or (get_by (λ k. bytes_eq i k.now) ids.old) (if bytes_eq i id.now then Some number else None)) }
+    ensures kept { OnErr result ((i : List ℕ) → get_by (λ k. bytes_eq i k.now) ids.new ≡ get_by (λ k. bytes_eq i k.now) ids.old) }
+{
+    if ids.contains_key(id) {
+        return Ok(true);
+    }
+    ids.insert(id, number)?;
+    Ok(false)
+}
+
+/// Adds a key, if there is one, as `note_key` does.
+fn note_any_key<'a>(
+    keys: &mut IndexMap<(Family, Triple<'a>), usize>,
+    family: Family,
+    key: Option<Triple<'a>>,
+    number: usize,
+) -> bool
+    requires { 0 < spare keys.old }
+    ensures known { result ≡ option_map_or (λ k. is_some (get_by (same_owned (family, k)) keys.old)) key.entry false }
+    ensures noted { (f : Family) (k : Key) → get_by (same_owned (f, k)) keys.new
+        ≡ option_or (get_by (same_owned (f, k)) keys.old) (option_map_or (λ l. if same_owned (f, k) (family, l) then Some number else None) key.entry None) }
+{
+    match key {
+        Some(key) => note_key(keys, family, key, number),
+        None => false,
+    }
+}
+
+/// Adds a key with the position of its object in its family, if it is not in the index. Answers whether it was. There is
+/// room for it.
+fn note_key<'a>(
+    keys: &mut IndexMap<(Family, Triple<'a>), usize>,
+    family: Family,
+    key: Triple<'a>,
+    number: usize,
+) -> bool
+    requires { 0 < spare keys.old }
+    ensures known { result ≡ is_some (get_by (same_owned (family, key.entry)) keys.old) }
+    ensures noted { (f : Family) (k : Key) → get_by (same_owned (f, k)) keys.new
+        ≡ option_or (get_by (same_owned (f, k)) keys.old) (if same_owned (f, k) (family, key.entry) then Some number else None) }
+{
+    let owned = (family, key);
+    if keys.contains_key(&owned) {
+        return true;
+    }
+    match keys.insert(owned, number) {
+        Ok(_) => false,
+        Err(_) => unreachable!(),
+    }
+}
