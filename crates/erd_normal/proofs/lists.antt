@@ -4,6 +4,7 @@ pub mod RisingSets
 pub mod RisingOrders
 pub mod RisingAgain
 pub mod RisingRanks
+pub mod NumbersInOrder
 pub mod DistinctEntries
 pub mod StableSorts
 pub mod StableRising

@@ -2,9 +2,13 @@
 pub mod KeyPositions
 pub mod KeyPlaces
 pub mod Numbered
+pub mod RisingTables
 pub mod FamilyNumbers
 pub mod SelectionPlaces
 pub mod NumberedReferences
 pub mod SelectionReferences
+pub mod NamesInTurn
+pub mod SelectionsInTurn
 pub mod PlacedEntries
+pub mod ContestTables
 pub mod PlacedTrees

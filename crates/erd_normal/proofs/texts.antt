@@ -3,3 +3,4 @@ pub mod WrittenStrings
 pub mod CompactTexts
 pub mod FittingNumbers
 pub mod WholeEntries
+pub mod WholeObjects

@@ -6,7 +6,7 @@ use Rattle.erd_check.proofs.Shapes.{false_unless}
 use Rattle.erd_check.proofs.Rising.{Has, here, later}
 use Rattle.erd_normal.proofs.lists.FoundBuilt.{AreApart}
 use Rattle.erd_normal.proofs.lists.Paired.{Paired, none, more}
-use Rattle.erd_normal.proofs.lists.Reordered.{Reordered, no_entry, one_kept, two_exchanged, in_turn, any-reordered, count-reordered, length-reordered, reordered_after, reordered_back, reordered_before, reordered_flat, reordered_map, reordered_self, reordered-has}
+use Rattle.erd_normal.proofs.lists.Reordered.{Reordered, no_entry, one_kept, two_exchanged, in_turn, any-reordered, count-reordered, length-reordered, reordered_after, reordered_back, reordered_before, reordered_flat, reordered-has}
 
 -- the entries of the one list are related to those of the other, each to one, in some order
 pub record Matched {A B : Type 0} (R : A → B → Type 0) (xs : List A) (ys : List B) : Type 0 where
@@ -15,10 +15,6 @@ pub record Matched {A B : Type 0} (R : A → B → Type 0) (xs : List A) (ys : L
   pub reordered : Reordered middle ys
 
 -- ---- entry by entry
-
-paired_self : {A : Type 0} (xs : List A) → Paired (λ x y. x ≡ y) xs xs
-paired_self [] = none
-paired_self (x ∷ xs) = more refl (paired_self xs)
 
 pub paired_map : {A B C : Type 0} {R : A → B → Type 0} (f : A → C) (g : B → C) → ((x : A) (y : B) → R x y → f x ≡ g y) → {xs : List A} {ys : List B} → Paired R xs ys → map f xs ≡ map g ys
 paired_map f g same none = refl
@@ -40,9 +36,6 @@ paired_back y (more r rest) (later h) = let b = paired_back y rest h in (b.0, la
 
 -- ---- in some order
 
-pub matched_in_order : {A B : Type 0} {R : A → B → Type 0} {xs : List A} {ys : List B} → Paired R xs ys → Matched R xs ys
-matched_in_order {ys = ys} h = record { middle = ys; paired = h; reordered = reordered_self ys }
-
 pub matched_none : {A B : Type 0} (R : A → B → Type 0) → Matched R [] []
 matched_none R = record { middle = []; paired = none; reordered = no_entry }
 
@@ -55,10 +48,6 @@ matched_within S h m = record { middle = m.middle; paired = paired_within S h m.
 -- each entry of the second list has one of the first to which it is related
 pub matched_back : {A B : Type 0} {R : A → B → Type 0} {xs : List A} {ys : List B} (y : B) → Matched R xs ys → Has ys y → (x : A) × Has xs x × R x y
 matched_back y m h = paired_back y m.paired (reordered-has y (reordered_back m.reordered) h)
-
--- what the relation keeps is reordered
-pub matched_map : {A B C : Type 0} {R : A → B → Type 0} (f : A → C) (g : B → C) → ((x : A) (y : B) → R x y → f x ≡ g y) → {xs : List A} {ys : List B} → Matched R xs ys → Reordered (map f xs) (map g ys)
-matched_map f g same {ys = ys} m = subst (λ zs. Reordered zs (map g ys)) (sym (paired_map f g same m.paired)) (reordered_map g m.reordered)
 
 pub matched_append : {A B : Type 0} {R : A → B → Type 0} {xs us : List A} {ys vs : List B} → Matched R xs ys → Matched R us vs → Matched R (xs ++ us) (ys ++ vs)
 matched_append {ys = ys} m n = record {
@@ -153,9 +142,6 @@ module _ {A B : Type 0} {R : A → B → Type 0} (test : A → Bool) (test' : B 
   pub matched_find : {xs : List A} {ys : List B} → Matched R xs ys → AtMostOne test xs → Both R (find test xs) (find test' ys)
   matched_find {xs = xs} m few =
       subst (Both R (find test xs)) (find-reordered test' m.reordered (record { few = subst (λ n. n ≤ 1) (paired_count m.paired) few.few })) (paired_find m.paired)
-
-  pub matched_count : {xs : List A} {ys : List B} → Matched R xs ys → length (filter test xs) ≡ length (filter test' ys)
-  matched_count m = paired_count m.paired ∙ count-reordered test' m.reordered
 
 -- ---- lists of values that are all different
 

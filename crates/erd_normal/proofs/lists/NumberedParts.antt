@@ -5,13 +5,13 @@ use Rattle.std.proofs.lemmas.Option.{same_Some, slice_get-map}
 use Rattle.std.specs.List.{enumerate_from, flat_map}
 
 -- the positions of the first of two lists
-get_first : {A : Type 0} (xs ys : List A) (i : ℕ) → i < length xs → slice_get (xs ++ ys) i ≡ slice_get xs i
+pub get_first : {A : Type 0} (xs ys : List A) (i : ℕ) → i < length xs → slice_get (xs ++ ys) i ≡ slice_get xs i
 get_first [] ys i low = absurd (omega arith)
 get_first (x ∷ xs) ys zero low = refl
 get_first (x ∷ xs) ys (suc i) low = get_first xs ys i (omega arith)
 
 -- the positions of the second
-get_later : {A : Type 0} (xs ys : List A) (i m : ℕ) → i ≡ length xs + m → slice_get (xs ++ ys) i ≡ slice_get ys m
+pub get_later : {A : Type 0} (xs ys : List A) (i m : ℕ) → i ≡ length xs + m → slice_get (xs ++ ys) i ≡ slice_get ys m
 get_later [] ys i m e = let same : i ≡ m = omega arith in ap (slice_get ys) same
 get_later (x ∷ xs) ys zero m e = absurd (omega arith)
 get_later (x ∷ xs) ys (suc i) m e = get_later xs ys i m (omega arith)

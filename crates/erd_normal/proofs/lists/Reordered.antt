@@ -1,5 +1,5 @@
 -- Lists with the same entries, each as often, in some order; and what doesn't depend on the order.
-use Rattle.std.proofs.Common.{◌≡◌, ◌<◌, ℕ, zero, suc, List, [], ◌∷◌, ◌++◌, map, filter, filter_map, flat_map, length, Bool, true, false, ◌||◌, cond, Option, Some, None, Ordering, is_lt, refl, sym, ap, ◌∙◌, subst, arith}
+use Rattle.std.proofs.Common.{◌≡◌, ◌<◌, ℕ, zero, suc, List, [], ◌∷◌, ◌++◌, map, filter, filter_map, flat_map, length, Bool, true, false, ◌||◌, cond, Option, Some, None, Ordering, is_lt, refl, sym, ap, ◌∙◌, arith}
 use Rattle.std.specs.List.{cons_option, list_any, slice_index_or, slice_set, swap}
 use Rattle.erd_check.proofs.Rising.{Has, here, later}
 use Rattle.erd_meaning.specs.SelectionNames.{rising_list, with_inserted}
@@ -16,9 +16,6 @@ pub data Reordered {A : Type 0} : List A → List A → Type 0 where
 pub reordered_self : {A : Type 0} (xs : List A) → Reordered xs xs
 reordered_self [] = no_entry
 reordered_self (x ∷ xs) = one_kept (reordered_self xs)
-
-pub reordered_equal : {A : Type 0} (xs ys : List A) → xs ≡ ys → Reordered xs ys
-reordered_equal xs ys e = subst (Reordered xs) e (reordered_self xs)
 
 pub reordered_back : {A : Type 0} {xs ys : List A} → Reordered xs ys → Reordered ys xs
 reordered_back no_entry = no_entry
@@ -80,12 +77,6 @@ first_with x d [] j low = absurd (omega arith)
 first_with x d (y ∷ ys) zero low = two_exchanged
 first_with x d (y ∷ ys) (suc j) low =
     in_turn two_exchanged (in_turn (one_kept (first_with x d ys j (omega arith))) two_exchanged)
-
--- an entry that is put where it stands changes nothing
-set_itself : {A : Type 0} (d : A) (xs : List A) (j : ℕ) → slice_set xs j (slice_index_or xs j d) ≡ xs
-set_itself d [] j = refl
-set_itself d (x ∷ xs) zero = refl
-set_itself d (x ∷ xs) (suc j) = ap (λ ys. x ∷ ys) (set_itself d xs j)
 
 -- as `swap` says it, with any value for positions beyond the end
 abbrev both_set : {A : Type 0} → A → List A → ℕ → ℕ → List A

@@ -4,14 +4,9 @@ use Rattle.std.specs.List.{list_any}
 use Rattle.erd_check.proofs.Order.{In}
 use Rattle.erd_check.proofs.Rising.{Has, Has-cases, here, later}
 use Rattle.erd_meaning.specs.SelectionNames.{rising_list, with_inserted}
-use Rattle.erd_normal.proofs.lists.Reordered.{any-reordered, any_filter_map-reordered, count-reordered, length-reordered, reordered_rising, whole-reordered}
+use Rattle.erd_normal.proofs.lists.Reordered.{any-reordered, any_filter_map-reordered, count-reordered, length-reordered, reordered_rising}
 
 -- ---- what doesn't depend on the order of a list
-
--- a value made of a list entry by entry, whose entries change places freely
-pub whole-rising : {A B : Type 0} (whole : List A → B) (step : A → B → B) → ((x : A) (xs : List A) → whole (x ∷ xs) ≡ step x (whole xs))
-    → ((x y : A) (b : B) → step x (step y b) ≡ step y (step x b)) → (cmp : A → A → Ordering) (xs : List A) → whole (rising_list cmp xs) ≡ whole xs
-whole-rising whole step steps exchanges cmp xs = sym (whole-reordered whole step steps exchanges (reordered_rising cmp xs))
 
 -- whether an entry passes a test
 pub any-rising : {A : Type 0} (cmp : A → A → Ordering) (test : A → Bool) (xs : List A) → list_any test (rising_list cmp xs) ≡ list_any test xs

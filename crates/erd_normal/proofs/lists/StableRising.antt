@@ -25,7 +25,7 @@ pub map_after : {X Y Z : Type 0} (f : X → Y) (g : Y → Z) (xs : List X) → m
 map_after f g [] = refl
 map_after f g (x ∷ xs) = ap (λ zs. g (f x) ∷ zs) (map_after f g xs)
 
-map_back : {X Y : Type 0} (f : X → Y) (g : Y → X) (xs : List X) → ((x : X) → g (f x) ≡ x) → map g (map f xs) ≡ xs
+pub map_back : {X Y : Type 0} (f : X → Y) (g : Y → X) (xs : List X) → ((x : X) → g (f x) ≡ x) → map g (map f xs) ≡ xs
 map_back f g [] back = refl
 map_back f g (x ∷ xs) back = ap₂ (λ z zs. z ∷ zs) (back x) (map_back f g xs back)
 

@@ -1,53 +1,63 @@
--- The keys of objects with their positions, one after another.
-use Rattle.std.proofs.Common.{◌≡◌, ℕ, zero, suc, ◌+◌, List, [], ◌∷◌, ◌++◌, drop, length, Option, Some, None, option_map, append_assoc, add-one, refl, sym, ap, ◌∙◌}
+-- Values with their keys and positions, one after another.
+use Rattle.std.proofs.Common.{◌≡◌, ℕ, zero, suc, ◌+◌, List, [], ◌∷◌, ◌++◌, drop, length, true, cond, Option, Some, None, option_and_then, option_map, append_assoc, add-one, refl, sym, ap, ◌∙◌}
+use Rattle.std.proofs.lemmas.List.{append-nil}
 use Rattle.std.specs.List.{slice_get}
 use Rattle.serde_json.specs.Data.{Data}
-use Rattle.erd_meaning.specs.Keys.{Preference, key_of}
-use Rattle.erd_meaning.specs.Objects.{Placed}
-use Rattle.erd_meaning.specs.declared.keys.key.Key.{Key}
-use Rattle.erd_normal.specs.code.Building.{key_positions}
+use Rattle.erd_tables.specs.declared.class.Family.{Family}
+use Rattle.erd_meaning.specs.Keys.{Preference, has_keys, key_of, key_of_family_object}
+use Rattle.erd_meaning.specs.Lookups.{key_in}
+use Rattle.erd_meaning.specs.Objects.{Placed, objects}
+use Rattle.erd_normal.specs.code.KeyRanks.{keyed_from}
 
-some_left : (π : Preference) (os : List Placed) (n i : ℕ) (v : Data) → Some v ≡ option_map (λ o. o.value) (slice_get os i)
-    → key_positions π n (drop i os) ≡ (key_of π v, n) ∷ key_positions π (n + 1) (drop (suc i) os)
-some_left π [] n i v e = cc
-some_left π (o ∷ os) n zero v e = let same : v ≡ o.value = cc in ap (λ d. (key_of π d, n) ∷ key_positions π (n + 1) os) (sym same)
-some_left π (o ∷ os) n (suc i) v e = some_left π os n i v e
+-- ---- what is left of a list
 
-none_left : (os : List Placed) (i : ℕ) → None ≡ option_map (λ o. o.value) (slice_get os i) → drop i os ≡ []
+some_left : {A : Type 0} (xs : List A) (i : ℕ) (x : A) → slice_get xs i ≡ Some x → drop i xs ≡ x ∷ drop (suc i) xs
+some_left [] i x e = cc
+some_left (y ∷ xs) zero x e = let same : y ≡ x = cc in ap (λ z. z ∷ xs) same
+some_left (y ∷ xs) (suc i) x e = some_left xs i x e
+
+none_left : {A : Type 0} (xs : List A) (i : ℕ) → slice_get xs i ≡ None → drop i xs ≡ []
 none_left [] zero e = refl
 none_left [] (suc i) e = refl
-none_left (o ∷ os) zero e = cc
-none_left (o ∷ os) (suc i) e = none_left os i e
+none_left (x ∷ xs) zero e = cc
+none_left (x ∷ xs) (suc i) e = none_left xs i e
 
-none_later : (os : List Placed) (i : ℕ) → drop i os ≡ [] → drop (suc i) os ≡ []
+none_later : {A : Type 0} (xs : List A) (i : ℕ) → drop i xs ≡ [] → drop (suc i) xs ≡ []
 none_later [] zero e = refl
 none_later [] (suc i) e = refl
-none_later (o ∷ os) zero e = cc
-none_later (o ∷ os) (suc i) e = none_later os i e
+none_later (x ∷ xs) zero e = cc
+none_later (x ∷ xs) (suc i) e = none_later xs i e
 
-all_dropped : (os : List Placed) → drop (length os) os ≡ []
+all_dropped : {A : Type 0} (xs : List A) → drop (length xs) xs ≡ []
 all_dropped [] = refl
-all_dropped (o ∷ os) = all_dropped os
+all_dropped (x ∷ xs) = all_dropped xs
 
-module _ (π : Preference) (os : List Placed) (i : ℕ) (built all : List (Option Key × ℕ)) (before : built ++ key_positions π i (drop i os) ≡ all) where
-  pub positions_some : (v : Data) → Some v ≡ option_map (λ o. o.value) (slice_get os i) → (built ++ (key_of π v, i) ∷ []) ++ key_positions π (i + 1) (drop (i + 1) os) ≡ all
-  positions_some v e =
-      append_assoc built ((key_of π v, i) ∷ []) (key_positions π (i + 1) (drop (i + 1) os))
-      ∙ (ap (λ j. built ++ (key_of π v, i) ∷ key_positions π (i + 1) (drop j os)) (add-one i)
-      ∙ (ap (λ ps. built ++ ps) (sym (some_left π os i i v e))
-      ∙ before))
+-- ---- one more
 
-  pub positions_none : None ≡ option_map (λ o. o.value) (slice_get os i) → built ++ key_positions π (i + 1) (drop (i + 1) os) ≡ all
-  positions_none e =
-      let here = none_left os i e in
-      ap (λ os. built ++ key_positions π (i + 1) os) (ap (λ j. drop j os) (add-one i) ∙ none_later os i here)
-      ∙ (ap (λ os. built ++ key_positions π i os) (sym here)
-      ∙ before)
+module _ {K : Type 0} (key : Data → K) (ds : List Data) (built all : List (K × (ℕ × Data))) where
+  module _ (i : ℕ) (before : built ++ keyed_from key i (drop i ds) ≡ all) where
+    pub keyed_some : (d : Data) → slice_get ds i ≡ Some d → (built ++ (key d, (i, d)) ∷ []) ++ keyed_from key (i + 1) (drop (i + 1) ds) ≡ all
+    keyed_some d e =
+        append_assoc built ((key d, (i, d)) ∷ []) (keyed_from key (i + 1) (drop (i + 1) ds))
+        ∙ (ap (λ j. built ++ (key d, (i, d)) ∷ keyed_from key (i + 1) (drop j ds)) (add-one i)
+        ∙ (ap (λ es. built ++ keyed_from key i es) (sym (some_left ds i d e))
+        ∙ before))
 
--- where none is left
-pub positions_all : (π : Preference) (os : List Placed) (built all : List (Option Key × ℕ)) → built ++ key_positions π (length os) (drop (length os) os) ≡ all → built ≡ all
-positions_all π os built all h = sym (append_none built) ∙ (ap (λ left. built ++ key_positions π (length os) left) (sym (all_dropped os)) ∙ h)
+    pub keyed_none : slice_get ds i ≡ None → built ++ keyed_from key (i + 1) (drop (i + 1) ds) ≡ all
+    keyed_none e =
+        let here = none_left ds i e in
+        ap (λ es. built ++ keyed_from key (i + 1) es) (ap (λ j. drop j ds) (add-one i) ∙ none_later ds i here)
+        ∙ (ap (λ es. built ++ keyed_from key i es) (sym here)
+        ∙ before)
+
+  -- where none is left
+  pub keyed_all : built ++ keyed_from key (length ds) (drop (length ds) ds) ≡ all → built ≡ all
+  keyed_all h = sym (append-nil built) ∙ (ap (λ left. built ++ keyed_from key (length ds) left) (sym (all_dropped ds)) ∙ h)
+
+-- the key that is lent for the object at a position
+pub key_lent : (π : Preference) (f : Family) (t : Data) (i : ℕ) (d : Data) → has_keys f ≡ true → option_map (λ o. o.value) (slice_get (objects f t) i) ≡ Some d → key_in π f t i ≡ key_of π d
+key_lent π f t i d keyed e = at (slice_get (objects f t) i) e
   where
-    append_none : (ps : List (Option Key × ℕ)) → ps ++ [] ≡ ps
-    append_none [] = refl
-    append_none (p ∷ ps) = ap (λ qs. p ∷ qs) (append_none ps)
+    at : (o : Option Placed) → option_map (λ o. o.value) o ≡ Some d → option_and_then (λ o. key_of_family_object π f o.value) o ≡ key_of π d
+    at None e = cc
+    at (Some o) e = let same : o.value ≡ d = cc in ap (λ b. cond b (key_of π o.value) None) keyed ∙ ap (key_of π) same

@@ -1,6 +1,7 @@
 -- The tree with objects numbered by their places is the tree that is built for an accepted report.
-use Rattle.std.proofs.Common.{◌≡◌, ℕ, zero, suc, ◌+◌, List, [], ◌∷◌, map, true, Some, codes, slice_get, refl, sym, ap, ap₂, ◌∙◌, subst, arith}
-use Rattle.std.specs.Option.{option_map_or}
+use Rattle.std.proofs.Common.{◌≡◌, ℕ, zero, suc, ◌+◌, List, [], ◌∷◌, map, true, Option, Some, codes, option_map, slice_get, refl, sym, ap, ap₂, ◌∙◌, subst, arith}
+use Rattle.std.proofs.lemmas.Option.{slice_get-map}
+use Rattle.std.specs.Option.{option_cmp, option_map_or}
 use Rattle.serde_json.specs.Data.{Data, array, object, Members, no_members, member}
 use Rattle.serde_json.specs.Find.{get_member}
 use Rattle.erd_tables.specs.Classes.{role_of_class}
@@ -25,16 +26,23 @@ use Rattle.erd_meaning.proofs.accepted.Skeleton.{Skeleton, skeleton}
 use Rattle.erd_meaning.proofs.accepted.SoleElection.{SoleElection, only_sole, sole_election}
 use Rattle.erd_meaning.proofs.accepted.Standing.{stands}
 use Rattle.erd_meaning.specs.Accepted.{IsAccepted}
-use Rattle.erd_meaning.specs.Keys.{Preference, has_keys}
+use Rattle.erd_meaning.specs.Keys.{Preference, has_keys, key_cmp, key_of}
 use Rattle.erd_meaning.specs.Objects.{Placed, objects}
-use Rattle.erd_meaning.specs.SelectionNames.{rising_list, selection_role}
+use Rattle.erd_meaning.specs.NameParts.{NameParts}
+use Rattle.erd_meaning.specs.SelectionNames.{name_cmp, name_of, rising_list, selection_role}
+use Rattle.erd_meaning.specs.declared.keys.key.Key.{Key}
+use Rattle.erd_meaning.proofs.accepted.References.{option_map-Some}
 use Rattle.erd_normal.proofs.built.BuiltFrom.{Builder}
 use Rattle.erd_normal.proofs.built.FamilyNames.{contest_of_selections, election_objects_are, elections_name, family_name, keyed_name, report_objects}
 use Rattle.erd_normal.proofs.canonical.RisingReports.{object_ids, selection_ids}
+use Rattle.erd_normal.proofs.ranks.FamilyNumbers.{values_kept}
+use Rattle.erd_normal.proofs.ranks.RisingTables.{stands_in, values_in}
+use Rattle.erd_normal.specs.code.KeyRanks.{keyed_values, rising_at, rising_in_contest, rising_objects}
 use Rattle.erd_normal.specs.code.NormalTree.{array_of, by_key, by_name, in_envelope, normal_election, normal_election_value, normal_members, normal_object, normal_object_value, normal_object_with, normal_report_value, normal_selection, normal_tree, normal_value, unless_no_entry, with_id}
 use Rattle.erd_normal.specs.code.PlacedTree.{map_from, placed_election, placed_election_value, placed_object, placed_object_value, placed_objects, placed_report_value, placed_selection}
 use Rattle.erd_check.proofs.Positions.{map_has, has_at}
-use Rattle.erd_normal.proofs.lists.RisingSets.{has_rising}
+use Rattle.erd_normal.proofs.lists.RisingSets.{In-from_has}
+use Rattle.erd_normal.proofs.lists.StableRising.{map_after}
 use Rattle.erd_check.proofs.Whole.{get_member-later}
 
 -- the report, with objects and selections numbered by their places
@@ -73,25 +81,30 @@ module _ (π : Preference) (t : Data) (accepted : IsAccepted π t) (tree : IsTre
 
   -- ---- an object of a family
 
-  module _ (f : Family) (i : ℕ) (o : Placed) (h : Has (objects f t) o) (e : slice_get (rising_list (by_key π) (map (λ o. o.value) (objects f t))) i ≡ Some o.value) where
+  module _ (f : Family) (i j : ℕ) (o : Placed) (h : Has (objects f t) o) (at : slice_get (objects f t) j ≡ Some o)
+      (e : slice_get (rising_list (by_key π) (map (λ o. o.value) (objects f t))) i ≡ Some o.value) where
     object_value : (c : Class) (ms : Members) (name : List ℕ) (v : Data) → role_of_class c ≡ role.OfFamily f → o.value ≡ object ms → get_member name ms ≡ Some v
-        → (k : MemberKind) → kind_of_member c name ≡ k → placed_object_value π t (i + 1) k v ≡ normal_object_value π t o.value k v
+        → (k : MemberKind) → kind_of_member c name ≡ k → placed_object_value π t (i + 1) j k v ≡ normal_object_value π t o.value k v
     object_value c ms name v of is found (kind.Keyed family.Selection) named =
         let called : name ≡ codes "ContestSelection" = keyed_name c name family.Selection named in
         let contest : f ≡ family.Contest = contest_of_selections c f of (ap (kind_of_member c) (sym called) ∙ named) in
         let here : entries_at (codes "ContestSelection") o.value ≡ entries_of v = ap (entries_at (codes "ContestSelection")) is ∙ ap (λ x. option_map_or entries_of x []) (ap (λ n. get_member n ms) (sym called) ∙ found) in
+        let there : rising_at π t j ≡ rising_in_contest π t o.value =
+        ap (λ x. option_map_or (λ o. rising_in_contest π t o.value) x []) (subst (λ g. slice_get (objects g t) j ≡ Some o) contest at) in
         ap (λ ds. unless_no_entry v (array_of ds))
-        (subst (λ ds. map_from (placed_selection π t (i + 1)) 1 (rising_list (by_name π t) ds) ≡ map (normal_selection π t o.value) (rising_list (by_name π t) ds)) here
-        (selections_agree i o (subst (λ g. Has (objects g t) o) contest h) (subst (λ g. slice_get (rising_list (by_key π) (map (λ o. o.value) (objects g t))) i ≡ Some o.value) contest e)))
+        (ap (map_from (placed_selection π t (i + 1)) 1)
+        (ap (map (λ (p : Option NameParts × (ℕ × Data)). p.1.1)) there ∙ values_in (option_cmp name_cmp) (name_of π t) (entries_at (codes "ContestSelection") o.value))
+        ∙ (selections_agree i o (subst (λ g. Has (objects g t) o) contest h) (subst (λ g. slice_get (rising_list (by_key π) (map (λ o. o.value) (objects g t))) i ≡ Some o.value) contest e)
+        ∙ ap (λ ds. map (normal_selection π t o.value) (rising_list (by_name π t) ds)) here))
     object_value c ms name v of is found k named = refl
 
-    object_agrees : has_keys f ≡ true → placed_object π t f (i + 1) o.value ≡ normal_object π t f o.value
+    object_agrees : has_keys f ≡ true → placed_object π t f (i + 1) (j, o.value) ≡ normal_object π t f o.value
     object_agrees keyed =
         let w : Within t (asked (Object (role.OfFamily f)) o.value) = record { place = o.place; is = stands π t accepted f o h } in
         let x : ObjectIn t (role.OfFamily f) o.value = object_in t (no_shape_fault π t accepted) (role.OfFamily f) o.value w in
         let trees : AreMembers x.ms = subst IsTree x.is_object (within-tree t (asked (Object (role.OfFamily f)) o.value) tree w) in
         let among : class_of_object (role.OfFamily f) o.value ≡ Some x.class = ap (class_of_object (role.OfFamily f)) x.is_object ∙ x.at.among in
-        let left : Builder = λ name k v. placed_object_value π t (i + 1) k v in
+        let left : Builder = λ name k v. placed_object_value π t (i + 1) j k v in
         let right : Builder = λ name k v. normal_object_value π t o.value k v in
         let members : normal_object_with left (Some x.class) (object x.ms) ≡ normal_object_with right (Some x.class) (object x.ms) =
         ap object (members_agree left right x.class x.ms trees (λ name v found. object_value x.class x.ms name v x.role x.is_object found (kind_of_member x.class name) refl)) in
@@ -101,16 +114,37 @@ module _ (π : Preference) (t : Data) (accepted : IsAccepted π t) (tree : IsTre
 
   -- ---- the objects of a family
 
-  objects_agree : (f : Family) → has_keys f ≡ true → (ds : List Data) → map (λ o. o.value) (objects f t) ≡ ds → placed_objects π t f ds ≡ map (normal_object π t f) (rising_list (by_key π) ds)
-  objects_agree f keyed ds is =
-      subst (λ ds. placed_objects π t f ds ≡ map (normal_object π t f) (rising_list (by_key π) ds)) is
-      (map_by_place (placed_object π t f) (normal_object π t f) 1 (rising_list (by_key π) (map (λ o. o.value) (objects f t))) each)
-    where
-      each : (i : ℕ) (d : Data) → slice_get (rising_list (by_key π) (map (λ o. o.value) (objects f t))) i ≡ Some d → placed_object π t f (i + 1) d ≡ normal_object π t f d
-      each i d at =
-          let o = map_has (λ (o : Placed). o.value) (objects f t) d (has_rising (by_key π) (map (λ o. o.value) (objects f t)) d (has_at (rising_list (by_key π) (map (λ o. o.value) (objects f t))) i d at)) in
-          subst (λ x. placed_object π t f (i + 1) x ≡ normal_object π t f x) o.2
-          (object_agrees f i o.0 o.1 (at ∙ ap Some (sym o.2)) keyed)
+  module _ (f : Family) (keyed : has_keys f ≡ true) where
+    -- the objects in order, with their positions
+    abbrev pairs : List (ℕ × Data)
+    pairs = map (λ p. p.1) (rising_objects π t f)
+
+    values_are : map (λ (x : ℕ × Data). x.1) pairs ≡ rising_list (by_key π) (map (λ o. o.value) (objects f t))
+    values_are =
+        sym (map_after (λ (p : Option Key × (ℕ × Data)). p.1) (λ (x : ℕ × Data). x.1) (rising_objects π t f))
+        ∙ (values_in (option_cmp key_cmp) (key_of π) (keyed_values f t)
+        ∙ ap (rising_list (by_key π)) (values_kept f t keyed))
+
+    stands_at : (x : ℕ × Data) → Has pairs x → slice_get (map (λ o. o.value) (objects f t)) x.0 ≡ Some x.1
+    stands_at x h =
+        let p = map_has (λ (p : Option Key × (ℕ × Data)). p.1) (rising_objects π t f) x h in
+        subst (λ (y : ℕ × Data). slice_get (map (λ o. o.value) (objects f t)) y.0 ≡ Some y.1) p.2
+        (ap (λ ds. slice_get ds p.0.1.0) (sym (values_kept f t keyed))
+        ∙ stands_in (option_cmp key_cmp) (key_of π) (keyed_values f t) p.0 (In-from_has p.0 (rising_objects π t f) p.1))
+
+    each_agrees : (i : ℕ) (x : ℕ × Data) → slice_get pairs i ≡ Some x → placed_object π t f (i + 1) x ≡ normal_object π t f x.1
+    each_agrees i x at =
+        let here : slice_get (rising_list (by_key π) (map (λ o. o.value) (objects f t))) i ≡ Some x.1 =
+        ap (λ ds. slice_get ds i) (sym values_are) ∙ (slice_get-map (λ (x : ℕ × Data). x.1) pairs i ∙ ap (option_map (λ x. x.1)) at) in
+        let o = option_map-Some (λ (o : Placed). o.value) (slice_get (objects f t) x.0) x.1 (sym (slice_get-map (λ (o : Placed). o.value) (objects f t) x.0) ∙ stands_at x (has_at pairs i x at)) in
+        subst (λ d. placed_object π t f (i + 1) (x.0, d) ≡ normal_object π t f d) o.2
+        (object_agrees f i x.0 o.0 (has_at (objects f t) x.0 o.0 o.1) o.1 (here ∙ ap Some (sym o.2)) keyed)
+
+    objects_agree : (ds : List Data) → map (λ o. o.value) (objects f t) ≡ ds → placed_objects π t f ≡ map (normal_object π t f) (rising_list (by_key π) ds)
+    objects_agree ds is =
+        map_by_place (placed_object π t f) (λ x. normal_object π t f x.1) 1 pairs each_agrees
+        ∙ (map_after (λ (x : ℕ × Data). x.1) (normal_object π t f) pairs
+        ∙ ap (map (normal_object π t f)) (values_are ∙ ap (rising_list (by_key π)) is))
 
   -- ---- the election
 

@@ -1,8 +1,6 @@
 -- The numbers of the selections of an accepted report, contest by contest, are their ranks, counted from 1.
-use Rattle.std.proofs.Common.{◌≡◌, ◌+◌, ◌++◌, ℕ, List, [], ◌∷◌, length, map, codes, Some, option_map, slice_get, refl, sym, ap, ap₂, ◌∙◌, subst, arith}
-use Rattle.std.proofs.lemmas.Grind.{flat_map-append}
+use Rattle.std.proofs.Common.{◌≡◌, ◌+◌, ◌++◌, ℕ, List, [], ◌∷◌, length, map, codes, replicate, Option, Some, option_map, slice_get, refl, sym, ap, ap₂, ◌∙◌, subst, arith}
 use Rattle.std.proofs.lemmas.List.{length-map}
-use Rattle.std.proofs.lemmas.List.Folds.{flat_map-map}
 use Rattle.std.proofs.lemmas.Option.{same_Some, slice_get-map}
 use Rattle.std.specs.Cmp.Lexicographic.{options_total}
 use Rattle.std.specs.List.{flat_map}
@@ -10,53 +8,47 @@ use Rattle.std.specs.Option.{option_cmp}
 use Rattle.std.specs.Ordering.{eq_by_cmp}
 use Rattle.serde_json.specs.Data.{Data}
 use Rattle.erd_tables.specs.declared.class.Family.TheVariants as family
-use Rattle.erd_tables.specs.declared.place.Step.{Step}
 use Rattle.erd_tables.specs.declared.place.Step.TheVariants.{Name}
 use Rattle.erd_check.proofs.Rising.{Has}
 use Rattle.erd_meaning.proofs.finding.OneObject.{in_at}
 use Rattle.erd_meaning.specs.Keys.{Preference}
 use Rattle.erd_meaning.specs.Accepted.{IsAccepted}
 use Rattle.erd_check.specs.Values.{entries_at}
-use Rattle.erd_meaning.specs.Objects.{Placed, contests, objects, placed_entries, placed_from, selections_of_contest}
+use Rattle.erd_meaning.specs.NameParts.{NameParts}
+use Rattle.erd_meaning.specs.Objects.{Placed, contests, objects, selections_of_contest}
 use Rattle.erd_meaning.specs.code.Orders.{name_cmp_total}
 use Rattle.erd_meaning.specs.SelectionNames.{name_cmp, name_of}
 use Rattle.erd_normal.proofs.lists.DistinctEntries.{distinct_map}
 use Rattle.erd_normal.proofs.canonical.DistinctObjects.{selection_values_distinct}
 use Rattle.erd_normal.proofs.ranks.KeyPlaces.{length_places, place_is}
+use Rattle.erd_normal.proofs.ranks.RisingTables.{numbers_of}
 use Rattle.erd_normal.proofs.lists.NumberedParts.{in_part}
 use Rattle.erd_normal.proofs.lists.RisingRanks.{rank_map}
 use Rattle.erd_normal.proofs.lists.RisingSets.{has_from_In}
-use Rattle.erd_normal.specs.code.KeyRanks.{numbers_in_contest}
+use Rattle.erd_normal.specs.code.Building.{numbered}
+use Rattle.erd_normal.specs.code.KeyRanks.{keyed_value, numbers_in_contest, rising_in_contest}
 use Rattle.erd_normal.specs.code.NormalTree.{rank_of_name}
 use Rattle.erd_normal.specs.code.ObjectNumbers.{AreSelectionNumbers}
 use Rattle.erd_meaning.proofs.accepted.Skeleton.{values-placed_from}
-
--- the numbers of the selections of an election, contest by contest
-abbrev pub numbers_in_election : Preference → Data → Data → List ℕ
-numbers_in_election π t election = flat_map (numbers_in_contest π t) (entries_at (codes "Contest") election)
-
--- those of a report
-abbrev pub numbers_in_report : Preference → Data → List ℕ
-numbers_in_report π t = flat_map (numbers_in_election π t) (entries_at (codes "Election") t)
 
 module _ (π : Preference) (t : Data) where
   -- the numbers of the selections of a contest
   abbrev numbers_at : Placed → List ℕ
   numbers_at contest = numbers_in_contest π t contest.value
 
-  -- ---- contest by contest
-
-  values_gathered : (h : Data → List ℕ) (p : List Step) (i : ℕ) (ds : List Data) → flat_map (λ o. h o.value) (placed_from p i ds) ≡ flat_map h ds
-  values_gathered h p i ds = sym (flat_map-map h (λ (o : Placed). o.value) (placed_from p i ds)) ∙ ap (flat_map h) (values-placed_from p i ds)
-
-  elections_gathered : (p : List Step) (i : ℕ) (ds : List Data) → flat_map numbers_at (flat_map (placed_entries (codes "Contest")) (placed_from p i ds)) ≡ flat_map (numbers_in_election π t) ds
-  elections_gathered p i [] = refl
-  elections_gathered p i (d ∷ ds) =
-      flat_map-append numbers_at (placed_from _ 0 (entries_at (codes "Contest") d)) (flat_map (placed_entries (codes "Contest")) (placed_from p (i + 1) ds))
-      ∙ ap₂ ◌++◌ (values_gathered (numbers_in_contest π t) _ 0 (entries_at (codes "Contest") d)) (elections_gathered p (i + 1) ds)
-
-  contests_gathered : flat_map numbers_at (contests t) ≡ numbers_in_report π t
-  contests_gathered = elections_gathered (Name (codes "Election") ∷ []) 0 (entries_at (codes "Election") t)
+  -- those that tables of the selections of contests give, contest by contest
+  pub numbers_gathered : {V T : Type 0} (value : V → Data) (items : T → List (Option NameParts × (ℕ × V))) (tables : List T) (os : List Placed)
+      → map (λ table. map (λ p. keyed_value p.0 p.1.0 (value p.1.1)) (items table)) tables ≡ map (λ o. rising_in_contest π t o.value) os
+      → flat_map (λ table. numbered 0 (map (λ p. (p.0, p.1.0)) (items table)) (replicate (length (items table)) 0)) tables ≡ flat_map numbers_at os
+  numbers_gathered value items [] [] e = refl
+  numbers_gathered value items [] (o ∷ os) e = cc
+  numbers_gathered value items (table ∷ tables) [] e = cc
+  numbers_gathered value items (table ∷ tables) (o ∷ os) e =
+      let first : map (λ p. keyed_value p.0 p.1.0 (value p.1.1)) (items table) ≡ rising_in_contest π t o.value = cc in
+      let rest : map (λ table. map (λ p. keyed_value p.0 p.1.0 (value p.1.1)) (items table)) tables ≡ map (λ o. rising_in_contest π t o.value) os = cc in
+      ap₂ ◌++◌
+      (numbers_of (option_cmp name_cmp) (name_of π t) value (items table) (entries_at (codes "ContestSelection") o.value) first)
+      (numbers_gathered value items tables os rest)
 
   -- ---- one contest
 
@@ -88,13 +80,13 @@ module _ (π : Preference) (t : Data) where
 
   -- ---- the report
 
-  pub selection_numbered : IsAccepted π t → (ns : List ℕ) → ns ≡ numbers_in_report π t → AreSelectionNumbers π t ns
+  pub selection_numbered : IsAccepted π t → (ns : List ℕ) → ns ≡ flat_map numbers_at (contests t) → AreSelectionNumbers π t ns
   selection_numbered accepted ns is i c contest o numbered at =
       let h = in_part numbers_at selections_of_contest as_many (contests t) 0 i c o numbered in
       let after : c ≡ 0 + h.index = h.after in
       let index : h.index ≡ c = omega arith in
       let one : h.one ≡ contest = same_Some h.one contest (sym h.at ∙ (ap (slice_get (contests t)) index ∙ at)) in
-      ap (λ ms. slice_get ms i) (is ∙ sym contests_gathered)
+      ap (λ ms. slice_get ms i) is
       ∙ (h.same
       ∙ (ap (λ x. slice_get (numbers_at x) h.inner) one
       ∙ contest_number accepted contest (has_from_In contest (contests t) (in_at (contests t) c contest at)) h.inner o

@@ -45,7 +45,7 @@ of_contests k (c ∷ cs) =
     ∙ ap₂ ◌++◌ (of_contest k (selections_of_contest c)) (of_contests (k + 1) cs)
 
 -- the selection at a position, with the number of its contest
-numbered_at : (t : Data) (i : ℕ) (o : Placed) → slice_get (objects family.Selection t) i ≡ Some o → (c : ℕ) × (slice_get (numbered_selections t) i ≡ Some (c, o))
+pub numbered_at : (t : Data) (i : ℕ) (o : Placed) → slice_get (objects family.Selection t) i ≡ Some o → (c : ℕ) × (slice_get (numbered_selections t) i ≡ Some (c, o))
 numbered_at t i o at =
     let s = option_map-Some {A = Numbered} (λ s. s.1) (slice_get (numbered_selections t) i) o
     (sym (slice_get-map {A = Numbered} (λ s. s.1) (numbered_selections t) i) ∙ ap (λ xs. slice_get xs i) (of_contests 0 (contests t)) ∙ at) in
@@ -115,17 +115,17 @@ module _ (π : Preference) (t : Data) (id : List ℕ) where
 
 -- a selection is found
 pub selection_here : (π : Preference) (t : Data) (id : List ℕ) (n : ObjectNumbers) (g : Family) (i : ℕ) → AreObjectNumbers π t n → FindsId t id (Some (g, i)) → (family_number g == family_number family.Selection) ≡ true
-    → string (option_map_or (λ s. selection_id_numbered (number_in n.contests.items s.0) (number_in n.selections.items i)) (selection_in π t i) []) ≡ normal_selection_reference π t (string id)
+    → string (option_map_or (λ s. selection_id_numbered (number_in n.contests.numbers.items s.0) (number_in n.selections.numbers.items i)) (selection_in π t i) []) ≡ normal_selection_reference π t (string id)
 selection_here π t id n g i tables finds same =
     let one : g ≡ family.Selection = family_exact g family.Selection same in
     let s = selection_at π t id i tables.accepted ((finds family.Selection i).0 (ap (λ h. Some (h, i)) one)) in
     let there : selection_in π t i ≡ Some (s.number, s.name) =
     ap (option_and_then {T = Numbered} (λ x. option_map (λ n. (x.0, n)) (name_of π t x.1.value))) s.at ∙ ap (option_map (λ n. (s.number, n))) s.named in
-    let contest : number_in n.contests.items s.number ≡ rank_of π t family.Contest (key_of π s.contest.value) + 1 =
+    let contest : number_in n.contests.numbers.items s.number ≡ rank_of π t family.Contest (key_of π s.contest.value) + 1 =
     ap (λ m. unwrap_or m 1) (tables.numbers family.Contest refl s.number s.contest s.contest_at) in
-    let selection : number_in n.selections.items i ≡ rank_of_name π t (entries_at (codes "ContestSelection") s.contest.value) (name_of π t s.selection.value) + 1 =
+    let selection : number_in n.selections.numbers.items i ≡ rank_of_name π t (entries_at (codes "ContestSelection") s.contest.value) (name_of π t s.selection.value) + 1 =
     ap (λ m. unwrap_or m 1) (tables.selections i s.number s.contest s.selection s.at s.contest_at) in
-    ap (λ x. string (option_map_or {T = ℕ × NameParts} (λ s. selection_id_numbered (number_in n.contests.items s.0) (number_in n.selections.items i)) x [])) there
+    ap (λ x. string (option_map_or {T = ℕ × NameParts} (λ s. selection_id_numbered (number_in n.contests.numbers.items s.0) (number_in n.selections.numbers.items i)) x [])) there
     ∙ ap₂ (λ a b. string (selection_id_numbered a b)) contest selection
     ∙ sym s.text
 

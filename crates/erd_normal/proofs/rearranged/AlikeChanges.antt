@@ -113,10 +113,6 @@ swapped_alike i j w (number n) set low high = absurd (omega arith)
 swapped_alike i j w (string s) set low high = absurd (omega arith)
 swapped_alike i j w (object ms) set low high = absurd (omega arith)
 
--- a change inside a value that is alike to what stood there
-abbrev MakesAlike : (Data → Data) → Data → Want → Type 0
-MakesAlike f d w = Alike as_it_is (Some w) d (f d)
-
 item_alike : (f : Data → Data) (ss : List Step) (w : Want) (i : ℕ) (ds : Items) → ((d : Data) → get_item i ds ≡ Some d → Alike as_it_is (Some w) d (changed_at f ss d))
     → AreAlike as_it_is (Some w) ds (list_of_items (item_changed f i ss ds))
 item_alike f ss w i no_items each = refl

@@ -33,14 +33,6 @@ alike_unasked ρ (string s) e h = h
 alike_unasked ρ (array ds) e h = h
 alike_unasked ρ (object ms) e h = h
 
-pub unasked_alike : (ρ : List ℕ → List ℕ) (d e : Data) → d ≡ e → Alike ρ None d e
-unasked_alike ρ null e h = h
-unasked_alike ρ (boolean b) e h = h
-unasked_alike ρ (number n) e h = h
-unasked_alike ρ (string s) e h = h
-unasked_alike ρ (array ds) e h = h
-unasked_alike ρ (object ms) e h = h
-
 -- ---- texts
 
 -- what is no `@id` and no reference stays

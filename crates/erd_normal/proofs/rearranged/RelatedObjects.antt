@@ -1,6 +1,6 @@
 -- The objects of a report and those of one that is alike to it: those of each family are matched, related objects have one key, and `@id`s that are
 -- one but for the function of texts.
-use Rattle.std.proofs.Common.{◌≡◌, ℕ, List, [], map, flat_map, Bool, false, Option, Some, None, option_and_then, option_map, codes, refl, sym, ap, ◌∙◌, subst}
+use Rattle.std.proofs.Common.{◌≡◌, ℕ, List, [], map, flat_map, Bool, false, Option, Some, None, option_and_then, option_map, codes, refl, ap, ◌∙◌, subst}
 use Rattle.std.specs.Option.{option_map_or}
 use Rattle.std.specs.Str.{bytes_eq}
 use Rattle.serde_json.specs.Data.{Data}
@@ -25,7 +25,7 @@ use Rattle.erd_meaning.proofs.accepted.Skeleton.{values-placed_entries, values-p
 use Rattle.erd_meaning.proofs.accepted.Standing.{contest_selections}
 use Rattle.erd_normal.proofs.built.LeastKeys.{key_of_identifiers-reordered, kind_of_identifiers}
 use Rattle.erd_normal.proofs.built.NormalGets.{kind_of_family_id}
-use Rattle.erd_normal.proofs.lists.Matched.{Both, both, neither, Matched, matched_equal, matched_flat, matched_map}
+use Rattle.erd_normal.proofs.lists.Matched.{Both, both, neither, Matched, matched_equal, matched_flat}
 use Rattle.erd_normal.proofs.lists.Paired.{Paired}
 use Rattle.erd_normal.proofs.lists.Reordered.{Reordered, no_entry}
 use Rattle.erd_normal.proofs.rearranged.Alike.{Alike}
@@ -158,13 +158,3 @@ module _ (ρ : List ℕ → List ℕ) (t : Data) (clean : NoneOf (ShapeFault t))
     family_matched family.Selection =
         matched_flat (entries_at (codes "ContestSelection")) (entries_at (codes "ContestSelection")) (λ x y h r. selections_matched x y r)
         (in_elections family.Contest (codes "Contest") refl refl)
-
-    -- ---- their keys and `@id`s
-
-    -- the keys of a family are the same, in some order
-    pub keys_matched : (π : Preference) (f : Family) → Reordered (map (key_of π) (family_values f t)) (map (key_of π) (family_values f u))
-    keys_matched π f = matched_map (key_of π) (key_of π) (related_key π f) (family_matched f)
-
-    -- and so are the `@id`s, but for the function of texts
-    pub ids_matched : (f : Family) → Reordered (map (λ d. option_map ρ (id_of d)) (family_values f t)) (map id_of (family_values f u))
-    ids_matched f = matched_map (λ d. option_map ρ (id_of d)) id_of (λ d e r. sym (id_became f d e r)) (family_matched f)

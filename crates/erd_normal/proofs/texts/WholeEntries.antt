@@ -1,5 +1,6 @@
 -- The entries of an array that has no fraction have none.
-use Rattle.std.proofs.Common.{◌≡◌, ℕ, List, [], false, map, Option, Some, None, refl, ap, ◌∙◌}
+use Rattle.std.proofs.Common.{◌≡◌, ℕ, List, [], ◌∷◌, Bool, true, false, ◌||◌, map, Option, Some, None, refl, ap, ◌∙◌}
+use Rattle.std.specs.List.{AllByRecursion}
 use Rattle.std.specs.Option.{option_map_or}
 use Rattle.serde_json.specs.Data.{Data, array, Items, no_items, item}
 use Rattle.serde_json.specs.Find.{get}
@@ -17,11 +18,20 @@ whole_entries : (d : Data) → has_float d ≡ false → items_have_float (items
 whole_entries (array ds) h = ap items_have_float (listed_items ds) ∙ h
 whole_entries d h = refl
 
+neither : (a b : Bool) → a || b ≡ false → (a ≡ false) × (b ≡ false)
+neither true b e = cc
+neither false b e = (refl, e)
+
+-- one by one
+pub all_whole : (ds : List Data) → items_have_float (items_of ds) ≡ false → AllByRecursion (λ d. has_float d ≡ false) ds
+all_whole [] h = tt
+all_whole (d ∷ ds) h = let both = neither (has_float d) (items_have_float (items_of ds)) h in (both.0, all_whole ds both.1)
+
 -- the entries of an array
 pub whole_list : (d : Data) (vs : List Value) → has_float d ≡ false → map view vs ≡ entries_of d → items_have_float (items_view vs) ≡ false
 whole_list d vs h is = ap (λ ds. items_have_float (items_of ds)) is ∙ whole_entries d h
 
-whole_entries_at : (name : List ℕ) (d : Data) → has_float d ≡ false → items_have_float (items_of (entries_at name d)) ≡ false
+pub whole_entries_at : (name : List ℕ) (d : Data) → has_float d ≡ false → items_have_float (items_of (entries_at name d)) ≡ false
 whole_entries_at name d h = at (get name d) refl
   where
     at : (o : Option Data) → get name d ≡ o → items_have_float (items_of (option_map_or entries_of o [])) ≡ false

@@ -7,11 +7,8 @@ use Rattle.serde_json.specs.Written.{compact_text}
 use Rattle.erd_tables.specs.declared.class.Family.{Family}
 use Rattle.erd_meaning.specs.Keys.{Preference, key_of}
 use Rattle.erd_meaning.specs.Objects.{objects, Placed}
-use Rattle.erd_meaning.specs.SelectionNames.{key_named}
-use Rattle.erd_meaning.specs.declared.keys.key.Key.{Key}
 use Rattle.erd_normal.specs.Canonical.{id_prefix}
 use Rattle.erd_normal.specs.code.NormalTree.{rank_of}
-use Rattle.erd_check.specs.Values.{text_of}
 
 -- the members with the value under the name, if there is a value
 abbrev pub put_if : List ℕ → Option Data → Members → Members
@@ -28,11 +25,6 @@ beside_compact_text d = beside (compact_text d) d
 
 -- ---- numbers of objects
 
--- the keys of objects and their positions, from position i on
-abbrev pub key_positions : Preference → ℕ → List Placed → List (Option Key × ℕ)
-key_positions π i [] = []
-key_positions π i (o ∷ os) = (key_of π o.value, i) ∷ key_positions π (i + 1) os
-
 -- numbers by position: each of the pairs puts its own at the position that it names, counted from r + 1 on
 abbrev pub numbered : {K : Type 0} → ℕ → List (K × ℕ) → List ℕ → List ℕ
 numbered r [] ns = ns
@@ -45,13 +37,3 @@ AreNumbers π t f ns = (i : ℕ) (o : Placed) → slice_get (objects f t) i ≡ 
 -- the `@id` text of the object of this number, and no text in a family whose objects have none
 abbrev pub numbered_id : Family → ℕ → List ℕ
 numbered_id f n = option_map_or (λ letters. letters ++ decimal n) (id_prefix f) []
-
--- ---- references
-
--- a value beside a key
-abbrev pub beside_key : Option Key → Data → Option Key × Data
-beside_key key d = (key, d)
-
--- a reference beside the key of the object of the family that it names
-abbrev pub beside_named : Preference → Data → Family → Data → Option Key × Data
-beside_named π t f d = beside_key (key_named π t f (text_of d)) d

@@ -1,33 +1,57 @@
--- The numbers of all objects of a report, by family and position.
-use Rattle.std.specs.Prelude.{◌≡◌, ◌+◌, ℕ, List, true, Some, codes, unwrap_or}
+-- The objects of a report in the order of their keys, and their numbers by family and position.
+use Rattle.std.specs.Prelude.{◌≡◌, ◌+◌, ℕ, List, [], true, false, Option, Some, codes, if◌then◌else◌, is_some, map, unwrap_or}
 use Rattle.std.specs.List.{slice_get}
 use Rattle.serde_json.specs.Data.{Data}
+use Rattle.serde_json.specs.View.{view}
+use Rattle.serde_json.specs.Written.{has_float}
+use Rattle.serde_json.specs.declared.value.Value.{Value}
 use Rattle.erd_tables.specs.declared.class.Family.{Family}
 use Rattle.erd_tables.specs.declared.class.Family.TheVariants as family
 use Rattle.erd_meaning.specs.Accepted.{IsAccepted}
-use Rattle.erd_meaning.specs.Keys.{Preference, has_keys}
+use Rattle.erd_meaning.specs.Keys.{Preference}
 use Rattle.erd_check.specs.Values.{entries_at}
 use Rattle.erd_meaning.specs.Objects.{IsBounded, Placed, contests, numbered_selections}
-use Rattle.erd_meaning.specs.SelectionNames.{name_of}
+use Rattle.erd_meaning.specs.SelectionNames.{key_named, name_of}
+use Rattle.erd_meaning.specs.declared.keys.key.Key.{Key}
+use Rattle.erd_normal.specs.Canonical.{id_prefix}
 use Rattle.erd_normal.specs.code.Building.{AreNumbers}
-use Rattle.erd_normal.specs.code.NormalTree.{rank_of_name}
+use Rattle.erd_normal.specs.code.KeyRanks.{keyed_value, rising_in_contest, rising_objects}
+use Rattle.erd_normal.specs.code.NormalTree.{rank_of, rank_of_name}
 use Rattle.erd_normal.specs.declared.numbers.object_numbers.ObjectNumbers.{ObjectNumbers}
+use denote.Ref.{Bor}
 
--- the numbers of the objects of a family; those of selections count within their contests
+-- the objects of a family in the order of their keys; selections stand in none
+abbrev pub rising_of_family : Family → ObjectNumbers → List (Option Key × (ℕ × Bor Value))
+rising_of_family family.Unit n = n.units.rising.items
+rising_of_family family.Party n = n.parties.rising.items
+rising_of_family family.Person n = n.persons.rising.items
+rising_of_family family.Office n = n.offices.rising.items
+rising_of_family family.Header n = n.headers.rising.items
+rising_of_family family.Candidate n = n.candidates.rising.items
+rising_of_family family.Contest n = n.contests.rising.items
+rising_of_family family.Style n = n.styles.items
+rising_of_family family.Selection n = []
+
+-- the numbers of the objects of a family whose objects a reference names by them
 abbrev pub numbers_of_family : Family → ObjectNumbers → List ℕ
-numbers_of_family family.Unit n = n.units.items
-numbers_of_family family.Party n = n.parties.items
-numbers_of_family family.Person n = n.persons.items
-numbers_of_family family.Office n = n.offices.items
-numbers_of_family family.Header n = n.headers.items
-numbers_of_family family.Candidate n = n.candidates.items
-numbers_of_family family.Contest n = n.contests.items
-numbers_of_family family.Style n = n.styles.items
-numbers_of_family family.Selection n = n.selections.items
+numbers_of_family family.Unit n = n.units.numbers.items
+numbers_of_family family.Party n = n.parties.numbers.items
+numbers_of_family family.Person n = n.persons.numbers.items
+numbers_of_family family.Office n = n.offices.numbers.items
+numbers_of_family family.Header n = n.headers.numbers.items
+numbers_of_family family.Candidate n = n.candidates.numbers.items
+numbers_of_family family.Contest n = n.contests.numbers.items
+numbers_of_family family.Style n = []
+numbers_of_family family.Selection n = []
 
 -- the number at a position, and 1 where there is none
 abbrev pub number_in : List ℕ → ℕ → ℕ
 number_in ns i = unwrap_or (slice_get ns i) 1
+
+-- the number of the object of a family that a reference names, counted from 1 in the order of keys; 1 where objects of the family
+-- are not named by numbers
+abbrev pub number_named : Preference → Data → Family → List ℕ → ℕ
+number_named π t f id = if is_some (id_prefix f) then rank_of π t f (key_named π t f id) + 1 else 1
 
 -- each selection has its rank in its contest as its number, counted from 1
 abbrev pub AreSelectionNumbers : Preference → Data → List ℕ → Type 0
@@ -35,9 +59,12 @@ AreSelectionNumbers π t ns =
     (i c : ℕ) (contest o : Placed) → slice_get (numbered_selections t) i ≡ Some (c, o) → slice_get (contests t) c ≡ Some contest
     → slice_get ns i ≡ Some (rank_of_name π t (entries_at (codes "ContestSelection") contest.value) (name_of π t o.value) + 1)
 
--- they are the numbers of the objects of the report, which is accepted
+-- they are the objects of the report, which is accepted and has no fraction, in order, and their numbers
 pub record AreObjectNumbers (π : Preference) (t : Data) (n : ObjectNumbers) : Type 0 where
   pub accepted : IsAccepted π t
   pub bounded : IsBounded t
-  pub numbers : (f : Family) → has_keys f ≡ true → AreNumbers π t f (numbers_of_family f n)
-  pub selections : AreSelectionNumbers π t n.selections.items
+  pub whole : has_float t ≡ false
+  pub rising : (f : Family) → map (λ p. keyed_value p.0 p.1.0 (view p.1.1.now)) (rising_of_family f n) ≡ rising_objects π t f
+  pub numbers : (f : Family) → is_some (id_prefix f) ≡ true → AreNumbers π t f (numbers_of_family f n)
+  pub contests : map (λ table. map (λ p. keyed_value p.0 p.1.0 (view p.1.1.now)) table.items) n.selections.rising.items ≡ map (λ o. rising_in_contest π t o.value) (contests t)
+  pub selections : AreSelectionNumbers π t n.selections.numbers.items

@@ -10,27 +10,16 @@ use Rattle.erd_tables.specs.declared.member.MemberKind.{MemberKind}
 use Rattle.erd_tables.specs.declared.member.MemberKind.TheVariants as kind
 use Rattle.erd_check.specs.Values.{entries_of}
 use Rattle.erd_check.specs.Wants.{class_of_object}
-use Rattle.erd_meaning.specs.Keys.{Preference, key_of}
-use Rattle.erd_meaning.specs.NameParts.{NameParts}
-use Rattle.erd_meaning.specs.SelectionNames.{rising_list, selection_role}
-use Rattle.erd_meaning.specs.declared.keys.key.Key.{Key}
+use Rattle.erd_meaning.specs.Keys.{Preference}
+use Rattle.erd_meaning.specs.SelectionNames.{selection_role}
 use Rattle.erd_normal.specs.Canonical.{id_prefix}
-use Rattle.erd_normal.specs.code.NormalTree.{array_of, by_key, by_name, normal_content, normal_object_with, normal_value, unless_no_entry, with_id}
+use Rattle.erd_normal.specs.code.KeyRanks.{rising_at, rising_objects}
+use Rattle.erd_normal.specs.code.NormalTree.{array_of, normal_content, normal_object_with, normal_value, unless_no_entry, with_id}
 
 -- what each becomes with its number, counted from n on
 abbrev pub map_from : {A B : Type 0} → (ℕ → A → B) → ℕ → List A → List B
 map_from f n [] = []
 map_from f n (x ∷ xs) = f n x ∷ map_from f (n + 1) xs
-
--- ---- pairs that are sorted
-
--- a value beside its key
-abbrev pub beside_own_key : Preference → Data → Option Key × Data
-beside_own_key π d = (key_of π d, d)
-
--- a value beside a name
-abbrev pub beside_name : Option NameParts → Data → Option NameParts × Data
-beside_name name d = (name, d)
 
 -- ---- numbers
 
@@ -49,30 +38,30 @@ abbrev pub placed_selection : Preference → Data → ℕ → ℕ → Data → D
 placed_selection π t n m d =
     with_id (Some (selection_id_numbered n m)) (normal_object_with (λ name k v. normal_value π t k v) (class_of_object selection_role d) d)
 
--- the selections of contest n, in the order of their names
-abbrev pub placed_selections : Preference → Data → ℕ → List Data → List Data
-placed_selections π t n ds = map_from (placed_selection π t n) 1 (rising_list (by_name π t) ds)
+-- the selections of contest n, which stands at position i, in the order of their names
+abbrev pub placed_selections : Preference → Data → ℕ → ℕ → List Data
+placed_selections π t n i = map_from (placed_selection π t n) 1 (map (λ p. p.1.1) (rising_at π t i))
 
--- a member of object n of a family; the object holds selections, if it is a contest
-abbrev pub placed_object_value : Preference → Data → ℕ → MemberKind → Data → Option Data
-placed_object_value π t n (kind.Keyed family.Selection) d = unless_no_entry d (array_of (placed_selections π t n (entries_of d)))
-placed_object_value π t n kind.Content d = unless_no_entry d (normal_content π t d)
-placed_object_value π t n k d = normal_value π t k d
+-- a member of object n of a family, which stands at position i; the object holds selections, if it is a contest
+abbrev pub placed_object_value : Preference → Data → ℕ → ℕ → MemberKind → Data → Option Data
+placed_object_value π t n i (kind.Keyed family.Selection) d = unless_no_entry d (array_of (placed_selections π t n i))
+placed_object_value π t n i kind.Content d = unless_no_entry d (normal_content π t d)
+placed_object_value π t n i k d = normal_value π t k d
 
--- object n of one of the first eight families
-abbrev pub placed_object : Preference → Data → Family → ℕ → Data → Data
-placed_object π t f n d =
-    with_id (id_numbered f n) (normal_object_with (λ name k v. placed_object_value π t n k v) (class_of_object (role.OfFamily f) d) d)
+-- object n of one of the first eight families, with its position
+abbrev pub placed_object : Preference → Data → Family → ℕ → ℕ × Data → Data
+placed_object π t f n o =
+    with_id (id_numbered f n) (normal_object_with (λ name k v. placed_object_value π t n o.0 k v) (class_of_object (role.OfFamily f) o.1) o.1)
 
 -- the objects of a family, in the order of their keys
-abbrev pub placed_objects : Preference → Data → Family → List Data → List Data
-placed_objects π t f ds = map_from (placed_object π t f) 1 (rising_list (by_key π) ds)
+abbrev pub placed_objects : Preference → Data → Family → List Data
+placed_objects π t f = map_from (placed_object π t f) 1 (map (λ p. p.1) (rising_objects π t f))
 
 -- ---- the election and the report
 
 -- a member of the election
 abbrev pub placed_election_value : Preference → Data → MemberKind → Data → Option Data
-placed_election_value π t (kind.Keyed f) d = unless_no_entry d (array_of (placed_objects π t f (entries_of d)))
+placed_election_value π t (kind.Keyed f) d = unless_no_entry d (array_of (placed_objects π t f))
 placed_election_value π t k d = normal_value π t k d
 
 -- the election
@@ -81,6 +70,6 @@ placed_election π t d = normal_object_with (λ name k v. placed_election_value 
 
 -- a member of the report
 abbrev pub placed_report_value : Preference → Data → List ℕ → MemberKind → Data → Option Data
-placed_report_value π t name (kind.Keyed f) d = unless_no_entry d (array_of (placed_objects π t f (entries_of d)))
+placed_report_value π t name (kind.Keyed f) d = unless_no_entry d (array_of (placed_objects π t f))
 placed_report_value π t name kind.Elections d = Some (array_of (map (placed_election π t) (entries_of d)))
 placed_report_value π t name k d = if is_envelope_name name then None else normal_value π t k d

@@ -1,24 +1,27 @@
 ghost use Rattle.std.specs.Prelude.{◌≡◌, ◌==◌, [], string_bytes, IfOk};
+ghost use Rattle.std.specs.List.{slice_get};
 ghost use Rattle.std.specs.Option.{option_map_or};
 ghost use Rattle.serde_json.specs.Data.{string};
 ghost use Rattle.serde_json.specs.View.{view};
 ghost use Rattle.erd_tables.specs.Classes.{family_number};
 ghost use Rattle.erd_meaning.specs.Lookups.{selection_in};
-ghost use Rattle.erd_normal.specs.code.Building.{numbered_id};
-ghost use Rattle.erd_normal.specs.code.NormalTree.{normal_id, normal_selection_reference};
-ghost use Rattle.erd_normal.specs.code.ObjectNumbers.{AreObjectNumbers, number_in, numbers_of_family};
+ghost use Rattle.erd_normal.specs.code.NormalTree.{normal_selection_reference};
+ghost use Rattle.erd_normal.specs.code.ObjectNumbers.{AreObjectNumbers, number_in, number_named, numbers_of_family, rising_of_family};
 ghost use Rattle.erd_normal.specs.code.PlacedTree.{selection_id_numbered};
 
 use crate::numbers::id_texts::selection_id_text;
 use crate::numbers::object_numbers::ObjectNumbers;
+use crate::order::lent_key::LentKey;
+use crate::order::lent_name::LentName;
 use erd_meaning::Report;
 use erd_tables::Family;
+use serde_json::Value;
 use std::alloc::{AllocError, Global};
 
 /// The number of the object of a family that has the `@id`, and 1 where none has it.
 pub(crate) fn number_of(report: &Report, numbers: &ObjectNumbers, family: Family, id: &str) -> usize
     requires { AreObjectNumbers report.now.prefer (view report.now.tree) numbers.now }
-    ensures { numbered_id family result ≡ normal_id report.now.prefer (view report.now.tree) family id.now }
+    ensures { result ≡ number_named report.now.prefer (view report.now.tree) family id.now }
 {
     match report.target(id) {
         Some((found, index)) => {
@@ -63,13 +66,13 @@ fn selection_id_at(
     index: usize,
 ) -> Result<String, AllocError>
     ensures { IfOk result (λ built. string_bytes built
-        ≡ option_map_or (λ s. selection_id_numbered (number_in numbers.now.contests.items s.0)
-        (number_in numbers.now.selections.items index)) (selection_in report.now.prefer (view report.now.tree) index) []) }
+        ≡ option_map_or (λ s. selection_id_numbered (number_in numbers.now.contests.numbers.items s.0)
+        (number_in numbers.now.selections.numbers.items index)) (selection_in report.now.prefer (view report.now.tree) index) []) }
 {
     match report.selection_at(index) {
         Some((position, _)) => {
-            let contest = number_at(numbers.contests.as_slice(), position);
-            let number = number_at(numbers.selections.as_slice(), index);
+            let contest = number_at(numbers.contests.numbers.as_slice(), position);
+            let number = number_at(numbers.selections.numbers.as_slice(), index);
             selection_id_text(alloc, contest, number)
         }
         None => Ok(String::new(alloc)),
@@ -77,26 +80,60 @@ fn selection_id_at(
 }
 
 /// Whether two families are one.
-pub(crate) fn is_same(found: Family, family: Family) -> bool
+fn is_same(found: Family, family: Family) -> bool
     ensures { result ≡ (family_number found == family_number family) }
 {
     found == family
 }
 
-/// The numbers of the objects of a family, by their positions.
-fn numbers_in(numbers: &ObjectNumbers, family: Family) -> &[usize]
+/// The numbers of the objects of a family, by their positions, if references name its objects by them.
+fn numbers_in<'b, 'a>(numbers: &'b ObjectNumbers<'a>, family: Family) -> &'b [usize]
     ensures { result.now ≡ numbers_of_family family numbers.now }
 {
     match family {
-        Family::Unit => numbers.units.as_slice(),
-        Family::Party => numbers.parties.as_slice(),
-        Family::Person => numbers.persons.as_slice(),
-        Family::Office => numbers.offices.as_slice(),
-        Family::Header => numbers.headers.as_slice(),
-        Family::Candidate => numbers.candidates.as_slice(),
-        Family::Contest => numbers.contests.as_slice(),
+        Family::Unit => numbers.units.numbers.as_slice(),
+        Family::Party => numbers.parties.numbers.as_slice(),
+        Family::Person => numbers.persons.numbers.as_slice(),
+        Family::Office => numbers.offices.numbers.as_slice(),
+        Family::Header => numbers.headers.numbers.as_slice(),
+        Family::Candidate => numbers.candidates.numbers.as_slice(),
+        Family::Contest => numbers.contests.numbers.as_slice(),
+        Family::Style | Family::Selection => &[],
+    }
+}
+
+/// The objects of a family in the order of their keys, each with its key and its position; there are none for selections.
+pub(crate) fn rising_in<'b, 'a>(
+    numbers: &'b ObjectNumbers<'a>,
+    family: Family,
+) -> &'b [(LentKey<'a>, (usize, &'a Value))]
+    ensures { result.now ≡ rising_of_family family numbers.now }
+{
+    match family {
+        Family::Unit => numbers.units.rising.as_slice(),
+        Family::Party => numbers.parties.rising.as_slice(),
+        Family::Person => numbers.persons.rising.as_slice(),
+        Family::Office => numbers.offices.rising.as_slice(),
+        Family::Header => numbers.headers.rising.as_slice(),
+        Family::Candidate => numbers.candidates.rising.as_slice(),
+        Family::Contest => numbers.contests.rising.as_slice(),
         Family::Style => numbers.styles.as_slice(),
-        Family::Selection => numbers.selections.as_slice(),
+        Family::Selection => &[],
+    }
+}
+
+/// The selections of the contest at a position in the order of their names, each with its name and its position.
+pub(crate) fn selections_in<'b, 'a>(
+    numbers: &'b ObjectNumbers<'a>,
+    contest: usize,
+) -> &'b [(LentName<'a>, (usize, &'a Value))]
+    ensures { result.now ≡ option_map_or (λ table. table.items) (slice_get numbers.now.selections.rising.items contest) [] }
+{
+    let tables = numbers.selections.rising.as_slice();
+    if contest < tables.len() {
+        tables[contest].as_slice()
+    } else {
+        &[]
     }
 }
 

@@ -1,23 +1,28 @@
-ghost use Rattle.std.specs.Prelude.{◌≡◌, string_bytes, IfOk};
+ghost use Rattle.std.specs.Prelude.{◌≡◌, false, map, string_bytes, IfOk};
+ghost use Rattle.std.specs.List.{AllByRecursion};
 ghost use Rattle.serde_json.specs.Data.{string};
 ghost use Rattle.serde_json.specs.View.{view};
+ghost use Rattle.serde_json.specs.Written.{has_float};
 ghost use Rattle.erd_meaning.specs.Accepted.{IsAccepted};
-ghost use Rattle.erd_normal.specs.code.Building.{numbered_id};
-ghost use Rattle.erd_normal.specs.code.NormalTree.{normal_id, normal_selection_reference};
-ghost use Rattle.erd_normal.specs.code.ObjectNumbers.{AreObjectNumbers};
+ghost use Rattle.erd_normal.specs.code.KeyRanks.{keyed_value, rising_at, rising_objects};
+ghost use Rattle.erd_normal.specs.code.NormalTree.{normal_selection_reference};
+ghost use Rattle.erd_normal.specs.code.ObjectNumbers.{AreObjectNumbers, number_named};
 
-use crate::numbers::lookups::{number_of, selection_id};
+use crate::numbers::lookups::{number_of, rising_in, selection_id, selections_in};
 use crate::numbers::object_numbers::ObjectNumbers;
+use crate::order::lent_key::LentKey;
+use crate::order::lent_name::LentName;
 use erd_meaning::Report;
 use erd_tables::Family;
+use serde_json::Value;
 use std::alloc::{AllocError, Global};
 use std::marker::Model;
 
-/// A report with the numbers of its objects. Contracts see the report.
+/// A report with its objects in order and their numbers. Contracts see the report.
 #[derive(Drop)]
 pub(crate) struct NumberedReport<'a> {
     report: &'a Report<'a>,
-    numbers: &'a ObjectNumbers,
+    numbers: &'a ObjectNumbers<'a>,
 }
 
 impl<'a> Model for NumberedReport<'a> {
@@ -39,7 +44,7 @@ impl<'a> Model for NumberedReport<'a> {
 
 impl<'a> NumberedReport<'a> {
     /// The report with these numbers of its objects.
-    pub(crate) fn of(report: &'a Report<'a>, numbers: &'a ObjectNumbers) -> NumberedReport<'a>
+    pub(crate) fn of(report: &'a Report<'a>, numbers: &'a ObjectNumbers<'a>) -> NumberedReport<'a>
         requires { AreObjectNumbers report.now.prefer (view report.now.tree) numbers.now }
         ensures { result ≡ report.now }
     {
@@ -54,9 +59,25 @@ impl<'a> NumberedReport<'a> {
         self.report
     }
 
+    /// The objects of a family in the order of their keys, each with its key and its position; there are none for selections.
+    pub(crate) fn rising(&self, family: Family) -> &[(LentKey<'a>, (usize, &'a Value))]
+        ensures objects { map (λ p. keyed_value p.0 p.1.0 (view p.1.1.now)) result.now ≡ rising_objects self.now.prefer (view self.now.tree) family }
+        ensures whole { AllByRecursion (λ p. has_float (view p.1.1.now) ≡ false) result.now }
+    {
+        rising_in(self.numbers, family)
+    }
+
+    /// The selections of the contest at a position in the order of their names, each with its name and its position.
+    pub(crate) fn selections_of(&self, contest: usize) -> &[(LentName<'a>, (usize, &'a Value))]
+        ensures selections { map (λ p. keyed_value p.0 p.1.0 (view p.1.1.now)) result.now ≡ rising_at self.now.prefer (view self.now.tree) contest }
+        ensures whole { AllByRecursion (λ p. has_float (view p.1.1.now) ≡ false) result.now }
+    {
+        selections_in(self.numbers, contest)
+    }
+
     /// The number of the object of a family that has the `@id`, and 1 where none has it.
     pub(crate) fn number_of(&self, family: Family, id: &str) -> usize
-        ensures { numbered_id family result ≡ normal_id self.now.prefer (view self.now.tree) family id.now }
+        ensures { result ≡ number_named self.now.prefer (view self.now.tree) family id.now }
     {
         number_of(self.report, self.numbers, family, id)
     }

@@ -1,14 +1,19 @@
-/// The number of each object, by its position in its family: its rank in its family, and for a selection its rank in its
-/// contest, counted from 1.
+use crate::numbers::family_table::FamilyTable;
+use crate::numbers::selection_tables::SelectionTables;
+use crate::order::lent_key::LentKey;
+use serde_json::Value;
+
+/// The objects of each family in the order of their keys, and the selections of each contest in the order of their names, with
+/// their numbers. No reference names a style, so styles have none.
 #[derive(Drop)]
-pub(crate) struct ObjectNumbers {
-    pub(crate) units: Vec<usize>,
-    pub(crate) parties: Vec<usize>,
-    pub(crate) persons: Vec<usize>,
-    pub(crate) offices: Vec<usize>,
-    pub(crate) headers: Vec<usize>,
-    pub(crate) candidates: Vec<usize>,
-    pub(crate) contests: Vec<usize>,
-    pub(crate) styles: Vec<usize>,
-    pub(crate) selections: Vec<usize>,
+pub(crate) struct ObjectNumbers<'a> {
+    pub(crate) units: FamilyTable<'a>,
+    pub(crate) parties: FamilyTable<'a>,
+    pub(crate) persons: FamilyTable<'a>,
+    pub(crate) offices: FamilyTable<'a>,
+    pub(crate) headers: FamilyTable<'a>,
+    pub(crate) candidates: FamilyTable<'a>,
+    pub(crate) contests: FamilyTable<'a>,
+    pub(crate) styles: Vec<(LentKey<'a>, (usize, &'a Value))>,
+    pub(crate) selections: SelectionTables<'a>,
 }

@@ -15,9 +15,9 @@ use std::alloc::{AllocError, Global};
 /// The canonical form of a report: the one tree that is canonical and means what the report means. It is nested no deeper
 /// than the report.
 ///
-/// First the objects get their numbers: those of each family are sorted by their keys, and the selections of each contest by
-/// their names. Then the tree is built in one pass. It sorts both once more, since it writes them in this order, and it sorts
-/// the entries of each set. Each text is copied into the tree once, but translations are copied twice.
+/// First the objects of each family are sorted by their keys, and the selections of each contest by their names. This gives
+/// their numbers and the order in which they are written. Then the tree is built in one pass, which sorts the entries of each
+/// set. Each text is copied into the tree once, but translations are copied twice.
 pub fn normal_tree(alloc: Global, report: &Report) -> Result<Value, AllocError>
     ensures canonical { IfOk result (λ tree. IsCanonicalFormOf report.now.prefer (view report.now.tree) (view tree)) }
     ensures unique { IfOk result (λ tree. (u : Data) → IsTree u → IsCanonicalFormOf report.now.prefer (view report.now.tree) u → u ≡ view tree) }

@@ -1,5 +1,7 @@
 ghost use Rattle.std.specs.Prelude.{◌≡◌, IfOk};
+ghost use Rattle.serde_json.specs.Data.{string};
 ghost use Rattle.serde_json.specs.View.{view};
+ghost use Rattle.erd_normal.specs.code.Building.{numbered_id};
 ghost use Rattle.erd_normal.specs.code.NormalTree.{normal_reference, normal_selection_reference};
 
 use crate::numbers::id_texts::id_text;
@@ -19,6 +21,17 @@ pub(crate) fn reference(
     ensures { IfOk result (λ built. view built ≡ normal_reference numbered.now.prefer (view numbered.now.tree) family (view value.now)) }
 {
     let number = numbered.number_of(family, text_of(value));
+    reference_to(alloc, family, number)
+}
+
+/// The reference to the object of a family that has the number.
+pub(crate) fn reference_to(
+    alloc: Global,
+    family: Family,
+    number: usize,
+) -> Result<Value, AllocError>
+    ensures { IfOk result (λ built. view built ≡ string (numbered_id family number)) }
+{
     Ok(Value::String(id_text(alloc, family, number)?))
 }
 

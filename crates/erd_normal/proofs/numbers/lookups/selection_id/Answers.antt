@@ -16,7 +16,7 @@ returns-then-is_same c =
     let n = c.args.numbers.now in
     let i = c.in-Some.index in
     IfOk-weaker c.selection_id_at.result
-    (λ built. string_bytes built ≡ option_map_or (λ s. selection_id_numbered (number_in n.contests.items s.0) (number_in n.selections.items i)) (selection_in c.args.report.now.prefer t i) [])
+    (λ built. string_bytes built ≡ option_map_or (λ s. selection_id_numbered (number_in n.contests.numbers.items s.0) (number_in n.selections.numbers.items i)) (selection_in c.args.report.now.prefer t i) [])
     (λ built. string (string_bytes built) ≡ normal_selection_reference c.args.report.now.prefer t (string c.args.id.now))
     (λ built e. ap string e ∙ selection_here c.args.report.now.prefer t c.args.id.now n c.in-Some.found i c.requires c.in-Some.ensures (sym c.is_same.ensures ∙ c.if-is_same.true))
     c.selection_id_at.ensures

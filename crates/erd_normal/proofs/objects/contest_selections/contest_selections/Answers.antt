@@ -1,26 +1,32 @@
-use Rattle.erd_meaning.specs.SelectionNames.{rising_list}
-use Rattle.std.proofs.Common.{List, map, IfOk, ap, subst, ◌≡◌, ◌∙◌}
+use Rattle.std.proofs.Common.{◌≡◌, ℕ, length, map, take, Option, Bor, ap, ◌∙◌, arith}
+use Rattle.std.proofs.Math.Seq.{take-length}
 use Rattle.serde_json.specs.Data.{Data}
 use Rattle.serde_json.specs.View.{view}
-use Rattle.erd_normal.proofs.ranks.PlacedEntries.{selections_in_order, whole_in_order}
-use Rattle.erd_normal.specs.code.NormalTree.{by_name}
+use Rattle.serde_json.specs.declared.value.Value.{Value}
+use Rattle.erd_meaning.specs.NameParts.{NameParts}
+use Rattle.erd_normal.proofs.lists.StableRising.{map_after}
+use Rattle.erd_normal.proofs.ranks.PlacedEntries.{placed_more}
+use Rattle.erd_normal.specs.code.KeyRanks.{keyed_value}
 use Rattle.erd_normal.specs.code.PlacedTree.{map_from, placed_selection}
-use Rattle.erd_meaning.specs.Judged.{Judged}
 use Rattle.erd_normal.proofs.objects.contest_selections.contest_selections.Goals as goal
 
-pub numbered_selections-requires : goal.numbered_selections-requires
-numbered_selections-requires c = record {
-  whole = whole_in_order (λ p. view p.1.now) (by_name c.report.result.now.prefer (view c.report.result.now.tree)) c.deref.result.now c.args.selections.now
-      (ap (map (λ p. view p.1.now)) c.deref.ensures.value
-      ∙ selections_in_order c.report.result.now.prefer (λ r. view r.now) (view c.report.result.now.tree) c.in_ok-pairs.pairs.items c.in_ok-sorted.sorted.items c.args.selections.now c.in_ok-sorted.ensures c.in_ok-pairs.ensures)
-      c.requires.whole;
-}
+pub loop-index-preserved : goal.loop-index-preserved
+loop-index-preserved c =
+    ap (map view) c.in_ok-push.ensures.items
+    ∙ placed_more view (λ p. view p.1.1.now) (placed_selection c.args.numbered.now.prefer (view c.args.numbered.now.tree) c.args.contest) c.loop-index.built.items c.selections_of-rising.result.now c.loop-index.index c.index-rising-index.result
+    c.in_ok-selection.field-0
+    c.loop-index-test.true
+    c.index-rising-index.is
+    c.in_ok-selection.ensures
+    c.loop-index.invariant
 
 pub returns : goal.returns
 returns c =
-    let t = view c.args.numbered.now.tree in
-    let in_order : map (λ p. view p.1.now) c.deref.result.now ≡ rising_list (by_name c.args.numbered.now.prefer t) (map view c.args.selections.now) =
-    ap (map (λ p. view p.1.now)) c.deref.ensures.value
-    ∙ (selections_in_order c.report.result.now.prefer (λ r. view r.now) (view c.report.result.now.tree) c.in_ok-pairs.pairs.items c.in_ok-sorted.sorted.items c.args.selections.now c.in_ok-sorted.ensures c.in_ok-pairs.ensures
-    ∙ ap (λ (r : Judged). rising_list (by_name r.prefer (view r.tree)) (map view c.args.selections.now)) c.report.ensures.same) in
-    subst (λ (ds : List Data). IfOk c.numbered_selections.result (λ built. map view built.items ≡ ds)) (ap (map_from (placed_selection c.args.numbered.now.prefer t c.args.contest) 1) in_order) c.numbered_selections.ensures
+    let rising = c.selections_of-rising.result.now in
+    let each = placed_selection c.args.numbered.now.prefer (view c.args.numbered.now.tree) c.args.contest in
+    let end : c.loop-index.index ≡ length rising = omega arith in
+    c.loop-index.invariant
+    ∙ ap (map_from each 1)
+    (ap (map (λ p. view p.1.1.now)) (ap (λ n. take n rising) end ∙ take-length rising)
+    ∙ (map_after (λ (p : Option NameParts × (ℕ × Bor Value)). keyed_value p.0 p.1.0 (view p.1.1.now)) (λ (p : Option NameParts × (ℕ × Data)). p.1.1) rising
+    ∙ ap (map (λ p. p.1.1)) c.selections_of-rising.ensures.selections))

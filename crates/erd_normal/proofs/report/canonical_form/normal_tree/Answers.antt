@@ -17,7 +17,7 @@ use Rattle.erd_normal.proofs.built.NormalTrees.{normal_tree-tree}
 use Rattle.erd_normal.proofs.report.canonical_form.normal_tree.Goals as goal
 
 -- what holds of the tree that is built for a report holds of the answer
-of_answer : (c : goal.After-drop-numbers-9) (P : Data → Type 0)
+of_answer : (c : goal.After-drop-numbers-17) (P : Data → Type 0)
     → (IsAccepted c.args.report.now.prefer (view c.args.report.now.tree) → IsTree (view c.args.report.now.tree) → IsBounded (view c.args.report.now.tree) → HasFittingNumbers (view c.args.report.now.tree) → P (normal_tree c.args.report.now.prefer (view c.args.report.now.tree)))
     → IfOk c.report_tree.result (λ tree. P (view tree))
 of_answer c P holds =

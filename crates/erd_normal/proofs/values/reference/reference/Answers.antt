@@ -1,14 +1,18 @@
-use Rattle.std.proofs.Common.{◌≡◌, string_bytes, rules, ap, ◌∙◌}
-use Rattle.serde_json.specs.Data.{string}
+use Rattle.std.proofs.Common.{◌≡◌, IfOk, ap, subst, ◌∙◌}
+use Rattle.serde_json.specs.Data.{Data, string}
 use Rattle.serde_json.specs.View.{view}
-use Rattle.serde_json.specs.declared.value.Value.{String, the_lemmas}
+use Rattle.erd_normal.proofs.ranks.NumberedReferences.{numbered_named}
+use Rattle.erd_normal.specs.code.Building.{numbered_id}
 use Rattle.erd_normal.specs.code.NormalTree.{normal_id}
 use Rattle.erd_normal.proofs.values.reference.reference.Goals as goal
 
 pub returns : goal.returns
 returns c =
-    let seen : view (String c.in_ok-id_text.field-0) ≡ string (string_bytes c.in_ok-id_text.field-0) = search (rules, the_lemmas) in
-    seen
-    ∙ ap string (c.in_ok-id_text.ensures
-    ∙ (c.number_of-number.ensures
-    ∙ ap (normal_id c.args.numbered.now.prefer (view c.args.numbered.now.tree) c.args.family) c.text_of.ensures))
+    let π = c.args.numbered.now.prefer in
+    let t = view c.args.numbered.now.tree in
+    subst (λ (d : Data). IfOk c.reference_to.result (λ built. view built ≡ d))
+    (ap string
+    (ap (numbered_id c.args.family) c.number_of-number.ensures
+    ∙ (numbered_named π t c.args.family c.text_of.result.now
+    ∙ ap (normal_id π t c.args.family) c.text_of.ensures)))
+    c.reference_to.ensures

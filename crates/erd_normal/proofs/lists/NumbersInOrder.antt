@@ -1,0 +1,85 @@
+-- Numbers that never fall along an order: when they are sorted, they are those of the values in that order.
+use Rattle.std.proofs.Common.{◌≡◌, ◌<◌, ◌≤◌, ℕ, List, [], ◌∷◌, map, filter, length, Bool, true, false, cond, Ordering, Less, Equal, Greater, nat_cmp, is_gt, is_lt, refl, sym, ap, ◌∙◌, subst, arith}
+use Rattle.std.proofs.lemmas.Cmp.{alike_right, by_ranked, nat_cmp_total, ranked}
+use Rattle.std.proofs.lemmas.Map.Lookups.{exact_unsigned}
+use Rattle.std.specs.Cmp.{IsTotalOrder}
+use Rattle.std.specs.List.{AllByRecursion}
+use Rattle.std.specs.List.Sorted.{IsPermutation, IsSorted, SwapsInRange, apply_swaps}
+use Rattle.std.specs.Ordering.{ordering_reverse}
+use Rattle.erd_meaning.proofs.orders.RisingLists.{rising_from_sort}
+use Rattle.erd_meaning.specs.SelectionNames.{rising_list, with_inserted}
+use Rattle.erd_normal.proofs.lists.BuiltLists.{all_map}
+use Rattle.erd_normal.proofs.lists.Reordered.{Reordered, in_turn, length-reordered, reordered_back, reordered_map, reordered_rising, reordered_self, reordered_swap}
+use Rattle.erd_normal.proofs.lists.RisingAgain.{rising-reordered}
+use Rattle.erd_normal.proofs.lists.RisingOrders.{NeverFalls, is_less, rising_never_falls}
+
+-- ---- exchanges
+
+swaps_reordered : {A : Type 0} (xs : List A) (moves : List (ℕ × ℕ)) → SwapsInRange (length xs) moves → Reordered xs (apply_swaps xs moves)
+swaps_reordered xs [] below = reordered_self xs
+swaps_reordered xs (p ∷ ps) below =
+    let before = swaps_reordered xs ps below.2 in
+    let long : length xs ≡ length (apply_swaps xs ps) = length-reordered before in
+    in_turn before (reordered_swap (apply_swaps xs ps) p.0 p.1 (omega (arith, below.0, long)) (omega (arith, below.1, long)))
+
+permuted_reordered : {A : Type 0} (xs ys : List A) → IsPermutation xs ys → Reordered xs ys
+permuted_reordered xs ys h = subst (Reordered xs) (sym h.is) (swaps_reordered xs h.moves h.below)
+
+-- ---- a list that never falls is in order
+
+not_below : (o : Ordering) → is_gt o ≡ false → is_lt (ordering_reverse o) ≡ false
+not_below Less e = refl
+not_below Equal e = refl
+not_below Greater e = cc
+
+module _ {A : Type 0} {cmp : A → A → Ordering} (order : IsTotalOrder cmp) where
+  stays_first : (x : A) (ys : List A) → AllByRecursion (λ y. is_gt (cmp x y) ≡ false) ys → with_inserted cmp x ys ≡ x ∷ ys
+  stays_first x [] h = refl
+  stays_first x (y ∷ ys) h = ap (λ b. cond b (y ∷ with_inserted cmp x ys) (x ∷ (y ∷ ys))) (ap is_lt (order.antisymm y x) ∙ not_below (cmp x y) h.0)
+
+  stays : (xs : List A) → NeverFalls cmp xs → rising_list cmp xs ≡ xs
+  stays [] h = refl
+  stays (x ∷ xs) h = ap (with_inserted cmp x) (stays xs h.1) ∙ stays_first x xs h.0
+
+-- ---- numbers
+
+not_above : (m n : ℕ) → m ≤ n → is_gt (nat_cmp m n) ≡ false
+not_above m n low = by_ranked (m < n) (m ≡ n) (n < m) (nat_cmp m n) (ranked m n _ refl) (λ e _. ap is_gt e) (λ e _. ap is_gt e) (λ _ l. absurd (omega arith))
+
+module _ {A : Type 0} {cmp : A → A → Ordering} (order : IsTotalOrder cmp) (number : A → ℕ) (climbs : (a b : A) → is_gt (cmp a b) ≡ false → number a ≤ number b) where
+  numbers_never_fall : (xs : List A) → NeverFalls cmp xs → NeverFalls nat_cmp (map number xs)
+  numbers_never_fall [] h = tt
+  numbers_never_fall (x ∷ xs) h = (
+    all_map (λ y. is_gt (cmp x y) ≡ false) (λ n. is_gt (nat_cmp (number x) n) ≡ false) number xs (λ y e. not_above (number x) (number y) (climbs x y e)) h.0,
+    numbers_never_fall xs h.1,
+  )
+
+  -- sorted numbers are those of the sorted values
+  pub numbers_in_order : (xs : List A) (ns : List ℕ) → IsPermutation (map number xs) ns → IsSorted nat_cmp ns → ns ≡ map number (rising_list cmp xs)
+  numbers_in_order xs ns same sorted =
+      let all : Reordered ns (map number (rising_list cmp xs)) =
+      in_turn (reordered_back (permuted_reordered (map number xs) ns same)) (reordered_map number (reordered_rising cmp xs)) in
+      rising_from_sort nat_cmp nat_cmp_total ns ns sorted (λ z. refl)
+      ∙ (rising-reordered nat_cmp_total exact_unsigned all
+      ∙ stays nat_cmp_total (map number (rising_list cmp xs)) (numbers_never_fall (rising_list cmp xs) (rising_never_falls order xs)))
+
+-- ---- ranks
+
+module _ {K X : Type 0} {cmp : K → K → Ordering} (order : IsTotalOrder cmp) (key : X → K) where
+  below_too_at : (k l : K) (x : X) (o : Ordering) → cmp k l ≡ o → is_gt o ≡ false → is_lt (cmp (key x) k) ≡ true → is_lt (cmp (key x) l) ≡ true
+  below_too_at k l x Less is low below = ap is_lt (order.trans (key x) k l (is_less (cmp (key x) k) below) is)
+  below_too_at k l x Equal is low below = ap is_lt (sym (alike_right order k l (key x) is)) ∙ below
+  below_too_at k l x Greater is low below = cc
+
+  more_at : (p q : Bool) (x : X) (xs ys : List X) → (p ≡ true → q ≡ true) → length xs ≤ length ys → length (cond p (x ∷ xs) xs) ≤ length (cond q (x ∷ ys) ys)
+  more_at true true x xs ys too low = omega arith
+  more_at true false x xs ys too low = let h : false ≡ true = too refl in cc
+  more_at false true x xs ys too low = omega arith
+  more_at false false x xs ys too low = low
+
+  -- how many have lesser keys never falls along the order of keys
+  pub ranks_climb : (k l : K) (xs : List X) → is_gt (cmp k l) ≡ false → length (filter (λ x. is_lt (cmp (key x) k)) xs) ≤ length (filter (λ x. is_lt (cmp (key x) l)) xs)
+  ranks_climb k l [] low = omega arith
+  ranks_climb k l (x ∷ xs) low =
+      more_at (is_lt (cmp (key x) k)) (is_lt (cmp (key x) l)) x (filter (λ x. is_lt (cmp (key x) k)) xs) (filter (λ x. is_lt (cmp (key x) l)) xs)
+      (below_too_at k l x (cmp k l) refl low) (ranks_climb k l xs low)

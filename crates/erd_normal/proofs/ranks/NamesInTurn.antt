@@ -1,0 +1,67 @@
+-- The names of the selections of a contest stand one after another among those of the report.
+use Rattle.std.proofs.Common.{◌≡◌, ◌<◌, ◌≤◌, ℕ, zero, suc, ◌+◌, List, [], ◌∷◌, ◌++◌, length, map, take, get_or, codes, Option, Some, None, option_and_then, option_map, slice_get, length-append, refl, sym, ap, ◌∙◌, subst, arith}
+use Rattle.std.proofs.lemmas.Grind.{flat_map-append}
+use Rattle.std.proofs.lemmas.List.{append-nil, take_more}
+use Rattle.std.proofs.lemmas.List.Folds.{length-flat_map-take}
+use Rattle.std.proofs.lemmas.Option.{slice_get-map, slice_get_within}
+use Rattle.std.specs.List.{flat_map}
+use Rattle.serde_json.specs.Data.{Data}
+use Rattle.erd_tables.specs.declared.class.Family.TheVariants as family
+use Rattle.erd_check.specs.Values.{entries_at}
+use Rattle.erd_meaning.proofs.accepted.References.{option_map-Some}
+use Rattle.erd_meaning.proofs.selections.NamesTold.{Numbered}
+use Rattle.erd_meaning.specs.Keys.{Preference}
+use Rattle.erd_meaning.specs.NameParts.{NameParts}
+use Rattle.erd_meaning.specs.Objects.{Placed, objects}
+use Rattle.erd_meaning.specs.SelectionNames.{name_of}
+use Rattle.erd_normal.proofs.lists.NumberedParts.{get_first, get_later}
+use Rattle.erd_normal.proofs.ranks.SelectionReferences.{numbered_at}
+use Rattle.erd_normal.specs.code.KeyRanks.{AreNamedFrom, name_in}
+
+-- what stands in one of several lists, among all of them
+part_at : {A B : Type 0} (f : A → List B) (xs : List A) (k : ℕ) (x : A) → k < length xs → x ≡ get_or xs k x → (j : ℕ) (y : B) → slice_get (f x) j ≡ Some y
+    → slice_get (flat_map f xs) (length (flat_map f (take k xs)) + j) ≡ Some y
+part_at f [] k x low here j y at = absurd (omega arith)
+part_at f (z ∷ xs) zero x low here j y at =
+    let there : slice_get (f z) j ≡ Some y = subst (λ w. slice_get (f w) j ≡ Some y) here at in
+    let count : 0 + j ≡ j = omega arith in
+    ap (slice_get (flat_map f (z ∷ xs))) count ∙ (get_first (f z) (flat_map f xs) j (slice_get_within (f z) j y there) ∙ there)
+part_at f (z ∷ xs) (suc k) x low here j y at =
+    let before = flat_map f (take k xs) in
+    let long : length (f z ++ before) ≡ length (f z) + length before = length-append (f z) before in
+    let count : length (f z ++ before) + j ≡ length (f z) + (length before + j) = omega (arith, long) in
+    get_later (f z) (flat_map f xs) (length (f z ++ before) + j) (length before + j) count ∙ part_at f xs k x (omega arith) here j y at
+
+-- where the next list begins
+pub starts_after : {A B : Type 0} (f : A → List B) (xs : List A) (k : ℕ) (x : A) → k < length xs → x ≡ get_or xs k x → length (flat_map f (take (k + 1) xs)) ≡ length (flat_map f (take k xs)) + length (f x)
+starts_after f xs k x low here =
+    ap (λ ys. length (flat_map f ys)) (take_more xs k x low)
+    ∙ (ap length (flat_map-append f (take k xs) (get_or xs k x ∷ []) ∙ ap (λ ys. flat_map f (take k xs) ++ ys) (append-nil (f (get_or xs k x))))
+    ∙ (length-append (flat_map f (take k xs)) (f (get_or xs k x))
+    ∙ ap (λ y. length (flat_map f (take k xs)) + length (f y)) (sym here)))
+
+-- and where it ends
+pub ends_within : {A B : Type 0} (f : A → List B) (xs : List A) (k : ℕ) (x : A) → k < length xs → x ≡ get_or xs k x → length (flat_map f (take k xs)) + length (f x) ≤ length (flat_map f xs)
+ends_within f xs k x low here = subst (λ y. length (flat_map f (take k xs)) + length (f y) ≤ length (flat_map f xs)) (sym here) (length-flat_map-take f xs k x low)
+
+module _ (π : Preference) (t : Data) where
+  second : (c : ℕ) (o : Option NameParts) → option_map (λ (s : ℕ × NameParts). s.1) (option_map (λ n. (c, n)) o) ≡ o
+  second c None = refl
+  second c (Some n) = refl
+
+  -- the name of the selection at a position
+  name_is : (i : ℕ) (d : Data) → slice_get (map (λ o. o.value) (objects family.Selection t)) i ≡ Some d → name_in π t i ≡ name_of π t d
+  name_is i d at =
+      let o = option_map-Some (λ (o : Placed). o.value) (slice_get (objects family.Selection t) i) d (sym (slice_get-map (λ (o : Placed). o.value) (objects family.Selection t) i) ∙ at) in
+      let s = numbered_at t i o.0 o.1 in
+      ap (λ x. option_map (λ (s : ℕ × NameParts). s.1) (option_and_then {T = Numbered} (λ s. option_map (λ n. (s.0, n)) (name_of π t s.1.value)) x)) s.1
+      ∙ (second s.0 (name_of π t o.0.value)
+      ∙ ap (name_of π t) o.2)
+
+  pub named_from : {V : Type 0} (value : V → Data) (vs : List V) → map (λ o. o.value) (objects family.Selection t) ≡ flat_map (λ v. entries_at (codes "ContestSelection") (value v)) vs
+      → (k : ℕ) (v : V) → k < length vs → v ≡ get_or vs k v
+      → AreNamedFrom π t (length (flat_map (λ v. entries_at (codes "ContestSelection") (value v)) (take k vs))) (entries_at (codes "ContestSelection") (value v))
+  named_from {V} value vs all k v low here j d at =
+      let selections : V → List Data = λ v. entries_at (codes "ContestSelection") (value v) in
+      let i = length (flat_map selections (take k vs)) + j in
+      name_is i d (ap (λ ds. slice_get ds i) all ∙ part_at selections vs k v low here j d at)

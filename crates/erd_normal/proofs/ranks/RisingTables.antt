@@ -1,0 +1,83 @@
+-- A table of values in the order of their keys gives the order of the values and the places of their keys.
+use Rattle.std.proofs.Common.{◌≡◌, ℕ, suc, ◌+◌, inl, inr, List, [], ◌∷◌, map, length, replicate, Some, Ordering, slice_get, refl, sym, ap, ◌∙◌, arith}
+use Rattle.std.proofs.lemmas.List.{length-map}
+use Rattle.std.specs.Cmp.{IsTotalOrder}
+use Rattle.serde_json.specs.Data.{Data}
+use Rattle.erd_check.proofs.Order.{In}
+use Rattle.erd_meaning.proofs.orders.RisingLists.{rising_list_map}
+use Rattle.erd_meaning.specs.SelectionNames.{rising_list}
+use Rattle.erd_normal.proofs.lists.RisingSets.{In-rising}
+use Rattle.erd_normal.proofs.lists.StableRising.{by_first, map_after, map_back, rising_from_stable}
+use Rattle.erd_normal.specs.StableOrder.{IsStablySorted}
+use Rattle.erd_normal.specs.code.Building.{numbered}
+use Rattle.erd_normal.specs.code.KeyRanks.{keyed_from, keyed_value, places_by, places_of, positioned, rising_table}
+
+-- a key with its position, and a key with its value
+abbrev pub place_in : {K V : Type 0} → K × (ℕ × V) → K × ℕ
+place_in p = (p.0, p.1.0)
+
+abbrev value_in : {K V : Type 0} → K × (ℕ × V) → K × V
+value_in p = (p.0, p.1.1)
+
+module _ {K : Type 0} (cmp : K → K → Ordering) where
+  -- what is sorted is the table
+  pub table_made : {T : Type 0} (position : T → ℕ) (value : T → Data) (key : Data → K) → IsTotalOrder cmp → (old new : List (K × T)) (ds : List Data) → IsStablySorted cmp old new
+      → map (λ p. keyed_value p.0 (position p.1) (value p.1)) old ≡ keyed_from key 0 ds → map (λ p. keyed_value p.0 (position p.1) (value p.1)) new ≡ rising_table cmp key ds
+  table_made {T} position value key total old new ds sorted keyed =
+      ap (map (λ (p : K × T). keyed_value p.0 (position p.1) (value p.1))) (rising_from_stable cmp total old new sorted)
+      ∙ (rising_list_map (λ (p : K × T). keyed_value p.0 (position p.1) (value p.1)) (by_first cmp) old
+      ∙ ap (rising_list (by_first cmp)) keyed)
+
+  module _ (key : Data → K) where
+    abbrev beside_key : Data → K × Data
+    beside_key d = (key d, d)
+
+    keyed_places : (i : ℕ) (ds : List Data) → map place_in (keyed_from key i ds) ≡ positioned i (map key ds)
+    keyed_places i [] = refl
+    keyed_places i (d ∷ ds) = ap (λ ps. (key d, i) ∷ ps) (keyed_places (i + 1) ds)
+
+    keyed_parts : (i : ℕ) (ds : List Data) → map value_in (keyed_from key i ds) ≡ map beside_key ds
+    keyed_parts i [] = refl
+    keyed_parts i (d ∷ ds) = ap (λ ps. (key d, d) ∷ ps) (keyed_parts (i + 1) ds)
+
+    -- the places of the keys
+    pub places_in : (ds : List Data) → places_by (map place_in (rising_table cmp key ds)) ≡ places_of cmp (map key ds)
+    places_in ds = ap places_by (rising_list_map place_in (by_first cmp) (keyed_from key 0 ds) ∙ ap (rising_list (by_first cmp)) (keyed_places 0 ds))
+
+    -- the values in their order
+    pub values_in : (ds : List Data) → map (λ (p : K × (ℕ × Data)). p.1.1) (rising_table cmp key ds) ≡ rising_list (λ a b. cmp (key a) (key b)) ds
+    values_in ds =
+        map_after value_in (λ (p : K × Data). p.1) (rising_table cmp key ds)
+        ∙ (ap (map (λ (p : K × Data). p.1))
+        (rising_list_map value_in (by_first cmp) (keyed_from key 0 ds) ∙ (ap (rising_list (by_first cmp)) (keyed_parts 0 ds) ∙ sym (rising_list_map beside_key (by_first cmp) ds)))
+        ∙ map_back beside_key (λ (p : K × Data). p.1) (rising_list (λ a b. cmp (key a) (key b)) ds) (λ a. refl))
+
+    keyed_stands : (n : ℕ) (ds : List Data) (p : K × (ℕ × Data)) → In p (keyed_from key n ds) → (j : ℕ) × (p.1.0 ≡ n + j) × (slice_get ds j ≡ Some p.1.1)
+    keyed_stands n [] p h = absurd h
+    keyed_stands n (d ∷ ds) p (inl e) = let first : n ≡ n + 0 = omega arith in (0, ap (λ x. x.1.0) (sym e) ∙ first, ap (λ x. Some x.1.1) e)
+    keyed_stands n (d ∷ ds) p (inr h) =
+        let rest = keyed_stands (n + 1) ds p h in
+        let next : n + 1 + rest.0 ≡ n + suc rest.0 = omega arith in
+        (suc rest.0, rest.1 ∙ next, rest.2)
+
+    -- each value stands at its position
+    pub stands_in : (ds : List Data) (p : K × (ℕ × Data)) → In p (rising_table cmp key ds) → slice_get ds p.1.0 ≡ Some p.1.1
+    stands_in ds p h =
+        let place = keyed_stands 0 ds p (In-rising (by_first cmp) p (keyed_from key 0 ds) h) in
+        let count : 0 + place.0 ≡ place.0 = omega arith in
+        ap (slice_get ds) (place.1 ∙ count) ∙ place.2
+
+    module _ {V : Type 0} (value : V → Data) (rising : List (K × (ℕ × V))) (ds : List Data) (is : map (λ p. keyed_value p.0 p.1.0 (value p.1.1)) rising ≡ rising_table cmp key ds) where
+      abbrev seen : K × (ℕ × V) → K × (ℕ × Data)
+      seen p = keyed_value p.0 p.1.0 (value p.1.1)
+
+      -- the values that stand in what is seen as the table
+      pub values_of : map (λ p. value p.1.1) rising ≡ rising_list (λ a b. cmp (key a) (key b)) ds
+      values_of = map_after seen (λ (p : K × (ℕ × Data)). p.1.1) rising ∙ (ap (map (λ (p : K × (ℕ × Data)). p.1.1)) is ∙ values_in ds)
+
+      -- the numbers that it gives
+      pub numbers_of : numbered 0 (map (λ p. (p.0, p.1.0)) rising) (replicate (length rising) 0) ≡ places_of cmp (map key ds)
+      numbers_of =
+          ap (λ n. numbered 0 (map place_in rising) (replicate n 0)) (sym (length-map rising (place_in {V = V})))
+          ∙ (ap places_by (map_after seen place_in rising ∙ ap (map place_in) is)
+          ∙ places_in ds)

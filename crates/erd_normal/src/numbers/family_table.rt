@@ -1,0 +1,41 @@
+ghost use Rattle.std.specs.Prelude.{◌≡◌, ◌<◌, ◌^◌, true, length, map, IfOk, OnOk};
+ghost use Rattle.serde_json.specs.View.{view};
+ghost use Rattle.erd_meaning.specs.Accepted.{IsAccepted};
+ghost use Rattle.erd_meaning.specs.Keys.{has_keys};
+ghost use Rattle.erd_meaning.specs.Objects.{objects};
+ghost use Rattle.erd_normal.specs.code.Building.{AreNumbers};
+ghost use Rattle.erd_normal.specs.code.KeyRanks.{keyed_value, rising_objects};
+
+use crate::numbers::numbers_by::numbers_by;
+use crate::numbers::rising_objects::rising_objects;
+use crate::order::lent_key::LentKey;
+use erd_meaning::Report;
+use erd_tables::Family;
+use serde_json::Value;
+use std::alloc::{AllocError, Global};
+
+/// The objects of a family in the order of their keys, each with its key and its position in the report; and the number of
+/// each object, by its position: its rank among the keys of the family, counted from 1.
+#[derive(Drop)]
+pub(crate) struct FamilyTable<'a> {
+    pub(crate) rising: Vec<(LentKey<'a>, (usize, &'a Value))>,
+    pub(crate) numbers: Vec<usize>,
+}
+
+/// The objects of a family in order, with their numbers. One sort gives both.
+pub(crate) fn family_table<'a>(
+    alloc: Global,
+    report: &'a Report<'a>,
+    family: Family,
+) -> Result<FamilyTable<'a>, AllocError>
+    requires accepted { IsAccepted report.now.prefer (view report.now.tree) }
+    requires keyed { has_keys family ≡ true }
+    ensures rising { IfOk result (λ table. map (λ p. keyed_value p.0 p.1.0 (view p.1.1.now)) table.rising.items
+        ≡ rising_objects report.now.prefer (view report.now.tree) family) }
+    ensures numbers { IfOk result (λ table. AreNumbers report.now.prefer (view report.now.tree) family table.numbers.items) }
+    ensures few { OnOk result (length (objects family (view report.now.tree)) < 2 ^ 64) }
+{
+    let rising = rising_objects(alloc, report, family)?;
+    let numbers = numbers_by(alloc, &rising)?;
+    Ok(FamilyTable { rising, numbers })
+}
