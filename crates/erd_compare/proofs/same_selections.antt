@@ -1,3 +1,3 @@
 pub mod MemberValues
-pub mod SameSelections
-pub mod FoundNames
+pub mod NameMaps
+pub mod SelectionWalks

@@ -6,3 +6,4 @@ pub mod ReferencedNames
 pub mod NamedKeySets
 pub mod EqualOptions
 pub mod KeyedKinds
+pub mod MeantValues

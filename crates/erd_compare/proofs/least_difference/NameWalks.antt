@@ -17,9 +17,8 @@ use Rattle.erd_check.specs.Values.{names}
 use Rattle.erd_check.proofs.Order.{In}
 use Rattle.erd_meaning.specs.Keys.{Preference}
 use Rattle.erd_meaning.specs.Records.{member_of_class}
-use Rattle.erd_meaning.proofs.meanings.WholeRecords.{absent_member}
 use Rattle.erd_compare.specs.Differences.{DifferFirstAt}
-use Rattle.erd_compare.specs.code.LeastNames.{DifferAtName, MemberMap, lesser_name, record_of_class}
+use Rattle.erd_compare.specs.code.LeastNames.{DifferAtName, lesser_name, record_of_class}
 use Rattle.erd_compare.specs.code.NamesInStep.{names_from, names_past}
 use Rattle.erd_compare.proofs.least_difference.StepWalks.{IsInStep, IsNoneBeside, NoneLess, all_left, below_head, equal_all, none_less-before, none_less-empty, none_less-head, pass_both, pass_left, pass_right, turned}
 
@@ -58,13 +57,13 @@ past_later : (k l : List ℕ) (ls : List (List ℕ)) → text_cmp k l ≡ Less �
 past_later k l ls low = ap (λ b. cond b ls (l ∷ ls)) (names_apart k l low)
 
 -- the lesser of the first names that are left: it can be passed by, no name that is left is less, and fewer are left after it
-pub record IsNextName (m n : MemberMap) (ls rs : List (List ℕ)) (k : List ℕ) : Type 0 where
+pub record IsNextName {V : Type 0} (m n : List ℕ → Option V) (ls rs : List (List ℕ)) (k : List ℕ) : Type 0 where
   pub pass : m k ≡ n k → IsInStep text_cmp m n (names_past k ls) (names_past k rs)
   pub left : NoneLess text_cmp k ls
   pub right : NoneLess text_cmp k rs
   pub fewer : length (names_past k ls) + length (names_past k rs) < length ls + length rs
 
-module _ (m n : MemberMap) where
+module _ {V : Type 0} (m n : List ℕ → Option V) where
   next_left : (k : List ℕ) (ls rs : List (List ℕ)) → IsInStep text_cmp m n (k ∷ ls) rs → AllByRecursion (λ l. text_cmp k l ≡ Less) rs → names_past k rs ≡ rs → NoneLess text_cmp k rs → IsNextName m n (k ∷ ls) rs k
   next_left k ls rs step below past none = record {
     pass = λ same. subst (IsInStep text_cmp m n (names_past k (k ∷ ls))) (sym past) (subst (λ xs. IsInStep text_cmp m n xs rs) (sym (past_first k ls)) (pass_left nat_list_cmp_total m n k ls rs step below same));
@@ -149,8 +148,8 @@ named k v (member l d ms) e = at (text_cmp k l) refl (named k v ms)
     at Equal is rest = inl (sym (exact_bytes k l is))
     at Greater is rest = inr (rest (rw is at e))
 
-none_beside : (π : Preference) (t d : Data) (c : Class) (ms : Members) → Some ms ≡ as_object d → (k : List ℕ) → IsNoneBeside (member_of_class π t d c) (names ms) k
-none_beside π t d c ms is k = at (get k d) refl
+none_beside : {V : Type 0} (m : List ℕ → Option V) (d : Data) (ms : Members) → Some ms ≡ as_object d → ((k : List ℕ) → get k d ≡ None → m k ≡ None) → (k : List ℕ) → IsNoneBeside m (names ms) k
+none_beside m d ms is absent k = at (get k d) refl
   where
     found : (d : Data) (v : Data) → Some ms ≡ as_object d → get k d ≡ Some v → get_member k ms ≡ Some v
     found null v e h = cc
@@ -160,8 +159,8 @@ none_beside π t d c ms is k = at (get k d) refl
     found (array ds) v e h = cc
     found (object ns) v e h = let same : ms ≡ ns = cc in subst (λ x. get_member k x ≡ Some v) (sym same) h
 
-    at : (o : Option Data) → get k d ≡ o → IsNoneBeside (member_of_class π t d c) (names ms) k
-    at None e = inl (absent_member π t d c k e)
+    at : (o : Option Data) → get k d ≡ o → IsNoneBeside m (names ms) k
+    at None e = inl (absent k e)
     at (Some v) e = inr (named k v ms (found d v is e))
 
 rise_in : (d : Data) (ms : Members) → IsTree d → Some ms ≡ as_object d → IsStrictlySortedBy text_cmp (names ms)
@@ -172,11 +171,11 @@ rise_in (string s) ms tree e = cc
 rise_in (array ds) ms tree e = cc
 rise_in (object ns) ms tree e = let same : ns ≡ ms = cc in names_rise ms (subst AreMembers same tree)
 
-pub both_objects : (π ρ : Preference) (t u d e : Data) (c : Class) (ms ns : Members) → IsTree d → IsTree e → Some ms ≡ as_object d → Some ns ≡ as_object e
-    → IsInStep text_cmp (member_of_class π t d c) (member_of_class ρ u e c) (names ms) (names ns)
-both_objects π ρ t u d e c ms ns mine its left right =
-    all_left nat_list_cmp_total (member_of_class π t d c) (member_of_class ρ u e c) (names ms) (names ns) (rise_in d ms mine left) (rise_in e ns its right)
-    (none_beside π t d c ms left) (none_beside ρ u e c ns right)
+-- maps of two objects, each of which has nothing where its object has no member
+pub both_objects : {V : Type 0} (m n : List ℕ → Option V) (d e : Data) (ms ns : Members) → IsTree d → IsTree e → Some ms ≡ as_object d → Some ns ≡ as_object e
+    → ((k : List ℕ) → get k d ≡ None → m k ≡ None) → ((k : List ℕ) → get k e ≡ None → n k ≡ None) → IsInStep text_cmp m n (names ms) (names ns)
+both_objects m n d e ms ns mine its left right absent absent' =
+    all_left nat_list_cmp_total m n (names ms) (names ns) (rise_in d ms mine left) (rise_in e ns its right) (none_beside m d ms left absent) (none_beside n e ns right absent')
 
 -- ---- what is told of the objects
 

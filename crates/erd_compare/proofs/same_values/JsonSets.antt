@@ -5,6 +5,8 @@ use Rattle.std.proofs.lemmas.Bool.{and_from, and_parts}
 use Rattle.std.specs.List.{list_all}
 use Rattle.serde_json.specs.Data.{Data}
 use Rattle.erd_check.specs.Trees.{is_same_json}
+use Rattle.erd_check.specs.ValueSets.{StandsFor, values_in}
+use Rattle.erd_check.specs.declared.value_set.ValueSet.{ValueSet}
 use Rattle.erd_check.proofs.Rising.{Has, here, later, all-Has}
 use Rattle.erd_meaning.specs.Records.{json_set}
 use Rattle.erd_meaning.proofs.orders.Sets.{any-has, has-any}
@@ -63,3 +65,7 @@ json_set-Decides ds es left right = (forward, λ same. and_from (list_all (json_
     forward h =
         let both = and_parts (list_all (json_set es) ds) (list_all (json_set ds) es) h in
         fun_ext (λ d. same_tests (json_set ds d) (json_set es d) (within ds es d (λ e. entry_in ds es e left right both.0)) (within es ds d (λ e. entry_in es ds e right left both.1)))
+
+-- a set that stands for values has what they have
+pub stands_for : (ds : List Data) (s : ValueSet) → StandsFor ds s → json_set (values_in s) ≡ json_set ds
+stands_for ds s h = fun_ext h

@@ -1,4 +1,4 @@
-ghost use Rattle.std.specs.Prelude.{◌≡◌};
+ghost use Rattle.std.specs.Prelude.{◌≡◌, IfOk};
 ghost use Rattle.serde_json.specs.View.{view};
 ghost use Rattle.erd_check.specs.Values.{entries_of};
 ghost use Rattle.erd_meaning.specs.Records.{is_in_envelope, json_set, plain_member, plain_value};
@@ -13,30 +13,32 @@ use crate::values::sets::{is_same_set, is_same_value};
 use erd_check::values::{entries_of, is_empty_array};
 use erd_tables::{Class, MemberKind, is_envelope, member_kind};
 use serde_json::Value;
+use std::alloc::{AllocError, Global};
 
 /// Whether members of one name, of two objects of one class, mean the same by themselves, which is without the objects that
 /// stand in them.
 pub(crate) fn is_same_plain_member(
+    alloc: Global,
     sides: Sides,
     class: Class,
     name: &str,
     one: &Value,
     other: &Value,
-) -> bool
+) -> Result<bool, AllocError>
     requires one { IsWholeTree (view one.now) }
     requires other { IsWholeTree (view other.now) }
-    ensures { Decides result (plain_member sides.entry.left.now.prefer (view sides.entry.left.now.tree) (view one.now) class name.now)
-        (plain_member sides.entry.right.now.prefer (view sides.entry.right.now.tree) (view other.now) class name.now) }
+    ensures { IfOk result (λ answer. Decides answer (plain_member sides.entry.left.now.prefer (view sides.entry.left.now.tree) (view one.now) class name.now)
+        (plain_member sides.entry.right.now.prefer (view sides.entry.right.now.tree) (view other.now) class name.now)) }
 {
     if is_in_envelope(class, name) {
-        return true;
+        return Ok(true);
     }
     let kind = member_kind(class, name);
     match (one.get(name), other.get(name)) {
-        (Some(one), Some(other)) => is_same_plain(sides, kind, one, other),
-        (Some(one), None) => means_nothing(kind, one),
-        (None, Some(other)) => means_nothing(kind, other),
-        (None, None) => true,
+        (Some(one), Some(other)) => is_same_plain(alloc, sides, kind, one, other),
+        (Some(one), None) => Ok(means_nothing(kind, one)),
+        (None, Some(other)) => Ok(means_nothing(kind, other)),
+        (None, None) => Ok(true),
     }
 }
 
@@ -51,45 +53,57 @@ fn is_in_envelope(class: Class, name: &str) -> bool
 }
 
 /// Whether two values of members of one kind mean the same by themselves.
-fn is_same_plain(sides: Sides, kind: MemberKind, one: &Value, other: &Value) -> bool
+fn is_same_plain(
+    alloc: Global,
+    sides: Sides,
+    kind: MemberKind,
+    one: &Value,
+    other: &Value,
+) -> Result<bool, AllocError>
     requires one { IsWholeTree (view one.now) }
     requires other { IsWholeTree (view other.now) }
     requires keyed { NamesKeys kind }
-    ensures { Decides result (plain_value sides.entry.left.now.prefer (view sides.entry.left.now.tree) kind (view one.now)) (plain_value sides.entry.right.now.prefer (view sides.entry.right.now.tree) kind (view other.now)) }
+    ensures { IfOk result (λ answer. Decides answer (plain_value sides.entry.left.now.prefer (view sides.entry.left.now.tree) kind (view one.now)) (plain_value sides.entry.right.now.prefer (view sides.entry.right.now.tree) kind (view other.now))) }
 {
     match (means_nothing(kind, one), means_nothing(kind, other)) {
-        (true, true) => true,
-        (false, false) => is_same_meant(sides, kind, one, other),
-        _ => false,
+        (true, true) => Ok(true),
+        (false, false) => is_same_meant(alloc, sides, kind, one, other),
+        _ => Ok(false),
     }
 }
 
 /// Whether two values of members of one kind, which both mean something, mean the same.
-fn is_same_meant(sides: Sides, kind: MemberKind, one: &Value, other: &Value) -> bool
+fn is_same_meant(
+    alloc: Global,
+    sides: Sides,
+    kind: MemberKind,
+    one: &Value,
+    other: &Value,
+) -> Result<bool, AllocError>
     requires one { IsWholeTree (view one.now) }
     requires other { IsWholeTree (view other.now) }
     requires keyed { NamesKeys kind }
-    ensures { Decides result (meant_value sides.entry.left.now.prefer (view sides.entry.left.now.tree) kind (view one.now)) (meant_value sides.entry.right.now.prefer (view sides.entry.right.now.tree) kind (view other.now)) }
+    ensures { IfOk result (λ answer. Decides answer (meant_value sides.entry.left.now.prefer (view sides.entry.left.now.tree) kind (view one.now)) (meant_value sides.entry.right.now.prefer (view sides.entry.right.now.tree) kind (view other.now))) }
 {
     match kind {
-        MemberKind::Label => is_same_label(one, other),
-        MemberKind::One(family) => is_same_reference(sides, family, one, other),
+        MemberKind::Label => is_same_label(alloc, one, other),
+        MemberKind::One(family) => Ok(is_same_reference(sides, family, one, other)),
         MemberKind::Many(family) => {
-            is_same_key_set(sides, family, entries_of(one), entries_of(other))
+            is_same_key_set(alloc, sides, family, entries_of(one), entries_of(other))
         }
-        MemberKind::Identifiers | MemberKind::Languages => is_same_array(one, other),
-        MemberKind::Content => is_same_content(sides, one, other),
-        _ => is_same_value(one, other),
+        MemberKind::Identifiers | MemberKind::Languages => is_same_array(alloc, one, other),
+        MemberKind::Content => Ok(is_same_content(sides, one, other)),
+        _ => Ok(is_same_value(one, other)),
     }
 }
 
 /// Whether two arrays are the same set of values.
-fn is_same_array(one: &Value, other: &Value) -> bool
+fn is_same_array(alloc: Global, one: &Value, other: &Value) -> Result<bool, AllocError>
     requires one { IsWholeTree (view one.now) }
     requires other { IsWholeTree (view other.now) }
-    ensures { Decides result (json_set (entries_of (view one.now))) (json_set (entries_of (view other.now))) }
+    ensures { IfOk result (λ answer. Decides answer (json_set (entries_of (view one.now))) (json_set (entries_of (view other.now)))) }
 {
-    is_same_set(entries_of(one), entries_of(other))
+    is_same_set(alloc, entries_of(one), entries_of(other))
 }
 
 /// Whether a value of this kind means nothing by itself: an empty array, or a value that holds objects.

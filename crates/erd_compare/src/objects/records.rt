@@ -113,7 +113,7 @@ fn is_same_member(
     if is_selections(member_kind(class, name)) {
         is_same_selections(alloc, sides, name, one, other)
     } else {
-        Ok(is_same_plain_member(sides, class, name, one, other))
+        is_same_plain_member(alloc, sides, class, name, one, other)
     }
 }
 

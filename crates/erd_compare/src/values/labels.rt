@@ -1,3 +1,4 @@
+ghost use Rattle.std.specs.Prelude.{IfOk};
 ghost use Rattle.serde_json.specs.View.{view};
 ghost use Rattle.erd_meaning.specs.Records.{label_of};
 ghost use Rattle.erd_compare.specs.code.Choices.{translated_label};
@@ -7,28 +8,32 @@ use crate::values::chosen_members::{Choice, is_same_choice};
 use crate::values::sets::is_same_set;
 use erd_check::values::{entries_at, text_of};
 use serde_json::Value;
+use std::alloc::{AllocError, Global};
 
 /// Whether two labels mean the same: one text, or the same translations with the same members beside them.
-pub(crate) fn is_same_label(one: &Value, other: &Value) -> bool
+pub(crate) fn is_same_label(alloc: Global, one: &Value, other: &Value) -> Result<bool, AllocError>
     requires one { IsWholeTree (view one.now) }
     requires other { IsWholeTree (view other.now) }
-    ensures { Decides result (label_of (view one.now)) (label_of (view other.now)) }
+    ensures { IfOk result (λ answer. Decides answer (label_of (view one.now)) (label_of (view other.now))) }
 {
     if one.is_object() && other.is_object() {
-        is_same_translated(one, other)
+        is_same_translated(alloc, one, other)
     } else if one.is_object() || other.is_object() {
-        false
+        Ok(false)
     } else {
-        text_of(one) == text_of(other)
+        Ok(text_of(one) == text_of(other))
     }
 }
 
 /// Whether two labels that are objects mean the same.
-fn is_same_translated(one: &Value, other: &Value) -> bool
+fn is_same_translated(alloc: Global, one: &Value, other: &Value) -> Result<bool, AllocError>
     requires one { IsWholeTree (view one.now) }
     requires other { IsWholeTree (view other.now) }
-    ensures { Decides result (translated_label (view one.now)) (translated_label (view other.now)) }
+    ensures { IfOk result (λ answer. Decides answer (translated_label (view one.now)) (translated_label (view other.now))) }
 {
-    is_same_choice(Choice::BesideText, one, Choice::BesideText, other)
-        && is_same_set(entries_at(one, "Text"), entries_at(other, "Text"))
+    if is_same_choice(Choice::BesideText, one, Choice::BesideText, other) {
+        is_same_set(alloc, entries_at(one, "Text"), entries_at(other, "Text"))
+    } else {
+        Ok(false)
+    }
 }

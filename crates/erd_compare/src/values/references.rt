@@ -1,5 +1,4 @@
-ghost use Rattle.std.specs.Prelude.{◌≡◌, ◌==◌, true, Some, map, option_and_then, option_map};
-ghost use Rattle.std.specs.List.{list_all};
+ghost use Rattle.std.specs.Prelude.{◌≡◌, ◌==◌, true, IfOk, map, option_and_then, option_map};
 ghost use Rattle.std.specs.Option.{option_copied};
 ghost use Rattle.serde_json.specs.Find.{as_str};
 ghost use Rattle.serde_json.specs.View.{view};
@@ -9,11 +8,14 @@ ghost use Rattle.erd_meaning.specs.Lookups.{selection_in};
 ghost use Rattle.erd_meaning.specs.Records.{key_set};
 ghost use Rattle.erd_meaning.specs.SelectionNames.{key_named, keys_named, name_named};
 ghost use Rattle.erd_compare.specs.code.Comparing.{Decides};
+ghost use Rattle.erd_compare.specs.code.KeySets.{IsKeySet};
 
 use crate::sides::Sides;
 use erd_meaning::{Key, Report, SelectionName};
 use erd_tables::Family;
 use serde_json::Value;
+use std::alloc::{AllocError, Global};
+use std::collections::BTreeSet;
 
 /// The key of the object of a family that a reference names.
 pub(crate) fn key_named<'a>(report: &'a Report, family: Family, value: &Value) -> Option<&'a Key>
@@ -75,57 +77,36 @@ pub(crate) fn is_same_reference(sides: Sides, family: Family, one: &Value, other
 
 /// Whether two lists of references to objects of a family name objects with the same set of keys.
 pub(crate) fn is_same_key_set(
+    alloc: Global,
     sides: Sides,
     family: Family,
     ones: &[Value],
     others: &[Value],
-) -> bool
+) -> Result<bool, AllocError>
     requires keyed { has_keys family ≡ true }
-    ensures { Decides result (key_set (keys_named sides.entry.left.now.prefer (view sides.entry.left.now.tree) family (map view ones.now)))
-        (key_set (keys_named sides.entry.right.now.prefer (view sides.entry.right.now.tree) family (map view others.now))) }
+    ensures { IfOk result (λ answer. Decides answer (key_set (keys_named sides.entry.left.now.prefer (view sides.entry.left.now.tree) family (map view ones.now)))
+        (key_set (keys_named sides.entry.right.now.prefer (view sides.entry.right.now.tree) family (map view others.now)))) }
 {
-    are_keys_among(sides.left, sides.right, family, ones, others)
-        && are_keys_among(sides.right, sides.left, family, others, ones)
+    let ones = named_keys(alloc, sides.left, family, ones)?;
+    let others = named_keys(alloc, sides.right, family, others)?;
+    Ok(ones == others)
 }
 
-/// Whether each key that one list of references names is named by one of the other list.
-fn are_keys_among(
-    left: &Report,
-    right: &Report,
+/// The keys that references to objects of a family name, each once, in their order.
+fn named_keys<'a>(
+    alloc: Global,
+    report: &'a Report,
     family: Family,
-    ones: &[Value],
-    others: &[Value],
-) -> bool
+    values: &[Value],
+) -> Result<BTreeSet<&'a Key>, AllocError>
     requires keyed { has_keys family ≡ true }
-    ensures { result ≡ list_all (key_set (keys_named right.now.prefer (view right.now.tree) family (map view others.now)))
-        (keys_named left.now.prefer (view left.now.tree) family (map view ones.now)) }
+    ensures { IfOk result (IsKeySet (keys_named report.now.prefer (view report.now.tree) family (map view values.now))) }
 {
-    for one in ones {
-        if let Some(key) = key_named(left, family, one) {
-            if !is_key_among(right, family, others, key) {
-                return false;
-            }
-        }
-    }
-    true
-}
-
-/// Whether one of the references names the object with the key.
-fn is_key_among(report: &Report, family: Family, values: &[Value], key: &Key) -> bool
-    requires keyed { has_keys family ≡ true }
-    ensures { result ≡ key_set (keys_named report.now.prefer (view report.now.tree) family (map view values.now)) key.now }
-{
+    let mut keys = BTreeSet::new(alloc);
     for value in values {
-        if is_key(key_named(report, family, value), key) {
-            return true;
+        if let Some(key) = key_named(report, family, value) {
+            keys.insert(key)?;
         }
     }
-    false
-}
-
-/// Whether what is named has the key.
-fn is_key(named: Option<&Key>, key: &Key) -> bool
-    ensures { Decides result (option_copied named.entry) (Some key.now) }
-{
-    named == Some(key)
+    Ok(keys)
 }

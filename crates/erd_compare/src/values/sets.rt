@@ -1,11 +1,13 @@
-ghost use Rattle.std.specs.Prelude.{◌≡◌, map};
+ghost use Rattle.std.specs.Prelude.{◌≡◌, map, IfOk};
 ghost use Rattle.std.specs.List.{AllByRecursion, list_all};
 ghost use Rattle.serde_json.specs.View.{view};
+ghost use Rattle.erd_check.specs.ValueSets.{values_in};
 ghost use Rattle.erd_meaning.specs.Records.{json_set};
 ghost use Rattle.erd_compare.specs.code.Comparing.{Decides, IsWholeTree};
 
-use erd_check::{is_among, same_json};
+use erd_check::{FEW_VALUES, ValueSet, is_among, same_json};
 use serde_json::Value;
+use std::alloc::{AllocError, Global};
 
 /// Whether two values are equal.
 pub(crate) fn is_same_value(one: &Value, other: &Value) -> bool
@@ -17,7 +19,24 @@ pub(crate) fn is_same_value(one: &Value, other: &Value) -> bool
 }
 
 /// Whether two lists are the same set of values.
-pub(crate) fn is_same_set(ones: &[Value], others: &[Value]) -> bool
+pub(crate) fn is_same_set(
+    alloc: Global,
+    ones: &[Value],
+    others: &[Value],
+) -> Result<bool, AllocError>
+    requires ones { AllByRecursion (λ v. IsWholeTree (view v)) ones.now }
+    requires others { AllByRecursion (λ v. IsWholeTree (view v)) others.now }
+    ensures { IfOk result (λ answer. Decides answer (json_set (map view ones.now)) (json_set (map view others.now))) }
+{
+    if ones.len() <= FEW_VALUES && others.len() <= FEW_VALUES {
+        Ok(is_same_few(ones, others))
+    } else {
+        is_same_many(alloc, ones, others)
+    }
+}
+
+/// The same of short lists, whose values are compared each with each, which takes no memory.
+fn is_same_few(ones: &[Value], others: &[Value]) -> bool
     requires ones { AllByRecursion (λ v. IsWholeTree (view v)) ones.now }
     requires others { AllByRecursion (λ v. IsWholeTree (view v)) others.now }
     ensures { Decides result (json_set (map view ones.now)) (json_set (map view others.now)) }
@@ -31,6 +50,33 @@ fn are_among(values: &[Value], others: &[Value]) -> bool
 {
     for value in values {
         if !is_among(value, others) {
+            return false;
+        }
+    }
+    true
+}
+
+/// The same of lists of any length, whose values are put in order.
+fn is_same_many<'a>(
+    alloc: Global,
+    ones: &'a [Value],
+    others: &'a [Value],
+) -> Result<bool, AllocError>
+    requires ones { AllByRecursion (λ v. IsWholeTree (view v)) ones.now }
+    requires others { AllByRecursion (λ v. IsWholeTree (view v)) others.now }
+    ensures { IfOk result (λ answer. Decides answer (json_set (map view ones.now)) (json_set (map view others.now))) }
+{
+    let left = ValueSet::of(alloc, ones)?;
+    let right = ValueSet::of(alloc, others)?;
+    Ok(are_in(ones, &right) && are_in(others, &left))
+}
+
+/// Whether each of the values is equal to one of a set.
+fn are_in<'a>(values: &'a [Value], set: &ValueSet<'a>) -> bool
+    ensures { result ≡ list_all (json_set (values_in set.now)) (map view values.now) }
+{
+    for value in values {
+        if !set.has(value) {
             return false;
         }
     }

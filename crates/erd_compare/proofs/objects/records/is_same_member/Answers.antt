@@ -1,14 +1,27 @@
 -- Members that are no selections mean what they do by themselves.
 use Rattle.std.proofs.Common.{sym, ap, ◌∙◌}
+use Rattle.std.proofs.lemmas.Result.{IfOk-weaker}
 use Rattle.serde_json.specs.Find.{get}
 use Rattle.serde_json.specs.View.{view}
 use Rattle.erd_tables.specs.Table.{kind_of_member}
+use Rattle.erd_meaning.specs.Records.{member_value, plain_member}
+use Rattle.erd_compare.specs.code.Comparing.{Decides}
 use Rattle.erd_compare.specs.code.SelectionMembers.{is_selections}
 use Rattle.erd_compare.proofs.same_selections.MemberValues.{other_kind-Decides}
 use Rattle.erd_compare.proofs.objects.records.is_same_member.Goals as goal
 
 pub returns-else-is_selections : goal.returns-else-is_selections
 returns-else-is_selections c =
-    other_kind-Decides c.args.sides.left.now.prefer c.args.sides.right.now.prefer c.is_same_plain_member.result (view c.args.sides.left.now.tree) (view c.args.sides.right.now.tree) (kind_of_member c.args.class c.args.name.now)
-    (get c.args.name.now (view c.args.one.now)) (get c.args.name.now (view c.args.other.now)) _ _
-    (ap is_selections (sym c.member_kind.ensures) ∙ sym c.is_selections.ensures ∙ c.if-is_selections.false) c.is_same_plain_member.ensures
+    let π = c.args.sides.left.now.prefer in
+    let ρ = c.args.sides.right.now.prefer in
+    let t = view c.args.sides.left.now.tree in
+    let u = view c.args.sides.right.now.tree in
+    let k = kind_of_member c.args.class c.args.name.now in
+    let name = c.args.name.now in
+    let found = get name (view c.args.one.now) in
+    let other = get name (view c.args.other.now) in
+    let p = plain_member π t (view c.args.one.now) c.args.class name in
+    let q = plain_member ρ u (view c.args.other.now) c.args.class name in
+    IfOk-weaker c.is_same_plain_member.result (λ answer. Decides answer p q) (λ answer. Decides answer (member_value π t k found p) (member_value ρ u k other q))
+    (λ answer h. other_kind-Decides π ρ answer t u k found other p q (ap is_selections (sym c.member_kind.ensures) ∙ sym c.is_selections.ensures ∙ c.if-is_selections.false) h)
+    c.is_same_plain_member.ensures

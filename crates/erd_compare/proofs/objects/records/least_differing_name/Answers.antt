@@ -2,6 +2,7 @@ use Rattle.std.proofs.Common.{◌+◌, ◌<◌, length, Some, None, true≢false
 use Rattle.serde_json.specs.View.{members_view, view}
 use Rattle.erd_tables.specs.Texts.{text_cmp}
 use Rattle.erd_meaning.specs.Records.{member_of_class}
+use Rattle.erd_meaning.proofs.meanings.WholeRecords.{absent_member}
 use Rattle.erd_compare.specs.code.LeastNames.{MemberMap}
 use Rattle.erd_compare.specs.code.NamesInStep.{names_left, names_past}
 use Rattle.erd_compare.proofs.least_difference.NameWalks.{both_objects, firsts_left, next_name, none_left}
@@ -19,8 +20,9 @@ loop-name-init c =
     let n : MemberMap = member_of_class ρ u (view c.args.other.now) c.args.class in
     subst (λ ls. IsInStep text_cmp m n ls (names_left c.of-others.result)) (sym c.of-ones.ensures)
     (subst (IsInStep text_cmp m n _) (sym c.of-others.ensures)
-    (both_objects π ρ t u (view c.args.one.now) (view c.args.other.now) c.args.class (members_view c.in-Some-Some.ones.now.entries) (members_view c.in-Some-Some.others.now.entries)
-    c.requires.one.is_tree c.requires.other.is_tree c.in-Some-Some.ensures c.in-Some-Some.ensures'))
+    (both_objects m n (view c.args.one.now) (view c.args.other.now) (members_view c.in-Some-Some.ones.now.entries) (members_view c.in-Some-Some.others.now.entries)
+    c.requires.one.is_tree c.requires.other.is_tree c.in-Some-Some.ensures c.in-Some-Some.ensures'
+    (absent_member π t (view c.args.one.now) c.args.class) (absent_member ρ u (view c.args.other.now) c.args.class)))
 
 pub returns-then-not-branch : goal.returns-then-not-branch
 returns-then-not-branch c =

@@ -1,5 +1,6 @@
 -- The members beside the translations, then the translations.
-use Rattle.std.proofs.Common.{Bool, codes, map, refl, subst}
+use Rattle.std.proofs.Common.{Bool, IfOk, codes, map, refl, ◌∙◌, subst}
+use Rattle.std.proofs.lemmas.Result.{IfOk-weaker}
 use Rattle.serde_json.specs.Data.{Data}
 use Rattle.serde_json.specs.View.{view}
 use Rattle.erd_check.specs.Trees.{are_same_members}
@@ -29,18 +30,20 @@ pub returns-then-is_same_choice : goal.returns-then-is_same_choice
 returns-then-is_same_choice c =
     let one = view c.args.one.now in
     let other = view c.args.other.now in
-    let sets : Decides c.is_same_set.result (json_set (entries_at (codes "Text") one)) (json_set (entries_at (codes "Text") other)) =
-    subst (λ x. Decides c.is_same_set.result (json_set x) (json_set (entries_at (codes "Text") other))) c.entries_at.ensures
-    (subst (λ x. Decides c.is_same_set.result (json_set (map view c.entries_at.result.now)) (json_set x)) c.entries_at-then-is_same_choice.ensures c.is_same_set.ensures) in
-    subst (λ (answer : Bool). Decides answer (translated_label one) (translated_label other))
-    (second_answer _ c.is_same_set.result _ c.is_same_set.result c.is_same_choice.ensures refl c.if-is_same_choice.true)
-    (translated-Decides _ c.is_same_set.result one other (same_beside one other c.requires.one c.requires.other) sets)
+    let texts = json_set (entries_at (codes "Text") one) in
+    let other_texts = json_set (entries_at (codes "Text") other) in
+    let sets : IfOk c.is_same_set.result (λ answer. Decides answer texts other_texts) =
+    subst (λ x. IfOk c.is_same_set.result (λ answer. Decides answer (json_set x) other_texts)) c.entries_at.ensures
+    (subst (λ x. IfOk c.is_same_set.result (λ answer. Decides answer (json_set (map view c.entries_at.result.now)) (json_set x))) c.entries_at-then-is_same_choice.ensures c.is_same_set.ensures) in
+    IfOk-weaker c.is_same_set.result (λ answer. Decides answer texts other_texts) (λ answer. Decides answer (translated_label one) (translated_label other))
+    (λ answer h. subst (λ (b : Bool). Decides b (translated_label one) (translated_label other)) (second_answer _ answer _ answer c.is_same_choice.ensures refl c.if-is_same_choice.true)
+    (translated-Decides _ answer one other (same_beside one other c.requires.one c.requires.other) h)) sets
 
 pub returns-else-is_same_choice : goal.returns-else-is_same_choice
 returns-else-is_same_choice c =
     let one = view c.args.one.now in
     let other = view c.args.other.now in
     subst (λ (answer : Bool). Decides answer (translated_label one) (translated_label other))
-    (first_answer _ _ _ c.is_same_choice.ensures c.if-is_same_choice.false)
+    (first_answer _ _ _ c.is_same_choice.ensures c.if-is_same_choice.false ∙ c.if-is_same_choice.false)
     (translated-Decides _ _ one other (same_beside one other c.requires.one c.requires.other)
     (json_set-Decides (entries_at (codes "Text") one) (entries_at (codes "Text") other) (whole_trees-entries_at (codes "Text") one c.requires.one) (whole_trees-entries_at (codes "Text") other c.requires.other)))

@@ -5,7 +5,7 @@ use Rattle.erd_meaning.specs.Records.{json_set}
 use Rattle.erd_compare.specs.code.Comparing.{Decides}
 use Rattle.erd_compare.proofs.same_values.JsonSets.{first_answer, json_set-Decides, second_answer}
 use Rattle.erd_compare.proofs.whole_trees.WholeTrees.{whole_trees-views}
-use Rattle.erd_compare.proofs.values.sets.is_same_set.Goals as goal
+use Rattle.erd_compare.proofs.values.sets.is_same_few.Goals as goal
 
 pub returns-then-are_among : goal.returns-then-are_among
 returns-then-are_among c =

@@ -1,0 +1,9 @@
+use Rattle.std.proofs.Common.{sym}
+use Rattle.serde_json.specs.View.{view}
+use Rattle.erd_compare.proofs.same_values.MeantValues.{meant-Decide}
+use Rattle.erd_compare.proofs.objects.plain_members.is_same_plain.Goals as goal
+
+pub returns-in-false-false : goal.returns-in-false-false
+returns-in-false-false c =
+    meant-Decide c.args.sides.left.now.prefer c.args.sides.right.now.prefer (view c.args.sides.left.now.tree) (view c.args.sides.right.now.tree) c.args.kind (view c.args.one.now) (view c.args.other.now) c.is_same_meant.result
+    (sym c.in-false-false.ensures) (sym c.in-false-false.ensures') c.is_same_meant.ensures
