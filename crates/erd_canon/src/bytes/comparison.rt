@@ -1,12 +1,17 @@
-ghost use Rattle.std.specs.Prelude.{◌≡◌, IfErr, IfOk, None};
+ghost use Rattle.std.specs.Prelude.{◌≡◌, ℕ, List, IfErr, IfOk, None};
 ghost use Rattle.std.specs.Option.{option_copied};
+ghost use Rattle.serde_json.specs.View.{view};
+ghost use Rattle.erd_check.specs.Trees.{IsShallow};
+ghost use Rattle.erd_meaning.specs.Keys.{Preference};
 ghost use Rattle.erd_canon.specs.ByteLaws.{AgreesUnderEach};
+ghost use Rattle.erd_canon.specs.Bytes.{IsTreeOf};
 ghost use Rattle.erd_canon.specs.EngineTexts.{IsComparison};
-ghost use Rattle.erd_canon.specs.Refused.{RefusedSide};
+ghost use Rattle.erd_canon.specs.Refused.{IsSomeReport, RefusedSide};
 
 use crate::bytes::acceptance::{accepted, tree_of};
 use crate::bytes::refusal::{Refusal, Side};
 use erd_compare::{Difference, first_difference};
+use serde_json::Value;
 use std::alloc::Global;
 
 /// The first difference in what two reports mean, and none if and only if they mean the same; or which report is refused, and
@@ -35,12 +40,12 @@ pub fn compare_bytes_with(
     ensures agree { IfOk result (AgreesUnderEach left.now right.now) }
     ensures refused { IfErr result (RefusedSide (option_copied prefer.entry) left.now right.now) }
 {
-    let left_tree = tree_of(alloc, left).map_err(Side::Left)?;
+    let left_tree = left_tree_of(alloc, left)?;
     let left_report = match accepted(alloc, &left_tree, prefer) {
         Ok(report) => report,
         Err(error) => return Err(Side::Left(Refusal::from(error))),
     };
-    let right_tree = tree_of(alloc, right).map_err(Side::Right)?;
+    let right_tree = right_tree_of(alloc, right)?;
     let right_report = match accepted(alloc, &right_tree, prefer) {
         Ok(report) => report,
         Err(error) => return Err(Side::Right(Refusal::from(error))),
@@ -51,5 +56,29 @@ pub fn compare_bytes_with(
     match first_difference(alloc, &left_report, &right_report) {
         Ok(found) => Ok(found),
         Err(_) => Err(Side::Memory),
+    }
+}
+
+/// The tree that the bytes on the left are.
+fn left_tree_of(alloc: Global, left: &[u8]) -> Result<Value, Side>
+    ensures read { IfOk result (λ tree. IsTreeOf left.now (view tree)) }
+    ensures nests { IfOk result (λ tree. IsShallow (view tree)) }
+    ensures refused { IfErr result (λ side. (π : Preference) (right : List ℕ) → RefusedSide π left.now right side) }
+{
+    match tree_of(alloc, left) {
+        Ok(tree) => Ok(tree),
+        Err(refusal) => Err(Side::Left(refusal)),
+    }
+}
+
+/// The tree that the bytes on the right are.
+fn right_tree_of(alloc: Global, right: &[u8]) -> Result<Value, Side>
+    ensures read { IfOk result (λ tree. IsTreeOf right.now (view tree)) }
+    ensures nests { IfOk result (λ tree. IsShallow (view tree)) }
+    ensures refused { IfErr result (λ side. (π : Preference) (left : List ℕ) → IsSomeReport π left → RefusedSide π left right.now side) }
+{
+    match tree_of(alloc, right) {
+        Ok(tree) => Ok(tree),
+        Err(refusal) => Err(Side::Right(refusal)),
     }
 }

@@ -35,3 +35,13 @@ returns-clause-own c = is_its_own_form (option_copied c.args.prefer) c.args.byte
 
 pub returns-clause-rearranged : goal.returns-clause-rearranged
 returns-clause-rearranged c = same_form_when_rearranged (option_copied c.args.prefer) c.args.bytes.now c.in_ok-text.text.items (returns-clause-ok c)
+
+pub returns-in_err-form-clause-refused : goal.returns-in_err-form-clause-refused
+returns-in_err-form-clause-refused c =
+    let p = err_from_is_err_and c.from_residual-in_err-form.result c.from_residual-in_err-form.ensures.1 in
+    rw (p.1, p.2) tt
+
+pub returns-in_err-text-clause-refused : goal.returns-in_err-text-clause-refused
+returns-in_err-text-clause-refused c =
+    let p = err_from_is_err_and c.from_residual-in_err-text.result c.from_residual-in_err-text.ensures.1 in
+    rw (p.1, p.2) tt

@@ -1,5 +1,6 @@
 use Rattle.std.specs.Option.{option_copied}
-use Rattle.std.proofs.Common.{rules, ◌≡◌, ◌∙◌, sym, subst, ap}
+use Rattle.std.proofs.Common.{◌≡◌, ◌∙◌, sym, subst, ap}
+use Rattle.std.proofs.lemmas.Result.{err_from_is_err_and}
 use Rattle.serde_json.specs.View.{view}
 use Rattle.erd_meaning.specs.Keys.{Preference}
 use Rattle.erd_meaning.specs.Records.{meaning}
@@ -15,16 +16,16 @@ use Rattle.erd_canon.proofs.bytes.comparison.compare_bytes_with.Goals as goal
 pub returns-in-Err-clause-refused : goal.returns-in-Err-clause-refused
 returns-in-Err-clause-refused c =
     let tree = view c.in_ok-left_tree.left_tree in
-    let read : IsTreeOf c.args.left.now tree = search rules in
+    let read : IsTreeOf c.args.left.now tree = c.in_ok-left_tree.ensures.read in
     let gives : c.from.result ≡ refusal_for c.in-Err.error = c.from.ensures in
     subst (RefusedAs (option_copied c.args.prefer) c.args.left.now) (sym gives) (refused_tree (option_copied c.args.prefer) c.args.left.now tree c.in-Err.error read c.in-Err.ensures.refused)
 
 pub returns-in-Err-accepted-clause-refused : goal.returns-in-Err-accepted-clause-refused
 returns-in-Err-accepted-clause-refused c =
     let tree = view c.in_ok-left_tree.left_tree in
-    let read : IsTreeOf c.args.left.now tree = search rules in
+    let read : IsTreeOf c.args.left.now tree = c.in_ok-left_tree.ensures.read in
     let right_tree = view c.in_ok-right_tree.right_tree in
-    let right_read : IsTreeOf c.args.right.now right_tree = search rules in
+    let right_read : IsTreeOf c.args.right.now right_tree = c.in_ok-right_tree.ensures.read in
     let gives : c.from-in-Err-accepted.result ≡ refusal_for c.in-Err-accepted.error = c.from-in-Err-accepted.ensures in (
       (tree, record { read = read; accepted = c.in-Ok.ensures.accepted }),
       subst (RefusedAs (option_copied c.args.prefer) c.args.right.now) (sym gives) (refused_tree (option_copied c.args.prefer) c.args.right.now right_tree c.in-Err-accepted.error right_read c.in-Err-accepted.ensures.refused),
@@ -33,9 +34,9 @@ returns-in-Err-accepted-clause-refused c =
 pub returns-in-Ok-first_difference-clause-ok : goal.returns-in-Ok-first_difference-clause-ok
 returns-in-Ok-first_difference-clause-ok c =
     let left_tree = view c.in_ok-left_tree.left_tree in
-    let left_read : IsTreeOf c.args.left.now left_tree = search rules in
+    let left_read : IsTreeOf c.args.left.now left_tree = c.in_ok-left_tree.ensures.read in
     let right_tree = view c.in_ok-right_tree.right_tree in
-    let right_read : IsTreeOf c.args.right.now right_tree = search rules in
+    let right_read : IsTreeOf c.args.right.now right_tree = c.in_ok-right_tree.ensures.read in
     let found = c.in-Ok-first_difference.found in
     let one = view c.in-Ok.report.tree in
     let other = view c.in-Ok-accepted.report.tree in
@@ -48,9 +49,9 @@ returns-in-Ok-first_difference-clause-ok c =
 pub returns-in-Ok-first_difference-clause-agree : goal.returns-in-Ok-first_difference-clause-agree
 returns-in-Ok-first_difference-clause-agree c =
     let left_tree = view c.in_ok-left_tree.left_tree in
-    let left_read : IsTreeOf c.args.left.now left_tree = search rules in
+    let left_read : IsTreeOf c.args.left.now left_tree = c.in_ok-left_tree.ensures.read in
     let right_tree = view c.in_ok-right_tree.right_tree in
-    let right_read : IsTreeOf c.args.right.now right_tree = search rules in
+    let right_read : IsTreeOf c.args.right.now right_tree = c.in_ok-right_tree.ensures.read in
     let one : IsGiven (view c.tree-left.result.now) = record {
       is_tree = c.tree-left.ensures.is_tree;
       fits = c.tree-left.ensures.fits;
@@ -69,9 +70,21 @@ returns-in-Ok-first_difference-clause-agree c =
 pub returns-clause-refused : goal.returns-clause-refused
 returns-clause-refused c =
     let left_tree = view c.in_ok-left_tree.left_tree in
-    let left_read : IsTreeOf c.args.left.now left_tree = search rules in
+    let left_read : IsTreeOf c.args.left.now left_tree = c.in_ok-left_tree.ensures.read in
     let right_tree = view c.in_ok-right_tree.right_tree in
-    let right_read : IsTreeOf c.args.right.now right_tree = search rules in (
+    let right_read : IsTreeOf c.args.right.now right_tree = c.in_ok-right_tree.ensures.read in (
       (left_tree, record { read = left_read; accepted = c.in-Ok.ensures.accepted }),
       (right_tree, record { read = right_read; accepted = c.in-Ok-accepted.ensures.accepted }),
     )
+
+pub returns-in_err-left_tree-clause-refused : goal.returns-in_err-left_tree-clause-refused
+returns-in_err-left_tree-clause-refused c =
+    let p = err_from_is_err_and c.from_residual.result c.from_residual.ensures.1 in
+    rw (p.1, p.2) (c.in_err-left_tree.ensures.refused (option_copied c.args.prefer) c.args.right.now)
+
+pub returns-in_err-right_tree-clause-refused : goal.returns-in_err-right_tree-clause-refused
+returns-in_err-right_tree-clause-refused c =
+    let tree = view c.in_ok-left_tree.left_tree in
+    let p = err_from_is_err_and c.from_residual-in_err-right_tree.result c.from_residual-in_err-right_tree.ensures.1 in
+    rw (p.1, p.2)
+    (c.in_err-right_tree.ensures.refused (option_copied c.args.prefer) c.args.left.now (tree, record { read = c.in_ok-left_tree.ensures.read; accepted = c.in-Ok.ensures.accepted }))
