@@ -226,6 +226,8 @@ expect 'standard error closed, and needed' 3 "$work/empty" ''
 . tests/cli_rows.sh
 . tests/cli_preferences.sh
 . tests/cli_pairs.sh
+. tests/cli_rearranged.sh
+. tests/cli_many.sh
 
 # The vectors stand in three places.
 why=''

@@ -95,6 +95,82 @@ fn not_json(rt: HostRuntime) -> Result<(), Fail> {
     Ok(())
 }
 
+// By `check_bytes` alone, which takes the least time, the bytes are not JSON.
+fn is_no_json(alloc: Global, bytes: &[u8]) -> Result<(), Fail> {
+    let text = told_by_check_bytes(alloc, bytes)?;
+    if text.as_str() == NOT_JSON {
+        Ok(())
+    } else {
+        Err(Fail::from(text))
+    }
+}
+
+// A report that is cut short anywhere.
+#[test]
+fn cut_short(rt: HostRuntime) -> Result<(), Fail> {
+    let mut rest = SMALL_BALLOT.as_bytes();
+    for _ in 0..rest.len() {
+        let (_, shorter) = rest.split_last().ok_or("no bytes")?;
+        is_no_json(rt.alloc(), shorter)?;
+        rest = shorter;
+    }
+    Ok(())
+}
+
+// Only white space may stand around a report, and a byte order mark is none.
+#[test]
+fn more_than_a_report(rt: HostRuntime) -> Result<(), Fail> {
+    let alloc = rt.alloc();
+    for (before, after, wanted) in [
+        ("", "}", NOT_JSON),
+        ("\u{feff}", "", NOT_JSON),
+        ("", "\n", ACCEPTED),
+    ] {
+        let report = format!(in alloc; "{before}{ONE_UNIT}{after}")?;
+        alike(alloc, report.as_bytes(), wanted)?;
+    }
+    Ok(())
+}
+
+// The bytes with the one at this position replaced.
+fn with_byte(alloc: Global, bytes: &[u8], index: usize, to: u8) -> Result<Vec<u8>, Fail> {
+    let mut whole = Vec::new(alloc);
+    for (position, byte) in bytes.iter().enumerate() {
+        whole.push(if position == index { to } else { *byte })?;
+    }
+    Ok(whole)
+}
+
+// No text has the byte ff anywhere.
+#[test]
+fn a_byte_of_no_text(rt: HostRuntime) -> Result<(), Fail> {
+    let alloc = rt.alloc();
+    let bytes = ONE_UNIT.as_bytes();
+    for index in 0..bytes.len() {
+        let report = with_byte(alloc, bytes, index, b'\xff')?;
+        is_no_json(alloc, report.as_slice())?;
+    }
+    Ok(())
+}
+
+// The greatest whole number and the least are whole, and the next ones are not.
+#[test]
+fn largest_numbers(rt: HostRuntime) -> Result<(), Fail> {
+    let alloc = rt.alloc();
+    let not_whole = "/Big: not a whole number\n";
+    for (number, wanted) in [
+        ("18446744073709551615", ACCEPTED),
+        ("-9223372036854775808", ACCEPTED),
+        ("18446744073709551616", not_whole),
+        ("-9223372036854775809", not_whole),
+    ] {
+        let member = format!(in alloc; "{{\"Big\":{number},")?;
+        let report = edited(alloc, ONE_UNIT, "{", member.as_str())?;
+        alike(alloc, report.as_bytes(), wanted)?;
+    }
+    Ok(())
+}
+
 // A report may be nested as deep as `serde_json` reads: 127 arrays and objects.
 #[test]
 fn deepest_nesting(rt: HostRuntime) -> Result<(), Fail> {

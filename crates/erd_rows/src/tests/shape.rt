@@ -363,6 +363,12 @@ fn carried_members(rt: HostRuntime) -> Result<(), Fail> {
                 r#""@id":"u7","Text":[{"@type":7,"@id":"u7"}],"#,
                 "/GpUnit/0/Text/0/@id: carried identity\n",
             ),
+            (
+                ONE_UNIT,
+                r#""@id":"u7","#,
+                r#""@id":"u7","ContactInformation":{"a":[{"@id":"x"}]},"#,
+                "/GpUnit/0/ContactInformation/a/0/@id: carried identity\n",
+            ),
         ],
     )
 }

@@ -1,0 +1,76 @@
+"""Measures the built program on realistic reports of four sizes, and prints the tables of docs/PERFORMANCE.md.
+
+Each report is the county example, in which each object stands many times, with names and keys of its own. Beside `erd` run
+a proved program that only reads the file by serde_json and writes it again, `jq -S -c .` where there is a jq, and Python's
+json. RUNS is how often each is run; the least processor time counts.
+"""
+import math
+import os
+import shutil
+import subprocess
+import sys
+import tempfile
+
+from measuring import measured
+
+COPIES = [16, 64, 256, 960]
+ROUND_TRIP = "crates/round_trip/out/round_trip"
+PYTHON_ROUND_TRIP = """import json, sys
+with open(sys.argv[1], encoding="utf-8") as file:
+    report = json.load(file)
+sys.stdout.write(json.dumps(report, sort_keys=True, ensure_ascii=False, separators=(",", ":")))"""
+
+
+def report_of(copies, vendor, folder):
+    """The path of a larger report."""
+    path = os.path.join(folder, vendor + str(copies))
+    with open(path, "wb") as file:
+        subprocess.run([sys.executable, "tests/larger.py", str(copies), "examples/county." + vendor + ".json"], stdout=file, check=True)
+    return path
+
+
+def measure(copies, folder, runs):
+    """The size in MB, and for each program its time and memory."""
+    left, right = report_of(copies, "vendor-a", folder), report_of(copies, "vendor-b", folder)
+    found = {"read and write": measured([ROUND_TRIP], runs, [0], left)}
+    for words in (["check", left], ["canon", left], ["compare", left, right]):
+        found["erd " + words[0]] = measured(["./erd"] + words, runs, [0])
+    if shutil.which("jq"):
+        found["jq -S -c ."] = measured(["jq", "-S", "-c", ".", left], 1, [0])
+    found["Python's json"] = measured([sys.executable, "-c", PYTHON_ROUND_TRIP, left], 1, [0])
+    size = os.path.getsize(left)
+    os.remove(left)
+    os.remove(right)
+    return size, found
+
+
+def table(title, sizes, rows, number):
+    """Prints one table: a row for each program, a column for each size."""
+    print("| " + title + " | " + " | ".join("%.1f MB" % (size / 1e6) for size in sizes) + " |")
+    print("|---|" + "---:|" * len(sizes))
+    for name in rows[0]:
+        print("| " + name + " | " + " | ".join(number(index, name) for index in range(len(sizes))) + " |")
+    print()
+
+
+def main():
+    runs = int(os.environ.get("RUNS", "3"))
+    sizes, rows = [], []
+    with tempfile.TemporaryDirectory() as folder:
+        for copies in COPIES:
+            size, found = measure(copies, folder, runs)
+            sizes.append(size)
+            rows.append(found)
+    unit = "read and write"
+    table("Time over read and write", sizes, rows, lambda i, name: "%.2f" % (rows[i][name][0] / rows[i][unit][0]))
+    table("Peak memory over read and write", sizes, rows, lambda i, name: "%.2f" % (rows[i][name][1] / rows[i][unit][1]))
+    table("Processor time, seconds", sizes, rows, lambda i, name: "%.2f" % rows[i][name][0])
+    table("Peak memory, MB", sizes, rows, lambda i, name: "%.0f" % rows[i][name][1])
+    print("Exponent of growth of the time, from each size to the next, and from the first to the last:")
+    for name in rows[0]:
+        steps = [(i, i + 1) for i in range(len(sizes) - 1)] + [(0, len(sizes) - 1)]
+        grown = [math.log(rows[b][name][0] / max(rows[a][name][0], 0.001)) / math.log(sizes[b] / sizes[a]) for a, b in steps]
+        print("  " + name + ": " + ", ".join("%.2f" % exponent for exponent in grown))
+
+
+main()

@@ -1,0 +1,249 @@
+"""Measures the built program on reports that are meant to be slow, each at two sizes four times apart.
+
+Prints for each shape and each command the processor time at the larger size, and the exponent of growth. SIZE is the number
+of entries at the smaller size, or a part of it where an entry is large. Words are the names of the shapes to try.
+"""
+import json
+import math
+import os
+import sys
+import tempfile
+
+from measuring import run
+
+CLASS = "ElectionResults."
+
+
+def identifier(value, kind="local-level", **more):
+    return {"@type": CLASS + "ExternalIdentifier", "Type": kind, "Value": value, **more}
+
+
+def named(class_name, id, value, **more):
+    return {"@id": id, "@type": CLASS + class_name, "ExternalIdentifier": [identifier(value)], **more}
+
+
+def unit(id, value, **more):
+    return named("ReportingUnit", id, value, Type="county", **more)
+
+
+def language(content, name="en", **more):
+    return {"@type": CLASS + "LanguageString", "Language": name, "Content": content, **more}
+
+
+def label(texts):
+    return {"@type": CLASS + "InternationalizedText", "Text": texts}
+
+
+def report(units, **election):
+    return {
+        "@type": CLASS + "ElectionReport", "Status": "pre-election", "GpUnit": units,
+        "Election": [{"@type": CLASS + "Election", "Name": "Test", "Type": "general", "StartDate": "2026-11-03",
+                      "EndDate": "2026-11-03", "ElectionScopeId": "u0", **election}],
+    }
+
+
+def contest(selections, class_name="CandidateContest", **more):
+    if class_name == "CandidateContest":
+        more["VotesAllowed"] = 1
+    return named(class_name, "c", "C", Name="C", ElectionDistrictId="u0", ContestSelection=selections, **more)
+
+
+def selection(number, class_name, **more):
+    return {"@id": "s%d" % number, "@type": CLASS + class_name, **more}
+
+
+def style(number, content, **more):
+    return {"@type": CLASS + "BallotStyle", "ExternalIdentifier": [identifier("S%d" % number)], "GpUnitIds": ["u0"],
+            "OrderedContent": content, **more}
+
+
+def candidates(count, key="K%07d"):
+    return [named("Candidate", "k%d" % n, key % n, BallotName="Ann") for n in range(count)]
+
+
+ONE = [unit("u0", "U0")]
+
+
+def units_rising(n):
+    return report([unit("u%d" % i, "U%07d" % i) for i in range(n)])
+
+
+def units_falling(n):
+    return report([unit("u%d" % i, "U%07d" % (n - i)) for i in range(n)])
+
+
+def units_alike(n):
+    return report([unit("u%d" % i, "U" * 200 + "%07d" % (i * 7919 % n)) for i in range(n)])
+
+
+def candidate_selections(n):
+    chosen = [selection(i, "CandidateSelection", CandidateIds=["k%d" % i]) for i in range(n)]
+    return report(ONE, Candidate=candidates(n), Contest=[contest(chosen)])
+
+
+def write_ins(n):
+    chosen = [selection(i, "CandidateSelection", IsWriteIn=True, SequenceOrder=i) for i in range(n)]
+    return report(ONE, Contest=[contest(chosen)])
+
+
+def measure_texts(n):
+    chosen = [selection(i, "BallotMeasureSelection", Selection=label([language("Choice %d" % (n - i))])) for i in range(n)]
+    return report(ONE, Contest=[contest(chosen, "BallotMeasureContest")])
+
+
+def ordered_selections(n):
+    chosen = [selection(i, "CandidateSelection", IsWriteIn=True, SequenceOrder=i) for i in range(n)]
+    listed = {"@type": CLASS + "OrderedContest", "ContestId": "c", "OrderedContestSelectionIds": ["s%d" % i for i in range(n)]}
+    return report(ONE, Contest=[contest(chosen)], BallotStyle=[style(0, [listed])])
+
+
+def references(n):
+    units = [unit("u%d" % i, "U%07d" % i) for i in range(n)]
+    units[0]["ComposingGpUnitIds"] = ["u%d" % (i * 7919 % (n - 1) + 1) for i in range(n - 1)]
+    return report(units)
+
+
+def identifiers(n):
+    units = [unit("u0", "U0")]
+    units[0]["ExternalIdentifier"] = [identifier("U%07d" % (i * 7919 % n)) for i in range(n)]
+    return report(units)
+
+
+def translations(n):
+    texts = [language("Text %07d" % (i * 7919 % n), "l%d" % i) for i in range(n)]
+    return report(ONE, Contest=[contest([selection(0, "BallotMeasureSelection", Selection=label(texts))], "BallotMeasureContest")])
+
+
+def same_triples(n):
+    units = [unit("u0", "U0")]
+    units[0]["ExternalIdentifier"] = [identifier("U0", Label="L%07d" % (i * 7919 % n)) for i in range(n)]
+    return report(units)
+
+
+def unresolved(n):
+    return report([unit("u0", "U0", ComposingGpUnitIds=["w%d" % i for i in range(n)])])
+
+
+def repeated(n):
+    return report([unit("u0", "U0", ComposingGpUnitIds=["u1"] * n), unit("u1", "U1")])
+
+
+def foreign(n):
+    units = [unit("u0", "U0", ComposingGpUnitIds=["p%d" % i for i in range(n)])]
+    made = report(units)
+    made["Party"] = [named("Party", "p%d" % i, "P%07d" % i, Name="Blue") for i in range(n)]
+    return made
+
+
+def twins(n):
+    return report([unit("u%d" % i, "U0") for i in range(n)])
+
+
+def same_ids(n):
+    return report([unit("u0", "U%07d" % i) for i in range(n)])
+
+
+def chain(n):
+    return report([unit("u%d" % i, "U%07d" % i, **({"ComposingGpUnitIds": ["u%d" % (i + 1)]} if i + 1 < n else {})) for i in range(n)])
+
+
+def styles(n):
+    chosen = [selection(0, "CandidateSelection", IsWriteIn=True)]
+    listed = [{"@type": CLASS + "OrderedContest", "ContestId": "c"}] * 3
+    return report(ONE, Contest=[contest(chosen)], BallotStyle=[style(i, listed) for i in range(n)])
+
+
+def deep_headers(n):
+    made = report(ONE)
+    made["Header"] = [named("Header", "h", "H", Name="State")]
+    content = []
+    for _ in range(50):
+        content = [{"@type": CLASS + "OrderedHeader", "HeaderId": "h", **({"OrderedContent": content} if content else {})}]
+    made["Election"][0]["BallotStyle"] = [style(i, content) for i in range(max(n // 50, 1))]
+    return made
+
+
+def long_key(n):
+    made = candidates(1)
+    made[0]["ExternalIdentifier"][0]["Value"] = "K" * (n * 10)
+    chosen = [selection(i, "CandidateSelection", CandidateIds=["k0"], SequenceOrder=i) for i in range(max(n // 10, 1))]
+    return report(ONE, Candidate=made, Contest=[contest(chosen)])
+
+
+def empty_arrays(n):
+    return report([unit("u%d" % i, "U%07d" % i, ComposingGpUnitIds=[]) for i in range(n)])
+
+
+def moved(n):
+    right = units_rising(n)
+    right["GpUnit"].reverse()
+    return units_rising(n), right
+
+
+def nothing_common(n):
+    return report([unit("u%d" % i, "U%07d" % i) for i in range(n)]), report([unit("u%d" % i, "V%07d" % i) for i in range(n)])
+
+
+def last_differs(n):
+    right = units_rising(n)
+    right["GpUnit"][-1]["Type"] = "state"
+    return units_rising(n), right
+
+
+def every_second(n):
+    right = units_rising(n)
+    right["GpUnit"] = right["GpUnit"][::2]
+    return units_rising(n), right
+
+
+def long_references_moved(n):
+    right = references(n)
+    right["GpUnit"][0]["ComposingGpUnitIds"].reverse()
+    return references(n), right
+
+
+def selections_moved(n):
+    right = candidate_selections(n)
+    right["Election"][0]["Contest"][0]["ContestSelection"].reverse()
+    return candidate_selections(n), right
+
+
+SINGLE = [units_rising, units_falling, units_alike, candidate_selections, write_ins, measure_texts, ordered_selections, references,
+          identifiers, translations, same_triples, unresolved, repeated, foreign, twins, same_ids, chain, styles, deep_headers,
+          long_key, empty_arrays]
+PAIRS = [moved, nothing_common, last_differs, every_second, long_references_moved, selections_moved]
+
+
+def written(value, folder, name):
+    path = os.path.join(folder, name)
+    with open(path, "w", encoding="utf-8") as file:
+        json.dump(value, file)
+    return path
+
+
+def runs_of(shape, n, folder):
+    """The commands to measure on a shape, by their names."""
+    if shape in PAIRS:
+        left, right = shape(n)
+        return {"compare": ["./erd", "compare", written(left, folder, "left"), written(right, folder, "right")]}
+    path = written(shape(n), folder, "one")
+    return {"check": ["./erd", "check", path], "canon": ["./erd", "canon", path], "compare": ["./erd", "compare", path, path]}
+
+
+def main():
+    size = int(os.environ.get("SIZE", "5000"))
+    words = sys.argv[1:]
+    print("| Shape | Command | Seconds | Exponent |")
+    print("|---|---|---:|---:|")
+    with tempfile.TemporaryDirectory() as folder:
+        for shape in SINGLE + PAIRS:
+            if words and shape.__name__ not in words:
+                continue
+            small = {name: run(command) for name, command in runs_of(shape, size, folder).items()}
+            large = {name: run(command) for name, command in runs_of(shape, 4 * size, folder).items()}
+            for name in small:
+                exponent = math.log(max(large[name][0], 0.001) / max(small[name][0], 0.001)) / math.log(4)
+                print("| %s | %s | %.2f | %.2f |" % (shape.__name__, name, large[name][0], exponent), flush=True)
+
+
+main()

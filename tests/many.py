@@ -1,0 +1,129 @@
+"""Writes reports with many objects, and what is to be answered for them, made from the rules of docs/PROFILE.md.
+
+usage: many.py FOLDER
+
+For each NAME of a report FOLDER gets NAME.json and its canonical form NAME.canonical. For each pair it gets NAME.left,
+NAME.right and the answer NAME.answer.
+"""
+import json
+import os
+import sys
+
+CLASS = "ElectionResults."
+ENVELOPE = {
+    "Format": "summary-contest", "GeneratedDate": "2000-01-01T00:00:00Z", "Issuer": "canonical",
+    "IssuerAbbreviation": "canonical", "SequenceEnd": 1, "SequenceStart": 1, "VendorApplicationId": "canonical",
+}
+MANY = 2000
+
+
+def identifier(value):
+    return {"@type": CLASS + "ExternalIdentifier", "Type": "local-level", "Value": value}
+
+
+def unit(id, value, **more):
+    return {"@id": id, "@type": CLASS + "ReportingUnit", "Type": "county", "ExternalIdentifier": [identifier(value)], **more}
+
+
+def report(units, scope, **election):
+    return {
+        "@type": CLASS + "ElectionReport", "Status": "pre-election", "GpUnit": units,
+        "Election": [{"@type": CLASS + "Election", "Name": "Test", "Type": "general", "StartDate": "2026-11-03",
+                      "EndDate": "2026-11-03", "ElectionScopeId": scope, **election}],
+    }
+
+
+def canonical(units, scope, **election):
+    """The canonical bytes of a report whose parts are in canonical order. Texts here are ASCII and need no escape."""
+    return json.dumps({**report(units, scope, **election), **ENVELOPE}, sort_keys=True, separators=(",", ":"))
+
+
+def many_units():
+    added = [unit("w%d" % j, "N%d" % (10000 - j)) for j in range(1, MANY + 1)]
+    rising = [unit("gp%d" % n, "N%d" % (7999 + n)) for n in range(1, MANY + 1)]
+    last = "gp%d" % (MANY + 1)
+    return [unit("u7", "U1")] + added, canonical(rising + [unit(last, "U1")], last)
+
+
+def contest(id, district, selections):
+    return {"@id": id, "@type": CLASS + "CandidateContest", "ExternalIdentifier": [identifier("C1")], "Name": "Governor",
+            "ElectionDistrictId": district, "VotesAllowed": 1, "ContestSelection": selections}
+
+
+def candidate(id, value):
+    return {"@id": id, "@type": CLASS + "Candidate", "ExternalIdentifier": [identifier(value)], "BallotName": "Ann"}
+
+
+def selection(id, named):
+    return {"@id": id, "@type": CLASS + "CandidateSelection", "CandidateIds": [named]}
+
+
+def many_selections():
+    falling = [candidate("k%d" % j, "K%d" % (10000 - j)) for j in range(1, MANY + 1)]
+    rising = [candidate("ca%d" % n, "K%d" % (7999 + n)) for n in range(1, MANY + 1)]
+    given = [selection("s%d" % j, "k%d" % j) for j in range(1, MANY + 1)]
+    wanted = [selection("cs1-%d" % n, "ca%d" % n) for n in range(1, MANY + 1)]
+    left = report([unit("u7", "U1")], "u7", Candidate=falling, Contest=[contest("c", "u7", given)])
+    return left, canonical([unit("gp1", "U1")], "gp1", Candidate=rising, Contest=[contest("co1", "gp1", wanted)])
+
+
+def style(units):
+    return {"@type": CLASS + "BallotStyle", "ExternalIdentifier": [identifier("S1")], "GpUnitIds": units}
+
+
+def many_references():
+    units = [unit("w%d" % j, "N%d" % (10000 - j)) for j in range(1, MANY + 1)]
+    rising = [unit("gp%d" % n, "N%d" % (7999 + n)) for n in range(1, MANY + 1)]
+    given = style(["w%d" % (j * 7 % MANY + 1) for j in range(MANY)])
+    wanted = style(["gp%d" % n for n in range(1, MANY + 1)])
+    return report(units, "w1", BallotStyle=[given]), canonical(rising, "gp%d" % MANY, BallotStyle=[wanted])
+
+
+def many_identifiers():
+    values = ["U%d" % n for n in range(100, 600)]
+    given, wanted = unit("u7", "U1"), unit("gp1", "U1")
+    given["ExternalIdentifier"] = [identifier(value) for value in reversed(values)]
+    wanted["ExternalIdentifier"] = [identifier(value) for value in values]
+    return report([given], "u7"), canonical([wanted], "gp1")
+
+
+def pairs(units):
+    """Pairs of reports with many units, and the first difference of each."""
+    left = report(units, "u7")
+    other_last = report([unit(u["@id"], "N9999x") if u["@id"] == "w1" else u for u in units], "u7")
+    all_other = report(units[:1] + [unit(u["@id"], u["ExternalIdentifier"][0]["Value"].replace("N", "M")) for u in units[1:]], "u7")
+    half = report([u for number, u in enumerate(units) if number % 2 == 0], "u7")
+    only = 'unit ["local-level","","%s"]: only %s'
+    return {
+        "last_keys_differ": (left, other_last, only % ("N9999", "left")),
+        "all_keys_differ": (left, all_other, only % ("M8000", "right")),
+        "every_second_is_lacking": (left, half, only % ("N8001", "left")),
+        "units_turned_round": (left, report(units[::-1], "u7"), "same"),
+    }
+
+
+def write(folder, name, text):
+    with open(os.path.join(folder, name), "w", encoding="utf-8") as file:
+        file.write(text if isinstance(text, str) else json.dumps(text))
+
+
+def main():
+    folder = sys.argv[1]
+    units, form = many_units()
+    reports = {
+        "many_units": (report(units, "u7"), form),
+        "many_units_turned_round": (report(units[::-1], "u7"), form),
+        "many_selections": many_selections(),
+        "many_references": many_references(),
+        "many_identifiers": many_identifiers(),
+    }
+    for name, (given, wanted) in reports.items():
+        write(folder, name + ".json", given)
+        write(folder, name + ".canonical", wanted)
+    for name, (left, right, answer) in pairs(units).items():
+        write(folder, name + ".left", left)
+        write(folder, name + ".right", right)
+        write(folder, name + ".answer", answer + "\n")
+
+
+main()
