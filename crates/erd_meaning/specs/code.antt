@@ -14,3 +14,4 @@ pub mod Held  -- what clauses see of a name that is held or lent
 pub mod Shown  -- what the program's own structs stand for
 pub mod ShownWalks  -- what clauses see of the walks
 pub mod Resolved  -- what holds of a report after each phase, and of an accepted one
+pub mod ResolvedIndexes  -- what a report holds beside its tree

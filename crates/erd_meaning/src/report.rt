@@ -34,16 +34,25 @@ use std::marker::Model;
 #[derive(Debug, Drop)]
 pub struct Report<'a> {
     tree: &'a Value,
-    objects: ObjectTable<'a>,
-    names: IndexSet<(usize, HeldName<'a>)>,
     prefer: Option<Text>,
+    // One entry. It stands in a vector, so that whoever lets a report go has little to show. A box is not lent for a
+    // shorter lifetime.
+    indexes: Vec<Indexes<'a>>,
+}
+
+/// The objects of a report, and the names of its selections, each with the position of its contest; both in the order of
+/// their places.
+#[derive(Debug, Drop)]
+pub(crate) struct Indexes<'a> {
+    pub(crate) objects: ObjectTable<'a>,
+    pub(crate) names: IndexSet<(usize, HeldName<'a>)>,
 }
 
 impl<'a> Model for Report<'a> {
     ghost use Rattle.std.specs.Coded.{codes};
     ghost use Rattle.serde_json.specs.contracts.value.Value as tree_value;
     ghost use Rattle.erd_meaning.specs.Judged.{Judged};
-    ghost use Rattle.erd_meaning.specs.code.Resolved.{IsResolved};
+    ghost use Rattle.erd_meaning.specs.code.ResolvedIndexes.{AreResolved};
 
     ghost Value = { Judged };
 
@@ -54,27 +63,34 @@ impl<'a> Model for Report<'a> {
       prefer = r.prefer;
     } };
 
-    ghost invariant = { λ r. IsResolved r.prefer r.tree.now r.objects r.names.keys };
+    ghost invariant = { λ r. AreResolved r.prefer r.tree.now r.indexes.items };
 }
 
 impl<'a> Report<'a> {
-    /// The report of this tree, with its objects and the names of its selections in the order of their places.
+    /// The report of this tree, with its indexes.
     pub(crate) fn of(
+        alloc: Global,
         tree: &'a Value,
-        objects: ObjectTable<'a>,
-        names: IndexSet<(usize, HeldName<'a>)>,
         prefer: Option<Text>,
-    ) -> Report<'a>
-        requires { IsResolved prefer tree.now objects names.keys }
-        ensures tree { result.tree ≡ tree.now }
-        ensures prefer { result.prefer ≡ prefer }
+        indexes: Indexes<'a>,
+    ) -> Result<Report<'a>, AllocError>
+        requires { IsResolved prefer tree.now indexes.objects indexes.names.keys }
+        ensures tree { IfOk result (λ r. r.tree ≡ tree.now) }
+        ensures prefer { IfOk result (λ r. r.prefer ≡ prefer) }
     {
-        Report {
+        let mut held = Vec::new(alloc);
+        held.push(indexes)?;
+        Ok(Report {
             tree,
-            objects,
-            names,
             prefer,
-        }
+            indexes: held,
+        })
+    }
+
+    fn indexes(&self) -> &Indexes<'a>
+        ensures { IsResolved self.now.prefer self.now.tree result.now.objects result.now.names.keys }
+    {
+        &self.indexes[0]
     }
 
     /// The report that was handed in. It is accepted; the names of each object in it rise, each number in it is whole and
@@ -88,7 +104,7 @@ impl<'a> Report<'a> {
         ensures bounded { IsBounded (view result.now) }
     {
         // read for `bounded`: the list of all objects has a length
-        let _count = self.objects.len();
+        let _count = self.indexes().objects.len();
         self.tree
     }
 
@@ -113,14 +129,14 @@ impl<'a> Report<'a> {
     pub fn count(&self, family: Family) -> usize
         ensures { result ≡ length (objects family (view self.now.tree)) }
     {
-        self.objects.count(family)
+        self.indexes().objects.count(family)
     }
 
     /// The object of the family at the position, if there is one.
     pub fn object(&self, family: Family, index: usize) -> Option<&'a Value>
         ensures { option_map (λ v. view v.now) result ≡ option_map (λ o. o.value) (slice_get (objects family (view self.now.tree)) index) }
     {
-        match self.objects.get(family, index) {
+        match self.indexes().objects.get(family, index) {
             Some(object) => Some(object.value),
             None => None,
         }
@@ -131,7 +147,7 @@ impl<'a> Report<'a> {
     pub fn key_at(&self, family: Family, index: usize) -> Option<&Key>
         ensures { option_copied result ≡ key_in self.now.prefer family (view self.now.tree) index }
     {
-        match self.objects.get(family, index) {
+        match self.indexes().objects.get(family, index) {
             Some(object) => object.shown_key(),
             None => None,
         }
@@ -141,21 +157,21 @@ impl<'a> Report<'a> {
     pub fn find(&self, family: Family, key: &Key) -> Option<usize>
         ensures { FindsKey self.now.prefer (view self.now.tree) family key.now result }
     {
-        self.objects.position_of_key(family, key)
+        self.indexes().objects.position_of_key(family, key)
     }
 
     /// The family and the position of the object with the `@id`, if there is one. No two objects have one `@id`.
     pub fn target(&self, id: &str) -> Option<(Family, usize)>
         ensures { FindsId (view self.now.tree) id.now result }
     {
-        self.objects.position_of_id(id)
+        self.indexes().objects.position_of_id(id)
     }
 
     /// The position of the contest of the selection at the position, and its name, if there is a selection.
     pub fn selection_at(&self, index: usize) -> Option<(usize, &SelectionName)>
         ensures { option_map (λ s. (s.0, s.1.now)) result ≡ selection_in self.now.prefer (view self.now.tree) index }
     {
-        let (contest, name) = self.names.get_index(index)?;
+        let (contest, name) = self.indexes().names.get_index(index)?;
         Some((*contest, name.name()))
     }
 
@@ -164,7 +180,9 @@ impl<'a> Report<'a> {
     pub fn find_selection(&self, contest: usize, name: &SelectionName) -> Option<usize>
         ensures { FindsSelection self.now.prefer (view self.now.tree) contest name.now result }
     {
-        self.names.get_index_of(&(contest, HeldName::lent(name)))
+        self.indexes()
+            .names
+            .get_index_of(&(contest, HeldName::lent(name)))
     }
 
     /// The name of a selection in this report, if it is of a class of selection.
@@ -180,6 +198,6 @@ impl<'a> Report<'a> {
             alloc,
             prefer: self.preference(),
         };
-        name_of_selection(&keys, &self.objects, selection)
+        name_of_selection(&keys, &self.indexes().objects, selection)
     }
 }

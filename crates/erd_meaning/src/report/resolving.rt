@@ -16,8 +16,8 @@ use crate::names::held_name::HeldName;
 use crate::names::selection_walk::{SelectionWalk, meet_selections};
 use crate::objects::object_walk::{ObjectWalk, meet_report};
 use crate::objects::table::ObjectTable;
-use crate::report::Report;
 use crate::report::reference_judge::reference_faults;
+use crate::report::{Indexes, Report};
 use erd_check::{CheckError, Shaped};
 use erd_tables::{FaultList, Text};
 use indexmap::IndexSet;
@@ -59,7 +59,7 @@ pub fn resolve_with<'a>(
     check_references(&keys, tree, &objects)?;
     let names = names_told_apart(&keys, tree, &objects)?;
     let kept = preference_of(&keys)?;
-    Ok(Report::of(tree, objects, names, kept))
+    Ok(Report::of(alloc, tree, kept, Indexes { objects, names })?)
 }
 
 /// A copy of the preference that keys are made under.

@@ -1,14 +1,10 @@
 use Rattle.std.proofs.Common.{sym, subst}
-use Rattle.erd_meaning.specs.Judged.{Judged}
 use Rattle.erd_meaning.specs.Lookups.{FindsId}
 use Rattle.serde_json.specs.View.{view}
-use Rattle.erd_meaning.specs.code.Resolved.{IsResolved}
 use Rattle.erd_meaning.proofs.finding.Found.{finds_id}
 use Rattle.erd_meaning.proofs.report.Report.target.Goals as goal
 
 pub returns : goal.returns
 returns c =
-    let resolved : IsResolved c.args.self.now.prefer c.args.self.now.tree c.self.inside.objects c.self.inside.names.keys =
-    subst (λ (r : Judged). IsResolved r.prefer r.tree c.self.inside.objects c.self.inside.names.keys) c.self.view_is c.self.invariant in
     subst (FindsId (view c.args.self.now.tree) c.args.id.now) (sym c.position_of_id.ensures)
-    (finds_id c.args.self.now.prefer c.args.self.now.tree c.self.inside.objects c.self.inside.names.keys c.args.id.now resolved)
+    (finds_id c.args.self.now.prefer c.args.self.now.tree c.indexes.result.now.objects c.indexes.result.now.names.keys c.args.id.now c.indexes.ensures)
