@@ -1,8 +1,8 @@
 """Writes reports with many objects, and what is to be answered for them, made from the rules of docs/PROFILE.md.
 
-usage: many.py FOLDER
+usage: many.py FOLDER [MANY]
 
-For each NAME of a report FOLDER gets NAME.json and its canonical form NAME.canonical. For each pair it gets NAME.left,
+There are MANY objects of a kind, or 2,000. For each NAME of a report FOLDER gets NAME.json and its canonical form NAME.canonical. For each pair it gets NAME.left,
 NAME.right and the answer NAME.answer.
 """
 import json
@@ -14,7 +14,9 @@ ENVELOPE = {
     "Format": "summary-contest", "GeneratedDate": "2000-01-01T00:00:00Z", "Issuer": "canonical",
     "IssuerAbbreviation": "canonical", "SequenceEnd": 1, "SequenceStart": 1, "VendorApplicationId": "canonical",
 }
-MANY = 2000
+MANY = int(sys.argv[2]) if len(sys.argv) > 2 else 2000
+# The values of the identifiers are LEAST to 9999.
+LEAST = 10000 - MANY
 
 
 def identifier(value):
@@ -40,7 +42,7 @@ def canonical(units, scope, **election):
 
 def many_units():
     added = [unit("w%d" % j, "N%d" % (10000 - j)) for j in range(1, MANY + 1)]
-    rising = [unit("gp%d" % n, "N%d" % (7999 + n)) for n in range(1, MANY + 1)]
+    rising = [unit("gp%d" % n, "N%d" % (LEAST - 1 + n)) for n in range(1, MANY + 1)]
     last = "gp%d" % (MANY + 1)
     return [unit("u7", "U1")] + added, canonical(rising + [unit(last, "U1")], last)
 
@@ -60,7 +62,7 @@ def selection(id, named):
 
 def many_selections():
     falling = [candidate("k%d" % j, "K%d" % (10000 - j)) for j in range(1, MANY + 1)]
-    rising = [candidate("ca%d" % n, "K%d" % (7999 + n)) for n in range(1, MANY + 1)]
+    rising = [candidate("ca%d" % n, "K%d" % (LEAST - 1 + n)) for n in range(1, MANY + 1)]
     given = [selection("s%d" % j, "k%d" % j) for j in range(1, MANY + 1)]
     wanted = [selection("cs1-%d" % n, "ca%d" % n) for n in range(1, MANY + 1)]
     left = report([unit("u7", "U1")], "u7", Candidate=falling, Contest=[contest("c", "u7", given)])
@@ -73,7 +75,7 @@ def style(units):
 
 def many_references():
     units = [unit("w%d" % j, "N%d" % (10000 - j)) for j in range(1, MANY + 1)]
-    rising = [unit("gp%d" % n, "N%d" % (7999 + n)) for n in range(1, MANY + 1)]
+    rising = [unit("gp%d" % n, "N%d" % (LEAST - 1 + n)) for n in range(1, MANY + 1)]
     given = style(["w%d" % (j * 7 % MANY + 1) for j in range(MANY)])
     wanted = style(["gp%d" % n for n in range(1, MANY + 1)])
     return report(units, "w1", BallotStyle=[given]), canonical(rising, "gp%d" % MANY, BallotStyle=[wanted])
@@ -96,8 +98,8 @@ def pairs(units):
     only = 'unit ["local-level","","%s"]: only %s'
     return {
         "last_keys_differ": (left, other_last, only % ("N9999", "left")),
-        "all_keys_differ": (left, all_other, only % ("M8000", "right")),
-        "every_second_is_lacking": (left, half, only % ("N8001", "left")),
+        "all_keys_differ": (left, all_other, only % ("M%d" % LEAST, "right")),
+        "every_second_is_lacking": (left, half, only % ("N%d" % (LEAST + 1), "left")),
         "units_turned_round": (left, report(units[::-1], "u7"), "same"),
     }
 
