@@ -3,6 +3,7 @@ pub mod OneObject
 pub mod Lookups
 pub mod Found
 pub mod FoundSelections
+pub mod OwnedObjects  -- what an `@id` names is what is found by it
 pub mod OneFamily  -- an `@id` names an object of one family
 pub mod OwnedKeys  -- the test by which an index of keys is asked
 pub mod FoundWithId  -- what the index of `@id` texts leads to

@@ -2,4 +2,5 @@
 pub mod ReferenceFaultLists
 pub mod SelectionEntries
 pub mod ReferenceLookups
+pub mod SelectionsElsewhere
 pub mod ReferenceWalks

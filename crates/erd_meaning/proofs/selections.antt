@@ -2,6 +2,7 @@
 pub mod MetSelections
 pub mod NamesTold
 pub mod NumberedSelections
+pub mod NumberedObjects  -- the contests that stand before each selection
 pub mod SelectionFaults
 pub mod SelectionsMet
 pub mod WalkedNames

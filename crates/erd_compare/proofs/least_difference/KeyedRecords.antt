@@ -36,7 +36,7 @@ use Rattle.erd_compare.specs.code.KeyedDifferences.{HasKey, IsComparable, TellsA
 use Rattle.erd_compare.specs.declared.difference.How.{How}
 use Rattle.erd_compare.specs.declared.difference.How.TheVariants.{OnlyLeft, OnlyRight}
 use Rattle.erd_compare.proofs.least_difference.StepWalks.{IsNoneBeside}
-use Rattle.erd_compare.proofs.same_values.ReferencedKeys.{position_of}
+use Rattle.erd_meaning.proofs.finding.OwnedObjects.{position_of}
 use Rattle.erd_compare.proofs.whole_trees.FamilyTrees.{whole_object}
 
 -- what is made of a value

@@ -1,8 +1,6 @@
 -- The name of the selection that is found by an `@id` is the name that a reference names.
-use Rattle.std.proofs.Common.{◌≡◌, ◌==◌, ◌+◌, ◌++◌, ℕ, List, [], ◌∷◌, map, true, false, Option, Some, None, option_and_then, option_map, refl, sym, ap, ap₂, ◌∙◌}
-use Rattle.std.proofs.lemmas.List.{map-append}
-use Rattle.std.proofs.lemmas.Option.{slice_get-map}
-use Rattle.std.specs.List.{enumerate_from, flat_map, slice_get}
+use Rattle.std.proofs.Common.{◌≡◌, ◌==◌, ℕ, List, true, false, Option, Some, None, option_and_then, option_map, refl, sym, ap, ◌∙◌}
+use Rattle.std.specs.List.{slice_get}
 use Rattle.serde_json.specs.Data.{Data}
 use Rattle.erd_tables.specs.Classes.{family_number}
 use Rattle.erd_tables.specs.declared.class.Family.{Family}
@@ -11,25 +9,10 @@ use Rattle.erd_meaning.proofs.selections.NamesTold.{Numbered}
 use Rattle.erd_meaning.specs.Keys.{Preference}
 use Rattle.erd_meaning.specs.Lookups.{FindsId, selection_in}
 use Rattle.erd_meaning.specs.NameParts.{NameParts}
-use Rattle.erd_meaning.specs.Objects.{Placed, contests, numbered_selections, numbered_selections_of, objects, selections_of_contest}
+use Rattle.erd_meaning.specs.Objects.{Placed, numbered_selections}
 use Rattle.erd_meaning.specs.SelectionNames.{name_named, name_of}
-use Rattle.erd_compare.proofs.same_values.ReferencedKeys.{owner_elsewhere, owner_here, owner_nowhere}
-
--- ---- the selections of a report, without the numbers of their contests
-
-of_contest : (k : ℕ) (os : List Placed) → map {A = Numbered} (λ s. s.1) (map {B = Numbered} (λ o. (k, o)) os) ≡ os
-of_contest k [] = refl
-of_contest k (o ∷ os) = ap (λ xs. o ∷ xs) (of_contest k os)
-
-of_contests : (k : ℕ) (cs : List Placed) → map {A = Numbered} (λ s. s.1) (flat_map numbered_selections_of (enumerate_from k cs)) ≡ flat_map selections_of_contest cs
-of_contests k [] = refl
-of_contests k (c ∷ cs) =
-    map-append {A = Numbered} (λ s. s.1) (numbered_selections_of (k, c)) (flat_map numbered_selections_of (enumerate_from (k + 1) cs))
-    ∙ ap₂ ◌++◌ (of_contest k (selections_of_contest c)) (of_contests (k + 1) cs)
-
--- the selection at a position
-numbered_at : (t : Data) (i : ℕ) → option_map (λ (s : Numbered). s.1) (slice_get (numbered_selections t) i) ≡ slice_get (objects family.Selection t) i
-numbered_at t i = sym (slice_get-map {A = Numbered} (λ s. s.1) (numbered_selections t) i) ∙ ap (λ xs. slice_get xs i) (of_contests 0 (contests t))
+use Rattle.erd_meaning.proofs.finding.OwnedObjects.{owner_elsewhere, owner_here, owner_nowhere}
+use Rattle.erd_meaning.proofs.selections.NumberedSelections.{numbered_at}
 
 -- ---- its name
 

@@ -5,17 +5,20 @@ use Rattle.std.specs.Ordering.{is_eq}
 use Rattle.std.proofs.lemmas.Cmp.{tied_itself}
 use Rattle.std.proofs.lemmas.Option.{same_Some, some_pair_parts}
 use Rattle.std.proofs.lemmas.Slice.Eq.{bytes_eq-Decides}
+use Rattle.serde_json.specs.Data.{Data}
 use Rattle.serde_json.specs.View.{view}
 use Rattle.serde_json.specs.declared.value.Value.{Value}
 use Rattle.erd_tables.specs.declared.class.Family.{Family}
 use Rattle.erd_tables.specs.Classes.{family_number}
 use Rattle.erd_check.proofs.Order.{In, In-filter}
 use Rattle.erd_check.proofs.Reasons.{and_true, both_true}
+use Rattle.erd_check.specs.Faults.{NoneOf}
 use Rattle.erd_meaning.specs.Keys.{Preference}
+use Rattle.erd_meaning.specs.LaterFaults.{IdentityFault}
 use Rattle.erd_meaning.specs.Lookups.{FindsId, FindsKey, id_in, key_in}
 use Rattle.erd_meaning.specs.code.ObjectIndexes.{number_at, number_of_id, number_of_key, rank}
 use Rattle.erd_meaning.specs.code.ObjectLookups.{is_keyed, keeps_id, is_of_family, those_of}
-use Rattle.erd_meaning.specs.code.ObjectWalk.{Kept, same_id, same_key}
+use Rattle.erd_meaning.specs.code.ObjectWalk.{Kept, kept_objects, same_id, same_key}
 use Rattle.erd_meaning.specs.code.Resolved.{IsResolved}
 use Rattle.erd_meaning.specs.code.Shown.{shown}
 use Rattle.erd_meaning.specs.declared.keys.key.Key.{Key}
@@ -23,7 +26,7 @@ use Rattle.erd_meaning.specs.code.SelectionWalk.{NumberedName}
 use Rattle.erd_meaning.specs.declared.objects.object.Object.{Object}
 use Rattle.erd_meaning.proofs.finding.OneObject.{hit, in_at, missed, one_id, one_key}
 use Rattle.erd_meaning.proofs.identity.IdentityFaults.{same_id_from, same_key_from}
-use Rattle.erd_meaning.proofs.finding.Lookups.{part_at, ranked}
+use Rattle.erd_meaning.proofs.finding.Lookups.{kept_part, part_at, ranked}
 use Rattle.erd_meaning.proofs.identity.ObjectFamilies.{itself}
 use Rattle.erd_meaning.specs.code.Orders.{key_cmp_total}
 
@@ -78,33 +81,35 @@ finds_key π v os ns f key r = at (position (is_keyed f key) (map shown os)) ref
 
 -- ---- by an `@id`
 
-id_missed : (π : Preference) (v : Value) (os : List Object) (ns : List NumberedName) (id : List ℕ) (f : Family) (j : ℕ) → IsResolved π v os ns
-    → position (keeps_id id) (map shown os) ≡ None → id_in f (view v) j ≡ Some id → ⊥
-id_missed π v os ns id f j r e there =
-    let ks = map shown os in
-    let s = standing (λ (k : Kept). k.id) ks f j id (part_at π (λ k. k.id) v os ns f j r ∙ there) in
+id_missed : (π : Preference) (t : Data) (id : List ℕ) (f : Family) (j : ℕ) → position (keeps_id id) (kept_objects π t) ≡ None → id_in f t j ≡ Some id → ⊥
+id_missed π t id f j e there =
+    let ks = kept_objects π t in
+    let s = standing (λ (k : Kept). k.id) ks f j id (kept_part π (λ k. k.id) f t j ∙ there) in
     let same : same_id s.one.id (Some id) ≡ true = ap (λ k. same_id k (Some id)) s.has ∙ (bytes_eq-Decides id id).1 refl in
     missed (keeps_id id) ks s.one e s.there same
 
-pub finds_id : (π : Preference) (v : Value) (os : List Object) (ns : List NumberedName) (id : List ℕ) → IsResolved π v os ns
-    → FindsId (view v) id (number_of_id (map shown os) id)
-finds_id π v os ns id r = at (position (keeps_id id) (map shown os)) refl
+pub finds_kept_id : (π : Preference) (t : Data) (id : List ℕ) → NoneOf (IdentityFault π t) → FindsId t id (number_of_id (kept_objects π t) id)
+finds_kept_id π t id none = at (position (keeps_id id) (kept_objects π t)) refl
   where
-    at : (o : Option ℕ) → position (keeps_id id) (map shown os) ≡ o → FindsId (view v) id (option_and_then (number_at (map shown os)) o)
-    at None e f j = (λ same. cc, λ there. absurd (id_missed π v os ns id f j r e there))
+    at : (o : Option ℕ) → position (keeps_id id) (kept_objects π t) ≡ o → FindsId t id (option_and_then (number_at (kept_objects π t)) o)
+    at None e f j = (λ same. cc, λ there. absurd (id_missed π t id f j e there))
     at (Some n) e g j =
-        let ks = map shown os in
+        let ks = kept_objects π t in
         let h = hit (keeps_id id) ks n e in
         let f = h.one.family in
         let i = rank f ks n in
         let found : number_at ks n ≡ Some (f, i) = ap (option_map {U = Family × ℕ} (λ (k : Kept). (k.family, rank k.family ks n))) h.at in
         let same = same_id_from h.one.id (Some id) h.passes in
-        let here : id_in f (view v) i ≡ Some id =
-        sym (part_at π (λ k. k.id) v os ns f i r) ∙ ap (option_and_then (λ (k : Kept). k.id)) (ranked f ks n h.one h.at (itself (family_number f))) ∙ same.1 ∙ sym same.2 in (
+        let here : id_in f t i ≡ Some id =
+        sym (kept_part π (λ k. k.id) f t i) ∙ ap (option_and_then (λ (k : Kept). k.id)) (ranked f ks n h.one h.at (itself (family_number f))) ∙ same.1 ∙ sym same.2 in (
           λ named.
               let parts = some_pair_parts f g i j (sym found ∙ named) in
-              subst (λ m. id_in g (view v) m ≡ Some id) parts.1 (subst (λ f. id_in f (view v) i ≡ Some id) parts.0 here),
+              subst (λ m. id_in g t m ≡ Some id) parts.1 (subst (λ f. id_in f t i ≡ Some id) parts.0 here),
           λ there.
-              let parts = one_id π (view v) id f g i j r.identified here there in
+              let parts = one_id π t id f g i j none here there in
               found ∙ ap₂ (λ f m. Some (f, m)) parts.0 parts.1,
         )
+
+pub finds_id : (π : Preference) (v : Value) (os : List Object) (ns : List NumberedName) (id : List ℕ) → IsResolved π v os ns
+    → FindsId (view v) id (number_of_id (map shown os) id)
+finds_id π v os ns id r = subst (λ (ks : List Kept). FindsId (view v) id (number_of_id ks id)) (sym r.kept) (finds_kept_id π (view v) id r.identified)

@@ -18,7 +18,7 @@ use Rattle.erd_meaning.proofs.identity.ObjectFamilies.{itself}
 
 -- ---- lists
 
-place_in : {A : Type 0} (x : A) (xs : List A) → In x xs → (i : ℕ) × (slice_get xs i ≡ Some x)
+pub place_in : {A : Type 0} (x : A) (xs : List A) → In x xs → (i : ℕ) × (slice_get xs i ≡ Some x)
 place_in x [] h = absurd h
 place_in x (y ∷ xs) (inl same) = (0, ap Some same)
 place_in x (y ∷ xs) (inr h) = let later = place_in x xs h in (suc later.0, later.1)

@@ -1,5 +1,5 @@
 -- What the indexes answer, once an object was added at the end.
-use Rattle.std.proofs.Common.{◌≡◌, ◌<◌, ◌+◌, ℕ, zero, suc, List, [], ◌∷◌, ◌++◌, length, cond, Bool, true, false, Option, Some, None, option_and_then, option_map, is_some, refl, sym, ap, ◌∙◌, subst, arith}
+use Rattle.std.proofs.Common.{◌≡◌, ◌<◌, ◌+◌, ℕ, zero, suc, List, [], ◌∷◌, ◌++◌, length, cond, Bool, true, false, Option, Some, None, option_and_then, option_map, is_some, refl, sym, ap, ◌∙◌, subst, append_assoc, append-nil, arith}
 use Rattle.std.specs.List.{position, position_from, slice_get}
 use Rattle.std.specs.Map.{lookup}
 use Rattle.std.specs.Option.{option_or}
@@ -8,7 +8,8 @@ use Rattle.std.proofs.lemmas.Iterator.Adapters.{position_from-zero}
 use Rattle.std.proofs.lemmas.List.{length_push, take-append-le}
 use Rattle.std.proofs.lemmas.Option.{slice_get_within}
 use Rattle.erd_tables.specs.declared.class.Family.{Family}
-use Rattle.erd_meaning.specs.code.ObjectIndexes.{number_at, number_of_id, number_of_key, places_from, rank, with_place}
+use Rattle.erd_tables.specs.declared.class.Family.TheVariants as family
+use Rattle.erd_meaning.specs.code.ObjectIndexes.{contests_before, contests_noted, number_at, number_of_id, number_of_key, places_from, rank, with_place}
 use Rattle.erd_meaning.specs.code.ObjectLookups.{is_keyed, is_of_family, keeps_id, those_of}
 use Rattle.erd_meaning.specs.code.ObjectWalk.{Kept}
 use Rattle.erd_meaning.specs.declared.keys.key.Key.{Key}
@@ -110,6 +111,20 @@ places_after f js (k ∷ ks) i = at (is_of_family f k) i
 
 pub places_get : (f : Family) (ks : List Kept) (i : ℕ) → option_and_then (slice_get ks) (slice_get (places_from f 0 ks) i) ≡ slice_get (those_of f ks) i
 places_get f ks i = places_after f [] ks i
+
+-- ---- the contests of selections
+
+pub before_push : (n : ℕ) (ks : List Kept) (k : Kept)
+    → contests_before n (ks ++ k ∷ []) ≡ contests_before n ks ++ contests_noted k.family (n + length (those_of family.Contest ks))
+before_push n [] k = let none : n + 0 ≡ n = omega arith in append-nil (contests_noted k.family n) ∙ ap (contests_noted k.family) (sym none)
+before_push n (l ∷ ks) k =
+    let m = cond (is_of_family family.Contest l) (n + 1) n in
+    ap (λ ns. contests_noted l.family n ++ ns) (before_push m ks k ∙ ap (λ i. contests_before m ks ++ contests_noted k.family i) (count (is_of_family family.Contest l)))
+    ∙ sym (append_assoc (contests_noted l.family n) (contests_before m ks) _)
+  where
+    count : (b : Bool) → cond b (n + 1) n + length (those_of family.Contest ks) ≡ n + length (cond b (l ∷ those_of family.Contest ks) (those_of family.Contest ks))
+    count true = omega arith
+    count false = refl
 
 -- ---- what is found
 

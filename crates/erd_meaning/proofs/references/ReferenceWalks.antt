@@ -1,5 +1,5 @@
 -- The walk that judges references tells exactly the faults of references.
-use Rattle.std.proofs.Common.{◌≡◌, ℕ, List, [], ◌∷◌, ◌++◌, filter, cond, codes, Bool, true, false, not, ◌&&◌, Option, Some, None, is_some, is_none, refl, sym, ap, ap₂, ◌∙◌, append-nil}
+use Rattle.std.proofs.Common.{◌≡◌, ℕ, List, [], ◌∷◌, ◌++◌, filter, cond, Bool, true, false, not, ◌&&◌, Option, Some, None, is_none, refl, sym, ap, ap₂, ◌∙◌, append-nil}
 use Rattle.std.specs.Option.{option_map_or}
 use Rattle.serde_json.specs.Data.{Data}
 use Rattle.serde_json.specs.Find.{as_str}
@@ -10,7 +10,6 @@ use Rattle.erd_tables.specs.declared.class.Role.TheVariants.{Report}
 use Rattle.erd_tables.specs.declared.fault.Reason.{Reason}
 use Rattle.erd_tables.specs.declared.fault.Reason.TheVariants.{Repeated, Unresolved, WrongFamily, SelectionOfOtherContest}
 use Rattle.erd_tables.specs.declared.place.Step.{Step}
-use Rattle.erd_check.specs.Values.{text_at}
 use Rattle.erd_check.specs.code.Walk.{asked_with, told_of_report, IsInOrder}
 use Rattle.erd_check.specs.Wants.{Asked}
 use Rattle.erd_check.specs.declared.want.Want.{Want}
@@ -18,12 +17,13 @@ use Rattle.erd_check.specs.declared.want.Want.TheVariants.{Object, Reference}
 use Rattle.erd_check.proofs.Walks.{walk_lists, Agrees, Around}
 use Rattle.erd_meaning.specs.Keys.{Preference}
 use Rattle.erd_check.specs.Faults.{NoneOf}
-use Rattle.erd_meaning.specs.LaterFaults.{IdentityFault, is_in_other_contest, is_other_selection, is_selection_in, ReferenceFault}
+use Rattle.erd_meaning.specs.LaterFaults.{IdentityFault, is_in_other_contest, is_other_selection, ReferenceFault}
 use Rattle.erd_meaning.specs.Objects.{is_owned, owner}
 use Rattle.erd_meaning.specs.code.ObjectWalk.{kept_objects}
 use Rattle.erd_meaning.specs.code.ReferenceReasons.{id_reasons, is_elsewhere, is_known, is_of_others, is_selection_family, reason_if, reference_reasons_told}
 use Rattle.erd_meaning.proofs.references.ReferenceFaultLists.{reference_reasons}
 use Rattle.erd_meaning.proofs.references.ReferenceLookups.{known_same, owner_same}
+use Rattle.erd_meaning.proofs.references.SelectionsElsewhere.{elsewhere_same}
 use Rattle.erd_meaning.proofs.references.SelectionEntries.{has_reference_fault, reasons_all, reasons_there}
 
 -- ---- at one place
@@ -56,11 +56,6 @@ all_told test =
     ∙ ap (λ rs. reason_if (test Repeated) Repeated ++ rs) (first_told Unresolved (test Unresolved) _
     ∙ ap (λ rs. reason_if (test Unresolved) Unresolved ++ rs) (first_told WrongFamily (test WrongFamily) _
     ∙ ap (λ rs. reason_if (test WrongFamily) WrongFamily ++ rs) (first_told SelectionOfOtherContest (test SelectionOfOtherContest) [] ∙ append-nil _)))
-
-elsewhere_same : (π : Preference) (t u : Data) (id : List ℕ) → NoneOf (IdentityFault π t) → is_elsewhere (kept_objects π t) u id ≡ is_in_other_contest t u id
-elsewhere_same π t u id none =
-    ap₂ (λ (a b : Option Data). is_some a && option_map_or (λ contest. not (is_selection_in contest id)) b false)
-    (owner_same π t family.Selection id none) (owner_same π t family.Contest (text_at (codes "ContestId") u) none)
 
 of_others_same : (π : Preference) (t : Data) (f : Family) (id : List ℕ) → NoneOf (IdentityFault π t) → is_of_others (kept_objects π t) f id ≡ (is_none (owner t f id) && is_owned t id)
 of_others_same π t f id none = ap₂ (λ (a : Option Data) (b : Bool). is_none a && b) (owner_same π t f id none) (known_same π t id)

@@ -1,15 +1,15 @@
 -- The selections of a report with the numbers of their contests: they rise by place, and a number names one contest.
-use Rattle.std.proofs.Common.{◌≡◌, ◌+◌, ℕ, suc, inl, inr, List, [], ◌∷◌, ◌++◌, map, Ordering, Less, Some, refl, sym, ap, ap₂, ◌∙◌, subst, arith}
+use Rattle.std.proofs.Common.{◌≡◌, ◌+◌, ℕ, suc, inl, inr, List, [], ◌∷◌, ◌++◌, map, Ordering, Less, Some, option_map, refl, sym, ap, ap₂, ◌∙◌, subst, arith}
 use Rattle.std.specs.List.{enumerate_from, flat_map, slice_get}
 use Rattle.std.specs.List.Sorted.{IsStrictlySortedBy}
 use Rattle.std.proofs.lemmas.List.{map-append}
-use Rattle.std.proofs.lemmas.Option.{same_Some}
+use Rattle.std.proofs.lemmas.Option.{same_Some, slice_get-map}
 use Rattle.serde_json.specs.Data.{Data}
 use Rattle.erd_tables.specs.declared.class.Family.TheVariants.{Selection}
 use Rattle.erd_check.proofs.FaultsAsked.{In-flat_map_from}
 use Rattle.erd_check.proofs.Order.{In, In-all, In-flat_map, In-map, In-map_from, all_from_In}
 use Rattle.erd_meaning.specs.Keys.{Preference}
-use Rattle.erd_meaning.specs.Objects.{Placed, contests, numbered_selections, numbered_selections_of, selections_of_contest}
+use Rattle.erd_meaning.specs.Objects.{Placed, contests, numbered_selections, numbered_selections_of, objects, selections_of_contest}
 use Rattle.erd_meaning.specs.code.ObjectWalk.{Located, located, located_one}
 use Rattle.erd_meaning.proofs.selections.NamesTold.{Numbered, in_places}
 use Rattle.erd_meaning.proofs.identity.ObjectFamilies.{located-append}
@@ -45,6 +45,22 @@ pub numbered_rising : (π : Preference) (t : Data) → IsStrictlySortedBy in_pla
 numbered_rising π t =
     sorted_from_map {A = Numbered} (located_selection π) in_places apart (λ x y l. before_apart (located_selection π x) (located_selection π y) l) (numbered_selections t)
     (subst (IsStrictlySortedBy apart) (sym (of_contests π 0 (contests t))) (family_apart π Selection t))
+
+-- ---- their positions
+
+placed_of_contest : (k : ℕ) (os : List Placed) → map {A = Numbered} (λ s. s.1) (map {B = Numbered} (λ o. (k, o)) os) ≡ os
+placed_of_contest k [] = refl
+placed_of_contest k (o ∷ os) = ap (λ xs. o ∷ xs) (placed_of_contest k os)
+
+placed_of_contests : (k : ℕ) (cs : List Placed) → map {A = Numbered} (λ s. s.1) (flat_map numbered_selections_of (enumerate_from k cs)) ≡ flat_map selections_of_contest cs
+placed_of_contests k [] = refl
+placed_of_contests k (c ∷ cs) =
+    map-append {A = Numbered} (λ s. s.1) (numbered_selections_of (k, c)) (flat_map numbered_selections_of (enumerate_from (k + 1) cs))
+    ∙ ap₂ ◌++◌ (placed_of_contest k (selections_of_contest c)) (placed_of_contests (k + 1) cs)
+
+-- the selection at a position
+pub numbered_at : (t : Data) (i : ℕ) → option_map (λ (s : Numbered). s.1) (slice_get (numbered_selections t) i) ≡ slice_get (objects Selection t) i
+numbered_at t i = sym (slice_get-map {A = Numbered} (λ s. s.1) (numbered_selections t) i) ∙ ap (λ xs. slice_get xs i) (placed_of_contests 0 (contests t))
 
 -- ---- their contests
 

@@ -1,10 +1,11 @@
 -- The indexes that the program keeps of the objects of a report. They are no definition of the profile.
-use Rattle.std.specs.Prelude.{◌==◌, ◌<◌, ◌+◌, ◌-◌, ℕ, List, [], ◌∷◌, ◌++◌, length, take, Option, option_and_then, option_map, if◌then◌else◌}
+use Rattle.std.specs.Prelude.{◌==◌, ◌<◌, ◌+◌, ◌-◌, ℕ, List, [], ◌∷◌, ◌++◌, length, take, Bool, false, Option, Some, None, option_and_then, option_map, if◌then◌else◌}
 use Rattle.std.specs.List.{position, slice_get}
 use Rattle.std.specs.Option.{option_map_or}
 use Rattle.std.specs.Prelude.{vec_len, vec_capacity}
 use Rattle.erd_tables.specs.Classes.{family_number}
 use Rattle.erd_tables.specs.declared.class.Family.{Family}
+use Rattle.erd_tables.specs.declared.class.Family.TheVariants as family
 use Rattle.erd_meaning.specs.code.ObjectLookups.{is_keyed, is_of_family, keeps_id, those_of}
 use Rattle.erd_meaning.specs.code.ObjectWalk.{Kept}
 use Rattle.erd_meaning.specs.declared.keys.key.Key.{Key}
@@ -46,3 +47,22 @@ number_of_id ks id = option_and_then (number_at ks) (position (keeps_id id) ks)
 -- the position in its family of the first object of the family with the key
 abbrev pub number_of_key : List Kept → Family → Key → Option ℕ
 number_of_key ks f key = option_map (rank f ks) (position (is_keyed f key) ks)
+
+-- ---- the contests of selections
+
+-- how many contests stand before an object, if it is a selection
+abbrev pub contests_noted : Family → ℕ → List ℕ
+contests_noted f n = if family_number f == family_number family.Selection then n ∷ [] else []
+
+-- how many contests stand before each selection, where n stand before the first object
+abbrev pub contests_before : ℕ → List Kept → List ℕ
+contests_before n [] = []
+contests_before n (k ∷ ks) = contests_noted k.family n ++ contests_before (if is_of_family family.Contest k then n + 1 else n) ks
+
+-- the selection at a position stands in the contest at a position, which is the last contest before it
+abbrev pub is_in_contest : List Kept → ℕ → ℕ → Bool
+is_in_contest ks contest selection = option_map_or (λ n. n == contest + 1) (slice_get (contests_before 0 ks) selection) false
+
+-- the position in the family of the first object with the `@id`, if that is of the family
+abbrev pub number_among : List Kept → Family → List ℕ → Option ℕ
+number_among ks f id = option_and_then (λ n. if family_number n.0 == family_number f then Some n.1 else None) (number_of_id ks id)

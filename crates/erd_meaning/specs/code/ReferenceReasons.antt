@@ -1,5 +1,5 @@
 -- The reasons of a reference as the program tells them, by look-ups among the objects that are kept: those of `ReferenceFault` (`ReferenceWalks`).
-use Rattle.std.specs.Prelude.{ℕ, List, [], ◌∷◌, ◌++◌, Bool, true, false, not, ◌&&◌, if◌then◌else◌, Option, option_map, is_some, is_none, codes}
+use Rattle.std.specs.Prelude.{ℕ, List, [], ◌∷◌, ◌++◌, Bool, true, false, not, ◌&&◌, if◌then◌else◌, Option, option_map, is_none, codes}
 use Rattle.std.specs.List.{list_any}
 use Rattle.std.specs.Option.{option_map_or}
 use Rattle.serde_json.specs.Data.{Data}
@@ -11,7 +11,7 @@ use Rattle.erd_tables.specs.declared.fault.Reason.TheVariants.{Repeated, Unresol
 use Rattle.erd_check.specs.Values.{text_at}
 use Rattle.erd_check.specs.declared.want.Want.{Want}
 use Rattle.erd_check.specs.declared.want.Want.TheVariants.{Reference}
-use Rattle.erd_meaning.specs.LaterFaults.{is_selection_in}
+use Rattle.erd_meaning.specs.code.ObjectIndexes.{is_in_contest, number_among}
 use Rattle.erd_meaning.specs.code.ObjectLookups.{keeps_id, object_among}
 use Rattle.erd_meaning.specs.code.ObjectWalk.{Kept}
 
@@ -34,11 +34,11 @@ abbrev pub is_selection_family : Family → Bool
 is_selection_family family.Selection = true
 is_selection_family f = false
 
--- a selection has the `@id`, but none of the contest that the object names, if it names one
+-- a selection has the `@id`, but it is not in the contest that the object names, if it names one
 abbrev pub is_elsewhere : List Kept → Data → List ℕ → Bool
 is_elsewhere ks d id =
-    is_some (owner_among ks family.Selection id)
-    && option_map_or (λ contest. not (is_selection_in contest id)) (owner_among ks family.Contest (text_at (codes "ContestId") d)) false
+    option_map_or (λ selection. option_map_or (λ contest. not (is_in_contest ks contest selection)) (number_among ks family.Contest (text_at (codes "ContestId") d)) false)
+    (number_among ks family.Selection id) false
 
 -- ---- at one place
 

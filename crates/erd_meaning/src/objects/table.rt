@@ -1,8 +1,8 @@
-ghost use Rattle.std.specs.Prelude.{◌≡◌, ◌<◌, ◌++◌, ◌∷◌, ℕ, List, [], length, map, option_map, slice_get, is_some, false, OnOk, OnErr, IfOk, if◌then◌else◌, Some, None};
+ghost use Rattle.std.specs.Prelude.{◌≡◌, ◌==◌, ◌<◌, ◌+◌, ◌++◌, ◌∷◌, ℕ, List, [], length, map, option_map, slice_get, is_some, false, OnOk, OnErr, IfOk, if◌then◌else◌, Some, None, vec_len, vec_capacity};
 ghost use Rattle.std.specs.Option.{option_map_or, option_or};
 ghost use Rattle.std.specs.Str.{bytes_eq};
 ghost use Rattle.indexmap.specs.IndexMap.{get_by, spare};
-ghost use Rattle.erd_meaning.specs.code.ObjectIndexes.{number_of_id, number_of_key};
+ghost use Rattle.erd_meaning.specs.code.ObjectIndexes.{contests_noted, is_in_contest, number_of_id, number_of_key};
 ghost use Rattle.erd_tables.specs.declared.class.Family.{Family};
 ghost use Rattle.erd_meaning.specs.code.Indexed.{same_owned};
 ghost use Rattle.std.specs.List.{list_any};
@@ -30,12 +30,14 @@ pub(crate) struct Earlier {
 }
 
 /// The objects of a report in the order of their places, indexed by family, by `@id` and by key. Contracts see the objects.
+/// Of each selection it is kept how many contests stand before it, the last of which is its own.
 ///
 /// Of several objects with one `@id`, or of one family with one key, the indexes hold the first.
 #[derive(Drop)]
 pub(crate) struct ObjectTable<'a> {
     objects: Vec<Object<'a>>,
     places: FamilyPlaces,
+    contests_before: Vec<usize>,
     ids: IndexMap<&'a str, (Family, usize)>,
     keys: IndexMap<(Family, Triple<'a>), usize>,
 }
@@ -60,6 +62,7 @@ impl<'a> Model for ObjectTable<'a> {
     ghost invariant = { λ t. IsIndexed
         (map shown t.objects.items)
         (list_of t.places)
+        t.contests_before.items
         (λ id. get_by (λ k. bytes_eq id k.now) t.ids)
         (λ f key. get_by (same_owned (f, key)) t.keys) };
 }
@@ -72,6 +75,7 @@ impl<'a> ObjectTable<'a> {
         ObjectTable {
             objects: Vec::new(alloc),
             places: FamilyPlaces::new(alloc),
+            contests_before: Vec::new(alloc),
             ids: IndexMap::new(alloc),
             keys: IndexMap::new(alloc),
         }
@@ -94,8 +98,11 @@ impl<'a> ObjectTable<'a> {
         self.objects.reserve(1)?;
         self.keys.reserve(1)?;
         self.places.reserve(family)?;
+        self.contests_before.reserve(1)?;
         let has_id = note_any_id(&mut self.ids, object.id, (family, number))?;
         let has_key = note_any_key(&mut self.keys, family, key, number);
+        let contests = self.places.of(Family::Contest).len();
+        note_contests(&mut self.contests_before, family, contests);
         self.places.push_reserved(family, place);
         self.objects.push_reserved(object);
         Ok(Earlier { has_key, has_id })
@@ -113,6 +120,16 @@ impl<'a> ObjectTable<'a> {
         ensures { result ≡ length (those_of family (map shown self.now)) }
     {
         self.places.of(family).len()
+    }
+
+    /// Whether the selection at a position among the selections stands in the contest at a position among the contests.
+    pub(crate) fn is_in_contest(&self, contest: usize, selection: usize) -> bool
+        ensures { result ≡ is_in_contest (map shown self.now) contest selection }
+    {
+        match self.contests_before.get(selection) {
+            Some(before) => is_next(contest, *before),
+            None => false,
+        }
     }
 
     /// The object at this position among those of the family.
@@ -161,6 +178,23 @@ impl<'a> fmt::Debug for ObjectTable<'a> {
     fn fmt<W: fmt::Write>(&self, f: &mut fmt::Formatter<W>) -> fmt::Result {
         f.debug_list().entries(self.objects.as_slice()).finish()
     }
+}
+
+/// Adds, of a selection, how many contests stand before it. There is room for it.
+fn note_contests(before: &mut Vec<usize>, family: Family, contests: usize)
+    requires { vec_len before.old < vec_capacity before.old }
+    ensures { before.new.items ≡ before.old.items ++ contests_noted family contests }
+{
+    if family == Family::Selection {
+        before.push_reserved(contests);
+    }
+}
+
+/// Whether the second number follows the first.
+fn is_next(number: usize, next: usize) -> bool
+    ensures { result ≡ (next == number + 1) }
+{
+    number < next && next - number == 1
 }
 
 /// Adds an `@id`, if there is one, as `note_id` does.

@@ -3,8 +3,8 @@ ghost use Rattle.serde_json.specs.View.{view};
 ghost use Rattle.erd_tables.specs.Faults.{ListsAll};
 ghost use Rattle.erd_check.specs.code.Paths.{steps_of};
 ghost use Rattle.erd_check.specs.code.Walk.{faults_of};
-ghost use Rattle.erd_meaning.specs.LaterFaults.{ReferenceFault, is_selection_in};
-ghost use Rattle.erd_meaning.specs.Objects.{has_id};
+ghost use Rattle.erd_meaning.specs.LaterFaults.{ReferenceFault};
+ghost use Rattle.erd_meaning.specs.code.ObjectIndexes.{number_among};
 ghost use Rattle.erd_meaning.specs.code.ObjectWalk.{kept_objects};
 ghost use Rattle.erd_meaning.specs.code.Resolved.{IsIdentified};
 ghost use Rattle.erd_meaning.specs.code.ReferenceReasons.{id_reasons, is_elsewhere, is_of_others, reason_if};
@@ -15,7 +15,7 @@ use crate::objects::lookup::owner_of;
 use crate::objects::table::ObjectTable;
 use erd_check::is_among;
 use erd_check::path::{Path, push_fault};
-use erd_check::values::{entries_at, text_at};
+use erd_check::values::text_at;
 use erd_check::visitor::{Position, Visit, Visitor};
 use erd_check::walk::walk_report;
 use erd_check::want::{Scope, Want};
@@ -128,32 +128,19 @@ fn is_of_others(objects: &ObjectTable, family: Family, id: &str) -> bool
 fn is_elsewhere(objects: &ObjectTable, object: &Value, id: &str) -> bool
     ensures { result ≡ is_elsewhere (map shown objects.now) (view object.now) id.now }
 {
-    if owner_of(objects, Family::Selection, id).is_none() {
+    let Some(selection) = position_of(objects, Family::Selection, id) else {
         return false;
-    }
-    match owner_of(objects, Family::Contest, text_at(object, "ContestId")) {
-        Some(contest) => !has_selection(contest, id),
+    };
+    match position_of(objects, Family::Contest, text_at(object, "ContestId")) {
+        Some(contest) => !objects.is_in_contest(contest, selection),
         None => false,
     }
 }
 
-/// Whether a selection of the contest has the `@id`.
-fn has_selection(contest: &Value, id: &str) -> bool
-    ensures { result ≡ is_selection_in (view contest.now) id.now }
+/// The position in the family of the object with the `@id`, if it is of the family.
+fn position_of(objects: &ObjectTable, family: Family, id: &str) -> Option<usize>
+    ensures { result ≡ number_among (map shown objects.now) family id.now }
 {
-    for selection in entries_at(contest, "ContestSelection") {
-        if has_id(selection, id) {
-            return true;
-        }
-    }
-    false
-}
-
-fn has_id(value: &Value, id: &str) -> bool
-    ensures { result ≡ has_id id.now (view value.now) }
-{
-    match value.get("@id").and_then(Value::as_str) {
-        Some(own) => id == own,
-        None => false,
-    }
+    let (own, index) = objects.position_of_id(id)?;
+    if own == family { Some(index) } else { None }
 }

@@ -4,15 +4,16 @@ use Rattle.std.specs.Map.{lookup}
 use Rattle.std.specs.Option.{option_map_or, option_or}
 use Rattle.std.proofs.lemmas.List.{length-map, map-append}
 use Rattle.erd_tables.specs.declared.class.Family.{Family}
+use Rattle.erd_tables.specs.declared.class.Family.TheVariants as family
 use Rattle.erd_meaning.specs.code.Indexed.{same_owned}
-use Rattle.erd_meaning.specs.code.ObjectIndexes.{number_of_id, number_of_key, places_from, with_place}
+use Rattle.erd_meaning.specs.code.ObjectIndexes.{contests_before, contests_noted, number_of_id, number_of_key, places_from, with_place}
 use Rattle.erd_meaning.specs.code.ObjectLookups.{keeps_id, those_of}
 use Rattle.erd_meaning.specs.code.ObjectWalk.{has_same_id, has_same_key}
 use Rattle.erd_meaning.specs.code.Shown.{shown}
 use Rattle.erd_meaning.specs.declared.keys.key.Key.{Key}
 use Rattle.erd_meaning.specs.declared.objects.object.Object.{Object}
 use Rattle.erd_meaning.proofs.finding.Known.{has_id_known, has_key_known, noted_any}
-use Rattle.erd_meaning.proofs.finding.Pushed.{number_of_id_push, number_of_key_push, places_length, places_push}
+use Rattle.erd_meaning.proofs.finding.Pushed.{before_push, number_of_id_push, number_of_key_push, places_length, places_push}
 use Rattle.erd_meaning.proofs.objects.table.ObjectTable.push.Goals as goal
 
 pub invariant_of-self-2 : goal.invariant_of-self-2
@@ -24,11 +25,16 @@ invariant_of-self-2 c =
     let all : map shown c.push_reserved-2.new.self.items ≡ ks ++ k ∷ [] =
     ap (map shown) (c.push_reserved-2.ensures.items ∙ ap (λ (js : List Object). js ++ c.args.object ∷ []) c.in_ok-reserve.ensures.items) ∙ map-append shown os (c.args.object ∷ []) in
     let count : length c.of-number.result.now ≡ length (those_of g ks) = ap length (c.of-number.ensures ∙ c.self.invariant.places_are g) ∙ places_length g 0 ks in
+    let contests : length c.of-contests.result.now ≡ 0 + length (those_of family.Contest ks) =
+    let met = ap length (c.of-contests.ensures ∙ c.in_ok-reserve-3.ensures.kept family.Contest ∙ c.self.invariant.places_are family.Contest) ∙ places_length family.Contest 0 ks in omega arith in
     let place : c.len-place.result ≡ 0 + length ks = let same : length ks ≡ length os = length-map os shown in omega arith in
     record {
       places_are = λ f.
           c.push_reserved.ensures f ∙ ap₂ (λ n ps. with_place g n f ps) place (c.in_ok-reserve-3.ensures.kept f ∙ c.self.invariant.places_are f)
           ∙ sym (places_push f 0 ks k) ∙ ap (places_from f 0) (sym all);
+      contests_are =
+          c.note_contests.ensures ∙ ap₂ (λ ns n. ns ++ contests_noted g n) (c.in_ok-reserve-4.ensures.items ∙ c.self.invariant.contests_are) contests
+          ∙ sym (before_push 0 ks k) ∙ ap (contests_before 0) (sym all);
       ids_are = λ id.
           c.in_ok-has_id.ensures.noted id
           ∙ ap₂ option_or (c.self.invariant.ids_are id) (ap (λ n. cond {A = Option (Family × ℕ)} (keeps_id id k) (Some (g, n)) None) count)

@@ -1,0 +1,70 @@
+-- What an `@id` names is the object that is found by it, if it is of the family that is asked for.
+use Rattle.std.proofs.Common.{◌≡◌, ◌==◌, ℕ, suc, List, [], ◌∷◌, true, false, true≢false, Option, Some, None, option_and_then, zero, refl, sym, ap, ◌∙◌, subst}
+use Rattle.std.proofs.lemmas.Option.{some_pair_parts}
+use Rattle.std.specs.List.{slice_get}
+use Rattle.serde_json.specs.Data.{Data}
+use Rattle.erd_tables.specs.Classes.{family_number}
+use Rattle.erd_tables.specs.declared.class.Family.{Family}
+use Rattle.erd_check.proofs.Rising.{Has, here, later}
+use Rattle.erd_meaning.proofs.identity.ObjectFamilies.{family_exact, itself}
+use Rattle.erd_meaning.proofs.finding.OneObject.{with_part}
+use Rattle.erd_meaning.proofs.accepted.References.{find-any, find-Some}
+use Rattle.erd_meaning.proofs.orders.Sets.{any-has}
+use Rattle.erd_meaning.proofs.accepted.Standing.{has_id-from, has_id-Some}
+use Rattle.erd_meaning.specs.Lookups.{FindsId, id_in}
+use Rattle.erd_meaning.specs.Objects.{Placed, has_id, id_of, objects, owner_at}
+
+-- ---- positions in lists
+
+pub has_at : {A : Type 0} (xs : List A) (i : ℕ) (x : A) → slice_get xs i ≡ Some x → Has xs x
+has_at [] i x e = cc
+has_at (y ∷ ys) zero x e = let same : y ≡ x = cc in subst (Has (y ∷ ys)) same here
+has_at (y ∷ ys) (suc i) x e = later (has_at ys i x e)
+
+-- an entry of a list stands at a position
+pub position_of : {A : Type 0} (xs : List A) (x : A) → Has xs x → (i : ℕ) × (slice_get xs i ≡ Some x)
+position_of xs x (here {xs = ys}) = (0, refl)
+position_of xs x (later {y = y} {xs = ys} h) = let r = position_of ys x h in (suc r.0, r.1)
+
+-- ---- the object that has the `@id`
+
+module _ (t : Data) (f : Family) (id : List ℕ) where
+  -- an object of the family that has the `@id` is found at its position
+  position_in : (o : Placed) → Has (objects f t) o → has_id id o.value ≡ true → (i : ℕ) × (slice_get (objects f t) i ≡ Some o) × (id_in f t i ≡ Some id)
+  position_in o h is =
+      let place = position_of (objects f t) o h in
+      (place.0, place.1, ap (option_and_then (λ (o : Placed). id_of o.value)) place.1 ∙ has_id-Some id o.value is)
+
+  -- an object of the family is found
+  pub owner_here : (g : Family) (i : ℕ) → FindsId t id (Some (g, i)) → (family_number g == family_number f) ≡ true → owner_at t f id ≡ slice_get (objects f t) i
+  owner_here g i finds same =
+      let one : g ≡ f = family_exact g f same in
+      let there : id_in f t i ≡ Some id = (finds f i).0 (ap (λ h. Some (h, i)) one) in
+      let o = with_part (λ o. id_of o.value) f t i id there in
+      let found = find-any (λ (o : Placed). has_id id o.value) (objects f t)
+      (any-has (λ (o : Placed). has_id id o.value) (objects f t) o.0.one (has_at (objects f t) i o.0.one o.0.at) (has_id-from id o.0.one.value o.1)) in
+      let place = position_in found.0 found.3 found.2 in
+      let parts = some_pair_parts g f i place.0 ((finds f place.0).1 place.2) in
+      found.1 ∙ sym (ap (slice_get (objects f t)) parts.1 ∙ place.1)
+
+  -- no object of the family has the `@id`
+  unowned : ((i : ℕ) → id_in f t i ≡ Some id → ⊥) → owner_at t f id ≡ None
+  unowned none = at (owner_at t f id) refl
+    where
+      at : (o : Option Placed) → owner_at t f id ≡ o → o ≡ None
+      at None e = refl
+      at (Some o) e =
+          let found = find-Some (λ (o : Placed). has_id id o.value) (objects f t) o e in
+          let place = position_in o found.0 found.1 in
+          absurd (none place.0 place.2)
+
+  -- an object of another family is found
+  pub owner_elsewhere : (g : Family) (i : ℕ) → FindsId t id (Some (g, i)) → (family_number g == family_number f) ≡ false → owner_at t f id ≡ None
+  owner_elsewhere g i finds other = unowned (λ j e.
+      let parts = some_pair_parts g f i j ((finds f j).1 e) in
+      let equal : (family_number g == family_number f) ≡ true = subst (λ h. (family_number g == family_number h) ≡ true) parts.0 (itself (family_number g)) in
+      true≢false (sym equal ∙ other))
+
+  -- no object is found
+  pub owner_nowhere : FindsId t id None → owner_at t f id ≡ None
+  owner_nowhere finds = unowned (λ j e. let none : None ≡ Some (f, j) = (finds f j).1 e in cc)
