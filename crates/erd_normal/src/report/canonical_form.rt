@@ -17,7 +17,7 @@ use std::alloc::{AllocError, Global};
 ///
 /// First the objects of each family are sorted by their keys, and the selections of each contest by their names. This gives
 /// their numbers and the order in which they are written. Then the tree is built in one pass, which sorts the entries of each
-/// set. Each text is copied into the tree once, but translations are copied twice.
+/// set. Each text is copied into the tree once.
 pub fn normal_tree(alloc: Global, report: &Report) -> Result<Value, AllocError>
     ensures canonical { IfOk result (λ tree. IsCanonicalFormOf report.now.prefer (view report.now.tree) (view tree)) }
     ensures unique { IfOk result (λ tree. (u : Data) → IsTree u → IsCanonicalFormOf report.now.prefer (view report.now.tree) u → u ≡ view tree) }
