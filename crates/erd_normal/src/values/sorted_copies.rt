@@ -1,4 +1,4 @@
-ghost use Rattle.std.specs.Prelude.{◌≡◌, false, map, IfOk};
+ghost use Rattle.std.specs.Prelude.{◌≡◌, false, [], ◌∷◌, map, IfOk};
 ghost use Rattle.serde_json.specs.View.{view, items_view};
 ghost use Rattle.serde_json.specs.Written.{items_have_float};
 ghost use Rattle.erd_meaning.specs.SelectionNames.{compact_cmp, rising_list};
@@ -11,6 +11,26 @@ use std::alloc::{AllocError, Global};
 
 /// Copies of values in the order of their compact texts.
 pub(crate) fn rising_values(alloc: Global, values: &[Value]) -> Result<Vec<Value>, AllocError>
+    ensures { IfOk result (λ rising. items_have_float (items_view values.now) ≡ false
+        → map view rising.items ≡ rising_list compact_cmp (map view values.now)) }
+{
+    match values {
+        [only] => one_copy(alloc, only),
+        _ => sorted_copies(alloc, values),
+    }
+}
+
+/// A copy of one value, which is in order and needs no text.
+fn one_copy(alloc: Global, value: &Value) -> Result<Vec<Value>, AllocError>
+    ensures { IfOk result (λ copies. map view copies.items ≡ view value.now ∷ []) }
+{
+    let mut copies = Vec::with_capacity(alloc, 1)?;
+    copies.push(value.clone()?)?;
+    Ok(copies)
+}
+
+/// Copies of values, sorted by their compact texts.
+fn sorted_copies(alloc: Global, values: &[Value]) -> Result<Vec<Value>, AllocError>
     ensures { IfOk result (λ rising. items_have_float (items_view values.now) ≡ false
         → map view rising.items ≡ rising_list compact_cmp (map view values.now)) }
 {

@@ -6,7 +6,7 @@ use Rattle.serde_json.specs.View.{items_view, view}
 use Rattle.serde_json.specs.Written.{compact_text, items_have_float}
 use Rattle.erd_tables.specs.Texts.{text_cmp}
 use Rattle.erd_normal.proofs.lists.StableRising.{rising_by_part}
-use Rattle.erd_normal.proofs.values.sorted_copies.rising_values.Goals as goal
+use Rattle.erd_normal.proofs.values.sorted_copies.sorted_copies.Goals as goal
 
 pub returns : goal.returns
 returns c =
