@@ -9,6 +9,7 @@ pub mod DistinctEntries
 pub mod StableSorts
 pub mod StableRising
 pub mod BuiltLists
+pub mod KeyedRanks
 pub mod Lists
 pub mod FoundInParts
 pub mod FoundBuilt

@@ -1,7 +1,8 @@
 -- The canonical form of a report, as a predicate on trees. All is this profile's.
-use Rattle.std.specs.Prelude.{ℕ, ◌≡◌, ◌+◌, List, ◌++◌, false, IsTrue, Option, Some, None, option_and_then, option_map, codes, decimal, slice_get, map, ⊤}
+use Rattle.std.specs.Prelude.{ℕ, ◌≡◌, ◌+◌, List, ◌++◌, false, IsTrue, Option, Some, None, option_and_then, option_map, codes, decimal, slice_get, map, filter, length, ⊤}
 use Rattle.std.specs.List.Sorted.{IsStrictlySortedBy}
 use Rattle.std.specs.Option.{option_cmp}
+use Rattle.std.specs.Ordering.{is_lt}
 use Rattle.serde_json.specs.Data.{Data, string, number, unsigned}
 use Rattle.serde_json.specs.Find.{get, as_str}
 use Rattle.erd_tables.specs.declared.class.Family.{Family}
@@ -16,7 +17,7 @@ use Rattle.erd_check.specs.declared.want.Want.{Want}
 use Rattle.erd_check.specs.declared.want.Want.TheVariants.{Member}
 use Rattle.erd_meaning.specs.Accepted.{IsAccepted}
 use Rattle.erd_meaning.specs.Keys.{Preference, has_keys, key_cmp, key_of}
-use Rattle.erd_meaning.specs.Objects.{Placed, objects, id_of, selections_of_contest}
+use Rattle.erd_meaning.specs.Objects.{IsObject, Placed, objects, id_of, selections_of_contest}
 use Rattle.erd_meaning.specs.Records.{meaning}
 use Rattle.erd_meaning.specs.SelectionNames.{compact_cmp, name_cmp, name_of, key_named}
 use Rattle.erd_meaning.specs.declared.keys.key.Key.{Key}
@@ -90,20 +91,24 @@ id_prefix family.Contest = Some (codes "co")
 id_prefix family.Style = None
 id_prefix family.Selection = None
 
--- the `@id` of the object at position i of its family: ranks count from 1
+-- how many objects of the family in the report have lesser keys
+abbrev pub rank_of : Preference → Data → Family → Option Key → ℕ
+rank_of π t f k = length (filter (λ o. is_lt (option_cmp key_cmp (key_of π o.value) k)) (objects f t))
+
+-- the `@id` of the object of a family that has rank i: ranks count from 1
 abbrev pub canonical_id : Family → ℕ → Option (List ℕ)
 canonical_id f i = option_map (λ letters. letters ++ decimal (i + 1)) (id_prefix f)
 
--- the `@id` of selection j of contest i
+-- the `@id` of selection j of the contest of rank i
 abbrev pub canonical_selection_id : ℕ → ℕ → List ℕ
 canonical_selection_id i j = codes "cs" ++ (decimal (i + 1) ++ (codes "-" ++ decimal (j + 1)))
 
--- each object is named by its family and rank, a selection by the rank of its contest and its own; a style has no `@id`
-pub record HasCanonicalIds (t : Data) : Type 0 where
-  pub families : (f : Family) (i : ℕ) (o : Placed) → IsTrue (has_keys f) → slice_get (objects f t) i ≡ Some o
-      → id_of o.value ≡ canonical_id f i
-  pub selections : (i j : ℕ) (contest o : Placed) → slice_get (objects family.Contest t) i ≡ Some contest
-      → slice_get (selections_of_contest contest) j ≡ Some o → id_of o.value ≡ Some (canonical_selection_id i j)
+-- each object is named by its family and the rank of its key in the report, a selection by the rank of its contest and its
+-- position in it; a style has no `@id`
+pub record HasCanonicalIds (π : Preference) (t : Data) : Type 0 where
+  pub families : (f : Family) (o : Placed) → IsTrue (has_keys f) → IsObject t f o → id_of o.value ≡ canonical_id f (rank_of π t f (key_of π o.value))
+  pub selections : (j : ℕ) (contest o : Placed) → IsObject t family.Contest contest → slice_get (selections_of_contest contest) j ≡ Some o
+      → id_of o.value ≡ Some (canonical_selection_id (rank_of π t family.Contest (key_of π contest.value)) j)
 
 -- ---- the whole
 
@@ -113,7 +118,7 @@ pub record IsCanonical (π : Preference) (t : Data) : Type 0 where
   pub envelope : HasCanonicalEnvelope t
   pub no_empty_array : HasNoEmptyArray t
   pub in_order : AreSetsInOrder π t
-  pub ids : HasCanonicalIds t
+  pub ids : HasCanonicalIds π t
 
 -- u is the canonical form of t
 pub record IsCanonicalFormOf (π : Preference) (t u : Data) : Type 0 where

@@ -1,6 +1,6 @@
--- The objects of each family in the report that is built: those of the report, built, in the order of their keys.
-use Rattle.std.proofs.Common.{◌≡◌, ℕ, List, [], ◌∷◌, ◌++◌, ap₂, map, flat_map, true, false, Some, codes, refl, sym, ap, ◌∙◌, append-nil}
-use Rattle.serde_json.specs.Data.{Data, object}
+-- The objects of each family in the report that is built: those of the report, each built.
+use Rattle.std.proofs.Common.{◌≡◌, ℕ, List, [], ◌∷◌, map, flat_map, true, false, Some, codes, refl, sym, ap, ◌∙◌, subst}
+use Rattle.serde_json.specs.Data.{Data}
 use Rattle.erd_tables.specs.Table.{is_envelope_name, kind_of_member}
 use Rattle.erd_tables.specs.declared.class.Class.{Class}
 use Rattle.erd_tables.specs.declared.class.Class.TheVariants as class
@@ -14,17 +14,18 @@ use Rattle.erd_check.specs.Trees.{IsTree}
 use Rattle.erd_check.specs.Wants.{asked, class_of_object}
 use Rattle.erd_check.specs.declared.want.Want.TheVariants.{Object}
 use Rattle.erd_check.proofs.Shapes.{Within, within-tree}
-use Rattle.erd_check.proofs.Rising.{Has, here, later}
+use Rattle.erd_check.proofs.Rising.{Has}
 use Rattle.erd_meaning.specs.Keys.{Preference, has_keys}
 use Rattle.erd_check.specs.Values.{entries_at, list_of_items}
 use Rattle.erd_meaning.specs.Objects.{elections, objects, placed_entries, placed_from, report_of}
 use Rattle.erd_meaning.specs.SelectionNames.{rising_list}
-use Rattle.erd_meaning.proofs.accepted.Skeleton.{Skeleton, election_entries, election_object, election_within, skeleton_of_shape, values-placed_entries, values-placed_flat, values-placed_from}
-use Rattle.erd_meaning.proofs.accepted.SoleElection.{SoleElection, sole_election, values_in_sole}
+use Rattle.erd_meaning.proofs.accepted.Skeleton.{Skeleton, election_entries, election_object, election_within, skeleton_of_shape, values-placed_entries, values-placed_flat, values-placed_from, values_in_elections}
 use Rattle.erd_meaning.proofs.accepted.Standing.{contest_selections}
 use Rattle.erd_normal.specs.code.NormalTree.{by_key, by_name, normal_election, normal_object, normal_selection, normal_tree}
 use Rattle.erd_normal.proofs.built.NormalEntries.{entries_of_election, entries_of_elections, entries_of_report, entries_of_selections}
 use Rattle.erd_normal.proofs.built.NormalGets.{class_has_role}
+use Rattle.erd_normal.proofs.lists.Matched.{Matched, matched_flat, matched_map, matched_then}
+use Rattle.erd_normal.proofs.lists.Reordered.{reordered_map, reordered_rising}
 
 -- the objects of a family, without their places
 abbrev pub values_of : Family → Data → List Data
@@ -40,16 +41,21 @@ pub selections_built : (π : Preference) (t : Data) (c : Class) (d : Data) → I
 selections_built π t c d tree among =
     entries_of_selections π t family.Contest c d tree among (codes "ContestSelection") refl (contest_selections c (class_has_role (role.OfFamily family.Contest) c d among))
 
--- what stands in each value, made of another
-flat_map_mapped : {A B C : Type 0} (f : A → B) (g : B → List C) (h : A → List C) (xs : List A) → ((x : A) → Has xs x → g (f x) ≡ h x) → flat_map g (map f xs) ≡ flat_map h xs
-flat_map_mapped f g h [] each = refl
-flat_map_mapped f g h (x ∷ xs) each = ap₂ ◌++◌ (each x here) (flat_map_mapped f g h xs (λ y i. each y (later i)))
+-- the one value is what is built of the other
+abbrev pub IsBuilt : Preference → Data → Family → Data → Data → Type 0
+IsBuilt π t f d e = normal_object π t f d ≡ e
+
+-- what is built of objects, in the order of their keys
+matched_built : (π : Preference) (t : Data) (f : Family) (ds : List Data) → Matched (IsBuilt π t f) ds (built_objects π t f ds)
+matched_built π t f ds = matched_then (matched_map (normal_object π t f) ds) (reordered_map (normal_object π t f) (reordered_rising (by_key π) ds))
 
 module _ (π : Preference) (t : Data) (clean : NoneOf (ShapeFault t)) (tree : IsTree t) where
   in_report : (f : Family) (name : List ℕ) → is_envelope_name name ≡ false → kind_of_member class.ElectionReport name ≡ kind.Keyed f
-      → map (λ o. o.value) (placed_entries name (report_of (normal_tree π t))) ≡ built_objects π t f (map (λ o. o.value) (placed_entries name (report_of t)))
+      → Matched (IsBuilt π t f) (map (λ o. o.value) (placed_entries name (report_of t))) (map (λ o. o.value) (placed_entries name (report_of (normal_tree π t))))
   in_report f name other is =
-      values-placed_entries name (report_of (normal_tree π t)) ∙ entries_of_report π t clean tree f name other is ∙ ap (built_objects π t f) (sym (values-placed_entries name (report_of t)))
+      subst (Matched (IsBuilt π t f) (map (λ o. o.value) (placed_entries name (report_of t))))
+      (sym (values-placed_entries name (report_of (normal_tree π t)) ∙ entries_of_report π t clean tree f name other is ∙ ap (built_objects π t f) (sym (values-placed_entries name (report_of t)))))
+      (matched_built π t f (map (λ o. o.value) (placed_entries name (report_of t))))
 
   module _ (s : Skeleton t) where
     -- the elections that are built
@@ -64,35 +70,26 @@ module _ (π : Preference) (t : Data) (clean : NoneOf (ShapeFault t)) (tree : Is
         let o = election_object t clean d w in
         entries_of_election π t clean tree d (within-tree t (asked (Object role.Election) d) tree w) (ap (class_of_object role.Election) o.1 ∙ o.2.among) f name is
 
-    -- what stands in the elections that are built, one after another
-    pub in_elections : (f : Family) (name : List ℕ) → kind_of_member class.Election name ≡ kind.Keyed f
-        → map (λ o. o.value) (flat_map (placed_entries name) (elections (normal_tree π t))) ≡ flat_map (λ d. built_objects π t f (entries_at name d)) (list_of_items s.es)
+    -- an election that is built holds what is built of the objects of the election
+    in_elections : (f : Family) (name : List ℕ) → kind_of_member class.Election name ≡ kind.Keyed f
+        → Matched (IsBuilt π t f) (map (λ o. o.value) (flat_map (placed_entries name) (elections t))) (map (λ o. o.value) (flat_map (placed_entries name) (elections (normal_tree π t))))
     in_elections f name is =
-        values-placed_flat name (elections (normal_tree π t))
-        ∙ ap (flat_map (entries_at name)) (ap (map (λ o. o.value)) elections_built ∙ values-placed_from (Name (codes "Election") ∷ []) 0 (map (normal_election π t) (list_of_items s.es)))
-        ∙ flat_map_mapped (normal_election π t) (entries_at name) (λ d. built_objects π t f (entries_at name d)) (list_of_items s.es) (in_one_election f name is)
+        let ds : List Data = list_of_items s.es in
+        subst (λ xs. Matched (IsBuilt π t f) xs (map (λ o. o.value) (flat_map (placed_entries name) (elections (normal_tree π t))))) (sym (values_in_elections t s name))
+        (subst (Matched (IsBuilt π t f) (flat_map (entries_at name) ds))
+        (sym (values-placed_flat name (elections (normal_tree π t)) ∙ ap (flat_map (entries_at name)) (ap (map (λ o. o.value)) elections_built ∙ values-placed_from (Name (codes "Election") ∷ []) 0 (map (normal_election π t) ds))))
+        (matched_flat (entries_at name) (entries_at name)
+        (λ d e h r. subst (Matched (IsBuilt π t f) (entries_at name d)) (sym (ap (entries_at name) (sym r) ∙ in_one_election f name is d h)) (matched_built π t f (entries_at name d)))
+        (matched_map (normal_election π t) ds)))
 
-    -- and in the one election
-    in_sole_election : SoleElection t s → (f : Family) (name : List ℕ) → kind_of_member class.Election name ≡ kind.Keyed f
-        → map (λ o. o.value) (flat_map (placed_entries name) (elections (normal_tree π t))) ≡ built_objects π t f (map (λ o. o.value) (flat_map (placed_entries name) (elections t)))
-    in_sole_election sole f name is =
-        in_elections f name is
-        ∙ ap (λ ds. flat_map (λ d. built_objects π t f (entries_at name d)) (list_of_items ds)) sole.alone
-        ∙ append-nil (built_objects π t f (entries_at name (object sole.members)))
-        ∙ ap (built_objects π t f) (sym (values_in_sole t s sole name))
-
-  in_election : (f : Family) (name : List ℕ) → kind_of_member class.Election name ≡ kind.Keyed f
-      → map (λ o. o.value) (flat_map (placed_entries name) (elections (normal_tree π t))) ≡ built_objects π t f (map (λ o. o.value) (flat_map (placed_entries name) (elections t)))
-  in_election f name is = let s : Skeleton t = skeleton_of_shape t clean in in_sole_election s (sole_election t clean s) f name is
-
-  -- the objects of one of the first eight families
-  pub objects_built : (f : Family) → has_keys f ≡ true → values_of f (normal_tree π t) ≡ built_objects π t f (values_of f t)
-  objects_built family.Unit k = in_report family.Unit (codes "GpUnit") refl refl
-  objects_built family.Party k = in_report family.Party (codes "Party") refl refl
-  objects_built family.Person k = in_report family.Person (codes "Person") refl refl
-  objects_built family.Office k = in_report family.Office (codes "Office") refl refl
-  objects_built family.Header k = in_report family.Header (codes "Header") refl refl
-  objects_built family.Candidate k = in_election family.Candidate (codes "Candidate") refl
-  objects_built family.Contest k = in_election family.Contest (codes "Contest") refl
-  objects_built family.Style k = in_election family.Style (codes "BallotStyle") refl
-  objects_built family.Selection k = cc
+  -- the objects of one of the first eight families are built, each of one
+  pub objects_matched : (f : Family) → has_keys f ≡ true → Matched (IsBuilt π t f) (values_of f t) (values_of f (normal_tree π t))
+  objects_matched family.Unit k = in_report family.Unit (codes "GpUnit") refl refl
+  objects_matched family.Party k = in_report family.Party (codes "Party") refl refl
+  objects_matched family.Person k = in_report family.Person (codes "Person") refl refl
+  objects_matched family.Office k = in_report family.Office (codes "Office") refl refl
+  objects_matched family.Header k = in_report family.Header (codes "Header") refl refl
+  objects_matched family.Candidate k = in_elections (skeleton_of_shape t clean) family.Candidate (codes "Candidate") refl
+  objects_matched family.Contest k = in_elections (skeleton_of_shape t clean) family.Contest (codes "Contest") refl
+  objects_matched family.Style k = in_elections (skeleton_of_shape t clean) family.Style (codes "BallotStyle") refl
+  objects_matched family.Selection k = cc

@@ -18,8 +18,8 @@ use Rattle.erd_check.specs.Values.{text_of}
 use Rattle.erd_normal.proofs.lists.FoundInParts.{FoundSelection}
 use Rattle.erd_normal.proofs.built.NormalGets.{id_of_built_selection}
 use Rattle.erd_normal.proofs.canonical.NormalIdentity.{never_before_itself}
-use Rattle.erd_normal.proofs.canonical.NormalKeys.{IsClassed, object_classed}
-use Rattle.erd_normal.proofs.canonical.SelectionIds.{built_stands, listed, named, selection_stands, selection_values, text_built}
+use Rattle.erd_normal.proofs.canonical.NormalKeys.{IsClassed, object_classed, built_stands}
+use Rattle.erd_normal.proofs.canonical.SelectionIds.{listed, named, selection_stands, selection_values, text_built}
 use Rattle.erd_check.proofs.Positions.{has_mapped, map_has, position_of}
 
 -- ---- places

@@ -1,5 +1,5 @@
 -- The report that is built has no fault of identity.
-use Rattle.std.proofs.Common.{◌≡◌, ◌<◌, ◌+◌, ◌^◌, ℕ, List, length, true, Some, None, Less, Equal, slice_get, refl, sym, ap, ap₂, ◌∙◌, subst, arith, ◌⊎◌, inl, inr}
+use Rattle.std.proofs.Common.{◌≡◌, ℕ, List, true, Some, None, Less, Equal, refl, sym, ap, ◌∙◌, subst, ◌⊎◌, inl, inr}
 use Rattle.std.proofs.lemmas.Cmp.{tied_itself}
 use Rattle.serde_json.specs.Data.{Data}
 use Rattle.erd_tables.specs.declared.class.Family.{Family}
@@ -14,19 +14,16 @@ use Rattle.erd_meaning.specs.Accepted.{IsAccepted}
 use Rattle.erd_meaning.specs.Keys.{Preference, has_keys, key_of}
 use Rattle.erd_meaning.specs.LaterFaults.{IdentityFault, IsBefore, LacksIdentifier, RepeatsId, RepeatsKey}
 use Rattle.erd_meaning.specs.Objects.{IsBounded, Placed, contests, id_of, objects, selections_of_contest}
-use Rattle.erd_meaning.specs.SelectionNames.{rising_list}
-use Rattle.erd_meaning.proofs.accepted.References.{Has-Contains, has_identifier}
+use Rattle.erd_meaning.proofs.accepted.References.{Contains-Has, Has-Contains, has_identifier}
 use Rattle.erd_meaning.proofs.accepted.HeldObjects.{has-flat}
-use Rattle.erd_normal.specs.code.NormalTree.{by_key, normal_tree, rank_of}
+use Rattle.erd_normal.specs.Canonical.{rank_of}
+use Rattle.erd_normal.specs.code.NormalTree.{normal_tree}
 use Rattle.erd_normal.proofs.canonical.CanonicalIds.{canonical_id_exact, selection_id_apart}
 use Rattle.erd_normal.proofs.built.LeastKeys.{key_of_object}
-use Rattle.erd_normal.proofs.canonical.NormalKeys.{IsClassed, built_at, ids_by_rank, object_classed, rising_classed}
-use Rattle.erd_normal.proofs.built.NormalObjects.{values_of}
-use Rattle.erd_normal.proofs.canonical.NormalOwners.{as_many}
+use Rattle.erd_normal.proofs.canonical.NormalKeys.{IsClassed, ids_by_rank, object_classed, object_from, one_ranked_built, rank_counted}
 use Rattle.erd_normal.proofs.canonical.NormalSelections.{has_canonical_ids}
-use Rattle.erd_normal.proofs.canonical.SelectionIds.{object_from, one_selection}
-use Rattle.erd_check.proofs.Positions.{same_in_some, position_of, position_low, all_at}
-use Rattle.erd_normal.proofs.canonical.RisingReports.{object_ranks}
+use Rattle.erd_normal.proofs.canonical.SelectionIds.{one_selection}
+use Rattle.erd_check.proofs.Positions.{position_of}
 
 pub never_before_itself : (o : Placed) → IsBefore o o → ⊥
 never_before_itself o before = let h : Equal ≡ Less = sym (tied_itself place_cmp_total o.place) ∙ before in cc
@@ -47,19 +44,8 @@ module _ (π : Preference) (t : Data) (accepted : IsAccepted π t) (tree : IsTre
   -- ---- keys
 
   module _ (f : Family) (keyed : has_keys f ≡ true) where
-    -- the rank of an object by its key is its position
-    position_by_key : (i : ℕ) (o : Placed) → slice_get (objects f (normal_tree π t)) i ≡ Some o → rank_of π t f (key_of π o.value) ≡ i
-    position_by_key i o at =
-        let d = built_at π t accepted tree f keyed i o at in
-        let k : IsClassed f d.0 = all_at (IsClassed f) (rising_list (by_key π) (values_of f t)) i d.0 (rising_classed π t accepted tree f) d.1 in
-        ap (rank_of π t f) (ap (key_of π) (sym d.2) ∙ key_of_object π π t f k.0 d.0 k.2 k.1) ∙ object_ranks π t accepted f i d.0 keyed d.1
-
     pub one_keyed_built : (o p : Placed) → Has (objects f (normal_tree π t)) o → Has (objects f (normal_tree π t)) p → key_of π o.value ≡ key_of π p.value → o ≡ p
-    one_keyed_built o p in_o in_p same =
-        let i = position_of (objects f (normal_tree π t)) o in_o in
-        let j = position_of (objects f (normal_tree π t)) p in_p in
-        let one : i.0 ≡ j.0 = sym (position_by_key i.0 o i.1) ∙ ap (rank_of π t f) same ∙ position_by_key j.0 p j.1 in
-        same_in_some o p (sym i.1 ∙ ap (slice_get (objects f (normal_tree π t))) one ∙ j.1)
+    one_keyed_built o p in_o in_p same = one_ranked_built π t accepted tree f keyed o p in_o in_p (ap (rank_of π (normal_tree π t) f) same)
 
     pub has_key_built : (o : Placed) → Has (objects f (normal_tree π t)) o → key_of π o.value ≡ None → ⊥
     has_key_built o in_o none =
@@ -82,29 +68,21 @@ module _ (π : Preference) (t : Data) (accepted : IsAccepted π t) (tree : IsTre
   -- ---- `@id` texts
 
   module _ (bounded : IsBounded t) where
-    object_low : (f : Family) → has_keys f ≡ true → (i : ℕ) (p : Placed) → slice_get (objects f (normal_tree π t)) i ≡ Some p → i + 1 < 2 ^ 64
-    object_low f keyed i p at =
-        let low : i < length (objects f (normal_tree π t)) = position_low (objects f (normal_tree π t)) i p at in
-        let few : length (objects f t) < 2 ^ 64 = bounded.few f in
-        let same : length (objects f (normal_tree π t)) ≡ length (objects f t) = as_many π t accepted tree f keyed few in
-        omega (arith, low, few, same)
-
     both_keyed : (f g : Family) (o p : Placed) (id : List ℕ) → has_keys f ≡ true → has_keys g ≡ true → Has (objects f (normal_tree π t)) o → Has (objects g (normal_tree π t)) p
         → id_of o.value ≡ Some id → id_of p.value ≡ Some id → o ≡ p
     both_keyed f g o p id keyed keyed' in_o in_p e h =
-        let i = position_of (objects f (normal_tree π t)) o in_o in
-        let j = position_of (objects g (normal_tree π t)) p in_p in
-        let n = canonical_id_exact f g i.0 j.0 id (object_low f keyed i.0 o i.1) (object_low g keyed' j.0 p j.1) (sym (ids_by_rank π t accepted tree f keyed i.0 o i.1) ∙ e) (sym (ids_by_rank π t accepted tree g keyed' j.0 p j.1) ∙ h) in
-        same_in_some o p (sym i.1 ∙ ap₂ (λ f i. slice_get (objects f (normal_tree π t)) i) n.0 n.1 ∙ j.1)
+        let n = canonical_id_exact f g _ _ id (rank_counted π t accepted tree f keyed (bounded.few f) o in_o) (rank_counted π t accepted tree g keyed' (bounded.few g) p in_p)
+        (sym (ids_by_rank π t accepted tree f keyed o in_o) ∙ e) (sym (ids_by_rank π t accepted tree g keyed' p in_p) ∙ h) in
+        one_ranked_built π t accepted tree f keyed o p in_o (subst (λ x. Has (objects x (normal_tree π t)) p) (sym n.0) in_p)
+        (n.1 ∙ ap (λ x. rank_of π (normal_tree π t) x (key_of π p.value)) (sym n.0))
 
     one_a_selection : (f : Family) (o p : Placed) (id : List ℕ) → has_keys f ≡ true → Has (objects f (normal_tree π t)) o → Has (objects family.Selection (normal_tree π t)) p
         → id_of o.value ≡ Some id → id_of p.value ≡ Some id → ⊥
     one_a_selection f o p id keyed in_o in_p e h =
-        let k = position_of (objects f (normal_tree π t)) o in_o in
         let c = has-flat selections_of_contest (contests (normal_tree π t)) p in_p in
-        let i = position_of (objects family.Contest (normal_tree π t)) c.0 c.1 in
         let j = position_of (selections_of_contest c.0) p c.2 in
-        selection_id_apart f i.0 j.0 k.0 (sym (ids_by_rank π t accepted tree f keyed k.0 o k.1) ∙ e ∙ sym h ∙ (has_canonical_ids π t accepted tree).selections i.0 j.0 c.0 p i.1 j.1)
+        let its = (has_canonical_ids π t accepted tree).selections j.0 c.0 p (Contains-Has (objects family.Contest (normal_tree π t)) c.0 c.1) j.1 in
+        selection_id_apart f _ j.0 _ (sym (ids_by_rank π t accepted tree f keyed o in_o) ∙ e ∙ sym h ∙ its)
 
     both_selections : (o p : Placed) (id : List ℕ) → Has (objects family.Selection (normal_tree π t)) o → Has (objects family.Selection (normal_tree π t)) p
         → id_of o.value ≡ Some id → id_of p.value ≡ Some id → o ≡ p

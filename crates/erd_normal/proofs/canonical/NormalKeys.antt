@@ -1,7 +1,11 @@
--- The objects of each family in the report that is built rise by key, and each has the `@id` of its rank.
-use Rattle.std.proofs.Common.{◌≡◌, ℕ, List, true, Some, option_map, slice_get, sym, ap, ◌∙◌}
-use Rattle.std.proofs.lemmas.Option.{slice_get-map}
-use Rattle.std.specs.List.{AllByRecursion}
+-- The objects of each family in the report that is built have the keys of those of the report, and each has the `@id` of the rank of its key.
+use Rattle.std.proofs.Common.{◌≡◌, ◌<◌, ◌+◌, ◌^◌, length, true, Option, Some, Equal, is_eq, is_lt, sym, ap, ap₂, ◌∙◌, arith}
+use Rattle.std.proofs.lemmas.Cmp.{tied_back}
+use Rattle.std.proofs.lemmas.List.{length-map}
+use Rattle.std.specs.Cmp.Lexicographic.{options_total}
+use Rattle.std.specs.List.{AllByRecursion, IsDistinct}
+use Rattle.std.specs.Option.{option_cmp}
+use Rattle.std.specs.Ordering.{eq_by_cmp}
 use Rattle.serde_json.specs.Data.{Data}
 use Rattle.erd_tables.specs.declared.class.Class.{Class}
 use Rattle.erd_tables.specs.declared.class.Family.{Family}
@@ -10,22 +14,28 @@ use Rattle.erd_check.specs.Trees.{IsTree}
 use Rattle.erd_check.specs.Wants.{asked, class_of_object}
 use Rattle.erd_check.specs.declared.want.Want.TheVariants.{Object}
 use Rattle.erd_check.proofs.ObjectsAt.{ObjectIn, object_in}
-use Rattle.erd_check.proofs.Rising.{Has}
+use Rattle.erd_check.proofs.Rising.{Has, all-Has}
 use Rattle.erd_check.proofs.Shapes.{Within, within-tree}
 use Rattle.erd_meaning.specs.Accepted.{IsAccepted}
-use Rattle.erd_meaning.specs.Keys.{Preference, has_keys}
+use Rattle.erd_meaning.specs.Keys.{Preference, has_keys, key_cmp, key_of}
 use Rattle.erd_meaning.specs.Objects.{Placed, id_of, objects}
-use Rattle.erd_meaning.specs.SelectionNames.{rising_list}
+use Rattle.erd_meaning.specs.code.Orders.{key_cmp_total}
+use Rattle.erd_meaning.specs.declared.keys.key.Key.{Key}
 use Rattle.erd_meaning.proofs.accepted.Phases.{no_shape_fault}
-use Rattle.erd_meaning.proofs.accepted.References.{option_map-Some}
 use Rattle.erd_meaning.proofs.accepted.Standing.{stands}
-use Rattle.erd_normal.specs.Canonical.{canonical_id}
+use Rattle.erd_normal.specs.Canonical.{canonical_id, rank_of}
 use Rattle.erd_normal.specs.code.NormalTree.{by_key, normal_object, normal_tree}
-use Rattle.erd_normal.proofs.lists.BuiltLists.{all_map, all_rising}
+use Rattle.erd_normal.proofs.lists.BuiltLists.{all_map}
+use Rattle.erd_normal.proofs.lists.DistinctEntries.{distinct_one}
+use Rattle.erd_normal.proofs.lists.KeyedRanks.{rank_exact, rank_low}
+use Rattle.erd_normal.proofs.lists.Matched.{Matched, distinct_matched, even_order, matched_back, matched_count, matched_length, matched_on, matched_within}
+use Rattle.erd_normal.proofs.lists.RisingRanks.{rank_map}
+use Rattle.erd_normal.proofs.built.LeastKeys.{key_of_object}
 use Rattle.erd_normal.proofs.built.NormalGets.{id_of_object}
-use Rattle.erd_normal.proofs.built.NormalObjects.{objects_built, values_of}
-use Rattle.erd_check.proofs.Positions.{all_by_entry, all_at}
-use Rattle.erd_normal.proofs.canonical.RisingReports.{object_ranks}
+use Rattle.erd_normal.proofs.built.NormalObjects.{IsBuilt, objects_matched, values_of}
+use Rattle.erd_check.proofs.Positions.{all_by_entry, has_mapped, map_has}
+use Rattle.erd_normal.proofs.canonical.DistinctObjects.{values_distinct}
+use Rattle.erd_normal.proofs.canonical.RisingReports.{by_key_total}
 
 -- an object of a family: it has a class, and is a tree
 abbrev pub IsClassed : Family → Data → Type 0
@@ -41,23 +51,69 @@ module _ (π : Preference) (t : Data) (accepted : IsAccepted π t) (tree : IsTre
   pub values_classed : AllByRecursion (IsClassed f) (values_of f t)
   values_classed = all_map (λ o. IsClassed f o.value) (IsClassed f) (λ o. o.value) (objects f t) (λ o h. h) (all_by_entry (λ o. IsClassed f o.value) (objects f t) object_classed)
 
-  pub rising_classed : AllByRecursion (IsClassed f) (rising_list (by_key π) (values_of f t))
-  rising_classed = all_rising (IsClassed f) (by_key π) (values_of f t) values_classed
-
   module _ (keyed : has_keys f ≡ true) where
-    -- the object at a position of the report that is built is built of the one that stands there once they are in order
-    pub built_at : (i : ℕ) (o : Placed) → slice_get (objects f (normal_tree π t)) i ≡ Some o
-        → (d : Data) × (slice_get (rising_list (by_key π) (values_of f t)) i ≡ Some d) × (normal_object π t f d ≡ o.value)
-    built_at i o at =
-        let ds : List Data = rising_list (by_key π) (values_of f t) in
-        let value : slice_get (values_of f (normal_tree π t)) i ≡ Some o.value = slice_get-map (λ o. o.value) (objects f (normal_tree π t)) i ∙ ap (option_map (λ o. o.value)) at in
-        let there : option_map (normal_object π t f) (slice_get ds i) ≡ Some o.value =
-        sym (slice_get-map (normal_object π t f) ds i) ∙ ap (λ xs. slice_get xs i) (sym (objects_built π t (no_shape_fault π t accepted) tree f keyed)) ∙ value in
-        option_map-Some (normal_object π t f) (slice_get ds i) o.value there
+    -- the objects of the report, and what is built of each
+    abbrev matched : Matched (IsBuilt π t f) (values_of f t) (values_of f (normal_tree π t))
+    matched = objects_matched π t (no_shape_fault π t accepted) tree f keyed
 
-    -- each object of the family has the canonical `@id` of its position
-    pub ids_by_rank : (i : ℕ) (o : Placed) → slice_get (objects f (normal_tree π t)) i ≡ Some o → id_of o.value ≡ canonical_id f i
-    ids_by_rank i o at =
-        let d = built_at i o at in
-        let k : IsClassed f d.0 = all_at (IsClassed f) (rising_list (by_key π) (values_of f t)) i d.0 rising_classed d.1 in
-        ap id_of (sym d.2) ∙ id_of_object π t f k.0 d.0 k.2 k.1 ∙ ap (canonical_id f) (object_ranks π t accepted f i d.0 keyed d.1)
+    -- an object of the report that is built is built of one
+    pub object_from : (p : Placed) → Has (objects f (normal_tree π t)) p → (o : Placed) × Has (objects f t) o × (normal_object π t f o.value ≡ p.value)
+    object_from p h =
+        let d = matched_back p.value matched (has_mapped (λ (x : Placed). x.value) (objects f (normal_tree π t)) p h) in
+        let o = map_has (λ (x : Placed). x.value) (objects f t) d.0 d.1 in
+        (o.0, o.1, ap (normal_object π t f) o.2 ∙ d.2)
+
+    -- what is built of an object stands in the report that is built
+    pub built_stands : (o : Placed) → Has (objects f t) o → (p : Placed) × Has (objects f (normal_tree π t)) p × (p.value ≡ normal_object π t f o.value)
+    built_stands o h =
+        let e = matched_on o.value matched (has_mapped (λ (x : Placed). x.value) (objects f t) o h) in
+        let p = map_has (λ (x : Placed). x.value) (objects f (normal_tree π t)) e.0 e.1 in
+        (p.0, p.1, p.2 ∙ sym e.2)
+
+    pub as_many : length (objects f (normal_tree π t)) ≡ length (objects f t)
+    as_many = sym (length-map (objects f (normal_tree π t)) (λ o. o.value)) ∙ sym (matched_length matched) ∙ length-map (objects f t) (λ o. o.value)
+
+    -- ---- keys
+
+    key_built : (d e : Data) → Has (values_of f t) d → IsBuilt π t f d e → key_of π d ≡ key_of π e
+    key_built d e h is =
+        let k : IsClassed f d = all-Has (IsClassed f) (values_of f t) d values_classed h in
+        sym (key_of_object π π t f k.0 d k.2 k.1) ∙ ap (key_of π) is
+
+    -- a key has the same rank in both reports
+    pub rank_kept : (k : Option Key) → rank_of π t f k ≡ rank_of π (normal_tree π t) f k
+    rank_kept k =
+        sym (rank_map (λ (o : Placed). o.value) (key_of π) (option_cmp key_cmp) k (objects f t))
+        ∙ matched_count (λ d. is_lt (option_cmp key_cmp (key_of π d) k)) (λ d. is_lt (option_cmp key_cmp (key_of π d) k))
+        (λ d e same. ap (λ l. is_lt (option_cmp key_cmp l k)) same) (matched_within (λ d e. key_of π d ≡ key_of π e) key_built matched)
+        ∙ rank_map (λ (o : Placed). o.value) (key_of π) (option_cmp key_cmp) k (objects f (normal_tree π t))
+
+    built_distinct : IsDistinct (eq_by_cmp (by_key π)) (values_of f (normal_tree π t))
+    built_distinct =
+        distinct_matched (eq_by_cmp (by_key π)) (eq_by_cmp (by_key π)) (even_order (by_key π) (by_key_total π))
+        (λ d d' e e' i j is is' h. ap₂ (λ k l. is_eq (option_cmp key_cmp k l)) (key_built d e i is) (key_built d' e' j is') ∙ h) matched (values_distinct π t accepted f keyed)
+
+    -- objects of the report that is built with keys of one rank are one
+    pub one_ranked_built : (o p : Placed) → Has (objects f (normal_tree π t)) o → Has (objects f (normal_tree π t)) p
+        → rank_of π (normal_tree π t) f (key_of π o.value) ≡ rank_of π (normal_tree π t) f (key_of π p.value) → o ≡ p
+    one_ranked_built o p in_o in_p same =
+        let tied : by_key π o.value p.value ≡ Equal = rank_exact (λ (x : Placed). key_of π x.value) (options_total key_cmp_total) (objects f (normal_tree π t)) o p in_o in_p same in
+        distinct_one (λ (x : Placed). x.value) (eq_by_cmp (by_key π)) (objects f (normal_tree π t)) built_distinct o p in_o in_p (ap is_eq tied)
+        (ap is_eq (tied_back (by_key_total π) o.value p.value tied))
+
+    -- a word counts the ranks, if it counts the objects of the report
+    pub rank_counted : length (objects f t) < 2 ^ 64 → (o : Placed) → Has (objects f (normal_tree π t)) o → rank_of π (normal_tree π t) f (key_of π o.value) + 1 < 2 ^ 64
+    rank_counted few o h =
+        let low : rank_of π (normal_tree π t) f (key_of π o.value) < length (objects f (normal_tree π t)) =
+        rank_low (λ (x : Placed). key_of π x.value) (options_total key_cmp_total) (objects f (normal_tree π t)) o h in
+        omega (arith, low, few, as_many)
+
+    -- ---- `@id` texts
+
+    -- what is built of an object has the `@id` of the rank of its key
+    pub ids_by_rank : (p : Placed) → Has (objects f (normal_tree π t)) p → id_of p.value ≡ canonical_id f (rank_of π (normal_tree π t) f (key_of π p.value))
+    ids_by_rank p h =
+        let o = object_from p h in
+        let k : IsClassed f o.0.value = object_classed o.0 o.1 in
+        let key : key_of π o.0.value ≡ key_of π p.value = sym (key_of_object π π t f k.0 o.0.value k.2 k.1) ∙ ap (key_of π) o.2 in
+        ap id_of (sym o.2) ∙ id_of_object π t f k.0 o.0.value k.2 k.1 ∙ ap (λ l. canonical_id f (rank_of π t f l)) key ∙ ap (canonical_id f) (rank_kept (key_of π p.value))

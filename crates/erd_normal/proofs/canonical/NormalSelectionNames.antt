@@ -18,7 +18,8 @@ use Rattle.erd_normal.specs.code.NormalTree.{by_name, normal_object, normal_sele
 use Rattle.erd_normal.proofs.canonical.NormalIdentity.{never_before_itself}
 use Rattle.erd_normal.proofs.canonical.NormalNames.{name_built}
 use Rattle.erd_normal.proofs.canonical.RisingReports.{selection_ranks}
-use Rattle.erd_normal.proofs.canonical.SelectionIds.{listed, object_from, selection_values, selections_there}
+use Rattle.erd_normal.proofs.canonical.NormalKeys.{object_from}
+use Rattle.erd_normal.proofs.canonical.SelectionIds.{listed, selection_values, selections_there}
 use Rattle.erd_check.proofs.Positions.{same_in_some, map_has, has_at, position_of}
 use Rattle.erd_normal.proofs.lists.RisingSets.{has_rising}
 

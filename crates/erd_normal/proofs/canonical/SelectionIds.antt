@@ -1,37 +1,33 @@
 -- An `@id` names at most one selection of the report that is built, and a reference that is built names what is built of
 -- the selection that the reference names.
-use Rattle.std.proofs.Common.{◌≡◌, ◌<◌, ◌+◌, ◌^◌, ℕ, List, [], map, length, true, Some, option_and_then, option_map, codes, slice_get, refl, sym, ap, ◌∙◌, subst, arith}
+use Rattle.std.proofs.Common.{◌≡◌, ◌<◌, ◌+◌, ◌^◌, ℕ, List, [], map, length, Some, option_and_then, option_map, codes, slice_get, refl, sym, ap, ◌∙◌, subst, arith}
 use Rattle.std.proofs.lemmas.List.{length-map}
 use Rattle.std.specs.Option.{option_map_or}
 use Rattle.serde_json.specs.Data.{Data}
-use Rattle.erd_tables.specs.declared.class.Family.{Family}
 use Rattle.erd_tables.specs.declared.class.Family.TheVariants as family
 use Rattle.erd_check.specs.Trees.{IsTree}
 use Rattle.erd_check.proofs.Rising.{Has}
 use Rattle.erd_meaning.specs.Accepted.{IsAccepted}
-use Rattle.erd_meaning.specs.Keys.{Preference, has_keys}
+use Rattle.erd_meaning.specs.Keys.{Preference}
 use Rattle.erd_check.specs.Values.{entries_at, text_of}
 use Rattle.erd_meaning.specs.Objects.{IsBounded, Placed, contests, has_id, id_of, objects, owner, selections_of_contest}
 use Rattle.erd_meaning.specs.SelectionNames.{name_named, name_of, rising_list}
-use Rattle.erd_meaning.proofs.accepted.Phases.{no_shape_fault}
 use Rattle.erd_meaning.proofs.accepted.References.{find-any}
 use Rattle.erd_meaning.proofs.orders.Sets.{any-has}
 use Rattle.erd_meaning.proofs.accepted.Skeleton.{values-placed_entries}
 use Rattle.erd_meaning.proofs.accepted.HeldObjects.{has-flat}
 use Rattle.erd_meaning.proofs.accepted.Standing.{flat-has, has_id-Some, has_id-from}
-use Rattle.erd_normal.specs.Canonical.{HasCanonicalIds, canonical_selection_id}
-use Rattle.erd_normal.specs.code.NormalTree.{by_key, by_name, id_of_selection, normal_object, normal_selection, normal_selection_reference, normal_tree, selection_with}
+use Rattle.erd_normal.specs.code.NormalTree.{by_name, id_of_selection, normal_object, normal_selection, normal_selection_reference, normal_tree, selection_with}
 use Rattle.erd_normal.proofs.canonical.Bounds.{few_selections}
 use Rattle.erd_normal.proofs.lists.FoundInParts.{FoundSelection, owner_found}
 use Rattle.erd_normal.proofs.built.NormalGets.{id_of_built_selection}
-use Rattle.erd_normal.proofs.canonical.NormalKeys.{IsClassed, object_classed}
+use Rattle.erd_normal.proofs.canonical.NormalKeys.{IsClassed, built_stands, object_classed, object_from, one_ranked_built, rank_counted}
 use Rattle.erd_normal.proofs.canonical.NormalNames.{name_built}
-use Rattle.erd_normal.proofs.built.NormalObjects.{objects_built, selections_built, values_of}
-use Rattle.erd_normal.proofs.canonical.NormalOwners.{as_many}
-use Rattle.erd_normal.proofs.canonical.NormalSelections.{has_canonical_ids}
+use Rattle.erd_normal.proofs.built.NormalObjects.{selections_built}
+use Rattle.erd_normal.proofs.canonical.NormalSelections.{selection_ids}
 use Rattle.erd_normal.proofs.canonical.SelectionTexts.{canonical_selection_id_exact}
 use Rattle.erd_check.proofs.Positions.{same_in_some, has_mapped, map_has, position_of, position_low}
-use Rattle.erd_normal.proofs.lists.RisingSets.{has_rising, rising_has, length-rising}
+use Rattle.erd_normal.proofs.lists.RisingSets.{rising_has, length-rising}
 
 -- ---- what stands in the report that is built
 
@@ -46,24 +42,6 @@ counted : (contest : Placed) → length (selections_of_contest contest) ≡ leng
 counted contest = sym (length-map (selections_of_contest contest) (λ o. o.value)) ∙ ap length (listed contest)
 
 module _ (π : Preference) (t : Data) (accepted : IsAccepted π t) (tree : IsTree t) where
-  -- an object of the report that is built is built of one
-  pub object_from : (f : Family) → has_keys f ≡ true → (p : Placed) → Has (objects f (normal_tree π t)) p → (o : Placed) × Has (objects f t) o × (normal_object π t f o.value ≡ p.value)
-  object_from f keyed p h =
-      let value : Has (values_of f (normal_tree π t)) p.value = has_mapped (λ (x : Placed). x.value) (objects f (normal_tree π t)) p h in
-      let there : Has (map (normal_object π t f) (rising_list (by_key π) (values_of f t))) p.value = subst (λ xs. Has xs p.value) (objects_built π t (no_shape_fault π t accepted) tree f keyed) value in
-      let d = map_has (normal_object π t f) (rising_list (by_key π) (values_of f t)) p.value there in
-      let o = map_has (λ (x : Placed). x.value) (objects f t) d.0 (has_rising (by_key π) (values_of f t) d.0 d.1) in
-      (o.0, o.1, ap (normal_object π t f) o.2 ∙ d.2)
-
-  -- what is built of an object stands in the report that is built
-  pub built_stands : (f : Family) → has_keys f ≡ true → (o : Placed) → Has (objects f t) o → (p : Placed) × Has (objects f (normal_tree π t)) p × (p.value ≡ normal_object π t f o.value)
-  built_stands f keyed o h =
-      let value : Has (values_of f t) o.value = has_mapped (λ (x : Placed). x.value) (objects f t) o h in
-      let there : Has (map (normal_object π t f) (rising_list (by_key π) (values_of f t))) (normal_object π t f o.value) =
-      has_mapped (normal_object π t f) (rising_list (by_key π) (values_of f t)) o.value (rising_has (by_key π) (values_of f t) o.value value) in
-      map_has (λ (x : Placed). x.value) (objects f (normal_tree π t)) (normal_object π t f o.value)
-      (subst (λ xs. Has xs (normal_object π t f o.value)) (sym (objects_built π t (no_shape_fault π t accepted) tree f keyed)) there)
-
   module _ (contest p : Placed) (of_report : Has (objects family.Contest t) contest) (is : normal_object π t family.Contest contest.value ≡ p.value) where
     -- the selections of a contest that is built
     pub selections_there : selection_values p ≡ map (normal_selection π t contest.value) (rising_list (by_name π t) (selection_values contest))
@@ -88,16 +66,9 @@ module _ (π : Preference) (t : Data) (accepted : IsAccepted π t) (tree : IsTre
   -- ---- `@id` texts
 
   module _ (bounded : IsBounded t) where
-    contest_low : (i : ℕ) (p : Placed) → slice_get (objects family.Contest (normal_tree π t)) i ≡ Some p → i + 1 < 2 ^ 64
-    contest_low i p at =
-        let low : i < length (objects family.Contest (normal_tree π t)) = position_low (objects family.Contest (normal_tree π t)) i p at in
-        let few : length (objects family.Contest t) < 2 ^ 64 = bounded.few family.Contest in
-        let same : length (objects family.Contest (normal_tree π t)) ≡ length (objects family.Contest t) = as_many π t accepted tree family.Contest refl few in
-        omega (arith, low, few, same)
-
     selection_low : (p : Placed) → Has (objects family.Contest (normal_tree π t)) p → (j : ℕ) (q : Placed) → slice_get (selections_of_contest p) j ≡ Some q → j + 1 < 2 ^ 64
     selection_low p h j q at =
-        let contest = object_from family.Contest refl p h in
+        let contest = object_from π t accepted tree family.Contest refl p h in
         let low : j < length (selections_of_contest p) = position_low (selections_of_contest p) j q at in
         let few : length (selections_of_contest contest.0) < 2 ^ 64 = few_selections t bounded contest.0 contest.1 in
         let same : length (selections_of_contest p) ≡ length (selections_of_contest contest.0) = as_many_selections contest.0 p contest.1 contest.2 in
@@ -107,15 +78,14 @@ module _ (π : Preference) (t : Data) (accepted : IsAccepted π t) (tree : IsTre
     pub one_selection : (c d o q : Placed) → Has (objects family.Contest (normal_tree π t)) c → Has (objects family.Contest (normal_tree π t)) d → Has (selections_of_contest c) o → Has (selections_of_contest d) q
         → id_of o.value ≡ id_of q.value → (c ≡ d) × (o ≡ q)
     one_selection c d o q in_c in_d in_o in_q same =
-        let i = position_of (objects family.Contest (normal_tree π t)) c in_c in
-        let k = position_of (objects family.Contest (normal_tree π t)) d in_d in
         let j = position_of (selections_of_contest c) o in_o in
         let l = position_of (selections_of_contest d) q in_q in
-        let ids : HasCanonicalIds (normal_tree π t) = has_canonical_ids π t accepted tree in
-        let text : canonical_selection_id i.0 j.0 ≡ canonical_selection_id k.0 l.0 =
-        same_in_some (canonical_selection_id i.0 j.0) (canonical_selection_id k.0 l.0) (sym (ids.selections i.0 j.0 c o i.1 j.1) ∙ same ∙ ids.selections k.0 l.0 d q k.1 l.1) in
-        let n = canonical_selection_id_exact i.0 j.0 k.0 l.0 (contest_low i.0 c i.1) (selection_low c in_c j.0 o j.1) (contest_low k.0 d k.1) (selection_low d in_d l.0 q l.1) text in
-        let one : c ≡ d = same_in_some c d (sym i.1 ∙ ap (slice_get (objects family.Contest (normal_tree π t))) n.0 ∙ k.1) in
+        let first = selection_ids π t accepted tree j.0 c o in_c j.1 in
+        let second = selection_ids π t accepted tree l.0 d q in_d l.1 in
+        let few : length (objects family.Contest t) < 2 ^ 64 = bounded.few family.Contest in
+        let n = canonical_selection_id_exact _ j.0 _ l.0 (rank_counted π t accepted tree family.Contest refl few c in_c) (selection_low c in_c j.0 o j.1)
+        (rank_counted π t accepted tree family.Contest refl few d in_d) (selection_low d in_d l.0 q l.1) (same_in_some _ _ (sym first ∙ same ∙ second)) in
+        let one : c ≡ d = one_ranked_built π t accepted tree family.Contest refl c d in_c in_d n.0 in
         (one, same_in_some o q (sym j.1 ∙ ap (λ x. slice_get (selections_of_contest x) j.0) one ∙ ap (slice_get (selections_of_contest d)) n.1 ∙ l.1))
 
     -- a selection of the report that is built owns its `@id`
@@ -131,7 +101,7 @@ module _ (π : Preference) (t : Data) (accepted : IsAccepted π t) (tree : IsTre
     pub owner_of_selection_built : (contest o : Placed) → Has (objects family.Contest t) contest → Has (selections_of_contest contest) o
         → owner (normal_tree π t) family.Selection (id_of_selection π t contest.value o.value) ≡ Some (normal_selection π t contest.value o.value)
     owner_of_selection_built contest o of_report of_contest =
-        let p = built_stands family.Contest refl contest of_report in
+        let p = built_stands π t accepted tree family.Contest refl contest of_report in
         let q = selection_stands contest p.0 of_report (sym p.2) o of_contest in
         let k : IsClassed family.Selection o.value = object_classed π t accepted tree family.Selection o (flat-has selections_of_contest (contests t) contest o of_report of_contest) in
         let id : id_of q.0.value ≡ Some (id_of_selection π t contest.value o.value) = ap id_of q.2 ∙ id_of_built_selection π t contest.value k.0 o.value k.2 k.1 in

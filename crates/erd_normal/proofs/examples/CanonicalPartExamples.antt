@@ -1,5 +1,5 @@
 -- The envelope and the `@id` texts of canonical reports, and of reports that are not canonical.
-use Rattle.std.proofs.Common.{◌≡◌, ℕ, List, codes, slice_get, Option, Some, None, Bool, true, false, true≢false, not, ◌&&◌, ◌||◌, refl, ap}
+use Rattle.std.proofs.Common.{◌≡◌, ℕ, List, codes, slice_get, Option, Some, None, Bool, true, false, true≢false, not, ◌&&◌, ◌||◌, refl, ap, lit<}
 use Rattle.std.proofs.lemmas.Bool.{and_parts}
 use Rattle.std.proofs.lemmas.Slice.Eq.{bytes_eq-Decides}
 use Rattle.std.specs.Fmt.{digits}
@@ -12,11 +12,11 @@ use Rattle.erd_tables.specs.Classes.{families}
 use Rattle.erd_tables.specs.declared.class.Family.{Family}
 use Rattle.erd_tables.specs.declared.class.Family.TheVariants as family
 use Rattle.erd_check.proofs.Reports.{tree_of, small_ballot, small_ballot_canonical, one_unit}
-use Rattle.erd_meaning.specs.Keys.{has_keys}
-use Rattle.erd_meaning.specs.Objects.{Placed, objects, selections_of_contest, id_of, report_of}
+use Rattle.erd_meaning.specs.Keys.{has_keys, key_of}
+use Rattle.erd_meaning.specs.Objects.{IsObject, Placed, objects, selections_of_contest, id_of, report_of}
 use Rattle.erd_normal.proofs.lists.Lists.{passed, is_family, all_from, passed_at}
 use Rattle.erd_normal.proofs.examples.MeaningExamples.{one_unit_canonical}
-use Rattle.erd_normal.specs.Canonical.{HasCanonicalEnvelope, HasCanonicalIds, canonical_id, canonical_selection_id}
+use Rattle.erd_normal.specs.Canonical.{HasCanonicalEnvelope, HasCanonicalIds, canonical_id, canonical_selection_id, rank_of}
 
 -- ---- a test of `@id` texts
 
@@ -30,43 +30,43 @@ equal_texts None None h = refl
 equal_texts (Some a) (Some b) h = ap Some ((bytes_eq-Decides a b).0 h)
 equal_texts a b h = absurd (cc h)
 
-abbrev is_ranked : Family → ℕ → Placed → Bool
-is_ranked f i o = is_same (id_of o.value) (canonical_id f i)
+abbrev is_ranked : Data → Family → Placed → Bool
+is_ranked t f o = is_same (id_of o.value) (canonical_id f (rank_of None t f (key_of None o.value)))
 
--- the selection at a position of a contest at a position
-abbrev is_selection_ranked : ℕ → ℕ → Placed → Bool
-is_selection_ranked i j o = is_same (id_of o.value) (Some (canonical_selection_id i j))
+-- the selection at a position of a contest
+abbrev is_selection_ranked : Data → Placed → ℕ → Placed → Bool
+is_selection_ranked t contest j o = is_same (id_of o.value) (Some (canonical_selection_id (rank_of None t family.Contest (key_of None contest.value)) j))
 
 abbrev are_ranked : Data → Family → Bool
-are_ranked t f = not (has_keys f) || all_from (is_ranked f) 0 (objects f t)
+are_ranked t f = not (has_keys f) || list_all (is_ranked t f) (objects f t)
 
 abbrev has_canonical_ids : Data → Bool
 has_canonical_ids t =
-    list_all (are_ranked t) families && all_from (λ i contest. all_from (is_selection_ranked i) 0 (selections_of_contest contest)) 0 (objects family.Contest t)
+    list_all (are_ranked t) families && list_all (λ contest. all_from (is_selection_ranked t contest) 0 (selections_of_contest contest)) (objects family.Contest t)
 
 with_keys : (a b : Bool) → a ≡ true → (not a || b) ≡ true → b ≡ true
 with_keys true b is h = h
 with_keys false b is h = absurd (cc is)
 
 -- what passes the test has its canonical `@id` texts
-pub canonical_ids : (t : Data) → has_canonical_ids t ≡ true → HasCanonicalIds t
+pub canonical_ids : (t : Data) → has_canonical_ids t ≡ true → HasCanonicalIds None t
 canonical_ids t h =
     let parts = and_parts (list_all (are_ranked t) families) _ h in
     record {
-      families = λ f i o keyed at.
-          equal_texts (id_of o.value) (canonical_id f i)
-          (passed_at (is_ranked f) (objects f t) i o (with_keys (has_keys f) _ keyed (passed (are_ranked t) families f parts.0 (is_family f))) at);
-      selections = λ i j contest o contest_at at.
-          equal_texts (id_of o.value) (Some (canonical_selection_id i j))
-          (passed_at (is_selection_ranked i) (selections_of_contest contest) j o
-          (passed_at (λ i contest. all_from (is_selection_ranked i) 0 (selections_of_contest contest)) (objects family.Contest t) i contest parts.1 contest_at) at);
+      families = λ f o keyed stands.
+          equal_texts (id_of o.value) (canonical_id f (rank_of None t f (key_of None o.value)))
+          (passed (is_ranked t f) (objects f t) o (with_keys (has_keys f) _ keyed (passed (are_ranked t) families f parts.0 (is_family f))) stands);
+      selections = λ j contest o stands at.
+          equal_texts (id_of o.value) (Some (canonical_selection_id (rank_of None t family.Contest (key_of None contest.value)) j))
+          (passed_at (is_selection_ranked t contest) (selections_of_contest contest) j o
+          (passed (λ contest. all_from (is_selection_ranked t contest) 0 (selections_of_contest contest)) (objects family.Contest t) contest parts.1 stands) at);
     }
 
-pub ids_of_one_unit : HasCanonicalIds (tree_of one_unit_canonical)
+pub ids_of_one_unit : HasCanonicalIds None (tree_of one_unit_canonical)
 unfolding serde_json_on_literals digits
 ids_of_one_unit = canonical_ids (tree_of one_unit_canonical) refl
 
-pub ids_of_small_ballot : HasCanonicalIds (tree_of small_ballot_canonical)
+pub ids_of_small_ballot : HasCanonicalIds None (tree_of small_ballot_canonical)
 unfolding serde_json_on_literals digits
 ids_of_small_ballot = canonical_ids (tree_of small_ballot_canonical) refl
 
@@ -74,9 +74,13 @@ ids_of_small_ballot = canonical_ids (tree_of small_ballot_canonical) refl
 abbrev first_unit : Data → Placed
 first_unit t = unwrap_or (slice_get (objects family.Unit t) 0) (report_of t)
 
-other_ids : HasCanonicalIds (tree_of small_ballot) → ⊥
+first_stands : IsObject (tree_of small_ballot) family.Unit (first_unit (tree_of small_ballot))
+unfolding serde_json_on_literals
+first_stands = (0, lit< tt, refl)
+
+other_ids : HasCanonicalIds None (tree_of small_ballot) → ⊥
 unfolding serde_json_on_literals digits
-other_ids h = true≢false (ap (is_same (Some (codes "a2"))) (h.families family.Unit 0 (first_unit (tree_of small_ballot)) refl refl))
+other_ids h = true≢false (ap (is_same (Some (codes "a2"))) (h.families family.Unit (first_unit (tree_of small_ballot)) refl first_stands))
 
 -- ---- the envelope
 

@@ -1,12 +1,14 @@
 -- Lists whose entries are related one by one, but for their order.
-use Rattle.std.proofs.Common.{◌≡◌, ◌≤◌, suc, List, [], ◌∷◌, ◌++◌, map, filter, filter_map, flat_map, find, length, Bool, true, false, true≢false, ◌||◌, cond, Option, Some, None, refl, sym, ap, ap₂, ◌∙◌, subst, arith}
+use Rattle.std.proofs.Common.{◌≡◌, ◌≤◌, suc, List, [], ◌∷◌, ◌++◌, map, filter, filter_map, flat_map, find, length, Bool, true, false, true≢false, ◌||◌, cond, Option, Some, None, option_and_then, Ordering, Less, Equal, Greater, is_eq, refl, sym, ap, ap₂, ◌∙◌, subst, arith}
+use Rattle.std.specs.Cmp.{IsTotalOrder}
 use Rattle.std.specs.List.{AllByRecursion, IsDistinct, cons_option, list_any}
+use Rattle.std.specs.Ordering.{eq_by_cmp, ordering_reverse}
 use Rattle.erd_check.proofs.Positions.{all_weakened}
 use Rattle.erd_check.proofs.Shapes.{false_unless}
 use Rattle.erd_check.proofs.Rising.{Has, here, later}
 use Rattle.erd_normal.proofs.lists.FoundBuilt.{AreApart}
 use Rattle.erd_normal.proofs.lists.Paired.{Paired, none, more}
-use Rattle.erd_normal.proofs.lists.Reordered.{Reordered, no_entry, one_kept, two_exchanged, in_turn, any-reordered, count-reordered, length-reordered, reordered_after, reordered_back, reordered_before, reordered_flat, reordered-has}
+use Rattle.erd_normal.proofs.lists.Reordered.{Reordered, no_entry, one_kept, two_exchanged, in_turn, any-reordered, count-reordered, length-reordered, reordered_after, reordered_back, reordered_before, reordered_flat, reordered-has, reordered_self}
 
 -- the entries of the one list are related to those of the other, each to one, in some order
 pub record Matched {A B : Type 0} (R : A → B → Type 0) (xs : List A) (ys : List B) : Type 0 where
@@ -42,12 +44,29 @@ matched_none R = record { middle = []; paired = none; reordered = no_entry }
 pub matched_then : {A B : Type 0} {R : A → B → Type 0} {xs : List A} {ys zs : List B} → Matched R xs ys → Reordered ys zs → Matched R xs zs
 matched_then h k = record { middle = h.middle; paired = h.paired; reordered = in_turn h.reordered k }
 
+-- the values of a function
+paired_with_values : {A B : Type 0} (f : A → B) (xs : List A) → Paired (λ x y. f x ≡ y) xs (map f xs)
+paired_with_values f [] = none
+paired_with_values f (x ∷ xs) = more refl (paired_with_values f xs)
+
+pub matched_map : {A B : Type 0} (f : A → B) (xs : List A) → Matched (λ x y. f x ≡ y) xs (map f xs)
+matched_map f xs = record { middle = map f xs; paired = paired_with_values f xs; reordered = reordered_self (map f xs) }
+
 pub matched_within : {A B : Type 0} {R : A → B → Type 0} (S : A → B → Type 0) {xs : List A} {ys : List B} → ((x : A) (y : B) → Has xs x → R x y → S x y) → Matched R xs ys → Matched S xs ys
 matched_within S h m = record { middle = m.middle; paired = paired_within S h m.paired; reordered = m.reordered }
 
 -- each entry of the second list has one of the first to which it is related
 pub matched_back : {A B : Type 0} {R : A → B → Type 0} {xs : List A} {ys : List B} (y : B) → Matched R xs ys → Has ys y → (x : A) × Has xs x × R x y
 matched_back y m h = paired_back y m.paired (reordered-has y (reordered_back m.reordered) h)
+
+paired_on : {A B : Type 0} {R : A → B → Type 0} {xs : List A} {ys : List B} (x : A) → Paired R xs ys → Has xs x → (y : B) × Has ys y × R x y
+paired_on x none h = elim h [ ]
+paired_on x (more {y = y} r rest) here = (y, here, r)
+paired_on x (more r rest) (later h) = let b = paired_on x rest h in (b.0, later b.1, b.2)
+
+-- and each of the first has one of the second
+pub matched_on : {A B : Type 0} {R : A → B → Type 0} {xs : List A} {ys : List B} (x : A) → Matched R xs ys → Has xs x → (y : B) × Has ys y × R x y
+matched_on x m h = let b = paired_on x m.paired h in (b.0, reordered-has b.0 m.reordered b.1, b.2)
 
 pub matched_append : {A B : Type 0} {R : A → B → Type 0} {xs us : List A} {ys vs : List B} → Matched R xs ys → Matched R us vs → Matched R (xs ++ us) (ys ++ vs)
 matched_append {ys = ys} m n = record {
@@ -118,6 +137,13 @@ pub data Both {A B : Type 0} (R : A → B → Type 0) : Option A → Option B �
   neither : Both R None None
   both : {x : A} {y : B} → R x y → Both R (Some x) (Some y)
 
+-- what is said of both, or of neither
+pub said_same : {A B C : Type 0} {R : A → B → Type 0} (f : A → Option C) (g : B → Option C) → ((x : A) (y : B) → R x y → f x ≡ g y) → (o : Option A) (p : Option B) → Both R o p → option_and_then f o ≡ option_and_then g p
+said_same f g same None None neither = refl
+said_same f g same (Some x) (Some y) (both r) = same x y r
+said_same f g same None (Some y) h = elim h [ ]
+said_same f g same (Some x) None h = elim h [ ]
+
 module _ {A B : Type 0} {R : A → B → Type 0} (test : A → Bool) (test' : B → Bool) (same : (x : A) (y : B) → R x y → test x ≡ test' y) where
   pub paired_find : {xs : List A} {ys : List B} → Paired R xs ys → Both R (find test xs) (find test' ys)
   paired_find none = neither
@@ -129,7 +155,7 @@ module _ {A B : Type 0} {R : A → B → Type 0} (test : A → Bool) (test' : B 
       at false true e h = cc
       at false false e h = h
 
-  paired_count : {xs : List A} {ys : List B} → Paired R xs ys → length (filter test xs) ≡ length (filter test' ys)
+  pub paired_count : {xs : List A} {ys : List B} → Paired R xs ys → length (filter test xs) ≡ length (filter test' ys)
   paired_count none = refl
   paired_count (more {x = x} {y = y} {xs = xs} {ys = ys} r rest) = at (test x) (test' y) (same x y r) (paired_count rest)
     where
@@ -142,6 +168,10 @@ module _ {A B : Type 0} {R : A → B → Type 0} (test : A → Bool) (test' : B 
   pub matched_find : {xs : List A} {ys : List B} → Matched R xs ys → AtMostOne test xs → Both R (find test xs) (find test' ys)
   matched_find {xs = xs} m few =
       subst (Both R (find test xs)) (find-reordered test' m.reordered (record { few = subst (λ n. n ≤ 1) (paired_count m.paired) few.few })) (paired_find m.paired)
+
+  -- as many entries pass
+  pub matched_count : {xs : List A} {ys : List B} → Matched R xs ys → length (filter test xs) ≡ length (filter test' ys)
+  matched_count m = paired_count m.paired ∙ count-reordered test' m.reordered
 
 -- ---- lists of values that are all different
 
@@ -175,6 +205,22 @@ distinct-paired {A} {B} {R} test test' tells (more {x = x} {y = y} {xs = xs} {ys
     apart inside none a = tt
     apart inside (more {x = x'} {y = y'} s more_of) a =
         (false_unless (test' y y') (λ e. true≢false (sym (tells x x' y y' here (later (inside x' here)) r s e) ∙ a.0)), apart (λ z h. inside z (later h)) more_of a.1)
+
+-- a test that sees no order
+abbrev pub IsEven : {A : Type 0} → (A → A → Bool) → Type 0
+IsEven {A} test = (x y : A) → test x y ≡ false → test y x ≡ false
+
+pub distinct_matched : {A B : Type 0} {R : A → B → Type 0} (test : A → A → Bool) (test' : B → B → Bool) {xs : List A} {ys : List B} → IsEven test'
+    → ((x x' : A) (y y' : B) → Has xs x → Has xs x' → R x y → R x' y' → test' y y' ≡ true → test x x' ≡ true) → Matched R xs ys → IsDistinct test xs → IsDistinct test' ys
+distinct_matched test test' even tells m d = distinct-reordered test' (λ x y i j. even x y) m.reordered (distinct-paired test test' tells m.paired d)
+
+pub even_order : {A : Type 0} (cmp : A → A → Ordering) → IsTotalOrder cmp → IsEven (eq_by_cmp cmp)
+even_order cmp order d e h = ap is_eq (order.antisymm e d) ∙ at (cmp d e) h
+  where
+    at : (o : Ordering) → is_eq o ≡ false → is_eq (ordering_reverse o) ≡ false
+    at Less e = refl
+    at Equal e = e
+    at Greater e = refl
 
 -- as many entries
 paired_length : {A B : Type 0} {R : A → B → Type 0} {xs : List A} {ys : List B} → Paired R xs ys → length xs ≡ length ys

@@ -16,10 +16,10 @@ abbrev pub rank_in : {A : Type 0} → (A → A → Ordering) → A → List A �
 rank_in cmp x xs = length (filter (λ y. is_lt (cmp y x)) xs)
 
 -- an entry that fails a test, and one that passes, in front
-fails_first : {A : Type 0} (test : A → Bool) (x : A) (xs : List A) → test x ≡ false → length (filter test (x ∷ xs)) ≡ length (filter test xs)
+pub fails_first : {A : Type 0} (test : A → Bool) (x : A) (xs : List A) → test x ≡ false → length (filter test (x ∷ xs)) ≡ length (filter test xs)
 fails_first test x xs e = ap (λ b. length (cond b (x ∷ filter test xs) (filter test xs))) e
 
-passes_first : {A : Type 0} (test : A → Bool) (x : A) (xs : List A) → test x ≡ true → length (filter test (x ∷ xs)) ≡ suc (length (filter test xs))
+pub passes_first : {A : Type 0} (test : A → Bool) (x : A) (xs : List A) → test x ≡ true → length (filter test (x ∷ xs)) ≡ suc (length (filter test xs))
 passes_first test x xs e = ap (λ b. length (cond b (x ∷ filter test xs) (filter test xs))) e
 
 none_passes : {A : Type 0} (test : A → Bool) (xs : List A) → AllByRecursion (λ y. test y ≡ false) xs → length (filter test xs) ≡ 0

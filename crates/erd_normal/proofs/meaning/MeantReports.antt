@@ -3,7 +3,6 @@ use mathlib.Core.Path.{fun_ext}
 use Rattle.std.proofs.Common.{◌≡◌, ℕ, List, [], ◌∷◌, ◌++◌, map, codes, subst, find, slice_get, Bool, true, false, if◌then◌else◌, Equal, Option, Some, None, option_and_then, refl, sym, ap, ap₂, ◌∙◌}
 use Rattle.std.proofs.lemmas.Cmp.{tied_itself}
 use Rattle.std.specs.Cmp.Lexicographic.{options_total}
-use Rattle.std.specs.List.{AllByRecursion}
 use Rattle.std.specs.Option.{option_cmp}
 use Rattle.std.specs.Ordering.{is_eq}
 use Rattle.serde_json.specs.Data.{Data, object, Members}
@@ -37,17 +36,17 @@ use Rattle.erd_meaning.proofs.accepted.Phases.{no_shape_fault}
 use Rattle.erd_meaning.proofs.accepted.Skeleton.{Skeleton, election_object, election_stands, elections_placed, skeleton_of_shape}
 use Rattle.erd_normal.specs.code.NormalTree.{by_key, normal_election, normal_election_value, normal_object, normal_report_value, normal_tree, normal_value}
 use Rattle.erd_normal.proofs.built.AskedMembers.{AskedAs, asked_as}
-use Rattle.erd_normal.proofs.lists.BuiltLists.{all_map}
-use Rattle.erd_normal.proofs.lists.FoundBuilt.{IsKept, apart_untied, find_values, found_in_order}
+use Rattle.erd_normal.proofs.lists.FoundBuilt.{apart_untied, find_values}
+use Rattle.erd_normal.proofs.lists.Matched.{matched_find, matched_within, one_if_apart, said_same}
 use Rattle.erd_normal.proofs.built.LeastKeys.{key_of_object}
 use Rattle.erd_normal.proofs.meaning.MeantKinds.{flat_no_selections, kind_is_flat}
 use Rattle.erd_normal.proofs.meaning.MeantObjects.{Facts, member_alike, object_meant, plain_kept, plain_members, record_alike}
 use Rattle.erd_normal.proofs.meaning.MeantValues.{is_flat, nothing_of, value_meant}
 use Rattle.erd_normal.proofs.built.NormalGets.{get_election, get_election-type}
 use Rattle.erd_normal.proofs.canonical.NormalKeys.{IsClassed, object_classed}
-use Rattle.erd_normal.proofs.built.NormalObjects.{elections_built, objects_built, values_of}
+use Rattle.erd_normal.proofs.built.NormalObjects.{IsBuilt, elections_built, objects_matched, values_of}
 use Rattle.erd_normal.proofs.built.NormalReports.{class_of_built_report, class_of_report, get_report}
-use Rattle.erd_check.proofs.Positions.{all_by_entry}
+use Rattle.erd_check.proofs.Positions.{map_has}
 use Rattle.erd_normal.proofs.canonical.DistinctObjects.{values_distinct}
 
 -- an object has the key
@@ -76,25 +75,31 @@ module _ (π ρ : Preference) (t : Data) (facts : Facts π ρ t) where
   -- ---- families
 
   module _ (f : Family) (k : Key) where
-    abbrev IsKeyKept : Data → Type 0
-    IsKeyKept = IsKept (is_of_key ρ k) (is_of_key ρ k) (normal_object π t f) (object_record ρ t (role.OfFamily f)) (object_record ρ (normal_tree π t) (role.OfFamily f))
+    -- the two values have the key both or neither, and mean the same
+    abbrev IsKept : Data → Data → Type 0
+    IsKept d e = (is_of_key ρ k d ≡ is_of_key ρ k e) × (object_record ρ (normal_tree π t) (role.OfFamily f) e ≡ object_record ρ t (role.OfFamily f) d)
 
-    key_kept : (o : Placed) → Has (objects f t) o → IsKeyKept o.value
-    key_kept o h =
-        let c : IsClassed f o.value = object_classed π t facts.accepted facts.tree f o h in
-        (ap (λ l. is_eq (option_cmp key_cmp l (Some k))) (key_of_object π ρ t f c.0 o.value c.2 c.1), object_meant π ρ t facts f o h)
+    object_kept : (o : Placed) → Has (objects f t) o → (e : Data) → IsBuilt π t f o.value e → IsKept o.value e
+    object_kept o h e is =
+        let c : IsClassed f o.value = object_classed π t facts.accepted facts.tree f o h in (
+          ap (λ l. is_eq (option_cmp key_cmp l (Some k))) (sym (key_of_object π ρ t f c.0 o.value c.2 c.1) ∙ ap (key_of ρ) is),
+          ap (object_record ρ (normal_tree π t) (role.OfFamily f)) (sym is) ∙ object_meant π ρ t facts f o h,
+        )
 
-    all_kept : AllByRecursion IsKeyKept (values_of f t)
-    all_kept = all_map (λ o. IsKeyKept o.value) IsKeyKept (λ o. o.value) (objects f t) (λ o h. h) (all_by_entry (λ o. IsKeyKept o.value) (objects f t) key_kept)
+    value_kept : (d e : Data) → Has (values_of f t) d → IsBuilt π t f d e → IsKept d e
+    value_kept d e h is =
+        let o = map_has (λ (x : Placed). x.value) (objects f t) d h in
+        subst (λ x. IsKept x e) o.2 (object_kept o.0 o.1 e (ap (normal_object π t f) o.2 ∙ is))
 
     found_by_key : (u : Data) → object_with_key ρ u f k ≡ find (is_of_key ρ k) (values_of f u)
     found_by_key u = find_values (is_of_key ρ k) (λ o. o.value) (objects f u)
 
     pub records_keyed : has_keys f ≡ true → option_and_then (object_record ρ (normal_tree π t) (role.OfFamily f)) (object_with_key ρ (normal_tree π t) f k) ≡ option_and_then (object_record ρ t (role.OfFamily f)) (object_with_key ρ t f k)
     records_keyed keyed =
-        ap (option_and_then (object_record ρ (normal_tree π t) (role.OfFamily f))) (found_by_key (normal_tree π t) ∙ ap (find (is_of_key ρ k)) (objects_built π t clean facts.tree f keyed))
-        ∙ found_in_order (is_of_key ρ k) (is_of_key ρ k) (normal_object π t f) (object_record ρ t (role.OfFamily f)) (object_record ρ (normal_tree π t) (role.OfFamily f)) (by_key π) (values_of f t)
-        (apart_untied (is_of_key ρ k) (by_key ρ) (values_of f t) (keys_tied ρ k) (values_distinct ρ t facts.also_accepted f keyed)) all_kept
+        ap (option_and_then (object_record ρ (normal_tree π t) (role.OfFamily f))) (found_by_key (normal_tree π t))
+        ∙ sym (said_same (object_record ρ t (role.OfFamily f)) (object_record ρ (normal_tree π t) (role.OfFamily f)) (λ d e r. sym r.1) (find (is_of_key ρ k) (values_of f t)) (find (is_of_key ρ k) (values_of f (normal_tree π t)))
+        (matched_find (is_of_key ρ k) (is_of_key ρ k) (λ d e r. r.0) (matched_within IsKept value_kept (objects_matched π t clean facts.tree f keyed))
+        (one_if_apart (is_of_key ρ k) (values_of f t) (apart_untied (is_of_key ρ k) (by_key ρ) (values_of f t) (keys_tied ρ k) (values_distinct ρ t facts.also_accepted f keyed)))))
         ∙ sym (ap (option_and_then (object_record ρ t (role.OfFamily f))) (found_by_key t))
 
   pub records_meant : (f : Family) (k : Key) → records_of ρ (normal_tree π t) f k ≡ records_of ρ t f k

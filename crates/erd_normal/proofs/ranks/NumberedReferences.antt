@@ -24,9 +24,9 @@ use Rattle.erd_normal.proofs.lists.DistinctEntries.{place_of}
 use Rattle.erd_normal.proofs.lists.NumbersInOrder.{ranks_climb}
 use Rattle.erd_normal.proofs.lists.RisingSets.{has_from_In, In-from_has}
 use Rattle.erd_normal.specs.code.Building.{AreNumbers, numbered_id}
-use Rattle.erd_normal.specs.Canonical.{id_prefix}
+use Rattle.erd_normal.specs.Canonical.{id_prefix, rank_of}
 use Rattle.erd_normal.specs.code.KeyRanks.{keyed_value, rising_in_contest, rising_objects}
-use Rattle.erd_normal.specs.code.NormalTree.{normal_id, rank_of, reference_cmp}
+use Rattle.erd_normal.specs.code.NormalTree.{normal_id, reference_cmp}
 use Rattle.erd_normal.specs.code.ObjectNumbers.{AreSelectionNumbers, AreObjectNumbers, number_in, number_named, numbers_of_family, rising_of_family}
 use Rattle.erd_normal.specs.declared.numbers.family_table.FamilyTable.{FamilyTable}
 use Rattle.erd_normal.specs.declared.numbers.object_numbers.ObjectNumbers.{ObjectNumbers}

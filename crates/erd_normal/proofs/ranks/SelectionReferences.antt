@@ -27,7 +27,8 @@ use Rattle.erd_normal.proofs.lists.DistinctEntries.{place_of}
 use Rattle.erd_normal.proofs.lists.FoundInParts.{FoundSelection, owner_found}
 use Rattle.erd_normal.proofs.lists.RisingSets.{has_from_In, In-from_has}
 use Rattle.erd_normal.proofs.unique.Selections.{has_name}
-use Rattle.erd_normal.specs.code.NormalTree.{contest_with, id_of_selection, normal_selection_reference, rank_of, rank_of_name, selection_with}
+use Rattle.erd_normal.specs.Canonical.{rank_of}
+use Rattle.erd_normal.specs.code.NormalTree.{contest_with, id_of_selection, normal_selection_reference, rank_of_name, selection_with}
 use Rattle.erd_normal.specs.code.PlacedTree.{selection_id_numbered}
 use Rattle.erd_normal.specs.code.ObjectNumbers.{AreObjectNumbers, number_in}
 use Rattle.erd_normal.specs.declared.numbers.object_numbers.ObjectNumbers.{ObjectNumbers}

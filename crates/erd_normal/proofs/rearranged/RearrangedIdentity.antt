@@ -1,10 +1,9 @@
 -- A report that is alike to an accepted one has no fault of identity, where the function of texts tells `@id`s apart.
-use Rattle.std.proofs.Common.{◌≡◌, ℕ, List, Bool, true, false, true≢false, is_eq, Ordering, Less, Equal, Greater, Some, refl, sym, ap, ap₂, ◌∙◌, subst}
+use Rattle.std.proofs.Common.{◌≡◌, ℕ, List, true, true≢false, is_eq, Less, Equal, Some, refl, sym, ap, ap₂, ◌∙◌, subst}
 use Rattle.std.proofs.lemmas.Cmp.{on_total, tied_itself}
-use Rattle.std.specs.Cmp.{IsTotalOrder}
 use Rattle.std.specs.Cmp.Lexicographic.{options_total}
 use Rattle.std.specs.List.{IsDistinct}
-use Rattle.std.specs.Ordering.{eq_by_cmp, ordering_reverse}
+use Rattle.std.specs.Ordering.{eq_by_cmp}
 use Rattle.serde_json.specs.Data.{Data}
 use Rattle.erd_tables.specs.Places.{place_cmp}
 use Rattle.erd_tables.proofs.PlaceOrder.{place_cmp_total}
@@ -28,29 +27,13 @@ use Rattle.erd_meaning.proofs.accepted.References.{Contains-Has, Has-Contains, o
 use Rattle.erd_normal.specs.code.NormalTree.{by_key}
 use Rattle.erd_normal.proofs.canonical.DistinctObjects.{values_distinct}
 use Rattle.erd_normal.proofs.lists.DistinctEntries.{distinct_one}
-use Rattle.erd_normal.proofs.lists.Matched.{Matched, distinct-paired, distinct-reordered, matched_back}
+use Rattle.erd_normal.proofs.lists.Matched.{IsEven, Matched, distinct_matched, even_order, matched_back}
 use Rattle.erd_normal.proofs.rearranged.Alike.{Alike}
 use Rattle.erd_normal.proofs.rearranged.RelatedMembers.{Related}
 use Rattle.erd_normal.proofs.rearranged.RelatedObjects.{family_matched, family_values, object_values, id_became, related_key}
 use Rattle.erd_normal.proofs.rearranged.SharedIds.{TellsIds, ids_distinct, one_family, placed_value, by_one_id, id_of_both, have_one_id, value_placed}
 
--- ---- matched lists of values that are all different
-
--- a test that sees no order
-abbrev pub IsEven : {A : Type 0} → (A → A → Bool) → Type 0
-IsEven {A} test = (x y : A) → test x y ≡ false → test y x ≡ false
-
-pub distinct_matched : {A B : Type 0} {R : A → B → Type 0} (test : A → A → Bool) (test' : B → B → Bool) {xs : List A} {ys : List B} → IsEven test'
-    → ((x x' : A) (y y' : B) → Has xs x → Has xs x' → R x y → R x' y' → test' y y' ≡ true → test x x' ≡ true) → Matched R xs ys → IsDistinct test xs → IsDistinct test' ys
-distinct_matched test test' even tells m d = distinct-reordered test' (λ x y i j. even x y) m.reordered (distinct-paired test test' tells m.paired d)
-
-pub even_order : {A : Type 0} (cmp : A → A → Ordering) → IsTotalOrder cmp → IsEven (eq_by_cmp cmp)
-even_order cmp order d e h = ap is_eq (order.antisymm e d) ∙ at (cmp d e) h
-  where
-    at : (o : Ordering) → is_eq o ≡ false → is_eq (ordering_reverse o) ≡ false
-    at Less e = refl
-    at Equal e = e
-    at Greater e = refl
+-- ---- tests that see no order
 
 same_key_even : (π : Preference) → IsEven (eq_by_cmp (by_key π))
 same_key_even π = even_order (by_key π) (on_total (key_of π) (options_total key_cmp_total))

@@ -37,7 +37,7 @@ use Rattle.erd_meaning.proofs.accepted.Phases.{no_shape_fault}
 use Rattle.erd_normal.specs.code.NormalTree.{by_key, by_name}
 use Rattle.erd_normal.proofs.canonical.DistinctObjects.{selection_values_distinct, values_distinct}
 use Rattle.erd_normal.proofs.lists.FoundBuilt.{find_values}
-use Rattle.erd_normal.proofs.lists.Matched.{AtMostOne, Both, both, neither, apart_distinct, matched_find, one_if_apart}
+use Rattle.erd_normal.proofs.lists.Matched.{AtMostOne, Both, both, neither, apart_distinct, matched_find, one_if_apart, said_same}
 use Rattle.erd_normal.proofs.lists.Paired.{Paired, more, none}
 use Rattle.erd_normal.proofs.meaning.MeantKinds.{flat_no_selections, is_flat_class, is_selections, kind_is_flat, selections_family, selections_kind, selections_name}
 use Rattle.erd_normal.proofs.meaning.MeantObjects.{is_named, named_tied, plain_members, record_alike}
@@ -49,13 +49,6 @@ use Rattle.erd_normal.proofs.rearranged.RelatedObjects.{elections_paired, family
 use Rattle.erd_normal.proofs.rearranged.RelatedOwners.{Kin, kin_matched, kin_selections}
 use Rattle.erd_normal.proofs.rearranged.RelatedRecords.{BothObjects, both_objects, plain_still, selection_still, unless_empty_same}
 use Rattle.erd_normal.proofs.rearranged.SharedIds.{TellsIds, value_placed}
-
--- what is said of both, or of neither
-said_same : {A B C : Type 0} {R : A → B → Type 0} (f : A → Option C) (g : B → Option C) → ((x : A) (y : B) → R x y → f x ≡ g y) → (o : Option A) (p : Option B) → Both R o p → option_and_then f o ≡ option_and_then g p
-said_same f g same None None neither = refl
-said_same f g same (Some x) (Some y) (both r) = same x y r
-said_same f g same None (Some y) h = elim h [ ]
-said_same f g same (Some x) None h = elim h [ ]
 
 first_both : {A B : Type 0} {R : A → B → Type 0} {xs : List A} {ys : List B} → Paired R xs ys → Both R (slice_get xs 0) (slice_get ys 0)
 first_both none = neither

@@ -28,9 +28,9 @@ use Rattle.erd_meaning.proofs.accepted.Skeleton.{values-placed_entries}
 use Rattle.erd_normal.specs.code.NormalTree.{by_name}
 use Rattle.erd_normal.proofs.canonical.DistinctObjects.{selection_values_distinct}
 use Rattle.erd_normal.proofs.lists.DistinctEntries.{distinct_one}
-use Rattle.erd_normal.proofs.lists.Matched.{matched_back}
+use Rattle.erd_normal.proofs.lists.Matched.{matched_back, distinct_matched, even_order}
 use Rattle.erd_normal.proofs.rearranged.Alike.{Alike}
-use Rattle.erd_normal.proofs.rearranged.RearrangedIdentity.{distinct_matched, even_order, identity_kept, not_before_itself}
+use Rattle.erd_normal.proofs.rearranged.RearrangedIdentity.{identity_kept, not_before_itself}
 use Rattle.erd_normal.proofs.rearranged.RearrangedReferences.{references_kept}
 use Rattle.erd_normal.proofs.rearranged.RearrangedShape.{shape_kept}
 use Rattle.erd_normal.proofs.rearranged.RelatedNames.{related_name}

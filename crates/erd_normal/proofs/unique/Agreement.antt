@@ -18,7 +18,7 @@ use Rattle.erd_meaning.specs.Records.{meaning}
 use Rattle.erd_meaning.proofs.accepted.References.{resolves}
 use Rattle.erd_normal.specs.Canonical.{IsCanonical}
 use Rattle.erd_normal.proofs.unique.Arrays.{Names}
-use Rattle.erd_normal.proofs.unique.Selections.{ObjectPair, SelectionPair, find_paired, has_name, object_pairs, paired_at, paired_flat, selection_pairs, selections_paired}
+use Rattle.erd_normal.proofs.unique.Selections.{ObjectPair, SelectionPair, find_paired, has_name, object_pairs, paired_at, paired_flat, ranks_alike, selection_pairs, selections_paired}
 use Rattle.erd_normal.proofs.lists.Paired.{Paired}
 use Rattle.erd_normal.proofs.unique.Contents.{SameNames}
 use Rattle.erd_normal.proofs.unique.Families.{family_paired}
@@ -79,7 +79,9 @@ module _ (π : Preference) (t u : Data) (canonical : IsCanonical π t) (canonica
   contest_pairs = paired_at (ObjectPair π t u family.Contest) (ContestPair π t u) (objects family.Contest t) (objects family.Contest u) (pairs_of family.Contest refl)
       (λ i o p e g r. record {
         pair = r;
-        selections = selection_pairs π t u canonical canonical' i o p e g (selections_paired π t u canonical canonical' o.value p.value (record { place = o.place; is = stands π t canonical.accepted family.Contest o (has_at (objects family.Contest t) i o e) }) (record { place = p.place; is = stands π u canonical'.accepted family.Contest p (has_at (objects family.Contest u) i p g) }) r.alike.1);
+        selections = selection_pairs π t u canonical canonical' o p (has_at (objects family.Contest t) i o e) (has_at (objects family.Contest u) i p g)
+            (ranks_alike π t u family.Contest (family_paired π t u canonical canonical' same family.Contest refl) o p r.alike)
+            (selections_paired π t u canonical canonical' o.value p.value (record { place = o.place; is = stands π t canonical.accepted family.Contest o (has_at (objects family.Contest t) i o e) }) (record { place = p.place; is = stands π u canonical'.accepted family.Contest p (has_at (objects family.Contest u) i p g) }) r.alike.1);
       })
 
   pub all_selections : Paired (SelectionPair π t u) (objects family.Selection t) (objects family.Selection u)

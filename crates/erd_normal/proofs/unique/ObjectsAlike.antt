@@ -8,18 +8,16 @@ use Rattle.erd_check.proofs.Rising.{Has}
 use Rattle.erd_meaning.specs.Keys.{Preference, has_keys}
 use Rattle.erd_meaning.specs.Objects.{Placed, IsObject, id_of, objects}
 use Rattle.erd_meaning.specs.Records.{object_record}
-use Rattle.erd_meaning.proofs.accepted.References.{Has-Contains}
+use Rattle.erd_meaning.proofs.accepted.References.{Contains-Has, Has-Contains}
 use Rattle.erd_meaning.proofs.accepted.Standing.{one_object}
 use Rattle.erd_normal.specs.Canonical.{IsCanonical}
 use Rattle.erd_normal.specs.Laws.{MeanAlike, ObjectsAgree}
 use Rattle.erd_normal.proofs.unique.Unique.{leaves, object_unique, selection_same, unique, within_t, within_u}
-use Rattle.erd_check.proofs.Positions.{position_of}
 
 -- contests are told apart by their `@id` texts
 one_contest : (π : Preference) (t : Data) → IsCanonical π t → (one other : Placed) → Has (objects family.Contest t) one → Has (objects family.Contest t) other → id_of one.value ≡ id_of other.value → one.value ≡ other.value
 one_contest π t canonical one other h k ids =
-    let i = position_of (objects family.Contest t) one h in
-    let its_id = canonical.ids.families family.Contest i.0 one refl i.1 in
+    let its_id = canonical.ids.families family.Contest one refl (Contains-Has (objects family.Contest t) one h) in
     ap (λ o. o.value) (one_object π t canonical.accepted family.Contest family.Contest one other _ h k its_id (sym ids ∙ its_id))
 
 object_alike : (π : Preference) (t u : Data) → MeanAlike π t u → (f : Family) (one other : Placed) → has_keys f ≡ true → IsObject t f one → IsObject u f other

@@ -1,7 +1,7 @@
 -- The selections of a contest are paired by their names, and all objects by their `@id` texts.
-use Rattle.std.proofs.Common.{◌≡◌, ◌+◌, ℕ, zero, suc, List, ◌∷◌, ◌++◌, Option, Some, None, option_map, option_and_then, filter_map, find, flat_map, Bool, true, false, codes, slice_get, refl, sym, ap, ◌∙◌, subst}
+use Rattle.std.proofs.Common.{◌≡◌, ◌+◌, ℕ, zero, suc, List, ◌∷◌, ◌++◌, Option, Some, None, option_map, option_and_then, filter_map, find, flat_map, Bool, true, false, codes, is_lt, slice_get, refl, sym, ap, ◌∙◌, subst}
 use Rattle.std.specs.Str.{bytes_eq}
-use Rattle.std.specs.Option.{option_map_or}
+use Rattle.std.specs.Option.{option_cmp, option_map_or}
 use Rattle.std.specs.List.Sorted.{IsStrictlySortedBy}
 use Rattle.serde_json.specs.Data.{Data, object, array, Items, Members, no_items, item}
 use Rattle.serde_json.specs.Find.{get_member}
@@ -14,6 +14,8 @@ use Rattle.erd_tables.specs.declared.class.Family.TheVariants as family
 use Rattle.erd_tables.specs.declared.class.Role.TheVariants as role
 use Rattle.erd_tables.specs.declared.member.MemberKind.TheVariants as kind
 use Rattle.erd_check.specs.declared.want.Want.TheVariants.{Member, Object}
+use Rattle.erd_check.proofs.Positions.{has_at}
+use Rattle.erd_check.proofs.Rising.{Has}
 use Rattle.erd_check.proofs.ObjectsAt.{ObjectAt, ObjectIn, object_in}
 use Rattle.erd_check.proofs.Shapes.{Within}
 use Rattle.erd_check.specs.Wants.{asked}
@@ -25,15 +27,16 @@ use Rattle.erd_meaning.specs.Meaning.{SelectionRecord, MemberValue, a_selection_
 use Rattle.erd_meaning.specs.Records.{plain_member, selection_record, object_record, selection_map, unless_empty}
 use Rattle.erd_meaning.specs.SelectionNames.{selection_role, name_cmp, name_in_class, name_of}
 use Rattle.erd_meaning.specs.Accepted.{IsAccepted}
-use Rattle.erd_meaning.proofs.accepted.References.{find-Some}
+use Rattle.erd_meaning.proofs.accepted.References.{Contains-Has, find-Some}
 use Rattle.erd_meaning.specs.NameParts.{NameParts}
 use Rattle.erd_meaning.proofs.accepted.Standing.{contest_selections}
-use Rattle.erd_meaning.specs.Keys.{Preference, has_keys}
+use Rattle.erd_meaning.specs.Keys.{Preference, has_keys, key_cmp, key_of}
 use Rattle.erd_meaning.specs.code.Orders.{name_cmp_exact, name_cmp_total}
 use Rattle.erd_meaning.proofs.accepted.Phases.{no_shape_fault}
 use Rattle.erd_normal.proofs.unique.Families.{Alike}
 use Rattle.erd_normal.proofs.unique.Contents.{Filled, absent, filled}
-use Rattle.erd_normal.specs.Canonical.{IsCanonical}
+use Rattle.erd_normal.specs.Canonical.{IsCanonical, canonical_id, canonical_selection_id, rank_of}
+use Rattle.erd_normal.proofs.lists.Matched.{paired_count}
 use Rattle.erd_normal.proofs.lists.Paired.{Keys, Paired, all_keys, has_key, keys_rise, paired}
 use Rattle.erd_normal.proofs.unique.Records.{class_within, map_from_found, members_in, record_with-Some}
 use Rattle.erd_normal.proofs.unique.FamilyArrays.{keyed_array, keyed_entry}
@@ -159,13 +162,30 @@ pub record ObjectPair (π : Preference) (t u : Data) (f : Family) (o p : Placed)
   pub alike : Alike π t u f o p
   pub same_id : SameId o p
 
-pub object_pairs : (π : Preference) (t u : Data) → IsCanonical π t → IsCanonical π u → (f : Family) → has_keys f ≡ true → Paired (Alike π t u f) (objects f t) (objects f u) → Paired (ObjectPair π t u f) (objects f t) (objects f u)
-object_pairs π t u canonical canonical' f h pairs = paired_at (Alike π t u f) (ObjectPair π t u f) (objects f t) (objects f u) pairs (λ i o p e g a. record { alike = a; same_id = canonical.ids.families f i o h e ∙ sym (canonical'.ids.families f i p h g) })
+-- a key has the same rank in both reports
+pub ranks_alike : (π : Preference) (t u : Data) (f : Family) → Paired (Alike π t u f) (objects f t) (objects f u) → (o p : Placed) → Alike π t u f o p
+    → rank_of π t f (key_of π o.value) ≡ rank_of π u f (key_of π p.value)
+ranks_alike π t u f pairs o p alike =
+    ap (rank_of π t f) alike.0
+    ∙ paired_count (λ x. is_lt (option_cmp key_cmp (key_of π x.value) (key_of π p.value))) (λ x. is_lt (option_cmp key_cmp (key_of π x.value) (key_of π p.value)))
+    (λ x y r. ap (λ k. is_lt (option_cmp key_cmp k (key_of π p.value))) r.0) pairs
 
--- the selections of the contests at one place
-pub selection_pairs : (π : Preference) (t u : Data) → IsCanonical π t → IsCanonical π u → (i : ℕ) (o p : Placed) → slice_get (objects family.Contest t) i ≡ Some o → slice_get (objects family.Contest u) i ≡ Some p
+pub object_pairs : (π : Preference) (t u : Data) → IsCanonical π t → IsCanonical π u → (f : Family) → has_keys f ≡ true → Paired (Alike π t u f) (objects f t) (objects f u) → Paired (ObjectPair π t u f) (objects f t) (objects f u)
+object_pairs π t u canonical canonical' f h pairs = paired_at (Alike π t u f) (ObjectPair π t u f) (objects f t) (objects f u) pairs (λ i o p e g a. record {
+  alike = a;
+  same_id = canonical.ids.families f o h (Contains-Has (objects f t) o (has_at (objects f t) i o e)) ∙ ap (canonical_id f) (ranks_alike π t u f pairs o p a)
+      ∙ sym (canonical'.ids.families f p h (Contains-Has (objects f u) p (has_at (objects f u) i p g)));
+})
+
+-- the selections of two contests whose keys have one rank
+pub selection_pairs : (π : Preference) (t u : Data) → IsCanonical π t → IsCanonical π u → (o p : Placed) → Has (objects family.Contest t) o → Has (objects family.Contest u) p
+    → rank_of π t family.Contest (key_of π o.value) ≡ rank_of π u family.Contest (key_of π p.value)
     → Paired (AlikeSelections π t u) (entries_at (codes "ContestSelection") o.value) (entries_at (codes "ContestSelection") p.value)
     → Paired (SelectionPair π t u) (placed_entries (codes "ContestSelection") o) (placed_entries (codes "ContestSelection") p)
-selection_pairs π t u canonical canonical' i o p e g pairs =
+selection_pairs π t u canonical canonical' o p e g ranks pairs =
     paired_at (λ x y. AlikeSelections π t u x.value y.value) (SelectionPair π t u) _ _ (paired_placed (AlikeSelections π t u) _ _ 0 0 _ _ pairs)
-    (λ j x y k l a. record { alike = a; same_id = canonical.ids.selections i j o x e k ∙ sym (canonical'.ids.selections i j p y g l) })
+    (λ j x y k l a. record {
+      alike = a;
+      same_id = canonical.ids.selections j o x (Contains-Has (objects family.Contest t) o e) k ∙ ap (λ n. Some (canonical_selection_id n j)) ranks
+          ∙ sym (canonical'.ids.selections j p y (Contains-Has (objects family.Contest u) p g) l);
+    })

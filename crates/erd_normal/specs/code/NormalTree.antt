@@ -17,17 +17,13 @@ use Rattle.erd_check.specs.Values.{entries_of, entries_at, text_of}
 use Rattle.erd_check.specs.Wants.{class_of_object}
 use Rattle.erd_meaning.specs.Keys.{Preference, key_cmp, key_of}
 use Rattle.erd_meaning.specs.NameParts.{NameParts}
-use Rattle.erd_meaning.specs.Objects.{has_id, contests, objects, selections_of_contest, Placed}
+use Rattle.erd_meaning.specs.Objects.{has_id, contests, selections_of_contest, Placed}
 use Rattle.erd_meaning.specs.Records.{class_of_node}
 use Rattle.erd_meaning.specs.SelectionNames.{compact_cmp, key_named, name_cmp, name_of, rising_list, selection_role, with_rising_text}
 use Rattle.erd_meaning.specs.declared.keys.key.Key.{Key}
-use Rattle.erd_normal.specs.Canonical.{canonical_id, canonical_selection_id}
+use Rattle.erd_normal.specs.Canonical.{canonical_id, canonical_selection_id, rank_of}
 
 -- ---- ranks and references
-
--- how many objects of the family have lesser keys
-abbrev pub rank_of : Preference → Data → Family → Option Key → ℕ
-rank_of π t f k = length (filter (λ o. is_lt (option_cmp key_cmp (key_of π o.value) k)) (objects f t))
 
 -- the canonical `@id` of the object of the family with this key, if objects of the family have one
 abbrev pub id_of_key : Preference → Data → Family → Option Key → Option (List ℕ)

@@ -13,10 +13,10 @@ use Rattle.erd_check.specs.Values.{entries_at}
 use Rattle.erd_meaning.specs.Objects.{IsBounded, Placed, contests, numbered_selections}
 use Rattle.erd_meaning.specs.SelectionNames.{key_named, name_of}
 use Rattle.erd_meaning.specs.declared.keys.key.Key.{Key}
-use Rattle.erd_normal.specs.Canonical.{id_prefix}
+use Rattle.erd_normal.specs.Canonical.{id_prefix, rank_of}
 use Rattle.erd_normal.specs.code.Building.{AreNumbers}
 use Rattle.erd_normal.specs.code.KeyRanks.{keyed_value, rising_in_contest, rising_objects}
-use Rattle.erd_normal.specs.code.NormalTree.{rank_of, rank_of_name}
+use Rattle.erd_normal.specs.code.NormalTree.{rank_of_name}
 use Rattle.erd_normal.specs.declared.numbers.object_numbers.ObjectNumbers.{ObjectNumbers}
 use denote.Ref.{Bor}
 
