@@ -14,7 +14,7 @@ use Rattle.erd_tables.specs.declared.member.MemberKind.{MemberKind}
 use Rattle.erd_tables.specs.declared.member.MemberKind.TheVariants as kind
 use Rattle.erd_tables.specs.declared.place.Step.{Step}
 use Rattle.erd_check.specs.Values.{list_of_items}
-use Rattle.erd_check.specs.Wants.{Asked, scope_inside, asked_at}
+use Rattle.erd_check.specs.Wants.{Asked, scope_inside, asked_at, is_elections}
 use Rattle.erd_check.specs.declared.want.Scope.{Scope}
 use Rattle.erd_check.specs.declared.want.Scope.TheVariants as scope
 use Rattle.erd_check.specs.declared.want.Want.{Want}
@@ -115,11 +115,6 @@ is_strange_identity w = false
 abbrev pub is_other_status : Want → Data → Bool
 is_other_status Status d = option_map_or (λ s. not (bytes_eq s (codes "pre-election"))) (as_str d) false
 is_other_status w d = false
-
--- the array of elections
-abbrev pub is_elections : Want → Bool
-is_elections (Member kind.Elections required) = true
-is_elections w = false
 
 -- an array that may not be empty: a set of references or of translations that is required
 abbrev pub wants_entry : Want → Bool

@@ -100,9 +100,14 @@ abbrev pub is_keyed_array : Want → Bool
 is_keyed_array (Member (kind.Keyed f) required) = true
 is_keyed_array w = false
 
+-- the array of elections
+abbrev pub is_elections : Want → Bool
+is_elections (Member kind.Elections required) = true
+is_elections w = false
+
 -- a set array of the table: the order of its entries means nothing
 abbrev pub is_table_set : Want → Bool
-is_table_set w = is_keyed_array w || is_compared_set w
+is_table_set w = is_elections w || (is_keyed_array w || is_compared_set w)
 
 -- ---- at places
 

@@ -1,5 +1,5 @@
 -- The canonical form of the small ballot, and rearrangements, by computation.
-use Rattle.std.proofs.Common.{◌≡◌, ℕ, List, [], ◌∷◌, ◌++◌, Option, Some, None, map, zero, suc, codes, Bool, true, false, ◌&&◌, is_lt, Ordering, refl, lit<}
+use Rattle.std.proofs.Common.{◌≡◌, ℕ, List, [], ◌∷◌, ◌++◌, Option, Some, None, map, zero, suc, codes, Bool, true, false, ◌&&◌, is_lt, Ordering, refl, lit<, arith}
 use Rattle.std.specs.Fmt.{digits}
 use Rattle.std.specs.Option.{option_cmp, option_map_or}
 use Rattle.std.specs.Prelude.{option_map, unwrap_or}
@@ -141,10 +141,11 @@ rearranged_references : (let u = rearranged (tree_of small_ballot) in
 unfolding serde_json_on_literals
 rearranged_references = refl
 
--- a set may be rearranged; the order of a ballot may not, nor a list of selections, nor a position that has no entry
+-- a set may be rearranged, the array of elections among them; the order of a ballot may not, nor a list of selections, nor a
+-- position that has no entry
 allowed_exchanges : (let t = tree_of small_ballot in
     HasEntries t (Name (codes "Election") ∷ At 0 ∷ Name (codes "Contest") ∷ At 1 ∷ Name (codes "ContestSelection") ∷ []) 0 1 × ¬ HasEntries t (Name (codes "Election") ∷ At 0 ∷ Name (codes "BallotStyle") ∷ At 0 ∷ Name (codes "OrderedContent") ∷ []) 0 1
     × ¬ HasEntries t (Name (codes "Election") ∷ At 0 ∷ Name (codes "BallotStyle") ∷ At 0 ∷ Name (codes "OrderedContent") ∷ At 0 ∷ Name (codes "OrderedContent") ∷ At 0 ∷ Name (codes "OrderedContestSelectionIds") ∷ []) 0 1
-    × ¬ HasEntries t (Name (codes "Election") ∷ []) 0 0)
+    × HasEntries t (Name (codes "Election") ∷ []) 0 0 × ¬ HasEntries t (Name (codes "Election") ∷ []) 0 1)
 unfolding serde_json_on_literals
-allowed_exchanges = ((refl, lit< tt, lit< tt), λ h. untrue h.0, λ h. untrue h.0, λ h. untrue h.0)
+allowed_exchanges = ((refl, lit< tt, lit< tt), λ h. untrue h.0, λ h. untrue h.0, (refl, lit< tt, lit< tt), λ h. absurd (omega (arith, h.2)))

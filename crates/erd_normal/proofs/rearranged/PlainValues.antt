@@ -64,6 +64,7 @@ plain_list (Member (kind.Many f) required) p = cc
 plain_list (Member kind.Identifiers required) p = cc
 plain_list (Member kind.Languages required) p = cc
 plain_list (Member (kind.Keyed f) required) p = cc
+plain_list (Member kind.Elections required) p = cc
 plain_list w p = refl
 
 plain_entry : (w : Want) → is_plain w ≡ true → IsPlain (entry_want w)

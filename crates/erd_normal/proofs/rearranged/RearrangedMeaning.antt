@@ -1,6 +1,6 @@
 -- A report that is alike to an accepted one means the same, where the function of texts tells `@id`s apart.
 use mathlib.Core.Path.{fun_ext}
-use Rattle.std.proofs.Common.{◌≡◌, ℕ, List, [], ◌∷◌, Bool, true, false, is_eq, Option, Some, None, option_and_then, find, codes, refl, sym, ap, ◌∙◌, subst}
+use Rattle.std.proofs.Common.{◌≡◌, ℕ, List, [], ◌∷◌, Bool, true, false, is_eq, Option, Some, None, option_and_then, find, codes, refl, sym, ap, ◌∙◌, subst, arith}
 use Rattle.std.specs.List.{IsDistinct}
 use Rattle.std.specs.Option.{option_cmp}
 use Rattle.std.specs.Ordering.{eq_by_cmp}
@@ -19,7 +19,7 @@ use Rattle.erd_tables.specs.declared.place.Step.{Step}
 use Rattle.erd_tables.specs.declared.place.Step.TheVariants.{Name}
 use Rattle.erd_check.specs.Faults.{NoneOf, ShapeFault}
 use Rattle.erd_check.specs.Trees.{IsTree}
-use Rattle.erd_check.specs.Values.{entries_at, entries_of}
+use Rattle.erd_check.specs.Values.{entries_at, entries_of, list_of_items}
 use Rattle.erd_check.specs.declared.want.Want.TheVariants.{Member, Object}
 use Rattle.erd_check.proofs.Entries.{entries_in}
 use Rattle.erd_check.proofs.ObjectsAt.{election_class, report_class}
@@ -34,25 +34,27 @@ use Rattle.erd_meaning.specs.Records.{meaning, member_of_class, member_value, ob
 use Rattle.erd_meaning.specs.SelectionNames.{name_cmp}
 use Rattle.erd_meaning.specs.declared.keys.key.Key.{Key}
 use Rattle.erd_meaning.proofs.accepted.Phases.{no_shape_fault}
+use Rattle.erd_meaning.proofs.accepted.Skeleton.{Skeleton, election_entries, skeleton_of_shape}
+use Rattle.erd_meaning.proofs.accepted.SoleElection.{sole_election}
 use Rattle.erd_normal.specs.code.NormalTree.{by_key, by_name}
 use Rattle.erd_normal.proofs.canonical.DistinctObjects.{selection_values_distinct, values_distinct}
 use Rattle.erd_normal.proofs.lists.FoundBuilt.{find_values}
 use Rattle.erd_normal.proofs.lists.Matched.{AtMostOne, Both, both, neither, apart_distinct, matched_find, one_if_apart, said_same}
-use Rattle.erd_normal.proofs.lists.Paired.{Paired, more, none}
 use Rattle.erd_normal.proofs.meaning.MeantKinds.{flat_no_selections, is_flat_class, is_selections, kind_is_flat, selections_family, selections_kind, selections_name}
 use Rattle.erd_normal.proofs.meaning.MeantObjects.{is_named, named_tied, plain_members, record_alike}
 use Rattle.erd_normal.proofs.meaning.MeantReports.{is_of_key, keys_tied, same_meaning}
 use Rattle.erd_normal.proofs.rearranged.Alike.{Alike}
 use Rattle.erd_normal.proofs.rearranged.RelatedMembers.{Related}
 use Rattle.erd_normal.proofs.rearranged.RelatedNames.{related_name}
-use Rattle.erd_normal.proofs.rearranged.RelatedObjects.{elections_paired, family_values, object_values, related_key}
+use Rattle.erd_normal.proofs.rearranged.RelatedObjects.{elections_in_some_order, family_values, object_values, related_key}
 use Rattle.erd_normal.proofs.rearranged.RelatedOwners.{Kin, kin_matched, kin_selections}
 use Rattle.erd_normal.proofs.rearranged.RelatedRecords.{BothObjects, both_objects, plain_still, selection_still, unless_empty_same}
 use Rattle.erd_normal.proofs.rearranged.SharedIds.{TellsIds, value_placed}
 
-first_both : {A B : Type 0} {R : A → B → Type 0} {xs : List A} {ys : List B} → Paired R xs ys → Both R (slice_get xs 0) (slice_get ys 0)
-first_both none = neither
-first_both (more r rest) = both r
+-- the first entry is the one that is found by a test that each passes
+first_found : {A : Type 0} (xs : List A) → find (λ x. true) xs ≡ slice_get xs 0
+first_found [] = refl
+first_found (x ∷ xs) = refl
 
 first_placed : {C : Type 0} (f : Data → Option C) (p : List Step) (ds : List Data) → option_and_then (λ (o : Placed). f o.value) (slice_get (placed_from p 0 ds) 0) ≡ option_and_then f (slice_get ds 0)
 first_placed f p [] = refl
@@ -162,11 +164,22 @@ module _ (π : Preference) (ρ : List ℕ → List ℕ) (t u : Data) (alike : Al
   flat_election : (c : Class) → role_of_class c ≡ role.Election → is_flat_class c ≡ true
   flat_election c is = ap is_flat_class (election_class c is)
 
+  one_election : AtMostOne (λ (d : Data). true) (entries_at (codes "Election") t)
+  one_election =
+      let s : Skeleton t = skeleton_of_shape t clean in
+      subst (AtMostOne (λ (d : Data). true)) (sym (election_entries t s ∙ ap list_of_items (sole_election t clean s).alone)) (record { few = omega arith })
+
+  elections_both : Both (Related ρ t (Object role.Election)) (slice_get (entries_at (codes "Election") t) 0) (slice_get (entries_at (codes "Election") u) 0)
+  elections_both =
+      subst (λ o. Both (Related ρ t (Object role.Election)) o (slice_get (entries_at (codes "Election") u) 0)) (first_found (entries_at (codes "Election") t))
+      (subst (Both (Related ρ t (Object role.Election)) (find (λ d. true) (entries_at (codes "Election") t))) (first_found (entries_at (codes "Election") u))
+      (matched_find (λ d. true) (λ d. true) (λ x y r. refl) (elections_in_some_order ρ t clean u alike) one_election))
+
   elections_still : option_and_then (λ (o : Placed). object_record π t role.Election o.value) (slice_get (elections t) 0) ≡ option_and_then (λ (o : Placed). object_record π u role.Election o.value) (slice_get (elections u) 0)
   elections_still =
       first_placed (object_record π t role.Election) (Name (codes "Election") ∷ []) (entries_at (codes "Election") t)
       ∙ said_same (object_record π t role.Election) (object_record π u role.Election) (flat_still role.Election flat_election)
-      (slice_get (entries_at (codes "Election") t) 0) (slice_get (entries_at (codes "Election") u) 0) (first_both (elections_paired ρ t clean u alike))
+      (slice_get (entries_at (codes "Election") t) 0) (slice_get (entries_at (codes "Election") u) 0) elections_both
       ∙ sym (first_placed (object_record π u role.Election) (Name (codes "Election") ∷ []) (entries_at (codes "Election") u))
 
   pub meaning_still : meaning π u ≡ meaning π t

@@ -12,10 +12,10 @@ use Rattle.erd_tables.specs.declared.fault.Reason.{Reason}
 use Rattle.erd_tables.specs.declared.fault.Reason.TheVariants as reason
 use Rattle.erd_tables.specs.declared.member.MemberKind.{MemberKind}
 use Rattle.erd_tables.specs.declared.member.MemberKind.TheVariants as kind
-use Rattle.erd_check.specs.Faults.{NoneOf, ShapeFault, has_kind, has_not_one_entry, has_wanted_kind, is_array, is_empty_array, is_object, is_other_status, is_outside, is_elections, is_reference, is_shape_fault, is_text, is_wrong_class, lacks, names_wanted, wants_entry, wants_whole}
+use Rattle.erd_check.specs.Faults.{NoneOf, ShapeFault, has_kind, has_not_one_entry, has_wanted_kind, is_array, is_empty_array, is_object, is_other_status, is_outside, is_reference, is_shape_fault, is_text, is_wrong_class, lacks, names_wanted, wants_entry, wants_whole}
 use Rattle.erd_check.specs.Trees.{IsTree, is_same_json}
 use Rattle.erd_check.specs.Values.{list_of_items}
-use Rattle.erd_check.specs.Wants.{Asked, asked_at, entry_want, is_compared_set, scope_inside, want_of_name}
+use Rattle.erd_check.specs.Wants.{Asked, asked_at, entry_want, is_compared_set, is_elections, scope_inside, want_of_name}
 use Rattle.erd_check.specs.declared.want.Want.{Want}
 use Rattle.erd_check.specs.declared.want.Want.TheVariants.{Carried, ClassText, Member, Object, Reference, Status}
 use Rattle.erd_check.proofs.Shapes.{faultless}

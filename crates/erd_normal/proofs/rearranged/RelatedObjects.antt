@@ -26,11 +26,10 @@ use Rattle.erd_meaning.proofs.accepted.Standing.{contest_selections}
 use Rattle.erd_normal.proofs.built.LeastKeys.{key_of_identifiers-reordered, kind_of_identifiers}
 use Rattle.erd_normal.proofs.built.NormalGets.{kind_of_family_id}
 use Rattle.erd_normal.proofs.lists.Matched.{Both, both, neither, Matched, matched_equal, matched_flat}
-use Rattle.erd_normal.proofs.lists.Paired.{Paired}
 use Rattle.erd_normal.proofs.lists.Reordered.{Reordered, no_entry}
 use Rattle.erd_normal.proofs.rearranged.Alike.{Alike}
 use Rattle.erd_normal.proofs.rearranged.PlainValues.{alike_plain}
-use Rattle.erd_normal.proofs.rearranged.RelatedMembers.{Related, alike_listed, related_array, related_id_text, related_in, related_list, related_listed}
+use Rattle.erd_normal.proofs.rearranged.RelatedMembers.{Related, alike_listed, related_array, related_id_text, related_in, related_listed}
 
 -- ---- values without their places
 
@@ -122,11 +121,7 @@ module _ (ρ : List ℕ → List ℕ) (t : Data) (clean : NoneOf (ShapeFault t))
         let listed : kind_of_member top.class name ≡ kind.Elections = ap (λ c. kind_of_member c name) (report_class top.class top.role) in
         subst (λ w. Both (Related ρ t w) (get name t) (get name u)) (want_by_kind top.class name kind.Elections listed refl) (related_in ρ t clean role.Report t u top report name refl)
 
-    -- the elections, in their order
-    pub elections_paired : Paired (RelatedIn role.Election) (entries_at (codes "Election") t) (entries_at (codes "Election") u)
-    elections_paired = related_list ρ t (Member kind.Elections (is_required top.class (codes "Election"))) (Object role.Election) (get (codes "Election") t) (get (codes "Election") u) refl refl refl elections_both
-
-    elections_in_some_order : Matched (RelatedIn role.Election) (entries_at (codes "Election") t) (entries_at (codes "Election") u)
+    pub elections_in_some_order : Matched (RelatedIn role.Election) (entries_at (codes "Election") t) (entries_at (codes "Election") u)
     elections_in_some_order =
         related_listed ρ t (Member kind.Elections (is_required top.class (codes "Election"))) (Object role.Election) (get (codes "Election") t) (get (codes "Election") u) refl refl elections_both
 
