@@ -10,6 +10,7 @@ pub mod StableSorts
 pub mod StableRising
 pub mod BuiltLists
 pub mod KeyedRanks
+pub mod ListParts
 pub mod Lists
 pub mod FoundInParts
 pub mod FoundBuilt

@@ -1,8 +1,8 @@
 -- The names of the members that hold objects: what stands there is the array of the objects of the family.
-use Rattle.std.proofs.Common.{◌≡◌, ℕ, List, Some, map, Bool, true, false, codes, refl, sym, ap, ◌∙◌, subst}
+use Rattle.std.proofs.Common.{◌≡◌, ℕ, List, Some, flat_map, map, Bool, true, false, codes, refl, sym, ap, ◌∙◌, subst}
 use Rattle.std.specs.List.{list_all}
 use Rattle.std.specs.Str.{bytes_eq}
-use Rattle.serde_json.specs.Data.{Data}
+use Rattle.serde_json.specs.Data.{Data, Members, object}
 use Rattle.serde_json.specs.Find.{get_member}
 use Rattle.erd_tables.specs.Classes.{role_of_class}
 use Rattle.erd_tables.specs.Rows.{rows_of_class}
@@ -14,14 +14,16 @@ use Rattle.erd_tables.specs.declared.class.Family.TheVariants as family
 use Rattle.erd_tables.specs.declared.class.Role.TheVariants as role
 use Rattle.erd_tables.specs.declared.member.MemberKind.{MemberKind}
 use Rattle.erd_tables.specs.declared.member.MemberKind.TheVariants as kind
-use Rattle.erd_check.specs.Values.{entries_of}
+use Rattle.erd_check.specs.Values.{entries_at, entries_of, list_of_items}
 use Rattle.erd_check.proofs.Entries.{entries_in}
 use Rattle.erd_check.proofs.Exact.{text_exact}
+use Rattle.erd_check.proofs.Rising.{Has}
 use Rattle.erd_check.proofs.TableKinds.{kind_of_id, kind_of_name}
-use Rattle.erd_meaning.proofs.accepted.Skeleton.{Skeleton}
+use Rattle.erd_meaning.proofs.accepted.Skeleton.{Skeleton, values_in_elections}
 use Rattle.erd_meaning.proofs.accepted.SoleElection.{SoleElection, values_in_sole}
-use Rattle.erd_meaning.specs.Objects.{objects}
+use Rattle.erd_meaning.specs.Objects.{elections, objects, placed_entries}
 use Rattle.erd_normal.proofs.built.AskedMembers.{kind_of_type}
+use Rattle.erd_normal.proofs.lists.ListParts.{IsPart, part_flat, part_self}
 use Rattle.erd_normal.proofs.unique.FamilyArrays.{values_in_report}
 
 -- the name of the member that holds the objects of a family
@@ -83,6 +85,27 @@ report_objects t s family.Person d is stands = values_in_report t s (codes "Pers
 report_objects t s family.Office d is stands = values_in_report t s (codes "Office") ∙ ap entries_in stands
 report_objects t s family.Header d is stands = values_in_report t s (codes "Header") ∙ ap entries_in stands
 report_objects t s f d is stands = cc
+
+-- a member of the report holds all objects of its family
+pub report_part : (t : Data) (s : Skeleton t) (f : Family) (d : Data) → kind_of_member class.ElectionReport (family_name f) ≡ kind.Keyed f → get_member (family_name f) s.ms ≡ Some d
+    → IsPart (entries_of d) (map (λ o. o.value) (objects f t))
+report_part t s f d is stands = subst (IsPart (entries_of d)) (sym (report_objects t s f d is stands)) (part_self (entries_of d))
+
+-- and one of an election some of them
+pub election_part : (t : Data) (s : Skeleton t) (e : Data) (ms : Members) → Has (list_of_items s.es) e → e ≡ object ms → (f : Family) (d : Data) → kind_of_member class.Election (family_name f) ≡ kind.Keyed f
+    → get_member (family_name f) ms ≡ Some d → IsPart (entries_of d) (map (λ o. o.value) (objects f t))
+election_part t s e ms h same f d is stands = at f is stands
+  where
+    held : (name : List ℕ) → get_member name ms ≡ Some d → IsPart (entries_of d) (map (λ o. o.value) (flat_map (placed_entries name) (elections t)))
+    held name found =
+        subst (IsPart (entries_of d)) (sym (values_in_elections t s name))
+        (subst (λ xs. IsPart xs (flat_map (entries_at name) (list_of_items s.es))) (ap (entries_at name) same ∙ ap entries_in found) (part_flat (entries_at name) (list_of_items s.es) e h))
+
+    at : (g : Family) → kind_of_member class.Election (family_name g) ≡ kind.Keyed g → get_member (family_name g) ms ≡ Some d → IsPart (entries_of d) (map (λ o. o.value) (objects g t))
+    at family.Candidate k found = held (codes "Candidate") found
+    at family.Contest k found = held (codes "Contest") found
+    at family.Style k found = held (codes "BallotStyle") found
+    at g k found = cc
 
 -- in the one election
 pub election_objects_are : (t : Data) (s : Skeleton t) (sole : SoleElection t s) (f : Family) (d : Data) → kind_of_member class.Election (family_name f) ≡ kind.Keyed f → get_member (family_name f) sole.members ≡ Some d

@@ -1,9 +1,10 @@
 -- The sets of an accepted report in rising order: they rise strictly, and positions are ranks.
-use Rattle.std.proofs.Common.{◌≡◌, ℕ, map, Bool, true, codes, Some, slice_get, refl, sym, ap, ap₂, ◌∙◌}
+use Rattle.std.proofs.Common.{◌≡◌, ℕ, List, map, Bool, true, codes, Some, slice_get, refl, sym, ap, ap₂, ◌∙◌}
 use Rattle.std.specs.Cmp.{IsTotalOrder}
 use Rattle.std.specs.Cmp.Lexicographic.{options_total}
 use Rattle.std.specs.List.Sorted.{IsStrictlySortedBy}
 use Rattle.std.specs.Option.{option_cmp}
+use Rattle.std.specs.Ordering.{eq_by_cmp}
 use Rattle.std.proofs.lemmas.Cmp.{on_total}
 use Rattle.serde_json.specs.Data.{Data, array, Items}
 use Rattle.erd_tables.specs.declared.class.Family.{Family}
@@ -30,6 +31,7 @@ use Rattle.erd_normal.proofs.canonical.DistinctObjects.{selection_values_distinc
 use Rattle.erd_normal.proofs.canonical.DistinctSets.{json_values_distinct, references_distinct}
 use Rattle.erd_normal.proofs.texts.FittingNumbers.{entry-fitting}
 use Rattle.erd_normal.proofs.unique.Labels.{identifier_simple, language_simple}
+use Rattle.erd_normal.proofs.lists.ListParts.{IsPart, part_distinct}
 use Rattle.erd_normal.proofs.lists.RisingOrders.{rising_strictly}
 use Rattle.erd_normal.proofs.lists.RisingRanks.{rank_by_at, rank_map}
 
@@ -44,10 +46,12 @@ reference_cmp_total π t f = on_total (λ d. key_named π t f (text_of d)) (opti
 
 -- ---- objects of a family
 
-pub objects_rise : (π : Preference) (t : Data) → IsAccepted π t → (f : Family) → has_keys f ≡ true → IsStrictlySortedBy (option_cmp key_cmp) (map (key_of π) (rising_list (by_key π) (map (λ o. o.value) (objects f t))))
-objects_rise π t accepted f keyed =
-    sorted_map (key_of π) (by_key π) (option_cmp key_cmp) (λ x y h. h) (rising_list (by_key π) (map (λ o. o.value) (objects f t)))
-    (rising_strictly (by_key_total π) (map (λ o. o.value) (objects f t)) (values_distinct π t accepted f keyed))
+-- those of an array among them
+pub objects_rise : (π : Preference) (t : Data) → IsAccepted π t → (f : Family) → has_keys f ≡ true → (ds : List Data) → IsPart ds (map (λ o. o.value) (objects f t))
+    → IsStrictlySortedBy (option_cmp key_cmp) (map (key_of π) (rising_list (by_key π) ds))
+objects_rise π t accepted f keyed ds part =
+    sorted_map (key_of π) (by_key π) (option_cmp key_cmp) (λ x y h. h) (rising_list (by_key π) ds)
+    (rising_strictly (by_key_total π) ds (part_distinct (eq_by_cmp (by_key π)) ds (map (λ o. o.value) (objects f t)) part (values_distinct π t accepted f keyed)))
 
 -- the object at a position has that rank
 pub object_ranks : (π : Preference) (t : Data) → IsAccepted π t → (f : Family) (i : ℕ) (d : Data) → has_keys f ≡ true → slice_get (rising_list (by_key π) (map (λ o. o.value) (objects f t))) i ≡ Some d → rank_of π t f (key_of π d) ≡ i

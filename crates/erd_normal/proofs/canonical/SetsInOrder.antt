@@ -18,8 +18,9 @@ use Rattle.erd_check.specs.Trees.{IsTree}
 use Rattle.erd_check.specs.Values.{entries_of, list_of_items, entries_at, text_of}
 use Rattle.erd_check.specs.Wants.{Asked, asked}
 use Rattle.erd_check.proofs.Entries.{array_from}
-use Rattle.erd_check.proofs.Rising.{Has}
+use Rattle.erd_check.proofs.Rising.{Has, all-Has}
 use Rattle.erd_check.proofs.Shapes.{Within, wanted_within, within-tree}
+use Rattle.erd_check.proofs.Positions.{all_by_entry}
 use Rattle.erd_meaning.specs.Accepted.{IsAccepted}
 use Rattle.erd_meaning.specs.Keys.{Preference, has_keys, key_cmp}
 use Rattle.erd_meaning.specs.Objects.{IsBounded, Placed, objects}
@@ -33,6 +34,7 @@ use Rattle.erd_normal.proofs.texts.FittingNumbers.{within-fitting}
 use Rattle.erd_normal.proofs.built.LeastKeys.{key_of_object}
 use Rattle.erd_normal.proofs.canonical.NormalKeys.{IsClassed, values_classed}
 use Rattle.erd_normal.proofs.canonical.NormalNames.{Refers, name_built_within, reference_key_built, references_refer}
+use Rattle.erd_normal.proofs.lists.ListParts.{IsPart, part_has}
 use Rattle.erd_normal.proofs.canonical.RisingReports.{identifiers_rise, languages_rise, objects_rise, references_rise, selections_rise}
 use Rattle.erd_normal.proofs.throughout.ThroughoutMembers.{HoldsOfMembers, built_references, is_prefixed}
 use Rattle.erd_normal.proofs.throughout.ThroughoutObjects.{HoldsOfObjects}
@@ -85,12 +87,13 @@ module _ (π : Preference) (t : Data) (accepted : IsAccepted π t) (tree : IsTre
   keys_kept f [] all = refl
   keys_kept f (d ∷ ds) all = ap₂ (λ k ks. k ∷ ks) (key_of_object π π t f all.0.0 d all.0.2 all.0.1) (keys_kept f ds all.1)
 
-  objects_rising : (f : Family) → has_keys f ≡ true → (ds : List Data) → map (λ o. o.value) (objects f t) ≡ ds → RisesAs π (normal_tree π t) (kind.Keyed f) (entries_of (normal_objects π t f ds))
-  objects_rising f keyed ds all =
+  objects_rising : (f : Family) → has_keys f ≡ true → (ds : List Data) → IsPart ds (map (λ o. o.value) (objects f t)) → RisesAs π (normal_tree π t) (kind.Keyed f) (entries_of (normal_objects π t f ds))
+  objects_rising f keyed ds part =
+      let classed : AllByRecursion (IsClassed f) ds =
+      all_by_entry (IsClassed f) ds (λ d h. all-Has (IsClassed f) (map (λ o. o.value) (objects f t)) d (values_classed π t accepted tree f) (part_has ds (map (λ o. o.value) (objects f t)) part d h)) in
       keyed_rises π (normal_tree π t) f (entries_of (normal_objects π t f ds)) keyed
       (subst (λ xs. IsStrictlySortedBy (option_cmp key_cmp) (keys_of π xs)) (sym (list_of_items-items_of (map (normal_object π t f) (rising_list (by_key π) ds))))
-      (subst (IsStrictlySortedBy (option_cmp key_cmp)) (sym (keys_kept f (rising_list (by_key π) ds) (all_rising (IsClassed f) (by_key π) ds (subst (AllByRecursion (IsClassed f)) all (values_classed π t accepted tree f)))))
-      (subst (λ xs. IsStrictlySortedBy (option_cmp key_cmp) (keys_of π (rising_list (by_key π) xs))) all (objects_rise π t accepted f keyed))))
+      (subst (IsStrictlySortedBy (option_cmp key_cmp)) (sym (keys_kept f (rising_list (by_key π) ds) (all_rising (IsClassed f) (by_key π) ds classed))) (objects_rise π t accepted f keyed ds part)))
 
   identifiers_rising : HasFittingNumbers t → (required : Bool) (d : Data) → Within t (asked (Member kind.Identifiers required) d) → IsStrictlySortedBy compact_cmp (rising_list compact_cmp (entries_of d))
   identifiers_rising fits required d w =

@@ -34,6 +34,7 @@ use Rattle.erd_normal.specs.code.NormalTree.{array_of, by_key, by_name, id_of_se
 use Rattle.erd_normal.proofs.built.AskedMembers.{entries_asked, entry_asked}
 use Rattle.erd_normal.proofs.built.BuiltFrom.{Builder, BuiltFrom, BuiltObject, inside_built, member_holds}
 use Rattle.erd_normal.proofs.lists.BuiltLists.{all_map, all_rising, given_unless}
+use Rattle.erd_normal.proofs.lists.ListParts.{IsPart, part_has}
 use Rattle.erd_normal.proofs.built.BuiltObjects.{built_node, built_object, built_selection, is_id, no_name, node_builder, object_builder, object_id, plain_builder, selection_id}
 use Rattle.erd_normal.proofs.built.FamilyNames.{contest_of_selections, family_name, keyed_name}
 use Rattle.erd_normal.proofs.built.NormalGets.{kind_of_family_id}
@@ -260,15 +261,15 @@ module _ (π : Preference) (t : Data) (clean : NoneOf (ShapeFault t)) (tree : Is
       object_member d (kind_of_member o.class name) required b.from v (object_kind o.class f name b.other o.role) (of_contest f d o name b.from h b.stands) inside b.given)
       (λ word. object_word π t d.value (kind_of_member o.class name) b.from v word b.given))
 
-  -- the array of the objects of a family
-  pub throughout_objects : (f : Family) (required : Bool) (d : Data) → map (λ o. o.value) (objects f t) ≡ entries_of d → Within t (asked (Member (kind.Keyed f) required) d)
+  -- an array of objects of a family
+  pub throughout_objects : (f : Family) (required : Bool) (d : Data) → IsPart (entries_of d) (map (λ o. o.value) (objects f t)) → Within t (asked (Member (kind.Keyed f) required) d)
       → P (asked (Member (kind.Keyed f) required) (normal_objects π t f (entries_of d))) → Throughout P (asked (Member (kind.Keyed f) required) (normal_objects π t f (entries_of d)))
-  throughout_objects f required d all w here =
+  throughout_objects f required d part w here =
       throughout_built_list π t clean tree P holds.members (Member (kind.Keyed f) required) (Object (role.OfFamily f)) d (wanted_within t clean (asked (Member (kind.Keyed f) required) d) w) refl refl w
       (rising_list (by_key π)) (λ Q xs each. all_rising Q (by_key π) xs each) (normal_object π t f) one here
     where
       one : (e : Data) → Within t (asked (Object (role.OfFamily f)) e) → Has (entries_of d) e → Throughout P (asked (Object (role.OfFamily f)) (normal_object π t f e))
       one e within h =
-          let o = map_has (λ (x : Placed). x.value) (objects f t) e (subst (λ xs. Has xs e) (sym all) h) in
+          let o = map_has (λ (x : Placed). x.value) (objects f t) e (part_has (entries_of d) (map (λ o. o.value) (objects f t)) part e h) in
           subst (λ x. Throughout P (asked (Object (role.OfFamily f)) (normal_object π t f x))) o.2
           (throughout_family_object f o.0 o.1 (subst (λ x. Within t (asked (Object (role.OfFamily f)) x)) (sym o.2) within))

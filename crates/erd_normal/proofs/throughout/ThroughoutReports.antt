@@ -25,15 +25,15 @@ use Rattle.erd_check.proofs.Positions.{all_by_entry}
 use Rattle.erd_check.proofs.Rising.{Has}
 use Rattle.erd_check.proofs.Shapes.{Within}
 use Rattle.erd_check.proofs.TableKinds.{kind_of_class}
-use Rattle.erd_meaning.proofs.accepted.Skeleton.{Skeleton, skeleton_of_shape}
-use Rattle.erd_meaning.proofs.accepted.SoleElection.{SoleElection, only_sole, sole_election}
+use Rattle.erd_meaning.proofs.accepted.Skeleton.{Skeleton, election_object, election_within, skeleton_of_shape}
 use Rattle.erd_meaning.specs.Keys.{Preference, has_keys}
 use Rattle.erd_meaning.specs.Objects.{objects}
 use Rattle.erd_normal.specs.code.NormalTree.{array_of, normal_election, normal_election_value, normal_objects, normal_report_value, normal_tree, normal_value}
 use Rattle.erd_normal.proofs.built.BuiltFrom.{BuiltFrom, member_holds}
 use Rattle.erd_normal.proofs.built.BuiltObjects.{built_election, built_report, election_builder, no_name}
 use Rattle.erd_normal.proofs.lists.BuiltLists.{all_map, given_unless}
-use Rattle.erd_normal.proofs.built.FamilyNames.{election_objects_are, elections_name, family_name, keyed_name, report_objects}
+use Rattle.erd_normal.proofs.built.FamilyNames.{election_part, elections_name, family_name, keyed_name, report_part}
+use Rattle.erd_normal.proofs.lists.ListParts.{IsPart}
 use Rattle.erd_normal.proofs.built.NormalReports.{has_canonical_envelope}
 use Rattle.erd_normal.proofs.throughout.ThroughoutMembers.{HoldsOfMembers, is_plain_kind, is_prefixed, throughout_value}
 use Rattle.erd_normal.proofs.throughout.ThroughoutObjects.{HoldsOfObjects, throughout_object, throughout_objects, throughout_status}
@@ -44,7 +44,7 @@ pub record HoldsOfBuilt (π : Preference) (t : Data) (P : Asked → Type 0) : Ty
   pub parts : HoldsOfObjects π t P
   pub word : (required : Bool) (s : List ℕ) → P (asked (Member kind.Word required) (string s))
   pub whole : (required : Bool) (n : ℕ) → P (asked (Member kind.Whole required) (number (unsigned n)))
-  pub keyed : (f : Family) → has_keys f ≡ true → (required : Bool) (d : Data) → Within t (asked (Member (kind.Keyed f) required) d) → map (λ o. o.value) (objects f t) ≡ entries_of d → is_empty_array d ≡ false
+  pub keyed : (f : Family) → has_keys f ≡ true → (required : Bool) (d : Data) → Within t (asked (Member (kind.Keyed f) required) d) → IsPart (entries_of d) (map (λ o. o.value) (objects f t)) → is_empty_array d ≡ false
       → P (asked (Member (kind.Keyed f) required) (normal_objects π t f (entries_of d)))
   pub elections : (required : Bool) (d : Data) → Within t (asked (Member kind.Elections required) d) → P (asked (Member kind.Elections required) (array_of (map (normal_election π t) (entries_of d))))
   pub election : (d : Data) → Within t (asked (Object role.Election) d) → P (asked (Object role.Election) (normal_election π t d))
@@ -92,26 +92,23 @@ module _ (π : Preference) (t : Data) (clean : NoneOf (ShapeFault t)) (tree : Is
   abbrev s : Skeleton t
   s = skeleton_of_shape t clean
 
-  abbrev sole : SoleElection t s
-  sole = sole_election t clean s
-
   abbrev plain : HoldsOfMembers π t P
   plain = holds.parts.members
 
   -- ---- the election
 
-  election_member : (k : MemberKind) (required : Bool) (d v : Data) → is_election_kind k ≡ true → ((f : Family) → k ≡ kind.Keyed f → map (λ o. o.value) (objects f t) ≡ entries_of d)
+  election_member : (k : MemberKind) (required : Bool) (d v : Data) → is_election_kind k ≡ true → ((f : Family) → k ≡ kind.Keyed f → IsPart (entries_of d) (map (λ o. o.value) (objects f t)))
       → Within t (asked (want_of_kind k required) d) → normal_election_value π t k d ≡ Some v → Throughout P (asked (want_of_kind k required) v)
-  election_member (kind.Keyed f) required d v is all w given =
+  election_member (kind.Keyed f) required d v is held w given =
       let parts = given_unless d (normal_objects π t f (entries_of d)) v given in
-      subst (λ x. Throughout P (asked (Member (kind.Keyed f) required) x)) parts.1 (throughout_objects π t clean tree P holds.parts f required d (all f refl) w (holds.keyed f is required d w (all f refl) parts.0))
-  election_member kind.Elections required d v is all w given = cc
-  election_member kind.Content required d v is all w given = cc
-  election_member k required d v is all w given = throughout_value π t clean tree P plain k required d v is w given
+      subst (λ x. Throughout P (asked (Member (kind.Keyed f) required) x)) parts.1 (throughout_objects π t clean tree P holds.parts f required d (held f refl) w (holds.keyed f is required d w (held f refl) parts.0))
+  election_member kind.Elections required d v is held w given = cc
+  election_member kind.Content required d v is held w given = cc
+  election_member k required d v is held w given = throughout_value π t clean tree P plain k required d v is w given
 
-  -- each array of objects in an election holds all objects of its family
+  -- each array of objects in an election holds objects of its family
   abbrev HoldsFamilies : Members → Type 0
-  HoldsFamilies es = (name : List ℕ) (from : Data) → get_member name es ≡ Some from → (f : Family) → kind_of_member class.Election name ≡ kind.Keyed f → map (λ o. o.value) (objects f t) ≡ entries_of from
+  HoldsFamilies es = (name : List ℕ) (from : Data) → get_member name es ≡ Some from → (f : Family) → kind_of_member class.Election name ≡ kind.Keyed f → IsPart (entries_of from) (map (λ o. o.value) (objects f t))
 
   throughout_election : (es : Members) → ObjectAt t (Object role.Election) role.Election class.Election es → HoldsFamilies es → Throughout P (asked (Object role.Election) (normal_election π t (object es)))
   throughout_election es election family =
@@ -135,15 +132,16 @@ module _ (π : Preference) (t : Data) (clean : NoneOf (ShapeFault t)) (tree : Is
       (all_map (λ e. Throughout P (asked (Object role.Election) (normal_election π t e))) (λ e. Throughout P (asked (Object role.Election) e)) (normal_election π t) (list_of_items s.es) (λ e h. h)
       (all_by_entry (λ e. Throughout P (asked (Object role.Election) (normal_election π t e))) (list_of_items s.es) each)))
 
-  -- the one election holds all objects of its families
-  throughout_sole : (d : Data) → Has (list_of_items s.es) d → Throughout P (asked (Object role.Election) (normal_election π t d))
-  throughout_sole d h =
-      subst (λ x. Throughout P (asked (Object role.Election) (normal_election π t x))) (sym (only_sole t s sole d h)) (throughout_election sole.members sole.at family)
+  throughout_each : (d : Data) → Has (list_of_items s.es) d → Throughout P (asked (Object role.Election) (normal_election π t d))
+  throughout_each d h = subst (λ x. Throughout P (asked (Object role.Election) (normal_election π t x))) (sym this.1) (throughout_election this.0 this.2 family)
     where
-      family : HoldsFamilies sole.members
+      this : (ms : Members) × (d ≡ object ms) × ObjectAt t (Object role.Election) role.Election class.Election ms
+      this = election_object t clean d (election_within t s d h)
+
+      family : HoldsFamilies this.0
       family name from stands f is =
           let named : name ≡ family_name f = keyed_name class.Election name f is in
-          election_objects_are t s sole f from (ap (kind_of_member class.Election) (sym named) ∙ is) (ap (λ n. get_member n sole.members) (sym named) ∙ stands)
+          election_part t s d this.0 h this.1 f from (ap (kind_of_member class.Election) (sym named) ∙ is) (ap (λ n. get_member n this.0) (sym named) ∙ stands)
 
   -- ---- the report
 
@@ -209,26 +207,26 @@ module _ (π : Preference) (t : Data) (clean : NoneOf (ShapeFault t)) (tree : Is
   other_member k required d v is w true given = cc
   other_member k required d v is w false given = throughout_value π t clean tree P plain k required d v is w given
 
-  report_member : (name : List ℕ) (k : MemberKind) (required : Bool) (d v : Data) → is_report_kind k ≡ true → ((f : Family) → k ≡ kind.Keyed f → map (λ o. o.value) (objects f t) ≡ entries_of d)
+  report_member : (name : List ℕ) (k : MemberKind) (required : Bool) (d v : Data) → is_report_kind k ≡ true → ((f : Family) → k ≡ kind.Keyed f → IsPart (entries_of d) (map (λ o. o.value) (objects f t)))
       → (k ≡ kind.Elections → d ≡ array s.es) → Within t (asked (want_of_kind k required) d) → normal_report_value π t name k d ≡ Some v
       → Throughout P (asked (want_of_kind k required) v)
-  report_member name (kind.Keyed f) required d v is all listed w given =
+  report_member name (kind.Keyed f) required d v is held listed w given =
       let parts = given_unless d (normal_objects π t f (entries_of d)) v given in
-      subst (λ x. Throughout P (asked (Member (kind.Keyed f) required) x)) parts.1 (throughout_objects π t clean tree P holds.parts f required d (all f refl) w (holds.keyed f is required d w (all f refl) parts.0))
-  report_member name kind.Elections required d v is all listed w given =
+      subst (λ x. Throughout P (asked (Member (kind.Keyed f) required) x)) parts.1 (throughout_objects π t clean tree P holds.parts f required d (held f refl) w (holds.keyed f is required d w (held f refl) parts.0))
+  report_member name kind.Elections required d v is held listed w given =
       let same : array_of (map (normal_election π t) (entries_of d)) ≡ v = cc in
-      subst (λ x. Throughout P (asked (Member kind.Elections required) x)) same (throughout_elections throughout_sole required d (listed refl) w)
-  report_member name kind.Content required d v is all listed w given = cc
-  report_member name k required d v is all listed w given = other_member k required d v is w (is_envelope_name name) given
+      subst (λ x. Throughout P (asked (Member kind.Elections required) x)) same (throughout_elections throughout_each required d (listed refl) w)
+  report_member name kind.Content required d v is held listed w given = cc
+  report_member name k required d v is held listed w given = other_member k required d v is w (is_envelope_name name) given
 
   throughout_report : Throughout P (asked (Object role.Report) (normal_tree π t))
   throughout_report =
       throughout_object π t clean tree P plain (normal_report_value π t) is_envelope_name role.Report class.ElectionReport s.ms (normal_tree π t) (built_report π t clean tree s) holds.report envelope_member built
     where
-      family : (name : List ℕ) (from : Data) → get_member name s.ms ≡ Some from → (f : Family) → kind_of_member class.ElectionReport name ≡ kind.Keyed f → map (λ o. o.value) (objects f t) ≡ entries_of from
+      family : (name : List ℕ) (from : Data) → get_member name s.ms ≡ Some from → (f : Family) → kind_of_member class.ElectionReport name ≡ kind.Keyed f → IsPart (entries_of from) (map (λ o. o.value) (objects f t))
       family name from stands f is =
           let named : name ≡ family_name f = keyed_name class.ElectionReport name f is in
-          report_objects t s f from (ap (kind_of_member class.ElectionReport) (sym named) ∙ is) (ap (λ n. get_member n s.ms) (sym named) ∙ stands)
+          report_part t s f from (ap (kind_of_member class.ElectionReport) (sym named) ∙ is) (ap (λ n. get_member n s.ms) (sym named) ∙ stands)
 
       listed : (name : List ℕ) (from : Data) → get_member name s.ms ≡ Some from → kind_of_member class.ElectionReport name ≡ kind.Elections → from ≡ array s.es
       listed name from stands is =
