@@ -38,6 +38,13 @@ left() {
     return 1
 }
 
+# A check for each processor, where there are 5 GB of memory for it. By itself `rt ci` reckons with several times the memory
+# that the tests of erd_rows take, and keeps back this longest of its checks until most others have ended.
+free=$(awk '/^MemAvailable:/ { print int($2 / 5000000) }' /proc/meminfo)
+processors=$(nproc)
+side_by_side=$((free < processors ? free : processors))
+export RT_JOBS=${RT_JOBS:-$((side_by_side > 0 ? side_by_side : 1))}
+
 # What `rt ci` has proved, compiled and run is what the scripts run, so nothing older may stand there.
 rm -f "$program" "$tests"
 counted rt ci || echo 'rt ci failed, as it says above'
