@@ -1,4 +1,4 @@
--- The first difference of two meanings. All is this profile's.
+-- The first difference of two meanings. All of this is the profile's own.
 use Rattle.std.specs.Prelude.{ℕ, ◌≡◌, ◌≢◌, List, Option, Some, None}
 use Rattle.std.specs.Option.{option_cmp}
 use Rattle.std.specs.Ordering.{nat_cmp, ordering_then}
@@ -18,7 +18,7 @@ use Rattle.erd_compare.specs.declared.difference.Part.TheVariants as part
 
 -- ---- parts
 
--- the position of a part among them
+-- The position of the part in the order of parts, counted from 0.
 abbrev pub part_number : Part → ℕ
 part_number part.Report = 0
 part_number part.Unit = 1
@@ -31,21 +31,21 @@ part_number part.Candidate = 7
 part_number part.Contest = 8
 part_number part.Style = 9
 
--- by part, then by key
+-- The parts are compared first, and then the keys.
 abbrev pub part_cmp : Part → Option Key → Part → Option Key → Ordering
 part_cmp p k q l = ordering_then (nat_cmp (part_number p) (part_number q)) (option_cmp key_cmp k l)
 
--- the record of an object of a family, which has a key
+-- The record that the meaning has for the object of the family with this key, or none without a key.
 abbrev pub record_with_key : Meaning → Family → Option Key → Option ObjectRecord
 record_with_key m f None = None
 record_with_key m f (Some k) = m.objects f k
 
--- the record of the report or the election, which has no key
+-- The record of the report or of the election. Neither has a key, so there is none where a key is given.
 abbrev pub record_without_key : Option ObjectRecord → Option Key → Option ObjectRecord
 record_without_key r None = r
 record_without_key r (Some k) = None
 
--- the record that a meaning has at a part and a key
+-- The record that the meaning has at this part and key, or none.
 abbrev pub record_at : Meaning → Part → Option Key → Option ObjectRecord
 record_at m part.Report k = record_without_key m.report k
 record_at m part.Unit k = record_with_key m family.Unit k
@@ -60,13 +60,14 @@ record_at m part.Style k = record_with_key m family.Style k
 
 -- ---- differences
 
--- the name is the least at which the two maps differ; one of them may have nothing there
+-- The two records have the same class, and the name is the least at which their members differ. One of them may have no such
+-- member.
 pub record DifferFirstAt (a b : ObjectRecord) (name : List ℕ) : Type 0 where
   pub same_class : a.class ≡ b.class
   pub differ : a.members name ≢ b.members name
   pub least : (n : List ℕ) → text_cmp n name ≡ Less → a.members n ≡ b.members n
 
--- how two records differ: one side alone has one; another class before any member; else the least member
+-- How two records differ: only one side has a record, or the classes differ, or else the least member at which they differ.
 abbrev pub Differ : Option ObjectRecord → Option ObjectRecord → How → Type 0
 Differ None None how = ⊥
 Differ (Some a) None how = how ≡ OnlyLeft
@@ -76,13 +77,13 @@ Differ (Some a) (Some b) OnlyRight = ⊥
 Differ (Some a) (Some b) OtherClass = a.class ≢ b.class
 Differ (Some a) (Some b) (Member name) = DifferFirstAt a b name
 
--- the difference is at the least part and key at which the two meanings differ
+-- The two meanings differ in this way at this part and key, and they agree at every lesser part and key.
 pub record IsFirstDifference (m n : Meaning) (d : Difference) : Type 0 where
   pub differ : Differ (record_at m d.part d.key) (record_at n d.part d.key) d.how
   pub least : (p : Part) (k : Option Key) → part_cmp p k d.part d.key ≡ Less → record_at m p k ≡ record_at n p k
 
--- the first difference of two meanings, and none exactly if they are equal: a meaning has nothing at the family of
--- selections, so two that are equal at every part and key are equal
+-- The answer is none if the meanings are equal, and otherwise their first difference. What a report means has no records at
+-- the family of selections, so the parts cover all of it.
 abbrev pub IsDifference : Meaning → Meaning → Option Difference → Type 0
 IsDifference m n None = m ≡ n
 IsDifference m n (Some d) = IsFirstDifference m n d

@@ -1,3 +1,5 @@
+//! Differences between reports, and the lines that describe them.
+
 ghost use Rattle.std.specs.Prelude.{◌≡◌, string_bytes, IfOk};
 ghost use Rattle.std.specs.Option.{option_copied};
 ghost use Rattle.serde_json.specs.Data.{string};
@@ -10,43 +12,64 @@ use erd_tables::Text;
 use serde_json::Value;
 use std::alloc::{AllocError, Global};
 
-/// The parts of a report that are compared, in this order.
+/// A part of a report: the report itself, the election, or one of the eight families of objects with keys. Parts are
+/// compared in this order.
 #[derive(Clone, Copy, Debug, PartialEq, Eq, PartialOrd, Ord)]
 pub enum Part {
+    /// The report itself. It has no key.
     Report,
+    /// The units, which are ReportingUnit objects.
     Unit,
+    /// The parties, which are Party and Coalition objects.
     Party,
+    /// The persons, which are Person objects.
     Person,
+    /// The offices, which are Office objects.
     Office,
+    /// The headers, which are Header objects.
     Header,
+    /// The election. It has no key.
     Election,
+    /// The candidates, which are Candidate objects.
     Candidate,
+    /// The contests, of any of the four classes of contest.
     Contest,
+    /// The ballot styles, which are BallotStyle objects.
     Style,
 }
 
-/// How two reports differ at a part and a key.
+/// How two reports differ at a part and, if the part is a family, at a key.
 #[derive(Debug, Drop)]
 pub enum How {
+    /// Only the left report has the object.
     OnlyLeft,
+    /// Only the right report has the object.
     OnlyRight,
+    /// The two objects have different classes.
     OtherClass,
-    /// The least name of a member that differs.
+    /// The objects have the same class and differ in a member. This is the least name of such a member.
     Member(Text),
 }
 
-/// The first difference of two reports. The report and the election have no key.
+/// The first difference between two reports.
 #[derive(Debug, Drop)]
 pub struct Difference {
+    /// The part of the report that differs.
     pub part: Part,
+    /// The key of the object that differs. It is `None` for the report and the election.
     pub key: Option<Key>,
+    /// How the reports differ there.
     pub how: How,
 }
 
 impl Difference {
-    /// The line that tells the difference, without a line feed: the part in lower case; if there is a key, a blank and the
-    /// compact JSON array of its three texts; a colon and a blank; then `only left`, `only right`, `other class`, or `member ` and
-    /// the name as compact JSON text.
+    /// Returns the line that describes the difference, without a line feed: the part in lower case; if there is a key, a
+    /// space and the compact JSON array of its three texts; a colon and a space; then `only left`, `only right`, `other
+    /// class`, or `member ` and the name of the member as a JSON string.
+    ///
+    /// # Errors
+    ///
+    /// `AllocError` if out of memory.
     pub fn line(&self, alloc: Global) -> Result<String, AllocError>
         ensures { IfOk result (λ line. string_bytes line ≡ difference_line self.now) }
     {
@@ -75,7 +98,7 @@ fn part_words(part: Part) -> &'static str
     }
 }
 
-/// A blank and the key as JSON, if there is one.
+/// A space and the key as JSON, or the empty text if there is no key.
 fn key_words(alloc: Global, key: Option<&Key>) -> Result<String, AllocError>
     ensures { IfOk result (λ words. string_bytes words ≡ key_text (option_copied key.entry)) }
 {
@@ -88,7 +111,7 @@ fn key_words(alloc: Global, key: Option<&Key>) -> Result<String, AllocError>
     }
 }
 
-/// The words for how two reports differ, with the name of a member as JSON.
+/// The words for how two reports differ. The name of a member is written as JSON.
 fn how_words(alloc: Global, how: &How) -> Result<String, AllocError>
     ensures { IfOk result (λ words. string_bytes words ≡ how_text how.now) }
 {

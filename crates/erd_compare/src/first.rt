@@ -26,13 +26,20 @@ const PARTS: [Part; 10] = [
     Part::Style,
 ];
 
-/// The first difference of what two reports mean, which were resolved under one preference, and none exactly if they mean the
-/// same: at the least part, there at the least key; a different class before any member, else the least name of a member that
-/// differs. Reports differ in a contest's selections at its member `ContestSelection`, in a ballot's order at its member
-/// `OrderedContent`.
+/// Returns the first difference between the meanings of two reports, or `None` if and only if they mean the same. Both
+/// reports must have been resolved under the same preference.
 ///
-/// No record is copied or built: members are compared where they stand, references by the keys that they name. The keys of both
-/// reports in a family are sorted and walked in step, and the first of them at which the reports differ ends the walk.
+/// The first difference is at the least part that differs, and there at the least key. If only one report has an object
+/// there, that is the difference. Otherwise it is the class, or else the least name of a member that differs. A contest with
+/// other selections differs at its member `ContestSelection`, and a ballot style with other contents at `OrderedContent`.
+/// docs/PROFILE.md lists the parts, the keys and what members mean.
+///
+/// The code copies and builds no records. It compares members in place, and references by the keys of the objects that they
+/// name. In each family it sorts the keys of both reports, walks both lists in step, and stops at the first difference.
+///
+/// # Errors
+///
+/// `AllocError` if out of memory.
 pub fn first_difference(
     alloc: Global,
     left: &Report,

@@ -1,4 +1,4 @@
-//! The first difference of two reports.
+//! The first difference between the meanings of two reports. The rules are those of docs/PROFILE.md.
 #![tactic(auto)]
 
 pub mod difference;

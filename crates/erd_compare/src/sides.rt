@@ -1,9 +1,11 @@
 use erd_meaning::Report;
 
-/// The two reports that are compared. What is named `one` and `ones` elsewhere stands in the left one, what is named `other`
-/// and `others` in the right one.
+/// The two reports that are compared. Elsewhere, `one` and `ones` belong to the left report, and `other` and `others` to the
+/// right report.
 #[derive(Clone, Copy)]
 pub(crate) struct Sides<'a> {
+    /// The left report.
     pub left: &'a Report<'a>,
+    /// The right report.
     pub right: &'a Report<'a>,
 }

@@ -1,4 +1,4 @@
-//! Whether two values of members mean the same.
+//! Whether the values of two members mean the same.
 
 mod chosen_members;
 pub(crate) mod content;

@@ -5,3 +5,4 @@ pub mod References
 pub mod Skeleton
 pub mod SoleElection
 pub mod Standing
+pub mod KeyedElections

@@ -9,3 +9,6 @@ pub mod OwnedKeys  -- the test by which an index of keys is asked
 pub mod FoundWithId  -- what the index of `@id` texts leads to
 pub mod Known  -- what the indexes know of earlier objects
 pub mod Pushed  -- what the indexes answer once an object was added
+pub mod ElectionsHeld  -- the elections by position, and which one holds an object
+pub mod TwinElections  -- no two elections have one key
+pub mod HeldLists  -- the positions of the elections that hold objects, one after another

@@ -1,7 +1,12 @@
--- The claim: the walk over the objects of a report meets each object once, in the order of places, and tells exactly the faults of identity.
+-- The claim: the walk over a report meets each election and each object once, in the order of places, and tells exactly the faults of identity.
 pub mod MetObjects
 pub mod ObjectPlaces
 pub mod ObjectFamilies
 pub mod ToldFaults
+pub mod MetLists
+pub mod MetElections
+pub mod MetSources
+pub mod KeyTests
+pub mod SeenKeys
 pub mod IdentityFaults
 pub mod Resolved

@@ -1,5 +1,5 @@
--- What a report means: finite maps under the names that vendors share. They hold no `@id` and no position in a set.
--- A finite map is said by what it has under each name, a finite set by its test of membership. All is this profile's.
+-- What a report means: finite maps under names that vendors share. They hold no `@id` and no position in a set. A finite map
+-- is given by its value at each name, and a finite set by its test of membership. All of this is the profile's own.
 use Rattle.std.specs.Prelude.{ℕ, List, Bool, Option}
 use Rattle.serde_json.specs.Data.{Data}
 use Rattle.erd_tables.specs.declared.class.Class.{Class}
@@ -7,36 +7,36 @@ use Rattle.erd_tables.specs.declared.class.Family.{Family}
 use Rattle.erd_meaning.specs.NameParts.{NameParts}
 use Rattle.erd_meaning.specs.declared.keys.key.Key.{Key}
 
--- members by name
+-- A map from the names of members to JSON values.
 abbrev pub JsonMap : Type 0
 JsonMap = List ℕ → Option Data
 
--- a set of JSON values, which are compared as JSON
+-- A set of JSON values, given by its test of membership.
 abbrev pub JsonSet : Type 0
 JsonSet = Data → Bool
 
--- a set of keys
+-- A set of keys, given by its test of membership.
 abbrev pub KeySet : Type 0
 KeySet = Key → Bool
 
--- a text as it is, or the translations of an InternationalizedText and the members beside them
+-- A plain text, or the translations of an InternationalizedText with the members beside them.
 pub data Label : Type 0 where
   untranslated : List ℕ → Label
   translated : JsonMap → JsonSet → Label
 
--- the order of a ballot (OrderedContent of class BallotStyle): contests with their selections, and headers with contents of their own,
--- each with its carried members. What a reference names is there in every accepted report.
+-- The order of a ballot (OrderedContent of class BallotStyle): a list of contests and headers. In what an accepted report
+-- means, no key and no name is missing.
 mutual
   pub data Content : Type 0 where
     no_content : Content
     first_node : Node → Content → Content
 
-  -- a contest or a header on a ballot
+  -- A contest with the names of its selections, or a header with its own content. Either has its carried members too.
   pub data Node : Type 0 where
     a_contest : Option Key → List (Option NameParts) → JsonMap → Node
     a_header : Option Key → Content → JsonMap → Node
 
--- what a member means that holds no objects
+-- What a member means, if it holds no objects of a family.
 pub data PlainValue : Type 0 where
   a_json : Data → PlainValue
   a_label : Label → PlainValue
@@ -45,25 +45,26 @@ pub data PlainValue : Type 0 where
   a_key_set : KeySet → PlainValue
   a_content : Content → PlainValue
 
--- an object: its class, and what its members mean
+-- The record of an object: its class, and what each of its members means.
 pub record Record (V : Type 0) : Type 0 where
   pub class : Class
   pub members : List ℕ → Option V
 
--- what a selection means
+-- What a selection means.
 abbrev pub SelectionRecord : Type 0
 SelectionRecord = Record PlainValue
 
--- what a member of any other object means: the selections of a contest are a map from their names
+-- What a member of any other object means. The selections of a contest are a map from their names to their records.
 pub data MemberValue : Type 0 where
   a_plain : PlainValue → MemberValue
   a_selection_map : (NameParts → Option SelectionRecord) → MemberValue
 
--- what an object means that is no selection
+-- What an object means, if it is not a selection.
 abbrev pub ObjectRecord : Type 0
 ObjectRecord = Record MemberValue
 
--- the record of the report, that of its election, and for each of the first eight families a map from keys to records
+-- What a report means: the record of the report, the record of its election, and for each family that has keys a map from
+-- keys to records.
 pub record Meaning : Type 0 where
   pub report : Option ObjectRecord
   pub election : Option ObjectRecord

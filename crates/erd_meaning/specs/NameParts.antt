@@ -3,7 +3,8 @@ use Rattle.std.specs.Prelude.{ℕ, ℤ, List, Bool, Option}
 use Rattle.erd_tables.specs.declared.class.Class.{Class}
 use Rattle.erd_meaning.specs.declared.keys.key.Key.{Key}
 
--- class, keys of candidates or parties, whether it is for a write-in, sequence order, label, triple of identifiers (profile)
+-- Class, keys of its candidates or parties, whether it is for a write-in, sequence order, label, and the chosen triple of
+-- its identifiers. (profile)
 pub record NameParts : Type 0 where
   pub class : Class
   pub keys : List Key

@@ -1,4 +1,4 @@
--- What the objects of a report mean. All is this profile's.
+-- What the objects of a report mean. All of this is the profile's own.
 use Rattle.std.specs.Prelude.{ℕ, List, [], Bool, true, false, ◌||◌, if◌then◌else◌, Option, Some, None, option_and_then, option_map, unwrap_or, map, find, slice_get, codes}
 use Rattle.std.specs.List.{list_any}
 use Rattle.std.specs.Option.{option_cmp}
@@ -27,67 +27,69 @@ use Rattle.erd_meaning.specs.declared.keys.key.Key.{Key}
 
 -- ---- values
 
--- the set of these JSON values
+-- The set of the JSON values in the list. Values are compared as JSON.
 abbrev pub json_set : List Data → JsonSet
 json_set ds d = list_any (is_same_json d) ds
 
--- the set of these keys
+-- The set of the keys in the list.
 abbrev pub key_set : List Key → KeySet
 key_set ks k = list_any (λ l. is_eq (key_cmp l k)) ks
 
--- a value, where the member is carried
+-- The value, if the member is a carried one, and otherwise none.
 abbrev pub if_carried : MemberKind → Option Data → Option Data
 if_carried kind.Carried found = found
 if_carried k found = None
 
--- the carried members of an object of a class
+-- The carried members of an object of the class, by name. There are none if the class is unknown.
 abbrev pub carried_members : Option Class → Data → JsonMap
 carried_members class d name = option_and_then (λ c. if_carried (kind_of_member c name) (get name d)) class
 
--- the members of a label but for its translations, and for `@type`, which is the same in every accepted label
+-- The members of a label except `Text`, and except `@type`, which is the same in every accepted label.
 abbrev pub label_beside_text : Data → JsonMap
 label_beside_text d name = if bytes_eq name (codes "@type") || bytes_eq name (codes "Text") then None else get name d
 
--- a label (class InternationalizedText, or a text)
+-- What a label means: an object stands for its translations and other members, and a string for its text. (class
+-- InternationalizedText, or a text)
 abbrev pub label_of : Data → Label
 label_of (object ms) = translated (label_beside_text (object ms)) (json_set (entries_at (codes "Text") (object ms)))
 label_of d = untranslated (unwrap_or (as_str d) [])
 
 -- ---- the order of a ballot
 
--- the class of a contest or a header in the order of a ballot (classes OrderedContest and OrderedHeader)
+-- The class of a node in the order of a ballot, or none if it is neither of the two. (classes OrderedContest and
+-- OrderedHeader)
 abbrev pub class_of_node : Data → Option Class
 class_of_node d = class_of_object role.Content d
 
--- whether it is a header
+-- True for the class OrderedHeader.
 abbrev pub is_header_class : Option Class → Bool
 is_header_class (Some class.OrderedHeader) = true
 is_header_class c = false
 
--- a contest, with the names of its selections in their order (class OrderedContest)
+-- A contest on a ballot, with the names of its selections in their order and its carried members. (class OrderedContest)
 abbrev pub contest_node : Preference → Data → Data → Node
 contest_node π t d =
     a_contest (key_named π t family.Contest (text_at (codes "ContestId") d))
     (map (λ r. option_and_then (name_named π t) (as_str r)) (entries_at (codes "OrderedContestSelectionIds") d))
     (carried_members (class_of_node d) d)
 
--- a header, with the content inside it (class OrderedHeader)
+-- A header on a ballot, with the content inside it and its carried members. (class OrderedHeader)
 abbrev pub header_node : Preference → Data → Data → Content → Node
 header_node π t d inside = a_header (key_named π t family.Header (text_at (codes "HeaderId") d)) inside (carried_members (class_of_node d) d)
 
--- a list of contests and headers in its order, at every depth of headers (classes BallotStyle and OrderedHeader);
--- an empty list is as an absent one
+-- What an ordered list of contests and headers means, headers inside headers included. An empty list means the same as an
+-- absent one. (classes BallotStyle and OrderedHeader)
 abbrev mutual
   pub content_of : Preference → Data → Data → Content
   content_of π t (array ds) = nodes_of π t ds
   content_of π t d = no_content
 
-  -- the contests and headers of an array
+  -- The contests and headers of an array, in their order.
   pub nodes_of : Preference → Data → Items → Content
   nodes_of π t no_items = no_content
   nodes_of π t (item d ds) = first_node (node_of π t d) (nodes_of π t ds)
 
-  -- a contest or a header
+  -- A header if the class is OrderedHeader, and otherwise a contest.
   pub node_of : Preference → Data → Data → Node
   node_of π t (object ms) =
       if is_header_class (class_of_node (object ms))
@@ -95,19 +97,19 @@ abbrev mutual
       else contest_node π t (object ms)
   node_of π t d = contest_node π t d
 
-  -- the content of the member `OrderedContent`
+  -- The content of the member `OrderedContent`, or no content if the object has no such member.
   pub content_inside : Preference → Data → Members → Content
   content_inside π t no_members = no_content
   content_inside π t (member k d ms) = if bytes_eq (codes "OrderedContent") k then content_of π t d else content_inside π t ms
 
 -- ---- members
 
--- a meaning, unless the value is an empty array
+-- The given meaning, or none if the value is an empty array.
 abbrev pub unless_empty : {V : Type 0} → V → Data → Option V
 unless_empty v (array no_items) = None
 unless_empty v d = Some v
 
--- what the value of a member of this kind means, where it means anything by itself
+-- What a value of this kind means, or none if it means nothing by itself.
 abbrev pub plain_value : Preference → Data → MemberKind → Data → Option PlainValue
 plain_value π t kind.Word d = Some (a_json d)
 plain_value π t kind.Flag d = Some (a_json d)
@@ -121,56 +123,56 @@ plain_value π t kind.Languages d = unless_empty (a_json_set (json_set (entries_
 plain_value π t kind.Content d = unless_empty (a_content (content_of π t d)) d
 plain_value π t k d = None
 
--- a member of the report that is no part of its meaning
+-- True for a member of the report that is in the envelope and so no part of its meaning.
 abbrev pub is_in_envelope : Class → List ℕ → Bool
 is_in_envelope class.ElectionReport name = is_envelope_name name
 is_in_envelope c name = false
 
--- what a member of an object of the class means, where it means anything by itself
+-- What a member of an object of the class means, or none if it is absent or means nothing by itself.
 abbrev pub plain_member : Preference → Data → Data → Class → List ℕ → Option PlainValue
 plain_member π t d c name =
     if is_in_envelope c name then None else option_and_then (plain_value π t (kind_of_member c name)) (get name d)
 
 -- ---- objects
 
--- an object that is of a class with the role, its members read by class and name
+-- The record of an object whose class has the role, with its members read by class and name, or none for any other class.
 abbrev pub record_with : {V : Type 0} → (Class → List ℕ → Option V) → Role → Data → Option (Record V)
 record_with members_of r d = option_map (λ c. record { class = c; members = members_of c }) (class_of_object r d)
 
--- what a selection means
+-- What a selection means.
 abbrev pub selection_record : Preference → Data → Data → Option SelectionRecord
 selection_record π t d = record_with (plain_member π t d) selection_role d
 
--- the selection of this name means this
+-- What the first selection with this name means, or none if no selection has the name.
 abbrev pub selection_map : Preference → Data → List Data → NameParts → Option SelectionRecord
 selection_map π t ds name =
     option_and_then (selection_record π t) (find (λ d. is_eq (option_cmp name_cmp (name_of π t d) (Some name))) ds)
 
--- what a member of this kind means: that of a contest's selections is a map
+-- What a member of this kind means. The selections of a contest mean a map; any other member means what it means by itself.
 abbrev pub member_value : Preference → Data → MemberKind → Option Data → Option PlainValue → Option MemberValue
 member_value π t (kind.Keyed family.Selection) found plain =
     option_and_then (λ v. unless_empty (a_selection_map (selection_map π t (entries_of v))) v) found
 member_value π t k found plain = option_map a_plain plain
 
--- what a member of an object of the class means
+-- What the member with this name means in an object of the class.
 abbrev pub member_of_class : Preference → Data → Data → Class → List ℕ → Option MemberValue
 member_of_class π t d c name = member_value π t (kind_of_member c name) (get name d) (plain_member π t d c name)
 
--- what an object means that is no selection
+-- What an object with the role means, if it is not a selection.
 abbrev pub object_record : Preference → Data → Role → Data → Option ObjectRecord
 object_record π t r d = record_with (member_of_class π t d) r d
 
--- the object of a family that has this key
+-- The first object of the family with this key, or none.
 abbrev pub object_with_key : Preference → Data → Family → Key → Option Data
 object_with_key π t f k =
     option_map (λ o. o.value) (find (λ o. is_eq (option_cmp key_cmp (key_of π o.value) (Some k))) (objects f t))
 
--- the records of a family by key; selections are in the records of their contests
+-- What the object of the family with this key means, or none. Selections are in the records of their contests.
 abbrev pub records_of : Preference → Data → Family → Key → Option ObjectRecord
 records_of π t family.Selection k = None
 records_of π t f k = option_and_then (object_record π t (role.OfFamily f)) (object_with_key π t f k)
 
--- what a report means
+-- What a report means under a preference.
 abbrev pub meaning : Preference → Data → Meaning
 meaning π t = record {
   report = object_record π t role.Report t;

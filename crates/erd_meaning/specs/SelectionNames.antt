@@ -1,4 +1,4 @@
--- The names of the selections of a contest, which tell them apart independently of the vendor.
+-- The names of the selections of a contest. They tell selections apart independently of the vendor.
 use Rattle.std.specs.Prelude.{ℕ, ℤ, List, [], ◌∷◌, Bool, false, if◌then◌else◌, Option, None, option_and_then, option_map, unwrap_or, codes}
 use Rattle.std.specs.Cmp.Lexicographic.{slice_cmp}
 use Rattle.std.specs.List.{filter_map}
@@ -26,52 +26,55 @@ use Rattle.erd_meaning.specs.declared.keys.key.Key.{Key}
 
 -- ---- lists in order
 
--- a value put before the first one that is not below it
+-- The list with the value inserted before the first entry that is not less than it.
 abbrev pub with_inserted : {A : Type 0} → (A → A → Ordering) → A → List A → List A
 with_inserted cmp x [] = x ∷ []
 with_inserted cmp x (y ∷ ys) = if is_lt (cmp y x) then y ∷ with_inserted cmp x ys else x ∷ (y ∷ ys)
 
--- the same values in rising order, each as often
+-- The same values in rising order. Each stands as often as before.
 abbrev pub rising_list : {A : Type 0} → (A → A → Ordering) → List A → List A
 rising_list cmp [] = []
 rising_list cmp (x ∷ xs) = with_inserted cmp x (rising_list cmp xs)
 
--- JSON values by the bytes of their compact texts (profile)
+-- JSON values are compared by the bytes of their compact texts. (profile)
 abbrev pub compact_cmp : Data → Data → Ordering
 compact_cmp a b = text_cmp (compact_text a) (compact_text b)
 
 -- ---- the six parts
 
--- the key of what a reference names: none if it names nothing of the family
+-- The key of the object of the family that the reference names, or none if there is no such object or it has no key.
 abbrev pub key_named : Preference → Data → Family → List ℕ → Option Key
 key_named π t f id = option_and_then (key_of π) (owner t f id)
 
--- the keys that the references of an array name
+-- The keys of the objects of the family that the references in a list name.
 abbrev pub keys_named : Preference → Data → Family → List Data → List Key
 keys_named π t f references = filter_map (λ r. option_and_then (key_named π t f) (as_str r)) references
 
--- the keys of the candidates or the parties that a selection is for (classes CandidateSelection, PartySelection)
+-- The keys of the candidates of a CandidateSelection or of the parties of a PartySelection, and no keys for any other class.
+-- (classes CandidateSelection, PartySelection)
 abbrev pub keys_of_selection : Preference → Data → Class → Data → List Key
 keys_of_selection π t class.CandidateSelection d = keys_named π t family.Candidate (entries_at (codes "CandidateIds") d)
 keys_of_selection π t class.PartySelection d = keys_named π t family.Party (entries_at (codes "PartyIds") d)
 keys_of_selection π t c d = []
 
--- whether `IsWriteIn` is true (class CandidateSelection)
+-- True for a CandidateSelection whose `IsWriteIn` is true. (class CandidateSelection)
 abbrev pub is_write_in : Class → Data → Bool
 is_write_in class.CandidateSelection d = unwrap_or (option_and_then as_bool (get (codes "IsWriteIn") d)) false
 is_write_in c d = false
 
--- the number in `SequenceOrder`, if there is one (class ContestSelection)
+-- The whole number in `SequenceOrder`, or none. (class ContestSelection)
 abbrev pub order_of_selection : Data → Option ℤ
 order_of_selection d = option_and_then as_integer (option_and_then as_number (get (codes "SequenceOrder") d))
 
--- a label with its translations in rising order (class InternationalizedText)
+-- The label with the entries of its `Text` in rising order. A label that is a plain text stays. (class
+-- InternationalizedText)
 abbrev pub with_rising_text : Data → Data
 with_rising_text (object ms) =
     object (put (codes "Text") (array (items_of (rising_list compact_cmp (entries_at (codes "Text") (object ms))))) ms)
 with_rising_text d = d
 
--- the compact text of `Selection`, its translations rising (class BallotMeasureSelection)
+-- The compact text of `Selection` in a BallotMeasureSelection, with its translations in rising order, and none for any other
+-- class. (class BallotMeasureSelection)
 abbrev pub label_of_selection : Class → Data → Option (List ℕ)
 label_of_selection class.BallotMeasureSelection d =
     option_map (λ v. compact_text (with_rising_text v)) (get (codes "Selection") d)
@@ -79,7 +82,7 @@ label_of_selection c d = None
 
 -- ---- names
 
--- the name of a selection of this class
+-- The name of a selection of this class, made of its six parts.
 abbrev pub name_in_class : Preference → Data → Class → Data → NameParts
 name_in_class π t c d = record {
   class = c;
@@ -90,19 +93,20 @@ name_in_class π t c d = record {
   identifier = key_of π d;
 }
 
--- what the objects of a contest's array stand for
+-- The role of the objects in the `ContestSelection` of a contest.
 abbrev pub selection_role : Role
 selection_role = role.OfFamily family.Selection
 
--- the name of a selection: none where it is of no class of selection
+-- The name of a selection, or none if its `@type` is not that of a selection class.
 abbrev pub name_of : Preference → Data → Data → Option NameParts
 name_of π t d = option_map (λ c. name_in_class π t c d) (class_of_object selection_role d)
 
--- classes by their names
+-- Classes are compared by their names.
 abbrev pub class_cmp : Class → Class → Ordering
 class_cmp c d = text_cmp (class_name c) (class_name d)
 
--- names part by part: lists of keys as words, false before true, none before a value (profile)
+-- Names are compared part by part. Lists of keys go entry by entry, false comes before true, and none before any value.
+-- (profile)
 abbrev pub name_cmp : NameParts → NameParts → Ordering
 name_cmp a b =
     ordering_then (class_cmp a.class b.class)
@@ -112,6 +116,6 @@ name_cmp a b =
     (ordering_then (option_cmp text_cmp a.label b.label)
     (option_cmp key_cmp a.identifier b.identifier)))))
 
--- the name of the selection that a reference names: none if it names none
+-- The name of the selection that the reference names, or none if it names no selection.
 abbrev pub name_named : Preference → Data → List ℕ → Option NameParts
 name_named π t id = option_and_then (name_of π t) (owner t family.Selection id)

@@ -3,7 +3,9 @@ pub mod Orders  -- the orders of keys, names and compact texts are total, and te
 pub mod ChosenKeys  -- the order in which the program chooses among identifiers
 pub mod TranslationOrder  -- the order of translations, as the program sorts them
 pub mod NameHashes  -- what a hasher is given of a key and of a name
-pub mod ObjectWalk  -- the objects in the order in which the program meets them, with the faults of identity
+pub mod ObjectWalk  -- the elections and the objects in the order in which the program meets them, with the faults of identity
+pub mod ElectionKeys  -- what the program keeps of the elections: their keys, and which holds an object
+pub mod Holding  -- the elections that hold the objects of a report
 pub mod ObjectLookups  -- look-ups among the objects that are kept
 pub mod ObjectIndexes  -- the indexes that the program keeps of the objects
 pub mod Indexed  -- when these indexes are those of the objects
@@ -14,4 +16,5 @@ pub mod Held  -- what clauses see of a name that is held or lent
 pub mod Shown  -- what the program's own structs stand for
 pub mod ShownWalks  -- what clauses see of the walks
 pub mod Resolved  -- what holds of a report after each phase, and of an accepted one
+pub mod ResolvedElections  -- what holds of the elections that a report keeps
 pub mod ResolvedIndexes  -- what a report holds beside its tree

@@ -1,4 +1,4 @@
-//! What names an object, whichever vendor wrote it.
+//! Keys. A key identifies an object in its family, or an election in its report, independently of the vendor.
 
 pub mod key;
 pub mod key_of;

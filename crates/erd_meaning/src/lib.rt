@@ -1,4 +1,4 @@
-//! Keys, names, references and the meaning of a report.
+//! Keys of objects, names of selections, references, and accepted reports.
 #![tactic(auto)]
 
 pub mod keys;

@@ -1,8 +1,9 @@
-//! What names a selection in its contest, whichever vendor wrote it.
+//! Names of selections. A name identifies a selection in its contest, independently of the vendor.
 
 pub(crate) mod held_name;
 mod label;
 pub(crate) mod naming;
+pub(crate) mod parts;
 pub mod selection_name;
 pub(crate) mod selection_walk;
 mod translation;

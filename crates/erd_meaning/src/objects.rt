@@ -1,5 +1,7 @@
-//! The objects of a report, in the order of their places.
+//! The elections and objects of a report, in the order of their places.
 
+pub(crate) mod election_table;
+pub(crate) mod holders;
 pub(crate) mod lookup;
 pub(crate) mod object;
 pub(crate) mod object_walk;

@@ -5,9 +5,10 @@ ghost use Rattle.serde_json.specs.Written.{has_float};
 ghost use Rattle.erd_check.specs.Numbers.{HasFittingNumbers};
 ghost use Rattle.erd_check.specs.Trees.{IsTree};
 ghost use Rattle.erd_meaning.specs.Accepted.{IsAccepted};
-ghost use Rattle.erd_meaning.specs.Lookups.{FindsId, FindsKey, FindsSelection, key_in, selection_in};
+ghost use Rattle.erd_meaning.specs.Lookups.{FindsId, FindsKey, FindsSelection, election_in, election_key_in, key_in, selection_in};
 ghost use Rattle.erd_meaning.specs.Objects.{IsBounded, elections, objects};
 ghost use Rattle.erd_meaning.specs.code.Resolved.{IsResolved};
+ghost use Rattle.erd_meaning.specs.code.ResolvedElections.{AreElections};
 ghost use Rattle.erd_meaning.specs.SelectionNames.{name_of};
 
 pub(crate) mod reference_judge;
@@ -18,6 +19,8 @@ use crate::keys::key_rule::KeyRule;
 use crate::names::held_name::HeldName;
 use crate::names::naming::name_of_selection;
 use crate::names::selection_name::SelectionName;
+use crate::objects::election_table::ElectionTable;
+use crate::objects::holders::Holders;
 use crate::objects::table::ObjectTable;
 use erd_check::values::entries_at;
 use erd_tables::{Family, Text};
@@ -26,26 +29,35 @@ use serde_json::Value;
 use std::alloc::{AllocError, Global};
 use std::marker::Model;
 
-/// A report that is accepted under a preference: it has no fault of the shape, its objects are told apart, its references name
-/// them, and no two selections of one contest have one name. It borrows the report, owns a copy of the preference, and is seen
-/// by contracts as both.
+/// A report that is accepted under a preference: it has no faults of shape, identity, references or selections. It gives the
+/// same guarantees about names and numbers as a `Shaped`. It borrows the report and owns a copy of the preference. Contracts
+/// see both.
 ///
-/// Its objects are named by their family and their position in it, counted from 0 in the order of the report.
+/// The methods identify an object by its family and its position in the family. Positions count from 0, in the order of the
+/// report.
 #[derive(Debug, Drop)]
 pub struct Report<'a> {
     tree: &'a Value,
     prefer: Option<Text>,
-    // One entry. It stands in a vector, so that whoever lets a report go has little to show. A box is not lent for a
-    // shorter lifetime.
+    // Always one entry. It is in a vector so that a function that drops a report has little to prove. A box would not do: a
+    // reference to a value that holds a box is not accepted for a shorter lifetime.
     indexes: Vec<Indexes<'a>>,
 }
 
-/// The objects of a report, and the names of its selections, each with the position of its contest; both in the order of
-/// their places.
+/// The objects of a report and the names of its selections, in the order of their places, and its elections. Each name has
+/// the position of its contest with it.
 #[derive(Debug, Drop)]
 pub(crate) struct Indexes<'a> {
     pub(crate) objects: ObjectTable<'a>,
     pub(crate) names: IndexSet<(usize, HeldName<'a>)>,
+    pub(crate) elections: Elections<'a>,
+}
+
+/// The keys of the elections of a report, and which election contains which object.
+#[derive(Debug, Drop)]
+pub(crate) struct Elections<'a> {
+    pub(crate) keys: ElectionTable<'a>,
+    pub(crate) holders: Holders,
 }
 
 impl<'a> Model for Report<'a> {
@@ -67,14 +79,15 @@ impl<'a> Model for Report<'a> {
 }
 
 impl<'a> Report<'a> {
-    /// The report of this tree, with its indexes.
+    /// Returns the report with this tree, preference and indexes.
     pub(crate) fn of(
         alloc: Global,
         tree: &'a Value,
         prefer: Option<Text>,
         indexes: Indexes<'a>,
     ) -> Result<Report<'a>, AllocError>
-        requires { IsResolved prefer tree.now indexes.objects indexes.names.keys }
+        requires resolved { IsResolved prefer tree.now indexes.objects indexes.names.keys }
+        requires elections { AreElections prefer tree.now indexes.elections }
         ensures tree { IfOk result (λ r. r.tree ≡ tree.now) }
         ensures prefer { IfOk result (λ r. r.prefer ≡ prefer) }
     {
@@ -93,8 +106,15 @@ impl<'a> Report<'a> {
         &self.indexes[0]
     }
 
-    /// The report that was handed in. It is accepted; the names of each object in it rise, each number in it is whole and
-    /// fits 64 bits, and a machine word counts the objects of each family.
+    fn elections(&self) -> &Elections<'a>
+        ensures { AreElections self.now.prefer self.now.tree result.now }
+    {
+        &self.indexes[0].elections
+    }
+
+    /// Returns the JSON value of the report. It is accepted under the preference. The names of the members of each
+    /// object in it strictly rise, each number in it is whole and fits 64 bits, and each family has fewer than 2^64
+    /// objects.
     pub fn tree(&self) -> &'a Value
         ensures tree { result.now ≡ self.now.tree }
         ensures accepted { IsAccepted self.now.prefer (view result.now) }
@@ -108,7 +128,7 @@ impl<'a> Report<'a> {
         self.tree
     }
 
-    /// The preference that the report was resolved under: the type of identifier that its keys follow, or none.
+    /// Returns the preference that the report was resolved under: the type of identifier that its keys follow, or `None`.
     pub fn preference(&self) -> Option<&str>
         ensures { option_copied result ≡ self.now.prefer }
     {
@@ -118,21 +138,52 @@ impl<'a> Report<'a> {
         }
     }
 
-    /// The one election of the report.
+    /// Returns the only election of the report.
     pub fn election(&self) -> &'a Value
         ensures { map (λ o. o.value) (elections (view self.now.tree)) ≡ view result.now ∷ [] }
     {
         &entries_at(self.tree, "Election")[0]
     }
 
-    /// How many objects of the family there are.
+    /// Returns the number of elections.
+    pub fn election_count(&self) -> usize
+        ensures { result ≡ length (elections (view self.now.tree)) }
+    {
+        entries_at(self.tree, "Election").len()
+    }
+
+    /// Returns the election at the position, or `None` if there is none. Positions count from 0, in the order of the report.
+    pub fn election_at(&self, index: usize) -> Option<&'a Value>
+        ensures { option_map (λ v. view v.now) result ≡ option_map (λ o. o.value) (slice_get (elections (view self.now.tree)) index) }
+    {
+        value_at(entries_at(self.tree, "Election"), index)
+    }
+
+    /// Returns the key of the election at the position, or `None` if there is no such election or it has no external
+    /// identifier. The only election of a report does not need one.
+    pub fn election_key(&self, index: usize) -> Option<&Key>
+        ensures { option_copied result ≡ election_key_in self.now.prefer (view self.now.tree) index }
+    {
+        self.elections().keys.key_at(index)
+    }
+
+    /// Returns the position of the election that contains the candidate, contest or style at the position, or `None` if
+    /// there is no such object. For other families it returns `None`. For the election of a selection, ask for that of
+    /// its contest.
+    pub fn election_of(&self, family: Family, index: usize) -> Option<usize>
+        ensures { result ≡ election_in family (view self.now.tree) index }
+    {
+        self.elections().holders.get(family, index)
+    }
+
+    /// Returns the number of objects of the family.
     pub fn count(&self, family: Family) -> usize
         ensures { result ≡ length (objects family (view self.now.tree)) }
     {
         self.indexes().objects.count(family)
     }
 
-    /// The object of the family at the position, if there is one.
+    /// Returns the object of the family at the position, or `None` if there is none.
     pub fn object(&self, family: Family, index: usize) -> Option<&'a Value>
         ensures { option_map (λ v. view v.now) result ≡ option_map (λ o. o.value) (slice_get (objects family (view self.now.tree)) index) }
     {
@@ -142,8 +193,8 @@ impl<'a> Report<'a> {
         }
     }
 
-    /// The key of the object of the family at the position, if there is one. Selections have no keys; each object of
-    /// another family has one.
+    /// Returns the key of the object of the family at the position, or `None` if there is no such object. Selections have no
+    /// keys. Every object of another family has one (reason 12).
     pub fn key_at(&self, family: Family, index: usize) -> Option<&Key>
         ensures { option_copied result ≡ key_in self.now.prefer family (view self.now.tree) index }
     {
@@ -153,21 +204,24 @@ impl<'a> Report<'a> {
         }
     }
 
-    /// The position of the object of the family with the key, if there is one. No two objects of a family have one key.
+    /// Returns the position of the object of the family with the key, or `None` if there is none. No two objects of a family
+    /// have the same key (reason 13).
     pub fn find(&self, family: Family, key: &Key) -> Option<usize>
         ensures { FindsKey self.now.prefer (view self.now.tree) family key.now result }
     {
         self.indexes().objects.position_of_key(family, key)
     }
 
-    /// The family and the position of the object with the `@id`, if there is one. No two objects have one `@id`.
+    /// Returns the family and position of the object with the `@id`, or `None` if there is none. No two objects have
+    /// the same `@id` (reason 14).
     pub fn target(&self, id: &str) -> Option<(Family, usize)>
         ensures { FindsId (view self.now.tree) id.now result }
     {
         self.indexes().objects.position_of_id(id)
     }
 
-    /// The position of the contest of the selection at the position, and its name, if there is a selection.
+    /// Returns the position of the contest of the selection at the position, and the name of the selection. Returns
+    /// `None` if there is no such selection.
     pub fn selection_at(&self, index: usize) -> Option<(usize, &SelectionName)>
         ensures { option_map (λ s. (s.0, s.1.now)) result ≡ selection_in self.now.prefer (view self.now.tree) index }
     {
@@ -175,8 +229,8 @@ impl<'a> Report<'a> {
         Some((*contest, name.name()))
     }
 
-    /// The position of the selection of the contest at a position with the name, if there is one. No two selections of one
-    /// contest have one name.
+    /// Returns the position of the selection that has the name and is in the contest at the position `contest`, or `None` if
+    /// there is none. No two selections of a contest have the same name (reason 18).
     pub fn find_selection(&self, contest: usize, name: &SelectionName) -> Option<usize>
         ensures { FindsSelection self.now.prefer (view self.now.tree) contest name.now result }
     {
@@ -185,7 +239,12 @@ impl<'a> Report<'a> {
             .get_index_of(&(contest, HeldName::lent(name)))
     }
 
-    /// The name of a selection in this report, if it is of a class of selection.
+    /// Returns the name of a selection, or `None` if its class is not one of the selection classes. The candidates or
+    /// parties that it refers to are looked up in this report. Each number in `selection` must be whole.
+    ///
+    /// # Errors
+    ///
+    /// `AllocError` if out of memory.
     pub fn name_of(
         &self,
         alloc: Global,
@@ -200,4 +259,11 @@ impl<'a> Report<'a> {
         };
         name_of_selection(&keys, &self.indexes().objects, selection)
     }
+}
+
+/// Returns the value at a position, if there is one.
+fn value_at(values: &[Value], index: usize) -> Option<&Value>
+    ensures { option_map (λ v. view v.now) result ≡ option_map view (slice_get values.now index) }
+{
+    values.get(index)
 }

@@ -8,6 +8,7 @@ pub mod RisingReports
 pub mod NormalKeys
 pub mod NormalSelections
 pub mod NormalOwners
+pub mod ElectionsApart
 pub mod NormalIdentity
 pub mod SelectionIds
 pub mod NormalNames

@@ -1,4 +1,4 @@
--- The canonical form of a report, as a predicate on trees. All is this profile's.
+-- The canonical form of a report, as a predicate on trees. All of this is the profile's own.
 use Rattle.std.specs.Prelude.{ℕ, ◌≡◌, ◌+◌, List, ◌++◌, false, IsTrue, Option, Some, None, option_and_then, option_map, codes, decimal, slice_get, map, filter, length, ⊤}
 use Rattle.std.specs.List.Sorted.{IsStrictlySortedBy}
 use Rattle.std.specs.Option.{option_cmp}
@@ -24,11 +24,12 @@ use Rattle.erd_meaning.specs.declared.keys.key.Key.{Key}
 
 -- ---- the envelope
 
--- the member has this value
+-- The report has a member with this name, and its value is this one.
 abbrev pub HasMember : Data → List ℕ → Data → Type 0
 HasMember t name d = get name t ≡ Some d
 
--- the members that say how a file came about are this project's own, and two are absent (class ElectionReport)
+-- Seven members of the envelope have the values that this project fixes, and `Notes` and `ExternalIdentifier` are absent.
+-- (class ElectionReport)
 pub record HasCanonicalEnvelope (t : Data) : Type 0 where
   pub format : HasMember t (codes "Format") (string (codes "summary-contest"))
   pub date : HasMember t (codes "GeneratedDate") (string (codes "2000-01-01T00:00:00Z"))
@@ -42,27 +43,28 @@ pub record HasCanonicalEnvelope (t : Data) : Type 0 where
 
 -- ---- arrays
 
--- the kind of a member, but for `Status`, one reference and a carried member, none of which is an array of the table
+-- The kind of the member that is asked for, or none. `Status`, a single reference and a carried member give none, since none
+-- of them is an array of the table.
 abbrev pub kind_wanted : Want → Option MemberKind
 kind_wanted (Member k required) = Some k
 kind_wanted w = None
 
--- no array of the table is empty; an outside member of an accepted report is an empty array, so none stands
+-- No array of the table is empty. An outside member of an accepted report is an empty array, so a canonical report has none.
 abbrev pub HasNoEmptyArray : Data → Type 0
 HasNoEmptyArray t =
     (p : List Step) (a : Asked) (k : MemberKind) → asked_at t p ≡ Some a → kind_wanted a.want ≡ Some k
     → is_empty_array a.value ≡ false
 
--- the keys of the objects in an array
+-- The key of each object in the list, in their order.
 abbrev pub keys_of : Preference → List Data → List (Option Key)
 keys_of π ds = map (key_of π) ds
 
--- the keys of what the references in an array name
+-- The key of the object that each reference in the list names, in their order.
 abbrev pub keys_referred : Preference → Data → Family → List Data → List (Option Key)
 keys_referred π t f ds = map (λ r. option_and_then (key_named π t f) (as_str r)) ds
 
--- the entries of a set of the table strictly rise: objects by key, selections by name, identifiers and translations by
--- compact text, references by the key of what they name
+-- The entries of a set of this kind strictly rise: objects by key, selections by name, identifiers and translations by
+-- compact text, references by the key of what they name.
 abbrev pub RisesAs : Preference → Data → MemberKind → List Data → Type 0
 RisesAs π t (kind.Keyed family.Selection) ds = IsStrictlySortedBy (option_cmp name_cmp) (map (name_of π t) ds)
 RisesAs π t (kind.Keyed f) ds = IsStrictlySortedBy (option_cmp key_cmp) (keys_of π ds)
@@ -71,7 +73,7 @@ RisesAs π t kind.Languages ds = IsStrictlySortedBy compact_cmp ds
 RisesAs π t (kind.Many f) ds = IsStrictlySortedBy (option_cmp key_cmp) (keys_referred π t f ds)
 RisesAs π t k ds = ⊤
 
--- each set of the table rises
+-- The entries of each set of the table strictly rise in the order of its kind.
 abbrev pub AreSetsInOrder : Preference → Data → Type 0
 AreSetsInOrder π t =
     (p : List Step) (a : Asked) (k : MemberKind) → asked_at t p ≡ Some a → kind_wanted a.want ≡ Some k
@@ -79,7 +81,8 @@ AreSetsInOrder π t =
 
 -- ---- `@id` texts
 
--- the first letters of the canonical `@id` of a family; styles have none, selections are named within their contests
+-- The letters with which the canonical `@id` of an object begins, by family. A style has no `@id`, and selections are named
+-- within their contests.
 abbrev pub id_prefix : Family → Option (List ℕ)
 id_prefix family.Unit = Some (codes "gp")
 id_prefix family.Party = Some (codes "pa")
@@ -91,20 +94,20 @@ id_prefix family.Contest = Some (codes "co")
 id_prefix family.Style = None
 id_prefix family.Selection = None
 
--- how many objects of the family in the report have lesser keys
+-- The number of objects of the family in the report whose keys are less than this one.
 abbrev pub rank_of : Preference → Data → Family → Option Key → ℕ
 rank_of π t f k = length (filter (λ o. is_lt (option_cmp key_cmp (key_of π o.value) k)) (objects f t))
 
--- the `@id` of the object of a family that has rank i: ranks count from 1
+-- The canonical `@id` of the object with rank i in its family: the letters of the family, then i + 1. A style has none.
 abbrev pub canonical_id : Family → ℕ → Option (List ℕ)
 canonical_id f i = option_map (λ letters. letters ++ decimal (i + 1)) (id_prefix f)
 
--- the `@id` of selection j of the contest of rank i
+-- The canonical `@id` of selection j of the contest with rank i: `cs`, i + 1, a hyphen, j + 1.
 abbrev pub canonical_selection_id : ℕ → ℕ → List ℕ
 canonical_selection_id i j = codes "cs" ++ (decimal (i + 1) ++ (codes "-" ++ decimal (j + 1)))
 
--- each object is named by its family and the rank of its key in the report, a selection by the rank of its contest and its
--- position in it; a style has no `@id`
+-- Each object has the `@id` of its family and of the rank of its key, and each selection that of the rank of its contest and
+-- of its position there. A style has no `@id`.
 pub record HasCanonicalIds (π : Preference) (t : Data) : Type 0 where
   pub families : (f : Family) (o : Placed) → IsTrue (has_keys f) → IsObject t f o → id_of o.value ≡ canonical_id f (rank_of π t f (key_of π o.value))
   pub selections : (j : ℕ) (contest o : Placed) → IsObject t family.Contest contest → slice_get (selections_of_contest contest) j ≡ Some o
@@ -112,7 +115,8 @@ pub record HasCanonicalIds (π : Preference) (t : Data) : Type 0 where
 
 -- ---- the whole
 
--- a tree is canonical; what its references say needs no part of its own, since those of an accepted report resolve
+-- The tree is an accepted report in canonical form. References need no condition here, since those of an accepted report
+-- resolve.
 pub record IsCanonical (π : Preference) (t : Data) : Type 0 where
   pub accepted : IsAccepted π t
   pub envelope : HasCanonicalEnvelope t
@@ -120,7 +124,7 @@ pub record IsCanonical (π : Preference) (t : Data) : Type 0 where
   pub in_order : AreSetsInOrder π t
   pub ids : HasCanonicalIds π t
 
--- u is the canonical form of t
+-- u is the canonical form of t: it is canonical, and it means what t means.
 pub record IsCanonicalFormOf (π : Preference) (t u : Data) : Type 0 where
   pub canonical : IsCanonical π u
   pub same : meaning π u ≡ meaning π t

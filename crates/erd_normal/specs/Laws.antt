@@ -1,4 +1,4 @@
--- The laws of the canonical form, as statements: it is unique, a rearranged report has the same, and preferences agree.
+-- The laws of the canonical form, as statements: it is unique, a rearranged report has the same one, and preferences agree.
 use Rattle.std.specs.Prelude.{ℕ, ◌≡◌, ◌↔◌, List, Option, Some, map, IsTrue, Contains}
 use Rattle.serde_json.specs.Data.{Data}
 use Rattle.erd_tables.specs.declared.class.Family.{Family}
@@ -20,7 +20,7 @@ use Rattle.erd_meaning.specs.declared.keys.key.Key.{Key}
 use Rattle.erd_normal.specs.Canonical.{kind_wanted, IsCanonical}
 use Rattle.erd_normal.specs.Rearranged.{Change, IsRearrangement}
 
--- two canonical trees that mean the same
+-- Both trees are canonical, and they mean the same.
 pub record MeanAlike (π : Preference) (t u : Data) : Type 0 where
   pub left_tree : IsTree t
   pub right_tree : IsTree u
@@ -30,31 +30,32 @@ pub record MeanAlike (π : Preference) (t u : Data) : Type 0 where
 
 -- ---- the first law
 
--- the keys of a family, in the order of its objects
+-- The keys of the objects of a family, in the order of their places.
 abbrev pub keys_in : Preference → Family → Data → List (Option Key)
 keys_in π f t = map (λ o. key_of π o.value) (objects f t)
 
--- the `@id` texts of a family, in the order of its objects
+-- The `@id` texts of the objects of a family, in the order of their places.
 abbrev pub ids_in : Family → Data → List (Option (List ℕ))
 ids_in f t = map (λ o. id_of o.value) (objects f t)
 
--- the names of the selections of a contest, in their order
+-- The names of the selections of a contest, in their order.
 abbrev pub names_in : Preference → Data → Placed → List (Option NameParts)
 names_in π t contest = map (λ o. name_of π t o.value) (selections_of_contest contest)
 
--- each family has the same list of keys, each contest the same of names, and so each family the same `@id` texts
+-- In both trees, each family that has keys has the same list of keys, each family the same list of `@id` texts, and each
+-- contest the same list of selection names.
 pub record HaveSameNames (π : Preference) (t u : Data) : Type 0 where
   pub keys : (f : Family) → IsTrue (has_keys f) → keys_in π f t ≡ keys_in π f u
   pub names : map (names_in π t) (contests t) ≡ map (names_in π u) (contests u)
   pub ids : (f : Family) → ids_in f t ≡ ids_in f u
 
--- the first law under uniqueness
+-- The first law on the way to uniqueness: canonical trees that mean the same have the same names, in the sense above.
 abbrev pub NamesAgree : Type 0
 NamesAgree = (π : Preference) (t u : Data) → MeanAlike π t u → HaveSameNames π t u
 
 -- ---- the second law
 
--- the selection stands in a contest of this key and has this name
+-- The selection has this name and stands in a contest with this key.
 pub record IsSelection (π : Preference) (t : Data) (key : Key) (name : NameParts) (selection : Placed) : Type 0 where
   pub contest : Placed
   pub contest_stands : IsObject t family.Contest contest
@@ -62,7 +63,8 @@ pub record IsSelection (π : Preference) (t : Data) (key : Key) (name : NamePart
   pub stands : Contains (selections_of_contest contest) selection
   pub its_name : name_of π t selection.value ≡ Some name
 
--- equal keys, equal sets of keys, equal selection names of one contest and equal contents are written alike
+-- What means the same is written the same in both trees: references, sets of references, the `@id` of a selection, and
+-- ordered contents.
 pub record WriteAlike (π : Preference) (t u : Data) : Type 0 where
   pub references : (f : Family) (a b : List ℕ) (k : Key) → IsTrue (has_keys f)
       → key_named π t f a ≡ Some k → key_named π u f b ≡ Some k → a ≡ b
@@ -75,13 +77,14 @@ pub record WriteAlike (π : Preference) (t u : Data) : Type 0 where
       → kind_wanted a.want ≡ Some kind.Content → kind_wanted b.want ≡ Some kind.Content
       → content_of π t a.value ≡ content_of π u b.value → a.value ≡ b.value
 
--- the second law under uniqueness
+-- The second law on the way to uniqueness: canonical trees that mean the same write references alike, in the sense above.
 abbrev pub ReferencesAgree : Type 0
 ReferencesAgree = (π : Preference) (t u : Data) → MeanAlike π t u → WriteAlike π t u
 
 -- ---- the third law
 
--- objects with equal records and equal `@id`, or none, are equal
+-- Two objects of one family, one in each tree, are equal if their records are equal and their `@id` is the same or absent in
+-- both.
 pub record HaveSameObjects (π : Preference) (t u : Data) : Type 0 where
   pub objects : (f : Family) (one other : Placed) → IsTrue (has_keys f) → IsObject t f one → IsObject u f other
       → object_record π t (role.OfFamily f) one.value ≡ object_record π u (role.OfFamily f) other.value
@@ -90,17 +93,17 @@ pub record HaveSameObjects (π : Preference) (t u : Data) : Type 0 where
       → selection_record π t one.value ≡ selection_record π u other.value
       → id_of one.value ≡ id_of other.value → one.value ≡ other.value
 
--- the third law under uniqueness
+-- The third law on the way to uniqueness: canonical trees that mean the same have the same objects, in the sense above.
 abbrev pub ObjectsAgree : Type 0
 ObjectsAgree = (π : Preference) (t u : Data) → MeanAlike π t u → HaveSameObjects π t u
 
 -- ---- uniqueness and invariance
 
--- no two canonical trees mean the same
+-- Two canonical trees that mean the same are equal.
 abbrev pub CanonicalIsUnique : Type 0
 CanonicalIsUnique = (π : Preference) (t u : Data) → MeanAlike π t u → t ≡ u
 
--- a rearranged report is accepted as it was, and means the same
+-- If a tree is an accepted report, each rearrangement of it is accepted too, and means the same.
 abbrev pub RearrangedMeansTheSame : Type 0
 RearrangedMeansTheSame =
     (π : Preference) (t u : Data) (changes : List Change) → IsTree t → IsAccepted π t → IsRearrangement changes t u
@@ -108,13 +111,15 @@ RearrangedMeansTheSame =
 
 -- ---- two preferences
 
--- a report as a call is handed it: a tree whose numbers fit, each of whose families a word counts
+-- A report as calls take it: a tree in which each number is whole and fits 64 bits, and whose families a machine word can
+-- count.
 pub record IsGiven (t : Data) : Type 0 where
   pub is_tree : IsTree t
   pub fits : HasFittingNumbers t
   pub bounded : IsBounded t
 
--- two reports that are accepted under two preferences mean the same under the one exactly if they do under the other
+-- Two reports as calls take them, both accepted under two preferences, mean the same under the one if and only if they do
+-- under the other.
 abbrev pub PreferencesAgree : Type 0
 PreferencesAgree =
     (π ρ : Preference) (t u : Data) → IsGiven t → IsGiven u → IsAccepted π t → IsAccepted π u → IsAccepted ρ t → IsAccepted ρ u

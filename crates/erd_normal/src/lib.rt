@@ -1,4 +1,4 @@
-//! The canonical form of a report.
+//! The canonical form of a report, and the laws that hold for it. The rules are those of docs/PROFILE.md.
 #![tactic(auto)]
 
 mod laws;

@@ -1,4 +1,4 @@
-//! The objects of a report in the order of their keys, the number of each, and the `@id` texts that say it.
+//! The objects of a report sorted by key, their numbers, and the canonical `@id` texts made from the numbers.
 
 pub(crate) mod family_table;
 pub(crate) mod id_texts;

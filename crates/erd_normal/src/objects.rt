@@ -1,4 +1,4 @@
-//! Objects, built anew member by member, each family in the order of its keys.
+//! Canonical objects, built member by member, with each family sorted by key.
 
 pub(crate) mod built_object;
 pub(crate) mod contest_selections;

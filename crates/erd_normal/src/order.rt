@@ -1,4 +1,4 @@
-//! Sets and their order: what their entries are ordered by, and the one sort.
+//! The orders of the entries of sets, and the sort that applies them.
 
 pub(crate) mod compact_text;
 pub(crate) mod lent_key;

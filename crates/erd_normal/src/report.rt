@@ -1,4 +1,4 @@
-//! The report, with its elections and its envelope.
+//! The canonical tree of a report, its elections and its envelope.
 
 pub(crate) mod canonical_form;
 pub(crate) mod election;

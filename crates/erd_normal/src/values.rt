@@ -1,4 +1,4 @@
-//! What the value of a member becomes, by its kind.
+//! The canonical value of a member, by its kind.
 
 pub(crate) mod content;
 pub(crate) mod label;

@@ -1,8 +1,7 @@
 -- The selections of a contest are put into a map one after another, the first of each name.
 use Rattle.std.proofs.Common.{◌≡◌, List, [], ◌∷◌, Bool, true, false, true≢false, cond, Option, Some, None, option_map, map, find, is_some, is_eq, Bor, refl, sym, ap, ◌∙◌}
-use Rattle.std.specs.BTreeMap.{BTreeMap, get, is_at, keys}
 use Rattle.std.specs.Cmp.{Equal-is}
-use Rattle.std.specs.List.Sorted.{IsStrictlySortedBy}
+use Rattle.std.specs.Map.{lookup}
 use Rattle.std.specs.Option.{option_cmp, option_or}
 use Rattle.serde_json.specs.Data.{Data}
 use Rattle.serde_json.specs.View.{view}
@@ -11,31 +10,33 @@ use Rattle.erd_meaning.specs.Keys.{Preference}
 use Rattle.erd_meaning.specs.NameParts.{NameParts}
 use Rattle.erd_meaning.specs.SelectionNames.{name_cmp, name_of}
 use Rattle.erd_meaning.specs.code.Orders.{name_cmp_exact}
-use Rattle.erd_compare.specs.code.SelectionsByName.{IsByName, has_name}
+use Rattle.erd_compare.specs.code.SelectionsByName.{IsByName, has_name, name_eq}
 
 -- selections by their names
 abbrev pub Named : Type 0
-Named = BTreeMap NameParts (Bor Value)
+Named = List (NameParts × Bor Value)
 
--- what the map has at a name
+-- the selection of a name
+abbrev pub at_name : Named → NameParts → Option (Bor Value)
+at_name m q = lookup (name_eq q) m
+
 abbrev pub had : Named → NameParts → Option Data
-had m q = option_map (λ v. view v.now) (get name_cmp m q)
+had m q = option_map (λ v. view v.now) (at_name m q)
 
--- the map has the first selection of each name, but for these, which are left
-pub record IsFilling (π : Preference) (t : Data) (all left : List Value) (m : Named) : Type 0 where
-  pub rises : IsStrictlySortedBy name_cmp (keys m)
-  pub finds : (q : NameParts) → option_or (had m q) (find (has_name π t q) (map view left)) ≡ find (has_name π t q) (map view all)
+-- there is the first selection of each name, but for these, which are left
+abbrev pub IsFilling : Preference → Data → List Value → List Value → Named → Type 0
+IsFilling π t all left m = (q : NameParts) → option_or (had m q) (find (has_name π t q) (map view left)) ≡ find (has_name π t q) (map view all)
 
 -- names that are tied are one
 pub one_name : (k q : NameParts) → is_eq (name_cmp k q) ≡ true → k ≡ q
 one_name k q e = name_cmp_exact k q ((Equal-is (name_cmp k q)).0 e)
 
 module _ (π : Preference) (t : Data) where
-  pub none_put : (all left : List Value) (m : Named) → left ≡ all → m.entries ≡ [] → IsStrictlySortedBy name_cmp (keys m) → IsFilling π t all left m
-  none_put all left m is none rises = record { rises = rises; finds = λ q. rw none (ap (λ vs. find (has_name π t q) (map view vs)) is) }
+  pub none_put : (all left : List Value) (m : Named) → left ≡ all → m ≡ [] → IsFilling π t all left m
+  none_put all left m is none q = rw none (ap (λ vs. find (has_name π t q) (map view vs)) is)
 
   pub all_put : (all left : List Value) (m : Named) → left ≡ [] → IsFilling π t all left m → IsByName π t (map view all) m
-  all_put all left m is h = record { rises = h.rises; finds = λ q. unless_left (had m q) ∙ (ap (λ vs. option_or (had m q) (find (has_name π t q) (map view vs))) (sym is) ∙ h.finds q) }
+  all_put all left m is h q = unless_left (had m q) ∙ (ap (λ vs. option_or (had m q) (find (has_name π t q) (map view vs))) (sym is) ∙ h q)
     where
       unless_left : (o : Option Data) → o ≡ option_or o None
       unless_left None = refl
@@ -43,40 +44,39 @@ module _ (π : Preference) (t : Data) where
 
   -- a selection without a name
   pub unnamed : (all left : List Value) (v : Value) (m : Named) → None ≡ name_of π t (view v) → IsFilling π t all (v ∷ left) m → IsFilling π t all left m
-  unnamed all left v m nameless h = record {
-    rises = h.rises;
-    finds = λ q. ap (λ b. option_or (had m q) (cond b (Some (view v)) (find (has_name π t q) (map view left)))) (ap (λ o. is_eq (option_cmp name_cmp o (Some q))) nameless) ∙ h.finds q;
-  }
+  unnamed all left v m nameless h q =
+      ap (λ b. option_or (had m q) (cond b (Some (view v)) (find (has_name π t q) (map view left)))) (ap (λ o. is_eq (option_cmp name_cmp o (Some q))) nameless) ∙ h q
 
   -- the test of a selection that has the name
   tested : (v : Value) (k q : NameParts) → Some k ≡ name_of π t (view v) → has_name π t q (view v) ≡ is_eq (name_cmp k q)
   tested v k q named = ap (λ o. is_eq (option_cmp name_cmp o (Some q))) (sym named)
 
   -- a selection with a name that the map has
-  pub named_before : (all left : List Value) (v : Value) (k : NameParts) (m : Named) → Some k ≡ name_of π t (view v) → is_some (get name_cmp m k) ≡ true → IsFilling π t all (v ∷ left) m → IsFilling π t all left m
-  named_before all left v k m named before h = record { rises = h.rises; finds = λ q. at q (get name_cmp m q) refl ∙ h.finds q }
+  pub named_before : (all left : List Value) (v : Value) (k : NameParts) (m : Named) → Some k ≡ name_of π t (view v) → is_some (at_name m k) ≡ true → IsFilling π t all (v ∷ left) m → IsFilling π t all left m
+  named_before all left v k m named before h q = at q (at_name m q) refl ∙ h q
     where
-      other : (q : NameParts) → get name_cmp m q ≡ None → (b : Bool) → is_eq (name_cmp k q) ≡ b → b ≡ false
-      other q none true e = absurd (true≢false (sym before ∙ (ap (λ x. is_some (get name_cmp m x)) (one_name k q e) ∙ ap is_some none)))
+      other : (q : NameParts) → at_name m q ≡ None → (b : Bool) → is_eq (name_cmp k q) ≡ b → b ≡ false
+      other q none true e = absurd (true≢false (sym before ∙ (ap (λ x. is_some (at_name m x)) (one_name k q e) ∙ ap is_some none)))
       other q none false e = refl
 
-      at : (q : NameParts) (o : Option (Bor Value)) → get name_cmp m q ≡ o
+      at : (q : NameParts) (o : Option (Bor Value)) → at_name m q ≡ o
           → option_or (option_map (λ (w : Bor Value). view w.now) o) (find (has_name π t q) (map view left)) ≡ option_or (option_map (λ (w : Bor Value). view w.now) o) (find (has_name π t q) (map view (v ∷ left)))
       at q (Some w) e = refl
       at q None e = sym (ap (λ b. cond b (Some (view v)) (find (has_name π t q) (map view left))) (tested v k q named ∙ other q e (is_eq (name_cmp k q)) refl))
 
   -- a selection with a new name, which is put into the map
-  pub named_first : (all left : List Value) (v : Value) (w : Bor Value) (k : NameParts) (m n : Named) → Some k ≡ name_of π t (view v) → is_some (get name_cmp m k) ≡ false
-      → ((q : NameParts) → get name_cmp n q ≡ cond (is_at (name_cmp k) q) (Some w) (get name_cmp m q)) → w.now ≡ v → IsStrictlySortedBy name_cmp (keys n) → IsFilling π t all (v ∷ left) m → IsFilling π t all left n
-  named_first all left v w k m n named new updates is rises h = record { rises = rises; finds = λ q. (ap (λ o. option_or (option_map (λ (x : Bor Value). view x.now) o) (find (has_name π t q) (map view left))) (updates q) ∙ at q (is_eq (name_cmp k q)) refl) ∙ h.finds q }
+  pub named_first : (all left : List Value) (v : Value) (w : Bor Value) (k : NameParts) (m n : Named) → Some k ≡ name_of π t (view v) → is_some (at_name m k) ≡ false
+      → ((q : NameParts) → at_name n q ≡ cond (name_eq k q) (Some w) (at_name m q)) → w.now ≡ v → IsFilling π t all (v ∷ left) m → IsFilling π t all left n
+  named_first all left v w k m n named new updates is h q =
+      (ap (λ o. option_or (option_map (λ (x : Bor Value). view x.now) o) (find (has_name π t q) (map view left))) (updates q) ∙ at q (is_eq (name_cmp k q)) refl) ∙ h q
     where
       none : (o : Option (Bor Value)) → is_some o ≡ false → o ≡ None
       none None e = refl
       none (Some x) e = cc
 
       at : (q : NameParts) (b : Bool) → is_eq (name_cmp k q) ≡ b
-          → option_or (option_map (λ (x : Bor Value). view x.now) (cond b (Some w) (get name_cmp m q))) (find (has_name π t q) (map view left)) ≡ option_or (had m q) (find (has_name π t q) (map view (v ∷ left)))
+          → option_or (option_map (λ (x : Bor Value). view x.now) (cond b (Some w) (at_name m q))) (find (has_name π t q) (map view left)) ≡ option_or (had m q) (find (has_name π t q) (map view (v ∷ left)))
       at q true e =
-          sym (ap (λ o. option_or (option_map (λ (x : Bor Value). view x.now) o) (find (has_name π t q) (map view (v ∷ left)))) (ap (get name_cmp m) (sym (one_name k q e)) ∙ none (get name_cmp m k) new)
+          sym (ap (λ o. option_or (option_map (λ (x : Bor Value). view x.now) o) (find (has_name π t q) (map view (v ∷ left)))) (ap (at_name m) (sym (one_name k q e)) ∙ none (at_name m k) new)
           ∙ (ap (λ b. cond b (Some (view v)) (find (has_name π t q) (map view left))) (tested v k q named ∙ e) ∙ ap (λ x. Some (view x)) (sym is)))
       at q false e = sym (ap (λ b. option_or (had m q) (cond b (Some (view v)) (find (has_name π t q) (map view left)))) (tested v k q named ∙ e))

@@ -1,19 +1,14 @@
--- The selections of two contests by their names, walked in step.
-use Rattle.std.proofs.Common.{◌≡◌, inl, inr, List, [], ◌∷◌, Bool, true, false, not, true≢false, Option, Some, None, option_and_then, option_map, find, Bor, Ordering, Less, Equal, Greater, is_eq, refl, sym, ap, ◌∙◌, subst}
+-- The selections of two contests by their names: what the right has at each name of the left is taken out.
+use Rattle.std.proofs.Common.{◌≡◌, ◌↔◌, ◌⊎◌, inl, inr, List, [], ◌∷◌, length, suc, Bool, true, false, true≢false, cond, Option, Some, None, option_and_then, option_map, find, Bor, is_eq, refl, sym, ap, ◌∙◌, subst}
 use Rattle.std.proofs.Math.Path.{fun_ext}
 use Rattle.std.proofs.lemmas.Cmp.{tied_itself}
-use Rattle.std.specs.BTreeMap.{is_at}
-use Rattle.std.specs.Cmp.{IsTotalOrder}
-use Rattle.std.specs.List.{AllByRecursion}
-use Rattle.std.specs.List.Sorted.{IsStrictlySortedBy}
+use Rattle.std.specs.List.{AllByRecursion, IsDistinct}
 use Rattle.std.specs.Map.{keys_of, lookup}
 use Rattle.std.specs.Option.{option_cmp}
-use Rattle.std.specs.Ordering.{ordering_reverse}
 use Rattle.serde_json.specs.Data.{Data}
 use Rattle.serde_json.specs.View.{view}
 use Rattle.serde_json.specs.declared.value.Value.{Value}
 use Rattle.erd_check.specs.Wants.{class_of_object}
-use Rattle.erd_check.proofs.Order.{In}
 use Rattle.erd_check.proofs.Rising.{all-Has}
 use Rattle.erd_meaning.proofs.accepted.References.{find-Some}
 use Rattle.erd_meaning.specs.Keys.{Preference}
@@ -21,51 +16,49 @@ use Rattle.erd_meaning.specs.Meaning.{SelectionRecord}
 use Rattle.erd_meaning.specs.NameParts.{NameParts}
 use Rattle.erd_meaning.specs.Records.{plain_member, selection_map, selection_record}
 use Rattle.erd_meaning.specs.SelectionNames.{name_cmp, name_in_class, selection_role}
-use Rattle.erd_meaning.specs.code.Orders.{name_cmp_exact, name_cmp_total}
+use Rattle.erd_meaning.specs.code.Orders.{name_cmp_total}
 use Rattle.erd_tables.specs.declared.class.Class.{Class}
 use Rattle.erd_compare.specs.code.Comparing.{Decides, IsWholeTree}
-use Rattle.erd_compare.specs.code.SelectionsByName.{IsByName, has_name}
-use Rattle.erd_compare.proofs.least_difference.StepWalks.{IsInStep, IsNoneBeside, all_left, below_head, equal_all, lacks_left, lacks_right, pass_both, turned}
-use Rattle.erd_compare.proofs.same_selections.NameMaps.{Named, one_name}
+use Rattle.erd_compare.specs.code.SelectionsByName.{IsByName, has_name, name_eq}
+use Rattle.erd_compare.proofs.same_selections.NameMaps.{one_name}
 use Rattle.erd_compare.proofs.whole_trees.WholeTrees.{AreWholeTrees}
 
 -- ---- entries of a map
-
-module _ {K X : Type 0} {cmp : K → K → Ordering} (total : IsTotalOrder cmp) where
-  -- what each key of these finds is its own value
-  abbrev FindsOwn : List (K × X) → List (K × X) → Type 0
-  FindsOwn es fs = AllByRecursion (λ f. lookup (is_at (cmp f.0)) es ≡ Some f.1) fs
-
-  later_own : (e : K × X) (es fs : List (K × X)) → AllByRecursion (λ l. cmp e.0 l ≡ Less) (keys_of fs) → FindsOwn es fs → FindsOwn (e ∷ es) fs
-  later_own e es [] low h = tt
-  later_own e es (f ∷ fs) low h =
-      let greater : cmp f.0 e.0 ≡ Greater = total.antisymm f.0 e.0 ∙ ap ordering_reverse low.0 in
-      (rw greater h.0, later_own e es fs low.1 h.1)
-
-  pub finds_own : (es : List (K × X)) → IsStrictlySortedBy cmp (keys_of es) → FindsOwn es es
-  unfolding IsStrictlySortedBy
-  finds_own [] rise = tt
-  finds_own (e ∷ es) rise = (rw (tied_itself total e.0) refl, later_own e es es rise.0 (finds_own es rise.1))
-
-  -- a key that finds something is one of the keys
-  pub found_key : ((k l : K) → cmp k l ≡ Equal → k ≡ l) → (es : List (K × X)) (q : K) (x : X) → lookup (is_at (cmp q)) es ≡ Some x → In q (keys_of es)
-  found_key exact [] q x e = cc
-  found_key exact (f ∷ fs) q x e = at (cmp q f.0) refl (found_key exact fs q x)
-    where
-      at : (o : Ordering) → cmp q f.0 ≡ o → (lookup (is_at (cmp q)) fs ≡ Some x → In q (keys_of fs)) → In q (keys_of (f ∷ fs))
-      at Less is later = inr (later (rw is at e))
-      at Equal is later = inl (sym (exact q f.0 is))
-      at Greater is later = inr (later (rw is at e))
-
--- ---- selections
 
 -- a selection with its name
 abbrev pub Entry : Type 0
 Entry = NameParts × Bor Value
 
--- each is the first of its name among the selections
-abbrev pub StandFor : Preference → Data → List Data → List Entry → Type 0
-StandFor π t ds es = AllByRecursion (λ e. find (has_name π t e.0) ds ≡ Some (view e.1.now)) es
+-- the value of the selection with the name, if there is one
+abbrev pub seen_at : NameParts → List Entry → Option Data
+seen_at q es = option_map (λ (v : Bor Value). view v.now) (lookup (name_eq q) es)
+
+-- a name is itself
+own_name : (k : NameParts) → name_eq k k ≡ true
+own_name k = ap is_eq (tied_itself name_cmp_total k)
+
+-- and names apart are so either way
+apart_either : (k q : NameParts) → name_eq k q ≡ false → name_eq q k ≡ false
+apart_either k q apart = at (name_eq q k) refl
+  where
+    at : (b : Bool) → name_eq q k ≡ b → b ≡ false
+    at true e = absurd (true≢false (sym (own_name k) ∙ (ap (name_eq k) (sym (one_name q k e)) ∙ apart)))
+    at false e = refl
+
+-- the first entry is found at its name
+found_first : (e : Entry) (es : List Entry) → lookup (name_eq e.0) (e ∷ es) ≡ Some e.1
+found_first e es = rw (own_name e.0) refl
+
+-- and elsewhere what the others have
+found_later : (e : Entry) (es : List Entry) (q : NameParts) → name_eq e.0 q ≡ false → lookup (name_eq q) (e ∷ es) ≡ lookup (name_eq q) es
+found_later e es q apart = rw (apart_either e.0 q apart) refl
+
+-- a name that differs from all finds nothing
+found_none : (k : NameParts) (es : List Entry) → AllByRecursion (λ l. name_eq k l ≡ false) (keys_of es) → lookup (name_eq k) es ≡ None
+found_none k [] h = refl
+found_none k (e ∷ es) h = rw h.0 (found_none k es h.1)
+
+-- ---- selections
 
 -- what a selection of a class means
 abbrev in_class : Preference → Data → Data → Class → SelectionRecord
@@ -80,29 +73,19 @@ module _ (π : Preference) (t : Data) (ds : List Data) where
       at None h nothing = cc
       at (Some c) h nothing = cc
 
-  stand : (es : List Entry) → IsStrictlySortedBy name_cmp (keys_of es) → ((q : NameParts) → option_map (λ (v : Bor Value). view v.now) (lookup (is_at (name_cmp q)) es) ≡ find (has_name π t q) ds) → StandFor π t ds es
-  stand es rise finds = each es (finds_own name_cmp_total es rise)
-    where
-      each : (fs : List Entry) → AllByRecursion (λ f. lookup (is_at (name_cmp f.0)) es ≡ Some f.1) fs → StandFor π t ds fs
-      each [] h = tt
-      each (f ∷ fs) h = (sym (finds f.0) ∙ ap (option_map (λ (v : Bor Value). view v.now)) h.0, each fs h.1)
+  -- what the map of the selections has at a name that one of them has, and that it has something there
+  record_at : (name : NameParts) (d : Data) → find (has_name π t name) ds ≡ Some d → selection_map π t ds name ≡ selection_record π t d
+  record_at name d h = ap (option_and_then (selection_record π t)) h
 
-  none_beside : (es : List Entry) → ((q : NameParts) → option_map (λ (v : Bor Value). view v.now) (lookup (is_at (name_cmp q)) es) ≡ find (has_name π t q) ds) → (q : NameParts) → IsNoneBeside (selection_map π t ds) (keys_of es) q
-  none_beside es finds q = at (lookup (is_at (name_cmp q)) es) refl
-    where
-      at : (o : Option (Bor Value)) → lookup (is_at (name_cmp q)) es ≡ o → IsNoneBeside (selection_map π t ds) (keys_of es) q
-      at None e = inl (ap (option_and_then (selection_record π t)) (sym (finds q) ∙ ap (option_map (λ (v : Bor Value). view v.now)) e))
-      at (Some v) e = inr (found_key name_cmp_total name_cmp_exact es q v e)
+  something_at : (name : NameParts) (d : Data) → find (has_name π t name) ds ≡ Some d → selection_map π t ds name ≡ None → ⊥
+  something_at name d h nothing = means_something name d (find-Some (has_name π t name) ds d h).1 (sym (record_at name d h) ∙ nothing)
 
-  -- what the map of the selections has at the name of an entry, and that it has something there
-  pub record_at : (e : Entry) → find (has_name π t e.0) ds ≡ Some (view e.1.now) → selection_map π t ds e.0 ≡ selection_record π t (view e.1.now)
-  record_at e h = ap (option_and_then (selection_record π t)) h
+  -- and nothing at others
+  nothing_at : (name : NameParts) → None ≡ find (has_name π t name) ds → selection_map π t ds name ≡ None
+  nothing_at name h = ap (option_and_then (selection_record π t)) (sym h)
 
-  pub something_at : (e : Entry) → find (has_name π t e.0) ds ≡ Some (view e.1.now) → selection_map π t ds e.0 ≡ None → ⊥
-  something_at e h nothing = means_something e.0 (view e.1.now) (find-Some (has_name π t e.0) ds (view e.1.now) h).1 (sym (record_at e h) ∙ nothing)
-
-  pub whole_at : AreWholeTrees ds → (e : Entry) → find (has_name π t e.0) ds ≡ Some (view e.1.now) → IsWholeTree (view e.1.now)
-  whole_at whole e h = all-Has IsWholeTree ds (view e.1.now) whole (find-Some (has_name π t e.0) ds (view e.1.now) h).0
+  pub whole_at : AreWholeTrees ds → (name : NameParts) (d : Data) → find (has_name π t name) ds ≡ Some d → IsWholeTree d
+  whole_at whole name d h = all-Has IsWholeTree ds d whole (find-Some (has_name π t name) ds d h).0
 
 -- ---- two contests
 
@@ -114,73 +97,101 @@ module _ (π ρ : Preference) (t u : Data) (ds es : List Data) where
   abbrev others : NameParts → Option SelectionRecord
   others = selection_map ρ u es
 
+  -- a name that was passed: neither has it any more, and both mean the same there
+  record IsPassed (ls rs : List Entry) (q : NameParts) : Type 0 where
+    left : lookup (name_eq q) ls ≡ None
+    right : lookup (name_eq q) rs ≡ None
+    same : ones q ≡ others q
+
+  -- a name that is left: each has the first selection with it
+  record IsLeft (ls rs : List Entry) (q : NameParts) : Type 0 where
+    left : seen_at q ls ≡ find (has_name π t q) ds
+    right : seen_at q rs ≡ find (has_name ρ u q) es
+
   -- what is left of the entries of both
   pub record AreSelectionsLeft (ls rs : List Entry) : Type 0 where
-    pub left : StandFor π t ds ls
-    pub right : StandFor ρ u es rs
-    pub step : IsInStep name_cmp (selection_map π t ds) (selection_map ρ u es) (keys_of ls) (keys_of rs)
+    distinct : IsDistinct name_eq (keys_of ls)
+    each : (q : NameParts) → IsPassed ls rs q ⊎ IsLeft ls rs q
 
-  pub both_maps : (m n : Named) → IsByName π t ds m → IsByName ρ u es n → AreSelectionsLeft m.entries n.entries
-  both_maps m n mine its = record {
-    left = stand π t ds m.entries mine.rises mine.finds;
-    right = stand ρ u es n.entries its.rises its.finds;
-    step = all_left name_cmp_total ones others (keys_of m.entries) (keys_of n.entries) mine.rises its.rises (none_beside π t ds m.entries mine.finds) (none_beside ρ u es n.entries its.finds);
-  }
+  pub both_maps : (ls rs : List Entry) → IsDistinct name_eq (keys_of ls) → IsByName π t ds ls → IsByName ρ u es rs → AreSelectionsLeft ls rs
+  both_maps ls rs distinct mine its = record { distinct = distinct; each = λ q. inr (record { left = mine q; right = its q }) }
 
-  -- the same lists, as they were read
-  pub left_as : (ls ls' rs rs' : List Entry) → ls ≡ ls' → rs ≡ rs' → AreSelectionsLeft ls rs → AreSelectionsLeft ls' rs'
-  left_as ls ls' rs rs' left right h = subst (λ xs. AreSelectionsLeft xs rs') left (subst (AreSelectionsLeft ls) right h)
-
-  -- an entry that is left of one alone
-  pub left_alone : (e : Entry) (ls : List Entry) → AreSelectionsLeft (e ∷ ls) [] → ones ≡ others → ⊥
-  left_alone e ls h same = something_at π t ds e h.left.0 (ap (λ m. m e.0) same ∙ lacks_right name_cmp_total ones others e.0 (keys_of ls) [] h.step tt)
-
-  pub right_alone : (g : Entry) (rs : List Entry) → AreSelectionsLeft [] (g ∷ rs) → ones ≡ others → ⊥
-  right_alone g rs h same = something_at ρ u es g h.right.0 (sym (ap (λ m. m g.0) same) ∙ lacks_left name_cmp_total ones others g.0 [] (keys_of rs) h.step tt)
-
-  -- entries with different names
-  pub apart : (e g : Entry) (ls rs : List Entry) → AreSelectionsLeft (e ∷ ls) (g ∷ rs) → is_eq (name_cmp e.0 g.0) ≡ false → ones ≡ others → ⊥
-  apart e g ls rs h differ same = at (name_cmp e.0 g.0) refl
+  -- what the selections have at the name of the next entry
+  next_left : (e : Entry) (ls rs : List Entry) → AreSelectionsLeft (e ∷ ls) rs → IsLeft (e ∷ ls) rs e.0
+  next_left e ls rs h = at (h.each e.0)
     where
-      at : (o : Ordering) → name_cmp e.0 g.0 ≡ o → ⊥
-      at Less is =
-          something_at π t ds e h.left.0
-          (ap (λ m. m e.0) same ∙ lacks_right name_cmp_total ones others e.0 (keys_of ls) (keys_of (g ∷ rs)) h.step (below_head name_cmp_total e.0 g.0 (keys_of rs) is h.step.right))
-      at Equal is = absurd (true≢false (sym (ap is_eq is) ∙ differ))
-      at Greater is =
-          something_at ρ u es g h.right.0
-          (sym (ap (λ m. m g.0) same) ∙ lacks_left name_cmp_total ones others g.0 (keys_of (e ∷ ls)) (keys_of rs) h.step
-          (below_head name_cmp_total g.0 e.0 (keys_of ls) (turned name_cmp_total e.0 g.0 is) h.step.left))
+      at : IsPassed (e ∷ ls) rs e.0 ⊎ IsLeft (e ∷ ls) rs e.0 → IsLeft (e ∷ ls) rs e.0
+      at (inl passed) = let clash : Some e.1 ≡ None = sym (found_first e ls) ∙ passed.left in cc
+      at (inr left) = left
 
-  -- entries of one name
-  one_record : (e g : Entry) (ls rs : List Entry) → AreSelectionsLeft (e ∷ ls) (g ∷ rs) → e.0 ≡ g.0 → others e.0 ≡ selection_record ρ u (view g.1.now)
-  one_record e g ls rs h same = ap others same ∙ record_at ρ u es g h.right.0
+  pub own_left : (e : Entry) (ls rs : List Entry) → AreSelectionsLeft (e ∷ ls) rs → find (has_name π t e.0) ds ≡ Some (view e.1.now)
+  own_left e ls rs h = sym (next_left e ls rs h).left ∙ ap (option_map (λ (v : Bor Value). view v.now)) (found_first e ls)
 
-  -- which mean different things
-  pub differ : (e g : Entry) (ls rs : List Entry) → AreSelectionsLeft (e ∷ ls) (g ∷ rs) → is_eq (name_cmp e.0 g.0) ≡ true → (selection_record π t (view e.1.now) ≡ selection_record ρ u (view g.1.now) → ⊥) → ones ≡ others → ⊥
-  differ e g ls rs h tied unequal same =
-      unequal (sym (record_at π t ds e h.left.0) ∙ (ap (λ m. m e.0) same ∙ one_record e g ls rs h (one_name e.0 g.0 tied)))
+  pub own_right : (e : Entry) (w : Bor Value) (ls rs : List Entry) → AreSelectionsLeft (e ∷ ls) rs → Some w ≡ lookup (name_eq e.0) rs → find (has_name ρ u e.0) es ≡ Some (view w.now)
+  own_right e w ls rs h taken = sym (next_left e ls rs h).right ∙ ap (option_map (λ (v : Bor Value). view v.now)) (sym taken)
 
-  -- which mean the same
-  pub both_passed : (e g : Entry) (ls rs : List Entry) → AreSelectionsLeft (e ∷ ls) (g ∷ rs) → is_eq (name_cmp e.0 g.0) ≡ true → selection_record π t (view e.1.now) ≡ selection_record ρ u (view g.1.now) → AreSelectionsLeft ls rs
-  both_passed e g ls rs h tied equal = record {
-    left = h.left.1;
-    right = h.right.1;
-    step = pass_both name_cmp_total ones others e.0 (keys_of ls) (keys_of rs) (subst (λ k. IsInStep name_cmp ones others (e.0 ∷ keys_of ls) (k ∷ keys_of rs)) (sym (one_name e.0 g.0 tied)) h.step)
-        (record_at π t ds e h.left.0 ∙ (equal ∙ sym (one_record e g ls rs h (one_name e.0 g.0 tied))));
-  }
+  -- an entry of the left alone
+  pub left_alone : (e : Entry) (ls rs : List Entry) → AreSelectionsLeft (e ∷ ls) rs → None ≡ lookup (name_eq e.0) rs → ones ≡ others → ⊥
+  left_alone e ls rs h none same =
+      something_at π t ds e.0 (view e.1.now) (own_left e ls rs h)
+      (ap (λ m. m e.0) same ∙ nothing_at ρ u es e.0 (ap (option_map (λ (v : Bor Value). view v.now)) none ∙ (next_left e ls rs h).right))
 
-  pub all_passed : AreSelectionsLeft [] [] → ones ≡ others
-  all_passed h = fun_ext (equal_all name_cmp_total ones others h.step)
+  -- entries of one name, which mean different things
+  pub differ : (e : Entry) (w : Bor Value) (ls rs : List Entry) → AreSelectionsLeft (e ∷ ls) rs → Some w ≡ lookup (name_eq e.0) rs
+      → (selection_record π t (view e.1.now) ≡ selection_record ρ u (view w.now) → ⊥) → ones ≡ others → ⊥
+  differ e w ls rs h taken unequal same =
+      unequal (sym (record_at π t ds e.0 (view e.1.now) (own_left e ls rs h)) ∙ (ap (λ m. m e.0) same ∙ record_at ρ u es e.0 (view w.now) (own_right e w ls rs h taken)))
 
--- what a test says that is turned
-pub fails : (a b : Bool) → b ≡ not a → b ≡ true → a ≡ false
-fails true b is e = let clash : true ≡ false = sym e ∙ is in cc
-fails false b is e = refl
+  -- entries of one name, which mean the same
+  pub both_passed : (e : Entry) (w : Bor Value) (ls rs rs' : List Entry) → AreSelectionsLeft (e ∷ ls) rs → Some w ≡ lookup (name_eq e.0) rs
+      → ((q : NameParts) → lookup (name_eq q) rs' ≡ cond (name_eq e.0 q) None (lookup (name_eq q) rs))
+      → selection_record π t (view e.1.now) ≡ selection_record ρ u (view w.now) → AreSelectionsLeft ls rs'
+  unfolding IsDistinct
+  both_passed e w ls rs rs' h taken updates equal = record { distinct = h.distinct.1; each = λ q. at q (name_eq e.0 q) refl }
+    where
+      here : IsPassed ls rs' e.0
+      here = record {
+        left = found_none e.0 ls h.distinct.0;
+        right = updates e.0 ∙ ap (λ b. cond b None (lookup (name_eq e.0) rs)) (own_name e.0);
+        same = record_at π t ds e.0 (view e.1.now) (own_left e ls rs h) ∙ (equal ∙ sym (record_at ρ u es e.0 (view w.now) (own_right e w ls rs h taken)));
+      }
 
-pub holds : (a b : Bool) → b ≡ not a → b ≡ false → a ≡ true
-holds true b is e = refl
-holds false b is e = let clash : true ≡ false = sym is ∙ e in cc
+      elsewhere : (q : NameParts) → name_eq e.0 q ≡ false → lookup (name_eq q) rs' ≡ lookup (name_eq q) rs
+      elsewhere q apart = updates q ∙ ap (λ b. cond b None (lookup (name_eq q) rs)) apart
+
+      at : (q : NameParts) (b : Bool) → name_eq e.0 q ≡ b → IsPassed ls rs' q ⊎ IsLeft ls rs' q
+      at q true e' = inl (subst (IsPassed ls rs') (one_name e.0 q e') here)
+      at q false e' = by (h.each q)
+        where
+          by : IsPassed (e ∷ ls) rs q ⊎ IsLeft (e ∷ ls) rs q → IsPassed ls rs' q ⊎ IsLeft ls rs' q
+          by (inl passed) = inl (record { left = sym (found_later e ls q e') ∙ passed.left; right = elsewhere q e' ∙ passed.right; same = passed.same })
+          by (inr left) = inr (record {
+            left = ap (option_map (λ (v : Bor Value). view v.now)) (sym (found_later e ls q e')) ∙ left.left;
+            right = ap (option_map (λ (v : Bor Value). view v.now)) (elsewhere q e') ∙ left.right;
+          })
+
+  -- nothing is left of either
+  all_passed : AreSelectionsLeft [] [] → ones ≡ others
+  all_passed h = fun_ext (λ q. at q (h.each q))
+    where
+      at : (q : NameParts) → IsPassed [] [] q ⊎ IsLeft [] [] q → ones q ≡ others q
+      at q (inl passed) = passed.same
+      at q (inr left) = nothing_at π t ds q left.left ∙ sym (nothing_at ρ u es q left.right)
+
+  -- an entry of the right alone
+  right_alone : (g : Entry) (rs : List Entry) → AreSelectionsLeft [] (g ∷ rs) → ones ≡ others → ⊥
+  right_alone g rs h same = at (h.each g.0)
+    where
+      at : IsPassed [] (g ∷ rs) g.0 ⊎ IsLeft [] (g ∷ rs) g.0 → ⊥
+      at (inl passed) = let clash : Some g.1 ≡ None = sym (found_first g rs) ∙ passed.right in cc
+      at (inr left) =
+          something_at ρ u es g.0 (view g.1.now) (sym left.right ∙ ap (option_map (λ (v : Bor Value). view v.now)) (found_first g rs))
+          (sym (ap (λ m. m g.0) same) ∙ nothing_at π t ds g.0 left.left)
+
+  -- at the end nothing is left of the right exactly if both mean the same
+  pub ended : (answer : Bool) (rs : List Entry) → AreSelectionsLeft [] rs → ((answer ≡ true) ↔ (length rs ≡ 0)) → Decides answer ones others
+  ended answer [] h empty = (λ _. all_passed h, λ _. empty.1 refl)
+  ended answer (g ∷ rs) h empty = (λ told. let none : suc (length rs) ≡ 0 = empty.0 told in cc, λ same. absurd (right_alone g rs h same))
 
 -- different maps are told so
 pub decided_not : {A : Type 0} (a b : A) → (a ≡ b → ⊥) → Decides false a b

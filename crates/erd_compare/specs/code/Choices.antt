@@ -1,4 +1,4 @@
--- The members of an object that are compared apart: those beside a label's translations, and carried ones.
+-- The members of an object that are compared on their own: those beside a label's translations, and carried ones.
 use Rattle.std.specs.Prelude.{ℕ, List, Bool, true, false, not, ◌||◌, if◌then◌else◌, Some, None, codes}
 use Rattle.std.specs.Str.{bytes_eq}
 use Rattle.serde_json.specs.Data.{Data, object, Members, no_members, member}
@@ -11,31 +11,31 @@ use Rattle.erd_meaning.specs.Records.{label_beside_text, json_set}
 use Rattle.erd_compare.specs.declared.values.chosen_members.Choice.{Choice}
 use Rattle.erd_compare.specs.declared.values.chosen_members.Choice.TheVariants.{BesideText, Carried}
 
--- whether members of this kind are carried
+-- True if members of this kind are carried.
 abbrev pub is_carried_kind : MemberKind → Bool
 is_carried_kind kind.Carried = true
 is_carried_kind k = false
 
--- whether a member of this name is chosen
+-- True if the choice takes a member with this name.
 abbrev pub takes_name : Choice → List ℕ → Bool
 takes_name BesideText name = not (bytes_eq name (codes "@type") || bytes_eq name (codes "Text"))
 takes_name (Carried None) name = false
 takes_name (Carried (Some c)) name = is_carried_kind (kind_of_member c name)
 
--- the chosen members, in their order
+-- The chosen members, in their order.
 abbrev pub chosen_members : Choice → Members → Members
 chosen_members choice no_members = no_members
 chosen_members choice (member k d ms) = if takes_name choice k then member k d (chosen_members choice ms) else chosen_members choice ms
 
--- the members of an object, and none of any other value
+-- The members of an object, or no members for any other value.
 abbrev pub members_in : Data → Members
 members_in (object ms) = ms
 members_in d = no_members
 
--- the chosen members of an object, and none of any other value
+-- The chosen members of an object, or no members for any other value.
 abbrev pub chosen_in : Choice → Data → Members
 chosen_in choice d = chosen_members choice (members_in d)
 
--- what a label means that is an object
+-- What a label that is an object means.
 abbrev pub translated_label : Data → Label
 translated_label d = translated (label_beside_text d) (json_set (entries_at (codes "Text") d))

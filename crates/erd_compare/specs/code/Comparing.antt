@@ -1,4 +1,4 @@
--- What an answer says of two meanings, and of which values it is asked.
+-- What an answer says about two meanings, and about which values it is asked.
 use Rattle.std.specs.Prelude.{◌≡◌, ◌↔◌, Bool, true, false, Option, Some, None, ⊤}
 use Rattle.std.specs.Option.{option_cmp}
 use Rattle.serde_json.specs.Data.{Data}
@@ -17,12 +17,12 @@ use Rattle.erd_compare.specs.declared.difference.Part.{Part}
 
 -- ---- what is compared
 
--- a tree that holds whole numbers alone
+-- The value is a tree, and each of its numbers is whole.
 pub record IsWholeTree (d : Data) : Type 0 where
   pub is_tree : IsTree d
   pub whole : has_float d ≡ false
 
--- references of this kind name objects of a family that has keys
+-- If members of this kind hold references, these name objects of a family that has keys.
 abbrev pub NamesKeys : MemberKind → Type 0
 NamesKeys (kind.One f) = has_keys f ≡ true
 NamesKeys (kind.Many f) = has_keys f ≡ true
@@ -30,27 +30,27 @@ NamesKeys k = ⊤
 
 -- ---- answers
 
--- the answer says whether the two are equal
+-- The answer is true if and only if the two are equal.
 abbrev pub Decides : {A : Type 0} → Bool → A → A → Type 0
 Decides answer a b = (answer ≡ true) ↔ (a ≡ b)
 
--- how two records differ, and nothing exactly if they are equal
+-- The answer is how the two records differ, or none if they are equal.
 abbrev pub TellsHow : Option ObjectRecord → Option ObjectRecord → Option How → Type 0
 TellsHow a b None = a ≡ b
 TellsHow a b (Some how) = Differ a b how
 
--- how two maps differ at a key, the least at which they do
+-- The two maps differ in this way at the key, and they agree at every lesser key.
 pub record DifferAtKey (m n : Key → Option ObjectRecord) (key : Key) (how : How) : Type 0 where
   pub differ : Differ (m key) (n key) how
   pub least : (k : Key) → key_cmp k key ≡ Less → m k ≡ n k
 
--- the difference is one at the part, and there at the least key
+-- The difference is at this part. There the meanings differ in this way at its key, and they agree at every lesser key.
 pub record DifferAtPart (m n : Meaning) (part : Part) (d : Difference) : Type 0 where
   pub its_part : d.part ≡ part
   pub differ : Differ (record_at m part d.key) (record_at n part d.key) d.how
   pub least : (k : Option Key) → (option_cmp key_cmp k d.key ≡ Less) → record_at m part k ≡ record_at n part k
 
--- the first difference at a part, and none where the meanings are equal there at every key
+-- The answer is the first difference at the part, or none if the meanings agree there at every key.
 abbrev pub TellsPart : Meaning → Meaning → Part → Option Difference → Type 0
 TellsPart m n part None = (k : Option Key) → record_at m part k ≡ record_at n part k
 TellsPart m n part (Some d) = DifferAtPart m n part d

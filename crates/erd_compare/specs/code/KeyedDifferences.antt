@@ -22,12 +22,12 @@ use denote.Ref.{Bor}
 
 -- ---- reports
 
--- an accepted report, which is compared
+-- The report is accepted, and it is a tree whose numbers are whole.
 pub record IsComparable (π : Preference) (t : Data) : Type 0 where
   pub accepted : IsAccepted π t
   pub whole : IsWholeTree t
 
--- the family whose objects a part holds
+-- The family whose objects the part holds, or none for the report and the election.
 abbrev pub family_of_part : Part → Option Family
 family_of_part part.Report = None
 family_of_part part.Unit = Some family.Unit
@@ -42,51 +42,51 @@ family_of_part part.Style = Some family.Style
 
 -- ---- tables of keys
 
--- an object of the family has the key
+-- Some object of the family has the key.
 abbrev pub HasKey : Preference → Data → Family → Key → Type 0
 HasKey π t f k = (i : ℕ) × (key_in π f t i ≡ Some k)
 
--- the keys of a table
+-- The keys of a table.
 abbrev pub keys_of : List (Bor Key × ℕ) → List Key
 keys_of entries = map (λ e. e.0.now) entries
 
--- the keys of a report in a family, rising, each with the position of its object
+-- The table has the keys of a family of the report in rising order, each with the position of its object.
 pub record IsKeyTable (π : Preference) (t : Data) (f : Family) (entries : List (Bor Key × ℕ)) : Type 0 where
   pub rises : IsStrictlySortedBy key_cmp (keys_of entries)
   pub stand : AllByRecursion (λ e. key_in π f t e.1 ≡ Some e.0.now) entries
   pub all : (k : Key) → HasKey π t f k → Contains (keys_of entries) k
 
--- how the objects at two positions differ, which have one key
+-- If the objects at the two positions have the same key, the answer is how their records differ, or none if they are equal.
 abbrev pub TellsAtPositions : Preference → Preference → Data → Data → Family → ℕ → ℕ → Option How → Type 0
 TellsAtPositions π ρ t u f i j how =
     (k : Key) → key_in π f t i ≡ Some k → key_in ρ f u j ≡ Some k → TellsHow (records_of π t f k) (records_of ρ u f k) how
 
--- the least key at which two maps differ, and none exactly if they differ at none
+-- The answer is the least key at which the two maps differ, or none if they agree at every key.
 abbrev pub TellsLeast : (Key → Option ObjectRecord) → (Key → Option ObjectRecord) → Option KeyedDifference → Type 0
 TellsLeast m n None = (k : Key) → m k ≡ n k
 TellsLeast m n (Some d) = DifferAtKey m n d.key.now d.how
 
 -- ---- told by part
 
--- the difference has this part and no key
+-- The difference has this part and no key, and says how the two records differ.
 pub record DifferKeyless (a b : Option ObjectRecord) (part : Part) (d : Difference) : Type 0 where
   pub its_part : d.part ≡ part
   pub keyless : d.key ≡ None
   pub differ : Differ a b d.how
 
--- how two records differ at a part without keys
+-- The answer is how two records differ at a part without keys, or none if they are equal.
 abbrev pub TellsKeyless : Option ObjectRecord → Option ObjectRecord → Part → Option Difference → Type 0
 TellsKeyless a b p None = a ≡ b
 TellsKeyless a b p (Some d) = DifferKeyless a b p d
 
--- the difference has this part, and the least key at which the maps differ
+-- The difference has this part and the least key at which the two maps differ.
 pub record DifferKeyed (m n : Key → Option ObjectRecord) (part : Part) (d : Difference) : Type 0 where
   pub its_part : d.part ≡ part
   pub key : Key
   pub its_key : d.key ≡ Some key
   pub at : DifferAtKey m n key d.how
 
--- how two maps differ at a part
+-- The answer is how two maps differ at a part with keys, or none if they agree at every key.
 abbrev pub TellsKeyed : (Key → Option ObjectRecord) → (Key → Option ObjectRecord) → Part → Option Difference → Type 0
 TellsKeyed m n p None = (k : Key) → m k ≡ n k
 TellsKeyed m n p (Some d) = DifferKeyed m n p d

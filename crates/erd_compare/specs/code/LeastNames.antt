@@ -11,29 +11,29 @@ use Rattle.erd_meaning.specs.Keys.{Preference}
 use Rattle.erd_meaning.specs.Meaning.{MemberValue, ObjectRecord}
 use Rattle.erd_meaning.specs.Records.{member_of_class}
 
--- what an object means under each name
+-- What an object means under each name.
 abbrev pub MemberMap : Type 0
 MemberMap = List ℕ → Option MemberValue
 
--- the record of an object of the class
+-- The record of an object of the class.
 abbrev pub record_of_class : Preference → Data → Class → Data → ObjectRecord
 record_of_class π t c d = record { class = c; members = member_of_class π t d c }
 
--- the value is an object
+-- The value is a JSON object.
 abbrev pub IsObject : Data → Type 0
 IsObject d = is_some (as_object d) ≡ true
 
--- the maps differ at the name, and agree at each lesser one
+-- The two maps differ at the name, and they agree at every lesser name.
 pub record DifferAtName (m n : MemberMap) (name : List ℕ) : Type 0 where
   pub differ : m name ≢ n name
   pub least : (k : List ℕ) → text_cmp k name ≡ Less → m k ≡ n k
 
--- the least name at which the maps differ, and none where they are equal
+-- The answer is the least name at which the two maps differ, or none if they are equal.
 abbrev pub TellsLeastName : MemberMap → MemberMap → Option (List ℕ) → Type 0
 TellsLeastName m n None = m ≡ n
 TellsLeastName m n (Some name) = DifferAtName m n name
 
--- the lesser of two names, where there are any
+-- The lesser of two names. If there is only one, it is that one.
 abbrev pub lesser_name : Option (List ℕ) → Option (List ℕ) → Option (List ℕ)
 lesser_name None other = other
 lesser_name (Some k) None = Some k

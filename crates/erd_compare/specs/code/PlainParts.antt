@@ -1,4 +1,4 @@
--- What a member means by itself, where it means anything.
+-- What a member means by itself, if it means anything.
 use Rattle.std.specs.Prelude.{Bool, true, false, option_and_then}
 use Rattle.serde_json.specs.Data.{Data}
 use Rattle.serde_json.specs.Find.{as_str}
@@ -11,7 +11,7 @@ use Rattle.erd_meaning.specs.Meaning.{PlainValue, a_json, a_label, a_json_set, a
 use Rattle.erd_meaning.specs.Records.{content_of, json_set, key_set, label_of}
 use Rattle.erd_meaning.specs.SelectionNames.{key_named, keys_named}
 
--- whether a value of this kind means nothing by itself: an empty array, or a value that holds objects
+-- True if a value of this kind means nothing by itself: it is an empty set or list, or its kind has no meaning by itself.
 abbrev pub means_nothing : MemberKind → Data → Bool
 means_nothing kind.Word d = false
 means_nothing kind.Flag d = false
@@ -25,7 +25,7 @@ means_nothing kind.Languages d = is_empty_array d
 means_nothing kind.Content d = is_empty_array d
 means_nothing k d = true
 
--- what a value of this kind means, unless it means nothing by itself
+-- What a value of this kind means, where it means anything by itself.
 abbrev pub meant_value : Preference → Data → MemberKind → Data → PlainValue
 meant_value π t kind.Label d = a_label (label_of d)
 meant_value π t (kind.One f) d = a_key (option_and_then (key_named π t f) (as_str d))

@@ -13,7 +13,7 @@ use erd_tables::{Family, Role};
 use std::alloc::{AllocError, Global};
 use std::cmp::Ordering;
 
-/// A difference of two reports at the objects of a family with a key.
+/// A difference between two reports at a key of a family.
 #[derive(Drop)]
 struct KeyedDifference<'a> {
     key: &'a Key,
@@ -21,7 +21,7 @@ struct KeyedDifference<'a> {
 }
 
 impl<'a> KeyedDifference<'a> {
-    /// The left report alone has an object with the key.
+    /// Only the left report has an object with the key.
     fn only_left(key: &'a Key) -> KeyedDifference<'a>
         ensures key { result.key.now ≡ key.now }
         ensures how { result.how ≡ OnlyLeft }
@@ -30,7 +30,7 @@ impl<'a> KeyedDifference<'a> {
         KeyedDifference { key, how }
     }
 
-    /// The right report alone has an object with the key.
+    /// Only the right report has an object with the key.
     fn only_right(key: &'a Key) -> KeyedDifference<'a>
         ensures key { result.key.now ≡ key.now }
         ensures how { result.how ≡ OnlyRight }
@@ -40,7 +40,7 @@ impl<'a> KeyedDifference<'a> {
     }
 }
 
-/// The difference at the least key at which two reports differ in a family.
+/// The difference at the least key of a family at which the two reports differ.
 pub(crate) fn family_difference(
     alloc: Global,
     sides: Sides,
@@ -61,8 +61,8 @@ pub(crate) fn family_difference(
     }
 }
 
-/// The least key at which two reports differ in a family. Their tables of keys rise and are walked in step: the first key that
-/// one of them has alone, or whose objects differ, is the least.
+/// The least key of a family at which the two reports differ, and how they differ there. The sorted tables of keys are
+/// walked in step. The least such key is the first one that only one table has, or whose objects differ.
 fn least_difference<'a>(
     alloc: Global,
     sides: Sides<'a>,
@@ -115,7 +115,7 @@ fn key_table<'a>(
     Ok(table)
 }
 
-/// How the objects of two reports at these positions, which have one key, differ.
+/// How the objects of the two reports at these positions differ. Both have the same key.
 fn difference_at(
     alloc: Global,
     sides: Sides,

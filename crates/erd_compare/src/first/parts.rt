@@ -13,7 +13,7 @@ use erd_tables::{Family, Role};
 use serde_json::Value;
 use std::alloc::{AllocError, Global};
 
-/// The first difference of two reports at a part.
+/// The first difference between the two reports at a part.
 pub(crate) fn part_difference(
     alloc: Global,
     sides: Sides,
@@ -36,7 +36,7 @@ pub(crate) fn part_difference(
     }
 }
 
-/// The family whose objects a part holds.
+/// The family of the objects in a part. The report and the election have none.
 fn family_of(part: Part) -> Option<Family>
     ensures { result ≡ family_of_part part }
 {
@@ -53,7 +53,7 @@ fn family_of(part: Part) -> Option<Family>
     }
 }
 
-/// How two objects without keys differ, as a difference at their part.
+/// The difference between two objects without keys, at their part.
 fn keyless_difference(
     alloc: Global,
     sides: Sides,

@@ -7,7 +7,7 @@ ghost use Rattle.erd_compare.specs.code.NamesInStep.{names_from, names_left, nam
 use serde_json::{Map, Value};
 use std::collections::btree_map::Iter;
 
-/// The names of an object's members that are left, in their order.
+/// The remaining names of an object's members, in their order.
 #[derive(Drop)]
 pub(crate) struct NamesLeft<'a> {
     pub(crate) first: Option<&'a str>,
@@ -15,7 +15,7 @@ pub(crate) struct NamesLeft<'a> {
 }
 
 impl<'a> NamesLeft<'a> {
-    /// All of the names.
+    /// Starts with all the names.
     pub(crate) fn of(members: &'a Map<String, Value>) -> NamesLeft<'a>
         ensures { names_left result ≡ names (members_view members.now.entries) }
     {
@@ -24,7 +24,7 @@ impl<'a> NamesLeft<'a> {
         NamesLeft { first, rest }
     }
 
-    /// Passes the name by, if it is the first that is left.
+    /// Skips the name, if it is the first remaining one.
     pub(crate) fn pass(&mut self, name: &str)
         ensures { names_left self.new ≡ names_past name.now (names_left self.old) }
     {
@@ -36,7 +36,7 @@ impl<'a> NamesLeft<'a> {
     }
 }
 
-/// The next name of those that are left.
+/// Takes the next remaining name.
 fn next_name<'a>(rest: &mut Iter<'a, String, Value>) -> Option<&'a str>
     ensures { names_from result rest.new ≡ names (members_view rest.old) }
 {
@@ -46,7 +46,7 @@ fn next_name<'a>(rest: &mut Iter<'a, String, Value>) -> Option<&'a str>
     }
 }
 
-/// The lesser of two names, where there are any.
+/// The lesser of two names, or the only one.
 pub(crate) fn lesser_name<'a>(one: Option<&'a str>, other: Option<&'a str>) -> Option<&'a str>
     ensures { option_map (λ s. s.now) result ≡ lesser_name (option_map (λ s. s.now) one.entry) (option_map (λ s. s.now) other.entry) }
 {

@@ -15,8 +15,7 @@ use erd_tables::{Class, MemberKind, is_envelope, member_kind};
 use serde_json::Value;
 use std::alloc::{AllocError, Global};
 
-/// Whether members of one name, of two objects of one class, mean the same by themselves, which is without the objects that
-/// stand in them.
+/// Whether the members with this name, of two objects of the same class, mean the same, apart from the objects inside them.
 pub(crate) fn is_same_plain_member(
     alloc: Global,
     sides: Sides,
@@ -42,7 +41,7 @@ pub(crate) fn is_same_plain_member(
     }
 }
 
-/// Whether members of this name, of objects of the class, are no part of what a report means.
+/// Whether a member with this name, of an object of the class, is in the envelope, which is not part of what a report means.
 fn is_in_envelope(class: Class, name: &str) -> bool
     ensures { result ≡ is_in_envelope class name.now }
 {
@@ -52,7 +51,7 @@ fn is_in_envelope(class: Class, name: &str) -> bool
     }
 }
 
-/// Whether two values of members of one kind mean the same by themselves.
+/// Whether two values of members of the same kind mean the same, apart from the objects inside them.
 fn is_same_plain(
     alloc: Global,
     sides: Sides,
@@ -72,7 +71,7 @@ fn is_same_plain(
     }
 }
 
-/// Whether two values of members of one kind, which both mean something, mean the same.
+/// Whether two values of members of the same kind mean the same. Both mean something.
 fn is_same_meant(
     alloc: Global,
     sides: Sides,
@@ -97,7 +96,7 @@ fn is_same_meant(
     }
 }
 
-/// Whether two arrays are the same set of values.
+/// Whether two arrays hold the same set of values.
 fn is_same_array(alloc: Global, one: &Value, other: &Value) -> Result<bool, AllocError>
     requires one { IsWholeTree (view one.now) }
     requires other { IsWholeTree (view other.now) }
@@ -106,7 +105,8 @@ fn is_same_array(alloc: Global, one: &Value, other: &Value) -> Result<bool, Allo
     is_same_set(alloc, entries_of(one), entries_of(other))
 }
 
-/// Whether a value of this kind means nothing by itself: an empty array, or a value that holds objects.
+/// Whether a value of this kind means nothing by itself: an empty array of the table, or a value of a kind that has no
+/// meaning of its own, such as an array of objects.
 fn means_nothing(kind: MemberKind, value: &Value) -> bool
     ensures { result ≡ means_nothing kind (view value.now) }
 {

@@ -15,7 +15,7 @@ use erd_tables::{Class, Family, MemberKind, Role, Text, member_kind};
 use serde_json::Value;
 use std::alloc::{AllocError, Global};
 
-/// How two objects with a role differ: another class before any member, else the least name of a member that differs.
+/// How two objects with a role differ: in their class, or else at the least name of a member that differs.
 pub(crate) fn object_difference(
     alloc: Global,
     sides: Sides,
@@ -41,7 +41,7 @@ pub(crate) fn object_difference(
     }
 }
 
-/// How two objects of one class differ: the least name of a member that differs.
+/// How two objects of the same class differ: at the least name of a member that differs.
 fn member_difference(
     alloc: Global,
     sides: Sides,
@@ -65,7 +65,7 @@ fn member_difference(
     }
 }
 
-/// The least name at which the members of two objects of one class differ. The names of both are walked in step, each once.
+/// The least name at which the members of two objects of the same class differ. The names of both are walked in step.
 fn least_differing_name<'a>(
     alloc: Global,
     sides: Sides,
@@ -80,7 +80,7 @@ fn least_differing_name<'a>(
     ensures { IfOk result (λ found. TellsLeastName (member_of_class sides.entry.left.now.prefer (view sides.entry.left.now.tree) (view one.now) class)
         (member_of_class sides.entry.right.now.prefer (view sides.entry.right.now.tree) (view other.now) class) (option_map (λ s. s.now) found)) }
 {
-    // what has a class is an object
+    // a value with a class is an object
     let (Some(ones), Some(others)) = (one.as_object(), other.as_object()) else {
         return Ok(None);
     };
@@ -96,7 +96,7 @@ fn least_differing_name<'a>(
     Ok(None)
 }
 
-/// Whether members of one name, of two objects of one class, mean the same.
+/// Whether the members with this name, of two objects of the same class, mean the same.
 fn is_same_member(
     alloc: Global,
     sides: Sides,
@@ -117,7 +117,7 @@ fn is_same_member(
     }
 }
 
-/// Whether members of this kind are selections.
+/// Whether a member of this kind holds selections.
 fn is_selections(kind: MemberKind) -> bool
     ensures { result ≡ is_selections kind }
 {

@@ -14,11 +14,11 @@ use crate::sides::Sides;
 use erd_check::values::{class_of_object, entries_of, is_empty_array};
 use erd_meaning::{Report, SelectionName};
 use erd_tables::{Class, Family, Role};
+use indexmap::IndexMap;
 use serde_json::Value;
 use std::alloc::{AllocError, Global};
-use std::collections::BTreeMap;
 
-/// Whether the selections of two contests mean the same. A contest with an empty array of them is as one with none.
+/// Whether the selections of two contests mean the same. An empty array of selections means the same as no array.
 pub(crate) fn is_same_selections(
     alloc: Global,
     sides: Sides,
@@ -41,7 +41,7 @@ pub(crate) fn is_same_selections(
     }
 }
 
-/// The member of this name, unless it is an empty array.
+/// The member with this name, unless it is an empty array.
 fn filled<'a>(value: &'a Value, name: &str) -> Option<&'a Value>
     ensures { option_map (λ v. view v.now) result ≡ if_filled (get name.now (view value.now)) }
 {
@@ -51,7 +51,8 @@ fn filled<'a>(value: &'a Value, name: &str) -> Option<&'a Value>
     }
 }
 
-/// Whether the selections of two contests mean the same, each by its name. The names of both are walked in step, each once.
+/// Whether the selections of two contests mean the same, name by name. Each selection on the left removes the one with the
+/// same name on the right. None may remain on the right.
 fn is_same_selection_map(
     alloc: Global,
     sides: Sides,
@@ -64,32 +65,28 @@ fn is_same_selection_map(
         (selection_map sides.entry.right.now.prefer (view sides.entry.right.now.tree) (map view others.now))) }
 {
     let ones = by_name(alloc, sides.left, ones)?;
-    let others = by_name(alloc, sides.right, others)?;
-    let mut rest = others.iter();
-    for (name, one) in ones.iter() {
-        let Some((other_name, other)) = rest.next() else {
+    let mut others = by_name(alloc, sides.right, others)?;
+    for (name, one) in &ones {
+        let Some(other) = others.swap_remove(name) else {
             return Ok(false);
         };
-        if name != other_name || !is_same_selection(alloc, sides, one, other)? {
+        if !is_same_selection(alloc, sides, one, other)? {
             return Ok(false);
         }
     }
-    match rest.next() {
-        Some(_) => Ok(false),
-        None => Ok(true),
-    }
+    Ok(others.is_empty())
 }
 
-/// The selections of a contest of the report by their names: of each name the first that has it.
+/// The selections of a contest of the report by name. If several have the same name, the first one counts.
 fn by_name<'a>(
     alloc: Global,
     report: &Report,
     selections: &'a [Value],
-) -> Result<BTreeMap<SelectionName, &'a Value>, AllocError>
+) -> Result<IndexMap<SelectionName, &'a Value>, AllocError>
     requires { AllByRecursion (λ v. IsWholeTree (view v)) selections.now }
-    ensures { IfOk result (IsByName report.now.prefer (view report.now.tree) (map view selections.now)) }
+    ensures { IfOk result (λ named. IsByName report.now.prefer (view report.now.tree) (map view selections.now) named.entries) }
 {
-    let mut named = BTreeMap::new(alloc);
+    let mut named = IndexMap::new(alloc);
     for selection in selections {
         if let Some(name) = report.name_of(alloc, selection)? {
             if !named.contains_key(&name) {
@@ -125,7 +122,7 @@ fn is_same_selection(
     }
 }
 
-/// Whether two selections of one class mean the same by their members. The names of both are walked in step, each once.
+/// Whether the members of two selections of the same class mean the same. The names of both are walked in step.
 fn is_same_by_members(
     alloc: Global,
     sides: Sides,
@@ -139,7 +136,7 @@ fn is_same_by_members(
     requires other_object { IsObject (view other.now) }
     ensures { IfOk result (λ answer. Decides answer (plain_member sides.entry.left.now.prefer (view sides.entry.left.now.tree) (view one.now) class) (plain_member sides.entry.right.now.prefer (view sides.entry.right.now.tree) (view other.now) class)) }
 {
-    // what has a class is an object
+    // a value with a class is an object
     let (Some(ones), Some(others)) = (one.as_object(), other.as_object()) else {
         return Ok(true);
     };

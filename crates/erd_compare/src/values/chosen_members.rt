@@ -11,17 +11,17 @@ use erd_tables::{Class, MemberKind, member_kind};
 use serde_json::{Map, Value};
 use std::collections::btree_map::Iter;
 
-/// Which members of an object are compared as JSON, one after another.
+/// Which members of an object are compared as JSON, in order.
 #[derive(Clone, Copy)]
 pub(crate) enum Choice {
-    /// Those of a label beside its class and its translations.
+    /// The members of a label other than its class and its translations.
     BesideText,
-    /// Those that an object of the class carries: members of no other kind, which mean what stands there.
+    /// The members that an object of the class carries, which are those of the kind `Carried`. Their meaning is their JSON.
     Carried(Option<Class>),
 }
 
 impl Choice {
-    /// Whether a member of this name is chosen.
+    /// Whether a member with this name is chosen.
     fn takes(self, name: &str) -> bool
         ensures { result ≡ takes_name self name.now }
     {
@@ -33,7 +33,8 @@ impl Choice {
     }
 }
 
-/// Whether the chosen members of two values are the same: equal names with equal values. A value that is no object has none.
+/// Whether the chosen members of two values are the same: equal names with equal values. A value that is not an object has
+/// none.
 pub(crate) fn is_same_choice(
     one_choice: Choice,
     one: &Value,
@@ -85,7 +86,7 @@ fn has_none(choice: Choice, members: &Map<String, Value>) -> bool
     next_chosen(choice, &mut members.iter()).is_none()
 }
 
-/// The next chosen member of those that are left.
+/// Takes the next chosen member of those that remain.
 fn next_chosen<'a>(
     choice: Choice,
     members: &mut Iter<'a, String, Value>,

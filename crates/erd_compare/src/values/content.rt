@@ -18,7 +18,7 @@ use erd_meaning::Report;
 use erd_tables::{Class, Family, Role};
 use serde_json::Value;
 
-/// Whether two lists of contests and headers are in one order, at every depth of headers.
+/// Whether two lists of contests and headers mean the same, in the same order, at every depth of headers.
 #[cycle(content)]
 pub(crate) fn is_same_content(sides: Sides, one: &Value, other: &Value) -> bool
     requires one { IsWholeTree (view one.now) }
@@ -31,7 +31,7 @@ pub(crate) fn is_same_content(sides: Sides, one: &Value, other: &Value) -> bool
     }
 }
 
-/// Whether two lists have the same contests and headers, one after another.
+/// Whether two lists have contests and headers that mean the same, in the same order.
 #[cycle(content)]
 fn are_same_nodes(sides: Sides, ones: &Vec<Value>, others: &[Value]) -> bool
     requires ones { AllByRecursion (λ v. IsWholeTree (view v)) ones.now.items }
@@ -79,7 +79,7 @@ fn is_same_header(sides: Sides, one: &Value, other: &Value) -> bool
         && is_same_within(sides, one, other)
 }
 
-/// Whether the contents inside two headers are in one order.
+/// Whether the contents of two headers mean the same, in the same order.
 #[cycle(content)]
 fn is_same_within(sides: Sides, one: &Value, other: &Value) -> bool
     requires one { IsWholeTree (view one.now) }
@@ -101,7 +101,7 @@ fn has_no_content(report: &Report, value: &Value) -> bool
     entries_of(value).is_empty()
 }
 
-/// Whether two contests in the order of a ballot mean the same.
+/// Whether two contests in the contents of a ballot mean the same.
 fn is_same_contest(sides: Sides, one: &Value, other: &Value) -> bool
     requires one { IsWholeTree (view one.now) }
     requires other { IsWholeTree (view other.now) }
@@ -113,7 +113,7 @@ fn is_same_contest(sides: Sides, one: &Value, other: &Value) -> bool
         && are_same_names(sides, entries_at(one, name), entries_at(other, name))
 }
 
-/// Whether two nodes of a ballot's order carry the same members.
+/// Whether two nodes of the contents of a ballot carry the same members.
 fn is_same_rest(one: &Value, other: &Value) -> bool
     requires one { IsWholeTree (view one.now) }
     requires other { IsWholeTree (view other.now) }
@@ -123,7 +123,7 @@ fn is_same_rest(one: &Value, other: &Value) -> bool
     is_same_carried(class_of_node(one), one, class_of_node(other), other)
 }
 
-/// Whether two lists of references name selections of the same names, one after another.
+/// Whether two lists of references name selections with the same names, in the same order.
 fn are_same_names(sides: Sides, ones: &[Value], others: &[Value]) -> bool
     ensures { Decides result (map (λ v. option_and_then (name_named sides.entry.left.now.prefer (view sides.entry.left.now.tree)) (as_str (view v))) ones.now)
         (map (λ v. option_and_then (name_named sides.entry.right.now.prefer (view sides.entry.right.now.tree)) (as_str (view v))) others.now) }
@@ -140,7 +140,7 @@ fn are_same_names(sides: Sides, ones: &[Value], others: &[Value]) -> bool
     rest.next().is_none()
 }
 
-/// Whether two references name selections of one name.
+/// Whether two references name selections with the same name.
 fn is_same_name(sides: Sides, one: &Value, other: &Value) -> bool
     ensures { Decides result (option_and_then (name_named sides.entry.left.now.prefer (view sides.entry.left.now.tree)) (as_str (view one.now)))
         (option_and_then (name_named sides.entry.right.now.prefer (view sides.entry.right.now.tree)) (as_str (view other.now))) }
@@ -148,7 +148,7 @@ fn is_same_name(sides: Sides, one: &Value, other: &Value) -> bool
     name_named(sides.left, one) == name_named(sides.right, other)
 }
 
-/// Whether the members of a name refer to objects of a family with one key.
+/// Whether the members with this name refer to objects of the family with the same key.
 fn is_same_owner(sides: Sides, family: Family, name: &str, one: &Value, other: &Value) -> bool
     requires keyed { has_keys family ≡ true }
     ensures { Decides result (key_named sides.entry.left.now.prefer (view sides.entry.left.now.tree) family (text_at name.now (view one.now)))
@@ -158,14 +158,14 @@ fn is_same_owner(sides: Sides, family: Family, name: &str, one: &Value, other: &
         == key_with_id(sides.right, family, text_at(other, name))
 }
 
-/// Whether a node of a ballot's order is a header.
+/// Whether a node of the contents of a ballot is a header.
 fn is_header(node: &Value) -> bool
     ensures { result ≡ is_header_class (class_of_node (view node.now)) }
 {
     matches!(class_of_node(node), Some(Class::OrderedHeader))
 }
 
-/// The class of a node of a ballot's order.
+/// The class of a node of the contents of a ballot.
 fn class_of_node(node: &Value) -> Option<Class>
     ensures { result ≡ class_of_node (view node.now) }
 {

@@ -17,7 +17,7 @@ use serde_json::Value;
 use std::alloc::{AllocError, Global};
 use std::collections::BTreeSet;
 
-/// The key of the object of a family that a reference names.
+/// The key of the object of a family that a reference names, if there is one.
 pub(crate) fn key_named<'a>(report: &'a Report, family: Family, value: &Value) -> Option<&'a Key>
     requires keyed { has_keys family ≡ true }
     ensures { option_copied result ≡ option_and_then (key_named report.now.prefer (view report.now.tree) family) (as_str (view value.now)) }
@@ -25,7 +25,7 @@ pub(crate) fn key_named<'a>(report: &'a Report, family: Family, value: &Value) -
     key_with_id(report, family, value.as_str()?)
 }
 
-/// The key of the object of a family with the `@id`.
+/// The key of the object of a family with this `@id`, if there is one.
 pub(crate) fn key_with_id<'a>(report: &'a Report, family: Family, id: &str) -> Option<&'a Key>
     requires keyed { has_keys family ≡ true }
     ensures { option_copied result ≡ key_named report.now.prefer (view report.now.tree) family id.now }
@@ -38,7 +38,7 @@ pub(crate) fn key_with_id<'a>(report: &'a Report, family: Family, id: &str) -> O
     }
 }
 
-/// The name of the selection that a reference names.
+/// The name of the selection that a reference names, if there is one.
 pub(crate) fn name_named<'a>(report: &'a Report, value: &Value) -> Option<&'a SelectionName>
     ensures { option_map (λ name. name.now) result ≡ option_and_then (name_named report.now.prefer (view report.now.tree)) (as_str (view value.now)) }
 {
@@ -59,14 +59,14 @@ fn selection_name<'a>(report: &'a Report, index: usize) -> Option<&'a SelectionN
     Some(name)
 }
 
-/// Whether two families are one.
+/// Whether two families are the same.
 fn is_same_family(found: Family, family: Family) -> bool
     ensures { result ≡ (family_number found == family_number family) }
 {
     found == family
 }
 
-/// Whether two references to objects of a family name objects with one key.
+/// Whether two references to objects of a family name objects with the same key.
 pub(crate) fn is_same_reference(sides: Sides, family: Family, one: &Value, other: &Value) -> bool
     requires keyed { has_keys family ≡ true }
     ensures { Decides result (option_and_then (key_named sides.entry.left.now.prefer (view sides.entry.left.now.tree) family) (as_str (view one.now)))
@@ -92,7 +92,7 @@ pub(crate) fn is_same_key_set(
     Ok(ones == others)
 }
 
-/// The keys that references to objects of a family name, each once, in their order.
+/// The keys of the objects of a family that the references name, sorted, each once.
 fn named_keys<'a>(
     alloc: Global,
     report: &'a Report,

@@ -9,7 +9,7 @@ use erd_check::{FEW_VALUES, ValueSet, is_among, same_json};
 use serde_json::Value;
 use std::alloc::{AllocError, Global};
 
-/// Whether two values are equal.
+/// Whether two values are equal as JSON.
 pub(crate) fn is_same_value(one: &Value, other: &Value) -> bool
     requires one { IsWholeTree (view one.now) }
     requires other { IsWholeTree (view other.now) }
@@ -18,7 +18,7 @@ pub(crate) fn is_same_value(one: &Value, other: &Value) -> bool
     same_json(one, other)
 }
 
-/// Whether two lists are the same set of values.
+/// Whether two lists hold the same set of values.
 pub(crate) fn is_same_set(
     alloc: Global,
     ones: &[Value],
@@ -35,7 +35,7 @@ pub(crate) fn is_same_set(
     }
 }
 
-/// The same of short lists, whose values are compared each with each, which takes no memory.
+/// Does the same for short lists. It compares every pair of values, and allocates no memory.
 fn is_same_few(ones: &[Value], others: &[Value]) -> bool
     requires ones { AllByRecursion (λ v. IsWholeTree (view v)) ones.now }
     requires others { AllByRecursion (λ v. IsWholeTree (view v)) others.now }
@@ -44,7 +44,7 @@ fn is_same_few(ones: &[Value], others: &[Value]) -> bool
     are_among(ones, others) && are_among(others, ones)
 }
 
-/// Whether each of the values is equal to one of the others.
+/// Whether each value is equal to one of the others.
 fn are_among(values: &[Value], others: &[Value]) -> bool
     ensures { result ≡ list_all (json_set (map view others.now)) (map view values.now) }
 {
@@ -56,7 +56,7 @@ fn are_among(values: &[Value], others: &[Value]) -> bool
     true
 }
 
-/// The same of lists of any length, whose values are put in order.
+/// Does the same for lists of any length. It sorts the values.
 fn is_same_many<'a>(
     alloc: Global,
     ones: &'a [Value],
@@ -71,7 +71,7 @@ fn is_same_many<'a>(
     Ok(are_in(ones, &right) && are_in(others, &left))
 }
 
-/// Whether each of the values is equal to one of a set.
+/// Whether each value is equal to one in the set.
 fn are_in<'a>(values: &'a [Value], set: &ValueSet<'a>) -> bool
     ensures { result ≡ list_all (json_set (values_in set.now)) (map view values.now) }
 {

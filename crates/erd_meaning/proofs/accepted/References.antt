@@ -7,6 +7,7 @@ use Rattle.erd_tables.specs.declared.class.Family.{Family}
 use Rattle.erd_tables.specs.declared.place.Step.{Step}
 use Rattle.erd_tables.specs.declared.place.Step.TheVariants.{At, Name}
 use Rattle.erd_tables.specs.declared.class.Family.TheVariants as family
+use Rattle.erd_tables.specs.declared.class.Role.TheVariants as role
 use Rattle.erd_tables.specs.declared.fault.Reason.TheVariants as reason
 use Rattle.erd_check.specs.Wants.{Asked, asked_at, asked}
 use Rattle.erd_check.proofs.Rising.{Has, here, later}
@@ -99,7 +100,7 @@ pub has_identifier : (π : Preference) (t : Data) → IsAccepted π t → (f : F
 has_identifier π t accepted f o keyed h = at (key_of π o.value) refl
   where
     at : (k : Option Key) → key_of π o.value ≡ k → (l : Key) × (key_of π o.value ≡ Some l)
-    at None e = absurd (no_identity_fault π t accepted o.place reason.NoIdentifier (record { family = f; keyed = keyed; placed = o; stands = Contains-Has (objects f t) o h; place = refl; keyless = e }))
+    at None e = absurd (no_identity_fault π t accepted o.place reason.NoIdentifier (record { role = role.OfFamily f; needed = keyed; placed = o; stands = Contains-Has (objects f t) o h; place = refl; keyless = e }))
     at (Some k) e = (k, e)
 
 -- a reference names an object that has a key

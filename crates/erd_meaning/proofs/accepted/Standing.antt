@@ -180,7 +180,7 @@ one_object π t accepted f g o p r h k e l = one_placed π t accepted f g o p h 
 -- a later object of a family has not the key of an earlier one
 no_twin : (π : Preference) (t : Data) → IsAccepted π t → (f : Family) (o p : Placed) (k : Key) → has_keys f ≡ true → Has (objects f t) o → Has (objects f t) p → key_of π o.value ≡ Some k → key_of π p.value ≡ Some k → ¬ IsBefore o p
 no_twin π t accepted f o p k keyed h i e l is = no_identity_fault π t accepted p.place reason.TwinIdentifier (record {
-  family = f;
+  role = role.OfFamily f;
   keyed = keyed;
   later = p;
   later_stands = Contains-Has (objects f t) p i;

@@ -28,16 +28,16 @@ no_identifier : IdentityFault None (tree_of (codes "{\"GpUnit\":[{\"ExternalIden
 unfolding serde_json_on_literals
 no_identifier = (
   record {
-    family = family.Unit;
-    keyed = refl;
+    role = role.OfFamily family.Unit;
+    needed = refl;
     placed = object_at (tree_of (codes "{\"GpUnit\":[{\"ExternalIdentifier\":[]}]}")) family.Unit 0;
     stands = (0, lit< tt, refl);
     place = refl;
     keyless = refl;
   },
   record {
-    family = family.Style;
-    keyed = refl;
+    role = role.OfFamily family.Style;
+    needed = refl;
     placed = object_at (tree_of (codes "{\"Election\":[{\"BallotStyle\":[{}]}]}")) family.Style 0;
     stands = (0, lit< tt, refl);
     place = refl;
@@ -53,7 +53,7 @@ twin_units : IdentityFault None twins (Name (codes "GpUnit") ∷ At 1 ∷ []) Tw
 unfolding serde_json_on_literals
 twin_units = (
   record {
-    family = family.Unit;
+    role = role.OfFamily family.Unit;
     keyed = refl;
     later = object_at twins family.Unit 1;
     later_stands = (1, lit< tt, refl);

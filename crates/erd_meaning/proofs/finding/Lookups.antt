@@ -11,34 +11,44 @@ use Rattle.erd_meaning.specs.Keys.{Preference}
 use Rattle.erd_meaning.specs.code.ObjectIndexes.{rank}
 use Rattle.erd_meaning.specs.code.ObjectLookups.{is_of_family, those_of}
 use Rattle.erd_meaning.specs.Objects.{IsBounded, Placed, objects}
-use Rattle.erd_meaning.specs.code.ObjectWalk.{Kept, Located, all_located, kept, kept_objects, located}
+use Rattle.erd_meaning.specs.code.ObjectWalk.{Kept, Located, Met, all_located, an_election, an_object, kept, kept_objects, located, objects_among}
 use Rattle.erd_meaning.specs.code.Resolved.{IsResolved}
 use Rattle.erd_meaning.specs.code.Shown.{shown}
 use Rattle.erd_meaning.specs.code.SelectionWalk.{NumberedName}
 use Rattle.erd_meaning.specs.declared.objects.object.Object.{Object}
-use Rattle.erd_meaning.proofs.identity.ObjectFamilies.{is_of, objects_met, pick}
+use Rattle.erd_meaning.proofs.identity.ObjectFamilies.{is_object_of, objects_met, pick}
 
 -- the objects of a family, as they are kept
 abbrev pub kept_of : Preference → Family → List Placed → List Kept
 kept_of π f os = map (λ o. kept π f o.value) os
 
-those_located : (f : Family) (xs : List Located) → those_of f (map (λ x. x.object) xs) ≡ map (λ x. x.object) (pick f xs)
+those_located : (f : Family) (xs : List Located) → those_of f (objects_among (map (λ x. x.met) xs)) ≡ objects_among (map (λ x. x.met) (pick f xs))
 those_located f [] = refl
-those_located f (x ∷ xs) = at (is_of f x) (those_of f (map (λ x. x.object) xs)) (pick f xs) (those_located f xs)
+those_located f (x ∷ xs) = at x.met (those_located f xs)
   where
-    at : (b : Bool) (ks : List Kept) (ys : List Located) → ks ≡ map (λ x. x.object) ys → cond b (x.object ∷ ks) ks ≡ map (λ x. x.object) (cond b (x ∷ ys) ys)
-    at true ks ys e = ap (λ zs. x.object ∷ zs) e
-    at false ks ys e = e
+    kept : (b : Bool) (k : Kept) (ks : List Kept) (ys : List Located) → ks ≡ objects_among (map (λ x. x.met) ys)
+        → cond b (k ∷ ks) ks ≡ objects_among (map (λ x. x.met) (cond b (record { place = x.place; met = an_object k } ∷ ys) ys))
+    kept true k ks ys e = ap (λ zs. k ∷ zs) e
+    kept false k ks ys e = e
 
-objects_located : (π : Preference) (f : Family) (os : List Placed) → map (λ x. x.object) (located π f os) ≡ kept_of π f os
+    at : (m : Met) → those_of f (objects_among (map (λ x. x.met) xs)) ≡ objects_among (map (λ x. x.met) (pick f xs))
+        → those_of f (objects_among (m ∷ map (λ x. x.met) xs)) ≡ objects_among (map (λ x. x.met) (cond (is_object_of f m) (record { place = x.place; met = m } ∷ pick f xs) (pick f xs)))
+    at (an_object k) e = kept (is_of_family f k) k (those_of f (objects_among (map (λ x. x.met) xs))) (pick f xs) e
+    at (an_election needed key) e = e
+
+objects_located : (π : Preference) (f : Family) (os : List Placed) → objects_among (map (λ x. x.met) (located π f os)) ≡ kept_of π f os
 objects_located π f [] = refl
 objects_located π f (o ∷ os) = ap (λ ks. kept π f o.value ∷ ks) (objects_located π f os)
 
 pub those_kept : (π : Preference) (f : Family) (t : Data) → those_of f (kept_objects π t) ≡ kept_of π f (objects f t)
-those_kept π f t = those_located f (all_located π t) ∙ ap (map (λ (x : Located). x.object)) (objects_met π f t) ∙ objects_located π f (objects f t)
+those_kept π f t =
+    those_located f (all_located π t) ∙ ap (λ (xs : List Located). objects_among (map (λ x. x.met) xs)) (objects_met π f t) ∙ objects_located π f (objects f t)
 
 pub those_shown : (π : Preference) (v : Value) (os : List Object) (ns : List NumberedName) (f : Family) → IsResolved π v os ns → those_of f (map shown os) ≡ kept_of π f (objects f (view v))
 those_shown π v os ns f r = ap (those_of f) r.kept ∙ those_kept π f (view v)
+
+pub counted_kept : (π : Preference) (t : Data) (ks : List Kept) (f : Family) → ks ≡ kept_objects π t → length (those_of f ks) ≡ length (objects f t)
+counted_kept π t ks f e = ap (λ js. length (those_of f js)) e ∙ ap length (those_kept π f t) ∙ length-map (objects f t) (λ (o : Placed). kept π f o.value)
 
 pub counted : (π : Preference) (v : Value) (os : List Object) (ns : List NumberedName) (f : Family) → IsResolved π v os ns → length (those_of f (map shown os)) ≡ length (objects f (view v))
 counted π v os ns f r = ap length (those_shown π v os ns f r) ∙ length-map (objects f (view v)) (λ (o : Placed). kept π f o.value)

@@ -7,16 +7,18 @@ use Rattle.std.proofs.lemmas.Option.{slice_get-map}
 use Rattle.serde_json.specs.Data.{Data}
 use Rattle.erd_tables.specs.Places.{place_cmp}
 use Rattle.erd_tables.specs.declared.class.Family.{Family}
+use Rattle.erd_tables.specs.declared.class.Role.TheVariants as role
 use Rattle.erd_tables.specs.declared.fault.Reason.TheVariants.{TwinIdentifier, DuplicateId}
 use Rattle.erd_check.specs.Faults.{NoneOf}
 use Rattle.erd_check.proofs.Order.{In, In-all, contains_from_In, sorted_filter}
 use Rattle.erd_meaning.specs.LaterFaults.{IdentityFault}
 use Rattle.erd_meaning.specs.Lookups.{id_in, key_in}
 use Rattle.erd_meaning.specs.Objects.{Placed, id_of, objects}
-use Rattle.erd_meaning.specs.code.ObjectWalk.{Located, all_located, located, located_one}
+use Rattle.erd_meaning.specs.code.ObjectWalk.{Located, Met, all_located, an_election, an_object, located, located_one}
 use Rattle.erd_meaning.specs.Keys.{Preference, key_of_family_object}
 use Rattle.erd_meaning.specs.declared.keys.key.Key.{Key}
-use Rattle.erd_meaning.proofs.identity.IdentityFaults.{is_met, kept_keyed}
+use Rattle.erd_meaning.proofs.identity.KeyTests.{kept_keyed}
+use Rattle.erd_meaning.proofs.identity.MetSources.{is_met}
 use Rattle.erd_meaning.proofs.identity.ObjectFamilies.{is_of, objects_met}
 use Rattle.erd_meaning.proofs.identity.ObjectPlaces.{AreApart, all_parted, apart, id_place}
 use Rattle.erd_meaning.proofs.identity.ToldFaults.{before_apart, less_itself}
@@ -88,7 +90,7 @@ two_keys π t f key i j a b none l e g =
     let mine = kept_keyed π f a.one.value key e in
     let its = kept_keyed π f b.one.value key g in
     none b.one.place TwinIdentifier (record {
-      family = f;
+      role = role.OfFamily f;
       keyed = mine.0;
       later = b.one;
       later_stands = contains_from_In b.one (objects f t) (object_in f t j b);
@@ -137,9 +139,15 @@ same_position π t f i j a b e = elim (which_first i j) [
   | inr (inr l) ↦ absurd (less_itself b.one.place (subst (λ p. place_cmp b.one.place p ≡ Less) e (before_in π f t j i b a l)))
 ]
 
+-- the family of an object that is met
+family_met : Family → Met → Family
+family_met f (an_object k) = k.family
+family_met f (an_election needed key) = f
+
 one_object : (π : Preference) (t : Data) (f g : Family) (i j : ℕ) (a : ObjectIn f t i) (b : ObjectIn g t j) → located_one π f a.one ≡ located_one π g b.one → (f ≡ g) × (i ≡ j)
+unfolding family_met
 one_object π t f g i j a b e =
-    let family : f ≡ g = ap (λ (x : Located). x.object.family) e in
+    let family : f ≡ g = ap (λ (x : Located). family_met f x.met) e in
     let place : a.one.place ≡ b.one.place = ap (λ (x : Located). x.place) e in
     let there : slice_get (objects f t) j ≡ Some b.one = subst (λ h. slice_get (objects h t) j ≡ Some b.one) (sym family) b.at in
     (family, same_position π t f i j a (record { one = b.one; at = there }) place)

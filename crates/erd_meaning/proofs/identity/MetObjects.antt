@@ -1,5 +1,5 @@
 -- Meeting objects, some and then more.
-use Rattle.std.proofs.Common.{◌≡◌, ◌<◌, ◌+◌, ℕ, List, [], ◌∷◌, ◌++◌, length, drop, map, get_or, refl, sym, ap, ◌∙◌}
+use Rattle.std.proofs.Common.{◌≡◌, ◌<◌, ◌+◌, ℕ, Bool, List, [], ◌∷◌, ◌++◌, length, drop, map, get_or, refl, sym, ap, ◌∙◌}
 use Rattle.std.specs.List.{flat_map}
 use Rattle.std.proofs.lemmas.List.{at_drop_more}
 use Rattle.serde_json.specs.View.{view}
@@ -9,7 +9,7 @@ use Rattle.erd_tables.specs.declared.place.Step.TheVariants.{At}
 use Rattle.erd_tables.specs.declared.class.Family.TheVariants.{Contest, Selection}
 use Rattle.erd_meaning.specs.Keys.{Preference}
 use Rattle.erd_meaning.specs.Objects.{Placed, placed_from, selections_of_contest}
-use Rattle.erd_meaning.specs.code.ObjectWalk.{Located, ObjectsMet, located, located_one, contest_located, met_one, met_all}
+use Rattle.erd_meaning.specs.code.ObjectWalk.{Located, ObjectsMet, located, located_election, located_one, contest_located, election_located, inside_election, met_one, met_all}
 
 pub met_all_append : (m : ObjectsMet) (xs ys : List Located) → met_all m (xs ++ ys) ≡ met_all (met_all m xs) ys
 met_all_append m [] ys = refl
@@ -28,6 +28,11 @@ met_inside f p vs i v m n whole inside is before more =
     let rest = flat_map f (placed_from p (i + 1) (map view (drop (i + 1) vs))) in
     let first : left (drop i vs) ≡ left (v ∷ drop (i + 1) vs) = at_drop_more left vs i v inside ∙ ap (λ w. left (w ∷ drop (i + 1) vs)) (sym is) in
     ap (λ k. met_all k rest) more ∙ sym (met_all_append m (f (entry p i v)) rest) ∙ sym first ∙ before
+
+-- an election, and then the objects inside it
+pub election_met : (π : Preference) (needed : Bool) (e : Placed) (m k n : ObjectsMet) → k ≡ met_one m (located_election π needed e)
+    → n ≡ met_all k (inside_election π e) → n ≡ met_all m (election_located π needed e)
+election_met π needed e m k n first rest = rest ∙ ap (λ j. met_all j (inside_election π e)) first
 
 -- a contest, and then its selections
 pub contest_met : (π : Preference) (o : Placed) (m k n : ObjectsMet) → k ≡ met_one m (located_one π Contest o)

@@ -8,12 +8,16 @@ use Rattle.erd_tables.specs.Classes.{families, family_number}
 use Rattle.erd_tables.specs.declared.class.Family.{Family}
 use Rattle.erd_tables.specs.declared.class.Family.TheVariants as family
 use Rattle.erd_meaning.specs.Keys.{Preference}
-use Rattle.erd_meaning.specs.code.ObjectWalk.{Located, located, located_one, contest_located, election_located, shared_located, all_located}
-use Rattle.erd_meaning.specs.Objects.{Placed, elections, objects, placed_entries, report_of, selections_of_contest}
+use Rattle.erd_meaning.specs.code.ObjectWalk.{Located, Met, an_object, an_election, located, located_one, contest_located, election_located, shared_located, all_located}
+use Rattle.erd_meaning.specs.Objects.{Placed, elections, has_several, objects, placed_entries, report_of, selections_of_contest}
 
--- an object is of the family
+-- what is met is an object of the family
+abbrev pub is_object_of : Family → Met → Bool
+is_object_of f (an_object k) = family_number k.family == family_number f
+is_object_of f (an_election needed key) = false
+
 abbrev pub is_of : Family → Located → Bool
-is_of f x = family_number x.object.family == family_number f
+is_of f x = is_object_of f x.met
 
 pub itself : (n : ℕ) → (n == n) ≡ true
 itself n = (Decides-eqb n n).1 refl
@@ -117,8 +121,8 @@ of_election f e =
     if_of f family.Style (placed_entries (codes "BallotStyle") e)
     ++ (if_of f family.Candidate (placed_entries (codes "Candidate") e) ++ of_contests f (placed_entries (codes "Contest") e))
 
-in_election : (π : Preference) (f : Family) (e : Placed) → pick f (election_located π e) ≡ located π f (of_election f e)
-in_election π f e =
+in_election : (π : Preference) (b : Bool) (f : Family) (e : Placed) → pick f (election_located π b e) ≡ located π f (of_election f e)
+in_election π b f e =
     let styles = placed_entries (codes "BallotStyle") e in
     let candidates = placed_entries (codes "Candidate") e in
     let all = placed_entries (codes "Contest") e in
@@ -135,11 +139,21 @@ of_shared f r =
 
 in_shared : (π : Preference) (f : Family) (r : Placed) → pick f (shared_located π r) ≡ located π f (of_shared f r)
 in_shared π f r =
-    let at = λ (name : List ℕ). placed_entries name r in
-    pick_both π f _ _ _ _ (pick_array π f family.Unit (at (codes "GpUnit")))
-    (pick_both π f _ _ _ _ (pick_array π f family.Header (at (codes "Header")))
-    (pick_both π f _ _ _ _ (pick_array π f family.Office (at (codes "Office")))
-    (pick_both π f _ _ _ _ (pick_array π f family.Party (at (codes "Party"))) (pick_array π f family.Person (at (codes "Person"))))))
+    let units = placed_entries (codes "GpUnit") r in
+    let headers = placed_entries (codes "Header") r in
+    let offices = placed_entries (codes "Office") r in
+    let parties = placed_entries (codes "Party") r in
+    let persons = placed_entries (codes "Person") r in
+    let from_parties = located π family.Party parties ++ located π family.Person persons in
+    let from_offices = located π family.Office offices ++ from_parties in
+    let from_headers = located π family.Header headers ++ from_offices in
+    let parties_on = if_of f family.Party parties ++ if_of f family.Person persons in
+    let offices_on = if_of f family.Office offices ++ parties_on in
+    let headers_on = if_of f family.Header headers ++ offices_on in
+    pick_both π f (located π family.Unit units) from_headers (if_of f family.Unit units) headers_on (pick_array π f family.Unit units)
+    (pick_both π f (located π family.Header headers) from_offices (if_of f family.Header headers) offices_on (pick_array π f family.Header headers)
+    (pick_both π f (located π family.Office offices) from_parties (if_of f family.Office offices) parties_on (pick_array π f family.Office offices)
+    (pick_both π f (located π family.Party parties) (located π family.Person persons) (if_of f family.Party parties) (if_of f family.Person persons) (pick_array π f family.Party parties) (pick_array π f family.Person persons))))
 
 flat_same : (h k : Placed → List Placed) → ((o : Placed) → h o ≡ k o) → (os : List Placed) → flat_map h os ≡ flat_map k os
 flat_same h k each [] = refl
@@ -184,6 +198,6 @@ objects_are family.Selection t =
 -- the objects of a family, as the walk meets them
 pub objects_met : (π : Preference) (f : Family) (t : Data) → pick f (all_located π t) ≡ located π f (objects f t)
 objects_met π f t =
-    pick_both π f (flat_map (election_located π) (elections t)) (shared_located π (report_of t)) (flat_map (of_election f) (elections t)) (of_shared f (report_of t))
-    (pick-flat π f (election_located π) (of_election f) (in_election π f) (elections t)) (in_shared π f (report_of t))
+    pick_both π f (flat_map (election_located π (has_several t)) (elections t)) (shared_located π (report_of t)) (flat_map (of_election f) (elections t)) (of_shared f (report_of t))
+    (pick-flat π f (election_located π (has_several t)) (of_election f) (in_election π (has_several t) f) (elections t)) (in_shared π f (report_of t))
     ∙ ap (located π f) (objects_are f t)

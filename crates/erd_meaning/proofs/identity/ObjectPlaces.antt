@@ -1,5 +1,5 @@
--- The objects that the walk meets stand apart: the place of the `@id` of each comes before the places of all later ones.
-use Rattle.std.proofs.Common.{◌≡◌, ℕ, ◌+◌, ◌<◌, ◌≤◌, inl, inr, List, [], ◌∷◌, ◌++◌, codes, Ordering, Less, nat_cmp, refl, sym, ap, ap₂, ◌∙◌, subst, append_assoc, append-nil, arith}
+-- The elections and the objects that the walk meets stand apart: the place of the `@id` of each comes before the places of all later ones.
+use Rattle.std.proofs.Common.{◌≡◌, ℕ, ◌+◌, ◌<◌, ◌≤◌, Bool, inl, inr, List, [], ◌∷◌, ◌++◌, codes, Ordering, Less, nat_cmp, refl, sym, ap, ap₂, ◌∙◌, subst, append_assoc, append-nil, arith}
 use Rattle.std.specs.List.{AllByRecursion, flat_map}
 use Rattle.std.specs.List.Sorted.{IsStrictlySortedBy}
 use Rattle.serde_json.specs.Data.{Data}
@@ -10,10 +10,10 @@ use Rattle.erd_tables.specs.declared.class.Family.TheVariants as family
 use Rattle.erd_tables.specs.declared.place.Step.{Step}
 use Rattle.erd_tables.specs.declared.place.Step.TheVariants.{Name, At}
 use Rattle.erd_tables.proofs.PlaceOrder.{steps_less}
-use Rattle.erd_check.proofs.Order.{In, In-append, Below, sorted_append}
+use Rattle.erd_check.proofs.Order.{In, In-append, Below, all_from_In, sorted_append}
 use Rattle.erd_meaning.specs.Keys.{Preference}
-use Rattle.erd_meaning.specs.code.ObjectWalk.{Located, located, located_one, contest_located, election_located, shared_located, all_located}
-use Rattle.erd_meaning.specs.Objects.{Placed, placed_from, placed_entries, elections, selections_of_contest, report_of}
+use Rattle.erd_meaning.specs.code.ObjectWalk.{Located, located, located_election, located_one, contest_located, election_located, inside_election, shared_located, all_located}
+use Rattle.erd_meaning.specs.Objects.{Placed, placed_from, placed_entries, elections, has_several, selections_of_contest, report_of}
 
 abbrev pub id_place : List Step → List Step
 id_place p = p ++ Name (codes "@id") ∷ []
@@ -179,15 +179,15 @@ candidates_in π e = in_located π family.Candidate (codes "Candidate") e
 contests_in : (π : Preference) (e : Placed) → AllIn (InMember e.place (codes "Contest")) (contests_of π e)
 contests_in π e = in_array (contest_located π) (contest_inside π) (codes "Contest") e
 
-election_inside : (π : Preference) → Inside (election_located π)
-election_inside π e =
+objects_inside : (π : Preference) → Inside (inside_election π)
+objects_inside π e =
     let p = e.place in
     all-append (AtOrIn p) (styles π e) (candidates π e ++ contests_of π e) (all_inside p (codes "BallotStyle") (styles π e) (styles_in π e))
     (all-append (AtOrIn p) (candidates π e) (contests_of π e) (all_inside p (codes "Candidate") (candidates π e) (candidates_in π e))
     (all_inside p (codes "Contest") (contests_of π e) (contests_in π e)))
 
-election_parted : (π : Preference) → Parted (election_located π)
-election_parted π e =
+objects_parted : (π : Preference) → Parted (inside_election π)
+objects_parted π e =
     let p = e.place in
     sorted_append apart (styles π e) (candidates π e ++ contests_of π e) (parted_located π family.Style (codes "BallotStyle") e)
     (sorted_append apart (candidates π e) (contests_of π e) (parted_located π family.Candidate (codes "Candidate") e)
@@ -196,6 +196,25 @@ election_parted π e =
     (below-append (styles π e) (candidates π e) (contests_of π e)
     (below_by p (codes "BallotStyle") (codes "Candidate") (styles π e) (candidates π e) refl (styles_in π e) (candidates_in π e))
     (below_by p (codes "BallotStyle") (codes "Contest") (styles π e) (contests_of π e) refl (styles_in π e) (contests_in π e)))
+
+-- the election itself, and then what is inside it
+election_inside : (π : Preference) (b : Bool) → Inside (election_located π b)
+election_inside π b e x (inl h) = record { rest = []; is = sym (ap (λ (y : Located). y.place) h) ∙ sym (append-nil e.place) }
+election_inside π b e x (inr i) = objects_inside π e x i
+
+-- what is inside an election stands in a member of it that comes after its `@id`
+later_member : (π : Preference) (e : Placed) (y : Located) → In y (inside_election π e) → place_cmp (id_place e.place) y.place ≡ Less
+later_member π e y i = elim (In-append y (styles π e) (candidates π e ++ contests_of π e) i) [
+  | inl a ↦ let m = styles_in π e y a in ap (place_cmp (id_place e.place)) m.is ∙ steps_less e.place (Name (codes "@id")) (Name (codes "BallotStyle")) [] m.rest refl
+  | inr b ↦ elim (In-append y (candidates π e) (contests_of π e) b) [
+    | inl a ↦ let m = candidates_in π e y a in ap (place_cmp (id_place e.place)) m.is ∙ steps_less e.place (Name (codes "@id")) (Name (codes "Candidate")) [] m.rest refl
+    | inr c ↦ let m = contests_in π e y c in ap (place_cmp (id_place e.place)) m.is ∙ steps_less e.place (Name (codes "@id")) (Name (codes "Contest")) [] m.rest refl
+  ]
+]
+
+election_parted : (π : Preference) (b : Bool) → Parted (election_located π b)
+unfolding IsStrictlySortedBy
+election_parted π b e = (all_from_In (λ y. apart (located_election π b e) y ≡ Less) (inside_election π e) (later_member π e), objects_parted π e)
 
 -- ---- the report
 
@@ -235,6 +254,9 @@ pub all_parted : (π : Preference) (t : Data) → AreApart (all_located π t)
 all_parted π t =
     let r = report_of t in
     let name = codes "Election" in
-    sorted_append apart (flat_map (election_located π) (elections t)) (shared_located π r) (parted_array (election_located π) (election_inside π) (election_parted π) name r) (shared_parted π r)
-    (subst (Below apart (flat_map (election_located π) (elections t))) (shared_is π r)
-    (below_arrays π r name (flat_map (election_located π) (elections t)) (in_array (election_located π) (election_inside π) name r) shared_arrays (refl, (refl, (refl, (refl, (refl, tt)))))))
+    let of_one = election_located π (has_several t) in
+    let inside = election_inside π (has_several t) in
+    let within = flat_map of_one (elections t) in
+    sorted_append apart within (shared_located π r) (parted_array of_one inside (election_parted π (has_several t)) name r) (shared_parted π r)
+    (subst (Below apart within) (shared_is π r)
+    (below_arrays π r name within (in_array of_one inside name r) shared_arrays (refl, (refl, (refl, (refl, (refl, tt)))))))

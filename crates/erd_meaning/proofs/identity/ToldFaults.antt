@@ -1,5 +1,5 @@
--- What the walk over the objects of a report tells of them: of each object, after all that stand before it, and in order.
-use Rattle.std.proofs.Common.{◌≡◌, ◌⊎◌, inl, inr, List, [], ◌∷◌, ◌++◌, map, Bool, true, false, ◌&&◌, is_none, Less, refl, sym, ap, ◌∙◌, subst, append_assoc, append-nil}
+-- What is told of what a walk meets: of each election and each object, after all that stand before it, and in order.
+use Rattle.std.proofs.Common.{◌≡◌, ◌⊎◌, inl, inr, List, [], ◌∷◌, ◌++◌, Bool, true, false, Less, refl, sym, ap, ◌∙◌, subst}
 use Rattle.std.specs.List.{list_any}
 use Rattle.std.specs.List.Sorted.{IsStrictlySortedBy}
 use Rattle.erd_tables.specs.Faults.{fault_cmp}
@@ -10,24 +10,14 @@ use Rattle.erd_tables.specs.declared.place.Step.{Step}
 use Rattle.erd_tables.proofs.PlaceOrder.{place_cmp_total, place_same, start_less}
 use Rattle.erd_check.specs.code.Paths.{fault_at}
 use Rattle.erd_check.proofs.Order.{In, In-append, In-append_left, In-append_right, In-all, Below, sorted_append}
-use Rattle.erd_meaning.specs.Keys.{has_keys}
-use Rattle.erd_meaning.specs.code.ObjectWalk.{Kept, Located, ObjectsMet, fault_if, faults_after, has_same_id, has_same_key, met_all, met_one}
+use Rattle.erd_meaning.specs.code.ObjectWalk.{Located, Met, are_named_alike, are_twins, fault_if, faults_after, is_keyless}
 use Rattle.erd_meaning.proofs.identity.ObjectPlaces.{AreApart, apart, id_place}
 
 -- ---- the walk as lists
 
-abbrev pub told : List Kept → List Located → List Fault
+abbrev pub told : List Met → List Located → List Fault
 told earlier [] = []
-told earlier (x ∷ xs) = faults_after earlier x.place x.object ++ told (earlier ++ x.object ∷ []) xs
-
-pub met_objects : (m : ObjectsMet) (xs : List Located) → (met_all m xs).objects ≡ m.objects ++ map (λ x. x.object) xs
-met_objects m [] = sym (append-nil m.objects)
-met_objects m (x ∷ xs) = met_objects (met_one m x) xs ∙ append_assoc m.objects (x.object ∷ []) (map (λ x. x.object) xs)
-
-pub met_faults : (m : ObjectsMet) (xs : List Located) → (met_all m xs).faults ≡ m.faults ++ told m.objects xs
-met_faults m [] = sym (append-nil m.faults)
-met_faults m (x ∷ xs) =
-    met_faults (met_one m x) xs ∙ append_assoc m.faults (faults_after m.objects x.place x.object) (told (m.objects ++ x.object ∷ []) xs)
+told earlier (x ∷ xs) = faults_after earlier x.place x.met ++ told (earlier ++ x.met ∷ []) xs
 
 -- ---- what is told of an object
 
@@ -41,37 +31,37 @@ pub before_apart : (x y : Located) → apart x y ≡ Less → place_cmp x.place 
 before_apart x y e = place_cmp_total.trans x.place (id_place x.place) y.place (start_less x.place _ []) e
 
 -- an object of the list, with those that were met before it
-pub record Told (earlier : List Kept) (xs : List Located) (f : Fault) : Type 0 where
+pub record Told (earlier : List Met) (xs : List Located) (f : Fault) : Type 0 where
   pub one : Located
   pub there : In one xs
-  pub before : List Kept
-  pub origin : (k : Kept) → In k before → In k earlier ⊎ ((y : Located) × In y xs × (y.object ≡ k) × (place_cmp y.place one.place ≡ Less))
-  pub fault : In f (faults_after before one.place one.object)
+  pub before : List Met
+  pub origin : (k : Met) → In k before → In k earlier ⊎ ((y : Located) × In y xs × (y.met ≡ k) × (place_cmp y.place one.place ≡ Less))
+  pub fault : In f (faults_after before one.place one.met)
 
-abbrev pub Origin : List Kept → List Located → Located → Kept → Type 0
-Origin earlier xs one k = In k earlier ⊎ ((y : Located) × In y xs × (y.object ≡ k) × (place_cmp y.place one.place ≡ Less))
+abbrev pub Origin : List Met → List Located → Located → Met → Type 0
+Origin earlier xs one k = In k earlier ⊎ ((y : Located) × In y xs × (y.met ≡ k) × (place_cmp y.place one.place ≡ Less))
 
-later_origin : (earlier : List Kept) (x : Located) (xs : List Located) (one : Located) (k : Kept) → place_cmp x.place one.place ≡ Less
-    → Origin (earlier ++ x.object ∷ []) xs one k → Origin earlier (x ∷ xs) one k
-later_origin earlier x xs one k less (inl h) = elim (In-append k earlier (x.object ∷ []) h) [
+later_origin : (earlier : List Met) (x : Located) (xs : List Located) (one : Located) (k : Met) → place_cmp x.place one.place ≡ Less
+    → Origin (earlier ++ x.met ∷ []) xs one k → Origin earlier (x ∷ xs) one k
+later_origin earlier x xs one k less (inl h) = elim (In-append k earlier (x.met ∷ []) h) [
   | inl a ↦ inl a
   | inr b ↦ inr (x, inl refl, last b, less)
 ]
   where
-    last : In k (x.object ∷ []) → x.object ≡ k
+    last : In k (x.met ∷ []) → x.met ≡ k
     last (inl e) = e
     last (inr n) = absurd n
 later_origin earlier x xs one k less (inr (y, i, e, l)) = inr (y, inr i, e, l)
 
-pub told_sound : (earlier : List Kept) (xs : List Located) (f : Fault) → AreApart xs → In f (told earlier xs) → Told earlier xs f
+pub told_sound : (earlier : List Met) (xs : List Located) (f : Fault) → AreApart xs → In f (told earlier xs) → Told earlier xs f
 unfolding IsStrictlySortedBy
 told_sound earlier [] f parted h = absurd h
-told_sound earlier (x ∷ xs) f parted h = elim (In-append f (faults_after earlier x.place x.object) (told (earlier ++ x.object ∷ []) xs) h) [
+told_sound earlier (x ∷ xs) f parted h = elim (In-append f (faults_after earlier x.place x.met) (told (earlier ++ x.met ∷ []) xs) h) [
   | inl a ↦ record { one = x; there = inl refl; before = earlier; origin = λ k i. inl i; fault = a }
-  | inr b ↦ later (told_sound (earlier ++ x.object ∷ []) xs f parted.1 b)
+  | inr b ↦ later (told_sound (earlier ++ x.met ∷ []) xs f parted.1 b)
 ]
   where
-    later : Told (earlier ++ x.object ∷ []) xs f → Told earlier (x ∷ xs) f
+    later : Told (earlier ++ x.met ∷ []) xs f → Told earlier (x ∷ xs) f
     later t = record {
       one = t.one;
       there = inr t.there;
@@ -81,38 +71,38 @@ told_sound earlier (x ∷ xs) f parted h = elim (In-append f (faults_after earli
     }
 
 -- the objects met before one: all earlier ones, and all of the list that stand before it
-pub record Complete (earlier : List Kept) (xs : List Located) (one : Located) : Type 0 where
-  pub before : List Kept
-  pub earlier_in : (k : Kept) → In k earlier → In k before
-  pub covers : (y : Located) → In y xs → place_cmp y.place one.place ≡ Less → In y.object before
-  pub tells : (f : Fault) → In f (faults_after before one.place one.object) → In f (told earlier xs)
+pub record Complete (earlier : List Met) (xs : List Located) (one : Located) : Type 0 where
+  pub before : List Met
+  pub earlier_in : (k : Met) → In k earlier → In k before
+  pub covers : (y : Located) → In y xs → place_cmp y.place one.place ≡ Less → In y.met before
+  pub tells : (f : Fault) → In f (faults_after before one.place one.met) → In f (told earlier xs)
 
-pub complete : (earlier : List Kept) (xs : List Located) (one : Located) → AreApart xs → In one xs → Complete earlier xs one
+pub complete : (earlier : List Met) (xs : List Located) (one : Located) → AreApart xs → In one xs → Complete earlier xs one
 unfolding IsStrictlySortedBy
 complete earlier [] one parted i = absurd i
 complete earlier (x ∷ xs) one parted (inl e) = record {
   before = earlier;
   earlier_in = λ k h. h;
   covers = λ y j less. absurd (none y j (subst (λ z. place_cmp y.place z.place ≡ Less) (sym e) less));
-  tells = λ f h. In-append_left f (faults_after earlier x.place x.object) (told (earlier ++ x.object ∷ []) xs)
-      (subst (λ z. In f (faults_after earlier z.place z.object)) (sym e) h);
+  tells = λ f h. In-append_left f (faults_after earlier x.place x.met) (told (earlier ++ x.met ∷ []) xs)
+      (subst (λ z. In f (faults_after earlier z.place z.met)) (sym e) h);
 }
   where
     none : (y : Located) → In y (x ∷ xs) → place_cmp y.place x.place ≡ Less → ⊥
     none y (inl s) less = less_itself x.place (subst (λ z. place_cmp z.place x.place ≡ Less) (sym s) less)
     none y (inr j) less = turned x.place y.place (before_apart x y (In-all (λ z. apart x z ≡ Less) y xs parted.0 j)) less
-complete earlier (x ∷ xs) one parted (inr i) = more (complete (earlier ++ x.object ∷ []) xs one parted.1 i)
+complete earlier (x ∷ xs) one parted (inr i) = more (complete (earlier ++ x.met ∷ []) xs one parted.1 i)
   where
-    more : Complete (earlier ++ x.object ∷ []) xs one → Complete earlier (x ∷ xs) one
+    more : Complete (earlier ++ x.met ∷ []) xs one → Complete earlier (x ∷ xs) one
     more c = record {
       before = c.before;
-      earlier_in = λ k h. c.earlier_in k (In-append_left k earlier (x.object ∷ []) h);
+      earlier_in = λ k h. c.earlier_in k (In-append_left k earlier (x.met ∷ []) h);
       covers = covered;
-      tells = λ f h. In-append_right f (faults_after earlier x.place x.object) (told (earlier ++ x.object ∷ []) xs) (c.tells f h);
+      tells = λ f h. In-append_right f (faults_after earlier x.place x.met) (told (earlier ++ x.met ∷ []) xs) (c.tells f h);
     }
       where
-        covered : (y : Located) → In y (x ∷ xs) → place_cmp y.place one.place ≡ Less → In y.object c.before
-        covered y (inl s) less = c.earlier_in y.object (In-append_right y.object earlier (x.object ∷ []) (inl (ap (λ (z : Located). z.object) s)))
+        covered : (y : Located) → In y (x ∷ xs) → place_cmp y.place one.place ≡ Less → In y.met c.before
+        covered y (inl s) less = c.earlier_in y.met (In-append_right y.met earlier (x.met ∷ []) (inl (ap (λ (z : Located). z.met) s)))
         covered y (inr j) less = c.covers y j less
 
 -- ---- what is told rises
@@ -170,20 +160,17 @@ three_near a b c p f h =
       ]
     ]
 
--- what holds of an object after these earlier ones
-abbrev pub is_keyless : Kept → Bool
-is_keyless k = has_keys k.family && is_none k.key
+-- what holds of what is met after these earlier things
+abbrev pub has_twin : List Met → Met → Bool
+has_twin earlier k = list_any (are_twins k) earlier
 
-abbrev pub has_twin : List Kept → Kept → Bool
-has_twin earlier k = list_any (has_same_key k) earlier
+abbrev pub is_named_before : List Met → Met → Bool
+is_named_before earlier k = list_any (are_named_alike k) earlier
 
-abbrev pub is_named_before : List Kept → Kept → Bool
-is_named_before earlier k = list_any (has_same_id k) earlier
-
-one_sorted : (earlier : List Kept) (p : List Step) (k : Kept) → IsStrictlySortedBy fault_cmp (faults_after earlier p k)
+one_sorted : (earlier : List Met) (p : List Step) (k : Met) → IsStrictlySortedBy fault_cmp (faults_after earlier p k)
 one_sorted earlier p k = three_sorted (is_keyless k) (has_twin earlier k) (is_named_before earlier k) p
 
-near : (earlier : List Kept) (p : List Step) (k : Kept) (f : Fault) → In f (faults_after earlier p k) → IsNear p f
+near : (earlier : List Met) (p : List Step) (k : Met) (f : Fault) → In f (faults_after earlier p k) → IsNear p f
 near earlier p k f h = three_near (is_keyless k) (has_twin earlier k) (is_named_before earlier k) p f h
 
 up_to : (p q : List Step) (f : Fault) → IsNear p f → place_cmp (id_place p) q ≡ Less → place_cmp f.place q ≡ Less
@@ -197,14 +184,14 @@ from_there r q g (inr e) less = subst (λ s. place_cmp r s ≡ Less) e (place_cm
 earlier_fault : (f g : Fault) → place_cmp f.place g.place ≡ Less → fault_cmp f g ≡ Less
 earlier_fault f g e = rw e
 
-pub told_rising : (earlier : List Kept) (xs : List Located) → AreApart xs → IsStrictlySortedBy fault_cmp (told earlier xs)
+pub told_rising : (earlier : List Met) (xs : List Located) → AreApart xs → IsStrictlySortedBy fault_cmp (told earlier xs)
 unfolding IsStrictlySortedBy
 told_rising earlier [] parted = tt
 told_rising earlier (x ∷ xs) parted =
-    sorted_append fault_cmp (faults_after earlier x.place x.object) (told (earlier ++ x.object ∷ []) xs) (one_sorted earlier x.place x.object)
-    (told_rising (earlier ++ x.object ∷ []) xs parted.1)
+    sorted_append fault_cmp (faults_after earlier x.place x.met) (told (earlier ++ x.met ∷ []) xs) (one_sorted earlier x.place x.met)
+    (told_rising (earlier ++ x.met ∷ []) xs parted.1)
     (λ f g i j.
-    let t = told_sound (earlier ++ x.object ∷ []) xs g parted.1 j in
+    let t = told_sound (earlier ++ x.met ∷ []) xs g parted.1 j in
     let less = In-all (λ y. apart x y ≡ Less) t.one xs parted.0 t.there in
     earlier_fault f g
-    (from_there f.place t.one.place g (near t.before t.one.place t.one.object g t.fault) (up_to x.place t.one.place f (near earlier x.place x.object f i) less)))
+    (from_there f.place t.one.place g (near t.before t.one.place t.one.met g t.fault) (up_to x.place t.one.place f (near earlier x.place x.met f i) less)))

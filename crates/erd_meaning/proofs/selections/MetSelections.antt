@@ -1,54 +1,104 @@
 -- Meeting selections, some and then more.
-use Rattle.std.proofs.Common.{◌≡◌, ◌<◌, ◌≤◌, ◌+◌, ℕ, List, [], ◌∷◌, ◌++◌, length, drop, map, get_or, codes, Option, refl, sym, ap, ◌∙◌, append-nil}
-use Rattle.std.specs.List.{enumerate_from, flat_map}
+use Rattle.std.proofs.Common.{◌≡◌, ◌<◌, ◌≤◌, ◌+◌, ℕ, List, [], ◌∷◌, ◌++◌, length, drop, map, get_or, codes, Option, refl, sym, ap, ap₂, ◌∙◌, arith, length-append}
+use Rattle.std.specs.List.{flat_map}
 use Rattle.std.proofs.lemmas.List.{at_drop_all, at_drop_more}
 use Rattle.serde_json.specs.Data.{Data}
 use Rattle.serde_json.specs.View.{view}
 use Rattle.serde_json.specs.declared.value.Value.{Value}
 use Rattle.erd_tables.specs.declared.place.Step.{Step}
-use Rattle.erd_tables.specs.declared.place.Step.TheVariants.{At, Name}
-use Rattle.erd_check.specs.Faults.{NoneOf, ShapeFault}
+use Rattle.erd_tables.specs.declared.place.Step.TheVariants.{Name}
 use Rattle.erd_check.specs.Values.{entries_at}
 use Rattle.erd_meaning.specs.NameParts.{NameParts}
-use Rattle.erd_meaning.specs.Objects.{Placed, contests, elections, numbered_selections, numbered_selections_of, placed_entries, placed_from}
-use Rattle.erd_meaning.specs.code.SelectionWalk.{NamesMet, named_all, named_one}
-use Rattle.erd_meaning.proofs.accepted.SoleElection.{sole_value}
+use Rattle.erd_meaning.specs.Objects.{Placed, contests, numbered_selections_of, placed_entries, placed_from}
+use Rattle.erd_meaning.specs.code.SelectionWalk.{NamesMet, named_all, named_one, numbered_from}
 use Rattle.erd_meaning.proofs.identity.MetObjects.{entry}
+use Rattle.erd_meaning.proofs.selections.NumberedObjects.{numbered_from-append}
 
 pub named_all_append : (name : Data → Option NameParts) (m : NamesMet) (xs ys : List (ℕ × Placed)) → named_all name m (xs ++ ys) ≡ named_all name (named_all name m xs) ys
 named_all_append name m [] ys = refl
 named_all_append name m (x ∷ xs) ys = named_all_append name (named_one name m x) xs ys
 
--- the selections of contests, from the one with this number on
-abbrev pub of_contests_from : List Step → ℕ → List Value → List (ℕ × Placed)
-of_contests_from p i vs = flat_map numbered_selections_of (enumerate_from i (placed_from p i (map view vs)))
+-- ---- the contests of an election
+
+-- the selections of contests, of which the first of all has a number, from the contest at a position on
+abbrev pub of_contests_from : ℕ → List Step → ℕ → List Value → List (ℕ × Placed)
+of_contests_from first p i vs = numbered_from (first + i) (placed_from p i (map view vs))
 
 -- one contest after another
-pub named_inside : (name : Data → Option NameParts) (p : List Step) (vs : List Value) (i : ℕ) (v : Value) (m n whole : NamesMet) → i < length vs
-    → v ≡ get_or vs i v → named_all name m (of_contests_from p i (drop i vs)) ≡ whole → n ≡ named_all name m (numbered_selections_of (i, entry p i v))
-    → named_all name n (of_contests_from p (i + 1) (drop (i + 1) vs)) ≡ whole
-named_inside name p vs i v m n whole inside is before more =
-    let left = λ (ws : List Value). named_all name m (of_contests_from p i ws) in
-    let rest = of_contests_from p (i + 1) (drop (i + 1) vs) in
-    let first : left (drop i vs) ≡ left (v ∷ drop (i + 1) vs) = at_drop_more left vs i v inside ∙ ap (λ w. left (w ∷ drop (i + 1) vs)) (sym is) in
-    ap (λ k. named_all name k rest) more ∙ sym (named_all_append name m (numbered_selections_of (i, entry p i v)) rest) ∙ sym first ∙ before
+pub named_inside : (name : Data → Option NameParts) (first : ℕ) (p : List Step) (vs : List Value) (i : ℕ) (v : Value) (m n whole : NamesMet) → i < length vs
+    → v ≡ get_or vs i v → named_all name m (of_contests_from first p i (drop i vs)) ≡ whole → n ≡ named_all name m (numbered_selections_of (first + i, entry p i v))
+    → named_all name n (of_contests_from first p (i + 1) (drop (i + 1) vs)) ≡ whole
+named_inside name first p vs i v m n whole inside is before more =
+    let left = λ (ws : List Value). named_all name m (of_contests_from first p i ws) in
+    let later = placed_from p (i + 1) (map view (drop (i + 1) vs)) in
+    let rest = numbered_from (first + i + 1) later in
+    let next : first + (i + 1) ≡ first + i + 1 = omega arith in
+    let here : left (drop i vs) ≡ left (v ∷ drop (i + 1) vs) = at_drop_more left vs i v inside ∙ ap (λ w. left (w ∷ drop (i + 1) vs)) (sym is) in
+    ap (λ k. named_all name n (numbered_from k later)) next ∙ ap (λ k. named_all name k rest) more
+    ∙ sym (named_all_append name m (numbered_selections_of (first + i, entry p i v)) rest) ∙ sym here ∙ before
 
-pub all_named : (name : Data → Option NameParts) (p : List Step) (vs : List Value) (i : ℕ) (m whole : NamesMet) → length vs ≤ i
-    → named_all name m (of_contests_from p i (drop i vs)) ≡ whole → m ≡ whole
-all_named name p vs i m whole over before =
-    let left = λ (ws : List Value). named_all name m (of_contests_from p i ws) in
+pub all_named : (name : Data → Option NameParts) (first : ℕ) (p : List Step) (vs : List Value) (i : ℕ) (m whole : NamesMet) → length vs ≤ i
+    → named_all name m (of_contests_from first p i (drop i vs)) ≡ whole → m ≡ whole
+all_named name first p vs i m whole over before =
+    let left = λ (ws : List Value). named_all name m (of_contests_from first p i ws) in
     sym (at_drop_all left vs i over) ∙ before
 
--- the selections of the one election
-pub selections_here : (t : Data) → NoneOf (ShapeFault t) → (es cs : List Value) (e : Value) → map view es ≡ entries_at (codes "Election") t
-    → e ≡ get_or es 0 e → map view cs ≡ entries_at (codes "Contest") (view e)
-    → of_contests_from (Name (codes "Election") ∷ At 0 ∷ Name (codes "Contest") ∷ []) 0 cs ≡ numbered_selections t
-selections_here t none es cs e are is listed =
-    let found = sole_value t none es are in
-    let same : e ≡ found.one = is ∙ ap (λ (vs : List Value). get_or vs 0 e) found.alone in
-    let one : entries_at (codes "Election") t ≡ view e ∷ [] = sym are ∙ ap (map view) (found.alone ∙ ap (λ v. v ∷ []) (sym same)) in
-    let parent : Placed = record { place = Name (codes "Election") ∷ At 0 ∷ []; value = view e } in
-    let alone : elections t ≡ parent ∷ [] = ap (placed_from (Name (codes "Election") ∷ []) 0) one in
-    let all : contests t ≡ placed_entries (codes "Contest") parent = ap (flat_map (placed_entries (codes "Contest"))) alone ∙ append-nil (placed_entries (codes "Contest") parent) in
-    ap (λ ds. flat_map numbered_selections_of (enumerate_from 0 (placed_from (Name (codes "Election") ∷ At 0 ∷ Name (codes "Contest") ∷ []) 0 ds))) listed
-    ∙ sym (ap (λ os. flat_map numbered_selections_of (enumerate_from 0 os)) all)
+-- ---- the elections
+
+abbrev pub contests_of : Placed → List Placed
+contests_of e = placed_entries (codes "Contest") e
+
+-- the contests of elections, from the election at a position on
+abbrev pub contests_from : List Step → ℕ → List Value → List Placed
+contests_from p i vs = flat_map contests_of (placed_from p i (map view vs))
+
+-- how far the walk has come, where the contests of the elections that are left begin with this number
+pub record ElectionsLeft (name : Data → Option NameParts) (p : List Step) (vs : List Value) (start m : NamesMet) (i number : ℕ) : Type 0 where
+  pub named : named_all name m (numbered_from number (contests_from p i (drop i vs))) ≡ named_all name start (numbered_from 0 (contests_from p 0 vs))
+  pub counted : number + length (contests_from p i (drop i vs)) ≡ length (contests_from p 0 vs)
+
+first_left : {A : Type 0} (f : List Placed → A) (p : List Step) (vs : List Value) (i : ℕ) (v : Value) → i < length vs → v ≡ get_or vs i v
+    → f (contests_from p i (drop i vs)) ≡ f (contests_of (entry p i v) ++ contests_from p (i + 1) (drop (i + 1) vs))
+first_left f p vs i v inside is =
+    let left = λ (ws : List Value). f (contests_from p i ws) in
+    at_drop_more left vs i v inside ∙ ap (λ w. left (w ∷ drop (i + 1) vs)) (sym is)
+
+-- the contests of an election are counted among those that are left
+pub within_all : (name : Data → Option NameParts) (p : List Step) (vs : List Value) (start m : NamesMet) (i number : ℕ) (v : Value) → i < length vs → v ≡ get_or vs i v
+    → ElectionsLeft name p vs start m i number → number + length (contests_of (entry p i v)) ≤ length (contests_from p 0 vs)
+within_all name p vs start m i number v inside is left =
+    let here = contests_of (entry p i v) in
+    let later = contests_from p (i + 1) (drop (i + 1) vs) in
+    let more : length (contests_from p i (drop i vs)) ≡ length here + length later = first_left length p vs i v inside is ∙ length-append here later in
+    let counted : number + length (contests_from p i (drop i vs)) ≡ length (contests_from p 0 vs) = left.counted in
+    omega arith
+
+pub election_left : (name : Data → Option NameParts) (p : List Step) (vs : List Value) (start m n : NamesMet) (i number next : ℕ) (v : Value) → i < length vs → v ≡ get_or vs i v
+    → ElectionsLeft name p vs start m i number → next ≡ number + length (contests_of (entry p i v)) → n ≡ named_all name m (numbered_from number (contests_of (entry p i v)))
+    → ElectionsLeft name p vs start n (i + 1) next
+election_left name p vs start m n i number next v inside is left after met =
+    let here = contests_of (entry p i v) in
+    let later = contests_from p (i + 1) (drop (i + 1) vs) in
+    let more : length (contests_from p i (drop i vs)) ≡ length here + length later = first_left length p vs i v inside is ∙ length-append here later in
+    let counted : number + length (contests_from p i (drop i vs)) ≡ length (contests_from p 0 vs) = left.counted in
+    record {
+      named =
+          ap₂ (λ k j. named_all name k (numbered_from j later)) met after
+          ∙ sym (named_all_append name m (numbered_from number here) (numbered_from (number + length here) later))
+          ∙ ap (named_all name m) (sym (numbered_from-append number here later))
+          ∙ sym (first_left (λ cs. named_all name m (numbered_from number cs)) p vs i v inside is) ∙ left.named;
+      counted = omega (arith, after);
+    }
+
+pub none_left : (name : Data → Option NameParts) (p : List Step) (vs : List Value) (start m : NamesMet) (i number : ℕ) → length vs ≤ i → ElectionsLeft name p vs start m i number
+    → m ≡ named_all name start (numbered_from 0 (contests_from p 0 vs))
+none_left name p vs start m i number over left =
+    sym (at_drop_all (λ (ws : List Value). named_all name m (numbered_from number (contests_from p i ws))) vs i over) ∙ left.named
+
+-- before the first
+pub all_left : (name : Data → Option NameParts) (p : List Step) (vs : List Value) (start : NamesMet) → ElectionsLeft name p vs start start 0 0
+all_left name p vs start = record { named = refl; counted = omega arith }
+
+-- the contests of a report
+pub contests_are : (t : Data) (vs : List Value) → map view vs ≡ entries_at (codes "Election") t → contests_from (Name (codes "Election") ∷ []) 0 vs ≡ contests t
+contests_are t vs e = ap (λ ds. flat_map contests_of (placed_from (Name (codes "Election") ∷ []) 0 ds)) e

@@ -1,28 +1,29 @@
 -- How many contests stand before each selection that is kept of a report is the number of its contest and one.
-use Rattle.std.proofs.Common.{◌≡◌, ◌==◌, ◌+◌, ℕ, List, [], ◌∷◌, ◌++◌, length, map, false, codes, refl, sym, ap, ap₂, ◌∙◌, append_assoc, append-nil, length-append, arith}
-use Rattle.std.specs.List.{enumerate_from, flat_map}
+use Rattle.std.proofs.Common.{◌≡◌, ◌==◌, ◌+◌, ℕ, List, [], ◌∷◌, ◌++◌, length, map, Bool, false, codes, refl, sym, ap, ap₂, ◌∙◌, append_assoc, append-nil, length-append, arith}
+use Rattle.std.specs.List.{flat_map}
 use Rattle.std.proofs.lemmas.List.{map-append}
 use Rattle.serde_json.specs.Data.{Data}
 use Rattle.erd_tables.specs.Classes.{family_number}
 use Rattle.erd_tables.specs.declared.class.Family.{Family}
 use Rattle.erd_tables.specs.declared.class.Family.TheVariants as family
 use Rattle.erd_meaning.specs.Keys.{Preference}
-use Rattle.erd_meaning.specs.Objects.{Placed, contests, elections, numbered_selections, numbered_selections_of, placed_entries, report_of, selections_of_contest}
+use Rattle.erd_meaning.specs.Objects.{Placed, contests, elections, has_several, numbered_selections, numbered_selections_of, placed_entries, report_of, selections_of_contest}
 use Rattle.erd_meaning.specs.code.ObjectIndexes.{contests_before}
-use Rattle.erd_meaning.specs.code.ObjectWalk.{Kept, Located, contest_located, election_located, kept_objects, located, shared_located}
+use Rattle.erd_meaning.specs.code.SelectionWalk.{numbered_from}
+use Rattle.erd_meaning.specs.code.ObjectWalk.{Kept, Located, contest_located, election_located, inside_election, kept_objects, located, object_met, objects_among, shared_located}
+use Rattle.erd_meaning.proofs.identity.MetLists.{filter_map-append}
 use Rattle.erd_meaning.proofs.selections.NamesTold.{Numbered}
 
 -- what is kept of objects at their places
 abbrev objects_of : List Located → List Kept
-objects_of xs = map (λ x. x.object) xs
+objects_of xs = objects_among (map (λ x. x.met) xs)
+
+objects_of-append : (xs ys : List Located) → objects_of (xs ++ ys) ≡ objects_of xs ++ objects_of ys
+objects_of-append xs ys = ap objects_among (map-append (λ (x : Located). x.met) xs ys) ∙ filter_map-append object_met (map (λ x. x.met) xs) (map (λ x. x.met) ys)
 
 -- how many contests there are up to those of the selections
 abbrev pub counts_of : List Numbered → List ℕ
 counts_of ss = map {A = Numbered} (λ s. s.0 + 1) ss
-
--- contests with their numbers
-abbrev numbered_from : ℕ → List Placed → List Numbered
-numbered_from n cs = flat_map numbered_selections_of (enumerate_from n cs)
 
 -- these objects stand first: what is noted of them, and how many contests have been met after them
 abbrev Counts : List Located → ℕ → List ℕ → ℕ → Type 0
@@ -30,7 +31,7 @@ Counts xs n noted m = (ks : List Kept) → contests_before n (objects_of xs ++ k
 
 counts-append : (xs ys : List Located) (n m l : ℕ) (a b : List ℕ) → Counts xs n a m → Counts ys m b l → Counts (xs ++ ys) n (a ++ b) l
 counts-append xs ys n m l a b first later ks =
-    ap (λ zs. contests_before n (zs ++ ks)) (map-append (λ (x : Located). x.object) xs ys) ∙ ap (contests_before n) (append_assoc (objects_of xs) (objects_of ys) ks)
+    ap (λ zs. contests_before n (zs ++ ks)) (objects_of-append xs ys) ∙ ap (contests_before n) (append_assoc (objects_of xs) (objects_of ys) ks)
     ∙ first (objects_of ys ++ ks) ∙ ap (λ ns. a ++ ns) (later ks) ∙ sym (append_assoc a b (contests_before l ks))
 
 -- ---- objects of one family
@@ -65,7 +66,7 @@ contests_counted π k (o ∷ os) ks =
 abbrev contests_of : Placed → List Placed
 contests_of e = placed_entries (codes "Contest") e
 
-election_counted : (π : Preference) (k : ℕ) (e : Placed) → Counts (election_located π e) k (counts_of (numbered_from k (contests_of e))) (k + length (contests_of e))
+election_counted : (π : Preference) (k : ℕ) (e : Placed) → Counts (inside_election π e) k (counts_of (numbered_from k (contests_of e))) (k + length (contests_of e))
 election_counted π k e =
     let styles = placed_entries (codes "BallotStyle") e in
     let candidates = placed_entries (codes "Candidate") e in
@@ -74,22 +75,22 @@ election_counted π k e =
     (counts-append (located π family.Candidate candidates) (flat_map (contest_located π) (contests_of e)) k k (k + length (contests_of e)) [] (counts_of (numbered_from k (contests_of e)))
     (passed π family.Candidate refl refl candidates k) (contests_counted π k (contests_of e)))
 
-numbered_from-append : (k : ℕ) (os ps : List Placed) → numbered_from k (os ++ ps) ≡ numbered_from k os ++ numbered_from (k + length os) ps
+pub numbered_from-append : (k : ℕ) (os ps : List Placed) → numbered_from k (os ++ ps) ≡ numbered_from k os ++ numbered_from (k + length os) ps
 numbered_from-append k [] ps = let none : k ≡ k + 0 = omega arith in ap (λ n. numbered_from n ps) none
 numbered_from-append k (o ∷ os) ps =
     let next : k + 1 + length os ≡ k + length (o ∷ os) = omega arith in
     ap (λ ss. numbered_selections_of (k, o) ++ ss) (numbered_from-append (k + 1) os ps ∙ ap (λ n. numbered_from (k + 1) os ++ numbered_from n ps) next)
     ∙ sym (append_assoc {A = Numbered} (numbered_selections_of (k, o)) (numbered_from (k + 1) os) (numbered_from (k + length (o ∷ os)) ps))
 
-elections_counted : (π : Preference) (k : ℕ) (es : List Placed)
-    → Counts (flat_map (election_located π) es) k (counts_of (numbered_from k (flat_map contests_of es))) (k + length (flat_map contests_of es))
-elections_counted π k [] ks = let none : k ≡ k + 0 = omega arith in ap (λ n. contests_before n ks) none
-elections_counted π k (e ∷ es) ks =
+elections_counted : (π : Preference) (b : Bool) (k : ℕ) (es : List Placed)
+    → Counts (flat_map (election_located π b) es) k (counts_of (numbered_from k (flat_map contests_of es))) (k + length (flat_map contests_of es))
+elections_counted π b k [] ks = let none : k ≡ k + 0 = omega arith in ap (λ n. contests_before n ks) none
+elections_counted π b k (e ∷ es) ks =
     let here = contests_of e in
     let later = flat_map contests_of es in
     let all : k + length here + length later ≡ k + length (here ++ later) = omega (arith, length-append {A = Placed}) in
-    counts-append (election_located π e) (flat_map (election_located π) es) k (k + length here) (k + length here + length later) (counts_of (numbered_from k here)) (counts_of (numbered_from (k + length here) later))
-    (election_counted π k e) (elections_counted π (k + length here) es) ks
+    counts-append (election_located π b e) (flat_map (election_located π b) es) k (k + length here) (k + length here + length later) (counts_of (numbered_from k here)) (counts_of (numbered_from (k + length here) later))
+    (election_counted π k e) (elections_counted π b (k + length here) es) ks
     ∙ ap₂ (λ ns m. ns ++ contests_before m ks)
     (sym (ap counts_of (numbered_from-append k here later) ∙ counts_of-append (numbered_from k here) (numbered_from (k + length here) later))) all
 
@@ -108,6 +109,6 @@ pub contests_counted_in : (π : Preference) (t : Data) → contests_before 0 (ke
 contests_counted_in π t =
     let n = 0 + length (contests t) in
     ap (contests_before 0) (sym (append-nil (kept_objects π t)))
-    ∙ counts-append (flat_map (election_located π) (elections t)) (shared_located π (report_of t)) 0 n n (counts_of (numbered_selections t)) []
-    (elections_counted π 0 (elections t)) (shared_counted π n (report_of t)) []
+    ∙ counts-append (flat_map (election_located π (has_several t)) (elections t)) (shared_located π (report_of t)) 0 n n (counts_of (numbered_selections t)) []
+    (elections_counted π (has_several t) 0 (elections t)) (shared_counted π n (report_of t)) []
     ∙ ap (λ ns. ns ++ []) (append-nil (counts_of (numbered_selections t))) ∙ append-nil (counts_of (numbered_selections t))

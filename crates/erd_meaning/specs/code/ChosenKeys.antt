@@ -5,25 +5,25 @@ use Rattle.std.specs.declared.cmp.Ordering.{Ordering}
 use Rattle.erd_meaning.specs.Keys.{Preference, is_of_type, key_cmp}
 use Rattle.erd_meaning.specs.declared.keys.key.Key.{Key}
 
--- whether a triple is of the preferred type
+-- True if the triple is of the preferred type.
 abbrev pub is_preferred : Preference → Key → Bool
 is_preferred None k = false
 is_preferred (Some type) k = is_of_type type k
 
--- the triples of the preferred type stand before the others
+-- Triples of the preferred type come before all others. Beyond that, triples are compared as keys.
 abbrev pub choice_cmp : Preference → Key → Key → Ordering
 choice_cmp π a b = ordering_then (bool_cmp (is_preferred π b) (is_preferred π a)) (key_cmp a b)
 
--- the one to choose of two
+-- The one of two triples that is chosen.
 abbrev pub choice_of_two : Preference → Key → Key → Key
 choice_of_two π a b = if is_lt (choice_cmp π b a) then b else a
 
--- the one to choose of one and more
+-- The triple that is chosen among one triple and a list of others.
 abbrev pub choice_of : Preference → Key → List Key → Key
 choice_of π k [] = k
 choice_of π k (l ∷ ls) = choice_of π (choice_of_two π k l) ls
 
--- the one to choose of a list, if it has any
+-- The triple that is chosen from a list, or none if the list is empty.
 abbrev pub choice : Preference → List Key → Option Key
 choice π [] = None
 choice π (k ∷ ks) = Some (choice_of π k ks)

@@ -1,9 +1,9 @@
--- What clauses see of a name that is held or lent.
+-- What clauses see of a name that is owned or lent.
 use Rattle.erd_meaning.specs.NameParts.{NameParts}
 use Rattle.erd_meaning.specs.declared.names.held_name.Held.{Held}
 use Rattle.erd_meaning.specs.declared.names.held_name.Held.TheVariants.{Own, Lent}
 
--- the name itself
+-- The name itself.
 abbrev pub held_parts : Held → NameParts
 held_parts (Own n) = n
 held_parts (Lent n) = n.now

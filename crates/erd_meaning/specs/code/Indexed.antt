@@ -1,4 +1,4 @@
--- When the indexes of a table of objects are those of its objects.
+-- When the indexes of a table of objects agree with the objects.
 use Rattle.std.specs.Prelude.{◌≡◌, ◌&&◌, ◌==◌, ℕ, List, Bool, Option}
 use Rattle.std.specs.Ordering.{is_eq}
 use Rattle.erd_tables.specs.Classes.{family_number}
@@ -8,11 +8,11 @@ use Rattle.erd_meaning.specs.code.ObjectIndexes.{contests_before, number_of_id, 
 use Rattle.erd_meaning.specs.code.ObjectWalk.{Kept}
 use Rattle.erd_meaning.specs.declared.keys.key.Key.{Key}
 
--- one family and one key
+-- True if both the families and the keys are equal.
 abbrev pub same_owned : Family × Key → Family × Key → Bool
 same_owned a b = (family_number a.0 == family_number b.0) && is_eq (key_cmp a.1 b.1)
 
--- what each index answers is what is found among the objects
+-- Each index answers what a search among the objects finds.
 pub record IsIndexed (ks : List Kept) (places : Family → List ℕ) (before : List ℕ) (by_id : List ℕ → Option (Family × ℕ)) (by_key : Family → Key → Option ℕ) : Type 0 where
   pub places_are : (f : Family) → places f ≡ places_from f 0 ks
   pub contests_are : before ≡ contests_before 0 ks

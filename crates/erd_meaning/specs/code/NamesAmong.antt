@@ -1,5 +1,5 @@
--- The names of selections, with look-ups among the objects that are kept. It is no definition of the profile: that the names
--- are those of `SelectionNames` is proved in `AmongNames`.
+-- The names of selections, found among the objects that the program keeps. They do not define the profile: `AmongNames`
+-- proves that they are the names of `SelectionNames`.
 use Rattle.std.specs.Prelude.{ℕ, List, [], Option, option_and_then, option_map, codes}
 use Rattle.std.specs.List.{filter_map}
 use Rattle.serde_json.specs.Data.{Data}
@@ -17,21 +17,21 @@ use Rattle.erd_meaning.specs.code.ObjectWalk.{Kept}
 use Rattle.erd_meaning.specs.SelectionNames.{is_write_in, label_of_selection, order_of_selection, rising_list, selection_role}
 use Rattle.erd_meaning.specs.declared.keys.key.Key.{Key}
 
--- the key of the object of a family with the `@id`
+-- The key of the object of the family with this `@id`, or none.
 abbrev pub key_among : List Kept → Family → List ℕ → Option Key
 key_among ks f id = option_and_then (λ k. k.key) (object_among ks f id)
 
--- the keys that the references of an array name
+-- The keys of the objects of the family that the references in a list name.
 abbrev pub keys_among : List Kept → Family → List Data → List Key
 keys_among ks f references = filter_map (λ r. option_and_then (key_among ks f) (as_str r)) references
 
--- the keys of the candidates or the parties that a selection is for
+-- The keys of the candidates or the parties that the selection is for.
 abbrev pub selection_keys_among : List Kept → Class → Data → List Key
 selection_keys_among ks class.CandidateSelection d = keys_among ks family.Candidate (entries_at (codes "CandidateIds") d)
 selection_keys_among ks class.PartySelection d = keys_among ks family.Party (entries_at (codes "PartyIds") d)
 selection_keys_among ks c d = []
 
--- the name of a selection of this class
+-- The name of a selection of this class.
 abbrev pub class_name_among : Preference → List Kept → Class → Data → NameParts
 class_name_among π ks c d = record {
   class = c;
@@ -42,6 +42,6 @@ class_name_among π ks c d = record {
   identifier = key_of π d;
 }
 
--- the name of a selection: none where it is of no class of selection
+-- The name of a selection, or none if its `@type` is not that of a selection class.
 abbrev pub name_among : Preference → List Kept → Data → Option NameParts
 name_among π ks d = option_map (λ c. class_name_among π ks c d) (class_of_object selection_role d)

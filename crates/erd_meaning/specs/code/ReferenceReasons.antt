@@ -1,4 +1,5 @@
--- The reasons of a reference as the program tells them, by look-ups among the objects that are kept: those of `ReferenceFault` (`ReferenceWalks`).
+-- The reasons of a reference as the program reports them, by look-ups among the objects that it keeps. `ReferenceWalks`
+-- proves that they are those of `ReferenceFault`.
 use Rattle.std.specs.Prelude.{ℕ, List, [], ◌∷◌, ◌++◌, Bool, true, false, not, ◌&&◌, if◌then◌else◌, Option, option_map, is_none, codes}
 use Rattle.std.specs.List.{list_any}
 use Rattle.std.specs.Option.{option_map_or}
@@ -17,24 +18,24 @@ use Rattle.erd_meaning.specs.code.ObjectWalk.{Kept}
 
 -- ---- look-ups
 
--- an object has the `@id`
+-- True if some object has this `@id`.
 abbrev pub is_known : List Kept → List ℕ → Bool
 is_known ks id = list_any (keeps_id id) ks
 
--- the first object with the `@id`, if it is of the family
+-- The first object with this `@id`, or none if that object is of another family.
 abbrev pub owner_among : List Kept → Family → List ℕ → Option Data
 owner_among ks f id = option_map (λ k. k.value) (object_among ks f id)
 
--- an object with the `@id` is there, but none of the family
+-- True if some object has this `@id`, but the first that has it is not of the family.
 abbrev pub is_of_others : List Kept → Family → List ℕ → Bool
 is_of_others ks f id = is_none (owner_among ks f id) && is_known ks id
 
--- whether objects of the family are selections
+-- True for the family of selections.
 abbrev pub is_selection_family : Family → Bool
 is_selection_family family.Selection = true
 is_selection_family f = false
 
--- a selection has the `@id`, but it is not in the contest that the object names, if it names one
+-- True if a selection has this `@id`, the object names a contest, and the selection is not in that contest.
 abbrev pub is_elsewhere : List Kept → Data → List ℕ → Bool
 is_elsewhere ks d id =
     option_map_or (λ selection. option_map_or (λ contest. not (is_in_contest ks contest selection)) (number_among ks family.Contest (text_at (codes "ContestId") d)) false)
@@ -42,17 +43,17 @@ is_elsewhere ks d id =
 
 -- ---- at one place
 
--- a reason, where the test holds
+-- The reason if the test holds, and otherwise nothing.
 abbrev pub reason_if : Bool → Reason → List Reason
 reason_if b r = if b then r ∷ [] else []
 
--- the reasons of a reference with this text, but for its being repeated; the object of its list is at hand
+-- The reasons of a reference with this text, apart from being repeated. The object that has the list is given.
 abbrev pub id_reasons : List Kept → Data → Family → List ℕ → List Reason
 id_reasons ks outer f id =
     reason_if (not (is_known ks id)) Unresolved
     ++ (reason_if (is_of_others ks f id) WrongFamily ++ reason_if (is_selection_family f && is_elsewhere ks outer id) SelectionOfOtherContest)
 
--- the reasons of what is asked at one place
+-- The reasons of the reference at one place.
 abbrev pub reference_reasons_told : List Kept → Data → Want → Bool → Data → List Reason
 reference_reasons_told ks outer (Reference f) repeated d = reason_if repeated Repeated ++ option_map_or (id_reasons ks outer f) (as_str d) []
 reference_reasons_told ks outer w repeated d = []

@@ -17,24 +17,24 @@ use Rattle.erd_meaning.specs.code.SelectionWalk.{NumberedName}
 use Rattle.erd_meaning.specs.code.Shown.{shown}
 use Rattle.erd_meaning.specs.declared.objects.object.Object.{Object}
 
--- no two objects of one family have one key, no two objects of the report have one `@id`, and those that need a key have one
+-- The report has no fault of identity: objects that need a key have one, and no key and no `@id` is used twice.
 abbrev pub IsIdentified : Preference → Value → Type 0
 IsIdentified π tree = NoneOf (IdentityFault π (view tree))
 
--- each reference names an object of its family, no set of references names one twice, and where an object names a contest,
--- each selection in its list is one of that contest
+-- The report has no fault of references: each names an object of its family, no set has one twice, and each selection in a
+-- list is of the contest that is named with it.
 abbrev pub IsReferred : Value → Type 0
 IsReferred tree = NoneOf (ReferenceFault (view tree))
 
--- no two selections of one contest have one name
+-- The report has no fault of selections: no two selections of one contest have the same name.
 abbrev pub IsToldApart : Preference → Value → Type 0
 IsToldApart π tree = NoneOf (SelectionFault π (view tree))
 
--- these are the names of the selections of a report, in the order of their places
+-- These are the names of the selections of the report, in the order of their places.
 abbrev pub AreNames : Preference → Data → List NumberedName → Type 0
 AreNames π t names = (i : ℕ) → slice_get names i ≡ selection_in π t i
 
--- an accepted report, its objects and the names of its selections, each in the order of their places
+-- The report is accepted, and these are its objects and the names of its selections, in the order of their places.
 pub record IsResolved (π : Preference) (tree : Value) (objects : List Object) (names : List NumberedName) : Type 0 where
   pub faultless : IsFaultless tree
   pub is_tree : IsTree (view tree)

@@ -1,11 +1,12 @@
--- What a report holds beside its tree: its objects and the names of its selections, once.
+-- What a report holds beside its tree: its objects, the names of its selections and its elections, once.
 use Rattle.std.specs.Prelude.{List, [], ◌∷◌}
 use Rattle.serde_json.specs.declared.value.Value.{Value}
 use Rattle.erd_meaning.specs.Keys.{Preference}
 use Rattle.erd_meaning.specs.code.Resolved.{IsResolved}
+use Rattle.erd_meaning.specs.code.ResolvedElections.{AreElections}
 use Rattle.erd_meaning.specs.declared.report.Indexes.{Indexes}
 
--- one entry, with the objects and the names of an accepted report
+-- There is exactly one entry, and it has the objects, the names and the elections of the accepted report.
 abbrev pub AreResolved : Preference → Value → List Indexes → Type 0
-AreResolved π tree (x ∷ []) = IsResolved π tree x.objects x.names.keys
+AreResolved π tree (x ∷ []) = IsResolved π tree x.objects x.names.keys × AreElections π tree x.elections
 AreResolved π tree xs = ⊥

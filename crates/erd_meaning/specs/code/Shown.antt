@@ -8,10 +8,10 @@ use Rattle.serde_json.specs.declared.value.Value.{Value}
 use Rattle.erd_meaning.specs.Objects.{Placed}
 use Rattle.erd_meaning.specs.declared.objects.object.Object.{Object}
 
--- what clauses see of an `Object`: what is kept of it
+-- What clauses see of an `Object`, which is what is kept of it.
 abbrev pub shown : Object → Kept
 shown o = record { family = o.family; value = view o.value.now; key = o.key; id = option_map (λ s. s.now) o.id }
 
--- a value at the place of a path
+-- A value at the place that the path leads to.
 abbrev pub placed_at : Path → Value → Placed
 placed_at p v = record { place = steps_of p; value = view v }

@@ -6,10 +6,10 @@ use Rattle.erd_meaning.specs.code.Shown.{shown}
 use Rattle.erd_meaning.specs.declared.objects.object_walk.ObjectWalk.{ObjectWalk}
 use Rattle.erd_meaning.specs.declared.names.selection_walk.SelectionWalk.{SelectionWalk}
 
--- what clauses see of the walk over the objects: how far it has come
+-- What clauses see of the walk over the elections and the objects: how far it has come.
 abbrev pub met_of : ObjectWalk → ObjectsMet
-met_of w = record { objects = map shown w.objects; faults = w.faults.items }
+met_of w = record { objects = map shown w.objects; elections = w.elections; faults = w.faults.items }
 
--- what clauses see of the walk over the selections: how far it has come
+-- What clauses see of the walk over the selections: how far it has come.
 abbrev pub names_met : SelectionWalk → NamesMet
 names_met w = record { names = w.names.keys; faults = w.faults.items }

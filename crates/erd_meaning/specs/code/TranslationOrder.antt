@@ -9,11 +9,11 @@ use Rattle.serde_json.specs.declared.value.Value.{Value}
 use Rattle.erd_meaning.specs.code.Orders.{compact_cmp_total}
 use Rattle.erd_meaning.specs.SelectionNames.{compact_cmp}
 
--- the compact text of a value
+-- The compact text of a value.
 abbrev pub tree_text : Value → List ℕ
 tree_text v = compact_text (view v)
 
--- values by the bytes of their compact texts
+-- Values are compared by the bytes of their compact texts.
 abbrev pub tree_cmp : Value → Value → Ordering
 tree_cmp a b = compact_cmp (view a) (view b)
 

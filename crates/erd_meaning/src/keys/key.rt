@@ -1,22 +1,28 @@
+//! The key of an object or of an election.
 ghost use Rattle.std.specs.Prelude.{◌≡◌, IfOk};
 
 use erd_tables::Text;
 use std::alloc::{AllocError, Global};
 
-/// What names an object, whichever vendor wrote it: the least of its external identifiers. Keys are ordered by their
-/// three texts, one after another, and equal keys are one key.
+/// The key of an object or of an election: the three texts of the external identifier that `key_of` chooses. It
+/// identifies the object in its family independently of the vendor. Keys are ordered by `kind`, then by `other`, then
+/// by `value`.
 #[derive(Debug, PartialEq, Eq, PartialOrd, Ord, Hash, Drop)]
 pub struct Key {
-    /// `Type`.
+    /// The `Type` of the identifier.
     pub kind: Text,
-    /// `OtherType`, or the empty text.
+    /// The `OtherType` of the identifier, or the empty text if it has none.
     pub other: Text,
-    /// `Value`.
+    /// The `Value` of the identifier.
     pub value: Text,
 }
 
 impl Key {
-    /// An equal key of its own.
+    /// Returns an equal key with copies of the texts.
+    ///
+    /// # Errors
+    ///
+    /// `AllocError` if out of memory.
     pub fn try_clone(&self, alloc: Global) -> Result<Key, AllocError>
         ensures { IfOk result (λ key. key ≡ self.now) }
     {

@@ -1,3 +1,4 @@
+//! The choice of the key of an object among its external identifiers.
 ghost use Rattle.std.specs.Prelude.{◌≡◌, IfOk};
 ghost use Rattle.std.specs.Option.{option_copied};
 ghost use Rattle.serde_json.specs.View.{view};
@@ -9,7 +10,13 @@ use erd_check::values::entries_at;
 use serde_json::Value;
 use std::alloc::{AllocError, Global};
 
-/// The key of an object: the least of its identifiers of the preferred type, if it has one, else the least of all.
+/// Returns the key of an object: the least of its external identifiers whose `Type` is the preferred text. If no
+/// identifier has this `Type`, or no text is preferred, it is the least of all. Returns `None` if the object has no
+/// external identifier. The rule is from docs/PROFILE.md, "Keys and selection names".
+///
+/// # Errors
+///
+/// `AllocError` if out of memory.
 pub fn key_of(
     alloc: Global,
     object: &Value,
@@ -23,7 +30,7 @@ pub fn key_of(
     }
 }
 
-/// The identifier that gives an object its key.
+/// Returns the identifier that gives an object its key, if it has one.
 pub(crate) fn chosen_triple<'a>(object: &'a Value, prefer: Option<&str>) -> Option<Triple<'a>>
     ensures { result ≡ key_of (option_copied prefer.entry) (view object.now) }
 {

@@ -9,7 +9,7 @@ use serde_json::Value;
 use std::alloc::{AllocError, Global};
 use std::marker::Model;
 
-/// How keys are made: in this memory, and under a preference or none. Contracts see the preference.
+/// How keys are made: with an allocator, and under a preference or none. Contracts see the preference.
 #[derive(Drop)]
 pub(crate) struct KeyRule<'p> {
     pub(crate) alloc: Global,
@@ -26,14 +26,14 @@ impl<'p> Model for KeyRule<'p> {
 }
 
 impl<'p> KeyRule<'p> {
-    /// The identifier that gives an object its key, if it has one.
+    /// Returns the identifier that gives an object its key, if it has one.
     pub(crate) fn triple_of<'a>(&self, object: &'a Value) -> Option<Triple<'a>>
         ensures { result ≡ key_of self.now (view object.now) }
     {
         chosen_triple(object, self.prefer)
     }
 
-    /// The key of an object, if it has an identifier.
+    /// Returns the key of an object, if it has an identifier.
     pub(crate) fn key_of(&self, object: &Value) -> Result<Option<Key>, AllocError>
         ensures { IfOk result (λ key. key ≡ key_of self.now (view object.now)) }
     {

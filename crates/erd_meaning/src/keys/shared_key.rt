@@ -1,51 +1,83 @@
 ghost use Rattle.std.specs.Prelude.{◌≡◌, IfOk};
+ghost use Rattle.erd_meaning.specs.code.NameHashes.{key_digest};
 
 use crate::keys::key::Key;
+use crate::keys::triple::Triple;
 use std::alloc::{AllocError, Global};
 use std::cmp::Ordering;
-use std::hash::{Hash, Hasher};
+use std::hash::{FoldHasher, Hash, Hasher};
 use std::marker::Model;
 use std::rc::Rc;
 
-/// A key that several have, held once. Contracts see the key.
+/// A key that is stored once and may have several owners, with the number by which it is hashed. Contracts see the key.
 #[derive(Debug, Drop)]
 pub(crate) struct SharedKey {
     key: Rc<Key>,
+    digest: u64,
 }
 
 impl Model for SharedKey {
+    ghost use Rattle.std.specs.Prelude.{◌≡◌};
     ghost use Rattle.erd_meaning.specs.declared.keys.key.Key.{Key};
+    ghost use Rattle.erd_meaning.specs.code.NameHashes.{key_digest};
 
     ghost Value = { Key };
 
     ghost view = { λ s. s.key.value };
+
+    ghost invariant = { λ s. s.digest ≡ key_digest s.key.value };
 }
 
 impl SharedKey {
-    /// The key, with one owner.
+    /// Returns a shared key with one owner.
     pub(crate) fn of(alloc: Global, key: Key) -> Result<SharedKey, AllocError>
         ensures { IfOk result (λ shared. shared ≡ key) }
     {
+        let digest = digest_of(&key);
         Ok(SharedKey {
             key: Rc::new(alloc, key)?,
+            digest,
         })
     }
 
-    /// The key.
+    /// Returns a shared key with copies of the texts of the triple, if there is one.
+    pub(crate) fn of_triple(
+        alloc: Global,
+        triple: &Option<Triple>,
+    ) -> Result<Option<SharedKey>, AllocError>
+        ensures { IfOk result (λ shared. shared ≡ triple.now) }
+    {
+        match triple {
+            Some(triple) => Ok(Some(SharedKey::of(alloc, triple.to_key(alloc)?)?)),
+            None => Ok(None),
+        }
+    }
+
+    /// Returns the key.
     pub(crate) fn key(&self) -> &Key
         ensures { result.now ≡ self.now }
     {
         self.key.as_ref()
     }
 
-    /// The same key with one more owner.
+    /// Returns the same key, which then has one more owner.
     pub(crate) fn try_clone(&self) -> Result<SharedKey, AllocError>
         ensures { IfOk result (λ shared. shared ≡ self.now) }
     {
         Ok(SharedKey {
             key: self.key.clone()?,
+            digest: self.digest,
         })
     }
+}
+
+/// Returns the number by which a key is hashed.
+fn digest_of(key: &Key) -> u64
+    ensures { result ≡ key_digest key.now }
+{
+    let mut hasher = FoldHasher::default();
+    key.hash(&mut hasher);
+    hasher.finish()
 }
 
 impl PartialEq for SharedKey {
@@ -104,14 +136,14 @@ impl Ord for SharedKey {
 }
 
 impl Hash for SharedKey {
-    ghost use Rattle.erd_meaning.specs.code.NameHashes.{key_writes};
+    ghost use Rattle.erd_meaning.specs.code.NameHashes.{shared_key_writes};
     ghost use Rattle.erd_meaning.specs.code.Orders.{equal_keys_alike};
 
-    ghost hash_input = { key_writes };
+    ghost hash_input = { shared_key_writes };
 
-    ghost respects_eq = { equal_keys_alike key_writes };
+    ghost respects_eq = { equal_keys_alike shared_key_writes };
 
     fn hash<H: Hasher>(&self, state: &mut H) {
-        self.key().hash(state);
+        self.digest.hash(state);
     }
 }

@@ -35,7 +35,7 @@ impl<'a> Model for Triple<'a> {
 }
 
 impl<'a> Triple<'a> {
-    /// The texts of an identifier.
+    /// Returns the texts of an identifier.
     pub(crate) fn of(identifier: &'a Value) -> Triple<'a>
         ensures { result ≡ triple_of (view identifier.now) }
     {
@@ -46,7 +46,7 @@ impl<'a> Triple<'a> {
         }
     }
 
-    /// The texts of a key.
+    /// Returns the texts of a key.
     pub(crate) fn of_key(key: &'a Key) -> Triple<'a>
         ensures { result ≡ key.now }
     {
@@ -75,7 +75,8 @@ impl<'a> Triple<'a> {
             .then(self.value.cmp(other.value))
     }
 
-    /// Whether it is to be chosen rather than the other: triples of the preferred type come first, and then the lesser.
+    /// Returns whether this triple is a better choice for a key than the other. A triple of the preferred type is
+    /// better than one of another type. Otherwise the lesser triple is better.
     pub(crate) fn goes_before(&self, other: &Triple, prefer: Option<&str>) -> bool
         ensures { result ≡ is_lt (choice_cmp (option_copied prefer.entry) self.now other.now) }
     {
@@ -86,7 +87,7 @@ impl<'a> Triple<'a> {
             .is_lt()
     }
 
-    /// A key with copies of the texts.
+    /// Returns a key with copies of the texts.
     pub(crate) fn to_key(&self, alloc: Global) -> Result<Key, AllocError>
         ensures { IfOk result (λ key. key ≡ self.now) }
     {

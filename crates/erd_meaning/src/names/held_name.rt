@@ -4,7 +4,7 @@ use crate::names::selection_name::SelectionName;
 use std::hash::{Hash, Hasher};
 use std::marker::Model;
 
-/// The name of a selection, as an index holds it, or as it is asked for. Contracts see the name.
+/// The name of a selection: one that an index owns, or one that is borrowed to search the index. Contracts see the name.
 #[derive(Debug, Drop)]
 pub(crate) struct HeldName<'a> {
     held: Held<'a>,
@@ -26,7 +26,7 @@ impl<'a> Model for HeldName<'a> {
 }
 
 impl<'a> HeldName<'a> {
-    /// A name that is held.
+    /// Returns a name that is owned.
     pub(crate) fn own(name: SelectionName) -> HeldName<'a>
         ensures { result ≡ name }
     {
@@ -35,7 +35,7 @@ impl<'a> HeldName<'a> {
         }
     }
 
-    /// A name that is lent.
+    /// Returns a name that is borrowed.
     pub(crate) fn lent(name: &'a SelectionName) -> HeldName<'a>
         ensures { result ≡ name.now }
     {
@@ -44,7 +44,7 @@ impl<'a> HeldName<'a> {
         }
     }
 
-    /// The name.
+    /// Returns the name.
     pub(crate) fn name(&self) -> &SelectionName
         ensures { result.now ≡ self.now }
     {
@@ -66,7 +66,7 @@ impl<'a> PartialEq for HeldName<'a> {
     ghost laws = { partial_equiv_from_equiv (eq_by_cmp_equiv name_cmp_total) };
 
     fn eq(&self, other: &HeldName<'a>) -> bool {
-        self.name().cmp(other.name()).is_eq()
+        self.name() == other.name()
     }
 }
 

@@ -11,7 +11,7 @@ use erd_tables::Text;
 use serde_json::{Map, Value};
 use std::alloc::{AllocError, Global};
 
-/// The compact text of a label, its translations in rising order of their compact texts.
+/// Returns the compact text of a label, with its translations in the rising order of their compact texts.
 pub(crate) fn label_text(alloc: Global, label: &Value) -> Result<Text, AllocError>
     requires whole { has_float (view label.now) ≡ false }
     ensures { IfOk result (λ text. text ≡ compact_text (with_rising_text (view label.now))) }
@@ -20,7 +20,7 @@ pub(crate) fn label_text(alloc: Global, label: &Value) -> Result<Text, AllocErro
     Ok(Text::of(rising.to_string(alloc)?))
 }
 
-/// A copy of a label, its translations in rising order.
+/// Returns a copy of a label, with its translations in rising order.
 fn with_rising_text(alloc: Global, label: &Value) -> Result<Value, AllocError>
     requires whole { has_float (view label.now) ≡ false }
     ensures { IfOk result (λ copy. view copy ≡ with_rising_text (view label.now)) }
@@ -35,7 +35,7 @@ fn with_rising_text(alloc: Global, label: &Value) -> Result<Value, AllocError>
     }
 }
 
-/// The members with these translations.
+/// Returns the members of a label with these translations as `Text`.
 fn with_text(
     alloc: Global,
     mut members: Map<String, Value>,
@@ -49,7 +49,7 @@ fn with_text(
     Ok(members)
 }
 
-/// Copies of the translations of a label, in rising order.
+/// Returns copies of the translations of a label, in rising order.
 fn rising_translations(alloc: Global, label: &Value) -> Result<Vec<Value>, AllocError>
     requires whole { has_float (view label.now) ≡ false }
     ensures { IfOk result (λ copies. map view copies.items
@@ -60,7 +60,7 @@ fn rising_translations(alloc: Global, label: &Value) -> Result<Vec<Value>, Alloc
     copied_translations(alloc, &translations)
 }
 
-/// The translations of a label, with their texts.
+/// Returns the translations of a label, with their compact texts.
 fn translations_of<'a>(alloc: Global, label: &'a Value) -> Result<Vec<Translation<'a>>, AllocError>
     requires whole { has_float (view label.now) ≡ false }
     ensures { IfOk result (λ translations. map view translations.items

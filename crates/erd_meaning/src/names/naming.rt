@@ -9,6 +9,7 @@ ghost use Rattle.erd_meaning.specs.code.Shown.{shown};
 use crate::keys::key_rule::KeyRule;
 use crate::keys::shared_key::SharedKey;
 use crate::names::label::label_text;
+use crate::names::parts::Parts;
 use crate::names::selection_name::SelectionName;
 use crate::objects::lookup::key_referred;
 use crate::objects::table::ObjectTable;
@@ -17,7 +18,8 @@ use erd_tables::{Class, Family, Role, Text};
 use serde_json::{Number, Value};
 use std::alloc::{AllocError, Global};
 
-/// The name of a selection, if it is of a class of selection. What its references name is looked up among the objects.
+/// Returns the name of a selection, or `None` if its class is not one of the selection classes. The objects that its
+/// references name are looked up in `objects`.
 pub(crate) fn name_of_selection(
     keys: &KeyRule,
     objects: &ObjectTable,
@@ -32,17 +34,17 @@ pub(crate) fn name_of_selection(
     let named = selection_keys(keys.alloc, objects, class, selection)?;
     let label = selection_label(keys.alloc, class, selection)?;
     let identifier = keys.key_of(selection)?;
-    Ok(Some(SelectionName {
+    Ok(Some(SelectionName::of(Parts {
         class,
         keys: named,
         write_in: is_write_in(class, selection),
         order: sequence_order(selection),
         label,
         identifier,
-    }))
+    })))
 }
 
-/// The keys of the candidates or the parties that a selection is for, in rising order.
+/// Returns the keys of the candidates or parties that a selection is for, in rising order.
 fn selection_keys(
     alloc: Global,
     objects: &ObjectTable,
@@ -56,7 +58,7 @@ fn selection_keys(
     in_rising_order(keys)
 }
 
-/// The same keys in rising order, each as often.
+/// Returns the same keys in rising order, each as often as before.
 fn in_rising_order(mut keys: Vec<SharedKey>) -> Result<Vec<SharedKey>, AllocError>
     ensures { IfOk result (λ rising. rising.items ≡ rising_list key_cmp keys.items) }
 {
@@ -64,7 +66,7 @@ fn in_rising_order(mut keys: Vec<SharedKey>) -> Result<Vec<SharedKey>, AllocErro
     Ok(keys)
 }
 
-/// The keys of the candidates or the parties that a selection is for, in the order of its references.
+/// Returns the keys of the candidates or parties that a selection is for, in the order of its references.
 fn named_keys(
     alloc: Global,
     objects: &ObjectTable,
@@ -87,7 +89,7 @@ fn named_keys(
     }
 }
 
-/// The keys of what the references name.
+/// Returns the keys of the objects of the family that the references name.
 fn keys_among(
     alloc: Global,
     objects: &ObjectTable,
@@ -106,7 +108,7 @@ fn keys_among(
     Ok(keys)
 }
 
-/// Whether a selection is for a write-in.
+/// Returns whether a selection is for a write-in: `IsWriteIn` of a CandidateSelection is true.
 fn is_write_in(class: Class, selection: &Value) -> bool
     ensures { result ≡ is_write_in class (view selection.now) }
 {
@@ -119,7 +121,7 @@ fn is_write_in(class: Class, selection: &Value) -> bool
     }
 }
 
-/// The number in `SequenceOrder`, if there is one.
+/// Returns the whole number in `SequenceOrder`, if there is one.
 fn sequence_order(selection: &Value) -> Option<i128>
     ensures { result ≡ order_of_selection (view selection.now) }
 {
@@ -129,7 +131,7 @@ fn sequence_order(selection: &Value) -> Option<i128>
         .and_then(Number::as_i128)
 }
 
-/// The compact text of the label of a ballot measure's selection, its translations in rising order.
+/// Returns the compact text of the label of a BallotMeasureSelection, with its translations in rising order.
 fn selection_label(
     alloc: Global,
     class: Class,

@@ -1,100 +1,61 @@
+//! The name of a selection.
 ghost use Rattle.std.specs.Prelude.{◌≡◌, IfOk};
-ghost use Rattle.erd_meaning.specs.SelectionNames.{name_cmp};
 
-use crate::keys::key::{Key, copied};
-use crate::keys::shared_key::SharedKey;
-use erd_tables::{Class, Text, type_text};
+use crate::names::parts::Parts;
 use std::alloc::{AllocError, Global};
 use std::cmp::Ordering;
 use std::hash::{Hash, Hasher};
 use std::marker::Model;
 
-/// What names a selection in its contest, whichever vendor wrote it. Contracts see its six parts.
+/// The name of a selection in its contest. It identifies the selection independently of the vendor.
+/// Contracts see its six parts, which docs/PROFILE.md lists ("Names of selections").
 ///
-/// Names are ordered by the name of the class in bytes, then by the keys as words, false before true for a write-in, and
-/// none before a value for the order, the label and the identifier. Equal names are one name.
+/// Names are ordered by the name of the class, by bytes; then by the list of keys, key by key; then by whether the selection
+/// is for a write-in, false before true; then by sequence order, label and identifier, with none before any value.
+///
+/// A name is hashed by a number that is computed once from its parts. Equal names have the same number, so names with
+/// different numbers are different and their parts need not be compared.
 #[derive(Debug, Drop)]
 pub struct SelectionName {
-    pub(crate) class: Class,
-    pub(crate) keys: Vec<SharedKey>,
-    pub(crate) write_in: bool,
-    pub(crate) order: Option<i128>,
-    pub(crate) label: Option<Text>,
-    pub(crate) identifier: Option<Key>,
+    parts: Parts,
+    digest: u64,
 }
 
 impl Model for SelectionName {
+    ghost use Rattle.std.specs.Prelude.{◌≡◌};
     ghost use Rattle.erd_meaning.specs.NameParts.{NameParts};
+    ghost use Rattle.erd_meaning.specs.code.NameHashes.{name_digest};
 
     ghost Value = { NameParts };
 
-    ghost view = { λ n. record {
-      class = n.class;
-      keys = n.keys.items;
-      write_in = n.write_in;
-      order = n.order;
-      label = n.label;
-      identifier = n.identifier;
-    } };
+    ghost view = { λ n. n.parts };
+
+    ghost invariant = { λ n. n.digest ≡ name_digest n.parts };
 }
 
 impl SelectionName {
-    /// An equal name of its own. It shares the keys of candidates or parties.
+    /// Returns the name with these parts.
+    pub(crate) fn of(parts: Parts) -> SelectionName
+        ensures { result ≡ parts }
+    {
+        let digest = parts.digest();
+        SelectionName { parts, digest }
+    }
+
+    /// Returns an equal name. The two names share the keys of candidates or parties; the other parts are copied.
+    ///
+    /// # Errors
+    ///
+    /// `AllocError` if out of memory.
     pub fn try_clone(&self, alloc: Global) -> Result<SelectionName, AllocError>
         ensures { IfOk result (λ name. name ≡ self.now) }
     {
-        let keys = copied_keys(alloc, &self.keys)?;
-        let label = copied_label(alloc, &self.label)?;
-        let identifier = copied_identifier(alloc, &self.identifier)?;
+        let parts = self.parts.try_clone(alloc)?;
         Ok(SelectionName {
-            class: self.class,
-            keys,
-            write_in: self.write_in,
-            order: self.order,
-            label,
-            identifier,
+            parts,
+            digest: self.digest,
         })
     }
-}
-
-fn copied_keys(alloc: Global, keys: &[SharedKey]) -> Result<Vec<SharedKey>, AllocError>
-    ensures { IfOk result (λ copies. copies.items ≡ keys.now) }
-{
-    let mut copies = Vec::with_capacity(alloc, keys.len())?;
-    for key in keys {
-        copies.push(key.try_clone()?)?;
-    }
-    Ok(copies)
-}
-
-fn copied_label(alloc: Global, label: &Option<Text>) -> Result<Option<Text>, AllocError>
-    ensures { IfOk result (λ copy. copy ≡ label.now) }
-{
-    match label {
-        Some(text) => Ok(Some(copied(alloc, text)?)),
-        None => Ok(None),
-    }
-}
-
-fn copied_identifier(alloc: Global, identifier: &Option<Key>) -> Result<Option<Key>, AllocError>
-    ensures { IfOk result (λ copy. copy ≡ identifier.now) }
-{
-    match identifier {
-        Some(key) => Ok(Some(key.try_clone(alloc)?)),
-        None => Ok(None),
-    }
-}
-
-fn order_of_names(left: &SelectionName, right: &SelectionName) -> Ordering
-    ensures { result ≡ name_cmp left.now right.now }
-{
-    type_text(left.class)
-        .cmp(type_text(right.class))
-        .then(left.keys.cmp(&right.keys))
-        .then(left.write_in.cmp(&right.write_in))
-        .then(left.order.cmp(&right.order))
-        .then(left.label.cmp(&right.label))
-        .then(left.identifier.cmp(&right.identifier))
 }
 
 impl PartialEq for SelectionName {
@@ -108,7 +69,7 @@ impl PartialEq for SelectionName {
     ghost laws = { partial_equiv_from_equiv (eq_by_cmp_equiv name_cmp_total) };
 
     fn eq(&self, other: &SelectionName) -> bool {
-        order_of_names(self, other).is_eq()
+        self.digest == other.digest && self.parts.compare(&other.parts).is_eq()
     }
 }
 
@@ -130,7 +91,7 @@ impl PartialOrd for SelectionName {
     ghost laws = { partial_order_from_total name_cmp_total };
 
     fn partial_cmp(&self, other: &SelectionName) -> Option<Ordering> {
-        Some(order_of_names(self, other))
+        Some(self.parts.compare(&other.parts))
     }
 }
 
@@ -148,7 +109,7 @@ impl Ord for SelectionName {
     ghost matches_eq = { λ a b. refl };
 
     fn cmp(&self, other: &SelectionName) -> Ordering {
-        order_of_names(self, other)
+        self.parts.compare(&other.parts)
     }
 }
 
@@ -161,11 +122,6 @@ impl Hash for SelectionName {
     ghost respects_eq = { equal_names_alike name_writes };
 
     fn hash<H: Hasher>(&self, state: &mut H) {
-        type_text(self.class).hash(state);
-        self.keys.hash(state);
-        self.write_in.hash(state);
-        self.order.hash(state);
-        self.label.hash(state);
-        self.identifier.hash(state);
+        self.digest.hash(state);
     }
 }

@@ -1,11 +1,11 @@
-ghost use Rattle.std.specs.Prelude.{◌≡◌, false, map, IfOk};
+ghost use Rattle.std.specs.Prelude.{◌≡◌, ◌+◌, ◌<◌, ◌^◌, codes, false, length, map, IfOk};
 ghost use Rattle.serde_json.specs.View.{view};
 ghost use Rattle.serde_json.specs.Written.{has_float};
 ghost use Rattle.erd_check.specs.code.Paths.{steps_of};
-ghost use Rattle.erd_check.specs.Shapes.{IsFaultless};
 ghost use Rattle.erd_meaning.specs.code.NamesAmong.{name_among};
-ghost use Rattle.erd_meaning.specs.Objects.{numbered_selections, numbered_selections_of};
-ghost use Rattle.erd_meaning.specs.code.SelectionWalk.{named_all, named_one, with_name};
+ghost use Rattle.erd_meaning.specs.Objects.{numbered_selections, numbered_selections_of, placed_entries};
+ghost use Rattle.erd_meaning.specs.code.ObjectWalk.{kept_objects};
+ghost use Rattle.erd_meaning.specs.code.SelectionWalk.{named_all, named_one, numbered_from, with_name};
 ghost use Rattle.erd_meaning.specs.code.Shown.{placed_at, shown};
 ghost use Rattle.erd_meaning.specs.code.ShownWalks.{names_met};
 
@@ -16,40 +16,66 @@ use crate::names::selection_name::SelectionName;
 use crate::objects::table::ObjectTable;
 use erd_check::path::{Path, push_fault};
 use erd_check::values::entries_at;
-use erd_tables::{Fault, Reason};
+use erd_tables::{Family, Fault, Reason};
 use indexmap::IndexSet;
 use serde_json::Value;
 use std::alloc::{AllocError, Global};
 
-/// The names of the selections that were met, each with the position of its contest, in the order of their places, and the
-/// faults of selections. Of several selections of one contest with one name the first is kept.
+/// The names of the selections that the walk has met, each with the position of its contest, in the order of their
+/// places; and the faults of selections. If several selections of a contest have the same name, the first is kept.
 #[derive(Drop)]
 pub(crate) struct SelectionWalk<'a> {
     pub(crate) names: IndexSet<(usize, HeldName<'a>)>,
     pub(crate) faults: Vec<Fault>,
 }
 
-/// Meets the selections of a report, which has one election.
+/// Walks over the selections of a report. To meet a selection is to add its name, or its fault, to `walk`. The numbers
+/// of the contests go on from one election to the next.
 pub(crate) fn meet_selections(
     keys: &KeyRule,
     report: &Value,
     objects: &ObjectTable,
     walk: &mut SelectionWalk<'_>,
 ) -> Result<(), AllocError>
-    requires faultless { IsFaultless report.now }
+    requires kept { map shown objects.now ≡ kept_objects keys.now (view report.now) }
     requires whole { has_float (view report.now) ≡ false }
     ensures { IfOk result (λ _. names_met walk.new
         ≡ named_all (name_among keys.now (map shown objects.now)) (names_met walk.old) (numbered_selections (view report.now))) }
 {
-    let election = &entries_at(report, "Election")[0];
+    // read for its bound: a word counts the contests
+    let _count = objects.count(Family::Contest);
     let elections = Path::Member(&Path::Root, "Election");
-    let path = Path::Entry(&elections, 0);
-    let contests = Path::Member(&path, "Contest");
-    for (index, contest) in entries_at(election, "Contest").iter().enumerate() {
-        let contest_path = Path::Entry(&contests, index);
-        meet_contest(keys, objects, index, contest, &contest_path, walk)?;
+    let mut number = 0;
+    for (index, election) in entries_at(report, "Election").iter().enumerate() {
+        let path = Path::Entry(&elections, index);
+        number = meet_contests(keys, objects, number, election, &path, walk)?;
     }
     Ok(())
+}
+
+/// Meets the selections of the contests of an election. The first contest has the number `first`. Returns the number after
+/// that of the last contest.
+fn meet_contests(
+    keys: &KeyRule,
+    objects: &ObjectTable,
+    first: usize,
+    election: &Value,
+    path: &Path,
+    walk: &mut SelectionWalk<'_>,
+) -> Result<usize, AllocError>
+    requires few { first + length (placed_entries (codes "Contest") (placed_at path.now election.now)) < 2 ^ 64 }
+    requires whole { has_float (view election.now) ≡ false }
+    ensures next { IfOk result (λ next. next ≡ first + length (placed_entries (codes "Contest") (placed_at path.now election.now))) }
+    ensures met { IfOk result (λ _. names_met walk.new ≡ named_all (name_among keys.now (map shown objects.now)) (names_met walk.old)
+        (numbered_from first (placed_entries (codes "Contest") (placed_at path.now election.now)))) }
+{
+    let contests = Path::Member(&*path, "Contest");
+    let entries = entries_at(election, "Contest");
+    for (index, contest) in entries.iter().enumerate() {
+        let contest_path = Path::Entry(&contests, index);
+        meet_contest(keys, objects, first + index, contest, &contest_path, walk)?;
+    }
+    Ok(first + entries.len())
 }
 
 /// Meets the selections of the contest with this number.
@@ -73,7 +99,7 @@ fn meet_contest(
     Ok(())
 }
 
-/// Meets a selection. One of no class of selection has no name, and is passed over.
+/// Meets a selection. If its class is not one of the selection classes, it has no name and is skipped.
 fn meet_selection(
     keys: &KeyRule,
     objects: &ObjectTable,

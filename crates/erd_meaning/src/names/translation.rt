@@ -9,7 +9,8 @@ use std::alloc::{AllocError, Global};
 use std::cmp::Ordering;
 use std::marker::Model;
 
-/// A translation of a label with its compact text, by whose bytes translations are ordered. Contracts see the translation.
+/// A translation of a label, with its compact text. Translations are ordered by the bytes of these texts. Contracts see the
+/// translation.
 #[derive(Drop)]
 pub(crate) struct Translation<'a> {
     value: &'a Value,
@@ -33,7 +34,7 @@ impl<'a> Model for Translation<'a> {
 }
 
 impl<'a> Translation<'a> {
-    /// The translation, with its text.
+    /// Returns the translation, with its compact text.
     pub(crate) fn of(alloc: Global, value: &'a Value) -> Result<Translation<'a>, AllocError>
         requires whole { has_float (view value.now) ≡ false }
         ensures { IfOk result (λ translation. translation ≡ value.now) }
@@ -42,7 +43,7 @@ impl<'a> Translation<'a> {
         Ok(Translation { value, text })
     }
 
-    /// The translation.
+    /// Returns the translation.
     pub(crate) fn value(&self) -> &'a Value
         ensures { result.now ≡ self.now }
     {

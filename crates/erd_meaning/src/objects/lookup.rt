@@ -11,14 +11,14 @@ use crate::objects::table::ObjectTable;
 use erd_tables::Family;
 use serde_json::Value;
 
-/// The value of the object with the `@id`, if it is of the family.
+/// Returns the value of the object with the `@id`, if it is of the family.
 pub(crate) fn owner_of<'a>(objects: &ObjectTable<'a>, family: Family, id: &str) -> Option<&'a Value>
     ensures { option_map (λ v. view v.now) result ≡ owner_among (map shown objects.now) family id.now }
 {
     Some(objects.with_id(family, id)?.value)
 }
 
-/// The key of the object of the family that a reference names, if it names one that has a key.
+/// Returns the key of the object that a reference names, if the object is of the family and has a key.
 pub(crate) fn key_referred<'b>(
     objects: &'b ObjectTable,
     family: Family,

@@ -6,7 +6,7 @@ use crate::keys::shared_key::SharedKey;
 use erd_tables::Family;
 use serde_json::Value;
 
-/// An object of a family, with its key, if its family has keys, and its `@id`.
+/// An object of a family, with its `@id`, if it has one, and its key, if its family has keys.
 #[derive(Debug, Drop)]
 pub(crate) struct Object<'a> {
     pub(crate) family: Family,
@@ -16,7 +16,7 @@ pub(crate) struct Object<'a> {
 }
 
 impl<'a> Object<'a> {
-    /// The key, if there is one.
+    /// Returns the key, if there is one.
     pub(crate) fn shown_key(&self) -> Option<&Key>
         ensures { option_copied result ≡ self.now.key }
     {

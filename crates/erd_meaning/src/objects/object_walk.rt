@@ -1,15 +1,16 @@
-ghost use Rattle.std.specs.Prelude.{◌≡◌, ◌++◌, codes, flat_map, IfOk};
+ghost use Rattle.std.specs.Prelude.{◌≡◌, ◌++◌, codes, flat_map, length, nat_lt, IfOk};
 ghost use Rattle.serde_json.specs.View.{view};
 ghost use Rattle.erd_check.specs.code.Paths.{steps_of};
 ghost use Rattle.erd_meaning.specs.Keys.{key_of_family_object};
 ghost use Rattle.erd_meaning.specs.Objects.{id_of, placed_entries};
-ghost use Rattle.erd_meaning.specs.code.ObjectWalk.{faults_told, located, located_one, contest_located, election_located, all_located, met_one, met_all};
+ghost use Rattle.erd_meaning.specs.code.ObjectWalk.{faults_told, located, located_election, located_one, contest_located, election_located, inside_election, all_located, met_one, met_all};
 ghost use Rattle.erd_meaning.specs.code.Shown.{shown, placed_at};
 ghost use Rattle.erd_meaning.specs.code.ShownWalks.{met_of};
 
 use crate::keys::key_rule::KeyRule;
 use crate::keys::shared_key::SharedKey;
 use crate::keys::triple::Triple;
+use crate::objects::election_table::ElectionTable;
 use crate::objects::object::Object;
 use crate::objects::table::{Earlier, ObjectTable};
 use erd_check::path::{Path, push_fault};
@@ -18,14 +19,15 @@ use erd_tables::{Family, Fault, Reason};
 use serde_json::Value;
 use std::alloc::{AllocError, Global};
 
-/// The objects that were met, in the order of their places, and their faults of identity.
+/// The objects and elections that the walk has met, in the order of their places, and their faults of identity.
 #[derive(Drop)]
 pub(crate) struct ObjectWalk<'a> {
     pub(crate) objects: ObjectTable<'a>,
+    pub(crate) elections: ElectionTable<'a>,
     pub(crate) faults: Vec<Fault>,
 }
 
-/// Meets the objects of a report.
+/// Walks over the elections and objects of a report. To meet an object is to add it, and its faults of identity, to `walk`.
 #[tactic(auto, using(crate::proofs::identity::MetObjects::met_all_append))]
 pub(crate) fn meet_report<'a>(
     keys: &KeyRule,
@@ -43,7 +45,7 @@ pub(crate) fn meet_report<'a>(
     meet_entries(keys, Family::Person, report, "Person", &path, walk)
 }
 
-#[tactic(auto, using(crate::proofs::identity::MetObjects::met_all_append))]
+/// Meets the elections and the objects inside them. If there are several elections, each needs a key.
 fn meet_elections<'a>(
     keys: &KeyRule,
     report: &'a Value,
@@ -51,25 +53,65 @@ fn meet_elections<'a>(
     walk: &mut ObjectWalk<'a>,
 ) -> Result<(), AllocError>
     ensures { IfOk result (λ _. met_of walk.new ≡ met_all (met_of walk.old)
-        (flat_map (election_located keys.now) (placed_entries (codes "Election") (placed_at path.now report.now)))) }
+        (flat_map (election_located keys.now (nat_lt 1 (length (placed_entries (codes "Election") (placed_at path.now report.now)))))
+        (placed_entries (codes "Election") (placed_at path.now report.now)))) }
+{
+    let several = entries_at(report, "Election").len() > 1;
+    meet_each_election(keys, several, report, path, walk)
+}
+
+/// Meets the elections and the objects inside them. `needed` says whether each election needs a key.
+#[tactic(auto, using(crate::proofs::identity::MetObjects::met_all_append))]
+fn meet_each_election<'a>(
+    keys: &KeyRule,
+    needed: bool,
+    report: &'a Value,
+    path: &Path,
+    walk: &mut ObjectWalk<'a>,
+) -> Result<(), AllocError>
+    ensures { IfOk result (λ _. met_of walk.new ≡ met_all (met_of walk.old)
+        (flat_map (election_located keys.now needed) (placed_entries (codes "Election") (placed_at path.now report.now)))) }
 {
     let elections = Path::Member(&*path, "Election");
     for (index, election) in entries_at(report, "Election").iter().enumerate() {
         let election_path = Path::Entry(&elections, index);
-        meet_election(keys, election, &election_path, walk)?;
+        meet_election(keys, needed, election, &election_path, walk)?;
+        meet_objects(keys, election, &election_path, walk)?;
     }
     Ok(())
 }
 
-#[tactic(auto, using(crate::proofs::identity::MetObjects::met_all_append))]
+/// Meets an election. `needed` says whether it needs a key.
 fn meet_election<'a>(
+    keys: &KeyRule,
+    needed: bool,
+    election: &'a Value,
+    path: &Path,
+    walk: &mut ObjectWalk<'a>,
+) -> Result<(), AllocError>
+    ensures { IfOk result (λ _. met_of walk.new
+        ≡ met_one (met_of walk.old) (located_election keys.now needed (placed_at path.now election.now))) }
+{
+    let key = keys.triple_of(election);
+    let lacks_key = needed && key.is_none();
+    let has_key = walk.elections.push(keys.alloc, key)?;
+    let earlier = Earlier {
+        has_key,
+        has_id: false,
+    };
+    push_identity_faults(keys.alloc, lacks_key, earlier, path, &mut walk.faults)
+}
+
+/// Meets the objects inside an election.
+#[tactic(auto, using(crate::proofs::identity::MetObjects::met_all_append))]
+fn meet_objects<'a>(
     keys: &KeyRule,
     election: &'a Value,
     path: &Path,
     walk: &mut ObjectWalk<'a>,
 ) -> Result<(), AllocError>
     ensures { IfOk result (λ _. met_of walk.new
-        ≡ met_all (met_of walk.old) (election_located keys.now (placed_at path.now election.now))) }
+        ≡ met_all (met_of walk.old) (inside_election keys.now (placed_at path.now election.now))) }
 {
     meet_entries(keys, Family::Style, election, "BallotStyle", path, walk)?;
     meet_entries(keys, Family::Candidate, election, "Candidate", path, walk)?;
@@ -138,7 +180,7 @@ fn meet_object<'a>(
     push_identity_faults(keys.alloc, lacks_key, earlier, path, &mut walk.faults)
 }
 
-/// The identifier that gives an object its key, if its family has keys.
+/// Returns the identifier that gives an object its key, if its family has keys and it has an identifier.
 fn chosen_triple<'a>(keys: &KeyRule, family: Family, value: &'a Value) -> Option<Triple<'a>>
     ensures { result ≡ key_of_family_object keys.now family (view value.now) }
 {
@@ -157,7 +199,7 @@ fn object_of<'a>(
     ensures { IfOk result (λ object. shown object
         ≡ record { family = family; value = view value.now; key = key.now; id = id_of (view value.now) }) }
 {
-    let key = shared(alloc, key)?;
+    let key = SharedKey::of_triple(alloc, key)?;
     let id = value.get("@id").and_then(Value::as_str);
     Ok(Object {
         family,
@@ -165,15 +207,6 @@ fn object_of<'a>(
         key,
         id,
     })
-}
-
-fn shared(alloc: Global, key: &Option<Triple>) -> Result<Option<SharedKey>, AllocError>
-    ensures { IfOk result (λ shared. shared ≡ key.now) }
-{
-    match key {
-        Some(key) => Ok(Some(SharedKey::of(alloc, key.to_key(alloc)?)?)),
-        None => Ok(None),
-    }
 }
 
 fn push_identity_faults(

@@ -6,14 +6,14 @@ ghost use Rattle.erd_meaning.specs.code.ObjectIndexes.{HasRoom, list_of, with_pl
 use erd_tables::Family;
 use std::alloc::{AllocError, Global};
 
-/// Where the objects of each family stand among all objects of a report, in rising order.
+/// For each family, the positions of its objects among all objects of a report, in rising order.
 #[derive(Debug, Drop)]
 pub(crate) struct FamilyPlaces {
     lists: [Vec<usize>; 9],
 }
 
 impl FamilyPlaces {
-    /// No places.
+    /// Returns empty lists.
     pub(crate) fn new(alloc: Global) -> FamilyPlaces
         ensures { (f : Family) → list_of result f ≡ [] }
     {
@@ -32,14 +32,14 @@ impl FamilyPlaces {
         }
     }
 
-    /// The places of the objects of a family.
+    /// Returns the positions of the objects of a family.
     pub(crate) fn of(&self, family: Family) -> &[usize]
         ensures { result.now ≡ list_of self.now family }
     {
         &self.lists[number_of(family)]
     }
 
-    /// Makes room for one more place in the list of a family.
+    /// Makes room for one more position in the list of a family.
     pub(crate) fn reserve(&mut self, family: Family) -> Result<(), AllocError>
         ensures kept { (f : Family) → list_of self.new f ≡ list_of self.old f }
         ensures room { OnOk result (HasRoom self.new family) }
@@ -47,7 +47,7 @@ impl FamilyPlaces {
         self.lists[number_of(family)].reserve(1)
     }
 
-    /// Adds the place of an object of a family, for which there is room.
+    /// Adds the position of an object to the list of its family. There must be room for it.
     pub(crate) fn push_reserved(&mut self, family: Family, place: usize)
         requires { HasRoom self.old family }
         ensures { (f : Family) → list_of self.new f ≡ with_place family place f (list_of self.old f) }

@@ -22,7 +22,8 @@ use std::alloc::{AllocError, Global};
 use std::fmt;
 use std::marker::Model;
 
-/// Whether an earlier object has what is asked of one: its family and its key, or its `@id`.
+/// Whether an earlier object of the same family has the same key, and whether an earlier object of any family has the same
+/// `@id`.
 #[derive(Drop)]
 pub(crate) struct Earlier {
     pub(crate) has_key: bool,
@@ -30,9 +31,9 @@ pub(crate) struct Earlier {
 }
 
 /// The objects of a report in the order of their places, indexed by family, by `@id` and by key. Contracts see the objects.
-/// Of each selection it is kept how many contests stand before it, the last of which is its own.
+/// For each selection, the table has the number of contests before it. The last of these is the contest of the selection.
 ///
-/// Of several objects with one `@id`, or of one family with one key, the indexes hold the first.
+/// If several objects have the same `@id`, or several objects of a family have the same key, the indexes have the first.
 #[derive(Drop)]
 pub(crate) struct ObjectTable<'a> {
     objects: Vec<Object<'a>>,
@@ -68,7 +69,7 @@ impl<'a> Model for ObjectTable<'a> {
 }
 
 impl<'a> ObjectTable<'a> {
-    /// No objects.
+    /// Returns a table without objects.
     pub(crate) fn new(alloc: Global) -> ObjectTable<'a>
         ensures { result ≡ [] }
     {
@@ -81,7 +82,7 @@ impl<'a> ObjectTable<'a> {
         }
     }
 
-    /// Adds an object with its key. Answers what earlier objects have of it.
+    /// Adds an object with its key. Returns whether earlier objects have the same key or `@id`.
     pub(crate) fn push(
         &mut self,
         object: Object<'a>,
@@ -108,21 +109,21 @@ impl<'a> ObjectTable<'a> {
         Ok(Earlier { has_key, has_id })
     }
 
-    /// How many objects there are.
+    /// Returns the number of objects.
     pub(crate) fn len(&self) -> usize
         ensures { result ≡ length self.now }
     {
         self.objects.len()
     }
 
-    /// How many of the objects are of the family.
+    /// Returns the number of objects of the family.
     pub(crate) fn count(&self, family: Family) -> usize
         ensures { result ≡ length (those_of family (map shown self.now)) }
     {
         self.places.of(family).len()
     }
 
-    /// Whether the selection at a position among the selections stands in the contest at a position among the contests.
+    /// Returns whether the selection is in the contest. Both are given by their position in their family.
     pub(crate) fn is_in_contest(&self, contest: usize, selection: usize) -> bool
         ensures { result ≡ is_in_contest (map shown self.now) contest selection }
     {
@@ -132,7 +133,7 @@ impl<'a> ObjectTable<'a> {
         }
     }
 
-    /// The object at this position among those of the family.
+    /// Returns the object of the family at the position, if there is one.
     pub(crate) fn get(&self, family: Family, index: usize) -> Option<&Object<'a>>
         ensures { option_map (λ o. shown o.now) result ≡ slice_get (those_of family (map shown self.now)) index }
     {
@@ -141,14 +142,14 @@ impl<'a> ObjectTable<'a> {
         Some(object)
     }
 
-    /// Whether an object has the `@id`.
+    /// Returns whether an object has the `@id`.
     pub(crate) fn has_id(&self, id: &str) -> bool
         ensures { result ≡ is_known (map shown self.now) id.now }
     {
         self.ids.contains_key(id)
     }
 
-    /// The object with the `@id`, if it is of the family.
+    /// Returns the object with the `@id`, if it is of the family.
     pub(crate) fn with_id(&self, family: Family, id: &str) -> Option<&Object<'a>>
         ensures { option_map (λ o. shown o.now) result ≡ object_among (map shown self.now) family id.now }
     {
@@ -159,14 +160,14 @@ impl<'a> ObjectTable<'a> {
         self.get(family, index)
     }
 
-    /// The position in its family of the object with the key.
+    /// Returns the position of the object of the family with the key, if there is one.
     pub(crate) fn position_of_key(&self, family: Family, key: &Key) -> Option<usize>
         ensures { result ≡ number_of_key (map shown self.now) family key.now }
     {
         self.keys.get(&(family, Triple::of_key(key))).copied()
     }
 
-    /// The family of the object with the `@id`, and its position there.
+    /// Returns the family of the object with the `@id` and its position there, if there is such an object.
     pub(crate) fn position_of_id(&self, id: &str) -> Option<(Family, usize)>
         ensures { result ≡ number_of_id (map shown self.now) id.now }
     {
@@ -180,7 +181,7 @@ impl<'a> fmt::Debug for ObjectTable<'a> {
     }
 }
 
-/// Adds, of a selection, how many contests stand before it. There is room for it.
+/// Adds the number of contests before an object, if the object is a selection. There must be room for it.
 fn note_contests(before: &mut Vec<usize>, family: Family, contests: usize)
     requires { vec_len before.old < vec_capacity before.old }
     ensures { before.new.items ≡ before.old.items ++ contests_noted family contests }
@@ -190,14 +191,14 @@ fn note_contests(before: &mut Vec<usize>, family: Family, contests: usize)
     }
 }
 
-/// Whether the second number follows the first.
+/// Returns whether the second number is the first plus one.
 fn is_next(number: usize, next: usize) -> bool
     ensures { result ≡ (next == number + 1) }
 {
     number < next && next - number == 1
 }
 
-/// Adds an `@id`, if there is one, as `note_id` does.
+/// Adds an `@id`, if there is one, as `note_id` does. Returns `false` if there is none.
 fn note_any_id<'a>(
     ids: &mut IndexMap<&'a str, (Family, usize)>,
     id: Option<&'a str>,
@@ -214,7 +215,8 @@ fn note_any_id<'a>(
     }
 }
 
-/// Adds an `@id` with the family of its object and its position there, if it is not in the index. Answers whether it was.
+/// Adds an `@id` with the family of its object and its position there, unless the index already has the `@id`. Returns
+/// whether it had it.
 fn note_id<'a>(
     ids: &mut IndexMap<&'a str, (Family, usize)>,
     id: &'a str,
@@ -232,7 +234,7 @@ fn note_id<'a>(
     Ok(false)
 }
 
-/// Adds a key, if there is one, as `note_key` does.
+/// Adds a key, if there is one, as `note_key` does. Returns `false` if there is none.
 fn note_any_key<'a>(
     keys: &mut IndexMap<(Family, Triple<'a>), usize>,
     family: Family,
@@ -250,8 +252,8 @@ fn note_any_key<'a>(
     }
 }
 
-/// Adds a key with the position of its object in its family, if it is not in the index. Answers whether it was. There is
-/// room for it.
+/// Adds a key with the position of its object in its family, unless the index already has the key. Returns whether it had
+/// it. There must be room for the key.
 fn note_key<'a>(
     keys: &mut IndexMap<(Family, Triple<'a>), usize>,
     family: Family,

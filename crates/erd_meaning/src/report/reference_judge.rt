@@ -23,10 +23,10 @@ use erd_tables::{Family, Fault, FaultList, Reason};
 use serde_json::Value;
 use std::alloc::{AllocError, Global};
 
-/// All faults of references of a report (reason 11 of references, and reasons 15 to 17), by place, then by reason, each
-/// once. Each reference is looked up among the objects of the report.
+/// Returns all faults of references in a report (reasons 15 to 17, and reason 11 for references), each once, by place
+/// and then by reason. Each reference is looked up in `objects`, which are those of the report.
 ///
-/// Memory is taken for the faults, and for the entries of a set of more than 16, which are put in order.
+/// Only faults and sets of more than 16 entries take memory.
 pub(crate) fn reference_faults(
     keys: &KeyRule,
     tree: &Value,
@@ -40,7 +40,7 @@ pub(crate) fn reference_faults(
     Ok(FaultList::of(found))
 }
 
-/// Tells the faults of references, which name these objects.
+/// The visitor that finds the faults of references to these objects.
 #[derive(Drop)]
 struct ReferenceJudge<'b, 'a> {
     objects: &'b ObjectTable<'a>,
@@ -77,8 +77,8 @@ impl<'b, 'a> Visitor for ReferenceJudge<'b, 'a> {
 }
 
 impl<'b, 'a> ReferenceJudge<'b, 'a> {
-    /// Adds the faults of a reference with this text, but for its being repeated. The outer value of its position is the
-    /// object whose list it stands in, where it stands in one.
+    /// Adds the faults of a reference with this text, except that it is repeated. If the reference is an entry of a
+    /// list, the outer value of its position is the object that has the list.
     fn push_id_faults(
         &self,
         alloc: Global,
@@ -117,14 +117,15 @@ fn push_if(
     Ok(())
 }
 
-/// Whether an object has the `@id`, but none of the family.
+/// Returns whether the `@id` is that of an object of another family.
 fn is_of_others(objects: &ObjectTable, family: Family, id: &str) -> bool
     ensures { result ≡ is_of_others (map shown objects.now) family id.now }
 {
     owner_of(objects, family, id).is_none() && objects.has_id(id)
 }
 
-/// Whether a selection has the `@id`, but none of the contest that the object names.
+/// Returns whether the `@id` is that of a selection of another contest than the one that `ContestId` of the object names. If
+/// this names no contest, returns `false`.
 fn is_elsewhere(objects: &ObjectTable, object: &Value, id: &str) -> bool
     ensures { result ≡ is_elsewhere (map shown objects.now) (view object.now) id.now }
 {
@@ -137,7 +138,7 @@ fn is_elsewhere(objects: &ObjectTable, object: &Value, id: &str) -> bool
     }
 }
 
-/// The position in the family of the object with the `@id`, if it is of the family.
+/// Returns the position in the family of the object with the `@id`, if the object is of the family.
 fn position_of(objects: &ObjectTable, family: Family, id: &str) -> Option<usize>
     ensures { result ≡ number_among (map shown objects.now) family id.now }
 {

@@ -7,17 +7,19 @@ ghost use Rattle.erd_check.specs.Refusals.{RefusedFor};
 ghost use Rattle.erd_check.specs.Shapes.{IsFaultless};
 ghost use Rattle.erd_meaning.specs.Accepted.{IsAccepted, IsFault};
 ghost use Rattle.erd_meaning.specs.LaterFaults.{IdentityFault, ReferenceFault, SelectionFault};
-ghost use Rattle.erd_meaning.specs.code.ObjectWalk.{kept_objects};
-ghost use Rattle.erd_meaning.specs.code.Resolved.{AreNames, IsIdentified, IsReferred, IsToldApart};
+ghost use Rattle.erd_meaning.specs.code.ObjectWalk.{election_keys, kept_objects};
+ghost use Rattle.erd_meaning.specs.code.Resolved.{AreNames, IsIdentified, IsReferred, IsResolved, IsToldApart};
 ghost use Rattle.erd_meaning.specs.code.Shown.{shown};
 
 use crate::keys::key_rule::KeyRule;
 use crate::names::held_name::HeldName;
 use crate::names::selection_walk::{SelectionWalk, meet_selections};
+use crate::objects::election_table::ElectionTable;
+use crate::objects::holders::Holders;
 use crate::objects::object_walk::{ObjectWalk, meet_report};
 use crate::objects::table::ObjectTable;
 use crate::report::reference_judge::reference_faults;
-use crate::report::{Indexes, Report};
+use crate::report::{Elections, Indexes, Report};
 use erd_check::{CheckError, Shaped};
 use erd_tables::{FaultList, Text};
 use indexmap::IndexSet;
@@ -25,6 +27,12 @@ use serde_json::Value;
 use std::alloc::{AllocError, Global};
 
 /// Resolves a report without a preference, as `resolve_with` does.
+///
+/// # Errors
+///
+/// `CheckError::Faults` if the report is not accepted, with the list that `resolve_with` describes.
+///
+/// `CheckError::Memory` if out of memory.
 pub fn resolve<'a>(alloc: Global, shaped: Shaped<'a>) -> Result<Report<'a>, CheckError>
     ensures tree { IfOk result (λ r. r.tree ≡ shaped.entry) }
     ensures prefer { IfOk result (λ r. r.prefer ≡ None) }
@@ -34,15 +42,17 @@ pub fn resolve<'a>(alloc: Global, shaped: Shaped<'a>) -> Result<Report<'a>, Chec
     resolve_with(alloc, shaped, None)
 }
 
-/// Resolves a report under a preferred type of identifier, or under none. The report keeps its own copy of the preference.
+/// Resolves a report under a preferred type of identifier, or under none. Returns a `Report` if the report is accepted. The
+/// `Report` has its own copy of the preference. It has indexes of the objects by `@id` and by key, and of the selections by
+/// contest and name.
 ///
 /// # Errors
 ///
-/// A report that is not accepted is refused with the faults of the first phase that has any: identity (reasons 12 to 14), then
-/// references (reason 11 of references, and reasons 15 to 17), then selections (reason 18). All faults of that phase are
-/// listed, each once, by place and then by reason. If memory runs out, the answer is `CheckError::Memory`.
+/// `CheckError::Faults` if the report is not accepted. The list has all faults of the first phase that has any: identity
+/// (reasons 12 to 14), then references (reasons 15 to 17, and reason 11 for references), then selections (reason 18). It has
+/// each fault once, by place and then by reason, and is not empty. docs/PROFILE.md has the reasons and phases.
 ///
-/// Objects are indexed by their `@id` and by their key, selections by their contest and their name.
+/// `CheckError::Memory` if out of memory.
 pub fn resolve_with<'a>(
     alloc: Global,
     shaped: Shaped<'a>,
@@ -55,14 +65,40 @@ pub fn resolve_with<'a>(
 {
     let tree = shaped.tree();
     let keys = KeyRule { alloc, prefer };
-    let objects = objects_told_apart(&keys, tree)?;
+    let (objects, elections) = objects_told_apart(&keys, tree)?;
     check_references(&keys, tree, &objects)?;
     let names = names_told_apart(&keys, tree, &objects)?;
-    let kept = preference_of(&keys)?;
-    Ok(Report::of(alloc, tree, kept, Indexes { objects, names })?)
+    Ok(indexed(&keys, tree, objects, names, elections)?)
 }
 
-/// A copy of the preference that keys are made under.
+/// Returns the report with the indexes that were filled while it was judged.
+fn indexed<'a>(
+    keys: &KeyRule,
+    tree: &'a Value,
+    objects: ObjectTable<'a>,
+    names: IndexSet<(usize, HeldName<'a>)>,
+    elections: ElectionTable<'a>,
+) -> Result<Report<'a>, AllocError>
+    requires resolved { IsResolved keys.now tree.now objects names.keys }
+    requires elections { elections ≡ election_keys keys.now (view tree.now) }
+    ensures tree { IfOk result (λ r. r.tree ≡ tree.now) }
+    ensures prefer { IfOk result (λ r. r.prefer ≡ keys.now) }
+{
+    let holders = Holders::of(keys.alloc, tree)?;
+    let prefer = preference_of(keys)?;
+    let elections = Elections {
+        keys: elections,
+        holders,
+    };
+    let indexes = Indexes {
+        objects,
+        names,
+        elections,
+    };
+    Report::of(keys.alloc, tree, prefer, indexes)
+}
+
+/// Returns a copy of the preference under which keys are made.
 fn preference_of(keys: &KeyRule) -> Result<Option<Text>, AllocError>
     ensures { IfOk result (λ prefer. prefer ≡ keys.now) }
 {
@@ -72,27 +108,36 @@ fn preference_of(keys: &KeyRule) -> Result<Option<Text>, AllocError>
     }
 }
 
-/// The objects of a report, or its faults of identity.
-fn objects_told_apart<'a>(keys: &KeyRule, tree: &'a Value) -> Result<ObjectTable<'a>, CheckError>
+/// Returns the objects of a report and the keys of its elections, or its faults of identity.
+fn objects_told_apart<'a>(
+    keys: &KeyRule,
+    tree: &'a Value,
+) -> Result<(ObjectTable<'a>, ElectionTable<'a>), CheckError>
     ensures identified { IfOk result (λ _. IsIdentified keys.now tree.now) }
-    ensures kept { IfOk result (λ objects. map shown objects ≡ kept_objects keys.now (view tree.now)) }
+    ensures kept { IfOk result (λ r. map shown r.0 ≡ kept_objects keys.now (view tree.now)) }
+    ensures elections { IfOk result (λ r. r.1 ≡ election_keys keys.now (view tree.now)) }
     ensures refused { IfErr result (RefusedFor (IdentityFault keys.now (view tree.now))) }
 {
     let mut walk = ObjectWalk {
         objects: ObjectTable::new(keys.alloc),
+        elections: ElectionTable::new(keys.alloc),
         faults: Vec::new(keys.alloc),
     };
     meet_report(keys, tree, &mut walk)?;
-    let ObjectWalk { objects, faults } = walk;
+    let ObjectWalk {
+        objects,
+        elections,
+        faults,
+    } = walk;
     let identity = FaultList::of(faults);
     if identity.len() == 0 {
-        Ok(objects)
+        Ok((objects, elections))
     } else {
         Err(CheckError::Faults(identity))
     }
 }
 
-/// Refuses a report that has faults of references.
+/// Checks that a report has no faults of references.
 fn check_references(keys: &KeyRule, tree: &Value, objects: &ObjectTable) -> Result<(), CheckError>
     requires kept { map shown objects.now ≡ kept_objects keys.now (view tree.now) }
     requires identified { IsIdentified keys.now tree.now }
@@ -107,7 +152,7 @@ fn check_references(keys: &KeyRule, tree: &Value, objects: &ObjectTable) -> Resu
     }
 }
 
-/// The names of the selections of a report, or its faults of selections.
+/// Returns the names of the selections of a report, or its faults of selections.
 fn names_told_apart<'a>(
     keys: &KeyRule,
     tree: &Value,

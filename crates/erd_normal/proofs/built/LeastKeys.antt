@@ -13,6 +13,7 @@ use Rattle.erd_tables.specs.declared.class.Family.{Family}
 use Rattle.erd_tables.specs.declared.class.Family.TheVariants as family
 use Rattle.erd_tables.specs.declared.class.Role.TheVariants as role
 use Rattle.erd_tables.specs.declared.member.MemberKind.TheVariants as kind
+use Rattle.erd_check.specs.Faults.{NoneOf, ShapeFault}
 use Rattle.erd_check.specs.Trees.{IsTree}
 use Rattle.erd_check.specs.Wants.{class_of_object}
 use Rattle.erd_meaning.specs.Keys.{Preference, key_of, key_of_identifiers, triple_of}
@@ -21,8 +22,8 @@ use Rattle.erd_meaning.specs.code.ChosenKeys.{choice_cmp, choice_of, choice_of_t
 use Rattle.erd_meaning.proofs.orders.ChoiceOrder.{choice_cmp_exact, choice_cmp_total, key_is_choice}
 use Rattle.erd_meaning.specs.SelectionNames.{compact_cmp, rising_list, selection_role}
 use Rattle.erd_meaning.specs.declared.keys.key.Key.{Key}
-use Rattle.erd_normal.specs.code.NormalTree.{normal_object, normal_selection}
-use Rattle.erd_normal.proofs.built.NormalEntries.{entries_of_identifiers, selection_identifiers}
+use Rattle.erd_normal.specs.code.NormalTree.{normal_election, normal_object, normal_selection}
+use Rattle.erd_normal.proofs.built.NormalEntries.{entries_of_identifiers, identifiers_of_election, selection_identifiers}
 use Rattle.erd_normal.proofs.built.NormalGets.{class_has_role}
 use Rattle.erd_normal.proofs.lists.Reordered.{Reordered, reordered_rising, whole-reordered}
 
@@ -131,6 +132,12 @@ key_of_object π ρ t f c d tree among =
     ap (key_of_identifiers ρ)
     (entries_of_identifiers π t f c d tree among (codes "ExternalIdentifier") refl (kind_of_identifiers c f (class_has_role (role.OfFamily f) c d among)))
     ∙ key_of_identifiers-rising ρ compact_cmp (entries_at (codes "ExternalIdentifier") d)
+
+-- and of an election
+pub key_of_election : (π ρ : Preference) (t : Data) → NoneOf (ShapeFault t) → IsTree t → (d : Data) → IsTree d → class_of_object role.Election d ≡ Some class.Election
+    → key_of ρ (normal_election π t d) ≡ key_of ρ d
+key_of_election π ρ t clean whole d tree among =
+    ap (key_of_identifiers ρ) (identifiers_of_election π t clean whole d tree among) ∙ key_of_identifiers-rising ρ compact_cmp (entries_at (codes "ExternalIdentifier") d)
 
 -- and of a selection
 pub key_of_selection : (π ρ : Preference) (t contest : Data) (c : Class) (d : Data) → IsTree d → class_of_object selection_role d ≡ Some c → key_of ρ (normal_selection π t contest d) ≡ key_of ρ d

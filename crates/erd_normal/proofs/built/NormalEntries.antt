@@ -85,6 +85,11 @@ module _ (π : Preference) (t : Data) (clean : NoneOf (ShapeFault t)) (tree : Is
       entries_built (λ ds. map (normal_object π t f) (rising_list (by_key π) ds)) refl name d (normal_election π t d)
       (get_election π t d inside among name ∙ rw is refl)
 
+  pub identifiers_of_election : (d : Data) → IsTree d → class_of_object role.Election d ≡ Some class.Election
+      → entries_at (codes "ExternalIdentifier") (normal_election π t d) ≡ rising_list compact_cmp (entries_at (codes "ExternalIdentifier") d)
+  identifiers_of_election d inside among =
+      entries_built (rising_list compact_cmp) refl (codes "ExternalIdentifier") d (normal_election π t d) (get_election π t d inside among (codes "ExternalIdentifier"))
+
   elections_listed : (o : Option Data) → entries_in (option_and_then (λ v. Some (array_of (map (normal_election π t) (entries_of v)))) o) ≡ map (normal_election π t) (entries_in o)
   elections_listed None = refl
   elections_listed (Some d) = list_of_items-items_of (map (normal_election π t) (entries_of d))

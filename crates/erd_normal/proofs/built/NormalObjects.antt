@@ -57,6 +57,15 @@ module _ (π : Preference) (t : Data) (clean : NoneOf (ShapeFault t)) (tree : Is
       (sym (values-placed_entries name (report_of (normal_tree π t)) ∙ entries_of_report π t clean tree f name other is ∙ ap (built_objects π t f) (sym (values-placed_entries name (report_of t)))))
       (matched_built π t f (map (λ o. o.value) (placed_entries name (report_of t))))
 
+  -- each election is built of one
+  pub elections_matched : Matched (λ d e. normal_election π t d ≡ e) (map (λ o. o.value) (elections t)) (map (λ o. o.value) (elections (normal_tree π t)))
+  elections_matched =
+      let name = codes "Election" in
+      let built : List Data = map (λ o. o.value) (elections (normal_tree π t)) in
+      subst (λ (ds : List Data). Matched (λ d e. normal_election π t d ≡ e) ds built) (sym (values-placed_entries name (report_of t)))
+      (subst (Matched (λ d e. normal_election π t d ≡ e) (entries_at name t)) (sym (values-placed_entries name (report_of (normal_tree π t)) ∙ entries_of_elections π t clean tree))
+      (matched_map (normal_election π t) (entries_at name t)))
+
   module _ (s : Skeleton t) where
     -- the elections that are built
     pub elections_built : elections (normal_tree π t) ≡ placed_from (Name (codes "Election") ∷ []) 0 (map (normal_election π t) (list_of_items s.es))

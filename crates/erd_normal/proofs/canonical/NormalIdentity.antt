@@ -1,25 +1,36 @@
 -- The report that is built has no fault of identity.
-use Rattle.std.proofs.Common.{◌≡◌, ℕ, List, true, Some, None, Less, Equal, refl, sym, ap, ◌∙◌, subst, ◌⊎◌, inl, inr}
+use Rattle.std.proofs.Common.{◌≡◌, ℕ, List, true, Some, None, Less, Equal, codes, refl, sym, ap, ◌∙◌, subst, ◌⊎◌, inl, inr}
 use Rattle.std.proofs.lemmas.Cmp.{tied_itself}
 use Rattle.serde_json.specs.Data.{Data}
 use Rattle.erd_tables.specs.declared.class.Family.{Family}
 use Rattle.erd_tables.specs.declared.class.Family.TheVariants as family
+use Rattle.erd_tables.specs.declared.class.Role.{Role}
+use Rattle.erd_tables.specs.declared.class.Role.TheVariants as role
 use Rattle.erd_tables.specs.declared.fault.Reason.TheVariants as reason
 use Rattle.erd_tables.specs.declared.place.Step.{Step}
 use Rattle.erd_tables.proofs.PlaceOrder.{place_cmp_total}
 use Rattle.erd_check.specs.Faults.{NoneOf}
 use Rattle.erd_check.specs.Trees.{IsTree}
+use Rattle.erd_check.specs.Wants.{asked, class_of_object}
+use Rattle.erd_check.specs.declared.want.Want.TheVariants.{Object}
 use Rattle.erd_check.proofs.Rising.{Has}
+use Rattle.erd_check.proofs.Shapes.{within-tree}
 use Rattle.erd_meaning.specs.Accepted.{IsAccepted}
-use Rattle.erd_meaning.specs.Keys.{Preference, has_keys, key_of}
+use Rattle.erd_meaning.specs.Keys.{Preference, has_keys, is_keyed_role, key_of}
 use Rattle.erd_meaning.specs.LaterFaults.{IdentityFault, IsBefore, LacksIdentifier, RepeatsId, RepeatsKey}
-use Rattle.erd_meaning.specs.Objects.{IsBounded, Placed, contests, id_of, objects, selections_of_contest}
+use Rattle.erd_meaning.specs.Objects.{IsBounded, Placed, contests, elections, id_of, needs_key, objects, objects_with_role, report_of, selections_of_contest}
 use Rattle.erd_meaning.proofs.accepted.References.{Contains-Has, Has-Contains, has_identifier}
+use Rattle.erd_meaning.specs.declared.keys.key.Key.{Key}
 use Rattle.erd_meaning.proofs.accepted.HeldObjects.{has-flat}
+use Rattle.erd_meaning.proofs.accepted.Phases.{no_shape_fault}
+use Rattle.erd_meaning.proofs.accepted.Skeleton.{election_entries, election_object, election_within, skeleton_of_shape, values-placed_entries}
 use Rattle.erd_normal.specs.Canonical.{rank_of}
 use Rattle.erd_normal.specs.code.NormalTree.{normal_tree}
 use Rattle.erd_normal.proofs.canonical.CanonicalIds.{canonical_id_exact, selection_id_apart}
-use Rattle.erd_normal.proofs.built.LeastKeys.{key_of_object}
+use Rattle.erd_normal.proofs.built.LeastKeys.{key_of_election, key_of_object}
+use Rattle.erd_normal.proofs.built.NormalObjects.{elections_matched}
+use Rattle.erd_normal.proofs.canonical.ElectionsApart.{election_values, none_keyless, one_election}
+use Rattle.erd_normal.proofs.lists.Matched.{Matched, matched_within}
 use Rattle.erd_normal.proofs.canonical.NormalKeys.{IsClassed, ids_by_rank, object_classed, object_from, one_ranked_built, rank_counted}
 use Rattle.erd_normal.proofs.canonical.NormalSelections.{has_canonical_ids}
 use Rattle.erd_normal.proofs.canonical.SelectionIds.{one_selection}
@@ -55,14 +66,37 @@ module _ (π : Preference) (t : Data) (accepted : IsAccepted π t) (tree : IsTre
         let h : Some k.0 ≡ None = sym k.1 ∙ sym (key_of_object π π t f c.0 from.0.value c.2 c.1) ∙ ap (key_of π) from.2 ∙ none in
         cc
 
+  -- an election that is built has the key of the one that it is built of
+  keys_matched : Matched (λ d e. key_of π d ≡ key_of π e) (election_values t) (election_values (normal_tree π t))
+  keys_matched =
+      let clean = no_shape_fault π t accepted in
+      let s = skeleton_of_shape t clean in
+      matched_within (λ d e. key_of π d ≡ key_of π e) (λ d e h r.
+      let there = subst (λ (ds : List Data). Has ds d) (values-placed_entries (codes "Election") (report_of t) ∙ election_entries t s) h in
+      let w = election_within t s d there in
+      let o = election_object t clean d w in
+      sym (key_of_election π π t clean tree d (within-tree t (asked (Object role.Election) d) tree w) (ap (class_of_object role.Election) o.1 ∙ o.2.among)) ∙ ap (key_of π) r)
+      (elections_matched π t clean tree)
+
+  lacks_none : (r : Role) (o : Placed) → needs_key (normal_tree π t) r ≡ true → Has (objects_with_role r (normal_tree π t)) o → key_of π o.value ≡ None → ⊥
+  lacks_none (role.OfFamily f) o needed in_o none = has_key_built f needed o in_o none
+  lacks_none role.Election o needed in_o none = none_keyless π t (normal_tree π t) accepted keys_matched o needed in_o none
+  lacks_none r o needed in_o none = elim in_o [ ]
+
   no_lacking : (p : List Step) → LacksIdentifier π (normal_tree π t) p → ⊥
-  no_lacking p l = has_key_built l.family l.keyed l.placed (Has-Contains (objects l.family (normal_tree π t)) l.placed l.stands) l.keyless
+  no_lacking p l = lacks_none l.role l.placed l.needed (Has-Contains (objects_with_role l.role (normal_tree π t)) l.placed l.stands) l.keyless
+
+  one_with_key : (r : Role) (o p : Placed) (k : Key) → is_keyed_role r ≡ true → Has (objects_with_role r (normal_tree π t)) o → Has (objects_with_role r (normal_tree π t)) p
+      → key_of π o.value ≡ Some k → key_of π p.value ≡ Some k → o ≡ p
+  one_with_key (role.OfFamily f) o p k keyed in_o in_p a b = one_keyed_built f keyed o p in_o in_p (a ∙ sym b)
+  one_with_key role.Election o p k keyed in_o in_p a b = one_election π t (normal_tree π t) accepted keys_matched o p k in_o in_p a b
+  one_with_key r o p k keyed in_o in_p a b = elim in_o [ ]
 
   no_repeated_key : (p : List Step) → RepeatsKey π (normal_tree π t) p → ⊥
   no_repeated_key p r =
-      let os : List Placed = objects r.family (normal_tree π t) in
+      let os : List Placed = objects_with_role r.role (normal_tree π t) in
       let one : r.earlier ≡ r.later =
-      one_keyed_built r.family r.keyed r.earlier r.later (Has-Contains os r.earlier r.earlier_stands) (Has-Contains os r.later r.later_stands) (r.earlier_key ∙ sym r.later_key) in
+      one_with_key r.role r.earlier r.later r.key r.keyed (Has-Contains os r.earlier r.earlier_stands) (Has-Contains os r.later r.later_stands) r.earlier_key r.later_key in
       never_before_itself r.later (subst (λ x. IsBefore x r.later) one r.before)
 
   -- ---- `@id` texts

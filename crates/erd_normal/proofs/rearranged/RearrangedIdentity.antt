@@ -1,5 +1,5 @@
 -- A report that is alike to an accepted one has no fault of identity, where the function of texts tells `@id`s apart.
-use Rattle.std.proofs.Common.{◌≡◌, ℕ, List, true, true≢false, is_eq, Less, Equal, Some, refl, sym, ap, ap₂, ◌∙◌, subst}
+use Rattle.std.proofs.Common.{◌≡◌, ℕ, List, true, true≢false, is_eq, Less, Equal, Some, None, codes, refl, sym, ap, ap₂, ◌∙◌, subst}
 use Rattle.std.proofs.lemmas.Cmp.{on_total, tied_itself}
 use Rattle.std.specs.Cmp.Lexicographic.{options_total}
 use Rattle.std.specs.List.{IsDistinct}
@@ -8,16 +8,18 @@ use Rattle.serde_json.specs.Data.{Data}
 use Rattle.erd_tables.specs.Places.{place_cmp}
 use Rattle.erd_tables.proofs.PlaceOrder.{place_cmp_total}
 use Rattle.erd_tables.specs.declared.class.Family.{Family}
+use Rattle.erd_tables.specs.declared.class.Role.{Role}
 use Rattle.erd_tables.specs.declared.class.Role.TheVariants as role
 use Rattle.erd_tables.specs.declared.fault.Reason.TheVariants as reason
 use Rattle.erd_check.specs.Faults.{NoneOf, ShapeFault}
+use Rattle.erd_check.specs.Values.{entries_at}
 use Rattle.erd_check.proofs.Shapes.{false_unless}
 use Rattle.erd_check.specs.declared.want.Want.TheVariants.{Object}
 use Rattle.erd_check.proofs.Rising.{Has}
 use Rattle.erd_meaning.specs.Accepted.{IsAccepted}
-use Rattle.erd_meaning.specs.Keys.{Preference, has_keys, key_cmp, key_of}
+use Rattle.erd_meaning.specs.Keys.{Preference, has_keys, is_keyed_role, key_cmp, key_of}
 use Rattle.erd_meaning.specs.LaterFaults.{IdentityFault, IsBefore, LacksIdentifier, RepeatsId, RepeatsKey}
-use Rattle.erd_meaning.specs.Objects.{Placed, id_of, objects}
+use Rattle.erd_meaning.specs.Objects.{Placed, id_of, needs_key, objects, objects_with_role}
 use Rattle.erd_meaning.specs.declared.keys.key.Key.{Key}
 use Rattle.erd_tables.specs.declared.place.Step.{Step}
 use Rattle.std.specs.Option.{option_cmp}
@@ -26,11 +28,12 @@ use Rattle.erd_meaning.proofs.accepted.Phases.{no_identity_fault, no_shape_fault
 use Rattle.erd_meaning.proofs.accepted.References.{Contains-Has, Has-Contains, option_map-Some}
 use Rattle.erd_normal.specs.code.NormalTree.{by_key}
 use Rattle.erd_normal.proofs.canonical.DistinctObjects.{values_distinct}
+use Rattle.erd_normal.proofs.canonical.ElectionsApart.{election_values, none_keyless, one_election}
 use Rattle.erd_normal.proofs.lists.DistinctEntries.{distinct_one}
-use Rattle.erd_normal.proofs.lists.Matched.{IsEven, Matched, distinct_matched, even_order, matched_back}
+use Rattle.erd_normal.proofs.lists.Matched.{IsEven, Matched, distinct_matched, even_order, matched_back, matched_within}
 use Rattle.erd_normal.proofs.rearranged.Alike.{Alike}
 use Rattle.erd_normal.proofs.rearranged.RelatedMembers.{Related}
-use Rattle.erd_normal.proofs.rearranged.RelatedObjects.{family_matched, family_values, object_values, id_became, related_key}
+use Rattle.erd_normal.proofs.rearranged.RelatedObjects.{election_values_are, elections_in_some_order, family_matched, family_values, object_values, id_became, related_election_key, related_key}
 use Rattle.erd_normal.proofs.rearranged.SharedIds.{TellsIds, ids_distinct, one_family, placed_value, by_one_id, id_of_both, have_one_id, value_placed}
 
 -- ---- tests that see no order
@@ -77,29 +80,45 @@ module _ (π : Preference) (ρ : List ℕ → List ℕ) (t u : Data) (alike : Al
       (λ x x' y y' i j r r' h. ap₂ (λ k l. is_eq (option_cmp key_cmp k l)) (related_key ρ t clean π f x y r) (related_key ρ t clean π f x' y' r') ∙ h)
       (matched f) (subst (IsDistinct (eq_by_cmp (by_key π))) (object_values f t) (values_distinct π t accepted f keyed))
 
-  none_lacks : (p : List Step) → LacksIdentifier π u p → ⊥
-  none_lacks p l =
-      let o = kin_of l.family l.placed (Has-Contains (objects l.family u) l.placed l.stands) in
+  -- related elections have one key
+  elections_matched : Matched (λ d e. key_of π d ≡ key_of π e) (election_values t) (election_values u)
+  elections_matched =
+      subst (λ (ds : List Data). Matched (λ d e. key_of π d ≡ key_of π e) ds (election_values u)) (sym (election_values_are t))
+      (subst (Matched (λ d e. key_of π d ≡ key_of π e) (entries_at (codes "Election") t)) (sym (election_values_are u))
+      (matched_within (λ d e. key_of π d ≡ key_of π e) (λ d e h r. related_election_key ρ t clean π d e r) (elections_in_some_order ρ t clean u alike)))
+
+  lacks_none : (r : Role) (p : Placed) → needs_key u r ≡ true → Has (objects_with_role r u) p → key_of π p.value ≡ None → ⊥
+  lacks_none (role.OfFamily f) p needed h none =
+      let o = kin_of f p h in
       no_identity_fault π t accepted o.of.place reason.NoIdentifier (record {
-        family = l.family;
-        keyed = l.keyed;
+        role = role.OfFamily f;
+        needed = needed;
         placed = o.of;
-        stands = Contains-Has (objects l.family t) o.of o.stands;
+        stands = Contains-Has (objects f t) o.of o.stands;
         place = refl;
-        keyless = related_key ρ t clean π l.family o.of.value l.placed.value o.kin ∙ l.keyless;
+        keyless = related_key ρ t clean π f o.of.value p.value o.kin ∙ none;
       })
+  lacks_none role.Election p needed h none = none_keyless π t u accepted elections_matched p needed h none
+  lacks_none r p needed h none = elim h [ ]
+
+  none_lacks : (p : List Step) → LacksIdentifier π u p → ⊥
+  none_lacks p l = lacks_none l.role l.placed l.needed (Has-Contains (objects_with_role l.role u) l.placed l.stands) l.keyless
 
   same_key : (k : Key) (d e : Data) → key_of π d ≡ Some k → key_of π e ≡ Some k → eq_by_cmp (by_key π) d e ≡ true
   same_key k d e a b = ap₂ (λ k l. is_eq (option_cmp key_cmp k l)) a b ∙ ap is_eq (tied_itself key_cmp_total k)
 
+  one_with_key : (r : Role) (o p : Placed) (k : Key) → is_keyed_role r ≡ true → Has (objects_with_role r u) o → Has (objects_with_role r u) p → key_of π o.value ≡ Some k → key_of π p.value ≡ Some k → o ≡ p
+  one_with_key (role.OfFamily f) o p k keyed h i a b =
+      distinct_one (λ o. o.value) (eq_by_cmp (by_key π)) (objects f u) (subst (IsDistinct (eq_by_cmp (by_key π))) (sym (object_values f u)) (keys_distinct f keyed)) o p h i
+      (same_key k o.value p.value a b) (same_key k p.value o.value b a)
+  one_with_key role.Election o p k keyed h i a b = one_election π t u accepted elections_matched o p k h i a b
+  one_with_key r o p k keyed h i a b = elim h [ ]
+
   no_twin_key : (p : List Step) → RepeatsKey π u p → ⊥
   no_twin_key p r =
-      let os = objects r.family u in
-      let one : r.earlier ≡ r.later =
-      distinct_one (λ o. o.value) (eq_by_cmp (by_key π)) os (subst (IsDistinct (eq_by_cmp (by_key π))) (sym (object_values r.family u)) (keys_distinct r.family r.keyed)) r.earlier r.later
-      (Has-Contains os r.earlier r.earlier_stands) (Has-Contains os r.later r.later_stands)
-      (same_key r.key r.earlier.value r.later.value r.earlier_key r.later_key) (same_key r.key r.later.value r.earlier.value r.later_key r.earlier_key) in
-      not_before_itself r.earlier r.later one r.before
+      let os = objects_with_role r.role u in
+      not_before_itself r.earlier r.later
+      (one_with_key r.role r.earlier r.later r.key r.keyed (Has-Contains os r.earlier r.earlier_stands) (Has-Contains os r.later r.later_stands) r.earlier_key r.later_key) r.before
 
   -- ---- `@id`s
 

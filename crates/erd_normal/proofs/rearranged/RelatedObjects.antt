@@ -45,11 +45,11 @@ family_values family.Contest t = flat_map (entries_at (codes "Contest")) (entrie
 family_values family.Style t = flat_map (entries_at (codes "BallotStyle")) (entries_at (codes "Election") t)
 family_values family.Selection t = flat_map (entries_at (codes "ContestSelection")) (flat_map (entries_at (codes "Contest")) (entries_at (codes "Election") t))
 
-election_values : (t : Data) → map (λ o. o.value) (elections t) ≡ entries_at (codes "Election") t
-election_values t = values-placed_entries (codes "Election") (report_of t)
+pub election_values_are : (t : Data) → map (λ o. o.value) (elections t) ≡ entries_at (codes "Election") t
+election_values_are t = values-placed_entries (codes "Election") (report_of t)
 
 values_in_elections : (t : Data) (name : List ℕ) → map (λ o. o.value) (flat_map (placed_entries name) (elections t)) ≡ flat_map (entries_at name) (entries_at (codes "Election") t)
-values_in_elections t name = values-placed_flat name (elections t) ∙ ap (flat_map (entries_at name)) (election_values t)
+values_in_elections t name = values-placed_flat name (elections t) ∙ ap (flat_map (entries_at name)) (election_values_are t)
 
 pub object_values : (f : Family) (t : Data) → map (λ o. o.value) (objects f t) ≡ family_values f t
 object_values family.Unit t = values-placed_entries (codes "GpUnit") (report_of t)
@@ -86,6 +86,16 @@ module _ (ρ : List ℕ → List ℕ) (t : Data) (clean : NoneOf (ShapeFault t))
       (identified (is_required o.class name) (get name d) (get name e)
       (subst (λ w. Both (Related ρ t w) (get name d) (get name e)) (want_by_kind o.class name kind.Identifiers (kind_of_identifiers o.class f o.role) refl)
       (related_in ρ t clean (role.OfFamily f) d e o r name refl)))
+
+  -- and so have related elections, if they have one
+  pub related_election_key : (π : Preference) (d e : Data) → RelatedIn role.Election d e → key_of π d ≡ key_of π e
+  related_election_key π d e r =
+      let o : ObjectIn t role.Election d = object_in t clean role.Election d r.inside in
+      let name = codes "ExternalIdentifier" in
+      key_of_identifiers-reordered π (entries_at name d) (entries_at name e)
+      (identified (is_required o.class name) (get name d) (get name e)
+      (subst (λ w. Both (Related ρ t w) (get name d) (get name e)) (want_by_kind o.class name kind.Identifiers (ap (λ c. kind_of_member c name) (election_class o.class o.role)) refl)
+      (related_in ρ t clean role.Election d e o r name refl)))
 
   -- and the same `@id` but for the function of texts
   ids_found : (required : Bool) (o p : Option Data) → Both (Related ρ t (Member kind.Identity required)) o p → option_and_then as_str p ≡ option_map ρ (option_and_then as_str o)

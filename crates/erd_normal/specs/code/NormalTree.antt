@@ -1,4 +1,4 @@
--- The tree that is built for a report, part by part. It is no definition of the profile: `IsCanonicalFormOf` is.
+-- The tree that is built for a report, part by part. It does not define the profile: `IsCanonicalFormOf` does.
 use Rattle.std.specs.Prelude.{ℕ, List, [], true, false, if◌then◌else◌, Option, Some, None, option_map, unwrap_or, map, filter, find, length, codes}
 use Rattle.std.specs.Option.{option_cmp, option_map_or}
 use Rattle.std.specs.Ordering.{is_lt}
@@ -25,59 +25,60 @@ use Rattle.erd_normal.specs.Canonical.{canonical_id, canonical_selection_id, ran
 
 -- ---- ranks and references
 
--- the canonical `@id` of the object of the family with this key, if objects of the family have one
+-- The canonical `@id` of the object of the family with this key, or none if objects of the family have none.
 abbrev pub id_of_key : Preference → Data → Family → Option Key → Option (List ℕ)
 id_of_key π t f k = canonical_id f (rank_of π t f k)
 
--- a reference to the object of the family that has the `@id`
+-- The canonical `@id` of the object of the family that has this `@id`, or the empty text.
 abbrev pub normal_id : Preference → Data → Family → List ℕ → List ℕ
 normal_id π t f id = unwrap_or (id_of_key π t f (key_named π t f id)) []
 
--- a reference to an object of the family
+-- What a reference to an object of the family becomes.
 abbrev pub normal_reference : Preference → Data → Family → Data → Data
 normal_reference π t f d = string (normal_id π t f (text_of d))
 
--- references by the keys of what they name
+-- References are compared by the keys of what they name.
 abbrev pub reference_cmp : Preference → Data → Family → Data → Data → Ordering
 reference_cmp π t f a b = option_cmp key_cmp (key_named π t f (text_of a)) (key_named π t f (text_of b))
 
--- how many selections of the contest have lesser names
+-- The number of selections in the list whose names are less than this one.
 abbrev pub rank_of_name : Preference → Data → List Data → Option NameParts → ℕ
 rank_of_name π t ds name = length (filter (λ d. is_lt (option_cmp name_cmp (name_of π t d) name)) ds)
 
--- the canonical `@id` of a selection of the contest
+-- The canonical `@id` of a selection of the contest.
 abbrev pub id_of_selection : Preference → Data → Data → Data → List ℕ
 id_of_selection π t contest d =
     canonical_selection_id (rank_of π t family.Contest (key_of π contest)) (rank_of_name π t (entries_at (codes "ContestSelection") contest) (name_of π t d))
 
--- the contest that has a selection with the `@id`
+-- The first contest that has a selection with this `@id`, or none.
 abbrev pub contest_with : Data → List ℕ → Option Placed
 contest_with t id = find (λ c. option_map_or (λ o. true) (find (λ o. has_id id o.value) (selections_of_contest c)) false) (contests t)
 
--- the selection of a contest that has the `@id`
+-- The first selection of the contest with this `@id`, or none.
 abbrev pub selection_with : List ℕ → Placed → Option Placed
 selection_with id c = find (λ o. has_id id o.value) (selections_of_contest c)
 
--- a reference to a selection
+-- What a reference to a selection becomes.
 abbrev pub normal_selection_reference : Preference → Data → Data → Data
 normal_selection_reference π t d =
     string (option_map_or (λ c. option_map_or (λ o. id_of_selection π t c.value o.value) (selection_with (text_of d) c) []) (contest_with t (text_of d)) [])
 
 -- ---- members
 
--- a value, unless it stands for an empty array
+-- The second value, or none if the first one is an empty array.
 abbrev pub unless_no_entry : Data → Data → Option Data
 unless_no_entry d v = if is_empty_array d then None else Some v
 
--- an array of these values
+-- The array of these values.
 abbrev pub array_of : List Data → Data
 array_of ds = array (items_of ds)
 
--- a label with its translations in rising order
+-- The label with its translations in rising order.
 abbrev pub normal_label : Data → Data
 normal_label d = with_rising_text d
 
--- the value of a member of this kind that holds no objects; there is none for an empty set or list
+-- What the value of a member of this kind becomes, if it holds no objects. Empty sets and lists, `@id` and outside members
+-- become none.
 abbrev pub normal_value : Preference → Data → MemberKind → Data → Option Data
 normal_value π t kind.Label d = Some (normal_label d)
 normal_value π t (kind.One f) d = Some (normal_reference π t f d)
@@ -89,42 +90,43 @@ normal_value π t kind.Identity d = None
 normal_value π t kind.Outside d = None
 normal_value π t k d = Some d
 
--- the members of an object of the class, each by its name and kind
+-- The members of an object of the class, each with the value that its name and kind give. Members without a value are left
+-- out.
 abbrev pub normal_members : (List ℕ → MemberKind → Data → Option Data) → Class → Members → Members
 normal_members value_of c no_members = no_members
 normal_members value_of c (member k d ms) =
     option_map_or (λ v. member k v (normal_members value_of c ms)) (value_of k (kind_of_member c k) d) (normal_members value_of c ms)
 
--- an object of a class, with its members
+-- The object of the class with these members. Any other value stays.
 abbrev pub normal_object_with : (List ℕ → MemberKind → Data → Option Data) → Option Class → Data → Data
 normal_object_with value_of (Some c) (object ms) = object (normal_members value_of c ms)
 normal_object_with value_of c d = d
 
 -- ---- the order of a ballot
 
--- the value of a member of a contest or a header, with what its value is as a list of contests and headers
+-- What a member of a contest or a header becomes, given what its value becomes as a list of contests and headers.
 abbrev pub normal_node_value : Preference → Data → Option MemberKind → Data → Data → Option Data
 normal_node_value π t (Some kind.Content) d inside = unless_no_entry d inside
 normal_node_value π t (Some k) d inside = normal_value π t k d
 normal_node_value π t None d inside = Some d
 
 abbrev mutual
-  -- a list of contests and headers, at every depth of headers
+  -- What a list of contests and headers becomes, at every depth of headers.
   pub normal_content : Preference → Data → Data → Data
   normal_content π t (array ds) = array (normal_nodes π t ds)
   normal_content π t d = d
 
-  -- contests and headers
+  -- What the contests and headers of an array become.
   pub normal_nodes : Preference → Data → Items → Items
   normal_nodes π t no_items = no_items
   normal_nodes π t (item d ds) = item (normal_node π t d) (normal_nodes π t ds)
 
-  -- a contest or a header
+  -- What a contest or a header becomes.
   pub normal_node : Preference → Data → Data → Data
   normal_node π t (object ms) = object (normal_node_members π t (class_of_node (object ms)) ms)
   normal_node π t d = d
 
-  -- the members of a contest or a header
+  -- What the members of a contest or a header become.
   pub normal_node_members : Preference → Data → Option Class → Members → Members
   normal_node_members π t c no_members = no_members
   normal_node_members π t c (member k d ms) =
@@ -132,58 +134,58 @@ abbrev mutual
 
 -- ---- objects
 
--- the object with this `@id`, if it has one
+-- The object with this `@id`. If there is no `@id`, the object stays.
 abbrev pub with_id : Option (List ℕ) → Data → Data
 with_id (Some id) (object ms) = object (put (codes "@id") (string id) ms)
 with_id id d = d
 
--- a selection of the contest
+-- What a selection of the contest becomes.
 abbrev pub normal_selection : Preference → Data → Data → Data → Data
 normal_selection π t contest d =
     with_id (Some (id_of_selection π t contest d)) (normal_object_with (λ name k v. normal_value π t k v) (class_of_object selection_role d) d)
 
--- objects by their keys
+-- Objects are compared by their keys.
 abbrev pub by_key : Preference → Data → Data → Ordering
 by_key π a b = option_cmp key_cmp (key_of π a) (key_of π b)
 
--- selections by their names
+-- Selections are compared by their names.
 abbrev pub by_name : Preference → Data → Data → Data → Ordering
 by_name π t a b = option_cmp name_cmp (name_of π t a) (name_of π t b)
 
--- a member of an object of a family; the object holds selections, if it is a contest
+-- What a member of an object of a family becomes. In a contest, this includes the selections.
 abbrev pub normal_object_value : Preference → Data → Data → MemberKind → Data → Option Data
 normal_object_value π t o (kind.Keyed family.Selection) d =
     unless_no_entry d (array_of (map (normal_selection π t o) (rising_list (by_name π t) (entries_of d))))
 normal_object_value π t o kind.Content d = unless_no_entry d (normal_content π t d)
 normal_object_value π t o k d = normal_value π t k d
 
--- an object of one of the first eight families
+-- What an object of one of the first eight families becomes.
 abbrev pub normal_object : Preference → Data → Family → Data → Data
 normal_object π t f d =
     with_id (id_of_key π t f (key_of π d)) (normal_object_with (λ name k v. normal_object_value π t d k v) (class_of_object (role.OfFamily f) d) d)
 
--- the objects of a family, in the order of their keys
+-- What the objects of a family become, in the order of their keys.
 abbrev pub normal_objects : Preference → Data → Family → List Data → Data
 normal_objects π t f ds = array_of (map (normal_object π t f) (rising_list (by_key π) ds))
 
--- a member of the election
+-- What a member of the election becomes.
 abbrev pub normal_election_value : Preference → Data → MemberKind → Data → Option Data
 normal_election_value π t (kind.Keyed f) d = unless_no_entry d (normal_objects π t f (entries_of d))
 normal_election_value π t k d = normal_value π t k d
 
--- the election
+-- What the election becomes.
 abbrev pub normal_election : Preference → Data → Data → Data
 normal_election π t d = normal_object_with (λ name k v. normal_election_value π t k v) (class_of_object role.Election d) d
 
 -- ---- the report
 
--- a member of the report
+-- What a member of the report becomes. Members of the envelope become none.
 abbrev pub normal_report_value : Preference → Data → List ℕ → MemberKind → Data → Option Data
 normal_report_value π t name (kind.Keyed f) d = unless_no_entry d (normal_objects π t f (entries_of d))
 normal_report_value π t name kind.Elections d = Some (array_of (map (normal_election π t) (entries_of d)))
 normal_report_value π t name k d = if is_envelope_name name then None else normal_value π t k d
 
--- the members with the canonical envelope
+-- The members with those of the canonical envelope.
 abbrev pub with_envelope : Members → Members
 with_envelope ms =
     put (codes "Format") (string (codes "summary-contest"))
@@ -194,11 +196,11 @@ with_envelope ms =
     (put (codes "SequenceStart") (number (unsigned 1))
     (put (codes "SequenceEnd") (number (unsigned 1)) ms))))))
 
--- an object with the canonical envelope
+-- The object with the canonical envelope.
 abbrev pub in_envelope : Data → Data
 in_envelope (object ms) = object (with_envelope ms)
 in_envelope d = d
 
--- the tree that is built for a report
+-- The tree that is built for a report.
 abbrev pub normal_tree : Preference → Data → Data
 normal_tree π t = in_envelope (normal_object_with (normal_report_value π t) (class_of_object role.Report t) t)

@@ -20,7 +20,7 @@ use Rattle.erd_normal.specs.code.NormalTree.{rank_of_name}
 use Rattle.erd_normal.specs.declared.numbers.object_numbers.ObjectNumbers.{ObjectNumbers}
 use denote.Ref.{Bor}
 
--- the objects of a family in the order of their keys; selections stand in none
+-- The objects of a family in the order of their keys. For selections the list is empty.
 abbrev pub rising_of_family : Family → ObjectNumbers → List (Option Key × (ℕ × Bor Value))
 rising_of_family family.Unit n = n.units.rising.items
 rising_of_family family.Party n = n.parties.rising.items
@@ -32,7 +32,7 @@ rising_of_family family.Contest n = n.contests.rising.items
 rising_of_family family.Style n = n.styles.items
 rising_of_family family.Selection n = []
 
--- the numbers of the objects of a family whose objects a reference names by them
+-- The numbers of the objects of a family. The list is empty for styles and for selections.
 abbrev pub numbers_of_family : Family → ObjectNumbers → List ℕ
 numbers_of_family family.Unit n = n.units.numbers.items
 numbers_of_family family.Party n = n.parties.numbers.items
@@ -44,22 +44,22 @@ numbers_of_family family.Contest n = n.contests.numbers.items
 numbers_of_family family.Style n = []
 numbers_of_family family.Selection n = []
 
--- the number at a position, and 1 where there is none
+-- The number at a position, or 1 if there is none.
 abbrev pub number_in : List ℕ → ℕ → ℕ
 number_in ns i = unwrap_or (slice_get ns i) 1
 
--- the number of the object of a family that a reference names, counted from 1 in the order of keys; 1 where objects of the family
--- are not named by numbers
+-- The number of the object of the family that a reference names, counted from 1 in the order of keys. For styles and
+-- selections it is 1.
 abbrev pub number_named : Preference → Data → Family → List ℕ → ℕ
 number_named π t f id = if is_some (id_prefix f) then rank_of π t f (key_named π t f id) + 1 else 1
 
--- each selection has its rank in its contest as its number, counted from 1
+-- The number of each selection is its rank in its contest, counted from 1.
 abbrev pub AreSelectionNumbers : Preference → Data → List ℕ → Type 0
 AreSelectionNumbers π t ns =
     (i c : ℕ) (contest o : Placed) → slice_get (numbered_selections t) i ≡ Some (c, o) → slice_get (contests t) c ≡ Some contest
     → slice_get ns i ≡ Some (rank_of_name π t (entries_at (codes "ContestSelection") contest.value) (name_of π t o.value) + 1)
 
--- they are the objects of the report, which is accepted and has no fraction, in order, and their numbers
+-- The report is accepted and has no number that is not whole, and these are its objects in order and their numbers.
 pub record AreObjectNumbers (π : Preference) (t : Data) (n : ObjectNumbers) : Type 0 where
   pub accepted : IsAccepted π t
   pub bounded : IsBounded t

@@ -1,5 +1,5 @@
--- The tree that is built for a report, with objects and selections numbered by their places among the sorted ones. It is no
--- definition of the profile: that it is the tree of `NormalTree` for an accepted report is proved in `PlacedTrees`.
+-- The tree that is built for a report, with objects and selections numbered by their places among the sorted ones. It does
+-- not define the profile: `PlacedTrees` proves that it is the tree of `NormalTree` for an accepted report.
 use Rattle.std.specs.Prelude.{ℕ, ◌+◌, List, [], ◌∷◌, ◌++◌, if◌then◌else◌, Option, Some, None, option_map, map, codes, decimal}
 use Rattle.serde_json.specs.Data.{Data}
 use Rattle.erd_tables.specs.Table.{is_envelope_name}
@@ -16,59 +16,59 @@ use Rattle.erd_normal.specs.Canonical.{id_prefix}
 use Rattle.erd_normal.specs.code.KeyRanks.{rising_at, rising_objects}
 use Rattle.erd_normal.specs.code.NormalTree.{array_of, normal_content, normal_object_with, normal_value, unless_no_entry, with_id}
 
--- what each becomes with its number, counted from n on
+-- What each entry becomes with its number, counted from n.
 abbrev pub map_from : {A B : Type 0} → (ℕ → A → B) → ℕ → List A → List B
 map_from f n [] = []
 map_from f n (x ∷ xs) = f n x ∷ map_from f (n + 1) xs
 
 -- ---- numbers
 
--- the `@id` of the object of this number, if objects of the family have one
+-- The `@id` of the object with this number, or none if objects of the family have no canonical `@id`.
 abbrev pub id_numbered : Family → ℕ → Option (List ℕ)
 id_numbered f n = option_map (λ letters. letters ++ decimal n) (id_prefix f)
 
--- the `@id` of a selection, by the number of its contest and its own
+-- The `@id` of a selection, from the number of its contest and its own number.
 abbrev pub selection_id_numbered : ℕ → ℕ → List ℕ
 selection_id_numbered n m = codes "cs" ++ (decimal n ++ (codes "-" ++ decimal m))
 
 -- ---- objects of the report t
 
--- selection m of contest n
+-- Selection m of contest n.
 abbrev pub placed_selection : Preference → Data → ℕ → ℕ → Data → Data
 placed_selection π t n m d =
     with_id (Some (selection_id_numbered n m)) (normal_object_with (λ name k v. normal_value π t k v) (class_of_object selection_role d) d)
 
--- the selections of contest n, which stands at position i, in the order of their names
+-- The selections of contest n, which stands at position i, in the order of their names.
 abbrev pub placed_selections : Preference → Data → ℕ → ℕ → List Data
 placed_selections π t n i = map_from (placed_selection π t n) 1 (map (λ p. p.1.1) (rising_at π t i))
 
--- a member of object n of a family, which stands at position i; the object holds selections, if it is a contest
+-- A member of object n of a family, which stands at position i. In a contest, this includes the selections.
 abbrev pub placed_object_value : Preference → Data → ℕ → ℕ → MemberKind → Data → Option Data
 placed_object_value π t n i (kind.Keyed family.Selection) d = unless_no_entry d (array_of (placed_selections π t n i))
 placed_object_value π t n i kind.Content d = unless_no_entry d (normal_content π t d)
 placed_object_value π t n i k d = normal_value π t k d
 
--- object n of one of the first eight families, with its position
+-- Object n of one of the first eight families, with its position.
 abbrev pub placed_object : Preference → Data → Family → ℕ → ℕ × Data → Data
 placed_object π t f n o =
     with_id (id_numbered f n) (normal_object_with (λ name k v. placed_object_value π t n o.0 k v) (class_of_object (role.OfFamily f) o.1) o.1)
 
--- the objects of a family, in the order of their keys
+-- The objects of a family, in the order of their keys.
 abbrev pub placed_objects : Preference → Data → Family → List Data
 placed_objects π t f = map_from (placed_object π t f) 1 (map (λ p. p.1) (rising_objects π t f))
 
 -- ---- the election and the report
 
--- a member of the election
+-- A member of the election.
 abbrev pub placed_election_value : Preference → Data → MemberKind → Data → Option Data
 placed_election_value π t (kind.Keyed f) d = unless_no_entry d (array_of (placed_objects π t f))
 placed_election_value π t k d = normal_value π t k d
 
--- the election
+-- The election.
 abbrev pub placed_election : Preference → Data → Data → Data
 placed_election π t d = normal_object_with (λ name k v. placed_election_value π t k v) (class_of_object role.Election d) d
 
--- a member of the report
+-- A member of the report.
 abbrev pub placed_report_value : Preference → Data → List ℕ → MemberKind → Data → Option Data
 placed_report_value π t name (kind.Keyed f) d = unless_no_entry d (array_of (placed_objects π t f))
 placed_report_value π t name kind.Elections d = Some (array_of (map (placed_election π t) (entries_of d)))

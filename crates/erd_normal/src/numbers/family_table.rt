@@ -14,15 +14,15 @@ use erd_tables::Family;
 use serde_json::Value;
 use std::alloc::{AllocError, Global};
 
-/// The objects of a family in the order of their keys, each with its key and its position in the report; and the number of
-/// each object, by its position: its rank among the keys of the family, counted from 1.
+/// The objects of a family, sorted by key, each with its key and its position in the report, and the number of each object
+/// by its position. The number is the rank of the object's key in the family, counted from 1.
 #[derive(Drop)]
 pub(crate) struct FamilyTable<'a> {
     pub(crate) rising: Vec<(LentKey<'a>, (usize, &'a Value))>,
     pub(crate) numbers: Vec<usize>,
 }
 
-/// The objects of a family in order, with their numbers. One sort gives both.
+/// The sorted objects of a family and their numbers. One sort gives both.
 pub(crate) fn family_table<'a>(
     alloc: Global,
     report: &'a Report<'a>,

@@ -5,7 +5,8 @@ ghost use Rattle.erd_normal.specs.code.PlacedTree.{id_numbered, selection_id_num
 use erd_tables::Family;
 use std::alloc::{AllocError, Global};
 
-/// The canonical `@id` of the object of this number in its family, if objects of the family have one.
+/// The canonical `@id` of the object with this number in its family, or `None` if objects of the family have none. Styles
+/// have none, and selections are numbered by `selection_id_text`.
 pub(crate) fn optional_id_text(
     alloc: Global,
     family: Family,
@@ -25,7 +26,7 @@ pub(crate) fn optional_id_text(
     }
 }
 
-/// The canonical `@id` of the object of this number in its family, and no text where objects of the family have none.
+/// The canonical `@id` of the object with this number in its family. It is empty for styles and selections.
 pub(crate) fn id_text(alloc: Global, family: Family, number: usize) -> Result<String, AllocError>
     ensures { IfOk result (λ id. string_bytes id ≡ numbered_id family number) }
 {
@@ -41,7 +42,7 @@ pub(crate) fn id_text(alloc: Global, family: Family, number: usize) -> Result<St
     }
 }
 
-/// The canonical `@id` of the selection with this number, of the contest with this number.
+/// The canonical `@id` of the selection with this number in the contest with this number.
 pub(crate) fn selection_id_text(
     alloc: Global,
     contest: usize,

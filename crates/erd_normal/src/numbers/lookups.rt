@@ -18,7 +18,7 @@ use erd_tables::Family;
 use serde_json::Value;
 use std::alloc::{AllocError, Global};
 
-/// The number of the object of a family that has the `@id`, and 1 where none has it.
+/// The number of the object of a family with this `@id`, or 1 if there is none.
 pub(crate) fn number_of(report: &Report, numbers: &ObjectNumbers, family: Family, id: &str) -> usize
     requires { AreObjectNumbers report.now.prefer (view report.now.tree) numbers.now }
     ensures { result ≡ number_named report.now.prefer (view report.now.tree) family id.now }
@@ -35,7 +35,7 @@ pub(crate) fn number_of(report: &Report, numbers: &ObjectNumbers, family: Family
     }
 }
 
-/// The canonical `@id` of the selection that has the `@id`, and no text where no selection has it.
+/// The canonical `@id` of the selection with this `@id`, or the empty text if there is none.
 pub(crate) fn selection_id(
     alloc: Global,
     report: &Report,
@@ -58,7 +58,7 @@ pub(crate) fn selection_id(
     }
 }
 
-/// The canonical `@id` of the selection at a position, by the number of its contest and its own.
+/// The canonical `@id` of the selection at a position, made from the number of its contest and its own number.
 fn selection_id_at(
     alloc: Global,
     report: &Report,
@@ -79,14 +79,14 @@ fn selection_id_at(
     }
 }
 
-/// Whether two families are one.
+/// Whether two families are the same.
 fn is_same(found: Family, family: Family) -> bool
     ensures { result ≡ (family_number found == family_number family) }
 {
     found == family
 }
 
-/// The numbers of the objects of a family, by their positions, if references name its objects by them.
+/// The numbers of the objects of a family, by their positions. There are none for styles and selections.
 fn numbers_in<'b, 'a>(numbers: &'b ObjectNumbers<'a>, family: Family) -> &'b [usize]
     ensures { result.now ≡ numbers_of_family family numbers.now }
 {
@@ -102,7 +102,7 @@ fn numbers_in<'b, 'a>(numbers: &'b ObjectNumbers<'a>, family: Family) -> &'b [us
     }
 }
 
-/// The objects of a family in the order of their keys, each with its key and its position; there are none for selections.
+/// The objects of a family, sorted by key, each with its key and its position. There are none for selections.
 pub(crate) fn rising_in<'b, 'a>(
     numbers: &'b ObjectNumbers<'a>,
     family: Family,
@@ -122,7 +122,7 @@ pub(crate) fn rising_in<'b, 'a>(
     }
 }
 
-/// The selections of the contest at a position in the order of their names, each with its name and its position.
+/// The selections of the contest at a position, sorted by name, each with its name and its position.
 pub(crate) fn selections_in<'b, 'a>(
     numbers: &'b ObjectNumbers<'a>,
     contest: usize,
@@ -137,7 +137,7 @@ pub(crate) fn selections_in<'b, 'a>(
     }
 }
 
-/// The number at a position, and 1 where there is none.
+/// The number at a position, or 1 if there is none.
 fn number_at(numbers: &[usize], index: usize) -> usize
     ensures { result ≡ number_in numbers.now index }
 {

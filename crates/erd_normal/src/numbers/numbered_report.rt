@@ -18,7 +18,7 @@ use serde_json::Value;
 use std::alloc::{AllocError, Global};
 use std::marker::Model;
 
-/// A report with its objects in order and their numbers. Contracts see the report.
+/// A report with its objects sorted and numbered. Contracts see the report.
 #[derive(Drop)]
 pub(crate) struct NumberedReport<'a> {
     report: &'a Report<'a>,
@@ -43,7 +43,7 @@ impl<'a> Model for NumberedReport<'a> {
 }
 
 impl<'a> NumberedReport<'a> {
-    /// The report with these numbers of its objects.
+    /// Combines a report with the numbers of its objects.
     pub(crate) fn of(report: &'a Report<'a>, numbers: &'a ObjectNumbers<'a>) -> NumberedReport<'a>
         requires { AreObjectNumbers report.now.prefer (view report.now.tree) numbers.now }
         ensures { result ≡ report.now }
@@ -59,7 +59,7 @@ impl<'a> NumberedReport<'a> {
         self.report
     }
 
-    /// The objects of a family in the order of their keys, each with its key and its position; there are none for selections.
+    /// The objects of a family, sorted by key, each with its key and its position. There are none for selections.
     pub(crate) fn rising(&self, family: Family) -> &[(LentKey<'a>, (usize, &'a Value))]
         ensures objects { map (λ p. keyed_value p.0 p.1.0 (view p.1.1.now)) result.now ≡ rising_objects self.now.prefer (view self.now.tree) family }
         ensures whole { AllByRecursion (λ p. has_float (view p.1.1.now) ≡ false) result.now }
@@ -67,7 +67,7 @@ impl<'a> NumberedReport<'a> {
         rising_in(self.numbers, family)
     }
 
-    /// The selections of the contest at a position in the order of their names, each with its name and its position.
+    /// The selections of the contest at a position, sorted by name, each with its name and its position.
     pub(crate) fn selections_of(&self, contest: usize) -> &[(LentName<'a>, (usize, &'a Value))]
         ensures selections { map (λ p. keyed_value p.0 p.1.0 (view p.1.1.now)) result.now ≡ rising_at self.now.prefer (view self.now.tree) contest }
         ensures whole { AllByRecursion (λ p. has_float (view p.1.1.now) ≡ false) result.now }
@@ -75,14 +75,14 @@ impl<'a> NumberedReport<'a> {
         selections_in(self.numbers, contest)
     }
 
-    /// The number of the object of a family that has the `@id`, and 1 where none has it.
+    /// The number of the object of a family with this `@id`, or 1 if there is none.
     pub(crate) fn number_of(&self, family: Family, id: &str) -> usize
         ensures { result ≡ number_named self.now.prefer (view self.now.tree) family id.now }
     {
         number_of(self.report, self.numbers, family, id)
     }
 
-    /// The canonical `@id` of the selection that has the `@id`, and no text where no selection has it.
+    /// The canonical `@id` of the selection with this `@id`, or the empty text if there is none.
     pub(crate) fn selection_id(&self, alloc: Global, id: &str) -> Result<String, AllocError>
         ensures { IfOk result (λ built. string (string_bytes built)
             ≡ normal_selection_reference self.now.prefer (view self.now.tree) (string id.now)) }

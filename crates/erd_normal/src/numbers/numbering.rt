@@ -11,7 +11,7 @@ use erd_meaning::Report;
 use erd_tables::Family;
 use std::alloc::{AllocError, Global};
 
-/// The objects of a report in order, with their numbers: one sort for each family, and for selections one for each contest.
+/// Sorts and numbers the objects of a report, with one sort for each family, and one for the selections of each contest.
 pub(crate) fn numbers_of<'a>(
     alloc: Global,
     report: &'a Report<'a>,

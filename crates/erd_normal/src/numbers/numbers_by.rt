@@ -4,7 +4,7 @@ ghost use Rattle.erd_normal.specs.code.Building.{numbered};
 use serde_json::Value;
 use std::alloc::{AllocError, Global};
 
-/// The places of values, counted from 1, at the positions that they come from.
+/// The ranks of sorted values, counted from 1, at the positions that the values had before.
 pub(crate) fn numbers_by<K>(
     alloc: Global,
     rising: &[(K, (usize, &Value))],

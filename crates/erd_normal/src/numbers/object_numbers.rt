@@ -3,8 +3,8 @@ use crate::numbers::selection_tables::SelectionTables;
 use crate::order::lent_key::LentKey;
 use serde_json::Value;
 
-/// The objects of each family in the order of their keys, and the selections of each contest in the order of their names, with
-/// their numbers. No reference names a style, so styles have none.
+/// The objects of each family, sorted by key, and the selections of each contest, sorted by name, with their numbers. No
+/// reference names a style, so styles have no numbers.
 #[derive(Drop)]
 pub(crate) struct ObjectNumbers<'a> {
     pub(crate) units: FamilyTable<'a>,

@@ -11,7 +11,7 @@ use erd_tables::Family;
 use serde_json::Value;
 use std::alloc::{AllocError, Global};
 
-/// The objects of a family in the order of their keys, each with its key and its position in the report.
+/// The objects of a family, sorted by key, each with its key and its position in the report.
 pub(crate) fn rising_objects<'a>(
     alloc: Global,
     report: &'a Report<'a>,
@@ -26,7 +26,7 @@ pub(crate) fn rising_objects<'a>(
     in_order(alloc, keyed)
 }
 
-/// The objects of a family with their keys and positions.
+/// The objects of a family, in their order in the report, with their keys and positions.
 fn keyed_objects<'a>(
     alloc: Global,
     report: &'a Report<'a>,

@@ -10,8 +10,8 @@ use erd_meaning::Report;
 use serde_json::Value;
 use std::alloc::{AllocError, Global};
 
-/// The selections of a contest in the order of their names, each with its name and its position in the contest. In the report
-/// the first of them stands at the position `start`.
+/// The selections of a contest, sorted by name, each with its name and its position in the contest. The first selection of
+/// the contest has the position `start` in the report.
 pub(crate) fn rising_selections<'a>(
     alloc: Global,
     report: &'a Report<'a>,
@@ -27,7 +27,7 @@ pub(crate) fn rising_selections<'a>(
     in_order(alloc, named)
 }
 
-/// Selections with their names and positions.
+/// The selections of a contest, in their order in the report, with their names and positions.
 fn named_selections<'a>(
     alloc: Global,
     report: &'a Report<'a>,

@@ -17,15 +17,16 @@ use erd_tables::Family;
 use serde_json::Value;
 use std::alloc::{AllocError, Global};
 
-/// The selections of each contest in the order of their names, each with its name and its position in the contest; and the
-/// number of each selection, by its position in the report: its rank among the names of its contest, counted from 1.
+/// The selections of each contest, sorted by name, each with its name and its position in the contest, and the number of
+/// each selection by its position in the report. The number is the rank of the selection's name in its contest, counted from
+/// 1.
 #[derive(Drop)]
 pub(crate) struct SelectionTables<'a> {
     pub(crate) rising: Vec<Vec<(LentName<'a>, (usize, &'a Value))>>,
     pub(crate) numbers: Vec<usize>,
 }
 
-/// The selections of a report in order, with their numbers. One sort for each contest gives both.
+/// The sorted selections of a report and their numbers. One sort for each contest gives both.
 pub(crate) fn selection_tables<'a>(
     alloc: Global,
     report: &'a Report<'a>,
@@ -42,7 +43,7 @@ pub(crate) fn selection_tables<'a>(
     Ok(SelectionTables { rising, numbers })
 }
 
-/// The selections of each contest in the order of their names.
+/// The selections of each contest, sorted by name.
 fn contest_tables<'a>(
     alloc: Global,
     report: &'a Report<'a>,
@@ -63,7 +64,7 @@ fn contest_tables<'a>(
     Ok(tables)
 }
 
-/// The numbers of selections, contest by contest.
+/// The numbers of the selections, contest by contest.
 fn selection_numbers(
     alloc: Global,
     count: usize,

@@ -10,7 +10,7 @@ use erd_tables::{Class, Role};
 use serde_json::Value;
 use std::alloc::{AllocError, Global};
 
-/// The object that is built of an object with the role, its members by the rule.
+/// Builds an object from an object with this role, with each member built by the rule.
 pub(crate) fn object_by<R: MemberRule>(
     alloc: Global,
     rule: &R,
@@ -41,7 +41,7 @@ fn object_in_class<R: MemberRule>(
     }
 }
 
-/// The object with this `@id`, if it has one.
+/// The object with this `@id` set, if one is given.
 pub(crate) fn with_id(alloc: Global, id: Option<String>, value: Value) -> Result<Value, AllocError>
     ensures { IfOk result (λ built. view built ≡ with_id (option_map string_bytes id) (view value)) }
 {

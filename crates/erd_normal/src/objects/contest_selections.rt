@@ -12,7 +12,7 @@ use erd_tables::{Family, MemberKind, Role};
 use serde_json::Value;
 use std::alloc::{AllocError, Global};
 
-/// What the members of a selection become.
+/// The rule for the members of a selection.
 #[derive(Drop)]
 struct SelectionMembers<'a> {
     numbered: &'a NumberedReport<'a>,
@@ -34,7 +34,7 @@ impl<'a> MemberRule for SelectionMembers<'a> {
     }
 }
 
-/// The selections of the contest with this number and position, in the order of their names.
+/// The canonical selections of the contest with this number and position, sorted by name.
 pub(crate) fn contest_selections(
     alloc: Global,
     numbered: &NumberedReport,
@@ -52,7 +52,7 @@ pub(crate) fn contest_selections(
     Ok(built)
 }
 
-/// A selection with this number, of the contest with this number.
+/// The canonical selection with this number in the contest with this number.
 fn selection(
     alloc: Global,
     numbered: &NumberedReport,

@@ -15,7 +15,7 @@ use erd_tables::{Family, MemberKind, Role};
 use serde_json::Value;
 use std::alloc::{AllocError, Global};
 
-/// What the members of the object with a number and a position become.
+/// The rule for the members of the object with this number and position.
 #[derive(Drop)]
 struct ObjectMembers<'a> {
     numbered: &'a NumberedReport<'a>,
@@ -50,7 +50,7 @@ impl<'a> MemberRule for ObjectMembers<'a> {
     }
 }
 
-/// The array of the objects of a family in the order of their keys, unless the value is an array of no entries.
+/// The array of the canonical objects of a family, sorted by key, or `None` if the value is an empty array.
 pub(crate) fn family_array(
     alloc: Global,
     numbered: &NumberedReport,
@@ -64,7 +64,7 @@ pub(crate) fn family_array(
     Ok(unless_empty(value, Value::Array(built)))
 }
 
-/// The objects of a family, in the order of their keys.
+/// The canonical objects of a family, sorted by key.
 fn family_objects(
     alloc: Global,
     numbered: &NumberedReport,
@@ -81,7 +81,7 @@ fn family_objects(
     Ok(built)
 }
 
-/// The object of a family with this number, from its position and its value.
+/// The canonical object of a family with this number, built from its position and its value.
 fn object(
     alloc: Global,
     numbered: &NumberedReport,

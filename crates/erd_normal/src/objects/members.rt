@@ -11,12 +11,12 @@ use erd_tables::{Class, MemberKind, member_kind};
 use serde_json::{Map, Value};
 use std::alloc::{AllocError, Global};
 
-/// What the members of an object become.
+/// A rule that gives the canonical members of an object.
 pub(crate) trait MemberRule {
-    // What a member becomes, by its name and kind, if it stays.
+    // The canonical value of a member, by its name and kind, if the member is kept.
     ghost value_of: { Self → List ℕ → Asked → Data → Option Data };
 
-    /// What the member becomes, if it stays.
+    /// The canonical value of the member, or `None` if the member is left out.
     fn value(
         &self,
         alloc: Global,
@@ -28,7 +28,7 @@ pub(crate) trait MemberRule {
         ensures { IfOk result (λ value. option_map view value ≡ value_of self.now name.now kind (view member.now)) };
 }
 
-/// The members that are built from those of an object of the class, each from the member of its name.
+/// The members built from those of an object of the class, each from the member with the same name.
 pub(crate) fn members_by<R: MemberRule>(
     alloc: Global,
     rule: &R,
@@ -47,7 +47,7 @@ pub(crate) fn members_by<R: MemberRule>(
     Ok(built)
 }
 
-/// Puts the value among the members, if there is one.
+/// Adds the value to the members, if there is one.
 pub(crate) fn put_built(
     alloc: Global,
     members: &mut Map<String, Value>,

@@ -9,7 +9,8 @@ use std::alloc::{AllocError, Global};
 use std::cmp::Ordering;
 use std::marker::Model;
 
-/// The compact text of a JSON value, seen by contracts as its bytes. Texts are ordered by their bytes.
+/// The compact text of a JSON value: the text that `serde_json` writes, with no white space between tokens. Texts are
+/// ordered by their bytes. Contracts see the bytes.
 #[derive(Debug, PartialEq, Eq, PartialOrd, Ord, Drop)]
 pub struct CompactText {
     text: Text,
@@ -26,7 +27,12 @@ impl Model for CompactText {
 }
 
 impl CompactText {
-    /// The text of a value: its members and entries in their order, with nothing between the signs.
+    /// Returns the compact text of a value, with the members of objects and the entries of arrays in their order. The
+    /// contract covers only values whose numbers are all whole.
+    ///
+    /// # Errors
+    ///
+    /// `AllocError` if out of memory.
     pub fn of(alloc: Global, value: &Value) -> Result<CompactText, AllocError>
         ensures { IfOk result (λ t. has_float (view value.now) ≡ false → t ≡ compact_text (view value.now)) }
     {

@@ -6,7 +6,8 @@ use erd_meaning::Key;
 use std::cmp::Ordering;
 use std::marker::Model;
 
-/// The key of an object, lent by its report, if the object has one. Contracts see the key.
+/// The key of an object, if it has one, borrowed from its report. Contracts see the key. A missing key comes before every
+/// other.
 #[derive(Drop)]
 pub(crate) struct LentKey<'a> {
     key: Option<&'a Key>,
@@ -23,7 +24,7 @@ impl<'a> Model for LentKey<'a> {
 }
 
 impl<'a> LentKey<'a> {
-    /// The key that is lent.
+    /// Wraps a borrowed key, or none.
     pub(crate) fn of(key: Option<&'a Key>) -> LentKey<'a>
         ensures { result ≡ option_copied key.entry }
     {

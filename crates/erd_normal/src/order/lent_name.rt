@@ -7,7 +7,8 @@ use erd_meaning::{Report, SelectionName};
 use std::cmp::Ordering;
 use std::marker::Model;
 
-/// The name of a selection, lent by its report, if there is one. Contracts see the name.
+/// The name of a selection, if there is one, borrowed from its report. Contracts see the name. A missing name comes before
+/// every other.
 #[derive(Drop)]
 pub(crate) struct LentName<'a> {
     name: Option<&'a SelectionName>,
@@ -24,7 +25,7 @@ impl<'a> Model for LentName<'a> {
 }
 
 impl<'a> LentName<'a> {
-    /// The name of the selection at a position of the report.
+    /// The name of the selection at this position of the report, if there is one.
     pub(crate) fn at(report: &'a Report<'a>, index: usize) -> LentName<'a>
         ensures { result ≡ name_in report.now.prefer (view report.now.tree) index }
     {

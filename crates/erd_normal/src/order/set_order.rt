@@ -6,21 +6,20 @@ ghost use Rattle.std.specs.declared.cmp.Ordering.TheVariants.{Equal};
 use erd_meaning::{Key, SelectionName};
 use std::cmp::Ordering;
 
-/// What the entries of a set are ordered by. The order is total: of two values one is less or they are equal, asking the
-/// other way round turns the answer, and what is less than a lesser value is less. Values that are equal in this order are
-/// one value as contracts see it, so that nothing of them is left without an order.
+/// The order of the entries of a set: a total order in which `Equal` means that contracts see both values as identical. So
+/// the order leaves nothing undecided.
 pub trait SetOrder {
-    // What `order` answers.
+    // What `order` returns.
     ghost cmp: { Self → Self → Ordering };
 
-    /// How the value compares with another.
+    /// Returns how this value compares with another.
     fn order(&self, other: &Self) -> Ordering
         ensures { result ≡ cmp self.now other.now };
 
     // The order is total.
     ghost total: { IsTotalOrder cmp };
 
-    // Values that are equal in it are one value.
+    // Values that compare as `Equal` are identical.
     ghost exact: { (a b : Self) → cmp a b ≡ Equal → a ≡ b };
 }
 

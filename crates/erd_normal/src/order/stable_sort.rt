@@ -4,8 +4,11 @@ ghost use Rattle.erd_normal.specs.StableOrder.{IsStablySorted};
 use crate::order::set_order::SetOrder;
 use std::alloc::{AllocError, Global};
 
-/// The pairs in the order of their keys, those of equal keys as they were given. Where memory is refused the pairs are
-/// dropped.
+/// Returns the pairs sorted by key. The sort is stable: pairs with equal keys keep their order.
+///
+/// # Errors
+///
+/// `AllocError` if out of memory. The pairs are then dropped.
 pub fn in_order<K: SetOrder + Drop, T: Drop>(
     alloc: Global,
     pairs: Vec<(K, T)>,

@@ -12,12 +12,16 @@ use erd_meaning::Report;
 use serde_json::Value;
 use std::alloc::{AllocError, Global};
 
-/// The canonical form of a report: the one tree that is canonical and means what the report means. It is nested no deeper
-/// than the report.
+/// Returns the canonical form of a report: the only canonical tree that means what the report means, under the preference
+/// that the report was resolved under. Its numbers are whole, and it is nested no deeper than the report.
 ///
-/// First the objects of each family are sorted by their keys, and the selections of each contest by their names. This gives
-/// their numbers and the order in which they are written. Then the tree is built in one pass, which sorts the entries of each
-/// set. Each text is copied into the tree once.
+/// First, the objects of each family are sorted by key, and the selections of each contest by name. This gives their numbers
+/// and the order in which they are written. Then one pass builds the tree and sorts the entries of each set. Each text is
+/// copied into the tree once.
+///
+/// # Errors
+///
+/// `AllocError` if out of memory.
 pub fn normal_tree(alloc: Global, report: &Report) -> Result<Value, AllocError>
     ensures canonical { IfOk result (λ tree. IsCanonicalFormOf report.now.prefer (view report.now.tree) (view tree)) }
     ensures unique { IfOk result (λ tree. (u : Data) → IsTree u → IsCanonicalFormOf report.now.prefer (view report.now.tree) u → u ≡ view tree) }

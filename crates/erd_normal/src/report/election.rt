@@ -15,7 +15,7 @@ use erd_tables::{MemberKind, Role};
 use serde_json::Value;
 use std::alloc::{AllocError, Global};
 
-/// What the members of an election become.
+/// The rule for the members of an election.
 #[derive(Drop)]
 struct ElectionMembers<'a> {
     numbered: &'a NumberedReport<'a>,
@@ -41,7 +41,7 @@ impl<'a> MemberRule for ElectionMembers<'a> {
     }
 }
 
-/// The array of what the elections of an array become.
+/// The array of the canonical elections for an array of elections.
 pub(crate) fn election_array(
     alloc: Global,
     numbered: &NumberedReport,
@@ -71,7 +71,7 @@ fn elections(
     Ok(built)
 }
 
-/// What an election becomes.
+/// The canonical election for an election.
 fn election(alloc: Global, numbered: &NumberedReport, value: &Value) -> Result<Value, AllocError>
     requires whole { has_float (view value.now) ≡ false }
     ensures { IfOk result (λ built. view built ≡ placed_election numbered.now.prefer (view numbered.now.tree) (view value.now)) }

@@ -14,7 +14,7 @@ use erd_tables::{MemberKind, Role, is_envelope};
 use serde_json::{Map, Number, Value};
 use std::alloc::{AllocError, Global};
 
-/// What the members of a report become.
+/// The rule for the members of a report.
 #[derive(Drop)]
 struct ReportMembers<'a> {
     numbered: &'a NumberedReport<'a>,
@@ -50,7 +50,7 @@ impl<'a> MemberRule for ReportMembers<'a> {
     }
 }
 
-/// The tree that is built for a report, by the numbers of its objects.
+/// The canonical tree of a report, built from the numbers of its objects.
 pub(crate) fn report_tree(alloc: Global, numbered: &NumberedReport) -> Result<Value, AllocError>
     ensures { IfOk result (λ tree. view tree ≡ normal_tree numbered.now.prefer (view numbered.now.tree)) }
 {

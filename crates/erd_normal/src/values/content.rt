@@ -12,7 +12,7 @@ use erd_tables::{Class, MemberKind, Role, member_kind};
 use serde_json::{Map, Value};
 use std::alloc::{AllocError, Global};
 
-/// What a list of contests and headers becomes, at every depth of headers.
+/// The canonical list for a list of contests and headers, at every depth of headers.
 #[cycle(content)]
 pub(crate) fn content(
     alloc: Global,
@@ -43,7 +43,7 @@ fn nodes(
     Ok(built)
 }
 
-/// What a contest or a header becomes.
+/// The canonical node for a contest or a header.
 #[cycle(content)]
 fn node(alloc: Global, numbered: &NumberedReport, value: &Value) -> Result<Value, AllocError>
     ensures { IfOk result (λ built. has_float (view value.now) ≡ false → view built ≡ normal_node numbered.now.prefer (view numbered.now.tree) (view value.now)) }
@@ -76,7 +76,7 @@ fn node_members(
     Ok(built)
 }
 
-/// What a member of a contest or a header becomes, if it stays.
+/// The canonical value of a member of a contest or a header, or `None` if the member is left out.
 #[cycle(content)]
 fn node_value(
     alloc: Global,
@@ -114,7 +114,7 @@ fn value_in_node(
     }
 }
 
-/// What the table asks of a member of an object, where the object is of a class.
+/// The kind that the table gives a member of an object, if the object has a class.
 fn kind_in(class: Option<Class>, name: &str) -> Option<MemberKind>
     ensures { result ≡ option_map (λ c. kind_of_member c name.now) class }
 {

@@ -9,7 +9,7 @@ use erd_check::values::entries_at;
 use serde_json::{Map, Value};
 use std::alloc::{AllocError, Global};
 
-/// A copy of a label, its translations in rising order.
+/// A copy of a label, with its translations sorted by their compact texts.
 pub(crate) fn with_rising_text(alloc: Global, label: &Value) -> Result<Value, AllocError>
     ensures { IfOk result (λ copy. has_float (view label.now) ≡ false → view copy ≡ with_rising_text (view label.now)) }
 {
@@ -24,8 +24,8 @@ pub(crate) fn with_rising_text(alloc: Global, label: &Value) -> Result<Value, Al
     }
 }
 
-/// Copies of the members of a label beside its translations: with any translations put among them, they are the members with
-/// these translations.
+/// Copies the members of a label other than its translations. With any translations put among them, they are the members of
+/// the label with these translations.
 fn beside_text(
     alloc: Global,
     members: &Map<String, Value>,

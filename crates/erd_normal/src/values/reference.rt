@@ -11,7 +11,7 @@ use erd_tables::Family;
 use serde_json::Value;
 use std::alloc::{AllocError, Global};
 
-/// The reference to an object of a family that a value becomes.
+/// The canonical reference for a reference to an object of a family.
 pub(crate) fn reference(
     alloc: Global,
     numbered: &NumberedReport,
@@ -24,7 +24,7 @@ pub(crate) fn reference(
     reference_to(alloc, family, number)
 }
 
-/// The reference to the object of a family that has the number.
+/// The canonical reference to the object of a family that has this number.
 pub(crate) fn reference_to(
     alloc: Global,
     family: Family,
@@ -35,7 +35,7 @@ pub(crate) fn reference_to(
     Ok(Value::String(id_text(alloc, family, number)?))
 }
 
-/// The reference to a selection that a value becomes.
+/// The canonical reference for a reference to a selection.
 pub(crate) fn selection_reference(
     alloc: Global,
     numbered: &NumberedReport,

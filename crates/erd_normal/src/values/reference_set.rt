@@ -14,8 +14,8 @@ use erd_tables::Family;
 use serde_json::Value;
 use std::alloc::{AllocError, Global};
 
-/// What a set of references to objects of a family becomes, in the order of the keys of those objects. What is sorted is the
-/// numbers of the objects, which never fall along the order of keys.
+/// The canonical references for a set of references to objects of a family, sorted by the keys of those objects. The code
+/// sorts the numbers of the objects, which never decrease along the order of keys.
 pub(crate) fn rising_references(
     alloc: Global,
     numbered: &NumberedReport,
@@ -30,7 +30,7 @@ pub(crate) fn rising_references(
     references_to(alloc, family, &numbers)
 }
 
-/// The numbers of the objects that references name.
+/// The numbers of the objects that the references name.
 fn numbers_named(
     alloc: Global,
     numbered: &NumberedReport,
@@ -47,7 +47,7 @@ fn numbers_named(
     Ok(numbers)
 }
 
-/// The references to the objects that have these numbers.
+/// The canonical references to the objects that have these numbers.
 fn references_to(alloc: Global, family: Family, numbers: &[usize]) -> Result<Vec<Value>, AllocError>
     ensures { IfOk result (λ built. map view built.items ≡ map (λ n. string (numbered_id family n)) numbers.now) }
 {

@@ -9,7 +9,7 @@ use crate::order::stable_sort::in_order;
 use serde_json::Value;
 use std::alloc::{AllocError, Global};
 
-/// Copies of values in the order of their compact texts.
+/// Copies of the values, sorted by their compact texts.
 pub(crate) fn rising_values(alloc: Global, values: &[Value]) -> Result<Vec<Value>, AllocError>
     ensures { IfOk result (λ rising. items_have_float (items_view values.now) ≡ false
         → map view rising.items ≡ rising_list compact_cmp (map view values.now)) }
@@ -20,7 +20,7 @@ pub(crate) fn rising_values(alloc: Global, values: &[Value]) -> Result<Vec<Value
     }
 }
 
-/// A copy of one value, which is in order and needs no text.
+/// A copy of a single value, which needs no sorting and so no text.
 fn one_copy(alloc: Global, value: &Value) -> Result<Vec<Value>, AllocError>
     ensures { IfOk result (λ copies. map view copies.items ≡ view value.now ∷ []) }
 {
@@ -29,7 +29,7 @@ fn one_copy(alloc: Global, value: &Value) -> Result<Vec<Value>, AllocError>
     Ok(copies)
 }
 
-/// Copies of values, sorted by their compact texts.
+/// Sorts by the compact texts and copies, for any number of values.
 fn sorted_copies(alloc: Global, values: &[Value]) -> Result<Vec<Value>, AllocError>
     ensures { IfOk result (λ rising. items_have_float (items_view values.now) ≡ false
         → map view rising.items ≡ rising_list compact_cmp (map view values.now)) }
@@ -39,7 +39,7 @@ fn sorted_copies(alloc: Global, values: &[Value]) -> Result<Vec<Value>, AllocErr
     copied(alloc, &sorted)
 }
 
-/// Values with their compact texts.
+/// The values with their compact texts.
 fn with_texts<'a>(
     alloc: Global,
     values: &'a [Value],

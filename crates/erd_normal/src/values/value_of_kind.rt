@@ -13,7 +13,8 @@ use erd_tables::MemberKind;
 use serde_json::Value;
 use std::alloc::{AllocError, Global};
 
-/// What the value of a member of this kind that holds no objects becomes; there is none for an empty set or list.
+/// The canonical value of a member of this kind, which holds no objects. It is `None` if the member is left out, as an empty
+/// set or list is.
 pub(crate) fn value_of_kind(
     alloc: Global,
     numbered: &NumberedReport,
@@ -43,7 +44,7 @@ pub(crate) fn value_of_kind(
     }
 }
 
-/// What was built of a value, unless the value is an array of no entries.
+/// The value that was built, or `None` if the original value is an empty array.
 pub(crate) fn unless_empty(value: &Value, built: Value) -> Option<Value>
     ensures { option_map view result ≡ unless_no_entry (view value.now) (view built) }
 {

@@ -1,9 +1,17 @@
-use Rattle.erd_meaning.specs.code.ObjectWalk.{election_located}
+use Rattle.std.proofs.Common.{◌≡◌, [], ◌∷◌, ◌++◌, Bool, IfOk, ap, codes, nat_lt, subst}
+use Rattle.std.specs.List.{flat_map}
+use Rattle.erd_tables.specs.declared.place.Step.TheVariants.{Name}
+use Rattle.erd_check.specs.code.Paths.{steps_of}
+use Rattle.erd_meaning.specs.Objects.{placed_entries}
+use Rattle.erd_meaning.specs.code.ObjectWalk.{election_located, met_all}
+use Rattle.erd_meaning.specs.code.Shown.{placed_at}
 use Rattle.erd_meaning.specs.code.ShownWalks.{met_of}
-use Rattle.erd_meaning.proofs.identity.MetObjects.{met_inside}
+use Rattle.erd_meaning.proofs.finding.ElectionsHeld.{as_many}
 use Rattle.erd_meaning.proofs.objects.object_walk.meet_elections.Goals as goal
 
-pub loop-index-preserved : goal.loop-index-preserved
-loop-index-preserved c =
-    met_inside (election_located c.args.keys.now) _ c.entries_at-election-items.result.now c.loop-index.index c.election-item.result (met_of c.loop-index.walk)
-    (met_of c.meet_election.new.walk) _ c.loop-index-test.true c.election-item.is c.loop-index.invariant c.in_ok-meet_election.ensures
+pub returns : goal.returns
+returns c =
+    let elections = placed_entries (codes "Election") (placed_at c.args.path.now c.args.report.now) in
+    let many = as_many (steps_of c.args.path.now ++ Name (codes "Election") ∷ []) c.entries_at.result.now c.entries_at.ensures in
+    subst (λ (b : Bool). IfOk c.meet_each_election.result (λ _. met_of c.meet_each_election.new.walk ≡ met_all (met_of c.args.walk.now) (flat_map (election_located c.args.keys.now b) elections)))
+    (ap (nat_lt 1) many) c.meet_each_election.ensures

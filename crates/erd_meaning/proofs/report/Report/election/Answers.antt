@@ -13,7 +13,7 @@ use Rattle.erd_meaning.proofs.report.Report.election.Goals as goal
 -- the report has no fault of the shape
 without_faults : (π : Preference) (tree : Value) (xs : List Indexes) → AreResolved π tree xs → IsFaultless tree
 without_faults π tree [] r = absurd r
-without_faults π tree (x ∷ []) r = r.faultless
+without_faults π tree (x ∷ []) r = r.0.faultless
 without_faults π tree (x ∷ y ∷ xs) r = absurd r
 
 pub bounds-entries_at-0 : goal.bounds-entries_at-0

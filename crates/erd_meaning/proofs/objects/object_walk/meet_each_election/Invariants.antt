@@ -5,9 +5,9 @@ use Rattle.erd_check.specs.code.Paths.{steps_of}
 use Rattle.erd_meaning.specs.Objects.{placed_from}
 use Rattle.erd_meaning.specs.code.ObjectWalk.{election_located, met_all}
 use Rattle.erd_meaning.specs.code.ShownWalks.{met_of}
-use Rattle.erd_meaning.proofs.objects.object_walk.meet_elections.Given as goal
+use Rattle.erd_meaning.proofs.objects.object_walk.meet_each_election.Given as goal
 
 abbrev pub invariant-loop-index : goal.invariant-loop-index
 invariant-loop-index l =
-    met_all (met_of l.walk) (flat_map (election_located l.keys) (placed_from (steps_of l.elections) l.index (map view (drop l.index l.election-items))))
-    ≡ met_all (met_of l.initial.walk) (flat_map (election_located l.keys) (placed_from (steps_of l.elections) 0 (map view l.election-items)))
+    met_all (met_of l.walk) (flat_map (election_located l.keys l.needed) (placed_from (steps_of l.elections) l.index (map view (drop l.index l.election-items))))
+    ≡ met_all (met_of l.initial.walk) (flat_map (election_located l.keys l.needed) (placed_from (steps_of l.elections) 0 (map view l.election-items)))

@@ -1,0 +1,97 @@
+-- The elections of a report by position: their values, their keys, and which one holds an object.
+use Rattle.std.proofs.Common.{◌≡◌, ◌+◌, ℕ, zero, suc, List, [], ◌∷◌, ◌++◌, length, map, false, codes, replicate, Option, Some, None, option_and_then, option_map, refl, sym, ap, ap₂, ◌∙◌}
+use Rattle.std.specs.List.{flat_map, slice_get}
+use Rattle.std.specs.Str.{bytes_eq}
+use Rattle.std.proofs.lemmas.List.{length-map, map-append}
+use Rattle.std.proofs.lemmas.Option.{slice_get-map}
+use Rattle.serde_json.specs.Data.{Data}
+use Rattle.serde_json.specs.View.{view}
+use Rattle.serde_json.specs.declared.value.Value.{Value}
+use Rattle.erd_tables.specs.declared.class.Family.{Family}
+use Rattle.erd_tables.specs.declared.class.Family.TheVariants as family
+use Rattle.erd_tables.specs.declared.place.Step.{Step}
+use Rattle.erd_tables.specs.declared.place.Step.TheVariants.{At, Name}
+use Rattle.erd_check.specs.Values.{entries_at}
+use Rattle.erd_meaning.specs.Keys.{Preference, key_of}
+use Rattle.erd_meaning.specs.Lookups.{election_in, election_key_in}
+use Rattle.erd_meaning.specs.Objects.{Placed, election_of_place, elections, placed_entries, placed_from}
+use Rattle.erd_meaning.specs.code.ElectionKeys.{held_from}
+use Rattle.erd_meaning.specs.code.Holding.{AreHeld, held}
+use Rattle.erd_meaning.specs.code.ObjectWalk.{election_keys}
+use Rattle.erd_meaning.specs.declared.keys.key.Key.{Key}
+use Rattle.erd_meaning.specs.declared.objects.holders.Holders.{Holders}
+
+-- ---- by position
+
+values_placed : (p : List Step) (i : ℕ) (ds : List Data) → map (λ o. o.value) (placed_from p i ds) ≡ ds
+values_placed p i [] = refl
+values_placed p i (d ∷ ds) = ap (λ es. d ∷ es) (values_placed p (i + 1) ds)
+
+-- there are as many objects as values in the array
+pub as_many : (p : List Step) (vs : List Value) {ds : List Data} → map view vs ≡ ds → length vs ≡ length (placed_from p 0 ds)
+as_many p vs {ds} e =
+    sym (length-map vs view) ∙ ap length (e ∙ sym (values_placed p 0 ds)) ∙ length-map (placed_from p 0 ds) (λ (o : Placed). o.value)
+
+pub election_value : (t : Data) (vs : List Value) (i : ℕ) → map view vs ≡ entries_at (codes "Election") t
+    → option_map view (slice_get vs i) ≡ option_map (λ o. o.value) (slice_get (elections t) i)
+election_value t vs i e =
+    sym (slice_get-map view vs i) ∙ ap (λ (ds : List Data). slice_get ds i) (e ∙ sym (values_placed (Name (codes "Election") ∷ []) 0 (entries_at (codes "Election") t)))
+    ∙ slice_get-map (λ (o : Placed). o.value) (elections t) i
+
+mapped_then : {A B : Type 0} (f : A → Option B) (o : Option A) → option_and_then (λ k. k) (option_map f o) ≡ option_and_then f o
+mapped_then f None = refl
+mapped_then f (Some a) = refl
+
+pub election_key_is : (π : Preference) (t : Data) (i : ℕ) → option_and_then (λ k. k) (slice_get (election_keys π t) i) ≡ election_key_in π t i
+election_key_is π t i =
+    ap (λ (o : Option (Option Key)). option_and_then (λ k. k) o) (slice_get-map (λ (e : Placed). key_of π e.value) (elections t) i) ∙ mapped_then (λ (e : Placed). key_of π e.value) (slice_get (elections t) i)
+
+-- ---- which election holds an object
+
+abbrev holder : Placed → Option ℕ
+holder o = election_of_place o.place
+
+inside_one : (n j : ℕ) (name : List ℕ) (ds : List Data)
+    → map holder (placed_from (Name (codes "Election") ∷ At n ∷ Name name ∷ []) j ds) ≡ map Some (replicate (length ds) n)
+inside_one n j name [] = refl
+inside_one n j name (d ∷ ds) = ap (λ ns. Some n ∷ ns) (inside_one n (j + 1) name ds)
+
+inside_each : (name : List ℕ) (n : ℕ) (es : List Data)
+    → map holder (flat_map (placed_entries name) (placed_from (Name (codes "Election") ∷ []) n es)) ≡ map Some (held_from name n es)
+inside_each name n [] = refl
+inside_each name n (e ∷ es) =
+    let here = entries_at name e in
+    let place = Name (codes "Election") ∷ At n ∷ Name name ∷ [] in
+    let later = flat_map (placed_entries name) (placed_from (Name (codes "Election") ∷ []) (n + 1) es) in
+    map-append holder (placed_from place 0 here) later ∙ ap₂ ◌++◌ (inside_one n 0 name here) (inside_each name (n + 1) es)
+    ∙ sym (map-append Some (replicate (length here) n) (held_from name (n + 1) es))
+
+mapped_same : (a : Option Placed) (b : Option ℕ) → option_map holder a ≡ option_map Some b → b ≡ option_and_then holder a
+mapped_same None None e = refl
+mapped_same None (Some n) e = cc
+mapped_same (Some o) None e = cc
+mapped_same (Some o) (Some n) e = let same : holder o ≡ Some n = cc in sym same
+
+held_inside : (name : List ℕ) (t : Data) (ns : List ℕ) (i : ℕ) → ns ≡ held_from name 0 (entries_at (codes "Election") t)
+    → slice_get ns i ≡ option_and_then holder (slice_get (flat_map (placed_entries name) (elections t)) i)
+held_inside name t ns i e =
+    let os = flat_map (placed_entries name) (elections t) in
+    mapped_same (slice_get os i) (slice_get ns i)
+    (sym (slice_get-map holder os i) ∙ ap (λ ks. slice_get ks i) (inside_each name 0 (entries_at (codes "Election") t) ∙ ap (map Some) (sym e)) ∙ slice_get-map Some ns i)
+
+none_outside : (name : List ℕ) → bytes_eq name (codes "Election") ≡ false → (j : ℕ) (ds : List Data) (i : ℕ)
+    → None ≡ option_and_then holder (slice_get (placed_from (Name name ∷ []) j ds) i)
+none_outside name other j [] i = refl
+none_outside name other j (d ∷ ds) zero = rw other refl
+none_outside name other j (d ∷ ds) (suc i) = none_outside name other (j + 1) ds i
+
+pub election_holds : (h : Holders) (f : Family) (t : Data) (i : ℕ) → AreHeld h t → slice_get (held h f) i ≡ election_in f t i
+election_holds h family.Unit t i are = none_outside (codes "GpUnit") refl 0 (entries_at (codes "GpUnit") t) i
+election_holds h family.Party t i are = none_outside (codes "Party") refl 0 (entries_at (codes "Party") t) i
+election_holds h family.Person t i are = none_outside (codes "Person") refl 0 (entries_at (codes "Person") t) i
+election_holds h family.Office t i are = none_outside (codes "Office") refl 0 (entries_at (codes "Office") t) i
+election_holds h family.Header t i are = none_outside (codes "Header") refl 0 (entries_at (codes "Header") t) i
+election_holds h family.Candidate t i are = held_inside (codes "Candidate") t h.candidates.items i are.candidates
+election_holds h family.Contest t i are = held_inside (codes "Contest") t h.contests.items i are.contests
+election_holds h family.Style t i are = held_inside (codes "BallotStyle") t h.styles.items i are.styles
+election_holds h family.Selection t i are = refl

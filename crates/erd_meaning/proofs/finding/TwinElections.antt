@@ -1,0 +1,54 @@
+-- Elections stand in the order of their positions, and no two of a report without faults of identity have one key.
+use Rattle.std.proofs.Common.{◌≡◌, ◌<◌, ℕ, inl, inr, map, Some, option_map, refl, ap, ◌∙◌, subst}
+use Rattle.std.specs.List.{slice_get}
+use Rattle.std.proofs.lemmas.Option.{slice_get-map}
+use Rattle.serde_json.specs.Data.{Data}
+use Rattle.erd_tables.specs.declared.class.Role.TheVariants as role
+use Rattle.erd_tables.specs.declared.fault.Reason.TheVariants.{TwinIdentifier}
+use Rattle.erd_check.specs.Faults.{NoneOf}
+use Rattle.erd_check.proofs.Order.{contains_from_In, sorted_filter}
+use Rattle.erd_meaning.specs.Keys.{Preference, key_of}
+use Rattle.erd_meaning.specs.LaterFaults.{IdentityFault, IsBefore}
+use Rattle.erd_meaning.specs.Objects.{Placed, elections, has_several}
+use Rattle.erd_meaning.specs.code.ObjectWalk.{all_located, located_election}
+use Rattle.erd_meaning.specs.declared.keys.key.Key.{Key}
+use Rattle.erd_meaning.proofs.finding.OneObject.{in_at, sorted_at, which_first}
+use Rattle.erd_meaning.proofs.identity.MetElections.{elections_picked, is_election}
+use Rattle.erd_meaning.proofs.identity.ObjectPlaces.{AreApart, all_parted, apart}
+use Rattle.erd_meaning.proofs.identity.ToldFaults.{before_apart}
+
+module _ (π : Preference) (t : Data) where
+  elections_apart : AreApart (map (located_election π (has_several t)) (elections t))
+  elections_apart = subst AreApart (elections_picked π t) (sorted_filter is_election apart (all_located π t) (all_parted π t))
+
+  -- the election at a lesser position stands earlier
+  elections_before : (i j : ℕ) (d e : Placed) → slice_get (elections t) i ≡ Some d → slice_get (elections t) j ≡ Some e → i < j → IsBefore d e
+  elections_before i j d e at there less =
+      let one = located_election π (has_several t) in
+      let here = λ (k : ℕ) (o : Placed) (is : slice_get (elections t) k ≡ Some o). slice_get-map one (elections t) k ∙ ap (option_map one) is in
+      before_apart (one d) (one e) (sorted_at apart (map one (elections t)) i j (one d) (one e) elections_apart less (here i d at) (here j e there))
+
+  two_keys : (none : NoneOf (IdentityFault π t)) (i j : ℕ) (d e : Placed) (k : Key) → slice_get (elections t) i ≡ Some d → slice_get (elections t) j ≡ Some e → i < j
+      → key_of π d.value ≡ Some k → key_of π e.value ≡ Some k → ⊥
+  two_keys none i j d e k at there less mine its = none e.place TwinIdentifier (record {
+    role = role.Election;
+    keyed = refl;
+    later = e;
+    later_stands = contains_from_In e (elections t) (in_at (elections t) j e there);
+    place = refl;
+    earlier = d;
+    earlier_stands = contains_from_In d (elections t) (in_at (elections t) i d at);
+    before = elections_before i j d e at there less;
+    key = k;
+    later_key = its;
+    earlier_key = mine;
+  })
+
+  -- elections with one key stand at one position
+  pub one_election_key : NoneOf (IdentityFault π t) → (i j : ℕ) (d e : Placed) (k : Key) → slice_get (elections t) i ≡ Some d → slice_get (elections t) j ≡ Some e
+      → key_of π d.value ≡ Some k → key_of π e.value ≡ Some k → i ≡ j
+  one_election_key none i j d e k at there mine its = elim (which_first i j) [
+    | inl same ↦ same
+    | inr (inl l) ↦ absurd (two_keys none i j d e k at there l mine its)
+    | inr (inr l) ↦ absurd (two_keys none j i e d k there at l its mine)
+  ]

@@ -1,0 +1,95 @@
+-- The walk over the elections and the objects of a report, as lists: what it has met, and what it has told.
+use Rattle.std.proofs.Common.{◌≡◌, List, [], ◌∷◌, ◌++◌, map, Bool, false, ◌&&◌, ◌||◌, is_none, Option, Some, None, refl, sym, ap, ap₂, ◌∙◌, append_assoc, append-nil}
+use Rattle.std.specs.List.{cons_option, filter_map, list_any}
+use Rattle.erd_meaning.specs.Keys.{has_keys}
+use Rattle.erd_meaning.specs.code.ObjectWalk.{Kept, Located, Met, ObjectsMet, an_election, an_object, are_named_alike, are_twins, elections_among, election_met, faults_after, faults_told, has_same_id, has_same_key, met_all, met_one, object_met, objects_among, same_key}
+use Rattle.erd_meaning.specs.declared.keys.key.Key.{Key}
+use Rattle.erd_meaning.proofs.identity.ToldFaults.{told}
+
+-- ---- what has been met
+
+pub filter_map-append : {A B : Type 0} (f : A → Option B) (xs ys : List A) → filter_map f (xs ++ ys) ≡ filter_map f xs ++ filter_map f ys
+filter_map-append f [] ys = refl
+filter_map-append {A} {B} f (x ∷ xs) ys = at (f x) (filter_map-append f xs ys)
+  where
+    at : (o : Option B) → filter_map f (xs ++ ys) ≡ filter_map f xs ++ filter_map f ys → cons_option o (filter_map f (xs ++ ys)) ≡ cons_option o (filter_map f xs) ++ filter_map f ys
+    at None e = e
+    at (Some y) e = ap (λ zs. y ∷ zs) e
+
+-- the objects and the keys of the elections are those that were met
+record AreAmong (m : ObjectsMet) (earlier : List Met) : Type 0 where
+  objects : m.objects ≡ objects_among earlier
+  elections : m.elections ≡ elections_among earlier
+
+-- ---- the tests of what is met
+
+any_object : (test : Kept → Bool) (both : Met → Bool) → ((k : Kept) → both (an_object k) ≡ test k) → ((b : Bool) (key : Option Key) → both (an_election b key) ≡ false)
+    → (ms : List Met) → list_any both ms ≡ list_any test (objects_among ms)
+any_object test both objects elections [] = refl
+any_object test both objects elections (an_object k ∷ ms) = ap₂ ◌||◌ (objects k) (any_object test both objects elections ms)
+any_object test both objects elections (an_election b key ∷ ms) = ap (λ c. c || list_any both ms) (elections b key) ∙ any_object test both objects elections ms
+
+twin_elections : (b : Bool) (key : Option Key) (ms : List Met) → list_any (are_twins (an_election b key)) ms ≡ list_any (same_key key) (elections_among ms)
+twin_elections b key [] = refl
+twin_elections b key (an_object k ∷ ms) = twin_elections b key ms
+twin_elections b key (an_election c l ∷ ms) = ap (λ d. same_key key l || d) (twin_elections b key ms)
+
+none_named : (b : Bool) (key : Option Key) (ms : List Met) → list_any (are_named_alike (an_election b key)) ms ≡ false
+none_named b key [] = refl
+none_named b key (m ∷ ms) = none_named b key ms
+
+faults_are : (m : ObjectsMet) (earlier : List Met) (x : Located) → AreAmong m earlier → (met_one m x).faults ≡ m.faults ++ faults_after earlier x.place x.met
+faults_are m earlier x is = at x.met
+  where
+    at : (y : Met) → (met_one m record { place = x.place; met = y }).faults ≡ m.faults ++ faults_after earlier x.place y
+    at (an_object k) =
+        ap₂ (λ b c. m.faults ++ faults_told (has_keys k.family && is_none k.key) b c x.place)
+        (ap (list_any (has_same_key k)) is.objects ∙ sym (any_object (has_same_key k) (are_twins (an_object k)) (λ j. refl) (λ b key. refl) earlier))
+        (ap (list_any (has_same_id k)) is.objects ∙ sym (any_object (has_same_id k) (are_named_alike (an_object k)) (λ j. refl) (λ b key. refl) earlier))
+    at (an_election b key) =
+        ap₂ (λ c d. m.faults ++ faults_told (b && is_none key) c d x.place)
+        (ap (list_any (same_key key)) is.elections ∙ sym (twin_elections b key earlier)) (sym (none_named b key earlier))
+
+one_more : (m : ObjectsMet) (earlier : List Met) (x : Located) → AreAmong m earlier → AreAmong (met_one m x) (earlier ++ x.met ∷ [])
+one_more m earlier x is = at x.met
+  where
+    at : (y : Met) → AreAmong (met_one m record { place = x.place; met = y }) (earlier ++ y ∷ [])
+    at (an_object k) = record {
+      objects = ap (λ ks. ks ++ k ∷ []) is.objects ∙ sym (filter_map-append object_met earlier (an_object k ∷ []));
+      elections = is.elections ∙ sym (append-nil (elections_among earlier)) ∙ sym (filter_map-append election_met earlier (an_object k ∷ []));
+    }
+    at (an_election b key) = record {
+      objects = is.objects ∙ sym (append-nil (objects_among earlier)) ∙ sym (filter_map-append object_met earlier (an_election b key ∷ []));
+      elections = ap (λ ks. ks ++ key ∷ []) is.elections ∙ sym (filter_map-append election_met earlier (an_election b key ∷ []));
+    }
+
+-- ---- the whole walk
+
+abbrev mets : List Located → List Met
+mets xs = map (λ x. x.met) xs
+
+met_among : (m : ObjectsMet) (earlier : List Met) (xs : List Located) → AreAmong m earlier → AreAmong (met_all m xs) (earlier ++ mets xs)
+met_among m earlier [] is = record { objects = is.objects ∙ ap objects_among (sym (append-nil earlier)); elections = is.elections ∙ ap elections_among (sym (append-nil earlier)) }
+met_among m earlier (x ∷ xs) is =
+    let rest = met_among (met_one m x) (earlier ++ x.met ∷ []) xs (one_more m earlier x is) in
+    let all : earlier ++ x.met ∷ [] ++ mets xs ≡ earlier ++ mets (x ∷ xs) = append_assoc earlier (x.met ∷ []) (mets xs) in
+    record { objects = rest.objects ∙ ap objects_among all; elections = rest.elections ∙ ap elections_among all }
+
+met_faults : (m : ObjectsMet) (earlier : List Met) (xs : List Located) → AreAmong m earlier → (met_all m xs).faults ≡ m.faults ++ told earlier xs
+met_faults m earlier [] is = sym (append-nil m.faults)
+met_faults m earlier (x ∷ xs) is =
+    let later = told (earlier ++ x.met ∷ []) xs in
+    met_faults (met_one m x) (earlier ++ x.met ∷ []) xs (one_more m earlier x is) ∙ ap (λ fs. fs ++ later) (faults_are m earlier x is)
+    ∙ append_assoc m.faults (faults_after earlier x.place x.met) later
+
+-- a walk that begins with nothing
+pub record WalksAll (m : ObjectsMet) (xs : List Located) : Type 0 where
+  pub objects : m.objects ≡ objects_among (map (λ x. x.met) xs)
+  pub elections : m.elections ≡ elections_among (map (λ x. x.met) xs)
+  pub faults : m.faults ≡ told [] xs
+
+pub walks_all : (m : ObjectsMet) (xs : List Located) → m.objects ≡ [] → m.elections ≡ [] → m.faults ≡ [] → WalksAll (met_all m xs) xs
+walks_all m xs a b c =
+    let is : AreAmong m [] = record { objects = a; elections = b } in
+    let all = met_among m [] xs is in
+    record { objects = all.objects; elections = all.elections; faults = met_faults m [] xs is ∙ ap (λ fs. fs ++ told [] xs) c }

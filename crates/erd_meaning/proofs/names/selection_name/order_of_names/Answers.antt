@@ -1,8 +1,0 @@
-use Rattle.std.proofs.Common.{refl}
-use Rattle.erd_meaning.proofs.orders.ComparisonChains.{then_assoc}
-use Rattle.erd_meaning.proofs.names.selection_name.order_of_names.Goals as goal
-
-pub returns : goal.returns
-returns c =
-    rw (← c.left.view_is, ← c.right.view_is, c.then-5.ensures, c.then-4.ensures, c.then-3.ensures, c.then-2.ensures, c.then.ensures, c.cmp.ensures, c.cmp-2.ensures, c.cmp-3.ensures, c.cmp-4.ensures, c.cmp-5.ensures, c.cmp-6.ensures, c.type_text.ensures, c.type_text-2.ensures)
-    (simp then_assoc refl)

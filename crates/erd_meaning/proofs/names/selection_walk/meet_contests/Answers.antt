@@ -1,0 +1,50 @@
+use Rattle.std.proofs.Common.{arith, ◌≡◌, ◌+◌, ◌<◌, ◌^◌, [], ◌∷◌, ◌++◌, codes, length, map, ap, ◌∙◌}
+use Rattle.serde_json.specs.View.{view}
+use Rattle.erd_tables.specs.declared.place.Step.TheVariants.{Name}
+use Rattle.erd_check.specs.code.Paths.{steps_of}
+use Rattle.erd_meaning.specs.Objects.{placed_entries, placed_from}
+use Rattle.erd_meaning.specs.code.NamesAmong.{name_among}
+use Rattle.erd_meaning.specs.code.SelectionWalk.{named_all, numbered_from}
+use Rattle.erd_meaning.specs.code.Shown.{placed_at, shown}
+use Rattle.erd_meaning.specs.code.ShownWalks.{names_met}
+use Rattle.erd_meaning.proofs.finding.ElectionsHeld.{as_many}
+use Rattle.erd_meaning.proofs.selections.MetSelections.{all_named, named_inside}
+use Rattle.erd_meaning.proofs.selections.WholeParts.{whole_entry}
+use Rattle.erd_meaning.proofs.names.selection_walk.meet_contests.Goals as goal
+
+pub overflow_add-first : goal.overflow_add-first
+overflow_add-first c =
+    let many = as_many (steps_of c.args.path.now ++ Name (codes "Contest") ∷ []) c.entries_at-entries.result.now c.entries_at-entries.ensures in
+    let few : c.args.first + length (placed_entries (codes "Contest") (placed_at c.args.path.now c.args.election.now)) < 2 ^ 64 = c.requires.few in
+    omega (arith, many, c.loop-index-test.true, few)
+
+pub meet_contest-requires : goal.meet_contest-requires
+meet_contest-requires c = record {
+  whole = whole_entry (codes "Contest") (view c.args.election.now) c.entries_at-entries.result.now c.loop-index.index c.index-entries-index.result c.requires.whole
+      c.entries_at-entries.ensures c.loop-index-test.true c.index-entries-index.is;
+}
+
+pub loop-index-preserved : goal.loop-index-preserved
+loop-index-preserved c =
+    named_inside (name_among c.args.keys.now (map shown c.args.objects.now)) c.args.first (steps_of c.args.path.now ++ Name (codes "Contest") ∷ []) c.entries_at-entries.result.now c.loop-index.index
+    c.index-entries-index.result (names_met c.loop-index.walk) (names_met c.meet_contest.new.walk) _ c.loop-index-test.true c.index-entries-index.is c.loop-index.invariant c.in_ok-meet_contest.ensures
+
+pub overflow_add-result : goal.overflow_add-result
+overflow_add-result c =
+    let many = as_many (steps_of c.args.path.now ++ Name (codes "Contest") ∷ []) c.entries_at-entries.result.now c.entries_at-entries.ensures in
+    let few : c.args.first + length (placed_entries (codes "Contest") (placed_at c.args.path.now c.args.election.now)) < 2 ^ 64 = c.requires.few in
+    omega (arith, many, few)
+
+pub returns-clause-next : goal.returns-clause-next
+returns-clause-next c =
+    let many = as_many (steps_of c.args.path.now ++ Name (codes "Contest") ∷ []) c.entries_at-entries.result.now c.entries_at-entries.ensures in
+    ap (λ k. c.args.first + k) many
+
+pub returns-clause-met : goal.returns-clause-met
+returns-clause-met c =
+    let name = name_among c.args.keys.now (map shown c.args.objects.now) in
+    let place = steps_of c.args.path.now ++ Name (codes "Contest") ∷ [] in
+    let none : c.args.first + 0 ≡ c.args.first = omega arith in
+    all_named name c.args.first place c.entries_at-entries.result.now c.loop-index.index (names_met c.loop-index.walk) _ c.loop-index-test.false c.loop-index.invariant
+    ∙ ap (λ k. named_all name (names_met c.args.walk.now) (numbered_from k (placed_from place 0 (map view c.entries_at-entries.result.now)))) none
+    ∙ ap (λ ds. named_all name (names_met c.args.walk.now) (numbered_from c.args.first (placed_from place 0 ds))) c.entries_at-entries.ensures

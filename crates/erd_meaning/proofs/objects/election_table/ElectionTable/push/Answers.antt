@@ -1,0 +1,19 @@
+use Rattle.std.proofs.Common.{◌∷◌, [], ◌++◌, List, Option, ap, ap₂, sym, subst, ◌∙◌}
+use Rattle.std.specs.List.{list_any}
+use Rattle.erd_meaning.specs.code.ElectionKeys.{AreSeen}
+use Rattle.erd_meaning.specs.code.ObjectWalk.{same_key}
+use Rattle.erd_meaning.specs.declared.keys.key.Key.{Key}
+use Rattle.erd_meaning.proofs.identity.SeenKeys.{seen_is, seen_more}
+use Rattle.erd_meaning.proofs.objects.election_table.ElectionTable.push.Goals as goal
+
+pub invariant_of-self-2 : goal.invariant_of-self-2
+invariant_of-self-2 c =
+    let keys = c.self.inside.keys.items in
+    let more = seen_more keys c.self.inside.seen.keys c.args.key c.self.invariant in
+    let all = c.push_reserved.ensures.items ∙ ap₂ (λ (ks : List (Option Key)) k. ks ++ k ∷ []) c.in_ok-reserve.ensures.items c.in_ok-shared.ensures in
+    subst (λ ks. AreSeen ks c.note.new.seen.keys) (sym all) (subst (λ seen. AreSeen (keys ++ c.args.key ∷ []) seen) (sym c.in_ok-known.ensures.noted) more)
+
+pub returns-clause-known : goal.returns-clause-known
+returns-clause-known c =
+    c.in_ok-known.ensures.known ∙ seen_is c.self.inside.keys.items c.self.inside.seen.keys c.args.key c.self.invariant
+    ∙ ap (λ (ks : List (Option Key)). list_any (same_key c.args.key) ks) c.self.view_is

@@ -1,0 +1,11 @@
+use Rattle.std.proofs.Common.{[], ◌∷◌, codes, ap, length, ◌∙◌}
+use Rattle.serde_json.specs.View.{view}
+use Rattle.erd_tables.specs.declared.place.Step.TheVariants.{Name}
+use Rattle.erd_meaning.specs.Judged.{Judged}
+use Rattle.erd_meaning.specs.Objects.{elections}
+use Rattle.erd_meaning.proofs.finding.ElectionsHeld.{as_many}
+use Rattle.erd_meaning.proofs.report.Report.election_count.Goals as goal
+
+pub returns : goal.returns
+returns c =
+    as_many (Name (codes "Election") ∷ []) c.entries_at.result.now c.entries_at.ensures ∙ ap (λ (r : Judged). length (elections (view r.tree))) c.self.view_is

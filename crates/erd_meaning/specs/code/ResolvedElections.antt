@@ -1,0 +1,13 @@
+-- What a report keeps of its elections.
+use Rattle.std.specs.Prelude.{◌≡◌}
+use Rattle.serde_json.specs.View.{view}
+use Rattle.serde_json.specs.declared.value.Value.{Value}
+use Rattle.erd_meaning.specs.Keys.{Preference}
+use Rattle.erd_meaning.specs.code.Holding.{AreHeld}
+use Rattle.erd_meaning.specs.code.ObjectWalk.{election_keys}
+use Rattle.erd_meaning.specs.declared.report.Elections.{Elections}
+
+-- These are the keys of the elections of the report, and the elections that hold its objects.
+pub record AreElections (π : Preference) (tree : Value) (elections : Elections) : Type 0 where
+  pub keys : elections.keys ≡ election_keys π (view tree)
+  pub held : AreHeld elections.holders (view tree)

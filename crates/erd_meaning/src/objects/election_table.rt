@@ -1,0 +1,92 @@
+ghost use Rattle.std.specs.Prelude.{◌≡◌, ◌++◌, ◌∷◌, [], IfOk, OnErr, OnOk, option_and_then};
+ghost use Rattle.std.specs.List.{list_any, slice_get};
+ghost use Rattle.std.specs.Option.{option_copied};
+ghost use Rattle.erd_meaning.specs.code.ElectionKeys.{is_seen, seen_with};
+ghost use Rattle.erd_meaning.specs.code.ObjectWalk.{same_key};
+
+use crate::keys::key::Key;
+use crate::keys::shared_key::SharedKey;
+use crate::keys::triple::Triple;
+use indexmap::IndexSet;
+use std::alloc::{AllocError, Global};
+use std::fmt;
+use std::marker::Model;
+
+/// The keys of the elections of a report, in the order of the elections. An election may have no key. Contracts see the
+/// keys.
+#[derive(Drop)]
+pub(crate) struct ElectionTable<'a> {
+    keys: Vec<Option<SharedKey>>,
+    seen: IndexSet<Triple<'a>>,
+}
+
+impl<'a> Model for ElectionTable<'a> {
+    ghost use Rattle.std.specs.Prelude.{List, Option};
+    ghost use Rattle.std.specs.Coded.{codes};
+    ghost use Rattle.erd_meaning.specs.code.ElectionKeys.{AreSeen};
+    ghost use Rattle.erd_meaning.specs.declared.keys.key.Key.{Key};
+
+    ghost Value = { List (Option Key) };
+
+    ghost coded = { Prim.hlevel codes };
+
+    ghost view = { λ t. t.keys.items };
+
+    ghost invariant = { λ t. AreSeen t.keys.items t.seen.keys };
+}
+
+impl<'a> ElectionTable<'a> {
+    /// Returns a table without elections.
+    pub(crate) fn new(alloc: Global) -> ElectionTable<'a>
+        ensures { result ≡ [] }
+    {
+        ElectionTable {
+            keys: Vec::new(alloc),
+            seen: IndexSet::new(alloc),
+        }
+    }
+
+    /// Adds an election with its key, if it has one. Returns whether an earlier election has the same key.
+    pub(crate) fn push(
+        &mut self,
+        alloc: Global,
+        key: Option<Triple<'a>>,
+    ) -> Result<bool, AllocError>
+        ensures pushed { OnOk result (self.new ≡ self.old ++ key.entry ∷ []) }
+        ensures known { IfOk result (λ known. known ≡ list_any (same_key key.entry) self.old) }
+    {
+        let shared = SharedKey::of_triple(alloc, &key)?;
+        self.keys.reserve(1)?;
+        let known = note(&mut self.seen, key)?;
+        self.keys.push_reserved(shared);
+        Ok(known)
+    }
+
+    /// Returns the key of the election at the position, if there is such an election and it has a key.
+    pub(crate) fn key_at(&self, index: usize) -> Option<&Key>
+        ensures { option_copied result ≡ option_and_then (λ k. k) (slice_get self.now index) }
+    {
+        match self.keys.get(index)? {
+            Some(shared) => Some(shared.key()),
+            None => None,
+        }
+    }
+}
+
+/// Adds a key, if there is one, to the keys that were seen. Returns whether it was seen before.
+fn note<'a>(seen: &mut IndexSet<Triple<'a>>, key: Option<Triple<'a>>) -> Result<bool, AllocError>
+    ensures known { IfOk result (λ known. known ≡ is_seen seen.old.keys key.entry) }
+    ensures noted { OnOk result (seen.new.keys ≡ seen_with seen.old.keys key.entry) }
+    ensures kept { OnErr result (seen.new.keys ≡ seen.old.keys) }
+{
+    match key {
+        Some(key) => Ok(!seen.insert(key)?),
+        None => Ok(false),
+    }
+}
+
+impl<'a> fmt::Debug for ElectionTable<'a> {
+    fn fmt<W: fmt::Write>(&self, f: &mut fmt::Formatter<W>) -> fmt::Result {
+        f.debug_list().entries(self.keys.as_slice()).finish()
+    }
+}
