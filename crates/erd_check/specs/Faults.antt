@@ -1,5 +1,5 @@
 -- The faults of the shape of a report: one relation between a report, a place and a reason, with a case for each of the
--- reasons 1 to 11. All is this profile's.
+-- reasons 1 to 11. All of this is the profile's own.
 use Rattle.std.specs.Prelude.{ℕ, List, [], ◌∷◌, Bool, true, false, not, ◌||◌, ◌&&◌, ◌==◌, Some, None, codes, is_some, is_none, IsSomeAnd, IsTrue, length}
 use Rattle.std.specs.List.{list_any}
 use Rattle.std.specs.Option.{option_map_or}
@@ -22,38 +22,39 @@ use Rattle.erd_check.specs.declared.want.Want.TheVariants.{Object, ClassText, Re
 
 -- ---- tests of values
 
--- a JSON string
+-- True for a JSON string.
 abbrev pub is_text : Data → Bool
 is_text d = is_some (as_str d)
 
--- a JSON array
+-- True for a JSON array.
 abbrev pub is_array : Data → Bool
 is_array d = is_some (as_array d)
 
--- a JSON object
+-- True for a JSON object.
 abbrev pub is_object : Data → Bool
 is_object d = is_some (as_object d)
 
--- an array with no entry
+-- True for an array that has no entries.
 abbrev pub is_empty_array : Data → Bool
 is_empty_array d = option_map_or (λ ds. length (list_of_items ds) == 0) (as_array d) false
 
--- an array that has not exactly one entry
+-- True for an array that has no entry or more than one.
 abbrev pub has_not_one_entry : Data → Bool
 has_not_one_entry d = option_map_or (λ ds. not (length (list_of_items ds) == 1)) (as_array d) false
 
--- a number that is not whole, which `serde_json` keeps as a float: one with a fraction or an exponent, `-0`, and whole
--- ones beyond -2^63 to 2^64 - 1
+-- True for a number that `serde_json` keeps as a float: it has a fraction or an exponent, is `-0`, or lies outside -2^63 to
+-- 2^64 - 1.
 abbrev pub is_not_whole : Data → Bool
 is_not_whole d = option_map_or is_float (as_number d) false
 
--- an object without this member
+-- True if the value has no member with this name.
 abbrev pub lacks : Data → List ℕ → Bool
 lacks d name = is_none (get name d)
 
 -- ---- what each reason asks
 
--- whether a value is of the JSON kind that a member asks for; outside members and names out of place have reasons of their own
+-- True if the value is of the JSON kind that a member of this kind asks for. Outside members and misplaced names pass here,
+-- since they have reasons of their own.
 abbrev pub has_kind : MemberKind → Data → Bool
 has_kind kind.Identity d = is_text d
 has_kind kind.Word d = is_text d
@@ -69,7 +70,7 @@ has_kind kind.Content d = is_array d
 has_kind kind.Ordered d = is_array d
 has_kind k d = true
 
--- whether a value is of the JSON kind that is asked for
+-- True if the value is of the JSON kind that is asked for.
 abbrev pub has_wanted_kind : Want → Data → Bool
 has_wanted_kind (Object r) d = is_object d
 has_wanted_kind (ClassText r) d = is_text d
@@ -78,58 +79,59 @@ has_wanted_kind Status d = is_text d
 has_wanted_kind (Member k required) d = has_kind k d
 has_wanted_kind Carried d = true
 
--- the members that an object must have: `@type` alone where its class is unknown
+-- The members that the object must have: those that its class requires, or `@type` alone if its class is unknown.
 abbrev pub names_wanted : Scope → List (List ℕ)
 names_wanted scope.Nothing = []
 names_wanted (scope.Members r None) = codes "@type" ∷ []
 names_wanted (scope.Members r (Some c)) = required_names c
 names_wanted scope.Carried = []
 
--- a text that is the `@type` of no class that may stand there
+-- True for an `@type` text that names no class that may stand there.
 abbrev pub is_wrong_class : Want → Data → Bool
 is_wrong_class (ClassText r) d = option_map_or (λ s. is_none (class_in_role r s)) (as_str d) false
 is_wrong_class w d = false
 
--- a place whose number has to be whole
+-- True where a number must be whole: in a member for whole numbers, and in carried values.
 abbrev pub wants_whole : Want → Bool
 wants_whole (Member kind.Whole required) = true
 wants_whole Carried = true
 wants_whole w = false
 
--- a member outside the profile
+-- True for a member outside the profile.
 abbrev pub is_outside : Want → Bool
 is_outside (Member kind.Outside required) = true
 is_outside w = false
 
--- a reference that the table does not know
+-- True for a member that is named like a reference and that the table does not list for the class.
 abbrev pub is_strange_reference : Want → Bool
 is_strange_reference (Member kind.StrangeReference required) = true
 is_strange_reference w = false
 
--- an identity where none belongs, or a reference inside a carried value
+-- True for `@id` where no identity belongs, and for a name like that of a reference inside a carried value.
 abbrev pub is_strange_identity : Want → Bool
 is_strange_identity (Member kind.StrangeIdentity required) = true
 is_strange_identity w = false
 
--- a `Status` other than that of a report before the election (class ElectionReport)
+-- True for a `Status` that is a text other than `pre-election`. (class ElectionReport)
 abbrev pub is_other_status : Want → Data → Bool
 is_other_status Status d = option_map_or (λ s. not (bytes_eq s (codes "pre-election"))) (as_str d) false
 is_other_status w d = false
 
--- an array that may not be empty: a set of references or of translations that is required
+-- True for an array that must not be empty: a required set of references or translations.
 abbrev pub wants_entry : Want → Bool
 wants_entry (Member (kind.Many f) required) = required
 wants_entry (Member kind.Languages required) = required
 wants_entry w = false
 
--- a reference
+-- True where a reference is asked for.
 abbrev pub is_reference : Want → Bool
 is_reference (Reference f) = true
 is_reference w = false
 
 -- ---- the faults
 
--- whether a value has a fault of the shape, by what is asked of it; that a reference is repeated is judged with the references
+-- True if the value has a fault of shape for this reason, given what is asked of it. Repeated references are judged later,
+-- with the other faults of references.
 abbrev pub is_shape_fault : Asked → Reason → Bool
 is_shape_fault a reason.WrongKind = not (has_wanted_kind a.want a.value)
 is_shape_fault a (reason.MissingMember name) =
@@ -145,10 +147,10 @@ is_shape_fault a reason.EmptyArray = wants_entry a.want && is_empty_array a.valu
 is_shape_fault a reason.Repeated = a.repeated && not (is_reference a.want)
 is_shape_fault a r = false
 
--- the faults of the shape of a report
+-- The value at the place has a fault of shape for this reason.
 abbrev pub ShapeFault : Data → List Step → Reason → Type 0
 ShapeFault t p r = IsSomeAnd (asked_at t p) (λ a. IsTrue (is_shape_fault a r))
 
--- there is no fault of this kind
+-- There is no fault of this sort, at any place and for any reason.
 abbrev pub NoneOf : (List Step → Reason → Type 0) → Type 0
 NoneOf IsFault = (p : List Step) (r : Reason) → ¬ IsFault p r

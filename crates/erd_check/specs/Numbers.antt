@@ -3,14 +3,14 @@ use Rattle.std.specs.Prelude.{◌≡◌, ◌<◌, ◌^◌, pos, negsuc, false, �
 use Rattle.serde_json.specs.Data.{Num, unsigned, negative, float, Data, null, boolean, number, string, array, object, Items, no_items, item, Members, no_members, member}
 use Rattle.serde_json.specs.Find.{is_float}
 
--- a number fits 64 bits: without a sign, or below zero
+-- The number is whole and lies between -2^63 and 2^64 - 1. It is kept as a negative number only if it is below zero.
 abbrev pub IsFittingNumber : Num → Type 0
 IsFittingNumber (unsigned n) = n < 2 ^ 64
 IsFittingNumber (negative (pos n)) = ⊥
 IsFittingNumber (negative (negsuc n)) = n < 2 ^ 63
 IsFittingNumber (float x) = ⊥
 
--- each number of a value is whole and fits 64 bits
+-- Each number in the value is whole and fits 64 bits, as above.
 abbrev mutual
   pub HasFittingNumbers : Data → Type 0
   HasFittingNumbers null = ⊤
@@ -28,7 +28,7 @@ abbrev mutual
   MembersHaveFittingNumbers no_members = ⊤
   MembersHaveFittingNumbers (member k d ms) = HasFittingNumbers d × MembersHaveFittingNumbers ms
 
--- if a value is a whole number, it fits 64 bits
+-- If the value is a whole number, it fits 64 bits.
 abbrev pub IsInRange : Data → Type 0
 IsInRange (number n) = is_float n ≡ false → IsFittingNumber n
 IsInRange d = ⊤

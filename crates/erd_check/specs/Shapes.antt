@@ -7,11 +7,12 @@ use Rattle.erd_check.specs.Faults.{ShapeFault, NoneOf}
 use Rattle.erd_check.specs.Numbers.{HasFittingNumbers}
 use Rattle.erd_check.specs.Trees.{IsTree}
 
--- the value has no fault of the shape
+-- The value has no fault of shape.
 abbrev pub IsFaultless : Value → Type 0
 IsFaultless tree = NoneOf (ShapeFault (view tree))
 
--- a report without a fault of the shape: the names of each object in it rise, and each number in it is whole and fits 64 bits
+-- The report has no fault of shape, the names in each of its objects rise, and each of its numbers is whole and fits 64
+-- bits.
 pub record IsShaped (tree : Value) : Type 0 where
   pub faultless : IsFaultless tree
   pub is_tree : IsTree (view tree)

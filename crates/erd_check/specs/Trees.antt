@@ -10,18 +10,18 @@ use Rattle.erd_tables.specs.Texts.{text_cmp}
 
 -- ---- trees
 
--- the first of the members, if there is one, has a later name
+-- The name comes before the name of the first member, if there is a first member.
 abbrev pub IsBeforeFirst : List ℕ → Members → Type 0
 IsBeforeFirst k no_members = ⊤
 IsBeforeFirst k (member l d ms) = text_cmp k l ≡ Less
 
--- a number that is kept as a negative one is below zero
+-- A number that is kept as a negative one is below zero.
 abbrev pub IsNumber : Num → Type 0
 IsNumber (negative (pos n)) = ⊥
 IsNumber n = ⊤
 
--- the members of each object, at every depth, have strictly rising names (RFC 8259, section 4: an object as a finite map),
--- and a number that is kept as a negative one is below zero
+-- At every depth, the names of each object strictly rise, so that no name stands twice (RFC 8259, section 4), and each
+-- number that is kept as a negative one is below zero.
 abbrev mutual
   pub IsTree : Data → Type 0
   IsTree null = ⊤
@@ -31,42 +31,42 @@ abbrev mutual
   IsTree (array ds) = AreTrees ds
   IsTree (object ms) = AreMembers ms
 
-  -- the entries of an array are trees
+  -- Each entry of the array is a tree.
   pub AreTrees : Items → Type 0
   AreTrees no_items = ⊤
   AreTrees (item d ds) = IsTree d × AreTrees ds
 
-  -- the members of an object have rising names, and are trees
+  -- The names of the members strictly rise, and each value is a tree.
   pub AreMembers : Members → Type 0
   AreMembers no_members = ⊤
   AreMembers (member k d ms) = IsBeforeFirst k ms × IsTree d × AreMembers ms
 
--- arrays and objects are nested at most as deep as `serde_json` reads: 127
+-- Arrays and objects are nested at most 127 deep, which is as deep as `serde_json` reads.
 abbrev pub IsShallow : Data → Type 0
 IsShallow t = depth t ≤ max_depth
 
--- the one value is nested no deeper than the other
+-- The first value is nested no deeper than the second.
 abbrev pub IsNoDeeper : Data → Data → Type 0
 IsNoDeeper t u = depth t ≤ depth u
 
 -- ---- equality as JSON
 
--- equal truth values
+-- True if the two truth values are equal.
 abbrev pub same_flag : Bool → Bool → Bool
 same_flag true b = b
 same_flag false b = not b
 
--- equal whole numbers, where both are
+-- True if both numbers are whole and they are equal.
 abbrev pub same_whole : Option ℤ → Option ℤ → Bool
 same_whole None n = false
 same_whole (Some m) None = false
 same_whole (Some m) (Some n) = int_eq m n
 
--- whole numbers by value; a number that is not whole is equal to none (profile)
+-- True if both numbers are whole and equal. A number that is not whole equals no number, not even itself. (profile)
 abbrev pub same_number : Num → Num → Bool
 same_number m n = same_whole (as_integer m) (as_integer n)
 
--- equality as JSON: built alike, with equal texts and equal whole numbers
+-- True if the two values are equal as JSON: built alike, with equal texts and equal whole numbers.
 abbrev mutual
   pub is_same_json : Data → Data → Bool
   is_same_json null null = true
@@ -77,13 +77,13 @@ abbrev mutual
   is_same_json (object ms) (object ns) = are_same_members ms ns
   is_same_json d e = false
 
-  -- equal entries, one after another
+  -- True if the two arrays have equal entries at equal positions.
   pub are_same_items : Items → Items → Bool
   are_same_items no_items no_items = true
   are_same_items (item d ds) (item e es) = is_same_json d e && are_same_items ds es
   are_same_items ds es = false
 
-  -- equal names with equal values; both objects have their names in rising order
+  -- True if the two objects have equal names with equal values, pair by pair. In a tree, the names of both rise.
   pub are_same_members : Members → Members → Bool
   are_same_members no_members no_members = true
   are_same_members (member k d ms) (member l e ns) = bytes_eq k l && (is_same_json d e && are_same_members ms ns)

@@ -9,7 +9,8 @@ use crate::value_set::{FEW_VALUES, ValueSet};
 use serde_json::Value;
 use std::alloc::{AllocError, Global};
 
-/// Of each entry of a large set an earlier one that is equal to it, if there is one. Of other arrays nothing is told.
+/// Looks up, for each entry of a set of more than `FEW_VALUES` entries, an earlier entry that is equal to it. For other
+/// arrays it looks up nothing.
 pub(crate) fn equal_entries<'a>(
     alloc: Global,
     is_set: bool,
@@ -24,7 +25,7 @@ pub(crate) fn equal_entries<'a>(
     }
 }
 
-/// Of each entry an earlier one that is equal to it, if there is one.
+/// Looks up, for each entry, an earlier entry that is equal to it.
 fn equal_before<'a>(alloc: Global, items: &'a [Value]) -> Result<Vec<&'a [Value]>, AllocError>
     ensures { IfOk result (λ told. TellsEarlier true items.now told.items) }
 {
@@ -37,8 +38,8 @@ fn equal_before<'a>(alloc: Global, items: &'a [Value]) -> Result<Vec<&'a [Value]
     Ok(told)
 }
 
-/// Earlier entries, among which one is equal to the entry at a position exactly if one of all is; none where the entries are
-/// not compared.
+/// Returns entries to compare with the entry at a position. One of them is equal to it if and only if the array is a set and
+/// has an equal entry before the position. `told` is what `equal_entries` returned.
 pub(crate) fn earlier_of<'a>(
     is_set: bool,
     items: &'a [Value],
@@ -57,7 +58,7 @@ pub(crate) fn earlier_of<'a>(
     }
 }
 
-/// The entries before a position, where they are compared, and else none.
+/// Returns the entries before a position if the array is a set, otherwise none.
 fn compared_before(is_set: bool, items: &[Value], index: usize) -> &[Value]
     requires { index ≤ length items.now }
     ensures { (d : Data) → list_any (is_same_json d) (map view result.now)

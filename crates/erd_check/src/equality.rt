@@ -5,7 +5,9 @@ ghost use Rattle.erd_check.specs.Trees.{is_same_json, are_same_items, are_same_m
 
 use serde_json::{Map, Number, Value};
 
-/// Whether two values are equal as JSON.
+/// Returns `true` if and only if two values are equal as JSON: built alike, with equal texts and equal whole numbers.
+/// Arrays are compared as lists, and objects as maps. A number that is not whole is equal to no number, not even to
+/// itself; this rule is from docs/PROFILE.md.
 #[cycle(same)]
 pub fn same_json(left: &Value, right: &Value) -> bool
     ensures { result ≡ is_same_json (view left.now) (view right.now) }
@@ -63,7 +65,7 @@ fn same_members(left: &Map<String, Value>, right: &Map<String, Value>) -> bool
     others.next().is_none()
 }
 
-/// Whether a value is equal as JSON to one of the earlier ones.
+/// Returns `true` if and only if the value is equal as JSON to one of the earlier values, as `same_json` compares them.
 pub fn is_among(value: &Value, earlier: &[Value]) -> bool
     ensures { result ≡ list_any (is_same_json (view value.now)) (map view earlier.now) }
 {

@@ -1,10 +1,16 @@
+//! The error of the calls that judge a report.
 use erd_tables::FaultList;
 use std::alloc::AllocError;
+use thiserror::Error;
 
-/// Why a report is not taken: its faults, of which there is at least one, or want of memory.
-#[derive(Debug, Drop)]
+/// Why a call that judges a report failed: the report has faults, or memory ran out.
+#[derive(Debug, Drop, Error)]
 pub enum CheckError {
+    /// The report has these faults. The function that returns the error says which faults are listed. There is at least one.
+    #[error("the report has faults: {}", .0.len())]
     Faults(FaultList),
+    /// Out of memory.
+    #[error("no memory")]
     Memory,
 }
 

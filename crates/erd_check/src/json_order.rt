@@ -5,8 +5,8 @@ ghost use Rattle.erd_check.specs.code.JsonOrder.{items_cmp, json_cmp, kind_numbe
 use serde_json::{Map, Number, Value};
 use std::cmp::Ordering;
 
-/// How two values compare in an order of all JSON values: by their kinds, then by what stands in them. Numbers that are not
-/// whole are tied with one another.
+/// Compares two values in an order of all JSON values: by kind, then by content. Numbers that are not whole come before
+/// whole numbers, and are tied with one another. The order serves only to find equal values.
 #[cycle(order)]
 pub(crate) fn json_order(left: &Value, right: &Value) -> Ordering
     ensures { result ≡ json_cmp (view left.now) (view right.now) }
@@ -21,7 +21,7 @@ pub(crate) fn json_order(left: &Value, right: &Value) -> Ordering
     }
 }
 
-/// The place of a value's kind among the kinds.
+/// Returns the rank of the kind of a value in this order.
 fn kind_number(value: &Value) -> u8
     ensures { result ≡ kind_number (view value.now) }
 {

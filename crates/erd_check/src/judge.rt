@@ -16,7 +16,7 @@ use erd_tables::{Fault, MemberKind, Reason, Text, class_in, required};
 use serde_json::{Number, Value};
 use std::alloc::{AllocError, Global};
 
-/// Tells the faults of the shape.
+/// The visitor that finds the faults of the shape.
 #[derive(Clone, Copy, Drop)]
 pub(crate) struct ShapeJudge;
 
@@ -51,14 +51,15 @@ impl Visitor for ShapeJudge {
     }
 }
 
-/// Whether repeated entries are faults of the shape: those of references are told with what the references name.
+/// Returns whether a repeated entry is a fault of the shape. Repeated references are judged later, with the other faults of
+/// references.
 fn is_compared_here(want: Want) -> bool
     ensures { result ≡ not (is_reference want) }
 {
     !matches!(want, Want::Reference(_))
 }
 
-/// Whether a value is of the JSON kind that is asked for.
+/// Returns whether a value is of the JSON kind that is asked for.
 fn fits(want: Want, value: &Value) -> bool
     ensures { result ≡ has_wanted_kind want (view value.now) }
 {
@@ -94,7 +95,7 @@ fn fits_kind(kind: MemberKind, value: &Value) -> bool
     }
 }
 
-/// Adds a fault for each member that the object must have and lacks.
+/// Adds a fault for each required member that the object lacks.
 fn push_missing(
     alloc: Global,
     scope: Scope,
@@ -114,7 +115,7 @@ fn push_missing(
     Ok(())
 }
 
-/// The members that an object must have: `@type` alone where its class is unknown.
+/// Returns the names of the members that an object must have. If its class is unknown, only `@type` is required.
 fn names_needed(scope: Scope) -> &'static [&'static str]
     ensures { map (λ s. s.now) result.now ≡ names_wanted scope }
 {
@@ -172,7 +173,7 @@ fn is_float(value: &Value) -> bool
     }
 }
 
-/// Whether a number is whole. If it is, it fits 64 bits.
+/// Returns whether a number is whole. If it is, it fits 64 bits.
 fn is_whole(number: &Number) -> bool
     ensures value { result ≡ not (is_float (number_view number.now)) }
     ensures fits { IsTrue result → IsFittingNumber (number_view number.now) }
@@ -180,7 +181,7 @@ fn is_whole(number: &Number) -> bool
     number.as_u64().is_some() || number.as_i64().is_some()
 }
 
-/// Whether a value is an array of no entry or of several.
+/// Returns whether a value is an array with no entry, or with more than one.
 #[tactic(auto, using(crate::proofs::Lists::count_of_view))]
 fn has_other_count(value: &Value) -> bool
     ensures { result ≡ has_not_one_entry (view value.now) }

@@ -1,4 +1,5 @@
-//! The shape of a report: what the table asks of the value at each place, and the faults of a report that does not meet it.
+//! The shape of a report: what the member table asks of the value at each place, and the faults of reports that do not have
+//! this shape.
 #![tactic(auto)]
 
 mod earlier;

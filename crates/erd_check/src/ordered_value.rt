@@ -2,7 +2,7 @@ use crate::json_order::json_order;
 use serde_json::Value;
 use std::cmp::Ordering;
 
-/// A value, which is compared by the order of JSON values.
+/// A value that is compared by `json_order`.
 #[derive(Clone, Copy, Drop)]
 pub(crate) struct OrderedValue<'a> {
     pub(crate) value: &'a Value,

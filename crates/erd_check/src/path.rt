@@ -1,14 +1,18 @@
+//! The place that a walk has come to, and the fault at that place.
 ghost use Rattle.std.specs.Prelude.{◌≡◌, [], ◌∷◌, ◌++◌, IfOk};
 ghost use Rattle.erd_check.specs.code.Paths.{steps_of, fault_at};
 
 use erd_tables::{Fault, Place, Reason, Step, Text};
 use std::alloc::{AllocError, Global};
 
-/// A place while it is walked to: each step points at the one before it.
+/// The place that a walk has come to. Each step points to the one before it, so a path allocates nothing.
 #[derive(Clone, Copy)]
 pub enum Path<'a> {
+    /// The place of the whole value.
     Root,
+    /// The place of the member of this name, in the object at the path.
     Member(&'a Path<'a>, &'a str),
+    /// The place of the entry at this position, counted from 0, in the array at the path.
     Entry(&'a Path<'a>, usize),
 }
 
@@ -31,7 +35,11 @@ fn push_steps(alloc: Global, path: &Path, steps: &mut Vec<Step>) -> Result<(), A
     }
 }
 
-/// Adds a fault at the place that the path leads to.
+/// Adds a fault to the end of the list: the place of the path, and the reason.
+///
+/// # Errors
+///
+/// `AllocError` if out of memory.
 pub fn push_fault(
     alloc: Global,
     path: &Path,

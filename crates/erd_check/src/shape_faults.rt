@@ -13,11 +13,16 @@ use erd_tables::FaultList;
 use serde_json::Value;
 use std::alloc::{AllocError, Global};
 
-/// All faults of the shape of a report (reasons 1 to 11), by place, then by reason, each once; no fault, where the shape
-/// is as the table asks. The report is nested at most 127 deep, as each is that `serde_json` reads.
+/// Returns all faults of the shape of a report, each once, by place and then by reason. They have the reasons 1 to 11
+/// of docs/PROFILE.md. A repeated reference has reason 11 too, but is not a fault of the shape. The list is empty if
+/// and only if the shape has no fault.
 ///
-/// The report is walked once. Memory is taken for the faults, and for the entries of a set of more than 16, which are put in
-/// order; so none for a usual report without a fault.
+/// The report must be nested at most 127 deep, as every report is that `serde_json` reads. It is walked once. Only
+/// faults and sets of more than 16 entries take memory, so a usual report without faults takes none.
+///
+/// # Errors
+///
+/// `AllocError` if out of memory.
 pub fn faults(alloc: Global, tree: &Value) -> Result<FaultList, AllocError>
     requires nests { IsShallow (view tree.now) }
     ensures { IfOk result (ListsAll (ShapeFault (view tree.now))) }
@@ -25,8 +30,8 @@ pub fn faults(alloc: Global, tree: &Value) -> Result<FaultList, AllocError>
     walked_faults(alloc, tree)
 }
 
-/// The same faults; the walk has seen that the names of each object that is asked for rise, and
-/// that the whole numbers that are asked for fit 64 bits.
+/// Returns the same faults as `faults`. On `Ok` it is also known that the names in each visited object rise, and that whole
+/// numbers fit 64 bits where the table asks for whole numbers.
 pub(crate) fn walked_faults(alloc: Global, tree: &Value) -> Result<FaultList, AllocError>
     ensures all { IfOk result (ListsAll (ShapeFault (view tree.now))) }
     ensures in_order { IfOk result (λ _. IsInOrder (Object Report) (view tree.now)) }

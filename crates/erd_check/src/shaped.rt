@@ -13,7 +13,7 @@ use serde_json::Value;
 use std::alloc::Global;
 use std::marker::Model;
 
-/// A report whose shape has no fault. It borrows the report, and is seen by contracts as it.
+/// A report whose shape has no fault. It borrows the report. Contracts see the report.
 #[derive(Debug, Drop)]
 pub struct Shaped<'a> {
     tree: &'a Value,
@@ -35,8 +35,8 @@ impl<'a> Model for Shaped<'a> {
 }
 
 impl<'a> Shaped<'a> {
-    /// The report that was handed in. It has no fault of the shape; so the names of each object in it rise, and each
-    /// number in it is whole and fits 64 bits.
+    /// Returns the report. Its shape has no fault. The names of the members of each object in it strictly rise, and
+    /// each number in it is whole and fits 64 bits.
     pub fn tree(&self) -> &'a Value
         ensures tree { result.now ≡ self.now }
         ensures faultless { IsFaultless result.now }
@@ -48,8 +48,15 @@ impl<'a> Shaped<'a> {
     }
 }
 
-/// Takes a report whose shape has no fault, or refuses it with all its faults of the shape, of which there is one at
-/// least. The report is nested at most 127 deep, as each is that `serde_json` reads.
+/// Checks the shape of a report. Returns the report as a `Shaped` if its shape has no fault.
+///
+/// The report must be nested at most 127 deep, as every report is that `serde_json` reads.
+///
+/// # Errors
+///
+/// `CheckError::Faults` if the shape has faults: all of them, as `faults` lists them. There is at least one.
+///
+/// `CheckError::Memory` if out of memory.
 pub fn shape<'a>(alloc: Global, tree: &'a Value) -> Result<Shaped<'a>, CheckError>
     requires nests { IsShallow (view tree.now) }
     ensures tree { IfOk result (λ s. s ≡ tree.now) }

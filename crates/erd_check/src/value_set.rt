@@ -1,14 +1,15 @@
+//! Sets of JSON values in which an equal value is found fast.
 use crate::equality::is_among;
 use crate::ordered_value::OrderedValue;
 use serde_json::Value;
 use std::alloc::{AllocError, Global};
 use std::collections::BTreeSet;
 
-/// Up to this many values are compared each with each, which takes no memory; more are put into a set first.
+/// Up to this many values are compared pair by pair, which takes no memory. More values are put into a `ValueSet` first.
 pub const FEW_VALUES: usize = 16;
 
-/// A set of values, in which a value that is equal as JSON to a given one is found in time that grows with the logarithm of
-/// their number.
+/// A set of JSON values. It finds a value that is equal as JSON to a given one in time that grows with the logarithm of the
+/// number of values.
 #[derive(Drop)]
 pub struct ValueSet<'a> {
     ordered: BTreeSet<OrderedValue<'a>>,
@@ -22,7 +23,7 @@ impl<'a> ValueSet<'a> {
     ghost use Rattle.erd_check.specs.Trees.{is_same_json};
     ghost use Rattle.erd_check.specs.ValueSets.{StandsFor, values_in};
 
-    /// A set of no values.
+    /// Returns an empty set.
     pub fn new(alloc: Global) -> ValueSet<'a>
         ensures { StandsFor [] result }
     {
@@ -31,7 +32,11 @@ impl<'a> ValueSet<'a> {
         }
     }
 
-    /// The set of these values.
+    /// Returns the set of these values.
+    ///
+    /// # Errors
+    ///
+    /// `AllocError` if out of memory.
     pub fn of(alloc: Global, values: &'a [Value]) -> Result<ValueSet<'a>, AllocError>
         ensures { IfOk result (StandsFor (map view values.now)) }
     {
@@ -43,6 +48,10 @@ impl<'a> ValueSet<'a> {
     }
 
     /// Adds a value.
+    ///
+    /// # Errors
+    ///
+    /// `AllocError` if out of memory.
     pub fn insert(&mut self, value: &'a Value) -> Result<(), AllocError>
         ensures { IfOk result (λ _. (ds : List Data) → StandsFor ds self.old → StandsFor (ds ++ view value.now ∷ []) self.new) }
     {
@@ -50,7 +59,8 @@ impl<'a> ValueSet<'a> {
         Ok(())
     }
 
-    /// Some of the values, among which one is equal to the given value exactly if one of all is: at most one.
+    /// Returns values to compare with the given one. One of them is equal to it as JSON if and only if a value of the
+    /// set is.
     pub fn tied_with(&self, value: &'a Value) -> &'a [Value]
         ensures { list_any (is_same_json (view value.now)) (map view result.now) ≡ list_any (is_same_json (view value.now)) (values_in self.now) }
     {
@@ -60,7 +70,7 @@ impl<'a> ValueSet<'a> {
         }
     }
 
-    /// Whether one of the values is equal as JSON to the given one.
+    /// Returns `true` if and only if the set has a value that is equal as JSON to the given one.
     pub fn has(&self, value: &'a Value) -> bool
         ensures { result ≡ list_any (is_same_json (view value.now)) (values_in self.now) }
     {

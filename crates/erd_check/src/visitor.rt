@@ -1,3 +1,4 @@
+//! What a walk over a report does at each value.
 ghost use Rattle.std.specs.Prelude.{◌≡◌, ◌++◌, List, Bool, map, IfOk};
 ghost use Rattle.std.specs.List.{list_any};
 ghost use Rattle.serde_json.specs.Data.{Data};
@@ -15,37 +16,44 @@ use erd_tables::Fault;
 use serde_json::Value;
 use std::alloc::{AllocError, Global};
 
-/// Where a value stands: its place, and the values around it.
+/// Where a value is in a report: its place, and the values around it.
 #[derive(Clone, Copy)]
 pub struct Position<'a> {
+    /// The place of the value.
     pub path: &'a Path<'a>,
-    /// The value that it stands in; of the report, the report.
+    /// The value one step above. For the report, this is the report.
     pub owner: &'a Value,
-    /// The value that its owner stands in; of the report and its members, the report.
+    /// The value two steps above. For the report and its members, this is the report.
     pub outer: &'a Value,
 }
 
-/// What a walk knows of a value as it visits it.
+/// What a walk knows of a value that it visits.
 #[derive(Clone, Copy)]
 pub struct Visit<'a> {
-    /// What is asked of the value.
+    /// What the member table asks of the value.
     pub want: Want,
-    /// Earlier entries of its set, where it is an entry of a set whose entries are compared, and else none: one of them is equal
-    /// to the value exactly if one of all is.
+    /// Earlier entries of the set, if the value is an entry of a set whose entries are compared. One of them is equal to the
+    /// value if and only if any earlier entry of the set is. For other values there are none.
     pub earlier: &'a [Value],
+    /// Where the value is.
     pub position: Position<'a>,
 }
 
-/// What a walk over a report does at each value that it visits: it tells the faults of that value.
+/// What a walk over a report does at each value that it visits: it finds the faults of that value.
 pub trait Visitor {
-    // The reasons that are told of a value: by its outer value, what is asked of it, whether it is equal to an
-    // earlier entry of its set, and itself.
+    // The reasons for which a value is refused. They depend on its outer value, what is asked of it, whether it is equal
+    // to an earlier entry of its set, and the value itself.
     ghost tells: { Self → Data → Asked → Bool → Data → List Reason };
 
-    // What is known of a value that was visited, by what is asked of it.
+    // What is known of a value after the visit. It depends on what is asked of the value.
     ghost Known: { Self → Asked → Data → Type 0 };
 
-    /// Adds the faults of the value, and none of what is inside it. The scope is that of its members.
+    /// Adds the faults of the value to the end of the list, but not those of the values inside it. `scope` is that
+    /// of the members of the value, as `scope_of` returns it.
+    ///
+    /// # Errors
+    ///
+    /// `AllocError` if out of memory.
     fn visit(
         &self,
         alloc: Global,

@@ -1,3 +1,4 @@
+//! The walk over a report.
 ghost use Rattle.std.specs.Prelude.{◌≡◌, ◌++◌, ◌≤◌, ◌&&◌, [], map, take, length, IfOk, IfSome};
 ghost use Rattle.std.specs.List.{list_any};
 ghost use Rattle.std.specs.List.Sorted.{IsStrictlySortedBy};
@@ -21,8 +22,12 @@ use erd_tables::{Fault, Role};
 use serde_json::{Map, Value};
 use std::alloc::{AllocError, Global};
 
-/// The faults that a visitor tells of a report and of all values in it of which the table asks something, in the order of
-/// places: members by name, entries by position.
+/// Walks a report, and returns the faults that the visitor finds. The walk visits the report and each value in it of which
+/// the member table asks something. It goes in the order of places: members by name, entries by position.
+///
+/// # Errors
+///
+/// `AllocError` if out of memory.
 pub fn walk_report<V: Visitor>(
     alloc: Global,
     visitor: &V,
@@ -46,7 +51,7 @@ pub fn walk_report<V: Visitor>(
     Ok(faults)
 }
 
-/// Adds what is told of a value and of what is inside it.
+/// Adds the faults of a value and of the values inside it.
 #[cycle(walk)]
 fn walk<'a, V: Visitor>(
     alloc: Global,
@@ -77,7 +82,7 @@ fn walk<'a, V: Visitor>(
     }
 }
 
-/// Adds what is told of the entries of an array of which this is asked; the path is that of the array.
+/// Adds the faults of the entries of an array. `want` is what is asked of the array, and the path is that of the array.
 #[cycle(walk)]
 fn walk_items<'a, V: Visitor>(
     alloc: Global,
@@ -114,7 +119,7 @@ fn walk_items<'a, V: Visitor>(
     Ok(())
 }
 
-/// Adds what is told of the members of an object, which has this scope; the path is that of the object.
+/// Adds the faults of the members of an object, which have this scope. The path is that of the object.
 #[cycle(walk)]
 fn walk_members<'a, V: Visitor>(
     alloc: Global,

@@ -1,3 +1,4 @@
+//! What the member table (docs/PROFILE.md) asks of a value.
 ghost use Rattle.std.specs.Prelude.{◌≡◌};
 ghost use Rattle.serde_json.specs.View.{view};
 ghost use Rattle.erd_check.specs.Wants.{scope_inside, want_of_name, member_want, carried_want, entry_want, is_compared_set};
@@ -7,7 +8,7 @@ use erd_tables::class::{Class, Family, Role};
 use erd_tables::member::{MemberKind, is_reference_form, is_required_member, member_kind};
 use serde_json::Value;
 
-/// What is asked of a value.
+/// What the member table asks of a value.
 #[derive(Clone, Copy, Debug, PartialEq, Eq)]
 pub enum Want {
     /// An object of a class that has the role.
@@ -18,24 +19,26 @@ pub enum Want {
     Reference(Family),
     /// The `Status` of the report.
     Status,
-    /// Any other member of the table, and whether its object must have it.
+    /// Any other member: its kind, and whether its object must have it.
     Member(MemberKind, bool),
     /// A carried member, or a value inside one.
     Carried,
 }
 
-/// What decides what is asked of an object's members.
+/// What decides what the member table asks of the members of an object.
 #[derive(Clone, Copy, Debug, PartialEq, Eq)]
 pub enum Scope {
-    /// Nothing is asked of any member.
+    /// The table asks nothing of any member.
     Nothing,
-    /// The object is to have the role, and is of this class if it is of one that has it.
+    /// The object must have the role. The class is that of the object, or `None` if its `@type` names no class with the
+    /// role.
     Members(Role, Option<Class>),
-    /// The object is carried.
+    /// The object is a carried member, or is inside one.
     Carried,
 }
 
-/// What decides what is asked of the members of a value of which this is asked.
+/// Returns the scope of the members of a value, given what the table asks of the value. The scope is `Nothing` if the value
+/// is not an object.
 pub fn scope_of(want: Want, value: &Value) -> Scope
     ensures { result ≡ scope_inside want (view value.now) }
 {
@@ -52,7 +55,8 @@ pub fn scope_of(want: Want, value: &Value) -> Scope
     }
 }
 
-/// What is asked of the member of this name.
+/// Returns what the table asks of the member of this name in an object with the scope, or `None` if it asks nothing. If the
+/// class of the object is unknown, the table asks for `@type` alone.
 pub fn want_in(scope: Scope, name: &str) -> Option<Want>
     ensures { result ≡ want_of_name scope name.now }
 {
@@ -84,7 +88,7 @@ fn want_of_member(class: Class, name: &str) -> Want
     }
 }
 
-/// Nothing inside a carried value may name an object or refer to one.
+/// Nothing inside a carried value may be an identity or a reference.
 fn want_of_carried(name: &str) -> Want
     ensures { result ≡ carried_want name.now }
 {
@@ -95,7 +99,8 @@ fn want_of_carried(name: &str) -> Want
     }
 }
 
-/// What is asked of the entries of an array of which this is asked.
+/// Returns what the table asks of the entries of an array, given what it asks of the array. Returns `None` if it asks
+/// nothing of the entries.
 pub fn want_of_entry(want: Want) -> Option<Want>
     ensures { result ≡ entry_want want }
 {
@@ -115,7 +120,8 @@ pub fn want_of_entry(want: Want) -> Option<Want>
     }
 }
 
-/// Whether an array is a set whose entries are compared with one another.
+/// Returns `true` if and only if the table asks for a set whose entries are compared with one another: an array of the kind
+/// `Many`, `Identifiers` or `Languages`.
 pub fn is_set_wanted(want: Want) -> bool
     ensures { result ≡ is_compared_set want }
 {

@@ -8,7 +8,7 @@ use Rattle.erd_tables.specs.declared.class.Family.TheVariants as family
 use Rattle.erd_tables.specs.declared.class.Role.{Role}
 use Rattle.erd_tables.specs.declared.class.Role.TheVariants.{Report, Election, OfFamily, Content, Identifier, Label, Language}
 
--- the standard's name of a class
+-- The name that the standard gives the class.
 abbrev pub class_name : Class → List ℕ
 class_name class.ElectionReport = codes "ElectionReport"
 class_name class.Election = codes "Election"
@@ -33,11 +33,11 @@ class_name class.ExternalIdentifier = codes "ExternalIdentifier"
 class_name class.InternationalizedText = codes "InternationalizedText"
 class_name class.LanguageString = codes "LanguageString"
 
--- the `@type` text of a class: the standard's name space and the name
+-- The `@type` text of the class: `ElectionResults.`, which is the standard's name space, and then the class name.
 abbrev pub text_of_class : Class → List ℕ
 text_of_class c = codes "ElectionResults." ++ class_name c
 
--- the classes that this profile covers
+-- The 22 classes that this profile covers.
 abbrev pub classes : List Class
 classes =
     class.ElectionReport ∷ class.Election ∷ class.ReportingUnit ∷ class.Party ∷ class.Coalition ∷ class.Person ∷ class.Office
@@ -45,15 +45,16 @@ classes =
     ∷ class.PartyContest ∷ class.CandidateSelection ∷ class.BallotMeasureSelection ∷ class.PartySelection ∷ class.BallotStyle
     ∷ class.OrderedContest ∷ class.OrderedHeader ∷ class.ExternalIdentifier ∷ class.InternationalizedText ∷ class.LanguageString ∷ []
 
--- the class that an `@type` text names
+-- The class that has this `@type` text, or none if no class has it.
 abbrev pub class_of_text : List ℕ → Option Class
 class_of_text text = find (λ c. bytes_eq text (text_of_class c)) classes
 
--- a class is answered exactly for its own text
+-- For each class: the answer is that class if and only if the text is its `@type` text.
 abbrev pub NamesItsClass : List ℕ → Option Class → Type 0
 NamesItsClass text found = (c : Class) → (found ≡ Some c) ↔ (text ≡ text_of_class c)
 
--- what the objects of a class stand for: each class has one role, and a place of a report admits the classes of one role (profile)
+-- The role of the class, which is what its objects stand for in a report. Each place that takes objects takes those of one
+-- role. (profile)
 abbrev pub role_of_class : Class → Role
 role_of_class class.ElectionReport = Report
 role_of_class class.Election = Election
@@ -78,22 +79,22 @@ role_of_class class.ExternalIdentifier = Identifier
 role_of_class class.InternationalizedText = Label
 role_of_class class.LanguageString = Language
 
--- the family that a role is of
+-- The family that the role stands for, or none for a role that is not that of a family.
 abbrev pub family_of_role : Role → Option Family
 family_of_role (OfFamily f) = Some f
 family_of_role r = None
 
--- the family of the objects of a class (this profile's word for the classes that one reference may name)
+-- The family of the class, or none. Family is this profile's word for the classes that one reference may name.
 abbrev pub family_of_class : Class → Option Family
 family_of_class c = family_of_role (role_of_class c)
 
--- the families, in the order of the public list
+-- The nine families, in the order of `Family` (`src/class.rt`).
 abbrev pub families : List Family
 families =
     family.Unit ∷ family.Party ∷ family.Person ∷ family.Office ∷ family.Header ∷ family.Candidate ∷ family.Contest ∷ family.Style
     ∷ family.Selection ∷ []
 
--- a number for each family, by which two are told apart
+-- A number for the family. Different families have different numbers.
 abbrev pub family_number : Family → ℕ
 family_number family.Unit = 0
 family_number family.Party = 1
@@ -105,7 +106,7 @@ family_number family.Contest = 6
 family_number family.Style = 7
 family_number family.Selection = 8
 
--- a number for each role, by which two are told apart
+-- A number for the role. Different roles have different numbers.
 abbrev pub role_number : Role → ℕ
 role_number (OfFamily f) = family_number f
 role_number Report = 9
@@ -115,10 +116,10 @@ role_number Identifier = 12
 role_number Label = 13
 role_number Language = 14
 
--- a class, where its objects have the role
+-- The class itself if it has the role, and otherwise none.
 abbrev pub class_if_role : Role → Class → Option Class
 class_if_role r c = if role_number (role_of_class c) == role_number r then Some c else None
 
--- the class that an `@type` text names, where its objects have the role
+-- The class that has this `@type` text, if it also has the role, and otherwise none.
 abbrev pub class_in_role : Role → List ℕ → Option Class
 class_in_role r text = option_and_then (class_if_role r) (class_of_text text)

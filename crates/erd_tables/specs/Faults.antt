@@ -1,4 +1,5 @@
--- Faults: the numbers and texts of the reasons, the order of faults, and the line that tells one. All is this profile's.
+-- Faults: the numbers and the words of the reasons, the order of faults, and the line that reports a fault. All of this is
+-- the profile's own.
 use Rattle.std.specs.Prelude.{◌↔◌, ℕ, List, [], ◌++◌, codes, Contains}
 use Rattle.std.specs.List.Sorted.{IsStrictlySortedBy}
 use Rattle.std.specs.Ordering.{nat_cmp, ordering_then}
@@ -10,7 +11,7 @@ use Rattle.erd_tables.specs.declared.fault.Reason.{Reason}
 use Rattle.erd_tables.specs.declared.fault.Reason.TheVariants as reason
 use Rattle.erd_tables.specs.declared.place.Step.{Step}
 
--- the number of a reason
+-- The number of the reason, from 1 to 18.
 abbrev pub reason_number : Reason → ℕ
 reason_number reason.WrongKind = 1
 reason_number (reason.MissingMember name) = 2
@@ -31,25 +32,25 @@ reason_number reason.WrongFamily = 16
 reason_number reason.SelectionOfOtherContest = 17
 reason_number reason.TwinSelection = 18
 
--- the member that a reason names, and the empty text for the others
+-- The name of the missing member in reason 2, and the empty text for any other reason.
 abbrev pub missing_name : Reason → List ℕ
 missing_name (reason.MissingMember name) = name
 missing_name r = []
 
--- reasons by their numbers, then by the member's name
+-- Reasons are compared by number, then by the name of the missing member.
 abbrev pub reason_cmp : Reason → Reason → Ordering
 reason_cmp q r = ordering_then (nat_cmp (reason_number q) (reason_number r)) (text_cmp (missing_name q) (missing_name r))
 
--- faults by place, then by reason
+-- Faults are compared by place, then by reason.
 abbrev pub fault_cmp : Fault → Fault → Ordering
 fault_cmp a b = ordering_then (place_cmp a.place b.place) (reason_cmp a.reason b.reason)
 
--- the list is that of all faults, each once, in their order
+-- The list contains every fault exactly once and nothing else, in the order of faults.
 pub record ListsAll (IsFault : List Step → Reason → Type 0) (faults : List Fault) : Type 0 where
   pub rising : IsStrictlySortedBy fault_cmp faults
   pub each : (f : Fault) → Contains faults f ↔ IsFault f.place f.reason
 
--- the words of a reason; the name of a member stands as it is
+-- The words for the reason. The name of a missing member is written unescaped.
 abbrev pub reason_text : Reason → List ℕ
 reason_text reason.WrongKind = codes "wrong kind"
 reason_text (reason.MissingMember name) = codes "missing member " ++ name
@@ -70,6 +71,6 @@ reason_text reason.WrongFamily = codes "reference to another family"
 reason_text reason.SelectionOfOtherContest = codes "selection of another contest"
 reason_text reason.TwinSelection = codes "selection name used twice"
 
--- the line of a fault, without its line end: the pointer of its place, colon, blank, words
+-- The line that reports a fault, without its line end: the pointer to the place, a colon, a space and the words.
 abbrev pub fault_line : Fault → List ℕ
 fault_line f = pointer_text f.place ++ (codes ": " ++ reason_text f.reason)

@@ -1,4 +1,4 @@
--- The definitions of this crate, all of which public contracts cite, in the order in which one would read them:
+-- The definitions of this crate, in reading order. Public contracts cite all of them.
 pub mod Classes  -- the classes, their texts, roles and families
 pub mod Rows  -- the rows of the member table, class by class
 pub mod Table  -- the table read off: the kind of a member, and what a class requires

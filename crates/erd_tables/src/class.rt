@@ -1,62 +1,103 @@
+//! Classes, families and roles, and the `@type` texts of the classes.
 ghost use Rattle.std.specs.Prelude.{◌≡◌};
 ghost use Rattle.erd_tables.specs.Classes.{text_of_class, class_of_text, family_of_class, role_of_class, class_in_role, NamesItsClass};
 
-/// The classes of a pre-election report (NIST SP 1500-100 version 2).
+/// A class of a pre-election report in NIST SP 1500-100 version 2. The profile (docs/PROFILE.md) covers these 22 classes.
 #[derive(Clone, Copy, Debug, PartialEq, Eq, PartialOrd, Ord, Hash)]
 pub enum Class {
+    /// The report: the root of the JSON value.
     ElectionReport,
+    /// An election: an entry of `Election` of the report.
     Election,
+    /// A geographic or political unit, such as a precinct: an entry of `GpUnit` of the report.
     ReportingUnit,
+    /// A party: an entry of `Party` of the report.
     Party,
+    /// A coalition of parties: an entry of `Party` of the report. The class extends Party.
     Coalition,
+    /// A person: an entry of `Person` of the report.
     Person,
+    /// An office: an entry of `Office` of the report.
     Office,
+    /// A header for ballots: an entry of `Header` of the report.
     Header,
+    /// A candidate: an entry of `Candidate` of an election.
     Candidate,
+    /// A contest between candidates: an entry of `Contest` of an election.
     CandidateContest,
+    /// A contest on a ballot measure: an entry of `Contest` of an election.
     BallotMeasureContest,
+    /// A contest on whether an office holder stays in office: an entry of `Contest` of an election. The class extends
+    /// BallotMeasureContest.
     RetentionContest,
+    /// A contest between parties: an entry of `Contest` of an election.
     PartyContest,
+    /// A choice of candidates: an entry of `ContestSelection` of a contest.
     CandidateSelection,
+    /// An answer to a ballot measure: an entry of `ContestSelection` of a contest.
     BallotMeasureSelection,
+    /// A choice of parties: an entry of `ContestSelection` of a contest.
     PartySelection,
+    /// A ballot style: an entry of `BallotStyle` of an election.
     BallotStyle,
+    /// A contest on a ballot: an entry of `OrderedContent` of a BallotStyle or an OrderedHeader.
     OrderedContest,
+    /// A header on a ballot, with what is below it: an entry of `OrderedContent` of a BallotStyle or an OrderedHeader.
     OrderedHeader,
+    /// An identifier of an object: an entry of `ExternalIdentifier`.
     ExternalIdentifier,
+    /// A text in one or more languages: the value of a label.
     InternationalizedText,
+    /// A text in one language: an entry of `Text` of an InternationalizedText.
     LanguageString,
 }
 
-/// The families of objects that an `@id` can name. A reference is to an object of one family.
+/// A family of objects that an `@id` can name. Each reference of the member table is to an object of one family. Families
+/// come from the profile (docs/PROFILE.md): the standard has none.
 #[derive(Clone, Copy, Debug, PartialEq, Eq, PartialOrd, Ord, Hash)]
 pub enum Family {
+    /// Class ReportingUnit.
     Unit,
+    /// Classes Party and Coalition.
     Party,
+    /// Class Person.
     Person,
+    /// Class Office.
     Office,
+    /// Class Header.
     Header,
+    /// Class Candidate.
     Candidate,
+    /// Classes CandidateContest, BallotMeasureContest, RetentionContest and PartyContest.
     Contest,
+    /// Class BallotStyle.
     Style,
+    /// Classes CandidateSelection, BallotMeasureSelection and PartySelection.
     Selection,
 }
 
-/// What an object stands for in a report. Each class has one role.
+/// What an object is in a report. Each class has one role, and each place of a report admits the classes of one role. Roles
+/// come from the profile (docs/PROFILE.md): the standard has none.
 #[derive(Clone, Copy, Debug, PartialEq, Eq)]
 pub enum Role {
+    /// The report: class ElectionReport.
     Report,
+    /// An election: class Election.
     Election,
     /// An object of the family.
     OfFamily(Family),
-    /// A contest or a header in the order of a ballot.
+    /// A contest or a header on a ballot: classes OrderedContest and OrderedHeader.
     Content,
+    /// An external identifier: class ExternalIdentifier.
     Identifier,
+    /// A label in one or more languages: class InternationalizedText.
     Label,
+    /// A text in one language: class LanguageString.
     Language,
 }
 
-/// The class that an `@type` text names: `ElectionResults.` and the name of the class, and no other text.
+/// Returns the class that an `@type` text names, or `None` if it names none of the 22. The one text that names a class is
+/// `ElectionResults.` followed by the name of the class, byte for byte.
 pub fn class_of(text: &str) -> Option<Class>
     ensures value { result ≡ class_of_text text.now }
     ensures exact { NamesItsClass text.now result }
@@ -95,7 +136,7 @@ fn class_from_text(text: &str) -> Option<Class>
     }
 }
 
-/// The `@type` text of a class.
+/// Returns the `@type` text of a class: `ElectionResults.` followed by the name of the class.
 pub fn type_text(class: Class) -> &'static str
     ensures { result.now ≡ text_of_class class }
 {
@@ -125,7 +166,7 @@ pub fn type_text(class: Class) -> &'static str
     }
 }
 
-/// What the objects of a class stand for.
+/// Returns the role of the objects of a class.
 pub fn role_of(class: Class) -> Role
     ensures { result ≡ role_of_class class }
 {
@@ -153,7 +194,7 @@ pub fn role_of(class: Class) -> Role
     }
 }
 
-/// The family of the objects of a class, or none for a class whose objects no `@id` names.
+/// Returns the family of the objects of a class, or `None` if no `@id` can name objects of the class.
 pub fn family_of(class: Class) -> Option<Family>
     ensures { result ≡ family_of_class class }
 {
@@ -163,7 +204,7 @@ pub fn family_of(class: Class) -> Option<Family>
     }
 }
 
-/// The class that an `@type` text names, where its objects have the role.
+/// Returns the class that an `@type` text names if the objects of that class have the role, otherwise `None`.
 pub fn class_in(role: Role, text: &str) -> Option<Class>
     ensures { result ≡ class_in_role role text.now }
 {

@@ -1,63 +1,74 @@
-ghost use Rattle.std.specs.Prelude.{◌≡◌, ◌++◌, length, slice_get, string_bytes, IfOk};
+//! Faults, the reasons for them, and the lines that report them.
+ghost use Rattle.std.specs.Prelude.{◌≡◌, ◌==◌, ◌++◌, length, slice_get, string_bytes, IfOk};
 ghost use Rattle.std.specs.Option.{option_copied};
+ghost use Rattle.std.specs.Slice.Iter.{iter_rest};
+ghost use Rattle.std.specs.Iterator.Adapters.{IterYieldsInOrder};
 ghost use Rattle.erd_tables.specs.Faults.{fault_line, missing_name, reason_text};
 
 use crate::place::{Place, pointer};
 use crate::text::Text;
 use std::alloc::{AllocError, Global};
 use std::marker::Model;
+use std::slice::Iter;
 
-/// Why a report is refused: the reasons 1 to 18, in this order.
+/// Why a report is refused. The variants are the reasons 1 to 18 of docs/PROFILE.md, in this order.
 #[derive(Debug, Drop)]
 pub enum Reason {
-    /// Not the JSON kind that the table asks for.
+    /// The value is not of the JSON kind that the member table asks for.
     WrongKind,
-    /// A required member is absent; its name.
+    /// The object lacks the required member of this name.
     MissingMember(Text),
-    /// The `@type` names no class that may stand there.
+    /// The text of `@type` names no class that is allowed at this place.
     WrongClassText,
-    /// A number that is not whole, where only whole ones are taken.
+    /// The number is not whole. Numbers in whole-number members and in carried values must be whole.
     NotWhole,
-    /// A member outside the profile that is not an empty array.
+    /// The member is outside the profile and is not an empty array.
     OutsideProfile,
-    /// A member named as a reference that the table does not list.
+    /// The name of the member ends in `Id` or `Ids`, as those of references do, but the member table does not list it.
     UnknownReference,
-    /// An identity or a reference where none belongs.
+    /// The member is an identity or a reference where none is allowed.
     CarriedIdentity,
-    /// `Status` is another text than `pre-election`.
+    /// `Status` is a text other than `pre-election`.
     NotPreElection,
-    /// `Election` has not exactly one entry.
+    /// `Election` does not have exactly one entry.
     ElectionCount,
-    /// An array that needs an entry has none.
+    /// The array is empty, and must have an entry.
     EmptyArray,
-    /// An entry is the same as an earlier one of its set.
+    /// The entry is equal to an earlier entry of its set.
     Repeated,
-    /// An object that needs a key has no external identifier.
+    /// The object needs a key and has no external identifier.
     NoIdentifier,
-    /// The key of an earlier object of the family.
+    /// The object has the same key as an earlier object of its family.
     TwinIdentifier,
-    /// The `@id` of an earlier object.
+    /// The object has the same `@id` as an earlier object of any family.
     DuplicateId,
-    /// No object has this `@id`.
+    /// No object has the `@id` that the reference names.
     Unresolved,
-    /// The object with this `@id` is of another family.
+    /// The object with the `@id` that the reference names is of another family.
     WrongFamily,
-    /// A selection, but of another contest than the one named beside it.
+    /// The reference names a selection of another contest than the one that `ContestId` beside it names.
     SelectionOfOtherContest,
-    /// The selection name of an earlier selection of the contest.
+    /// The selection has the same name as an earlier selection of its contest.
     TwinSelection,
 }
 
-/// A fault: a place of the report, and what is wrong there.
+/// A fault of a report: a place, and what is wrong there.
 #[derive(Debug, Drop)]
 pub struct Fault {
+    /// The place of the value that has the fault. docs/PROFILE.md says for each reason which value that is.
     pub place: Place,
+    /// What is wrong at the place.
     pub reason: Reason,
 }
 
 impl Fault {
-    /// The line that tells the fault, without a line end: the JSON Pointer of its place, a colon, a blank, and the words
-    /// of its reason. Names are written as they are, a line feed too.
+    /// Returns the line for the fault, without a line end: the JSON Pointer of its place (RFC 6901), a colon, a space, and
+    /// the words for its reason. The words are those of docs/PROFILE.md. Apart from `~0` and `~1` in the pointer, names are
+    /// written as they are, even if they contain a line feed.
+    ///
+    /// # Errors
+    ///
+    /// `AllocError` if out of memory.
     pub fn line(&self, alloc: Global) -> Result<String, AllocError>
         ensures { IfOk result (λ line. string_bytes line ≡ fault_line self.now) }
     {
@@ -71,7 +82,7 @@ impl Fault {
     }
 }
 
-/// The words of a reason, before the name of a member.
+/// Returns the words for a reason, without the name of the missing member.
 fn words(reason: &Reason) -> &'static str
     ensures { result.now ++ missing_name reason.now ≡ reason_text reason.now }
 {
@@ -97,7 +108,7 @@ fn words(reason: &Reason) -> &'static str
     }
 }
 
-/// A list of faults.
+/// A list of faults. The function that returns one says which faults it has and in which order.
 #[derive(Debug, Drop)]
 pub struct FaultList {
     faults: Vec<Fault>,
@@ -113,21 +124,36 @@ impl Model for FaultList {
 }
 
 impl FaultList {
-    /// The faults in this order.
+    /// Returns the list of these faults, in the same order.
     pub fn of(faults: Vec<Fault>) -> FaultList
         ensures { result ≡ faults.items }
     {
         FaultList { faults }
     }
 
-    /// How many faults there are.
+    /// Returns the number of faults.
     pub fn len(&self) -> usize
         ensures { result ≡ length self.now }
     {
         self.faults.len()
     }
 
-    /// The fault at the position, counted from 0, if there is one.
+    /// Returns `true` if and only if the list has no faults.
+    pub fn is_empty(&self) -> bool
+        ensures { result ≡ (length self.now == 0) }
+    {
+        self.faults.is_empty()
+    }
+
+    /// Returns an iterator over the faults, in the order of the list.
+    pub fn iter(&self) -> Iter<'_, Fault>
+        ensures rest { iter_rest result ≡ self.now }
+        ensures runs { IterYieldsInOrder Fault }
+    {
+        self.faults.iter()
+    }
+
+    /// Returns the fault at the position, counted from 0, or `None` if there is none.
     pub fn get(&self, index: usize) -> Option<&Fault>
         ensures { option_copied result ≡ slice_get self.now index }
     {

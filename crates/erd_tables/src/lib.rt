@@ -1,4 +1,4 @@
-//! The classes and families of the format, the table of their members, places and faults.
+//! The classes and families of the format, the member table, places in a JSON value, and faults.
 #![tactic(auto)]
 
 pub mod class;

@@ -1,51 +1,53 @@
+//! The member table: what is asked of a member, by the class of its object and by its name.
 ghost use Rattle.std.specs.Prelude.{◌≡◌, map};
 ghost use Rattle.erd_tables.specs.Table.{is_envelope_name, is_reference_name, kind_of_unlisted, kind_of_member, required_names, is_required};
 
 use crate::class::{Class, Family, family_of};
 use crate::row_kinds::{envelope_kind, kind_in_table};
 
-/// What the table asks of a member.
+/// What the member table (docs/PROFILE.md) asks of a member.
 #[derive(Clone, Copy, Debug, PartialEq, Eq)]
 pub enum MemberKind {
     /// `@type`.
     ClassText,
-    /// `@id` of an object of a family.
+    /// `@id` of an object of a family: a JSON string.
     Identity,
-    /// A text.
+    /// A JSON string.
     Word,
-    /// A text, or an InternationalizedText.
+    /// A JSON string or an InternationalizedText object.
     Label,
-    /// A truth value.
+    /// `true` or `false`.
     Flag,
     /// A whole number.
     Whole,
-    /// A reference to an object of the family.
+    /// A reference to an object of the family: a JSON string.
     One(Family),
-    /// A set of references to objects of the family.
+    /// A set of references to objects of the family: an array of JSON strings.
     Many(Family),
-    /// A set of ExternalIdentifier objects.
+    /// A set of ExternalIdentifier objects: an array.
     Identifiers,
-    /// A set of LanguageString objects.
+    /// A set of LanguageString objects: an array.
     Languages,
     /// An array of objects of the family.
     Keyed(Family),
     /// The array of the report's elections.
     Elections,
-    /// The order of a ballot: a list of OrderedContest and OrderedHeader objects.
+    /// What is on a ballot, in order: an array of OrderedContest and OrderedHeader objects.
     Content,
-    /// A list of references to selections.
+    /// References to selections, in order: an array of JSON strings.
     Ordered,
-    /// A member outside the profile: `[]`, or refused.
+    /// A member outside the profile. Only `[]` is allowed, which means the same as absence.
     Outside,
-    /// A name that the class does not have, and that ends as those of references do.
+    /// A name that the table does not list for the class, and that ends in `Id` or `Ids`. It is refused (reason 6).
     StrangeReference,
-    /// `@id` of an object that is of no family.
+    /// An identity where none is allowed, such as `@id` of an object of no family. It is refused (reason 7).
     StrangeIdentity,
-    /// Any other member.
+    /// Any other member that the table does not list: any JSON value within the rules for carried members.
     Carried,
 }
 
-/// What the table asks of the member of this name in an object of the class.
+/// Returns what the table asks of the member of this name in an object of the class. If the class has no row for the name,
+/// that is `ClassText`, `Identity`, `StrangeIdentity`, `StrangeReference` or `Carried`.
 pub fn member_kind(class: Class, name: &str) -> MemberKind
     ensures { result ≡ kind_of_member class name.now }
 {
@@ -55,14 +57,15 @@ pub fn member_kind(class: Class, name: &str) -> MemberKind
     }
 }
 
-/// Whether a member of a report is of its envelope: how the file came about, and no part of what the report means.
+/// Returns `true` if and only if the member of this name in a report belongs to its envelope. The envelope says how the file
+/// came about, and is no part of what the report means. docs/PROFILE.md lists its members.
 pub fn is_envelope(name: &str) -> bool
     ensures { result ≡ is_envelope_name name.now }
 {
     envelope_kind(name).is_some()
 }
 
-/// Whether a name ends as the names of references do: in `Id` or `Ids`.
+/// Returns `true` if and only if a name ends in `Id` or `Ids`, as the names of references do in the standard. Case matters.
 pub fn is_reference_form(name: &str) -> bool
     ensures { result ≡ is_reference_name name.now }
 {
@@ -87,7 +90,8 @@ fn kind_unlisted(class: Class, name: &str) -> MemberKind
     }
 }
 
-/// The names of the members that an object of the class must have besides `@type`, in byte order.
+/// Returns the names of the members that an object of the class must have besides `@type`, in byte order.
+/// `ExternalIdentifier` is never one of them: an object that needs one and has none is refused for reason 12.
 pub fn required(class: Class) -> &'static [&'static str]
     ensures { map (λ s. s.now) result.now ≡ required_names class }
 {
@@ -117,7 +121,7 @@ pub fn required(class: Class) -> &'static [&'static str]
     }
 }
 
-/// Whether an object of the class must have the member, of the members other than `@type`.
+/// Returns `true` if and only if `required` lists the name for the class.
 pub fn is_required_member(class: Class, name: &str) -> bool
     ensures { result ≡ is_required class name.now }
 {

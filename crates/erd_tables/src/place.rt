@@ -1,21 +1,25 @@
-ghost use Rattle.std.specs.Prelude.{◌≡◌, ◌++◌, length, slice_get, string_bytes, codes, IfOk};
+//! Places in a JSON value, and their JSON Pointers (RFC 6901).
+ghost use Rattle.std.specs.Prelude.{◌≡◌, ◌==◌, ◌++◌, length, slice_get, string_bytes, codes, IfOk};
 ghost use Rattle.std.specs.Option.{option_copied};
+ghost use Rattle.std.specs.Slice.Iter.{iter_rest};
+ghost use Rattle.std.specs.Iterator.Adapters.{IterYieldsInOrder};
 ghost use Rattle.erd_tables.specs.Places.{escaped_name, step_text, pointer_text};
 
 use crate::text::Text;
 use std::alloc::{AllocError, Global};
 use std::marker::Model;
+use std::slice::Iter;
 
-/// A step from a JSON value to one inside it.
+/// One step from a JSON value to a value inside it.
 #[derive(Debug, Drop)]
 pub enum Step {
-    /// To the member of an object with this name.
+    /// The step from an object to its member of this name.
     Name(Text),
-    /// To the entry of an array at this position, counted from 0.
+    /// The step from an array to its entry at this position, counted from 0.
     At(usize),
 }
 
-/// A place in a JSON value, as the steps that lead to it.
+/// A place in a JSON value: the steps that lead to it from the whole value.
 #[derive(Debug, Drop)]
 pub struct Place {
     steps: Vec<Step>,
@@ -31,21 +35,36 @@ impl Model for Place {
 }
 
 impl Place {
-    /// The place to which these steps lead from the whole value; no step leads to the value itself.
+    /// Returns the place that these steps lead to. With no steps it is the place of the whole value.
     pub fn of(steps: Vec<Step>) -> Place
         ensures { result ≡ steps.items }
     {
         Place { steps }
     }
 
-    /// How many steps it has.
+    /// Returns the number of steps.
     pub fn len(&self) -> usize
         ensures { result ≡ length self.now }
     {
         self.steps.len()
     }
 
-    /// The step at the position, counted from 0, if there is one.
+    /// Returns `true` if and only if the place has no steps: it is that of the whole value.
+    pub fn is_empty(&self) -> bool
+        ensures { result ≡ (length self.now == 0) }
+    {
+        self.steps.is_empty()
+    }
+
+    /// Returns an iterator over the steps, from the whole value inwards.
+    pub fn iter(&self) -> Iter<'_, Step>
+        ensures rest { iter_rest result ≡ self.now }
+        ensures runs { IterYieldsInOrder Step }
+    {
+        self.steps.iter()
+    }
+
+    /// Returns the step at the position, counted from 0, or `None` if there is none.
     pub fn step(&self, index: usize) -> Option<&Step>
         ensures { option_copied result ≡ slice_get self.now index }
     {
@@ -53,8 +72,12 @@ impl Place {
     }
 }
 
-/// The JSON Pointer of a place (RFC 6901, section 5): each step after a `/`, and the empty text for the whole value.
-/// A position is written in decimal; in a name `~` is written `~0`, and `/` is written `~1`.
+/// Returns the JSON Pointer of a place (RFC 6901, section 5). It has a `/` before each step. For the whole value it is the
+/// empty text. A position is written in decimal. In a name, `~` is written as `~0` and `/` as `~1`.
+///
+/// # Errors
+///
+/// `AllocError` if out of memory.
 pub fn pointer(alloc: Global, place: &Place) -> Result<String, AllocError>
     ensures { IfOk result (λ text. string_bytes text ≡ pointer_text place.now) }
 {

@@ -5,7 +5,7 @@ ghost use Rattle.erd_tables.specs.Table.{kind_in_rows};
 use crate::class::{Class, Family};
 use crate::member::MemberKind;
 
-/// The kind that the rows of a class give a name, if one of them has it.
+/// Returns the kind in the row that the class has for the name, or `None` if it has none. `@type` and `@id` have no rows.
 pub fn kind_in_table(class: Class, name: &str) -> Option<MemberKind>
     ensures { result ≡ kind_in_rows (rows_of_class class) name.now }
 {
@@ -35,6 +35,7 @@ pub fn kind_in_table(class: Class, name: &str) -> Option<MemberKind>
     }
 }
 
+/// Returns the kind of the member of this name in the envelope of a report, or `None` if the envelope has no such member.
 #[tactic(auto, using(crate::proofs::Texts::apart))]
 pub fn envelope_kind(name: &str) -> Option<MemberKind>
     ensures { result ≡ kind_in_rows envelope_rows name.now }

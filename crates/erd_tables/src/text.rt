@@ -1,10 +1,11 @@
+//! Owned texts, which are ordered by their bytes.
 ghost use Rattle.std.specs.Prelude.{◌≡◌, string_bytes};
 
 use std::cmp::Ordering;
 use std::hash::{Hash, Hasher};
 use std::marker::Model;
 
-/// A text of its own, seen by contracts as its bytes. Texts are ordered by their bytes.
+/// An owned text. Contracts see its UTF-8 bytes. Texts are compared and ordered by these bytes.
 #[derive(Debug, Drop)]
 pub struct Text {
     text: String,
@@ -19,14 +20,14 @@ impl Model for Text {
 }
 
 impl Text {
-    /// The text.
+    /// Returns the string as a `Text`.
     pub fn of(text: String) -> Text
         ensures { result ≡ string_bytes text }
     {
         Text { text }
     }
 
-    /// The text, borrowed.
+    /// Returns the text as a string slice.
     pub fn as_str(&self) -> &str
         ensures { result.now ≡ self.now }
     {

@@ -1,4 +1,4 @@
--- An order of JSON values, by which a value is sought among others. It says nothing of what values mean.
+-- An order of JSON values, used to find a value among others. It says nothing about what values mean.
 use Rattle.std.specs.Prelude.{ℕ}
 use Rattle.std.specs.Option.{option_cmp}
 use Rattle.std.specs.Ordering.{bool_cmp, int_cmp, nat_cmp, ordering_then}
@@ -8,7 +8,7 @@ use Rattle.serde_json.specs.Data.{Num, Data, null, boolean, number, string, arra
 use Rattle.serde_json.specs.Find.{as_integer}
 use Rattle.erd_tables.specs.Texts.{text_cmp}
 
--- the place of a value's kind among the kinds
+-- The position of the value's kind in the order of kinds.
 abbrev pub kind_number : Data → ℕ
 kind_number null = 0
 kind_number (boolean b) = 1
@@ -17,11 +17,11 @@ kind_number (string s) = 3
 kind_number (array ds) = 4
 kind_number (object ms) = 5
 
--- numbers by value; those that are not whole come first, and are tied
+-- Numbers are compared by value. Those that are not whole come first, and are tied.
 abbrev pub number_cmp : Num → Num → Ordering
 number_cmp m n = option_cmp int_cmp (as_integer m) (as_integer n)
 
--- by kind, then by what stands in the value
+-- Values are compared by kind, and then by what they contain.
 abbrev mutual
   pub json_cmp : Data → Data → Ordering
   json_cmp (boolean a) (boolean b) = bool_cmp a b
@@ -31,14 +31,14 @@ abbrev mutual
   json_cmp (object ms) (object ns) = members_cmp ms ns
   json_cmp d e = nat_cmp (kind_number d) (kind_number e)
 
-  -- entry by entry
+  -- Arrays are compared entry by entry.
   pub items_cmp : Items → Items → Ordering
   items_cmp no_items no_items = Equal
   items_cmp no_items (item e es) = Less
   items_cmp (item d ds) no_items = Greater
   items_cmp (item d ds) (item e es) = ordering_then (json_cmp d e) (items_cmp ds es)
 
-  -- member by member, its name before its value
+  -- Objects are compared member by member, and in each member the name before the value.
   pub members_cmp : Members → Members → Ordering
   members_cmp no_members no_members = Equal
   members_cmp no_members (member l e ns) = Less

@@ -1,4 +1,5 @@
--- What a walk over a report tells, in the order in which it visits the values. That these are all faults of a kind is proved in `Walks`.
+-- What a walk over a report reports, in the order in which it visits the values. `Walks` proves that these are all faults of
+-- a kind.
 use Rattle.std.specs.Prelude.{List, [], ◌∷◌, ◌++◌, Bool, false, ◌&&◌, map, filter, length, IfSome, IsTrue, ⊤}
 use Rattle.std.specs.List.{list_any}
 use Rattle.std.specs.List.Sorted.{IsStrictlySortedBy}
@@ -21,36 +22,36 @@ use Rattle.erd_check.specs.declared.want.Want.{Want}
 use Rattle.erd_check.specs.declared.want.Want.TheVariants.{Object}
 use Rattle.erd_check.specs.declared.want.Scope.{Scope}
 
--- what is asked of a value, with whether it repeats an earlier one
+-- A value, what is asked of it, and whether it repeats an earlier one.
 abbrev pub asked_with : Want → Bool → Data → Asked
 asked_with w repeated d = record { want = w; value = d; repeated = repeated }
 
--- a reason for each member that an object must have and lacks
+-- One reason for each member that an object must have and lacks.
 abbrev pub missing : Scope → Data → List Reason
 missing s d = map MissingMember (filter (lacks d) (names_wanted s))
 
--- the reasons that one value alone gives, but for members that it lacks and for its being repeated
+-- The reasons that one value alone gives, apart from the wrong kind, missing members and repetition.
 abbrev pub other_reasons : Want → Data → List Reason
 other_reasons w d =
     filter (is_shape_fault (asked_with w false d)) (WrongClassText ∷ NotWhole ∷ OutsideProfile ∷ UnknownReference ∷ CarriedIdentity ∷ NotPreElection ∷ ElectionCount ∷ EmptyArray ∷ [])
 
--- the reasons that one value gives, in the order of reasons
+-- The reasons that one value gives, in the order of reasons.
 abbrev pub reasons : Want → Bool → Data → List Reason
 reasons w repeated d =
     filter (is_shape_fault (asked_with w false d)) (WrongKind ∷ []) ++ missing (scope_inside w d) d ++ other_reasons w d
     ++ filter (is_shape_fault (asked_with w repeated d)) (Repeated ∷ [])
 
--- the same reasons as faults of one place
+-- The reasons as faults at one place.
 abbrev pub faults_of : List Step → List Reason → List Fault
 faults_of p = map (fault_at p)
 
--- what a walk tells of a value: by the value two steps above it, what is asked of it, whether it is equal to an earlier entry
--- of its set, and itself
+-- What a walk reports of a value, given the value two steps above it, what is asked of it, whether it equals an earlier
+-- entry of its set, and the value itself.
 abbrev pub Telling : Type 0
 Telling = Data → Want → Bool → Data → List Reason
 
--- what is told of a value, of entries and of members, and of all that stands inside them; with the values that stand two steps
--- and one step above each (for the report itself and its members, the report)
+-- What is reported of a value, or of entries or members, and of all values inside. Each is given the values two steps and
+-- one step above it. For the report itself and its members, these are the report.
 abbrev mutual
   pub told_at : Telling → Data → Data → List Step → Want → Bool → Data → List Fault
   told_at tells outer owner p w repeated null = faults_of p (tells outer w repeated null)
@@ -75,11 +76,11 @@ abbrev mutual
       option_map_or (λ v. told_at tells outer owner (p ++ Name k ∷ []) v false d) (want_of_name s k) []
       ++ told_of_members tells outer owner p s ms
 
--- what the report's own walk tells
+-- What the walk over a whole report reports.
 abbrev pub told_of_report : Telling → Data → List Fault
 told_of_report tells t = told_at tells t t [] (Object Report) false t
 
--- the members of each object that is walked are in the order of their names
+-- In each object that is walked, the members stand in the order of their names.
 abbrev mutual
   pub IsInOrder : Want → Data → Type 0
   IsInOrder w null = ⊤
@@ -97,7 +98,7 @@ abbrev mutual
   AreMembersInOrder s no_members = ⊤
   AreMembersInOrder s (member k d ms) = IfSome (want_of_name s k) (λ v. IsInOrder v d) × AreMembersInOrder s ms
 
--- something is known of each value that is visited, by what is asked of it
+-- For each value that is visited, `Known` holds of the value and of what is asked of it.
 abbrev mutual
   pub IsKnown : (Want → Data → Type 0) → Want → Data → Type 0
   IsKnown Known w null = Known w null
@@ -115,6 +116,6 @@ abbrev mutual
   AreMembersKnown Known s no_members = ⊤
   AreMembersKnown Known s (member k d ms) = IfSome (want_of_name s k) (λ v. IsKnown Known v d) × AreMembersKnown Known s ms
 
--- where a whole number is asked for, one that is there fits 64 bits
+-- If a whole number is asked for and the value is one, it fits 64 bits.
 abbrev pub IsAskedInRange : Want → Data → Type 0
 IsAskedInRange w d = IsTrue (wants_whole w) → IsInRange d

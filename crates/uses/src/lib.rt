@@ -1,0 +1,93 @@
+//! Uses of the library, as a caller writes them.
+#![tactic(auto)]
+
+#[cfg(test)]
+mod tests;
+
+ghost use Rattle.std.specs.Prelude.{◌≡◌, IfOk, None};
+ghost use Rattle.serde_json.specs.View.{view};
+ghost use Rattle.erd_check.specs.Trees.{IsShallow};
+
+use erd_canon::{Refusal, Side, canonical, check_bytes, compare_bytes};
+use erd_check::{CheckError, shape};
+use erd_compare::first_difference;
+use erd_meaning::{Report, resolve};
+use erd_normal::normal_tree;
+use erd_tables::Family;
+use serde_json::Value;
+use std::alloc::{AllocError, Global};
+use thiserror::Error;
+
+/// Whether two files define the same ballots, by their canonical bytes.
+pub fn is_same(alloc: Global, left: &[u8], right: &[u8]) -> Result<bool, Refusal> {
+    let left_form = canonical(alloc, left)?;
+    let right_form = canonical(alloc, right)?;
+    Ok(left_form.as_slice() == right_form.as_slice())
+}
+
+/// The lines of all faults of a file, each with a line feed. An accepted file has none.
+pub fn fault_lines(alloc: Global, bytes: &[u8]) -> Result<String, Trouble> {
+    let mut lines = String::new(alloc);
+    match check_bytes(alloc, bytes) {
+        Ok(()) => {}
+        Err(Refusal::Faults(faults)) => {
+            for fault in faults.iter() {
+                lines.push_str(&fault.line(alloc)?)?;
+                lines.push('\n')?;
+            }
+        }
+        Err(other) => return Err(Trouble::Refused(other)),
+    }
+    Ok(lines)
+}
+
+/// Why a file or two give no text.
+#[derive(Debug, Drop, Error)]
+pub enum Trouble {
+    #[error(transparent)]
+    Refused(#[from] Refusal),
+    #[error(transparent)]
+    Side(#[from] Side),
+    #[error(transparent)]
+    Memory(#[from(alloc)] AllocError),
+}
+
+/// The line of the first difference of two files, if they differ. `?` passes on what refuses either.
+pub fn difference_line(
+    alloc: Global,
+    left: &[u8],
+    right: &[u8],
+) -> Result<Option<String>, Trouble> {
+    match compare_bytes(alloc, left, right)? {
+        Some(difference) => Ok(Some(difference.line(alloc)?)),
+        None => Ok(None),
+    }
+}
+
+/// An accepted report over a tree that was read before, without a preferred type of identifier.
+fn report_of<'a>(alloc: Global, tree: &'a Value) -> Result<Report<'a>, CheckError>
+    requires nests { IsShallow (view tree.now) }
+    ensures prefer { IfOk result (λ report. report.prefer ≡ None) }
+{
+    let shaped = shape(alloc, tree)?;
+    resolve(alloc, shaped)
+}
+
+/// The canonical tree of a tree, and how many candidates it has.
+pub fn canonical_tree(alloc: Global, tree: &Value) -> Result<(Value, usize), CheckError>
+    requires nests { IsShallow (view tree.now) }
+{
+    let report = report_of(alloc, tree)?;
+    let form = normal_tree(alloc, &report)?;
+    Ok((form, report.count(Family::Candidate)))
+}
+
+/// Whether two trees mean the same.
+pub fn is_same_tree(alloc: Global, left: &Value, right: &Value) -> Result<bool, CheckError>
+    requires left_nests { IsShallow (view left.now) }
+    requires right_nests { IsShallow (view right.now) }
+{
+    let left_report = report_of(alloc, left)?;
+    let right_report = report_of(alloc, right)?;
+    Ok(first_difference(alloc, &left_report, &right_report)?.is_none())
+}

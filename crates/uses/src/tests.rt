@@ -1,0 +1,75 @@
+use super::*;
+use std::fmt::InlineText;
+use std::test::Fail;
+
+const REPORT: &str =
+    r#"{"@type":"ElectionResults.ElectionReport","Status":"pre-election","GpUnit":[{"@id":"u7","@type":"ElectionResults.ReportingUnit","Type":"county","ExternalIdentifier":[{"@type":"ElectionResults.ExternalIdentifier","Type":"local-level","Value":"U1"}]}],"Election":[{"@type":"ElectionResults.Election","Name":"Test","Type":"general","StartDate":"2026-11-03","EndDate":"2026-11-03","ElectionScopeId":"u7"}]}"#;
+
+// The same report with another `@id`, and members in another order.
+const OTHER_SPELLING: &str =
+    r#"{"Election":[{"@type":"ElectionResults.Election","ElectionScopeId":"county","EndDate":"2026-11-03","StartDate":"2026-11-03","Type":"general","Name":"Test"}],"GpUnit":[{"Type":"county","@id":"county","@type":"ElectionResults.ReportingUnit","ExternalIdentifier":[{"Value":"U1","Type":"local-level","@type":"ElectionResults.ExternalIdentifier"}]}],"Status":"pre-election","@type":"ElectionResults.ElectionReport"}"#;
+
+// The same with another name of the election.
+const OTHER_NAME: &str =
+    r#"{"@type":"ElectionResults.ElectionReport","Status":"pre-election","GpUnit":[{"@id":"u7","@type":"ElectionResults.ReportingUnit","Type":"county","ExternalIdentifier":[{"@type":"ElectionResults.ExternalIdentifier","Type":"local-level","Value":"U1"}]}],"Election":[{"@type":"ElectionResults.Election","Name":"Other","Type":"general","StartDate":"2026-11-03","EndDate":"2026-11-03","ElectionScopeId":"u7"}]}"#;
+
+// No member but its class.
+const BARE: &str = r#"{"@type":"ElectionResults.ElectionReport"}"#;
+
+const CANONICAL: &str =
+    r#"{"@type":"ElectionResults.ElectionReport","Election":[{"@type":"ElectionResults.Election","ElectionScopeId":"gp1","EndDate":"2026-11-03","Name":"Test","StartDate":"2026-11-03","Type":"general"}],"Format":"summary-contest","GeneratedDate":"2000-01-01T00:00:00Z","GpUnit":[{"@id":"gp1","@type":"ElectionResults.ReportingUnit","ExternalIdentifier":[{"@type":"ElectionResults.ExternalIdentifier","Type":"local-level","Value":"U1"}],"Type":"county"}],"Issuer":"canonical","IssuerAbbreviation":"canonical","SequenceEnd":1,"SequenceStart":1,"Status":"pre-election","VendorApplicationId":"canonical"}"#;
+
+// What a caller prints of an error, whichever it is.
+fn text<T: Drop, E: std::error::Error>(found: Result<T, E>) -> InlineText<64> {
+    match found {
+        Ok(_) => InlineText::of("no error"),
+        Err(error) => InlineText::of(error),
+    }
+}
+
+#[test]
+fn bytes(rt: HostRuntime) -> Result<(), Fail> {
+    let alloc = rt.alloc();
+    let (one, other) = (REPORT.as_bytes(), OTHER_SPELLING.as_bytes());
+    assert!(rt; is_same(alloc, one, other)?);
+    assert!(rt; !is_same(alloc, one, OTHER_NAME.as_bytes())?);
+    assert_eq!(rt; fault_lines(alloc, one)?.as_str(), "");
+    assert_eq!(rt;
+        fault_lines(alloc, BARE.as_bytes())?.as_str(),
+        ": missing member Election\n: missing member Status\n"
+    );
+    assert!(rt; difference_line(alloc, one, other)?.is_none());
+    let Some(line) = difference_line(alloc, one, OTHER_NAME.as_bytes())? else {
+        return Err(Fail::from("no difference"));
+    };
+    assert_eq!(rt; line.as_str(), "election: member \"Name\"");
+    Ok(())
+}
+
+#[test]
+fn trees(rt: HostRuntime) -> Result<(), Fail> {
+    let alloc = rt.alloc();
+    let one = Value::from_str(alloc, REPORT)?;
+    let other = Value::from_str(alloc, OTHER_SPELLING)?;
+    let (form, candidates) = canonical_tree(alloc, &other)?;
+    assert_eq!(rt; form.to_string(alloc)?.as_str(), CANONICAL);
+    assert_eq!(rt; candidates, 0);
+    assert!(rt; is_same_tree(alloc, &one, &other)?);
+    Ok(())
+}
+
+#[test]
+fn errors(rt: HostRuntime) -> Result<(), Fail> {
+    let alloc = rt.alloc();
+    let one = REPORT.as_bytes();
+    let said = text(is_same(alloc, one, b"no JSON"));
+    assert_eq!(rt; said.as_str(), "not JSON");
+    let said = text(difference_line(alloc, one, BARE.as_bytes()));
+    assert_eq!(rt; said.as_str(), "right: the report has faults: 2");
+    let said = text(difference_line(alloc, b"", one));
+    assert_eq!(rt; said.as_str(), "left: not JSON");
+    let tree = Value::from_str(alloc, "[]")?;
+    let said = text(canonical_tree(alloc, &tree));
+    assert_eq!(rt; said.as_str(), "the report has faults: 1");
+    Ok(())
+}
