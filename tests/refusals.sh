@@ -1,6 +1,6 @@
 #!/usr/bin/env bash
 # Refuses each request of memory in turn, in the built program and in built tests, until a run meets no refusal.
-# Each run must end right, or with want of memory and nothing else. One line a case. `make test` leaves the program and
+# Each run must end right, or out of memory and with nothing else written. One line a case. `make test` leaves the program and
 # the tests; so do `make erd` and, in crates/erd_rows, `rt test`.
 set -u
 cd "$(dirname "$0")/.." || exit 1
@@ -23,7 +23,7 @@ refusing() {
     REFUSE_AT=$at REFUSE_LOG=$work/log LD_PRELOAD=$work/refuse.so "$@"
 }
 
-# Whether the last run of the program ended with want of memory, and wrote nothing.
+# Whether the last run of the program ended out of memory, and wrote nothing.
 is_memory() {
     [ "$status" -eq 4 ] && [ ! -s "$work/out" ] && [ "$(cat "$work/err")" = 'no memory' ]
 }
@@ -52,24 +52,14 @@ program() {
     said "$name ($refusals refusals)" "$([ "$at" -le "$most" ] || echo 'no end')"
 }
 
-# a test of the crate erd_rows, which passes where its call answers rightly or with want of memory
+# A test of the crate erd_rows, which says itself what is refused, and passes if each call returns the right answer or is out of memory.
 one_test() {
-    local name=$1 refusals=0 at
-    for ((at = 1; at <= most; at++)); do
-        refusing "$at" "$tests" "$name" > "$work/out" 2>&1
-        status=$?
-        if [ ! -e "$work/log" ]; then
-            [ "$status" -eq 0 ] && [ "$refusals" -gt 0 ] && break
-            said "$name" "status $status with no refusal, after $refusals"
-            return
-        fi
-        refusals=$((refusals + 1))
-        if [ "$status" -ne 0 ]; then
-            said "$name" "status $status at refusal $at"
-            return
-        fi
-    done
-    said "$name ($refusals refusals)" "$([ "$at" -le "$most" ] || echo 'no end')"
+    local name=$1 refusals=0 why=''
+    rm -f "$work/log"
+    REFUSE_LOG=$work/log LD_PRELOAD=$work/refuse.so "$tests" "tests::$name" > "$work/out" 2>&1 || why=$(tail -n 5 "$work/out")
+    [ -e "$work/log" ] && refusals=$(wc -l < "$work/log")
+    [ "$refusals" -gt 0 ] || why+='nothing was refused'
+    said "$name ($refusals refusals)" "$why"
 }
 
 : > "$work/empty"
@@ -91,23 +81,31 @@ for name in many_units many_units_turned_round many_selections many_references; 
 done
 program 'a comparison of many units, made small' "$work/empty" 0 "$work/same" '' \
     compare "$work/many/many_units.json" "$work/many/many_units_turned_round.json"
-one_test tests::refused::refused_canonical
-one_test tests::refused::refused_run
-one_test tests::refused::refused_shape
-one_test tests::refused::refused_check_of_faults
-one_test tests::refused::refused_check_of_accepted
-one_test tests::refused::refused_resolve
-one_test tests::refused::refused_references
-one_test tests::refused::refused_twin_write_ins
-one_test tests::refused::refused_ordered_write_ins
-one_test tests::refused::refused_identified_write_ins
-one_test tests::refused_comparisons::refused_difference
-one_test tests::refused_comparisons::refused_compare_bytes
-one_test tests::refused_comparisons::refused_compare
-one_test tests::refused_comparisons::refused_compare_of_two_vendors
-one_test tests::refused_comparisons::refused_compare_of_faults
-one_test tests::refused_lines::refused_comparison
-one_test tests::refused_lines::refused_usage
-one_test tests::refused_lines::refused_help
+for name in \
+    refused::refused_canonical \
+    refused::refused_check_bytes \
+    refused::refused_run \
+    refused::refused_check \
+    refused::refused_shape \
+    refused::refused_twin_units \
+    refused::refused_references \
+    refused::refused_write_ins \
+    refused_parts::refused_pointer \
+    refused_parts::refused_push_fault \
+    refused_parts::refused_faults \
+    refused_parts::refused_keys \
+    refused_parts::refused_order \
+    refused_parts::refused_normal_tree \
+    refused_parts::refused_values \
+    refused_comparisons::refused_difference \
+    refused_comparisons::refused_compare_bytes \
+    refused_comparisons::refused_compare \
+    refused_comparisons::refused_compare_of_two_vendors \
+    refused_comparisons::refused_compare_of_faults \
+    refused_lines::refused_comparison \
+    refused_lines::refused_usage \
+    refused_lines::refused_help; do
+    one_test "$name"
+done
 
 counts

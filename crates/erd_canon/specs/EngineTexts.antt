@@ -1,4 +1,4 @@
--- What the three engines write for given bytes. All is this profile's.
+-- What the three engines write for given bytes. All of this is the profile's own.
 use Rattle.std.specs.Prelude.{ℕ, ◌≡◌, ◌≢◌, ◌⊎◌, List, [], ◌∷◌, ◌++◌, Option, Some, None, map, codes}
 use Rattle.std.specs.List.{flat_map}
 use Rattle.serde_json.specs.Data.{Data}
@@ -12,42 +12,44 @@ use Rattle.erd_compare.specs.Differences.{IsDifference}
 use Rattle.erd_compare.specs.declared.difference.Difference.{Difference}
 use Rattle.erd_canon.specs.Bytes.{IsTreeOf, IsNotJson, IsAcceptedReport, IsCanonicalBytes}
 
--- lines, each ended by one line feed
+-- The text of the lines, each ended by one line feed.
 abbrev pub text_of_lines : List (List ℕ) → List ℕ
 text_of_lines lines = flat_map (λ line. line ++ 10 ∷ []) lines
 
--- the bytes are JSON that is refused, with these faults in their order
+-- The bytes are JSON but no accepted report, and these are all of its faults in their order.
 pub record IsRefusedReport (π : Preference) (b : List ℕ) (faults : List Fault) : Type 0 where
   pub tree : Data
   pub read : IsTreeOf b tree
   pub all : ListsAll (IsFault π tree) faults
   pub some : faults ≢ []
 
--- the lines that tell why the bytes are not accepted: `not JSON`, or one for each fault
+-- The lines say why the bytes are not accepted: `not JSON`, or one line for each fault.
 abbrev pub IsRefusal : Preference → List ℕ → List (List ℕ) → Type 0
 IsRefusal π b lines =
     (IsNotJson b × (lines ≡ codes "not JSON" ∷ [])) ⊎ ((faults : List Fault) × IsRefusedReport π b faults × (lines ≡ map fault_line faults))
 
--- what checking writes: `accepted`, or why not
+-- The text is what checking writes: `accepted`, or why the bytes are not accepted.
 abbrev pub IsCheckText : Preference → List ℕ → List ℕ → Type 0
 IsCheckText π b x =
     ((t : Data) × IsAcceptedReport π b t × (x ≡ text_of_lines (codes "accepted" ∷ [])))
     ⊎ ((lines : List (List ℕ)) × IsRefusal π b lines × (x ≡ text_of_lines lines))
 
--- what canonicalising writes to its output: the canonical bytes with no line end, or nothing
+-- The text is what canonicalising writes to its output: the canonical bytes with no line end, or nothing if the bytes are no
+-- accepted report.
 abbrev pub IsCanonicalOutput : Preference → List ℕ → List ℕ → Type 0
 IsCanonicalOutput π b x = IsCanonicalBytes π b x ⊎ (((t : Data) → ¬ IsAcceptedReport π b t) × (x ≡ []))
 
--- what canonicalising writes to its errors: nothing, or why not
+-- The text is what canonicalising writes to its errors: nothing for an accepted report, and otherwise why it is not
+-- accepted.
 abbrev pub IsCanonicalErrors : Preference → List ℕ → List ℕ → Type 0
 IsCanonicalErrors π b x = ((t : Data) × IsAcceptedReport π b t × (x ≡ [])) ⊎ ((lines : List (List ℕ)) × IsRefusal π b lines × (x ≡ text_of_lines lines))
 
--- the words for a comparison of two accepted reports
+-- The words for a comparison of two accepted reports: `same`, or the line for their first difference.
 abbrev pub comparison_line : Option Difference → List ℕ
 comparison_line None = codes "same"
 comparison_line (Some d) = difference_line d
 
--- two accepted reports, and the first difference of their meanings
+-- Both inputs are accepted reports, and this is the first difference of what they mean, or none if they mean the same.
 pub record IsComparison (π : Preference) (left right : List ℕ) (found : Option Difference) : Type 0 where
   pub left_tree : Data
   pub right_tree : Data
@@ -55,11 +57,12 @@ pub record IsComparison (π : Preference) (left right : List ℕ) (found : Optio
   pub right_accepted : IsAcceptedReport π right right_tree
   pub difference : IsDifference (meaning π left_tree) (meaning π right_tree) found
 
--- lines about one of two reports
+-- The lines, each with the name of one side in front.
 abbrev pub lines_of_side : List ℕ → List (List ℕ) → List (List ℕ)
 lines_of_side side lines = map (λ line. side ++ line) lines
 
--- what comparing writes: `same`, or the difference, or why the first report that is not accepted is refused, the left one before the right
+-- The text is what comparing writes: why the left input is refused, else why the right one is refused, else `same` or the
+-- difference.
 abbrev pub IsCompareText : Preference → List ℕ → List ℕ → List ℕ → Type 0
 IsCompareText π left right x =
     ((lines : List (List ℕ)) × IsRefusal π left lines × (x ≡ text_of_lines (lines_of_side (codes "left: ") lines)))

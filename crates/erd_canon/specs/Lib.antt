@@ -3,6 +3,7 @@ pub mod Bytes  -- the tree that bytes are, and the canonical bytes of a report
 pub mod ByteLaws  -- the laws of canonical bytes
 pub mod EngineTexts  -- the texts that checking, canonicalising and comparing write
 pub mod Refused  -- why bytes are refused, and on which side
+pub mod Limits  -- how much a run takes from one reader
 pub mod Reading  -- what came from a reader
 pub mod Run  -- what a run read and wrote that ends with an outcome
 pub mod Statuses  -- exit statuses, and the words of faults

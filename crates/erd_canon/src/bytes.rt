@@ -1,4 +1,4 @@
-//! The bytes of reports: whether they are accepted, their canonical bytes, and the first difference of two.
+//! The calls that take the bytes of reports: they check one, canonicalise one, or compare two.
 
 pub(crate) mod acceptance;
 pub(crate) mod canonical;

@@ -1,4 +1,4 @@
-//! The command line: what its words ask for, and what the program says of itself.
+//! The command line: how its words are parsed, and the help texts of the program.
 
 pub(crate) mod builder;
 pub(crate) mod help;

@@ -1,4 +1,4 @@
-//! What a run reads from and writes to, and how often it did.
+//! The devices that a run reads from and writes to, with counts of the calls.
 
 pub(crate) mod read_from;
 pub(crate) mod sink;

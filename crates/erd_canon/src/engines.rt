@@ -1,4 +1,4 @@
-//! The runs of the subcommands: each reads its input, writes what is found, and answers an outcome.
+//! The engines behind the subcommands. Each reads its input, writes the result and returns an outcome.
 
 pub(crate) mod canon;
 pub(crate) mod check;

@@ -1,5 +1,6 @@
-//! The canonical bytes of a report, the engines that read a report and write its faults or these bytes, or compare two, and
-//! the command line of the program that calls them.
+//! The calls that take the bytes of reports: they check a report, return its canonical bytes, or compare two reports. The
+//! engines do the same from readers to writers. The command line of the program that calls the engines is here too. The
+//! rules are those of docs/PROFILE.md.
 #![tactic(auto)]
 
 mod bytes;

@@ -1,4 +1,4 @@
-//! Tests that cross the crates, with the vectors and the failing devices that they use.
+//! Tests that use several crates, with the test vectors and the failing devices that they need.
 #![tactic(auto)]
 
 pub mod readers;

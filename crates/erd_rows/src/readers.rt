@@ -2,19 +2,34 @@
 use std::io;
 use std::io::{ErrorKind, Read};
 
-/// Gives one byte a read, and fails at the read after `good_reads` of them.
+/// A reader that gives one byte per read and fails once, at the read after `good_reads` reads. It counts its reads, so a
+/// test sees whether a read is tried again.
 #[derive(Drop)]
 pub struct FailingReader<'a> {
-    pub rest: &'a [u8],
-    pub good_reads: usize,
+    rest: &'a [u8],
+    good_reads: usize,
+    /// The number of reads so far.
+    pub reads: usize,
+}
+
+impl<'a> FailingReader<'a> {
+    /// Returns a reader of these bytes that fails at the read after `good_reads` reads.
+    pub fn after(bytes: &'a [u8], good_reads: usize) -> FailingReader<'a> {
+        FailingReader {
+            rest: bytes,
+            good_reads,
+            reads: 0,
+        }
+    }
 }
 
 impl Read for FailingReader<'_> {
     fn read(&mut self, buffer: &mut [u8]) -> io::Result<usize> {
-        if self.good_reads == 0 {
-            return Err(io::Error::from(ErrorKind::Other));
+        let fails = self.reads == self.good_reads;
+        self.reads = self.reads.saturating_add(1);
+        if fails {
+            return Err(io::Error::from(ErrorKind::Interrupted));
         }
-        self.good_reads -= 1;
         let Some((first, others)) = self.rest.split_first() else {
             return Ok(0);
         };
@@ -27,10 +42,12 @@ impl Read for FailingReader<'_> {
     }
 }
 
-/// Gives a text, and then so many blanks.
+/// A reader that gives a text, and then spaces.
 #[derive(Drop)]
 pub struct PaddedReader<'a> {
+    /// The rest of the text.
     pub text: &'a [u8],
+    /// The number of spaces that are left.
     pub blanks: usize,
 }
 

@@ -2,28 +2,38 @@
 use std::io;
 use std::io::{ErrorKind, Write};
 
-/// Takes one byte a write, and fails at the write after `good_writes` of them, or at a flush.
+/// A writer that takes one byte per write and fails once: at the write after `good_writes` writes, or at the first flush. It
+/// counts the calls, so a test sees whether a call is tried again.
 #[derive(Drop)]
 pub struct FailingWriter {
+    /// The number of bytes taken so far.
     pub taken: usize,
-    pub good_writes: usize,
-    pub fails_flush: bool,
+    /// The number of calls of `write` so far.
+    pub writes: usize,
+    /// The number of calls of `flush` so far.
+    pub flushes: usize,
+    good_writes: usize,
+    fails_flush: bool,
 }
 
 impl FailingWriter {
-    /// Fails at the write after `good_writes` of them.
+    /// Returns a writer that fails at the write after `good_writes` writes, and at no flush.
     pub fn after(good_writes: usize) -> FailingWriter {
         FailingWriter {
             taken: 0,
+            writes: 0,
+            flushes: 0,
             good_writes,
             fails_flush: false,
         }
     }
 
-    /// Takes each write, and fails at the flush.
+    /// Returns a writer that fails at the first flush, and at no write.
     pub fn at_flush() -> FailingWriter {
         FailingWriter {
             taken: 0,
+            writes: 0,
+            flushes: 0,
             good_writes: usize::MAX,
             fails_flush: true,
         }
@@ -32,10 +42,11 @@ impl FailingWriter {
 
 impl Write for FailingWriter {
     fn write(&mut self, bytes: &[u8]) -> io::Result<usize> {
-        if self.good_writes == 0 {
+        let fails = self.writes == self.good_writes;
+        self.writes = self.writes.saturating_add(1);
+        if fails {
             return Err(io::Error::from(ErrorKind::Interrupted));
         }
-        self.good_writes -= 1;
         if bytes.is_empty() {
             return Ok(0);
         }
@@ -44,15 +55,17 @@ impl Write for FailingWriter {
     }
 
     fn flush(&mut self) -> io::Result<()> {
-        if self.fails_flush {
-            Err(io::Error::from(ErrorKind::Other))
+        let fails = self.fails_flush && self.flushes == 0;
+        self.flushes = self.flushes.saturating_add(1);
+        if fails {
+            Err(io::Error::from(ErrorKind::Interrupted))
         } else {
             Ok(())
         }
     }
 }
 
-/// Takes no byte, and says that this went well.
+/// A writer that takes no byte and reports success.
 #[derive(Drop)]
 pub struct FullWriter;
 
@@ -66,27 +79,31 @@ impl Write for FullWriter {
     }
 }
 
-/// Keeps what it is given in place, without memory.
+// Larger than any canonical form of the vectors that a test reads back from a page.
+const PAGE: usize = 4096;
+
+/// A writer that keeps at most 4096 bytes in place, without allocating memory. When it is full, it takes no byte.
 #[derive(Drop)]
 pub struct PageWriter {
-    page: [u8; 1024],
+    page: [u8; PAGE],
     len: usize,
 }
 
 impl PageWriter {
+    /// Returns a writer that has taken nothing yet.
     pub fn empty() -> PageWriter {
         PageWriter {
-            page: [0; 1024],
+            page: [0; PAGE],
             len: 0,
         }
     }
 
-    /// What it was given.
+    /// Returns the bytes that it has taken.
     pub fn text(&self) -> &[u8] {
         self.page.get(..self.len).unwrap_or(&[])
     }
 
-    /// Whether it was given exactly these bytes.
+    /// Returns whether it has taken exactly these bytes.
     pub fn holds(&self, bytes: &[u8]) -> bool {
         self.len == bytes.len() && self.page.starts_with(bytes)
     }
@@ -94,7 +111,7 @@ impl PageWriter {
 
 impl Write for PageWriter {
     fn write(&mut self, bytes: &[u8]) -> io::Result<usize> {
-        let count = bytes.len().min(1024usize.saturating_sub(self.len));
+        let count = bytes.len().min(PAGE.saturating_sub(self.len));
         if count > 0 {
             self.page[self.len..self.len + count].copy_from_slice(&bytes[..count]);
             self.len += count;

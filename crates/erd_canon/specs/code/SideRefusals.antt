@@ -1,4 +1,4 @@
--- What is written of a refusal on one of two sides.
+-- What is written about a refusal on one of two sides.
 use Rattle.std.specs.Prelude.{◌≡◌, ℕ, List, [], ◌∷◌, map, codes, Option}
 use Rattle.std.specs.Io.KnownBytes.{Appends}
 use Rattle.erd_tables.specs.Faults.{fault_line}
@@ -8,13 +8,13 @@ use Rattle.erd_canon.specs.EngineTexts.{lines_of_side, text_of_lines}
 use Rattle.erd_canon.specs.declared.bytes.refusal.Refusal.{Refusal}
 use Rattle.erd_canon.specs.declared.bytes.refusal.Refusal.TheVariants as refusal
 
--- what is written of a refusal on one side, and the outcome; for want of memory nothing is written
+-- The text is what is written about a refusal on one side, and this is its outcome. Running out of memory has no such text.
 abbrev pub TellsRefusal : List ℕ → Refusal → Outcome → List ℕ → Type 0
 TellsRefusal side (refusal.Faults faults) Bad out = out ≡ text_of_lines (lines_of_side side (map fault_line faults))
 TellsRefusal side refusal.NotJson NotJson out = out ≡ text_of_lines (lines_of_side side (codes "not JSON" ∷ []))
 TellsRefusal side refused outcome out = ⊥
 
--- where the writer tells its bytes: what is written of a refusal on one side was written, and nothing else
+-- If the bytes of the writer are known: what is written about a refusal on one side was written, and nothing else.
 pub record IsRefusalWritten (side : List ℕ) (refused : Refusal) (outcome : Outcome) (before after : Option (List ℕ)) : Type 0 where
   pub text : List ℕ
   pub tells : TellsRefusal side refused outcome text

@@ -1,19 +1,19 @@
--- The command line, as the parser of command lines sees it.
+-- The command line as the parser of command lines sees it.
 use Rattle.std.specs.Prelude.{◌≡◌, true, List, ℕ, Option, Some, None, codes}
 use Rattle.clap.specs.Words.{App, Row, Rule, first_of, new_app, new_rule, with_rule, with_subcommand}
 use Rattle.clap.specs.declared.builder.value_parser.ValueParser.TheVariants.{NonEmptyString}
 use Rattle.erd_canon.specs.declared.commands.request.Request.{Request}
 use Rattle.erd_canon.specs.declared.commands.request.Request.TheVariants.{Filter, Check, Canon, Compare}
 
--- an argument that has to be there
+-- A required argument.
 abbrev pub file_rule : List ℕ → Rule
 file_rule id = record (new_rule id) { required = true }
 
--- `--prefer TYPE`, which may be left out; the type is not empty
+-- The option `--prefer TYPE`, which may be left out. The type must not be empty.
 abbrev pub prefer_rule : Rule
 prefer_rule = record (new_rule (codes "TYPE")) { long = Some (codes "prefer"); parser = Some NonEmptyString }
 
--- a subcommand of this name, which may be told a type to prefer
+-- A subcommand with this name that takes `--prefer TYPE`.
 abbrev pub preferring : List ℕ → App
 preferring name = with_rule (new_app name) prefer_rule
 
@@ -29,11 +29,11 @@ canon_subcommand = with_rule (preferring (codes "canon")) (file_rule (codes "FIL
 abbrev pub compare_subcommand : App
 compare_subcommand = with_rule (with_rule (preferring (codes "compare")) (file_rule (codes "LEFT"))) (file_rule (codes "RIGHT"))
 
--- the program
+-- The program and its three subcommands.
 abbrev pub program : App
 program = with_subcommand (with_subcommand (with_subcommand (new_app (codes "erd")) check_subcommand.top) canon_subcommand.top) compare_subcommand.top
 
--- a parse that met this subcommand, with these matches, asks for this
+-- The result of the parse, a subcommand and its matches or neither, makes this request.
 abbrev pub IsAskedBy : Option (List ℕ × List Row) → Request → Type 0
 IsAskedBy None Filter = Unit {0}
 IsAskedBy (Some met) (Check file prefer) = (met.0 ≡ codes "check")

@@ -14,7 +14,14 @@ use erd_meaning::{Report, resolve_with};
 use serde_json::Value;
 use std::alloc::Global;
 
-/// Whether the bytes are an accepted report, and if not, why. There is no preference; `check_bytes_with` takes one.
+/// Checks that the bytes are an accepted report, with no preferred type of identifier. `check_bytes_with` takes a
+/// preference.
+///
+/// # Errors
+///
+/// - `Refusal::NotJson` if the bytes are not JSON.
+/// - `Refusal::Faults` with all faults of the first phase that has any, if the bytes are JSON but not an accepted report.
+/// - `Refusal::Memory` if out of memory.
 pub fn check_bytes(alloc: Global, bytes: &[u8]) -> Result<(), Refusal>
     ensures ok { OnOk result (IsSomeReport None bytes.now) }
     ensures refused { IfErr result (RefusedAs None bytes.now) }
@@ -22,7 +29,13 @@ pub fn check_bytes(alloc: Global, bytes: &[u8]) -> Result<(), Refusal>
     check_bytes_with(alloc, bytes, None)
 }
 
-/// Whether the bytes are a report that is accepted under a preferred type of identifier, or under none, and if not, why.
+/// Checks that the bytes are a report that is accepted under a preferred type of identifier, or under none.
+///
+/// # Errors
+///
+/// - `Refusal::NotJson` if the bytes are not JSON.
+/// - `Refusal::Faults` with all faults of the first phase that has any, if the bytes are JSON but not an accepted report.
+/// - `Refusal::Memory` if out of memory.
 pub fn check_bytes_with(alloc: Global, bytes: &[u8], prefer: Option<&str>) -> Result<(), Refusal>
     ensures ok { OnOk result (IsSomeReport (option_copied prefer.entry) bytes.now) }
     ensures refused { IfErr result (RefusedAs (option_copied prefer.entry) bytes.now) }
@@ -32,7 +45,7 @@ pub fn check_bytes_with(alloc: Global, bytes: &[u8], prefer: Option<&str>) -> Re
     Ok(())
 }
 
-/// The tree that the bytes are.
+/// Parses the bytes into a tree.
 pub(crate) fn tree_of(alloc: Global, bytes: &[u8]) -> Result<Value, Refusal>
     ensures read { IfOk result (λ tree. IsTreeOf bytes.now (view tree)) }
     ensures nests { IfOk result (λ tree. IsShallow (view tree)) }
@@ -45,8 +58,8 @@ pub(crate) fn tree_of(alloc: Global, bytes: &[u8]) -> Result<Value, Refusal>
     }
 }
 
-/// The tree as a report that is accepted under the preference, or why it is refused. The shape is judged first, and a report
-/// whose shape has a fault is not judged further.
+/// Resolves the tree as a report that is accepted under the preference. The shape is checked first. If the shape has a
+/// fault, nothing else is checked.
 pub(crate) fn accepted<'a>(
     alloc: Global,
     tree: &'a Value,

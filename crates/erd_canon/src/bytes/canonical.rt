@@ -9,8 +9,14 @@ use crate::bytes::refusal::Refusal;
 use erd_normal::normal_tree;
 use std::alloc::Global;
 
-/// The canonical bytes of an accepted report, or why the given bytes are refused. There is no preference; `canonical_with`
-/// takes one.
+/// Returns the canonical bytes of an accepted report, with no preferred type of identifier. `canonical_with` takes a
+/// preference.
+///
+/// # Errors
+///
+/// - `Refusal::NotJson` if the bytes are not JSON.
+/// - `Refusal::Faults` with all faults of the first phase that has any, if the bytes are JSON but not an accepted report.
+/// - `Refusal::Memory` if out of memory.
 pub fn canonical(alloc: Global, bytes: &[u8]) -> Result<Vec<u8>, Refusal>
     ensures ok { IfOk result (λ text. IsCanonicalBytes None bytes.now text.items) }
     ensures unique { IfOk result (λ text. TellsMeanings None bytes.now text.items) }
@@ -21,12 +27,17 @@ pub fn canonical(alloc: Global, bytes: &[u8]) -> Result<Vec<u8>, Refusal>
     canonical_with(alloc, bytes, None)
 }
 
-/// The canonical bytes of a report that is accepted under a preferred type of identifier, or under none; or why the given bytes
-/// are refused.
+/// Returns the canonical bytes of a report that is accepted under a preferred type of identifier, or under none.
 ///
-/// They are the text, without blanks, of the one canonical report that means what the given one means under the preference. So
-/// two reports have equal canonical bytes if and only if they mean the same, and canonical bytes are their own canonical bytes.
-/// Renaming identifiers in the report or permuting its sets changes no byte.
+/// They are the compact text of the only canonical report (docs/PROFILE.md) that means what the given report means under the
+/// preference. So, under one preference, two reports have equal canonical bytes if and only if they mean the same, and
+/// canonical bytes are their own canonical bytes. Renaming identifiers in the report or reordering its sets changes no byte.
+///
+/// # Errors
+///
+/// - `Refusal::NotJson` if the bytes are not JSON.
+/// - `Refusal::Faults` with all faults of the first phase that has any, if the bytes are JSON but not an accepted report.
+/// - `Refusal::Memory` if out of memory.
 pub fn canonical_with(alloc: Global, bytes: &[u8], prefer: Option<&str>) -> Result<Vec<u8>, Refusal>
     ensures ok { IfOk result (λ text. IsCanonicalBytes (option_copied prefer.entry) bytes.now text.items) }
     ensures unique { IfOk result (λ text. TellsMeanings (option_copied prefer.entry) bytes.now text.items) }

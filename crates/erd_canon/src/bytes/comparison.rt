@@ -14,8 +14,14 @@ use erd_compare::{Difference, first_difference};
 use serde_json::Value;
 use std::alloc::Global;
 
-/// The first difference in what two reports mean, and none if and only if they mean the same; or which report is refused, and
-/// why. There is no preference; `compare_bytes_with` takes one.
+/// Returns the first difference between the meanings of two reports, or `None` if and only if they mean the same. There is
+/// no preferred type of identifier. `compare_bytes_with` takes a preference.
+///
+/// # Errors
+///
+/// - `Side::Left` with the refusal if the left report is refused.
+/// - `Side::Right` with the refusal if the left report is accepted and the right report is refused.
+/// - `Side::Memory` if both reports are accepted and memory runs out while they are compared.
 pub fn compare_bytes(alloc: Global, left: &[u8], right: &[u8]) -> Result<Option<Difference>, Side>
     ensures ok { IfOk result (IsComparison None left.now right.now) }
     ensures agree { IfOk result (AgreesUnderEach left.now right.now) }
@@ -24,11 +30,18 @@ pub fn compare_bytes(alloc: Global, left: &[u8], right: &[u8]) -> Result<Option<
     compare_bytes_with(alloc, left, right, None)
 }
 
-/// The first difference in what two reports mean under a preferred type of identifier, or under none, and no difference if and
-/// only if they mean the same; or which report is refused, and why.
+/// Returns the first difference between the meanings of two reports under a preferred type of identifier, or under none.
+/// Returns `None` if and only if they mean the same.
 ///
-/// The right report is judged only if the left one is accepted. Each is refused as `canonical_with` refuses it. If both are
-/// accepted, they mean the same under this preference if and only if they do under each other preference that accepts both.
+/// The right report is checked only if the left report is accepted. Each is refused for the same reasons as by
+/// `canonical_with`. If both are accepted, they mean the same under this preference if and only if they mean the same under
+/// each other preference that accepts both.
+///
+/// # Errors
+///
+/// - `Side::Left` with the refusal if the left report is refused.
+/// - `Side::Right` with the refusal if the left report is accepted and the right report is refused.
+/// - `Side::Memory` if both reports are accepted and memory runs out while they are compared.
 #[tactic(auto, using(crate::proofs::forms::Refusing::refused_tree))]
 pub fn compare_bytes_with(
     alloc: Global,
@@ -59,7 +72,7 @@ pub fn compare_bytes_with(
     }
 }
 
-/// The tree that the bytes on the left are.
+/// Parses the bytes on the left into a tree.
 fn left_tree_of(alloc: Global, left: &[u8]) -> Result<Value, Side>
     ensures read { IfOk result (λ tree. IsTreeOf left.now (view tree)) }
     ensures nests { IfOk result (λ tree. IsShallow (view tree)) }
@@ -71,7 +84,7 @@ fn left_tree_of(alloc: Global, left: &[u8]) -> Result<Value, Side>
     }
 }
 
-/// The tree that the bytes on the right are.
+/// Parses the bytes on the right into a tree.
 fn right_tree_of(alloc: Global, right: &[u8]) -> Result<Value, Side>
     ensures read { IfOk result (λ tree. IsTreeOf right.now (view tree)) }
     ensures nests { IfOk result (λ tree. IsShallow (view tree)) }

@@ -1,27 +1,35 @@
 use erd_check::CheckError;
 use erd_tables::FaultList;
 use std::alloc::AllocError;
+use thiserror::Error;
 
-/// Why bytes are not taken.
-#[derive(Debug, Drop)]
+/// Why the bytes of a report are refused.
+#[derive(Debug, Drop, Error)]
 pub enum Refusal {
-    /// The bytes are not JSON as `serde_json` reads it: UTF-8, and nested at most 127 deep.
+    /// The bytes are not JSON: `serde_json` does not read them. It reads UTF-8 in the grammar of RFC 8259, nested at most
+    /// 127 levels deep.
+    #[error("not JSON")]
     NotJson,
-    /// The bytes are JSON, and no accepted report: all its faults of the first phase that has any, by place, then by
-    /// reason, each once, of which there is one at least.
+    /// The bytes are JSON but not an accepted report. The list has all faults of the first phase (docs/PROFILE.md) that has
+    /// any, each once, ordered by place, then by reason. It is not empty.
+    #[error("the report has faults: {}", .0.len())]
     Faults(FaultList),
-    /// Memory was refused.
+    /// Out of memory.
+    #[error("no memory")]
     Memory,
 }
 
-/// Why two reports are not compared.
-#[derive(Debug, Drop)]
+/// Why two reports cannot be compared.
+#[derive(Debug, Drop, Error)]
 pub enum Side {
-    /// The left report is refused. The right one was not judged.
+    /// The left report is refused. The right report was not checked.
+    #[error("left: {0}")]
     Left(Refusal),
-    /// The left report is accepted, and the right one is refused.
+    /// The left report is accepted, and the right report is refused.
+    #[error("right: {0}")]
     Right(Refusal),
-    /// Both reports are accepted, and memory was refused as they were compared.
+    /// Both reports are accepted, and memory ran out while they were compared.
+    #[error("no memory")]
     Memory,
 }
 

@@ -8,7 +8,7 @@ use clap::builder::ValueParser;
 use clap::{Arg, Command};
 use std::alloc::{AllocError, Global};
 
-/// The program with its three subcommands.
+/// The command of the program, with its three subcommands.
 pub(crate) fn program_command<'a>(alloc: Global) -> Result<Command<'a>, AllocError>
     ensures { IfOk result (λ command. app_of command ≡ program) }
 {
@@ -21,7 +21,7 @@ pub(crate) fn program_command<'a>(alloc: Global) -> Result<Command<'a>, AllocErr
         .subcommand(compare_command(alloc)?)
 }
 
-// `check FILE`, and the option.
+// The subcommand `check [--prefer TYPE] FILE`.
 fn check_command<'a>(alloc: Global) -> Result<Command<'a>, AllocError>
     ensures app { IfOk result (λ command. app_of command ≡ check_subcommand) }
     ensures local { IfOk result (λ command. (out-Command command).has_globals ≡ false) }
@@ -34,7 +34,7 @@ fn check_command<'a>(alloc: Global) -> Result<Command<'a>, AllocError>
         .arg(file_argument(alloc, "FILE", help::FILE))
 }
 
-// `canon FILE`, and the option.
+// The subcommand `canon [--prefer TYPE] FILE`.
 fn canon_command<'a>(alloc: Global) -> Result<Command<'a>, AllocError>
     ensures app { IfOk result (λ command. app_of command ≡ canon_subcommand) }
     ensures local { IfOk result (λ command. (out-Command command).has_globals ≡ false) }
@@ -47,7 +47,7 @@ fn canon_command<'a>(alloc: Global) -> Result<Command<'a>, AllocError>
         .arg(file_argument(alloc, "FILE", help::FILE))
 }
 
-// `compare LEFT RIGHT`, and the option.
+// The subcommand `compare [--prefer TYPE] LEFT RIGHT`.
 fn compare_command<'a>(alloc: Global) -> Result<Command<'a>, AllocError>
     ensures app { IfOk result (λ command. app_of command ≡ compare_subcommand) }
     ensures local { IfOk result (λ command. (out-Command command).has_globals ≡ false) }
@@ -61,7 +61,7 @@ fn compare_command<'a>(alloc: Global) -> Result<Command<'a>, AllocError>
         .arg(file_argument(alloc, "RIGHT", help::RIGHT))
 }
 
-// A word that has to be there, and names a file.
+// A required argument that names a file.
 fn file_argument<'a>(alloc: Global, id: &'a str, text: &'a str) -> Arg<'a>
     ensures rule { rule_of result ≡ file_rule id.entry.now }
     ensures local { result.global ≡ false }
@@ -69,7 +69,7 @@ fn file_argument<'a>(alloc: Global, id: &'a str, text: &'a str) -> Arg<'a>
     Arg::new(alloc, id).required(true).help(text)
 }
 
-// `--prefer TYPE`, which may be left out. An empty type is refused.
+// The option `--prefer TYPE`. It rejects an empty type.
 fn prefer_argument<'a>(alloc: Global) -> Arg<'a>
     ensures rule { rule_of result ≡ prefer_rule }
     ensures local { result.global ≡ false }

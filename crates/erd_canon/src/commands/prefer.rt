@@ -3,7 +3,7 @@ ghost use Rattle.std.specs.Prelude.{◌≡◌, option_copied};
 use erd_tables::Text;
 use std::marker::Model;
 
-/// The type of identifier that a command line prefers, if it prefers one, as it was written. Contracts see the text, or none.
+/// The type of identifier that a command line prefers, as written, or none. Contracts see the text, or none.
 #[derive(Debug, Drop)]
 pub struct Prefer {
     kind: Option<Text>,
@@ -18,14 +18,14 @@ impl Model for Prefer {
 }
 
 impl Prefer {
-    /// This type, or none.
+    /// Wraps a type, or none.
     pub(crate) fn of(kind: Option<Text>) -> Prefer
         ensures { result ≡ kind }
     {
         Prefer { kind }
     }
 
-    /// The type that is preferred, if there is one. It takes no memory.
+    /// Returns the preferred type, or `None` if there is none. It allocates no memory.
     pub fn text(&self) -> Option<&str>
         ensures { option_copied result ≡ self.now }
     {

@@ -1,31 +1,35 @@
 use crate::commands::prefer::Prefer;
 use erd_tables::Text;
 use std::alloc::AllocError;
+use thiserror::Error;
 
-/// The name of a file, as it was written.
+/// The name of a file, as written on the command line.
 pub type FileName = Text;
 
-/// What the words of a command line ask for.
+/// What a command line asks for.
 #[derive(Debug, Drop)]
 pub enum Request {
-    /// The canonical form of the report on standard input.
+    /// Write the canonical form of the report on standard input.
     Filter,
-    /// Whether the report in this file is accepted, under this preference.
+    /// Check whether the report in this file is accepted under this preference.
     Check(FileName, Prefer),
-    /// The canonical form of the report in this file, under this preference.
+    /// Write the canonical form of the report in this file under this preference.
     Canon(FileName, Prefer),
-    /// The first difference of the reports in two files, the left one and the right one, under this preference.
+    /// Write the first difference between the reports in the left file and the right file under this preference.
     Compare(FileName, FileName, Prefer),
 }
 
-/// Why the words of a command line ask for none of these.
-#[derive(Debug, Drop)]
+/// Why a command line gives no request.
+#[derive(Debug, Drop, Error)]
 pub enum LineFault {
-    /// They ask for help, which is this text.
+    /// The words ask for help. This is the help text.
+    #[error("{}", .0.as_str())]
     Help(Text),
-    /// They are no command line of this program. This text says why, and what would be one.
+    /// The words are not a command line of this program. This text says why, and how the program is called.
+    #[error("{}", .0.as_str())]
     Usage(Text),
-    /// Memory was refused.
+    /// Out of memory.
+    #[error("no memory")]
     Memory,
 }
 

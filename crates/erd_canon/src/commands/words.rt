@@ -11,12 +11,18 @@ use clap::{ArgMatches, Error};
 use erd_tables::Text;
 use std::alloc::Global;
 
-/// Reads the words of a command line, of which the first is the program's name.
+/// Parses the words of a command line. The first word is the program's name.
 ///
-/// If no word follows, the answer is `Filter`. `check FILE`, `canon FILE` and `compare LEFT RIGHT` give the request of the same
-/// name without a preference. With `--prefer TYPE` between the subcommand and the first file name, they give it with the
-/// preference TYPE. All this holds if no file name and no TYPE is empty or begins with `-`; such a line is answered with its
-/// request, or with `LineFault::Memory` if memory runs out. `clap` decides how other words are read.
+/// If no other word follows, returns `Request::Filter`. For `check FILE`, `canon FILE` and `compare LEFT RIGHT`, returns the
+/// request of the same name without a preference. With `--prefer TYPE` between the subcommand and the first file name,
+/// returns it with the preference TYPE. This holds if no file name and no TYPE is empty or begins with `-`. Then the only
+/// error is `LineFault::Memory`. `clap` decides how other words are parsed.
+///
+/// # Errors
+///
+/// - `LineFault::Help` with the help text if the words ask for help.
+/// - `LineFault::Usage` with a message if the words are not a command line of the program.
+/// - `LineFault::Memory` if out of memory.
 pub fn command_line(alloc: Global, words: &[String]) -> Result<Request, LineFault>
     ensures exact { (request : Request) (name : List ℕ) → HasPlainWords request
         → map string_bytes words.now ≡ name ∷ words_of request
@@ -29,7 +35,7 @@ pub fn command_line(alloc: Global, words: &[String]) -> Result<Request, LineFaul
     }
 }
 
-// What the matches of the program ask for.
+// The request that the matches of the program give.
 fn request_of(alloc: Global, matches: &ArgMatches<'_>) -> Result<Request, LineFault>
     ensures { (request : Request) → IsAskedBy (subcommand_rows_of matches.now) request
         → MatchResult result (λ answer. answer ≡ request) (λ fault. fault ≡ LineFault.Memory) }
@@ -40,7 +46,7 @@ fn request_of(alloc: Global, matches: &ArgMatches<'_>) -> Result<Request, LineFa
     }
 }
 
-// What the matches of the subcommand of this name ask for.
+// The request that the matches of the subcommand with this name give.
 fn subcommand_request(
     alloc: Global,
     name: &str,
@@ -70,7 +76,7 @@ fn file_name(alloc: Global, matches: &ArgMatches<'_>, id: &str) -> Result<FileNa
     Ok(Text::of(name))
 }
 
-// The type that was given for the option, if it was given.
+// The type that was given for the option, if any.
 fn preference(alloc: Global, matches: &ArgMatches<'_>) -> Result<Prefer, LineFault>
     ensures { MatchResult result (λ answer. answer ≡ first_of (codes "TYPE") (rows_of (found_of matches.now)))
         (λ fault. fault ≡ LineFault.Memory) }
@@ -81,7 +87,7 @@ fn preference(alloc: Global, matches: &ArgMatches<'_>) -> Result<Prefer, LineFau
     }
 }
 
-// What is answered where there are no matches.
+// The fault for an error of `clap`.
 fn fault_of(alloc: Global, error: &Error) -> LineFault
     ensures { kind_of error.now ≡ ErrorKind.OutOfMemory → result ≡ LineFault.Memory }
 {

@@ -4,10 +4,10 @@ use crate::devices::source::{Failed, Source};
 use crate::devices::tally::Tally;
 use std::io::Read;
 
-/// Any of std's readers as a source. A read that was interrupted has failed, as any other that answers an error.
+/// A source that reads from any `std::io::Read`. A read counts as a failure if it returns any error, even an interruption.
 #[derive(Drop)]
 pub struct ReadFrom<R> {
-    /// The reader, as its last read left it.
+    /// The reader, as the last read left it.
     pub reader: R,
     pub(crate) has_failed: bool,
     pub(crate) reads: Tally,
@@ -15,7 +15,7 @@ pub struct ReadFrom<R> {
 }
 
 impl<R: Read> ReadFrom<R> {
-    /// The reader as a source that has not failed. One that failed is wrapped anew to be read again.
+    /// Wraps a reader as a source that has not failed. To read again after a failure, wrap the reader again.
     pub fn of(reader: R) -> ReadFrom<R>
         ensures reader { result.reader ≡ reader }
         ensures works { result.has_failed ≡ false }

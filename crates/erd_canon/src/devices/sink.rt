@@ -4,21 +4,26 @@ ghost use Rattle.std.specs.Io.KnownBytes.{WriteAppends, Appends, Keeps};
 
 use crate::devices::source::Failed;
 
-/// A writer that remembers whether it has failed. One that has failed is not written to or flushed again.
+/// A writer that remembers whether it has failed. After a failure it must not be written to or flushed again.
 pub trait Sink {
-    // The bytes that it holds, where they are known.
+    // The bytes that it holds, if they are known.
     ghost contents: { Self → Option (List ℕ) } = { λ _. None };
 
-    // A write or a flush has answered `Failed`.
+    // A write or a flush has returned `Failed`.
     ghost has_failed: { Self → Bool };
 
-    // It was flushed, and nothing was written since.
+    // It was flushed, and nothing has been written since.
     ghost is_flushed: { Self → Bool };
 
-    // How often a flush was asked of it.
+    // The number of calls of `flush`.
     ghost flushes: { Self → ℕ };
 
-    /// Takes bytes from the front, and answers how many: of some bytes one at least, or it fails.
+    /// Writes bytes from the front of the slice and returns how many it took. It takes at least one byte of a slice that is
+    /// not empty.
+    ///
+    /// # Errors
+    ///
+    /// `Failed` if the write failed.
     fn write(&mut self, bytes: &[u8]) -> Result<usize, Failed>
         requires { has_failed self.old ≡ false }
         ensures bound { WritesAtMost result bytes.now }
@@ -29,7 +34,11 @@ pub trait Sink {
         ensures ok { OnOk result (has_failed self.new ≡ has_failed self.old) }
         ensures err { OnErr result (has_failed self.new ≡ true) };
 
-    /// Passes on what it holds back.
+    /// Passes on the buffered bytes.
+    ///
+    /// # Errors
+    ///
+    /// `Failed` if the flush failed.
     fn flush(&mut self) -> Result<(), Failed>
         requires { has_failed self.old ≡ false }
         ensures flushed { OnOk result (is_flushed self.new ≡ true) }
@@ -38,18 +47,19 @@ pub trait Sink {
         ensures ok { OnOk result (has_failed self.new ≡ has_failed self.old) }
         ensures err { OnErr result (has_failed self.new ≡ true) };
 
-    /// Whether a write or a flush has failed.
+    /// Returns whether a write or a flush has failed.
     fn failed(&self) -> bool
         ensures { result ≡ has_failed self.now };
 }
 
-/// Writes all of the bytes. An empty slice is not written.
+/// Writes all the bytes. For an empty slice it calls nothing.
 pub(crate) fn write_out<W: Sink>(sink: &mut W, bytes: &[u8]) -> Result<(), Failed>
     requires { W.has_failed sink.old ≡ false }
     ensures written { OnOk result (Appends (W.contents sink.old) (W.contents sink.new) bytes.now) }
     ensures failed { IsErr result ↔ (W.has_failed sink.new ≡ true) }
     ensures works { OnOk result (W.has_failed sink.new ≡ false) }
     ensures counted { W.flushes sink.new ≡ W.flushes sink.old }
+    ensures empty { length bytes.now ≡ 0 → sink.new ≡ sink.old }
 {
     let mut at = 0;
     while at < bytes.len() {

@@ -1,32 +1,37 @@
-ghost use Rattle.std.specs.Prelude.{◌≡◌, ◌≢◌, ◌↔◌, ℕ, ◌+◌, ◌^◌, ◌<◌, ◌≤◌, List, [], ◌++◌, take, length, Bool, true, false, Option, None, IfOk, OnOk, OnErr, MatchResult, IsErrOf, Err, vec_len};
+ghost use Rattle.std.specs.Prelude.{◌≡◌, ◌≢◌, ◌↔◌, ℕ, ◌+◌, ◌<◌, ◌≤◌, List, [], ◌++◌, take, length, Bool, true, false, Option, None, IfOk, OnOk, OnErr, MatchResult, IsErrOf, Err, vec_len};
 ghost use Rattle.std.specs.Io.{ReadsAtMost};
 ghost use Rattle.std.specs.Io.KnownBytes.{ReadConsumes, Consumes, IsAtEnd};
+ghost use Rattle.erd_canon.specs.Limits.{most_bytes, most_reads};
 ghost use Rattle.erd_canon.specs.Reading.{Exceeds};
 ghost use Rattle.erd_canon.specs.code.Chunks.{TakesChunk};
 
 use crate::engines::outcome::RunFault;
 use std::alloc::{AllocError, Global};
 
-/// A read, a write or a flush failed.
+/// The error of a device: a read, a write or a flush failed.
 #[derive(Clone, Copy, Debug, PartialEq, Eq)]
 pub struct Failed;
 
-/// A reader that remembers whether it has failed. One that has failed is not read again.
+/// A reader that remembers whether it has failed. After a failure it must not be read again.
 pub trait Source {
-    // The bytes that reads will give from here on, where they are known.
+    // The bytes that later reads will give, if they are known.
     ghost remaining: { Self → Option (List ℕ) } = { λ _. None };
 
-    // A read has answered `Failed`.
+    // A read has returned `Failed`.
     ghost has_failed: { Self → Bool };
 
-    // How often it was read.
+    // The number of reads.
     ghost reads: { Self → ℕ };
 
-    // How many bytes its reads gave.
+    // The number of bytes that the reads gave.
     ghost given: { Self → ℕ };
 
-    /// Reads into the front of the buffer, and answers how many bytes came: none only at the end, or where
-    /// the buffer has no room.
+    /// Reads into the front of the buffer and returns how many bytes it read. It returns 0 only at the end of the input, or
+    /// if the buffer is empty.
+    ///
+    /// # Errors
+    ///
+    /// `Failed` if the read failed.
     fn read(&mut self, buffer: &mut [u8]) -> Result<usize, Failed>
         requires { has_failed self.old ≡ false }
         ensures bound { ReadsAtMost result buffer.new }
@@ -37,30 +42,30 @@ pub trait Source {
         ensures gave { MatchResult result (λ count. given self.new ≡ given self.old + count)
             (λ _. given self.new ≡ given self.old) };
 
-    /// Whether a read has failed.
+    /// Returns whether a read has failed.
     fn failed(&self) -> bool
         ensures { result ≡ has_failed self.now };
 }
 
-/// The most bytes that a run takes from one reader.
+/// The most bytes that a run accepts from one reader: 64 MiB. This is a limit of the profile (docs/PROFILE.md).
 pub const MOST_BYTES: usize = 67_108_864;
 
-// How much one read asks for.
+// The size of the buffer for one read.
 const CHUNK: usize = 65_536;
 
-/// All that a reader holds, if that is at most `MOST_BYTES`, read one chunk at a time. Each chunk is copied once,
-/// behind the bytes that came before it.
+/// Reads all bytes of a reader, one chunk at a time, if there are at most `MOST_BYTES`. Each chunk is copied once, to the
+/// end of the bytes before it.
 pub(crate) fn read_all<S: Source>(alloc: Global, source: &mut S) -> Result<Vec<u8>, RunFault>
     requires { S.has_failed source.old ≡ false }
     ensures all { IfOk result (λ v. Consumes (S.remaining source.old) (S.remaining source.new) v.items
         × IsAtEnd (S.remaining source.new)) }
-    ensures limit { IfOk result (λ v. vec_len v ≤ MOST_BYTES) }
+    ensures limit { IfOk result (λ v. vec_len v ≤ most_bytes) }
     ensures read { IsErrOf result RunFault.Read ↔ (S.has_failed source.new ≡ true) }
     ensures too_long { result ≡ Err RunFault.TooLong →
-        Exceeds MOST_BYTES (S.remaining source.old) (S.remaining source.new) }
+        Exceeds most_bytes (S.remaining source.old) (S.remaining source.new) }
     ensures too_many { result ≡ Err RunFault.TooLong →
-        S.given source.old + MOST_BYTES < S.given source.new }
-    ensures calls { S.reads source.new ≤ S.reads source.old + 2 ^ 27 }
+        S.given source.old + most_bytes < S.given source.new }
+    ensures calls { S.reads source.new ≤ S.reads source.old + most_reads }
     ensures no_write { result ≢ Err RunFault.Write }
 {
     let mut chunk = zeros(alloc, CHUNK)?;
@@ -75,7 +80,7 @@ fn zeros(alloc: Global, count: usize) -> Result<Vec<u8>, AllocError>
     vec![in alloc; 0u8; count]
 }
 
-// Reads to the end, a chunk at a time. Each read but the last gives a byte at least.
+// Reads to the end, one chunk at a time. Each read except the last gives at least one byte.
 fn fill<S: Source>(source: &mut S, chunk: &mut [u8], bytes: &mut Vec<u8>) -> Result<(), RunFault>
     requires works { S.has_failed source.old ≡ false }
     requires room { 0 < length chunk.old }
@@ -100,7 +105,7 @@ fn fill<S: Source>(source: &mut S, chunk: &mut [u8], bytes: &mut Vec<u8>) -> Res
     }
 }
 
-// One read, added to `bytes`. Answers whether that was the end.
+// Reads once and adds the chunk to `bytes`. Returns whether that was the end.
 fn read_chunk<S: Source>(
     source: &mut S,
     chunk: &mut [u8],

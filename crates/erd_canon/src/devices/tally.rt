@@ -3,7 +3,7 @@ ghost use Rattle.std.specs.Borrow.{ftrue};
 
 use std::marker::Model;
 
-/// A whole number without a last value, which contracts alone see. It takes no memory and does nothing at run time.
+/// An unbounded counter that only contracts see. It takes no memory and does nothing at run time.
 #[derive(Drop)]
 pub(crate) struct Tally {
     pub(crate) ghost count: { ℕ },
@@ -14,14 +14,14 @@ impl Model for Tally {
 }
 
 impl Tally {
-    /// The number 0.
+    /// A counter at 0.
     pub(crate) fn new() -> Tally
         ensures { result.count ≡ 0 }
     {
         Tally {}
     }
 
-    /// The number that is greater by `_more`.
+    /// The counter, increased by `_more`.
     #[inline(always)]
     pub(crate) fn plus(&self, _more: usize) -> Tally
         ensures { result.count ≡ self.now.count + _more }

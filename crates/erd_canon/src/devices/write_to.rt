@@ -5,10 +5,11 @@ use crate::devices::source::Failed;
 use crate::devices::tally::Tally;
 use std::io::Write;
 
-/// Any of std's writers as a sink. A write that takes no byte of some has failed, as one that was interrupted.
+/// A sink that writes to any `std::io::Write`. A write counts as a failure if it returns any error, even an interruption, or
+/// if it takes no byte of a slice that is not empty.
 #[derive(Drop)]
 pub struct WriteTo<W> {
-    /// The writer, as its last write or flush left it.
+    /// The writer, as the last write or flush left it.
     pub writer: W,
     pub(crate) has_failed: bool,
     pub(crate) is_flushed: bool,
@@ -16,7 +17,7 @@ pub struct WriteTo<W> {
 }
 
 impl<W: Write> WriteTo<W> {
-    /// The writer as a sink that has not failed. One that failed is wrapped anew to be written to again.
+    /// Wraps a writer as a sink that has not failed. To write again after a failure, wrap the writer again.
     pub fn of(writer: W) -> WriteTo<W>
         ensures writer { result.writer ≡ writer }
         ensures works { result.has_failed ≡ false }

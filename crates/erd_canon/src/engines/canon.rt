@@ -1,18 +1,28 @@
-ghost use Rattle.std.specs.Prelude.{◌≡◌, ◌≢◌, ◌↔◌, ◌⊎◌, ◌+◌, ◌^◌, ◌<◌, ◌≤◌, false, true, Err, IfErr, IfOk, OnOk, IsErrOf, None};
+ghost use Rattle.std.specs.Prelude.{ℕ, List, ◌≡◌, ◌≢◌, ◌↔◌, ◌⊎◌, ◌+◌, ◌<◌, ◌≤◌, false, true, Err, IfErr, IfOk, OnOk, IsErrOf, None};
 ghost use Rattle.std.specs.Option.{option_copied};
+ghost use Rattle.erd_canon.specs.EngineTexts.{IsRefusal};
+ghost use Rattle.erd_canon.specs.Limits.{most_bytes, most_reads};
 ghost use Rattle.erd_canon.specs.Reading.{Exceeds};
-ghost use Rattle.erd_canon.specs.Run.{IsAnswerWritten, IsToldRun, IsWholeRun};
+ghost use Rattle.erd_canon.specs.Refused.{IsSomeReport};
+ghost use Rattle.erd_canon.specs.Run.{IsAcceptedInput, IsAnswerWritten, IsRefusedInput, IsToldRun, IsWholeRun};
 
 use crate::bytes::canonical::canonical_with;
 use crate::bytes::refusal::Refusal;
 use crate::devices::sink::Sink;
-use crate::devices::source::{MOST_BYTES, Source, read_all};
+use crate::devices::source::{Source, read_all};
 use crate::engines::lines::fault_lines;
 use crate::engines::outcome::{Outcome, RunFault};
 use crate::engines::write_and_flush::write_both;
 use std::alloc::Global;
 
-/// Reads a report, judges it, and writes its canonical bytes, as `run_canon_with` does without a preference.
+/// Reads a report, checks it, and writes its canonical bytes, as `run_canon_with` does with no preference.
+///
+/// # Errors
+///
+/// - `RunFault::Read` if and only if a read failed.
+/// - `RunFault::Write` if and only if a write or a flush failed.
+/// - `RunFault::TooLong` if a reader gave more than 67,108,864 bytes.
+/// - `RunFault::Memory` if out of memory.
 pub fn run_canon<S: Source, O: Sink, E: Sink>(
     alloc: Global,
     reader: &mut S,
@@ -23,43 +33,57 @@ pub fn run_canon<S: Source, O: Sink, E: Sink>(
     requires out_works { O.has_failed out.old ≡ false }
     requires err_works { E.has_failed err.old ≡ false }
 
-    // What an outcome says.
-    ensures whole { IfOk result (λ outcome. IsWholeRun None MOST_BYTES outcome (S.remaining reader.old) (S.remaining reader.new)
+    // What an outcome means.
+    ensures whole { IfOk result (λ outcome. IsWholeRun None most_bytes outcome (S.remaining reader.old) (S.remaining reader.new)
         (O.contents out.old) (O.contents out.new) (E.contents err.old) (E.contents err.new)) }
-    ensures told { IfOk result (λ _. IsToldRun None MOST_BYTES (S.remaining reader.old) (S.remaining reader.new)
+    ensures told { IfOk result (λ _. IsToldRun None most_bytes (S.remaining reader.old) (S.remaining reader.new)
         (O.contents out.old) (O.contents out.new) (E.contents err.old) (E.contents err.new)) }
     ensures flushed { OnOk result ((O.is_flushed out.new ≡ true) × (E.is_flushed err.new ≡ true)) }
 
-    // Before a write fails nothing is written or flushed.
+    // If the fault is not `Write`, nothing was written or flushed.
     ensures quiet { IfErr result (λ fault. fault ≢ RunFault.Write → (out.new ≡ out.old) × (err.new ≡ err.old)) }
 
-    // A failed write to `out` leaves `err` alone, no flush comes before a failed write, and `err` is flushed
-    // only where `out` was.
+    // After a failed write to `out`, `err` is unchanged. Before a failed write, nothing is flushed. `err` is flushed only
+    // after `out`.
     ensures out_first { O.has_failed out.new ≡ true → O.flushes out.new ≡ O.flushes out.old → err.new ≡ err.old }
     ensures writes_first { E.has_failed err.new ≡ true → E.flushes err.new ≡ E.flushes err.old
         → O.flushes out.new ≡ O.flushes out.old }
     ensures flush_order { (E.flushes err.new ≡ E.flushes err.old) ⊎ (O.is_flushed out.new ≡ true) }
 
-    // When each fault comes.
+    // If a write to `out` fails, the report is accepted. If a write to `err` fails, the report is refused.
+    ensures out_needed { O.has_failed out.new ≡ true → O.flushes out.new ≡ O.flushes out.old
+        → IsAcceptedInput None most_bytes (S.remaining reader.old) (S.remaining reader.new) }
+    ensures err_needed { E.has_failed err.new ≡ true → E.flushes err.new ≡ E.flushes err.old
+        → IsRefusedInput None most_bytes (S.remaining reader.old) (S.remaining reader.new) }
+
+    // When each fault is returned.
     ensures read { IsErrOf result RunFault.Read ↔ (S.has_failed reader.new ≡ true) }
     ensures write { IsErrOf result RunFault.Write
         ↔ ((O.has_failed out.new ≡ true) ⊎ (E.has_failed err.new ≡ true)) }
     ensures too_long { result ≡ Err RunFault.TooLong
-        → Exceeds MOST_BYTES (S.remaining reader.old) (S.remaining reader.new) }
+        → Exceeds most_bytes (S.remaining reader.old) (S.remaining reader.new) }
     ensures too_many { result ≡ Err RunFault.TooLong
-        → S.given reader.old + MOST_BYTES < S.given reader.new }
-    ensures calls { S.reads reader.new ≤ S.reads reader.old + 2 ^ 27 }
+        → S.given reader.old + most_bytes < S.given reader.new }
+    ensures calls { S.reads reader.new ≤ S.reads reader.old + most_reads }
 {
     run_canon_with(alloc, reader, out, err, None)
 }
 
-/// Reads a report to its end, judges it under a preferred type of identifier, or under none, writes its canonical bytes to
+/// Reads a report to its end, checks it under a preferred type of identifier, or under none, writes its canonical bytes to
 /// `out`, and flushes `out` and then `err`.
 ///
-/// The canonical bytes, as `canonical_with` gives them, go to `out` with no line end, and then nothing goes to `err`. Of a
-/// report that is not accepted nothing goes to `out`, and one line for each fault goes to `err`; of bytes that are no
-/// JSON, the line `not JSON`. Each line is ended by one line feed. A reader holds at most 67,108,864 bytes. The devices
-/// must not have failed yet; after a failure nothing more is read, written or flushed.
+/// For an accepted report, it writes the canonical bytes, as `canonical_with` returns them, to `out`, with no line end, and
+/// nothing to `err`. For a report that is refused, it writes nothing to `out`, and one line for each fault to `err`. For
+/// bytes that are not JSON, it writes the line `not JSON` to `err`. It ends each line with one line feed. A report may have
+/// at most 67,108,864 bytes. The devices must not have failed before the call. After a failure, the run reads, writes and
+/// flushes nothing more.
+///
+/// # Errors
+///
+/// - `RunFault::Read` if and only if a read failed.
+/// - `RunFault::Write` if and only if a write or a flush failed.
+/// - `RunFault::TooLong` if a reader gave more than 67,108,864 bytes.
+/// - `RunFault::Memory` if out of memory.
 pub fn run_canon_with<S: Source, O: Sink, E: Sink>(
     alloc: Global,
     reader: &mut S,
@@ -71,38 +95,44 @@ pub fn run_canon_with<S: Source, O: Sink, E: Sink>(
     requires out_works { O.has_failed out.old ≡ false }
     requires err_works { E.has_failed err.old ≡ false }
 
-    // What an outcome says.
-    ensures whole { IfOk result (λ outcome. IsWholeRun (option_copied prefer.entry) MOST_BYTES outcome (S.remaining reader.old) (S.remaining reader.new)
+    // What an outcome means.
+    ensures whole { IfOk result (λ outcome. IsWholeRun (option_copied prefer.entry) most_bytes outcome (S.remaining reader.old) (S.remaining reader.new)
         (O.contents out.old) (O.contents out.new) (E.contents err.old) (E.contents err.new)) }
-    ensures told { IfOk result (λ _. IsToldRun (option_copied prefer.entry) MOST_BYTES (S.remaining reader.old) (S.remaining reader.new)
+    ensures told { IfOk result (λ _. IsToldRun (option_copied prefer.entry) most_bytes (S.remaining reader.old) (S.remaining reader.new)
         (O.contents out.old) (O.contents out.new) (E.contents err.old) (E.contents err.new)) }
     ensures flushed { OnOk result ((O.is_flushed out.new ≡ true) × (E.is_flushed err.new ≡ true)) }
 
-    // Before a write fails nothing is written or flushed.
+    // If the fault is not `Write`, nothing was written or flushed.
     ensures quiet { IfErr result (λ fault. fault ≢ RunFault.Write → (out.new ≡ out.old) × (err.new ≡ err.old)) }
 
-    // A failed write to `out` leaves `err` alone, no flush comes before a failed write, and `err` is flushed
-    // only where `out` was.
+    // After a failed write to `out`, `err` is unchanged. Before a failed write, nothing is flushed. `err` is flushed only
+    // after `out`.
     ensures out_first { O.has_failed out.new ≡ true → O.flushes out.new ≡ O.flushes out.old → err.new ≡ err.old }
     ensures writes_first { E.has_failed err.new ≡ true → E.flushes err.new ≡ E.flushes err.old
         → O.flushes out.new ≡ O.flushes out.old }
     ensures flush_order { (E.flushes err.new ≡ E.flushes err.old) ⊎ (O.is_flushed out.new ≡ true) }
 
-    // When each fault comes.
+    // If a write to `out` fails, the report is accepted. If a write to `err` fails, the report is refused.
+    ensures out_needed { O.has_failed out.new ≡ true → O.flushes out.new ≡ O.flushes out.old
+        → IsAcceptedInput (option_copied prefer.entry) most_bytes (S.remaining reader.old) (S.remaining reader.new) }
+    ensures err_needed { E.has_failed err.new ≡ true → E.flushes err.new ≡ E.flushes err.old
+        → IsRefusedInput (option_copied prefer.entry) most_bytes (S.remaining reader.old) (S.remaining reader.new) }
+
+    // When each fault is returned.
     ensures read { IsErrOf result RunFault.Read ↔ (S.has_failed reader.new ≡ true) }
     ensures write { IsErrOf result RunFault.Write
         ↔ ((O.has_failed out.new ≡ true) ⊎ (E.has_failed err.new ≡ true)) }
     ensures too_long { result ≡ Err RunFault.TooLong
-        → Exceeds MOST_BYTES (S.remaining reader.old) (S.remaining reader.new) }
+        → Exceeds most_bytes (S.remaining reader.old) (S.remaining reader.new) }
     ensures too_many { result ≡ Err RunFault.TooLong
-        → S.given reader.old + MOST_BYTES < S.given reader.new }
-    ensures calls { S.reads reader.new ≤ S.reads reader.old + 2 ^ 27 }
+        → S.given reader.old + most_bytes < S.given reader.new }
+    ensures calls { S.reads reader.new ≤ S.reads reader.old + most_reads }
 {
     let bytes = read_all(alloc, reader)?;
     write_answer(alloc, bytes.as_slice(), out, err, prefer)
 }
 
-// Writes what is answered for the bytes.
+// Canonicalises the bytes and writes the result.
 fn write_answer<O: Sink, E: Sink>(
     alloc: Global,
     bytes: &[u8],
@@ -124,6 +154,10 @@ fn write_answer<O: Sink, E: Sink>(
     ensures writes_first { E.has_failed err.new ≡ true → E.flushes err.new ≡ E.flushes err.old
         → O.flushes out.new ≡ O.flushes out.old }
     ensures flush_order { (E.flushes err.new ≡ E.flushes err.old) ⊎ (O.is_flushed out.new ≡ true) }
+    ensures out_needed { O.has_failed out.new ≡ true → O.flushes out.new ≡ O.flushes out.old
+        → IsSomeReport (option_copied prefer.entry) bytes.now }
+    ensures err_needed { E.has_failed err.new ≡ true → E.flushes err.new ≡ E.flushes err.old
+        → (lines : List (List ℕ)) × IsRefusal (option_copied prefer.entry) bytes.now lines }
 {
     match canonical_with(alloc, bytes, prefer) {
         Ok(text) => write_both(out, err, Outcome::Good, text.as_slice(), &[]),

@@ -1,8 +1,9 @@
-ghost use Rattle.std.specs.Prelude.{◌≡◌, ◌≢◌, ◌↔◌, ◌⊎◌, ◌+◌, ◌^◌, ◌<◌, ◌≤◌, [], ◌∷◌, false, true, Err, IfErr, IfOk, OnOk, IsErrOf, None};
+ghost use Rattle.std.specs.Prelude.{◌≡◌, ◌≢◌, ◌↔◌, ◌⊎◌, ◌+◌, ◌<◌, ◌≤◌, [], ◌∷◌, false, true, Err, IfErr, IfOk, OnOk, IsErrOf, None};
 ghost use Rattle.std.specs.Option.{option_copied};
 ghost use Rattle.std.specs.Io.KnownBytes.{IsAtEnd};
 ghost use Rattle.erd_compare.specs.DifferenceLine.{difference_line};
 ghost use Rattle.erd_canon.specs.EngineTexts.{text_of_lines};
+ghost use Rattle.erd_canon.specs.Limits.{most_bytes, most_reads};
 ghost use Rattle.erd_canon.specs.Reading.{Exceeds};
 ghost use Rattle.erd_canon.specs.Run.{IsCompareWritten, IsToldCompare, IsWholeCompare};
 ghost use Rattle.erd_canon.specs.code.SideRefusals.{IsRefusalWritten};
@@ -10,14 +11,21 @@ ghost use Rattle.erd_canon.specs.code.SideRefusals.{IsRefusalWritten};
 use crate::bytes::comparison::compare_bytes_with;
 use crate::bytes::refusal::{Refusal, Side};
 use crate::devices::sink::Sink;
-use crate::devices::source::{MOST_BYTES, Source, read_all};
+use crate::devices::source::{Source, read_all};
 use crate::engines::lines::{fault_lines_of_side, line_of_side};
 use crate::engines::outcome::{Outcome, RunFault};
 use crate::engines::write_and_flush::write_one;
 use erd_compare::Difference;
 use std::alloc::{AllocError, Global};
 
-/// Reads two reports, compares them, and writes what is found, as `run_compare_with` does without a preference.
+/// Reads two reports, compares them, and writes the result, as `run_compare_with` does with no preference.
+///
+/// # Errors
+///
+/// - `RunFault::Read` if and only if a read failed.
+/// - `RunFault::Write` if and only if a write or a flush failed.
+/// - `RunFault::TooLong` if a reader gave more than 67,108,864 bytes.
+/// - `RunFault::Memory` if out of memory.
 pub fn run_compare<S: Source, T: Source, O: Sink>(
     alloc: Global,
     left: &mut S,
@@ -28,42 +36,49 @@ pub fn run_compare<S: Source, T: Source, O: Sink>(
     requires right_works { T.has_failed right.old ≡ false }
     requires out_works { O.has_failed out.old ≡ false }
 
-    // What an outcome says.
-    ensures whole { IfOk result (λ outcome. IsWholeCompare None MOST_BYTES outcome (S.remaining left.old) (S.remaining left.new)
+    // What an outcome means.
+    ensures whole { IfOk result (λ outcome. IsWholeCompare None most_bytes outcome (S.remaining left.old) (S.remaining left.new)
         (T.remaining right.old) (T.remaining right.new) (O.contents out.old) (O.contents out.new)) }
-    ensures told { IfOk result (λ _. IsToldCompare None MOST_BYTES (S.remaining left.old) (S.remaining left.new)
+    ensures told { IfOk result (λ _. IsToldCompare None most_bytes (S.remaining left.old) (S.remaining left.new)
         (T.remaining right.old) (T.remaining right.new) (O.contents out.old) (O.contents out.new)) }
     ensures flushed { OnOk result (O.is_flushed out.new ≡ true) }
 
-    // Before a write fails nothing is written or flushed.
+    // If the fault is not `Write`, nothing was written or flushed.
     ensures quiet { IfErr result (λ fault. fault ≢ RunFault.Write → out.new ≡ out.old) }
 
-    // Nothing is read from the right one before the left one was read to its end, or after a read of the left one failed.
+    // The right reader is read only after the left one was read to its end, and not after a read of the left one failed.
     ensures left_first { (right.new ≡ right.old) ⊎ IsAtEnd (S.remaining left.new) }
     ensures left_failed { S.has_failed left.new ≡ true → right.new ≡ right.old }
 
-    // When each fault comes. Where the left one is too long, nothing is read from the right one.
+    // When each fault is returned. If the left report is too long, the right one is not read.
     ensures read { IsErrOf result RunFault.Read ↔ ((S.has_failed left.new ≡ true) ⊎ (T.has_failed right.new ≡ true)) }
     ensures write { IsErrOf result RunFault.Write ↔ (O.has_failed out.new ≡ true) }
     ensures too_long { result ≡ Err RunFault.TooLong
-        → (Exceeds MOST_BYTES (S.remaining left.old) (S.remaining left.new) × (right.new ≡ right.old))
-        ⊎ Exceeds MOST_BYTES (T.remaining right.old) (T.remaining right.new) }
+        → (Exceeds most_bytes (S.remaining left.old) (S.remaining left.new) × (right.new ≡ right.old))
+        ⊎ Exceeds most_bytes (T.remaining right.old) (T.remaining right.new) }
     ensures too_many { result ≡ Err RunFault.TooLong
-        → ((S.given left.old + MOST_BYTES < S.given left.new) × (right.new ≡ right.old))
-        ⊎ (T.given right.old + MOST_BYTES < T.given right.new) }
-    ensures left_calls { S.reads left.new ≤ S.reads left.old + 2 ^ 27 }
-    ensures right_calls { T.reads right.new ≤ T.reads right.old + 2 ^ 27 }
+        → ((S.given left.old + most_bytes < S.given left.new) × (right.new ≡ right.old))
+        ⊎ (T.given right.old + most_bytes < T.given right.new) }
+    ensures left_calls { S.reads left.new ≤ S.reads left.old + most_reads }
+    ensures right_calls { T.reads right.new ≤ T.reads right.old + most_reads }
 {
     run_compare_with(alloc, left, right, out, None)
 }
 
-/// Reads two reports to their ends, the left one and then the right one, compares them under a preferred type of identifier,
-/// or under none, writes to `out` what is found, and flushes `out`.
+/// Reads two reports to their ends, first the left report and then the right one, compares them under a preferred type of
+/// identifier, or under none, writes the result to `out`, and flushes `out`.
 ///
-/// It writes `same`, or the line of the first difference; or, of the first report that is refused, the left one before the
-/// right, the lines that `run_check_with` writes, each after `left: ` or `right: `. Each line is ended by one line feed, and
-/// nothing else is written. A reader holds at most 67,108,864 bytes. The devices must not have failed yet; after a failure
-/// nothing more is read, written or flushed.
+/// It writes `same`, or the line of the first difference. If the left report is refused, or else if the right one is, it
+/// writes the lines that `run_check_with` writes for that report, each after `left: ` or `right: `. It ends each line with
+/// one line feed, and writes nothing else. A report may have at most 67,108,864 bytes. The devices must not have failed
+/// before the call. After a failure, the run reads, writes and flushes nothing more.
+///
+/// # Errors
+///
+/// - `RunFault::Read` if and only if a read failed.
+/// - `RunFault::Write` if and only if a write or a flush failed.
+/// - `RunFault::TooLong` if a reader gave more than 67,108,864 bytes.
+/// - `RunFault::Memory` if out of memory.
 pub fn run_compare_with<S: Source, T: Source, O: Sink>(
     alloc: Global,
     left: &mut S,
@@ -75,31 +90,31 @@ pub fn run_compare_with<S: Source, T: Source, O: Sink>(
     requires right_works { T.has_failed right.old ≡ false }
     requires out_works { O.has_failed out.old ≡ false }
 
-    // What an outcome says.
-    ensures whole { IfOk result (λ outcome. IsWholeCompare (option_copied prefer.entry) MOST_BYTES outcome (S.remaining left.old) (S.remaining left.new)
+    // What an outcome means.
+    ensures whole { IfOk result (λ outcome. IsWholeCompare (option_copied prefer.entry) most_bytes outcome (S.remaining left.old) (S.remaining left.new)
         (T.remaining right.old) (T.remaining right.new) (O.contents out.old) (O.contents out.new)) }
-    ensures told { IfOk result (λ _. IsToldCompare (option_copied prefer.entry) MOST_BYTES (S.remaining left.old) (S.remaining left.new)
+    ensures told { IfOk result (λ _. IsToldCompare (option_copied prefer.entry) most_bytes (S.remaining left.old) (S.remaining left.new)
         (T.remaining right.old) (T.remaining right.new) (O.contents out.old) (O.contents out.new)) }
     ensures flushed { OnOk result (O.is_flushed out.new ≡ true) }
 
-    // Before a write fails nothing is written or flushed.
+    // If the fault is not `Write`, nothing was written or flushed.
     ensures quiet { IfErr result (λ fault. fault ≢ RunFault.Write → out.new ≡ out.old) }
 
-    // Nothing is read from the right one before the left one was read to its end, or after a read of the left one failed.
+    // The right reader is read only after the left one was read to its end, and not after a read of the left one failed.
     ensures left_first { (right.new ≡ right.old) ⊎ IsAtEnd (S.remaining left.new) }
     ensures left_failed { S.has_failed left.new ≡ true → right.new ≡ right.old }
 
-    // When each fault comes. Where the left one is too long, nothing is read from the right one.
+    // When each fault is returned. If the left report is too long, the right one is not read.
     ensures read { IsErrOf result RunFault.Read ↔ ((S.has_failed left.new ≡ true) ⊎ (T.has_failed right.new ≡ true)) }
     ensures write { IsErrOf result RunFault.Write ↔ (O.has_failed out.new ≡ true) }
     ensures too_long { result ≡ Err RunFault.TooLong
-        → (Exceeds MOST_BYTES (S.remaining left.old) (S.remaining left.new) × (right.new ≡ right.old))
-        ⊎ Exceeds MOST_BYTES (T.remaining right.old) (T.remaining right.new) }
+        → (Exceeds most_bytes (S.remaining left.old) (S.remaining left.new) × (right.new ≡ right.old))
+        ⊎ Exceeds most_bytes (T.remaining right.old) (T.remaining right.new) }
     ensures too_many { result ≡ Err RunFault.TooLong
-        → ((S.given left.old + MOST_BYTES < S.given left.new) × (right.new ≡ right.old))
-        ⊎ (T.given right.old + MOST_BYTES < T.given right.new) }
-    ensures left_calls { S.reads left.new ≤ S.reads left.old + 2 ^ 27 }
-    ensures right_calls { T.reads right.new ≤ T.reads right.old + 2 ^ 27 }
+        → ((S.given left.old + most_bytes < S.given left.new) × (right.new ≡ right.old))
+        ⊎ (T.given right.old + most_bytes < T.given right.new) }
+    ensures left_calls { S.reads left.new ≤ S.reads left.old + most_reads }
+    ensures right_calls { T.reads right.new ≤ T.reads right.old + most_reads }
 {
     let left_bytes = read_all(alloc, left)?;
     let right_bytes = read_all(alloc, right)?;
@@ -112,7 +127,7 @@ pub fn run_compare_with<S: Source, T: Source, O: Sink>(
     )
 }
 
-// Writes what comparing writes for the bytes of two reports.
+// Compares the bytes of two reports and writes the result.
 fn write_compared<O: Sink>(
     alloc: Global,
     left: &[u8],
@@ -140,7 +155,7 @@ fn write_compared<O: Sink>(
     }
 }
 
-// Writes why the report of one side is refused.
+// Writes why the report on one side is refused.
 fn write_refusal<O: Sink>(
     alloc: Global,
     side: &[u8],
@@ -163,7 +178,7 @@ fn write_refusal<O: Sink>(
     write_one(out, outcome, text.as_slice())
 }
 
-// The line of a difference, ended by a line feed.
+// The line of a difference, ended by one line feed.
 fn difference_text(alloc: Global, difference: &Difference) -> Result<Vec<u8>, AllocError>
     ensures { IfOk result (λ text. text.items ≡ text_of_lines (difference_line difference.now ∷ [])) }
 {

@@ -5,15 +5,14 @@ ghost use Rattle.erd_canon.specs.EngineTexts.{lines_of_side, text_of_lines};
 use erd_tables::FaultList;
 use std::alloc::{AllocError, Global};
 
-/// The lines that tell the faults, each ended by one line feed.
+/// The lines for the faults, each ended by one line feed.
 pub(crate) fn fault_lines(alloc: Global, faults: &FaultList) -> Result<Vec<u8>, AllocError>
     ensures { IfOk result (λ text. text.items ≡ text_of_lines (map fault_line faults.now)) }
 {
     fault_lines_of_side(alloc, &[], faults)
 }
 
-/// The lines that tell the faults of one of two reports: each begins with the words for the side, and is ended by one line
-/// feed.
+/// The lines for the faults of one of two reports. Each begins with the words for the side and is ended by one line feed.
 pub(crate) fn fault_lines_of_side(
     alloc: Global,
     side: &[u8],
@@ -30,7 +29,7 @@ pub(crate) fn fault_lines_of_side(
     Ok(text)
 }
 
-/// The words for a side and a line behind them, ended by one line feed.
+/// The words for a side, then a line, ended by one line feed.
 pub(crate) fn line_of_side(alloc: Global, side: &[u8], line: &[u8]) -> Result<Vec<u8>, AllocError>
     ensures { IfOk result (λ text. text.items ≡ text_of_lines (lines_of_side side.now (line.now ∷ []))) }
 {
@@ -39,7 +38,7 @@ pub(crate) fn line_of_side(alloc: Global, side: &[u8], line: &[u8]) -> Result<Ve
     Ok(text)
 }
 
-// Adds the words for a side, a line, and a line feed.
+// Adds the words for a side, a line and a line feed.
 fn push_line(text: &mut Vec<u8>, side: &[u8], line: &[u8]) -> Result<(), AllocError>
     ensures { OnOk result (text.new.items ≡ text.old.items ++ ((side.now ++ line.now) ++ 10 ∷ [])) }
 {

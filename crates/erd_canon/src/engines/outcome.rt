@@ -4,21 +4,21 @@ ghost use Rattle.erd_canon.specs.Statuses.{outcome_status, fault_status, fault_w
 use std::alloc::AllocError;
 use thiserror::Error;
 
-/// What a run answers of what it read.
+/// The outcome of a run that reached its end.
 #[derive(Clone, Copy, Debug, PartialEq, Eq)]
 pub enum Outcome {
-    /// The report is accepted; or two reports are, and mean the same.
+    /// The report is accepted; or both reports are accepted and mean the same.
     Good,
-    /// The bytes are JSON, and no accepted report; or two reports are accepted, and differ.
+    /// A report is JSON but is refused; or both reports are accepted and differ.
     Bad,
-    /// The bytes are not JSON.
+    /// The bytes of a report are not JSON.
     NotJson,
 }
 
-/// What ended a run early.
+/// Why a run ended early.
 #[derive(Clone, Copy, Debug, PartialEq, Eq, Error)]
 pub enum RunFault {
-    /// A reader held more than 67,108,864 bytes, or had no end after 2^27 reads.
+    /// A reader gave more than 67,108,864 bytes.
     #[error("too long")]
     TooLong,
     /// A read failed.
@@ -27,13 +27,13 @@ pub enum RunFault {
     /// A write or a flush failed.
     #[error("write failed")]
     Write,
-    /// Memory was refused.
+    /// Out of memory.
     #[error("no memory")]
     Memory,
 }
 
 impl Outcome {
-    /// The exit status of a program that ends with this outcome.
+    /// Returns the exit status of the program for this outcome: 0 for `Good`, 1 for `Bad`, 2 for `NotJson`.
     pub fn status(&self) -> u8
         ensures { result ≡ outcome_status self.now }
     {
@@ -46,7 +46,7 @@ impl Outcome {
 }
 
 impl RunFault {
-    /// The exit status of a program that ends with this fault.
+    /// Returns the exit status of the program for this fault: 4 for `Memory`, 3 for the others.
     pub fn status(&self) -> u8
         ensures { result ≡ fault_status self.now }
     {
@@ -56,7 +56,7 @@ impl RunFault {
         }
     }
 
-    /// What a program says of this fault on standard error.
+    /// Returns the message of the program for this fault on standard error, without a line feed.
     pub fn words(&self) -> &'static str
         ensures { result.now ≡ fault_words self.now }
     {

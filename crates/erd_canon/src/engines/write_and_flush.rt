@@ -1,10 +1,10 @@
-ghost use Rattle.std.specs.Prelude.{◌≡◌, ◌⊎◌, false, true, IfErr, IfOk, OnOk, OnErr};
+ghost use Rattle.std.specs.Prelude.{◌≡◌, ◌⊎◌, ◌<◌, length, false, true, IfErr, IfOk, OnOk, OnErr};
 ghost use Rattle.std.specs.Io.KnownBytes.{Appends};
 
 use crate::devices::sink::{Sink, write_out};
 use crate::engines::outcome::{Outcome, RunFault};
 
-/// Writes the text, then flushes, and gives the outcome.
+/// Writes the text, then flushes, and returns the outcome.
 pub(crate) fn write_one<O: Sink>(
     out: &mut O,
     outcome: Outcome,
@@ -23,7 +23,7 @@ pub(crate) fn write_one<O: Sink>(
     Ok(outcome)
 }
 
-/// Writes to both, then flushes both, and gives the outcome.
+/// Writes to both, then flushes both, and returns the outcome.
 pub(crate) fn write_both<O: Sink, E: Sink>(
     out: &mut O,
     err: &mut E,
@@ -44,6 +44,8 @@ pub(crate) fn write_both<O: Sink, E: Sink>(
     ensures writes_first { E.has_failed err.new ≡ true → E.flushes err.new ≡ E.flushes err.old
         → O.flushes out.new ≡ O.flushes out.old }
     ensures flush_order { (E.flushes err.new ≡ E.flushes err.old) ⊎ (O.is_flushed out.new ≡ true) }
+    ensures out_needed { O.has_failed out.new ≡ true → O.flushes out.new ≡ O.flushes out.old → 0 < length out_text.now }
+    ensures err_needed { E.has_failed err.new ≡ true → E.flushes err.new ≡ E.flushes err.old → 0 < length err_text.now }
 {
     write_out(out, out_text).map_err(|_| RunFault::Write)?;
     write_out(err, err_text).map_err(|_| RunFault::Write)?;

@@ -1,4 +1,4 @@
-//! Bytes are refused alike, whoever is asked: `run_check`, `check_bytes`, `canonical` and `run_canon`.
+//! `run_check`, `check_bytes`, `canonical` and `run_canon` refuse the same bytes with the same lines.
 use crate::tests::edits::edited;
 use crate::tests::lines::{ACCEPTED, checked, lines};
 use crate::tests::references::OF_EACH_PHASE;
@@ -10,10 +10,10 @@ use erd_canon::{Outcome, ReadFrom, Refusal, WriteTo, canonical, check_bytes, run
 use std::alloc::Global;
 use std::test::Fail;
 
-// What is told of bytes that are not JSON.
+// The line for bytes that are not JSON.
 pub const NOT_JSON: &str = "not JSON\n";
 
-// What is told of a refusal.
+// The lines for a refusal.
 pub fn refusal_lines(alloc: Global, refusal: Refusal) -> Result<String, Fail> {
     match refusal {
         Refusal::NotJson => Ok(String::from_str(alloc, NOT_JSON)?),
@@ -29,7 +29,7 @@ fn told_by_check_bytes(alloc: Global, bytes: &[u8]) -> Result<String, Fail> {
     }
 }
 
-// What is written for an accepted report is accepted.
+// The lines by `canonical`. The canonical form of an accepted report must be accepted too.
 fn told_by_canonical(alloc: Global, bytes: &[u8]) -> Result<String, Fail> {
     match canonical(alloc, bytes) {
         Ok(text) => told_by_check_bytes(alloc, text.as_slice()),
@@ -37,7 +37,8 @@ fn told_by_canonical(alloc: Global, bytes: &[u8]) -> Result<String, Fail> {
     }
 }
 
-// Nothing is written to the first writer but for an accepted report, and then nothing to the second one.
+// The lines by `run_canon`. Only for an accepted report does it write to the first writer, and then nothing to the second
+// one.
 fn told_by_run_canon(alloc: Global, bytes: &[u8], wanted: Outcome) -> Result<String, Fail> {
     let mut reader = ReadFrom::of(bytes);
     let mut out = WriteTo::of(Vec::new(alloc));
@@ -56,7 +57,7 @@ fn told_by_run_canon(alloc: Global, bytes: &[u8], wanted: Outcome) -> Result<Str
     Ok(String::from_str(alloc, text)?)
 }
 
-// This is told of the bytes, whoever is asked.
+// The bytes have these lines by each call.
 fn alike(alloc: Global, bytes: &[u8], wanted: &str) -> Result<(), Fail> {
     let outcome = if wanted == ACCEPTED {
         Outcome::Good
@@ -95,7 +96,7 @@ fn not_json(rt: HostRuntime) -> Result<(), Fail> {
     Ok(())
 }
 
-// By `check_bytes` alone, which takes the least time, the bytes are not JSON.
+// The bytes are not JSON. This asks only `check_bytes`, which is the fastest call.
 fn is_no_json(alloc: Global, bytes: &[u8]) -> Result<(), Fail> {
     let text = told_by_check_bytes(alloc, bytes)?;
     if text.as_str() == NOT_JSON {
@@ -105,7 +106,7 @@ fn is_no_json(alloc: Global, bytes: &[u8]) -> Result<(), Fail> {
     }
 }
 
-// A report that is cut short anywhere.
+// A report cut short at any byte.
 #[test]
 fn cut_short(rt: HostRuntime) -> Result<(), Fail> {
     let mut rest = SMALL_BALLOT.as_bytes();
@@ -117,7 +118,7 @@ fn cut_short(rt: HostRuntime) -> Result<(), Fail> {
     Ok(())
 }
 
-// Only white space may stand around a report, and a byte order mark is none.
+// Only white space may surround a report. A byte order mark is not white space.
 #[test]
 fn more_than_a_report(rt: HostRuntime) -> Result<(), Fail> {
     let alloc = rt.alloc();
@@ -132,7 +133,7 @@ fn more_than_a_report(rt: HostRuntime) -> Result<(), Fail> {
     Ok(())
 }
 
-// The bytes with the one at this position replaced.
+// The bytes, with the byte at this position replaced.
 fn with_byte(alloc: Global, bytes: &[u8], index: usize, to: u8) -> Result<Vec<u8>, Fail> {
     let mut whole = Vec::new(alloc);
     for (position, byte) in bytes.iter().enumerate() {
@@ -141,7 +142,7 @@ fn with_byte(alloc: Global, bytes: &[u8], index: usize, to: u8) -> Result<Vec<u8
     Ok(whole)
 }
 
-// No text has the byte ff anywhere.
+// The byte FF occurs in no UTF-8 text.
 #[test]
 fn a_byte_of_no_text(rt: HostRuntime) -> Result<(), Fail> {
     let alloc = rt.alloc();
@@ -153,7 +154,7 @@ fn a_byte_of_no_text(rt: HostRuntime) -> Result<(), Fail> {
     Ok(())
 }
 
-// The greatest whole number and the least are whole, and the next ones are not.
+// The greatest and the least whole number are whole. The next ones are not.
 #[test]
 fn largest_numbers(rt: HostRuntime) -> Result<(), Fail> {
     let alloc = rt.alloc();
@@ -261,7 +262,7 @@ fn edits_of_one_unit(rt: HostRuntime) -> Result<(), Fail> {
             "ElectionResults.GpUnit",
             "/GpUnit/0/@type: wrong class\n",
         ),
-        // A unit without a name of its own.
+        // A unit without an `@id`.
         (
             "\"@id\":\"u7\",\"@type\"",
             "\"@type\"",

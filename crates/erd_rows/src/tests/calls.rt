@@ -1,4 +1,4 @@
-//! Calls of the layers below the engines: each succeeds where memory is there.
+//! Calls of the layers below the engines. Each succeeds if there is enough memory.
 ghost use Rattle.serde_json.specs.View.{view};
 ghost use Rattle.erd_check.specs.Trees.{IsShallow};
 
@@ -15,7 +15,7 @@ use std::alloc::Global;
 use std::cmp::Ordering;
 use std::test::Fail;
 
-// The pairs with these keys are given in this order, and then have these numbers.
+// Pairs with these keys, given in this order, are sorted into the order of these numbers.
 fn keys_become(alloc: Global, keys: &[(&str, &str, &str)], wanted: &[usize]) -> Result<(), Fail> {
     let mut pairs = Vec::new(alloc);
     for (index, (kind, other, value)) in keys.iter().enumerate() {
@@ -38,7 +38,7 @@ fn keys_become(alloc: Global, keys: &[(&str, &str, &str)], wanted: &[usize]) -> 
     Ok(())
 }
 
-// Part by part, by bytes; equal keys stay as they were given, as often each.
+// Keys are ordered part by part, by bytes. Pairs with equal keys keep their order and their number.
 #[test]
 fn keys_in_order(rt: HostRuntime) -> Result<(), Fail> {
     let alloc = rt.alloc();
@@ -60,7 +60,7 @@ fn keys_in_order(rt: HostRuntime) -> Result<(), Fail> {
     )
 }
 
-// The values are in rising order, none equal to another.
+// The values are in strictly ascending order.
 fn texts_rise(alloc: Global, values: &[&str]) -> Result<(), Fail> {
     for (index, value) in values.iter().enumerate() {
         let value = Value::from_str(alloc, value)?;
@@ -77,7 +77,7 @@ fn texts_rise(alloc: Global, values: &[&str]) -> Result<(), Fail> {
     Ok(())
 }
 
-// By the bytes of the texts, whatever the values are.
+// Ordered by the bytes of the texts, whatever the values are.
 #[test]
 fn compact_texts_in_order(rt: HostRuntime) -> Result<(), Fail> {
     texts_rise(
@@ -100,8 +100,8 @@ fn compact_texts_in_order(rt: HostRuntime) -> Result<(), Fail> {
     )
 }
 
-// The report of the tree, which is accepted.
-fn accepted<'a>(alloc: Global, tree: &'a Value) -> Result<Report<'a>, Fail>
+// The report of the tree. It must be accepted.
+pub fn accepted<'a>(alloc: Global, tree: &'a Value) -> Result<Report<'a>, Fail>
     requires nests { IsShallow (view tree.now) }
 {
     let Ok(shaped) = shape(alloc, tree) else {
@@ -113,7 +113,7 @@ fn accepted<'a>(alloc: Global, tree: &'a Value) -> Result<Report<'a>, Fail>
     }
 }
 
-// The names of selections in their order: answers before candidates, and of labels a text before translations.
+// The names of selections in order: answers before candidates, and labels that are texts before labels with translations.
 #[test]
 fn names_in_order(rt: HostRuntime) -> Result<(), Fail> {
     let alloc = rt.alloc();
@@ -137,7 +137,7 @@ fn names_in_order(rt: HostRuntime) -> Result<(), Fail> {
     Ok(())
 }
 
-// No key comes before every key, and two without a key stay as they were given.
+// A missing key comes before every other, and pairs without a key keep their order.
 #[test]
 fn optional_keys_in_order(rt: HostRuntime) -> Result<(), Fail> {
     let alloc = rt.alloc();
@@ -158,7 +158,7 @@ fn optional_keys_in_order(rt: HostRuntime) -> Result<(), Fail> {
     Ok(())
 }
 
-// The canonical tree has the canonical bytes, and the report is as it was.
+// The canonical tree has the canonical bytes, and the report is unchanged.
 #[test]
 fn canonical_trees(rt: HostRuntime) -> Result<(), Fail> {
     let alloc = rt.alloc();
@@ -179,7 +179,7 @@ fn canonical_trees(rt: HostRuntime) -> Result<(), Fail> {
     Ok(())
 }
 
-// The engine writes these bytes, and nothing else.
+// The engine writes these bytes and nothing else.
 #[test]
 fn canonical_run(rt: HostRuntime) -> Result<(), Fail> {
     let alloc = rt.alloc();

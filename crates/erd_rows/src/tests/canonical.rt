@@ -45,7 +45,7 @@ fn envelope_and_member_order(rt: HostRuntime) -> Result<(), Fail> {
     has_form(rt.alloc(), OTHER_ENVELOPE, SMALL_BALLOT_CANONICAL)
 }
 
-// What says nothing of a ballot changes no byte.
+// What has no meaning for a ballot changes no byte.
 #[test]
 fn envelope(rt: HostRuntime) -> Result<(), Fail> {
     let alloc = rt.alloc();
@@ -67,7 +67,7 @@ fn envelope(rt: HostRuntime) -> Result<(), Fail> {
     Ok(())
 }
 
-// The order of the references, and of the translations, changes no byte.
+// The order of references and of translations changes no byte.
 #[test]
 fn reference_and_text_order(rt: HostRuntime) -> Result<(), Fail> {
     have_forms(
@@ -94,7 +94,7 @@ const UNITS: &str =
 const CANONICAL_UNITS: &str =
     r#"[{"@id":"gp1","@type":"%ReportingUnit","ExternalIdentifier":[{"@type":"%ExternalIdentifier","Type":"local-level","Value":"U1"}],"Type":"county"}]"#;
 
-// Units with these values, whose `@id` texts are a prefix and their numbers, as an array.
+// An array of units with these values. Their `@id` texts are the prefix and their numbers.
 fn units(alloc: Global, prefix: &str, values: &str) -> Result<String, Fail> {
     let mut whole = String::from_str(alloc, "[")?;
     for (index, value) in values.chars().enumerate() {
@@ -111,7 +111,7 @@ fn units(alloc: Global, prefix: &str, values: &str) -> Result<String, Fail> {
     Ok(whole)
 }
 
-// The tenth name comes after the second, though its text comes first.
+// The tenth `@id` comes after the second, although its text is less.
 #[test]
 fn eleven_units(rt: HostRuntime) -> Result<(), Fail> {
     let alloc = rt.alloc();
@@ -142,7 +142,7 @@ fn eleven_units(rt: HostRuntime) -> Result<(), Fail> {
     has_form(alloc, report.as_str(), wanted.as_str())
 }
 
-// An outside member that is empty goes.
+// An empty outside member is left out.
 #[test]
 fn outside_members(rt: HostRuntime) -> Result<(), Fail> {
     have_forms(
@@ -178,7 +178,7 @@ fn self_composing_unit(rt: HostRuntime) -> Result<(), Fail> {
     )
 }
 
-// A unit called `gp2` comes first, and one called `gp1` second.
+// The first unit has the `@id` `gp2`, and the second has `gp1`.
 #[test]
 fn ids_that_look_canonical(rt: HostRuntime) -> Result<(), Fail> {
     let second =
@@ -203,7 +203,7 @@ fn ids_that_look_canonical(rt: HostRuntime) -> Result<(), Fail> {
     has_form(alloc, report.as_str(), wanted.as_str())
 }
 
-// An `@id` may be the empty text, and a reference too.
+// An `@id` may be the empty text, and so may a reference.
 #[test]
 fn empty_id(rt: HostRuntime) -> Result<(), Fail> {
     have_forms(
@@ -220,13 +220,13 @@ fn empty_id(rt: HostRuntime) -> Result<(), Fail> {
     )
 }
 
-// A report of all classes, with all their members, and its sets in no order.
+// A report with all classes and all their members, and with unordered sets.
 #[test]
 fn every_member(rt: HostRuntime) -> Result<(), Fail> {
     has_form(rt.alloc(), EVERY_MEMBER, EVERY_MEMBER_CANONICAL)
 }
 
-// What is nested as deep as a report may be stays so.
+// The canonical form of a report nested as deep as possible is nested as deep.
 #[test]
 fn deepest_nesting(rt: HostRuntime) -> Result<(), Fail> {
     let alloc = rt.alloc();

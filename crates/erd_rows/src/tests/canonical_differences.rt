@@ -1,10 +1,10 @@
-//! Reports that mean the same have one canonical form, and others have another.
+//! Reports that mean the same have the same canonical form, and other reports have different ones.
 use crate::tests::edits::{Edit, edited, with_edits};
 use crate::tests::forms::{all_apart, have_forms, other_bytes, same_bytes};
 use crate::vectors::{SMALL_BALLOT, SMALL_BALLOT_CANONICAL};
 use std::test::Fail;
 
-// The order of the contents of a ballot stays.
+// The order of the contents of a ballot is kept.
 #[test]
 fn content_order(rt: HostRuntime) -> Result<(), Fail> {
     let alloc = rt.alloc();
@@ -40,7 +40,7 @@ fn content_order(rt: HostRuntime) -> Result<(), Fail> {
     other_bytes(alloc, SMALL_BALLOT, right.as_str())
 }
 
-// Headers in headers, and in the inner one the order of the selections.
+// Headers in headers, and the order of the selections in the inner one.
 #[test]
 fn nested_header(rt: HostRuntime) -> Result<(), Fail> {
     let alloc = rt.alloc();
@@ -101,7 +101,7 @@ fn absent_or_false(rt: HostRuntime) -> Result<(), Fail> {
     )
 }
 
-// The third candidate has another key; then the small ballot is on the right.
+// The third candidate has another key. Then the small ballot is on the right.
 #[test]
 fn other_candidate_key(rt: HostRuntime) -> Result<(), Fail> {
     let alloc = rt.alloc();
@@ -110,7 +110,7 @@ fn other_candidate_key(rt: HostRuntime) -> Result<(), Fail> {
     other_bytes(alloc, other.as_str(), SMALL_BALLOT)
 }
 
-// The order of carried members is nothing, that of a carried array is something.
+// The order of carried members has no meaning. The order of a carried array has one.
 #[test]
 fn carried_members(rt: HostRuntime) -> Result<(), Fail> {
     let alloc = rt.alloc();
@@ -172,7 +172,7 @@ fn report_election_and_class(rt: HostRuntime) -> Result<(), Fail> {
 
 const PARTY: &str = r#""Name":"Blue""#;
 
-// One thing each, of each kind of member: a class, words, truth values, whole numbers, references, and entries of sets.
+// One change for each kind of member: a class, words, flags, whole numbers, references, and entries of sets.
 #[test]
 fn each_plain_member(rt: HostRuntime) -> Result<(), Fail> {
     all_apart(
@@ -213,7 +213,7 @@ fn each_plain_member(rt: HostRuntime) -> Result<(), Fail> {
     )
 }
 
-// Labels: as a text, and with one translation; then in each part of it.
+// Labels as a text and with one translation, then one change in each part of a label.
 #[test]
 fn each_label(rt: HostRuntime) -> Result<(), Fail> {
     all_apart(
@@ -250,7 +250,7 @@ fn each_label(rt: HostRuntime) -> Result<(), Fail> {
     )
 }
 
-// Objects more or fewer, what stands on a ballot, and what is carried.
+// More or fewer objects, changed contents of a ballot, and carried members.
 #[test]
 fn each_member_of_several(rt: HostRuntime) -> Result<(), Fail> {
     all_apart(
@@ -297,7 +297,7 @@ const MEASURE: &str = r#""@type":"%BallotMeasureSelection","Selection":"No""#;
 
 const WRITE_IN: &str = r#""IsWriteIn":true"#;
 
-// One thing each, of each part of the name of a selection.
+// One change for each part of the name of a selection.
 #[test]
 fn each_part_of_a_name(rt: HostRuntime) -> Result<(), Fail> {
     all_apart(
@@ -310,15 +310,15 @@ fn each_part_of_a_name(rt: HostRuntime) -> Result<(), Fail> {
                 MEASURE,
                 r#""@type":"%PartySelection","PartyIds":["a3"],"Selection":"No""#,
             )],
-            // Whom it names.
+            // The candidates that it names.
             &[(r#""CandidateIds":["a7"]"#, r#""CandidateIds":["a5"]"#)],
             &[(r#""CandidateIds":["a7"]"#, r#""CandidateIds":["a7","a5"]"#)],
-            // Whether it is a line to write in.
+            // Whether it is a write-in line.
             &[(
                 r#""CandidateIds":["a7"]"#,
                 r#""CandidateIds":["a7"],"IsWriteIn":true"#,
             )],
-            // Its place.
+            // Its position.
             &[(WRITE_IN, r#""IsWriteIn":true,"SequenceOrder":1"#)],
             &[(WRITE_IN, r#""IsWriteIn":true,"SequenceOrder":2"#)],
             // Its label.
@@ -347,7 +347,7 @@ fn each_part_of_a_name(rt: HostRuntime) -> Result<(), Fail> {
                 WRITE_IN,
                 r#""IsWriteIn":true,"ExternalIdentifier":[{"@type":"%ExternalIdentifier","Type":"local-level","Value":"W1"},{"@type":"%ExternalIdentifier","Type":"local-level","Value":"W2"}]"#,
             )],
-            // And what is no part of it.
+            // What is not part of it.
             &[(
                 r#""CandidateIds":["a7"]"#,
                 r#""CandidateIds":["a7"],"EndorsementPartyIds":["a3"]"#,

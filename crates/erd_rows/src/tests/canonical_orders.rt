@@ -1,4 +1,4 @@
-//! Which orders change no byte of the canonical form, and which stay.
+//! Which orders of a report change no byte of its canonical form, and which orders are kept.
 use crate::tests::edits::with_edits;
 use crate::tests::forms::{has_form, have_forms};
 use crate::vectors::{ONE_UNIT, ONE_UNIT_CANONICAL, SMALL_BALLOT, SMALL_BALLOT_CANONICAL};
@@ -19,7 +19,7 @@ const SELECTIONS: [&str; 3] = [
     r#"{"@id":"a11","@type":"%CandidateSelection","IsWriteIn":true}"#,
 ];
 
-// Every order of three texts.
+// All orders of three texts.
 fn orders(texts: [&str; 3]) -> [[&str; 3]; 6] {
     let [first, second, third] = texts;
     [
@@ -32,7 +32,7 @@ fn orders(texts: [&str; 3]) -> [[&str; 3]; 6] {
     ]
 }
 
-// Three texts with commas between them.
+// Three texts, joined with commas.
 fn joined(alloc: Global, texts: [&str; 3]) -> Result<String, Fail> {
     let [first, second, third] = texts;
     Ok(format!(in alloc; "{first},{second},{third}")?)
@@ -61,7 +61,7 @@ fn every_order_of_candidates_and_selections(rt: HostRuntime) -> Result<(), Fail>
     Ok(())
 }
 
-// A list of the table that is empty means what an absent one means, and is not written.
+// An empty list of the table means the same as an absent one, and is not written.
 #[test]
 fn empty_lists(rt: HostRuntime) -> Result<(), Fail> {
     have_forms(
@@ -126,7 +126,7 @@ fn empty_lists(rt: HostRuntime) -> Result<(), Fail> {
     )
 }
 
-// So do empty lists in the place of those that the small ballot has.
+// The same holds if the lists of the small ballot are emptied.
 #[test]
 fn emptied_lists(rt: HostRuntime) -> Result<(), Fail> {
     have_forms(
@@ -171,7 +171,7 @@ const UNIT: &str = r#""Type":"county","#;
 
 const UNIT_END: &str = r#""Type":"county"}"#;
 
-// What the table does not list stands as it came, also where it has the name of a set, or is empty.
+// A member that the table does not list is kept as it is, even if it has the name of a set or is empty.
 #[test]
 fn carried_lists(rt: HostRuntime) -> Result<(), Fail> {
     have_forms(
@@ -272,7 +272,7 @@ fn carried_text_that_equals_an_id(rt: HostRuntime) -> Result<(), Fail> {
     )
 }
 
-// Texts are told apart and ordered by their bytes, and each is written in one way.
+// Texts are distinguished and ordered by their bytes, and each is written in one way.
 #[test]
 fn texts_in_order(rt: HostRuntime) -> Result<(), Fail> {
     have_forms(
@@ -316,7 +316,7 @@ fn texts_in_order(rt: HostRuntime) -> Result<(), Fail> {
     )
 }
 
-// Entries of a set rise by their compact texts, and not by what makes a key.
+// The entries of a set are ordered by their compact texts, not by the parts of a key.
 #[test]
 fn identifiers_in_order(rt: HostRuntime) -> Result<(), Fail> {
     let own = r#"[{"@type":"%ExternalIdentifier","Type":"local-level","Value":"U1"}]"#;

@@ -1,9 +1,9 @@
-//! What the words of command lines ask for.
+//! The requests that command lines give.
 use erd_canon::{LineFault, Prefer, Request, command_line};
 use std::alloc::{AllocError, Global};
 use std::test::Fail;
 
-// The words with the program's name before them.
+// The words, with the program's name before them.
 pub fn line_of(alloc: Global, words: &[&str]) -> Result<Vec<String>, AllocError> {
     let mut line = Vec::new(alloc);
     line.push(String::from_str(alloc, "erd")?)?;
@@ -13,7 +13,7 @@ pub fn line_of(alloc: Global, words: &[&str]) -> Result<Vec<String>, AllocError>
     Ok(line)
 }
 
-// The preference in brackets, if there is one.
+// The preference in brackets, or the empty text if there is none.
 fn under(alloc: Global, prefer: &Prefer) -> Result<String, AllocError> {
     match prefer.text() {
         Some(kind) => format!(in alloc; " under [{kind}]"),
@@ -21,7 +21,7 @@ fn under(alloc: Global, prefer: &Prefer) -> Result<String, AllocError> {
     }
 }
 
-// What is answered for the words, with the names of files and the preference in brackets.
+// The result for the words, with the names of files and the preference in brackets.
 fn answer(alloc: Global, words: &[&str]) -> Result<String, AllocError> {
     let line = line_of(alloc, words)?;
     match command_line(alloc, line.as_slice()) {
@@ -45,7 +45,7 @@ fn answer(alloc: Global, words: &[&str]) -> Result<String, AllocError> {
     }
 }
 
-// Each line is answered so.
+// Each command line has the expected result.
 pub fn all_are(alloc: Global, lines: &[(&[&str], &str)]) -> Result<(), Fail> {
     for (words, wanted) in lines {
         let found = answer(alloc, words)?;
@@ -98,7 +98,7 @@ fn names_of_files(rt: HostRuntime) -> Result<(), Fail> {
     )
 }
 
-// After two hyphens a name may begin with one.
+// After `--`, a name may begin with a hyphen.
 #[test]
 fn names_after_two_hyphens(rt: HostRuntime) -> Result<(), Fail> {
     all_are(
@@ -154,7 +154,7 @@ fn wrong_lines(rt: HostRuntime) -> Result<(), Fail> {
     )
 }
 
-// The text of help or usage for the words.
+// The help or usage text for the words.
 fn told(alloc: Global, words: &[&str]) -> Result<String, Fail> {
     let line = line_of(alloc, words)?;
     match command_line(alloc, line.as_slice()) {
@@ -164,7 +164,7 @@ fn told(alloc: Global, words: &[&str]) -> Result<String, Fail> {
     }
 }
 
-// Each text has each of its parts, and ends with one line feed.
+// Each text has all its parts, and ends with one line feed.
 fn all_tell(alloc: Global, lines: &[(&[&str], &[&str])]) -> Result<(), Fail> {
     for (words, parts) in lines {
         let text = told(alloc, words)?;
@@ -181,15 +181,15 @@ fn all_tell(alloc: Global, lines: &[(&[&str], &[&str])]) -> Result<(), Fail> {
     Ok(())
 }
 
-// Help says how each command is called, what it reads and writes, how it ends, and gives an example.
+// The help says how each command is called, what it reads and writes and what its exit statuses are, and gives an example.
 #[test]
 fn texts_of_help(rt: HostRuntime) -> Result<(), Fail> {
     let program: &[&str] = &[
         "pre-election ballot definition",
         "Usage: erd [COMMAND]\n",
-        "check    Tells",
+        "check    Reports",
         "canon    Writes",
-        "compare  Tells",
+        "compare  Reports",
         "Exit status:\n  0  ",
         "Example:\n  erd < report.json > canonical.json\n",
     ];
@@ -227,7 +227,7 @@ fn texts_of_help(rt: HostRuntime) -> Result<(), Fail> {
     )
 }
 
-// Usage says what is wrong, and how the command is called.
+// The usage text says what is wrong, and how the command is called.
 #[test]
 fn texts_of_usage(rt: HostRuntime) -> Result<(), Fail> {
     all_tell(

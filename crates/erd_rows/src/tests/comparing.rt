@@ -1,5 +1,4 @@
-//! What comparing two reports tells, whoever is asked: `run_compare`, `compare_bytes`, and `first_difference` of what the
-//! reports mean.
+//! The result of comparing two reports, the same by `run_compare`, by `compare_bytes` and by `first_difference`.
 use crate::tests::edits::{Edit, with_edits};
 use crate::tests::forms::canonical_text;
 use crate::writers::PageWriter;
@@ -11,13 +10,13 @@ use serde_json::Value;
 use std::alloc::{AllocError, Global};
 use std::test::Fail;
 
-// What is told of two reports that mean the same.
+// The line for two reports that mean the same.
 pub const SAME: &str = "same";
 
-// Edits of a report for the left and for the right, and what is told of the two.
+// Edits of a report for the left and for the right, and the expected line.
 pub type Comparison<'a> = (&'a [Edit], &'a [Edit], &'a str);
 
-// This is told of each two edits of a report.
+// Each pair of edited reports gives the expected line.
 pub fn all_tell(alloc: Global, report: &str, cases: &[Comparison]) -> Result<(), Fail> {
     for (left_edits, right_edits, wanted) in cases {
         let left = with_edits(alloc, report, left_edits)?;
@@ -27,7 +26,7 @@ pub fn all_tell(alloc: Global, report: &str, cases: &[Comparison]) -> Result<(),
     Ok(())
 }
 
-// This is told of a report on the left and of each of its edits on the right.
+// A report on the left and each edited report on the right give the expected line.
 pub fn edits_tell(alloc: Global, report: &str, cases: &[(&[Edit], &str)]) -> Result<(), Fail> {
     for (edits, wanted) in cases {
         let right = with_edits(alloc, report, edits)?;
@@ -36,8 +35,8 @@ pub fn edits_tell(alloc: Global, report: &str, cases: &[(&[Edit], &str)]) -> Res
     Ok(())
 }
 
-// This is told of two reports, and of the two exchanged the same with left and right exchanged. It is told of their canonical
-// forms too, and each report is the same as its own.
+// Two reports give this line, and with left and right swapped they give the swapped line. Their canonical forms give the
+// same lines, and each report is the same as its own canonical form.
 pub fn tells(alloc: Global, left: &str, right: &str, wanted: &str) -> Result<(), Fail> {
     let exchanged = exchanged_line(alloc, wanted)?;
     tells_alone(alloc, left, right, wanted)?;
@@ -49,7 +48,7 @@ pub fn tells(alloc: Global, left: &str, right: &str, wanted: &str) -> Result<(),
     tells_alone(alloc, left_form.as_str(), right_form.as_str(), wanted)
 }
 
-// The line with left and right exchanged.
+// The line with left and right swapped.
 fn exchanged_line(alloc: Global, line: &str) -> Result<String, AllocError> {
     if let Some(place) = line.strip_suffix(": only left") {
         return format!(in alloc; "{place}: only right");
@@ -60,7 +59,7 @@ fn exchanged_line(alloc: Global, line: &str) -> Result<String, AllocError> {
     }
 }
 
-// This is told of two reports in this order, whoever is asked.
+// Two reports in this order give this line by each call.
 fn tells_alone(alloc: Global, left: &str, right: &str, wanted: &str) -> Result<(), Fail> {
     let outcome = if wanted == SAME {
         Outcome::Good
@@ -73,7 +72,7 @@ fn tells_alone(alloc: Global, left: &str, right: &str, wanted: &str) -> Result<(
     meanings_tell(alloc, left, right, wanted)
 }
 
-// This is the first difference of what two reports mean.
+// This is the line of the first difference between the meanings of two reports.
 fn meanings_tell(alloc: Global, left: &str, right: &str, wanted: &str) -> Result<(), Fail> {
     let left_tree = Value::from_str(alloc, left)?;
     let right_tree = Value::from_str(alloc, right)?;
@@ -83,7 +82,7 @@ fn meanings_tell(alloc: Global, left: &str, right: &str, wanted: &str) -> Result
     is_told(alloc, found.as_ref(), wanted)
 }
 
-// The difference is told so, and so is none.
+// The difference has this line, or there is none and the line is that of equal reports.
 pub fn is_told(alloc: Global, found: Option<&Difference>, wanted: &str) -> Result<(), Fail> {
     let line = match found {
         Some(difference) => difference.line(alloc)?,
@@ -96,7 +95,7 @@ pub fn is_told(alloc: Global, found: Option<&Difference>, wanted: &str) -> Resul
     }
 }
 
-// Comparing the bytes of two reports ends so, and writes these lines without the last line feed.
+// Comparing the bytes of two reports has this outcome and writes these lines, here without the last line feed.
 pub fn writes(
     alloc: Global,
     left: &[u8],

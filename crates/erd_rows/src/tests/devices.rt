@@ -27,15 +27,12 @@ fn largest_input(rt: HostRuntime) {
     }
 }
 
-// A failure at each read, also at the one that would have told the end.
+// A failure at each read, also at the one that would have reached the end.
 #[test]
 fn each_read_fails(rt: HostRuntime) {
     let all = ONE_UNIT.len().saturating_add(1);
     for good_reads in 0..all.saturating_add(1) {
-        let mut reader = ReadFrom::of(FailingReader {
-            rest: ONE_UNIT.as_bytes(),
-            good_reads,
-        });
+        let mut reader = ReadFrom::of(FailingReader::after(ONE_UNIT.as_bytes(), good_reads));
         let mut out = WriteTo::of(PageWriter::empty());
         let mut err = WriteTo::of(PageWriter::empty());
         let answer = run_canon(rt.alloc(), &mut reader, &mut out, &mut err);
@@ -46,6 +43,8 @@ fn each_read_fails(rt: HostRuntime) {
         };
         assert!(rt; answer == wanted, "at {good_reads}");
         assert_eq!(rt; reader.failed(), answer.is_err(), "at {good_reads}");
+        let reads = good_reads.saturating_add(1).min(all);
+        assert_eq!(rt; reader.reader.reads, reads, "at {good_reads}");
         assert!(rt; out.writer.holds(text.as_bytes()), "at {good_reads}");
         assert!(rt; err.writer.holds(b""), "at {good_reads}");
     }
@@ -68,6 +67,8 @@ fn each_write_fails(rt: HostRuntime) {
         assert!(rt; answer == wanted, "at {good_writes}");
         assert_eq!(rt; out.failed(), answer.is_err(), "at {good_writes}");
         assert_eq!(rt; out.writer.taken, good_writes, "at {good_writes}");
+        let flushes = if answer.is_ok() { 1 } else { 0 };
+        assert_eq!(rt; out.writer.flushes, flushes, "at {good_writes}");
     }
 }
 
@@ -84,13 +85,6 @@ fn other_writers_fail(rt: HostRuntime) {
     let mut err = WriteTo::of(PageWriter::empty());
     let flush = run_canon(rt.alloc(), &mut reader, &mut out, &mut err);
     assert!(rt; flush == Err(RunFault::Write));
-
-    let mut reader = ReadFrom::of(THREE_SHAPE_FAULTS.as_bytes());
-    let mut out = WriteTo::of(PageWriter::empty());
-    let mut err = WriteTo::of(FailingWriter::after(3));
-    let second = run_canon(rt.alloc(), &mut reader, &mut out, &mut err);
-    assert!(rt; second == Err(RunFault::Write));
-    assert_eq!(rt; err.writer.taken, 3);
 }
 
 #[test]
@@ -115,10 +109,7 @@ fn largest_input_of_check(rt: HostRuntime) {
 fn each_read_of_check_fails(rt: HostRuntime) {
     let all = ONE_UNIT.len().saturating_add(1);
     for good_reads in 0..all.saturating_add(1) {
-        let mut reader = ReadFrom::of(FailingReader {
-            rest: ONE_UNIT.as_bytes(),
-            good_reads,
-        });
+        let mut reader = ReadFrom::of(FailingReader::after(ONE_UNIT.as_bytes(), good_reads));
         let mut out = WriteTo::of(PageWriter::empty());
         let answer = run_check(rt.alloc(), &mut reader, &mut out);
         let (wanted, text) = if good_reads == all {
@@ -128,6 +119,8 @@ fn each_read_of_check_fails(rt: HostRuntime) {
         };
         assert!(rt; answer == wanted, "at {good_reads}");
         assert_eq!(rt; reader.failed(), answer.is_err(), "at {good_reads}");
+        let reads = good_reads.saturating_add(1).min(all);
+        assert_eq!(rt; reader.reader.reads, reads, "at {good_reads}");
         assert!(rt; out.writer.holds(text.as_bytes()), "at {good_reads}");
     }
 }
@@ -147,6 +140,8 @@ fn each_write_of_check_fails(rt: HostRuntime) {
         assert!(rt; answer == wanted, "at {good_writes}");
         assert_eq!(rt; out.failed(), answer.is_err(), "at {good_writes}");
         assert_eq!(rt; out.writer.taken, good_writes, "at {good_writes}");
+        let flushes = if answer.is_ok() { 1 } else { 0 };
+        assert_eq!(rt; out.writer.flushes, flushes, "at {good_writes}");
     }
 }
 
@@ -164,7 +159,7 @@ fn other_writers_of_check_fail(rt: HostRuntime) {
     assert_eq!(rt; out.writer.taken, 9);
 }
 
-// The derived text of a fault is its words.
+// The displayed text of a fault is its words.
 #[test]
 fn words(rt: HostRuntime) -> Result<(), Fail> {
     for (fault, words) in [

@@ -1,17 +1,17 @@
-//! At which member two objects with one key first differ.
+//! The member at which two objects with the same key first differ.
 use crate::tests::comparing::{Comparison, SAME, all_tell, edits_tell};
 use crate::tests::edits::Edit;
 use crate::vectors::SMALL_BALLOT;
 use std::test::Fail;
 
-// A party without a member of its own but its name.
+// The name of a party. The party has no other member of its own.
 const BLUE: &str = r#""Name":"Blue""#;
 
 const NOTE: &str = r#"party ["local-level","","P1"]: member "Note""#;
 
 const NAME: &str = r#"party ["local-level","","P1"]: member "Name""#;
 
-// Of two members that differ the one of the least name is told, whether one object has it or both.
+// If two members differ, the line has the least name, whether one object has that member or both.
 #[test]
 fn least_name(rt: HostRuntime) -> Result<(), Fail> {
     all_tell(
@@ -101,7 +101,7 @@ fn other_class(rt: HostRuntime) -> Result<(), Fail> {
     )
 }
 
-// What a party carries, and what is told of it.
+// Carried members of a party, and the expected line.
 const CARRIED: &[Comparison<'static>] = &[
     (&[], &[(BLUE, r#""Name":"Blue","Note":null"#)], NOTE),
     (&[], &[(BLUE, r#""Name":"Blue","Note":[]"#)], NOTE),
@@ -149,7 +149,7 @@ const CARRIED: &[Comparison<'static>] = &[
     ),
 ];
 
-// A carried `null` is a member, and so is each other value; an absent one is none.
+// A carried member counts whatever its value is, even `null`. An absent member does not count.
 #[test]
 fn null_and_absent(rt: HostRuntime) -> Result<(), Fail> {
     all_tell(rt.alloc(), SMALL_BALLOT, CARRIED)
@@ -161,7 +161,7 @@ const TRANSLATED: Edit = (
     r#""Name":{"@type":"%InternationalizedText","Text":[{"@type":"%LanguageString","Language":"en","Content":"Blue"}]}"#,
 );
 
-// A label as a text and as one translation, and what stands beside the translations.
+// A label as a text and as one translation, and the members beside the translations.
 #[test]
 fn text_or_translation(rt: HostRuntime) -> Result<(), Fail> {
     all_tell(
@@ -216,14 +216,14 @@ fn text_or_translation(rt: HostRuntime) -> Result<(), Fail> {
 
 const SELECTIONS: &str = r#"contest ["local-level","","C1"]: member "ContestSelection""#;
 
-// Selections of one name that differ, and selections of other names.
+// Selections with the same name that differ, and selections with other names.
 #[test]
 fn selections(rt: HostRuntime) -> Result<(), Fail> {
     edits_tell(
         rt.alloc(),
         SMALL_BALLOT,
         &[
-            // An endorsement only.
+            // Only an endorsement differs.
             (
                 &[(
                     r#""CandidateIds":["a7"]"#,
@@ -277,7 +277,7 @@ fn selections(rt: HostRuntime) -> Result<(), Fail> {
                 )],
                 SAME,
             ),
-            // One selection less.
+            // One selection fewer.
             (
                 &[
                     (r#"["a10","a9","a11"]"#, r#"["a10","a9"]"#),

@@ -1,4 +1,4 @@
-//! Where two reports first differ: the least part, there the least key, and there the least name.
+//! Where two reports first differ: at the least part, there at the least key, and there at the least name.
 use crate::tests::comparing::{Comparison, SAME, all_tell, edits_tell, tells};
 use crate::tests::edits::{Edit, with_edits};
 use crate::vectors::SMALL_BALLOT;
@@ -48,7 +48,7 @@ const OF_EACH_PART: &[(Edit, &str)] = &[
     ),
 ];
 
-// A difference in each part alone, and with one in every later part, on the same side and on the other.
+// A difference in each part, alone and with a difference in every later part, on the same side and on the other side.
 #[test]
 fn earlier_parts_win(rt: HostRuntime) -> Result<(), Fail> {
     let alloc = rt.alloc();
@@ -63,7 +63,7 @@ fn earlier_parts_win(rt: HostRuntime) -> Result<(), Fail> {
     Ok(())
 }
 
-// One object more on the right, in each family.
+// One more object on the right, in each family.
 #[test]
 fn each_family_has_one_more(rt: HostRuntime) -> Result<(), Fail> {
     edits_tell(
@@ -130,13 +130,13 @@ fn each_family_has_one_more(rt: HostRuntime) -> Result<(), Fail> {
     )
 }
 
-// The candidates of the keys K3 and K1 exchanged.
+// The candidates with the keys K3 and K1, swapped.
 const EXCHANGED: Edit = (
     r#"{"@id":"a7","@type":"%Candidate","ExternalIdentifier":[{"@type":"%ExternalIdentifier","Type":"local-level","Value":"K3"}],"BallotName":"Cy","PartyId":"a3"},{"@id":"a5","@type":"%Candidate","ExternalIdentifier":[{"@type":"%ExternalIdentifier","Type":"local-level","Value":"K1"}],"BallotName":"Ann","PersonId":"a16"}"#,
     r#"{"@id":"a5","@type":"%Candidate","ExternalIdentifier":[{"@type":"%ExternalIdentifier","Type":"local-level","Value":"K1"}],"BallotName":"Ann","PersonId":"a16"},{"@id":"a7","@type":"%Candidate","ExternalIdentifier":[{"@type":"%ExternalIdentifier","Type":"local-level","Value":"K3"}],"BallotName":"Cy","PartyId":"a3"}"#,
 );
 
-// Another name of the third candidate, and of the first one.
+// Another name for the third candidate, and for the first one.
 const CYD: Edit = (r#""BallotName":"Cy""#, r#""BallotName":"Cyd""#);
 
 const ANNA: Edit = (r#""BallotName":"Ann""#, r#""BallotName":"Anna""#);
@@ -153,13 +153,13 @@ const OF_TWO_CANDIDATES: &[Comparison<'static>] = &[
     (&[CYD], &[ANNA], FIRST_CANDIDATE),
 ];
 
-// Of two candidates that differ the one of the least key is told, whatever their order.
+// If two candidates differ, the line names the one with the least key, whatever their order.
 #[test]
 fn least_key(rt: HostRuntime) -> Result<(), Fail> {
     all_tell(rt.alloc(), SMALL_BALLOT, OF_TWO_CANDIDATES)
 }
 
-// The least key is told whether one report has it or both.
+// The line has the least key, whether one report has it or both.
 #[test]
 fn least_key_of_either(rt: HostRuntime) -> Result<(), Fail> {
     edits_tell(
@@ -190,7 +190,7 @@ fn least_key_of_either(rt: HostRuntime) -> Result<(), Fail> {
                 &[(r#""Value":"K2""#, r#""Value":"K11""#), CYD],
                 r#"candidate ["local-level","","K11"]: only right"#,
             ),
-            // Two keys exchanged.
+            // Two keys swapped.
             (
                 &[
                     (r#""Value":"K3""#, r#""Value":"K4""#),
@@ -211,7 +211,7 @@ fn least_key_of_either(rt: HostRuntime) -> Result<(), Fail> {
     )
 }
 
-// Keys rise part by part, and in each by the bytes.
+// Keys are ordered part by part, and each part by its bytes.
 #[test]
 fn keys_in_order(rt: HostRuntime) -> Result<(), Fail> {
     edits_tell(

@@ -1,4 +1,4 @@
-//! The first difference of two reports.
+//! The first difference between two reports.
 use crate::tests::comparing::{SAME, all_tell, edits_tell, tells, writes};
 use crate::tests::edits::edited;
 use crate::vectors::{
@@ -8,7 +8,7 @@ use crate::vectors::{
 use erd_canon::Outcome;
 use std::test::Fail;
 
-// Two vendors write one ballot; and what says nothing of a ballot differs.
+// Two vendors write the same ballot, and their reports differ only in what has no meaning.
 #[test]
 fn two_vendors(rt: HostRuntime) -> Result<(), Fail> {
     let alloc = rt.alloc();
@@ -31,7 +31,7 @@ fn own_canonical_forms(rt: HostRuntime) -> Result<(), Fail> {
     Ok(())
 }
 
-// The two entries of the ballot's order exchanged.
+// The two entries of the ballot's contents swapped.
 #[test]
 fn content_order(rt: HostRuntime) -> Result<(), Fail> {
     edits_tell(
@@ -53,7 +53,7 @@ fn content_order(rt: HostRuntime) -> Result<(), Fail> {
     )
 }
 
-// A header in a header, and in the inner one the order of the selections.
+// A header in a header, and the order of the selections in the inner one.
 #[test]
 fn nested_header(rt: HostRuntime) -> Result<(), Fail> {
     all_tell(
@@ -104,7 +104,7 @@ fn absent_or_false(rt: HostRuntime) -> Result<(), Fail> {
     )
 }
 
-// The third candidate has another key on the right; then on the left.
+// The third candidate has another key, first on the right, then on the left.
 #[test]
 fn other_candidate_key(rt: HostRuntime) -> Result<(), Fail> {
     all_tell(
@@ -125,7 +125,7 @@ fn other_candidate_key(rt: HostRuntime) -> Result<(), Fail> {
     )
 }
 
-// The order of carried members is nothing, that of a carried array is something.
+// The order of carried members has no meaning. The order of a carried array has one.
 #[test]
 fn carried_members(rt: HostRuntime) -> Result<(), Fail> {
     all_tell(
@@ -177,7 +177,7 @@ fn report_election_and_class(rt: HostRuntime) -> Result<(), Fail> {
     )
 }
 
-// A quotation mark in a key is written as JSON writes it; so are a backslash, a line feed and a control character.
+// A quotation mark in a key is escaped as in JSON. So are a backslash, a line feed and a control character.
 #[test]
 fn quoted_key(rt: HostRuntime) -> Result<(), Fail> {
     edits_tell(
@@ -222,7 +222,7 @@ fn right_is_not_json(rt: HostRuntime) -> Result<(), Fail> {
     writes(rt.alloc(), left, b"", Outcome::NotJson, "right: not JSON")
 }
 
-// Where both reports are refused, the left one is told.
+// If both reports are refused, the lines are those of the left one.
 #[test]
 fn left_refused_first(rt: HostRuntime) -> Result<(), Fail> {
     let alloc = rt.alloc();
@@ -245,7 +245,7 @@ fn left_refused_first(rt: HostRuntime) -> Result<(), Fail> {
     )
 }
 
-// Each line of a list of faults is told with its side.
+// Each line of a list of faults begins with its side.
 #[test]
 fn each_fault_with_its_side(rt: HostRuntime) -> Result<(), Fail> {
     let alloc = rt.alloc();

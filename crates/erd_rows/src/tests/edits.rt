@@ -2,7 +2,7 @@
 use std::alloc::{AllocError, Global};
 use std::test::Fail;
 
-// A text, and what stands in its place.
+// A text and its replacement.
 pub type Edit = (&'static str, &'static str);
 
 // The text with the first `from` replaced.
@@ -11,7 +11,7 @@ pub fn edited(alloc: Global, text: &str, from: &str, to: &str) -> Result<String,
     Ok(format!(in alloc; "{before}{to}{after}")?)
 }
 
-// The text with the first `from` of each edit replaced, one after another. The edits are spelled.
+// The text with the first `from` of each edit replaced, one edit after another. `spelled` is applied to each edit.
 pub fn with_edits(alloc: Global, text: &str, edits: &[(&str, &str)]) -> Result<String, Fail> {
     let mut whole = String::from_str(alloc, text)?;
     for (from, to) in edits {
@@ -22,18 +22,18 @@ pub fn with_edits(alloc: Global, text: &str, edits: &[(&str, &str)]) -> Result<S
     Ok(whole)
 }
 
-// The text with the first `from` replaced, if it is there and memory is found.
+// The text with the first `from` replaced, or `None` if it is absent or memory runs out.
 pub fn replaced(alloc: Global, text: &str, from: &str, to: &str) -> Option<String> {
     let (before, after) = text.split_once(from)?;
     format!(in alloc; "{before}{to}{after}").ok()
 }
 
-// The text with the prefix of class names for each `%`.
+// The text with each `%` replaced by the prefix of class names.
 pub fn spelled(alloc: Global, text: &str) -> Result<String, AllocError> {
     filled(alloc, text, '%', "ElectionResults.")
 }
 
-// The text with this in place of each mark.
+// The text with each mark replaced by this text.
 pub fn filled(alloc: Global, text: &str, mark: char, with: &str) -> Result<String, AllocError> {
     let mut whole = String::new(alloc);
     for (index, part) in text.split(mark).enumerate() {

@@ -1,10 +1,10 @@
-//! Canonical forms of reports, and which reports have the same.
+//! Canonical forms of reports, and which reports have the same one.
 use crate::tests::edits::{Edit, with_edits};
 use erd_canon::canonical;
 use std::alloc::Global;
 use std::test::Fail;
 
-// The canonical form of a report, which is its own canonical form.
+// The canonical form of a report. It must be its own canonical form.
 pub fn canonical_text(alloc: Global, report: &str) -> Result<String, Fail> {
     let form = canonical(alloc, report.as_bytes())?;
     let again = canonical(alloc, form.as_slice())?;
@@ -25,10 +25,10 @@ pub fn has_form(alloc: Global, report: &str, wanted: &str) -> Result<(), Fail> {
     }
 }
 
-// Edits of a report, and those of its canonical form that they lead to.
+// Edits of a report, and the resulting edits of its canonical form.
 pub type Form<'a> = (&'a [Edit], &'a [Edit]);
 
-// The report has the canonical form, and each edited report the edited one.
+// The report has the canonical form, and each edited report has the edited canonical form.
 pub fn have_forms(alloc: Global, report: &str, form: &str, cases: &[Form]) -> Result<(), Fail> {
     has_form(alloc, report, form)?;
     for (edits, form_edits) in cases {
@@ -39,13 +39,13 @@ pub fn have_forms(alloc: Global, report: &str, form: &str, cases: &[Form]) -> Re
     Ok(())
 }
 
-// Both reports have one canonical form.
+// Both reports have the same canonical form.
 pub fn same_bytes(alloc: Global, left: &str, right: &str) -> Result<(), Fail> {
     let wanted = canonical_text(alloc, left)?;
     has_form(alloc, right, wanted.as_str())
 }
 
-// The two reports have two canonical forms.
+// The two reports have different canonical forms.
 pub fn other_bytes(alloc: Global, left: &str, right: &str) -> Result<(), Fail> {
     let left = canonical_text(alloc, left)?;
     let right = canonical_text(alloc, right)?;
@@ -56,7 +56,7 @@ pub fn other_bytes(alloc: Global, left: &str, right: &str) -> Result<(), Fail> {
     }
 }
 
-// The report and all edited ones have canonical forms of which no two are one.
+// The report and all edited reports have different canonical forms.
 pub fn all_apart(alloc: Global, report: &str, cases: &[&[Edit]]) -> Result<(), Fail> {
     let mut forms = Vec::new(alloc);
     forms.push(canonical_text(alloc, report)?)?;

@@ -1,4 +1,4 @@
-//! Keys and `@id` texts: what is told of them, and what is found by them.
+//! Keys and `@id` texts: their faults, and the objects that they find.
 use crate::tests::edits::edited;
 use crate::tests::lines::{ACCEPTED, check_lines};
 use crate::vectors::{ONE_UNIT, SMALL_BALLOT};
@@ -17,7 +17,7 @@ fn identifier(alloc: Global, members: &str) -> Result<String, Fail> {
     Ok(format!(in alloc; "{{\"@type\":\"ElectionResults.ExternalIdentifier\",{members}}}")?)
 }
 
-// A unit with this `@id` and these members in its one identifier, and a comma.
+// A unit with this `@id` and one identifier with these members, followed by a comma.
 fn unit(alloc: Global, id: &str, members: &str) -> Result<String, Fail> {
     let entry = identifier(alloc, members)?;
     Ok(format!(in alloc;
@@ -25,7 +25,7 @@ fn unit(alloc: Global, id: &str, members: &str) -> Result<String, Fail> {
     )?)
 }
 
-// The report of one unit, after units with these members in their identifiers, is judged so.
+// The report of one unit, with units before it that have these members in their identifiers, has the expected lines.
 fn units_have(alloc: Global, units: &[(&str, &str)], wanted: &str) -> Result<(), Fail> {
     let mut added = String::from_str(alloc, "\"GpUnit\":[")?;
     for (id, members) in units {
@@ -41,7 +41,7 @@ fn units_have(alloc: Global, units: &[(&str, &str)], wanted: &str) -> Result<(),
     }
 }
 
-// The key of these three texts.
+// The key made of these three texts.
 pub fn key(alloc: Global, kind: &str, other: &str, value: &str) -> Result<Key, Fail> {
     let kind = Text::of(String::from_str(alloc, kind)?);
     let other = Text::of(String::from_str(alloc, other)?);
@@ -49,7 +49,7 @@ pub fn key(alloc: Global, kind: &str, other: &str, value: &str) -> Result<Key, F
     Ok(Key { kind, other, value })
 }
 
-// The key of the unit in the report of one unit, with these entries in its ExternalIdentifier.
+// With these entries in its ExternalIdentifier, the unit in the report of one unit has this key.
 fn key_is(alloc: Global, entries: &[&str], wanted: &Key) -> Result<(), Fail> {
     let mut array = String::from_str(alloc, "[")?;
     for members in entries {
@@ -84,13 +84,13 @@ fn twin_unit_key(rt: HostRuntime) -> Result<(), Fail> {
         &[("u8", local)],
         "/GpUnit/1: identifier used twice\n",
     )?;
-    // Three units with one key.
+    // Three units with the same key.
     units_have(
         alloc,
         &[("u8", local), ("u9", local)],
         "/GpUnit/1: identifier used twice\n/GpUnit/2: identifier used twice\n",
     )?;
-    // In another family the key is another one.
+    // Another family may have the same key.
     let entry = identifier(alloc, local)?;
     let party = format!(in alloc;
         "{{\"Party\":[{{\"@id\":\"p\",\"@type\":\"ElectionResults.Party\",\"Name\":\"B\",\"ExternalIdentifier\":[{entry}]}}],"
@@ -114,7 +114,7 @@ fn no_identifier_and_double_id(rt: HostRuntime) -> Result<(), Fail> {
     let report = edited(alloc, ONE_UNIT, "{", party.as_str())?;
     let found = check_lines(alloc, report.as_str())?;
     assert_eq!(rt; found.as_str(), "/Party/0/@id: @id used twice\n");
-    // An object without a key and with the `@id` of an earlier one; the empty text is an `@id` too.
+    // An object without a key and with the `@id` of an earlier object. The empty text is an `@id` too.
     units_have(
         alloc,
         &[
@@ -137,7 +137,7 @@ fn no_identifier_and_double_id(rt: HostRuntime) -> Result<(), Fail> {
     Ok(())
 }
 
-// A selection with the `@id` of its contest, a contest with that of a unit: the later place is told.
+// A selection with the `@id` of its contest, and a contest with the `@id` of a unit. The line has the later place.
 #[test]
 fn one_id_in_two_families(rt: HostRuntime) -> Result<(), Fail> {
     let alloc = rt.alloc();
@@ -170,7 +170,7 @@ fn one_id_in_two_families(rt: HostRuntime) -> Result<(), Fail> {
     Ok(())
 }
 
-// Absent and empty, `OtherType` is the same text of a key.
+// An absent `OtherType` and an empty one give the same key.
 #[test]
 fn other_type(rt: HostRuntime) -> Result<(), Fail> {
     let alloc = rt.alloc();
@@ -185,7 +185,7 @@ fn other_type(rt: HostRuntime) -> Result<(), Fail> {
     key_is(alloc, &[absent, empty], &found)
 }
 
-// The least of two identifiers: by `Type`, by `OtherType`, by `Value`, each by the bytes of the texts.
+// The lesser of two identifiers: by `Type`, then by `OtherType`, then by `Value`, each by its bytes.
 #[test]
 fn least_identifier(rt: HostRuntime) -> Result<(), Fail> {
     let alloc = rt.alloc();
@@ -293,5 +293,44 @@ fn look_ups(rt: HostRuntime) -> Result<(), Fail> {
     ] {
         assert!(rt; report.target(id) == wanted, "{id}");
     }
+    Ok(())
+}
+
+fn has_one_election(report: &Report, wanted: &Key) -> bool {
+    let held = [
+        report.election_of(Family::Candidate, 2),
+        report.election_of(Family::Contest, 1),
+        report.election_of(Family::Style, 0),
+    ];
+    let not_held = [
+        report.election_of(Family::Candidate, 3),
+        report.election_of(Family::Unit, 0),
+        report.election_of(Family::Selection, 0),
+    ];
+    report.election_count() == 1
+        && report.election_at(0).is_some()
+        && report.election_at(1).is_none()
+        && report.election_key(0).is_some_and(|key| *key == *wanted)
+        && report.election_key(1).is_none()
+        && held == [Some(0), Some(0), Some(0)]
+        && not_held == [None, None, None]
+}
+
+// The only election has a key here. It holds candidates, contests and styles, and no other objects.
+#[test]
+fn look_ups_of_the_election(rt: HostRuntime) -> Result<(), Fail> {
+    let alloc = rt.alloc();
+    let entry = identifier(alloc, r#""Type":"local-level","Value":"E1""#)?;
+    let members = format!(in alloc; "\"ExternalIdentifier\":[{entry}],\"StartDate\"")?;
+    let text = edited(alloc, SMALL_BALLOT, "\"StartDate\"", members.as_str())?;
+    let tree = Value::from_str(alloc, text.as_str())?;
+    let Ok(shaped) = shape(alloc, &tree) else {
+        return Err(Fail::from("a fault of the shape"));
+    };
+    let Ok(report) = resolve(alloc, shaped) else {
+        return Err(Fail::from("a fault"));
+    };
+    let wanted = key(alloc, "local-level", "", "E1")?;
+    assert!(rt; has_one_election(&report, &wanted));
     Ok(())
 }

@@ -1,4 +1,4 @@
-//! Lists of faults as lines, and what is told of reports.
+//! Lists of faults as lines, and the lines for reports.
 use crate::tests::edits::edited;
 use crate::writers::PageWriter;
 use erd_canon::{Outcome, ReadFrom, WriteTo, run_check};
@@ -9,10 +9,10 @@ use serde_json::Value;
 use std::alloc::{AllocError, Global};
 use std::test::Fail;
 
-// What is told of an accepted report.
+// The line for an accepted report.
 pub const ACCEPTED: &str = "accepted\n";
 
-// The lines of a list of faults, each with its line end.
+// The lines of a list of faults, each with its line feed.
 pub fn lines(alloc: Global, faults: &FaultList) -> Result<String, AllocError> {
     let mut text = String::new(alloc);
     for index in 0..faults.len() {
@@ -25,10 +25,10 @@ pub fn lines(alloc: Global, faults: &FaultList) -> Result<String, AllocError> {
     Ok(text)
 }
 
-// A report, an edit of it, and what is told of the edited report.
+// A report, an edit of it, and the lines for the edited report.
 pub type Case = (&'static str, &'static str, &'static str, &'static str);
 
-// Each edited report is judged so.
+// Each edited report has the expected lines.
 pub fn all_hold(alloc: Global, cases: &[Case]) -> Result<(), Fail> {
     for (report, from, to, wanted) in cases {
         let report = edited(alloc, report, from, to)?;
@@ -41,7 +41,7 @@ pub fn all_hold(alloc: Global, cases: &[Case]) -> Result<(), Fail> {
     Ok(())
 }
 
-// What checking the bytes of a report writes, which is what is told of it layer by layer.
+// The lines that checking the bytes of a report writes. They are the same as those of the single layers.
 pub fn check_lines(alloc: Global, report: &str) -> Result<String, Fail> {
     let told = layer_lines(alloc, report)?;
     let (outcome, written) = checked(alloc, report.as_bytes())?;
@@ -57,7 +57,7 @@ pub fn check_lines(alloc: Global, report: &str) -> Result<String, Fail> {
     Ok(written)
 }
 
-// What checking answers for the bytes, and what it writes.
+// The outcome and the text of checking the bytes.
 pub fn checked(alloc: Global, bytes: &[u8]) -> Result<(Outcome, String), Fail> {
     let mut reader = ReadFrom::of(bytes);
     let mut out = WriteTo::of(PageWriter::empty());
@@ -66,7 +66,7 @@ pub fn checked(alloc: Global, bytes: &[u8]) -> Result<(Outcome, String), Fail> {
     Ok((outcome, String::from_str(alloc, text)?))
 }
 
-// What is told of a report: `accepted`, or its fault lines.
+// The lines for a report: `accepted`, or its fault lines.
 fn layer_lines(alloc: Global, report: &str) -> Result<String, Fail> {
     let shape = shape_lines(alloc, report)?;
     if shape.is_empty() {
@@ -97,7 +97,7 @@ pub fn shape_lines(alloc: Global, report: &str) -> Result<String, Fail> {
     Ok(found)
 }
 
-// What is told of a report whose shape has no fault.
+// The lines for a report whose shape has no fault.
 fn resolve_lines(alloc: Global, report: &str) -> Result<String, Fail> {
     let tree = Value::from_str(alloc, report)?;
     let Ok(shaped) = shape(alloc, &tree) else {

@@ -1,4 +1,4 @@
-//! References from each family to another, and the names of selections beside them.
+//! References from each family to others, and the names of selections.
 use crate::tests::edits::with_edits;
 use crate::tests::lines::check_lines;
 use crate::tests::names::{OWN, names_are};
@@ -15,7 +15,7 @@ fn with_all(alloc: Global, edits: &[(&str, &str)]) -> Result<String, Fail> {
     with_edits(alloc, SMALL_BALLOT, edits)
 }
 
-// The small ballot with these edits is judged so.
+// The small ballot with these edits has the expected lines.
 fn told(alloc: Global, edits: &[(&str, &str)], wanted: &str) -> Result<(), Fail> {
     let report = with_all(alloc, edits)?;
     let found = check_lines(alloc, report.as_str())?;
@@ -70,7 +70,7 @@ fn contests_of_a_coalition(rt: HostRuntime) -> Result<(), Fail> {
         let both = coalition(alloc, members)?;
         told(alloc, &[(blue, both.as_str())], wanted)?;
     }
-    // A party that is no coalition has no contests.
+    // A party that is not a coalition has no contests.
     told(
         alloc,
         &[(blue, r#""Name":"Blue","ContestIds":["a8"]}"#)],
@@ -78,7 +78,7 @@ fn contests_of_a_coalition(rt: HostRuntime) -> Result<(), Fail> {
     )
 }
 
-// The small ballot with a third contest of one answer, about whether a candidate stays.
+// The small ballot with a third contest, a retention contest with one answer.
 fn retention(alloc: Global, members: &str) -> Result<String, Fail> {
     let contest = format!(in alloc;
         ",{{\"@id\":\"a15\",\"@type\":\"%RetentionContest\",\"ExternalIdentifier\":[{{\"@type\":\"%ExternalIdentifier\",\"Type\":\"local-level\",\"Value\":\"C3\"}}],\"Name\":\"Keep\",{members}\"ElectionDistrictId\":\"a1\",\"ContestSelection\":[{{\"@id\":\"a18\",\"@type\":\"%BallotMeasureSelection\",\"Selection\":\"No\"}}]}}],\"BallotStyle\""
@@ -113,7 +113,7 @@ fn candidate_of_a_retention_contest(rt: HostRuntime) -> Result<(), Fail> {
     Ok(())
 }
 
-// A person of a party that the person leads; then each names its own family.
+// A person in a party that the person leads. Then each refers to an object of its own family.
 #[test]
 fn persons_and_parties(rt: HostRuntime) -> Result<(), Fail> {
     let alloc = rt.alloc();
@@ -154,7 +154,7 @@ const INNER: &str = r#""HeaderId":"a4","OrderedContent":[{"#;
 
 const INNER_END: &str = r#"["a10","a9","a11"]}]}"#;
 
-// Headers stand in headers on a ballot, however deep, and may be empty and stand twice.
+// Headers may be nested on a ballot to any depth, may be empty, and may occur twice.
 #[test]
 fn header_in_a_header(rt: HostRuntime) -> Result<(), Fail> {
     let alloc = rt.alloc();
@@ -187,7 +187,7 @@ fn names_found(alloc: Global, left: &Report, right: &Report) -> Result<(), Fail>
     Ok(())
 }
 
-// The names of one report are found in another with other `@id` texts, whose arrays stand in another order.
+// The names of one report are found in another report with other `@id` texts and arrays in another order.
 #[test]
 fn names_of_two_vendors(rt: HostRuntime) -> Result<(), Fail> {
     let alloc = rt.alloc();

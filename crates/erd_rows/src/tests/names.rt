@@ -1,4 +1,4 @@
-//! The names of selections, and what is found by them.
+//! The names of selections, and the selections that they find.
 use crate::tests::lines::{ACCEPTED, check_lines};
 use erd_check::shape;
 use erd_meaning::{Report, SelectionName, resolve};
@@ -7,14 +7,14 @@ use serde_json::Value;
 use std::alloc::Global;
 use std::test::Fail;
 
-// For each selection the position of its contest, and the rank of its name among all: equal names have one rank.
+// For each selection, the position of its contest and the rank of its name among all names. Equal names have the same rank.
 pub type Ranked<'a> = &'a [(usize, usize)];
 
-// The names of the small ballot's own selections: classes by their names, then the keys as words, and of labels a text before
-// translations.
+// The names of the small ballot's own selections: ordered by the names of their classes, then by their keys. Labels that are
+// texts come before labels with translations.
 pub const OWN: Ranked<'static> = &[(0, 3), (0, 4), (0, 2), (1, 1), (1, 0)];
 
-// The report is accepted, and its selections have these contests and names of these ranks.
+// The report is accepted, and its selections have these contests and names with these ranks.
 pub fn names_are(alloc: Global, report: &str, ranked: Ranked) -> Result<(), Fail> {
     let told = check_lines(alloc, report)?;
     if told.as_str() != ACCEPTED {
@@ -50,7 +50,7 @@ pub fn names_are(alloc: Global, report: &str, ranked: Ranked) -> Result<(), Fail
     Ok(())
 }
 
-// The name stands in order with each name of the report.
+// The name compares correctly with each name of the report.
 fn is_ordered(
     alloc: Global,
     report: &Report,
@@ -72,7 +72,7 @@ fn is_ordered(
     Ok(())
 }
 
-// The name is found in each contest that has it, at its position, and in no other.
+// The name is found in each contest that has it, at its position, and in no other contest.
 fn is_found(
     alloc: Global,
     report: &Report,

@@ -1,4 +1,4 @@
-//! Places and their pointers, and equality.
+//! Places, JSON Pointers and equality.
 use crate::tests::lines::all_hold;
 use crate::vectors::ONE_UNIT;
 use erd_check::same_json;
@@ -24,7 +24,7 @@ fn names_in_pointers(rt: HostRuntime) -> Result<(), Fail> {
                 r#"{"\u00e9\u20ac\n":1.5,"#,
                 "/\u{e9}\u{20ac}\n: not a whole number\n",
             ),
-            // By the bytes of the names themselves, which `~` and `/` stand in as they are.
+            // Ordered by the bytes of the names themselves, before `~` and `/` are escaped.
             (
                 ONE_UNIT,
                 "{",
@@ -53,7 +53,7 @@ fn pointers(rt: HostRuntime) -> Result<(), Fail> {
     Ok(())
 }
 
-// Equality as JSON: objects as maps, arrays as lists, whole numbers by value, and no other number equal to any.
+// Equality as JSON: objects as maps, arrays as lists, whole numbers by value. Any other number is equal to none.
 #[test]
 fn equal_as_json(rt: HostRuntime) -> Result<(), Fail> {
     let alloc = rt.alloc();

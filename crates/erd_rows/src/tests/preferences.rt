@@ -1,4 +1,4 @@
-//! Reports under a preference of identifier types: their canonical forms, what is told of them, and of two of them.
+//! Reports under a preferred type of identifier: their canonical forms, their lines, and the lines for two of them.
 use crate::tests::acceptance::NOT_JSON;
 use crate::tests::comparing::SAME;
 use crate::tests::edits::{Edit, with_edits};
@@ -21,7 +21,7 @@ const LOCAL: Option<&str> = Some("local-level");
 
 const FIPS: Option<&str> = Some("fips");
 
-// The report of one unit gets a second one, and each unit two identifiers.
+// Adds a second unit to the report of one unit, and gives each unit two identifiers.
 const TWO_UNITS: Edit = (
     r#""Value":"U1"}]}]"#,
     r#""Value":"U1"},{"@type":"%ExternalIdentifier","Type":"fips","Value":"20"}]},{"@id":"u8","@type":"%ReportingUnit","Type":"county","ExternalIdentifier":[{"@type":"%ExternalIdentifier","Type":"local-level","Value":"U2"},{"@type":"%ExternalIdentifier","Type":"fips","Value":"10"}]}]"#,
@@ -31,7 +31,7 @@ const TWO_UNITS: Edit = (
 const CANONICAL_UNIT: &str =
     r#"{"@id":"gp1","@type":"%ReportingUnit","ExternalIdentifier":[{"@type":"%ExternalIdentifier","Type":"local-level","Value":"U1"}],"Type":"county"}"#;
 
-// The first unit is `u8`: its number in `fips` is the lesser one.
+// The first unit is `u8`, because it has the lesser `fips` identifier.
 const BY_FIPS: [Edit; 2] = [
     (r#""ElectionScopeId":"gp1""#, r#""ElectionScopeId":"gp2""#),
     (
@@ -40,13 +40,13 @@ const BY_FIPS: [Edit; 2] = [
     ),
 ];
 
-// The first unit is `u7`: its name in `local-level` is the lesser one.
+// The first unit is `u7`, because it has the lesser `local-level` identifier.
 const BY_LOCAL_LEVEL: [Edit; 1] = [(
     CANONICAL_UNIT,
     r#"{"@id":"gp1","@type":"%ReportingUnit","ExternalIdentifier":[{"@type":"%ExternalIdentifier","Type":"fips","Value":"20"},{"@type":"%ExternalIdentifier","Type":"local-level","Value":"U1"}],"Type":"county"},{"@id":"gp2","@type":"%ReportingUnit","ExternalIdentifier":[{"@type":"%ExternalIdentifier","Type":"fips","Value":"10"},{"@type":"%ExternalIdentifier","Type":"local-level","Value":"U2"}],"Type":"county"}"#,
 )];
 
-// Both units have one name in `local-level`, or one number in `fips`.
+// Both units have the same `local-level` identifier, or the same `fips` identifier.
 const ONE_LOCAL_LEVEL: Edit = (r#""Value":"U2""#, r#""Value":"U1""#);
 
 const ONE_FIPS: Edit = (r#""Value":"10""#, r#""Value":"20""#);
@@ -72,7 +72,7 @@ fn form_of_two_units_by_local_level(rt: HostRuntime) -> Result<(), Fail> {
     has_form_under(alloc, report.as_str(), LOCAL, wanted.as_str())
 }
 
-// The unit of the report at this position has this key, and is found by it.
+// The unit at this position of the report has this key, and the key finds it.
 fn unit_has_key(
     alloc: Global,
     report: &str,
@@ -109,7 +109,7 @@ fn keys_of_two_units(rt: HostRuntime) -> Result<(), Fail> {
     Ok(())
 }
 
-// The key of the line is that under the preference.
+// The line has the key under the preference.
 #[test]
 fn first_difference_of_two_units(rt: HostRuntime) -> Result<(), Fail> {
     let alloc = rt.alloc();
@@ -130,7 +130,7 @@ fn first_difference_of_two_units(rt: HostRuntime) -> Result<(), Fail> {
     tells_under(alloc, left.as_str(), left.as_str(), FIPS, SAME)
 }
 
-// A report may be accepted under one preference and refused under another, either way.
+// A report can be accepted under one preference and refused under another, and the other way round.
 #[test]
 fn units_with_one_key_under_a_preference(rt: HostRuntime) -> Result<(), Fail> {
     let alloc = rt.alloc();
@@ -149,7 +149,7 @@ fn units_with_one_key_under_a_preference(rt: HostRuntime) -> Result<(), Fail> {
     Ok(())
 }
 
-// Both sides are judged under the preference.
+// Both sides are checked under the preference.
 #[test]
 fn sides_refused_under_a_preference(rt: HostRuntime) -> Result<(), Fail> {
     let alloc = rt.alloc();
@@ -162,12 +162,12 @@ fn sides_refused_under_a_preference(rt: HostRuntime) -> Result<(), Fail> {
     writes_under(alloc, twins, good, LOCAL, left)?;
     writes_under(alloc, good, twins, LOCAL, right)?;
     writes_under(alloc, twins, twins, LOCAL, left)?;
-    // Under none they are accepted, and the second unit has other identifiers.
+    // With no preference they are accepted, and the second unit has other identifiers.
     let line = r#"unit ["fips","","10"]: member "ExternalIdentifier""#;
     tells_under(alloc, good, twins, None, line)
 }
 
-// Where the types of a report are all one, no preference changes a byte.
+// If all identifiers of a report have the same type, no preference changes a byte.
 #[test]
 fn reports_of_one_type(rt: HostRuntime) -> Result<(), Fail> {
     let alloc = rt.alloc();

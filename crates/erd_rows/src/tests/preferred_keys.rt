@@ -1,4 +1,4 @@
-//! The key of an object under a preference of identifier types.
+//! The key of an object under a preferred type of identifier.
 use crate::tests::comparing::SAME;
 use crate::tests::edits::{edited, with_edits};
 use crate::tests::identity::key;
@@ -14,7 +14,7 @@ use serde_json::Value;
 use std::alloc::Global;
 use std::test::Fail;
 
-// The report of one unit, with these identifiers of the unit.
+// The report of one unit, with these identifiers for the unit.
 fn unit_of(alloc: Global, entries: &[Identifier]) -> Result<String, Fail> {
     let own = identifiers(alloc, &[("local-level", "", "U1")])?;
     let array = identifiers(alloc, entries)?;
@@ -47,7 +47,7 @@ fn key_is(
     }
 }
 
-// A unit with three identifiers, in whatever order they stand, has these keys under these preferences.
+// A unit with three identifiers, in any order, has these keys under these preferences.
 fn keys_are(
     alloc: Global,
     entries: [Identifier; 3],
@@ -69,7 +69,7 @@ fn keys_are(
     Ok(())
 }
 
-// The least of the preferred type, by all three texts.
+// The least identifier of the preferred type, by all three texts.
 #[test]
 fn two_of_the_preferred_type(rt: HostRuntime) -> Result<(), Fail> {
     let alloc = rt.alloc();
@@ -87,7 +87,7 @@ fn two_of_the_preferred_type(rt: HostRuntime) -> Result<(), Fail> {
             (Some("nosuch"), ("fips", "", "5")),
         ],
     )?;
-    // `OtherType` comes before `Value`, and none is the empty text.
+    // `OtherType` is compared before `Value`. An absent one is the empty text.
     keys_are(
         alloc,
         [
@@ -102,7 +102,7 @@ fn two_of_the_preferred_type(rt: HostRuntime) -> Result<(), Fail> {
     )
 }
 
-// `OtherType` tells which of the preferred ones is the least, and not which are preferred.
+// `OtherType` helps to decide which preferred identifier is the least, but not which ones are preferred.
 #[test]
 fn other_types(rt: HostRuntime) -> Result<(), Fail> {
     let alloc = rt.alloc();
@@ -135,7 +135,7 @@ fn other_types(rt: HostRuntime) -> Result<(), Fail> {
     )
 }
 
-// A preference of the empty text is not none: it prefers the identifiers whose `Type` is empty. These are the least of all.
+// The empty preference is a preference. It prefers identifiers with an empty `Type`, which are the least of all.
 #[test]
 fn empty_preference(rt: HostRuntime) -> Result<(), Fail> {
     let alloc = rt.alloc();
@@ -148,7 +148,7 @@ fn empty_preference(rt: HostRuntime) -> Result<(), Fail> {
             (Some("a"), ("a", "", "1")),
         ],
     )?;
-    // No `Type` is empty. That `OtherType` is says nothing.
+    // No `Type` is empty. An empty `OtherType` does not count.
     keys_are(
         alloc,
         [("b", "", "1"), ("a", "x", "3"), ("a", "y", "2")],
@@ -160,7 +160,7 @@ fn empty_preference(rt: HostRuntime) -> Result<(), Fail> {
     )
 }
 
-// A type is preferred if its text is the preferred one, and neither a part of it nor like it.
+// A type is preferred only if its text equals the preferred one. A part of it or a similar text does not count.
 #[test]
 fn types_that_are_alike(rt: HostRuntime) -> Result<(), Fail> {
     keys_are(
@@ -178,7 +178,7 @@ fn types_that_are_alike(rt: HostRuntime) -> Result<(), Fail> {
     )
 }
 
-// Texts are compared by their bytes, as they are read: with no normal form, and whatever escapes they were written by.
+// Texts are compared by their bytes as read: without Unicode normalisation, and whatever escapes they were written with.
 #[test]
 fn types_past_ascii(rt: HostRuntime) -> Result<(), Fail> {
     let alloc = rt.alloc();
@@ -208,7 +208,7 @@ fn types_past_ascii(rt: HostRuntime) -> Result<(), Fail> {
             (Some("\\u00e9"), ("a", "", "2")),
         ],
     )?;
-    // U+FFFF comes before U+10000, among the preferred ones too.
+    // U+FFFF comes before U+10000, also among preferred identifiers.
     keys_are(
         alloc,
         [
@@ -223,7 +223,7 @@ fn types_past_ascii(rt: HostRuntime) -> Result<(), Fail> {
     )
 }
 
-// The key of a difference is written as it is.
+// A difference has the key as it is written.
 #[test]
 fn difference_past_ascii(rt: HostRuntime) -> Result<(), Fail> {
     let alloc = rt.alloc();
@@ -246,7 +246,7 @@ fn difference_past_ascii(rt: HostRuntime) -> Result<(), Fail> {
     Ok(())
 }
 
-// The order of keys stays: an object of the preferred type does not come first for that.
+// The order of keys stays the same. An object with a preferred identifier does not come first for that reason.
 #[test]
 fn preferred_type_of_one_alone(rt: HostRuntime) -> Result<(), Fail> {
     let alloc = rt.alloc();
@@ -260,7 +260,7 @@ fn preferred_type_of_one_alone(rt: HostRuntime) -> Result<(), Fail> {
         "{both}}},{{\"@id\":\"u8\",\"@type\":\"ElectionResults.ReportingUnit\",\"Type\":\"city\",\"ExternalIdentifier\":{fips}"
     )?;
     let report = edited(alloc, ONE_UNIT, own, units.as_str())?;
-    // The canonical form, from the array of the unit on: that of `u7` first, or that of `u8`.
+    // The canonical form from the array of units on, with `u7` first, or with `u8` first.
     let old = format!(in alloc; "{own},\"Type\":\"county\"}}")?;
     let by_fips = format!(in alloc;
         "{both},\"Type\":\"county\"}},{{\"@id\":\"gp2\",\"@type\":\"ElectionResults.ReportingUnit\",\"ExternalIdentifier\":{fips},\"Type\":\"city\"}}"

@@ -1,4 +1,4 @@
-//! Command lines that name a preference.
+//! Command lines with a preference.
 use crate::tests::command_lines::all_are;
 use std::test::Fail;
 
@@ -27,7 +27,8 @@ fn exact_lines_with_a_preference(rt: HostRuntime) -> Result<(), Fail> {
     )
 }
 
-// The words of the option are names of files where such names belong, but for the two hyphens.
+// In the place of a file name or a type, the words of the option are ordinary names, except for a word that begins with
+// hyphens.
 #[test]
 fn files_named_as_the_option(rt: HostRuntime) -> Result<(), Fail> {
     all_are(
@@ -105,7 +106,7 @@ fn types_of_every_kind(rt: HostRuntime) -> Result<(), Fail> {
     )
 }
 
-// A type is wanted, it is not empty, and the filter takes none.
+// The option needs a type that is not empty. The filter takes no option.
 #[test]
 fn wrong_preferences(rt: HostRuntime) -> Result<(), Fail> {
     all_are(

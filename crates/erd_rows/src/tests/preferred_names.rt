@@ -1,4 +1,4 @@
-//! The names of selections under a preference of identifier types: by their own identifiers, and by those of the candidates
+//! The names of selections under a preferred type of identifier: by their own identifiers, and by those of the candidates
 //! that they name.
 use crate::tests::edits::{edited, with_edits};
 use crate::tests::lines::ACCEPTED;
@@ -15,7 +15,7 @@ const TWIN_SELECTION: &str =
 
 const TWIN_CANDIDATE: &str = "/Election/0/Candidate/2: identifier used twice\n";
 
-// The small ballot with two write-in lines that have these identifiers.
+// The small ballot with two write-in lines with these identifiers.
 fn write_in_lines(
     alloc: Global,
     first: &[Identifier],
@@ -29,7 +29,7 @@ fn write_in_lines(
     edited(alloc, SMALL_BALLOT, "\"IsWriteIn\":true}", lines.as_str())
 }
 
-// With two write-in lines of these identifiers this is told under these preferences.
+// With two write-in lines with these identifiers, the report has these lines under these preferences.
 fn lines_told(
     alloc: Global,
     first: &[Identifier],
@@ -43,7 +43,7 @@ fn lines_told(
     Ok(())
 }
 
-// The least identifiers differ, and those of the type `b` do not.
+// The least identifiers differ, and those of the type `b` are the same.
 #[test]
 fn one_name_under_a_preference(rt: HostRuntime) -> Result<(), Fail> {
     lines_told(
@@ -59,7 +59,7 @@ fn one_name_under_a_preference(rt: HostRuntime) -> Result<(), Fail> {
     )
 }
 
-// The least identifiers are one, and those of the type `b` differ, or one line has none.
+// The least identifiers are the same, and those of the type `b` differ, or one line has none.
 #[test]
 fn two_names_under_a_preference(rt: HostRuntime) -> Result<(), Fail> {
     let alloc = rt.alloc();
@@ -75,7 +75,7 @@ fn two_names_under_a_preference(rt: HostRuntime) -> Result<(), Fail> {
     lines_told(alloc, &[("a", "", "1")], &first, &told)
 }
 
-// Of several of the preferred type the least one is the selection's.
+// If several identifiers have the preferred type, the least one counts.
 #[test]
 fn lines_with_two_of_the_preferred_type(rt: HostRuntime) -> Result<(), Fail> {
     lines_told(
@@ -90,7 +90,7 @@ fn lines_with_two_of_the_preferred_type(rt: HostRuntime) -> Result<(), Fail> {
     )
 }
 
-// The small ballot with these identifiers of the candidates of its first selection, `a5` and `a6`.
+// The small ballot with these identifiers for the candidates of its first selection, `a5` and `a6`.
 fn with_candidates(alloc: Global, ann: &[Identifier], bo: &[Identifier]) -> Result<String, Fail> {
     let own_ann = identifiers(alloc, &[("local-level", "", "K1")])?;
     let own_bo = identifiers(alloc, &[("local-level", "", "K2")])?;
@@ -106,7 +106,7 @@ fn with_candidates(alloc: Global, ann: &[Identifier], bo: &[Identifier]) -> Resu
     )
 }
 
-// Whether the first selections of two reports have one name under the preference.
+// Whether the first selections of two reports have the same name under the preference.
 fn is_one_name(alloc: Global, left: &str, right: &str, prefer: Option<&str>) -> Result<bool, Fail> {
     let left_tree = Value::from_str(alloc, left)?;
     let right_tree = Value::from_str(alloc, right)?;
@@ -127,7 +127,7 @@ fn is_one_name(alloc: Global, left: &str, right: &str, prefer: Option<&str>) -> 
     }
 }
 
-// A selection of one contest in two reports, whose candidate has one identifier of `local-level` and two of `fips`.
+// The same selection in two reports. Its candidate has one `local-level` identifier and two `fips` identifiers.
 #[test]
 fn candidates_name_a_selection(rt: HostRuntime) -> Result<(), Fail> {
     let alloc = rt.alloc();
@@ -158,7 +158,8 @@ fn candidates_name_a_selection(rt: HostRuntime) -> Result<(), Fail> {
     Ok(())
 }
 
-// Candidates with one key are told as such alone: no selections are judged then, though these two would have one name.
+// If candidates have the same key, only that fault is listed. The selections are not checked, though two would have the same
+// name.
 #[test]
 fn candidates_with_one_key(rt: HostRuntime) -> Result<(), Fail> {
     let alloc = rt.alloc();

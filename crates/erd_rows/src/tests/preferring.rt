@@ -1,5 +1,5 @@
-//! What is answered under a preference of identifier types, whoever is asked. Under none the calls that take no preference
-//! answer the same.
+//! The results under a preferred type of identifier, the same by each call. Without a preference, the calls that take none
+//! give the same results.
 use crate::tests::acceptance::{NOT_JSON, refusal_lines};
 use crate::tests::comparing::{SAME, is_told, writes};
 use crate::tests::forms::has_form;
@@ -16,7 +16,7 @@ use serde_json::Value;
 use std::alloc::Global;
 use std::test::Fail;
 
-// The two texts are one.
+// The two texts are equal.
 fn is_text(alloc: Global, found: &str, wanted: &str) -> Result<(), Fail> {
     if found == wanted {
         return Ok(());
@@ -25,7 +25,7 @@ fn is_text(alloc: Global, found: &str, wanted: &str) -> Result<(), Fail> {
     Err(Fail::from(text))
 }
 
-// The outcome of a run of which this is told.
+// The outcome of a run that writes this text.
 fn outcome_of(told: &str) -> Outcome {
     if told == ACCEPTED || told == SAME {
         Outcome::Good
@@ -45,7 +45,7 @@ pub fn has_preference(report: &Report, prefer: Option<&str>) -> Result<(), Fail>
     }
 }
 
-// Under the preference the report has this canonical form, which is its own.
+// Under the preference, the report has this canonical form, which is its own canonical form.
 pub fn has_form_under(
     alloc: Global,
     report: &str,
@@ -65,7 +65,7 @@ pub fn has_form_under(
     Ok(())
 }
 
-// The engine writes this canonical form, and nothing else.
+// The engine writes this canonical form and nothing else.
 fn run_writes_form(
     alloc: Global,
     report: &str,
@@ -82,7 +82,7 @@ fn run_writes_form(
     is_text(alloc, str::from_utf8(out.writer.as_slice())?, wanted)
 }
 
-// The canonical tree is written so.
+// The canonical tree has this text.
 fn tree_has_form(
     alloc: Global,
     report: &str,
@@ -97,7 +97,7 @@ fn tree_has_form(
     is_text(alloc, found.as_str(), wanted)
 }
 
-// Under the preference this is told of the report: `accepted`, its fault lines, or `not JSON`.
+// Under the preference, the report has these lines: `accepted`, its fault lines, or `not JSON`.
 pub fn told_under(
     alloc: Global,
     report: &str,
@@ -120,7 +120,8 @@ pub fn told_under(
     Ok(())
 }
 
-// Checking the report writes this; and so do, of a refused one, the form that is asked for and the run for it.
+// Checking the report writes these lines. If the report is refused, `canonical_with` and `run_canon_with` give the same
+// lines.
 fn runs_tell(alloc: Global, report: &str, prefer: Option<&str>, wanted: &str) -> Result<(), Fail> {
     let mut reader = ReadFrom::of(report.as_bytes());
     let mut out = WriteTo::of(Vec::new(alloc));
@@ -147,7 +148,7 @@ fn runs_tell(alloc: Global, report: &str, prefer: Option<&str>, wanted: &str) ->
     is_text(alloc, str::from_utf8(err.writer.as_slice())?, wanted)
 }
 
-// This is told of a report whose shape has no fault.
+// A report whose shape has no fault has these lines, by its layers.
 fn layers_tell(
     alloc: Global,
     report: &str,
@@ -166,7 +167,7 @@ fn layers_tell(
     is_text(alloc, found.as_str(), wanted)
 }
 
-// Under the preference this is the first difference of two accepted reports.
+// Under the preference, this is the first difference between two accepted reports.
 pub fn tells_under(
     alloc: Global,
     left: &str,
@@ -185,7 +186,7 @@ pub fn tells_under(
     is_told(alloc, found.as_ref(), wanted)
 }
 
-// Under the preference comparing two reports writes these lines without the last line feed.
+// Under the preference, comparing two reports writes these lines, here without the last line feed.
 pub fn writes_under(
     alloc: Global,
     left: &str,
@@ -208,10 +209,10 @@ pub fn writes_under(
     Ok(())
 }
 
-// An identifier: `Type`, `OtherType` or the empty text for none, `Value`.
+// An identifier: `Type`, `OtherType` (empty if absent) and `Value`.
 pub type Identifier<'a> = (&'a str, &'a str, &'a str);
 
-// An array of these identifiers, as a report writes it.
+// An array of these identifiers, as in a report.
 pub fn identifiers(alloc: Global, entries: &[Identifier]) -> Result<String, Fail> {
     let mut array = String::from_str(alloc, "[")?;
     for (index, (kind, other, value)) in entries.iter().enumerate() {

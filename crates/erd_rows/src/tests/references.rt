@@ -1,4 +1,4 @@
-//! What is told of references.
+//! Faults of references.
 use crate::tests::edits::edited;
 use crate::tests::lines::{ACCEPTED, Case, all_hold, check_lines};
 use crate::vectors::{ONE_UNIT, SMALL_BALLOT};
@@ -30,7 +30,7 @@ fn wrong_and_unresolved_reference(rt: HostRuntime) -> Result<(), Fail> {
     Ok(())
 }
 
-// A reference that is written twice and names nothing has both faults at each later copy.
+// A reference that is written twice and names no object has both faults at each later copy.
 #[test]
 fn repeated_and_unresolved(rt: HostRuntime) -> Result<(), Fail> {
     all_hold(
@@ -44,7 +44,7 @@ fn repeated_and_unresolved(rt: HostRuntime) -> Result<(), Fail> {
     )
 }
 
-// The selections of an unknown contest are judged no further.
+// The selections of an unknown contest are not checked further.
 #[test]
 fn unknown_contest_alone(rt: HostRuntime) -> Result<(), Fail> {
     all_hold(
@@ -71,7 +71,7 @@ fn candidate_among_selections(rt: HostRuntime) -> Result<(), Fail> {
     )
 }
 
-// The list of a contest's selections may say a thing twice, and say nothing.
+// The list of a contest's selections may repeat an entry, and may be empty.
 #[test]
 fn repeated_and_empty_selection_ids(rt: HostRuntime) -> Result<(), Fail> {
     all_hold(
@@ -104,14 +104,15 @@ fn selection_of_other_contest(rt: HostRuntime) -> Result<(), Fail> {
                 r#""OrderedContestSelectionIds":["a13","a9","a11"]"#,
                 "/Election/0/BallotStyle/0/OrderedContent/0/OrderedContent/0/OrderedContestSelectionIds/0: selection of another contest\n",
             ),
-            // Each entry is judged, and one that is repeated too.
+            // Each entry is checked, also a repeated one.
             (
                 SMALL_BALLOT,
                 SELECTION_IDS,
                 r#""OrderedContestSelectionIds":["a9","x","a14","a14"]"#,
                 "/Election/0/BallotStyle/0/OrderedContent/0/OrderedContent/0/OrderedContestSelectionIds/1: unresolved reference\n/Election/0/BallotStyle/0/OrderedContent/0/OrderedContent/0/OrderedContestSelectionIds/2: selection of another contest\n/Election/0/BallotStyle/0/OrderedContent/0/OrderedContent/0/OrderedContestSelectionIds/3: selection of another contest\n",
             ),
-            // What names no contest has no selections of its own, and an entry can still be astray.
+            // If the reference names no contest, no selection is one of another contest. An entry can still have another
+            // fault.
             (
                 SMALL_BALLOT,
                 r#""ContestId":"a8","OrderedContestSelectionIds":["a10","a9","a11"]"#,
@@ -122,7 +123,7 @@ fn selection_of_other_contest(rt: HostRuntime) -> Result<(), Fail> {
     )
 }
 
-// A unit among persons, and nobody.
+// A reference to a unit among references to persons, and an unresolved one.
 #[test]
 fn authority_ids(rt: HostRuntime) -> Result<(), Fail> {
     all_hold(
@@ -136,7 +137,7 @@ fn authority_ids(rt: HostRuntime) -> Result<(), Fail> {
     )
 }
 
-// Each of two units composes the other; or the first one itself.
+// Each of two units composes the other, or the first one composes itself.
 #[test]
 fn mutual_composition(rt: HostRuntime) -> Result<(), Fail> {
     let alloc = rt.alloc();
@@ -152,7 +153,7 @@ fn mutual_composition(rt: HostRuntime) -> Result<(), Fail> {
     Ok(())
 }
 
-// Of four faults, one in each phase, each is told where no earlier phase has one.
+// Four faults, one in each phase. Each is listed if no earlier phase has a fault.
 pub const OF_EACH_PHASE: &[Case] = &[
     (
         SMALL_BALLOT,

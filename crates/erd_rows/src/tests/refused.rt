@@ -1,65 +1,61 @@
-//! Calls whose memory may be refused: `tests/refusals.sh` refuses each request of memory in turn.
+//! Calls that take bytes or check a report, with each memory request refused in turn.
 use crate::tests::edits::replaced;
 use crate::tests::lines::lines;
+use crate::tests::refusing::{Answer, each_refused};
 use crate::vectors::{
-    ONE_UNIT, ONE_UNIT_CANONICAL, SMALL_BALLOT, THREE_SHAPE_FAULT_LINES, THREE_SHAPE_FAULTS,
-    TWIN_UNITS,
+    OTHER_VENDOR, SMALL_BALLOT, SMALL_BALLOT_CANONICAL, THREE_SHAPE_FAULT_LINES,
+    THREE_SHAPE_FAULTS, TWIN_UNITS,
 };
 use crate::writers::PageWriter;
-use erd_canon::{Outcome, ReadFrom, Refusal, RunFault, WriteTo, canonical, run_canon, run_check};
+use erd_canon::{
+    Outcome, ReadFrom, Refusal, RunFault, WriteTo, canonical, check_bytes, run_canon, run_check,
+};
 use erd_check::{CheckError, shape};
 use erd_meaning::{Report, resolve};
 use erd_tables::{Family, FaultList};
 use serde_json::Value;
 use std::alloc::Global;
+use std::test::Fail;
 
-// What came of a call.
-#[derive(Clone, Copy, PartialEq, Eq)]
-pub enum Answer {
-    Right,
-    WantsMemory,
-    Wrong,
-}
-
-// At most one request is refused, so one of two calls answers rightly, and the other so or with want of memory.
-pub fn is_pair(first: Answer, second: Answer) -> bool {
-    match (first, second) {
-        (Answer::Wrong, _) | (_, Answer::Wrong) => false,
-        (Answer::WantsMemory, Answer::WantsMemory) => false,
-        _ => true,
+// Whether the canonical bytes of a report are right.
+fn bytes(alloc: Global, report: &str, wanted: &str) -> Answer {
+    match canonical(alloc, report.as_bytes()) {
+        Ok(text) if text.as_slice() == wanted.as_bytes() => Answer::Right,
+        Ok(_) => Answer::Wrong,
+        Err(refusal) => match refusal {
+            Refusal::Memory => Answer::WantsMemory,
+            _ => Answer::Wrong,
+        },
     }
 }
 
-fn bytes(alloc: Global) -> Answer {
-    match canonical(alloc, ONE_UNIT.as_bytes()) {
-        Ok(text) => {
-            if text.as_slice() == ONE_UNIT_CANONICAL.as_bytes() {
-                Answer::Right
-            } else {
-                Answer::Wrong
-            }
-        }
-        Err(Refusal::Memory) => Answer::WantsMemory,
-        Err(_) => Answer::Wrong,
-    }
-}
-
-fn run(alloc: Global) -> Answer {
-    let mut reader = ReadFrom::of(ONE_UNIT.as_bytes());
+// Whether a run for the canonical form has the right outcome and writes the right texts to both writers.
+fn run(alloc: Global, report: &str, outcome: Outcome, wanted: &str, lines: &str) -> Answer {
+    let mut reader = ReadFrom::of(report.as_bytes());
     let mut out = WriteTo::of(PageWriter::empty());
     let mut err = WriteTo::of(PageWriter::empty());
     let answer = run_canon(alloc, &mut reader, &mut out, &mut err);
-    let whole = out.writer.holds(ONE_UNIT_CANONICAL.as_bytes());
-    let nothing = out.writer.holds(b"");
+    let whole = out.writer.holds(wanted.as_bytes()) && err.writer.holds(lines.as_bytes());
+    let nothing = out.writer.holds(b"") && err.writer.holds(b"");
     match answer {
-        Ok(Outcome::Good) if whole && err.writer.holds(b"") => Answer::Right,
-        Err(RunFault::Memory) if nothing && err.writer.holds(b"") => Answer::WantsMemory,
+        Ok(found) if found == outcome && whole => Answer::Right,
+        Err(RunFault::Memory) if nothing => Answer::WantsMemory,
+        _ => Answer::Wrong,
+    }
+}
+
+// Whether the bytes are a report with this number of faults. With 0 it is accepted.
+fn acceptance(alloc: Global, report: &str, number: usize) -> Answer {
+    match check_bytes(alloc, report.as_bytes()) {
+        Ok(()) if number == 0 => Answer::Right,
+        Err(Refusal::Faults(faults)) if faults.len() == number => Answer::Right,
+        Err(Refusal::Memory) => Answer::WantsMemory,
         _ => Answer::Wrong,
     }
 }
 
 // Whether these are the lines of the faults.
-fn told(alloc: Global, faults: &FaultList, wanted: &str) -> Answer {
+pub fn told(alloc: Global, faults: &FaultList, wanted: &str) -> Answer {
     match lines(alloc, faults) {
         Ok(text) if text.as_str() == wanted => Answer::Right,
         Ok(_) => Answer::Wrong,
@@ -78,7 +74,7 @@ fn shape_faults(alloc: Global) -> Answer {
     }
 }
 
-// What checking a report answers and writes.
+// Whether checking a report has the right outcome and text.
 fn check(alloc: Global, report: &str, outcome: Outcome, wanted: &str) -> Answer {
     let mut reader = ReadFrom::of(report.as_bytes());
     let mut out = WriteTo::of(PageWriter::empty());
@@ -92,7 +88,8 @@ fn check(alloc: Global, report: &str, outcome: Outcome, wanted: &str) -> Answer 
     }
 }
 
-// The lines of a report whose shape has no fault; none for an accepted one, whose names have equal copies.
+// Whether a report whose shape has no fault has the right lines. If it is accepted, there are none, and the copies of its
+// names must be equal.
 fn later_faults(alloc: Global, report: &str, wanted: &str) -> Answer {
     let Ok(tree) = Value::from_str(alloc, report) else {
         return Answer::WantsMemory;
@@ -110,8 +107,8 @@ fn later_faults(alloc: Global, report: &str, wanted: &str) -> Answer {
     }
 }
 
-// Each name of a selection has an equal copy.
-fn copies(alloc: Global, report: &Report) -> Answer {
+// Whether the copy of each name of a selection is equal to it.
+pub fn copies(alloc: Global, report: &Report) -> Answer {
     for index in 0..report.count(Family::Selection) {
         let Some((_, name)) = report.selection_at(index) else {
             return Answer::Wrong;
@@ -125,7 +122,7 @@ fn copies(alloc: Global, report: &Report) -> Answer {
     Answer::Right
 }
 
-// The small ballot with two write-in lines, which have these further members.
+// The small ballot with two write-in lines with these additional members.
 fn write_ins(alloc: Global, first: &str, second: &str) -> Option<String> {
     let lines = format!(in alloc;
         "\"IsWriteIn\":true{first}}},{{\"@id\":\"a15\",\"@type\":\"ElectionResults.CandidateSelection\",\"IsWriteIn\":true{second}}}"
@@ -134,7 +131,7 @@ fn write_ins(alloc: Global, first: &str, second: &str) -> Option<String> {
     replaced(alloc, SMALL_BALLOT, "\"IsWriteIn\":true}", lines.as_str())
 }
 
-// The lines of the small ballot with two such write-in lines.
+// Whether the small ballot with two such write-in lines has the right lines.
 fn write_in_faults(alloc: Global, first: &str, second: &str, wanted: &str) -> Answer {
     match write_ins(alloc, first, second) {
         Some(report) => later_faults(alloc, report.as_str(), wanted),
@@ -142,7 +139,7 @@ fn write_in_faults(alloc: Global, first: &str, second: &str, wanted: &str) -> An
     }
 }
 
-// The lines of the small ballot with a reference to another family, and one to nothing.
+// Whether the small ballot with a reference to another family and an unresolved one has the right lines.
 fn reference_faults(alloc: Global) -> Answer {
     let person = "\"PersonId\":\"a16\",\"PartyId\":\"a16\"";
     let wrong = replaced(alloc, SMALL_BALLOT, "\"PersonId\":\"a16\"", person);
@@ -161,71 +158,69 @@ fn reference_faults(alloc: Global) -> Answer {
 }
 
 #[test]
-fn refused_canonical(rt: HostRuntime) {
-    let first = bytes(rt.alloc());
-    let second = bytes(rt.alloc());
-    assert!(rt; is_pair(first, second));
+fn refused_canonical(rt: HostRuntime) -> Result<(), Fail> {
+    let wanted = SMALL_BALLOT_CANONICAL;
+    each_refused(rt.alloc(), |alloc| bytes(alloc, OTHER_VENDOR, wanted))
 }
 
 #[test]
-fn refused_run(rt: HostRuntime) {
-    let first = run(rt.alloc());
-    let second = run(rt.alloc());
-    assert!(rt; is_pair(first, second));
+fn refused_check_bytes(rt: HostRuntime) -> Result<(), Fail> {
+    each_refused(rt.alloc(), |alloc| acceptance(alloc, OTHER_VENDOR, 0))?;
+    each_refused(rt.alloc(), |alloc| acceptance(alloc, THREE_SHAPE_FAULTS, 3))
 }
 
 #[test]
-fn refused_shape(rt: HostRuntime) {
-    let first = shape_faults(rt.alloc());
-    let second = shape_faults(rt.alloc());
-    assert!(rt; is_pair(first, second));
+fn refused_run(rt: HostRuntime) -> Result<(), Fail> {
+    let (wanted, lines) = (SMALL_BALLOT_CANONICAL, THREE_SHAPE_FAULT_LINES);
+    each_refused(rt.alloc(), |alloc| {
+        run(alloc, OTHER_VENDOR, Outcome::Good, wanted, "")
+    })?;
+    each_refused(rt.alloc(), |alloc| {
+        run(alloc, THREE_SHAPE_FAULTS, Outcome::Bad, "", lines)
+    })
 }
 
 #[test]
-fn refused_check_of_faults(rt: HostRuntime) {
-    let (report, lines) = (THREE_SHAPE_FAULTS, THREE_SHAPE_FAULT_LINES);
-    let first = check(rt.alloc(), report, Outcome::Bad, lines);
-    let second = check(rt.alloc(), report, Outcome::Bad, lines);
-    assert!(rt; is_pair(first, second));
+fn refused_check(rt: HostRuntime) -> Result<(), Fail> {
+    let lines = THREE_SHAPE_FAULT_LINES;
+    each_refused(rt.alloc(), |alloc| {
+        check(alloc, OTHER_VENDOR, Outcome::Good, "accepted\n")
+    })?;
+    each_refused(rt.alloc(), |alloc| {
+        check(alloc, THREE_SHAPE_FAULTS, Outcome::Bad, lines)
+    })
 }
 
 #[test]
-fn refused_check_of_accepted(rt: HostRuntime) {
-    let (report, line) = (SMALL_BALLOT, "accepted\n");
-    let first = check(rt.alloc(), report, Outcome::Good, line);
-    let second = check(rt.alloc(), report, Outcome::Good, line);
-    assert!(rt; is_pair(first, second));
+fn refused_shape(rt: HostRuntime) -> Result<(), Fail> {
+    each_refused(rt.alloc(), shape_faults)
 }
 
 #[test]
-fn refused_resolve(rt: HostRuntime) {
+fn refused_twin_units(rt: HostRuntime) -> Result<(), Fail> {
     let line = "/GpUnit/1: identifier used twice\n";
-    let first = later_faults(rt.alloc(), TWIN_UNITS, line);
-    let second = later_faults(rt.alloc(), TWIN_UNITS, line);
-    assert!(rt; is_pair(first, second));
+    each_refused(rt.alloc(), |alloc| later_faults(alloc, TWIN_UNITS, line))
 }
 
 #[test]
-fn refused_references(rt: HostRuntime) {
-    let first = reference_faults(rt.alloc());
-    let second = reference_faults(rt.alloc());
-    assert!(rt; is_pair(first, second));
+fn refused_references(rt: HostRuntime) -> Result<(), Fail> {
+    each_refused(rt.alloc(), reference_faults)
 }
 
+// Write-ins with equal names, with other positions, and with other identifiers.
 #[test]
-fn refused_twin_write_ins(rt: HostRuntime) {
-    let line = "/Election/0/Contest/0/ContestSelection/3: selection name used twice\n";
-    let first = write_in_faults(rt.alloc(), "", "", line);
-    let second = write_in_faults(rt.alloc(), "", "", line);
-    assert!(rt; is_pair(first, second));
-}
-
-#[test]
-fn refused_ordered_write_ins(rt: HostRuntime) {
-    let (one, two) = (",\"SequenceOrder\":1", ",\"SequenceOrder\":2");
-    let first = write_in_faults(rt.alloc(), one, two, "");
-    let second = write_in_faults(rt.alloc(), one, two, "");
-    assert!(rt; is_pair(first, second));
+fn refused_write_ins(rt: HostRuntime) -> Result<(), Fail> {
+    let twins = "/Election/0/Contest/0/ContestSelection/3: selection name used twice\n";
+    for (first, second, lines) in [
+        ("", "", twins),
+        (",\"SequenceOrder\":1", ",\"SequenceOrder\":2", ""),
+        (FIRST_LINE, SECOND_LINE, ""),
+    ] {
+        each_refused(rt.alloc(), |alloc| {
+            write_in_faults(alloc, first, second, lines)
+        })?;
+    }
+    Ok(())
 }
 
 const FIRST_LINE: &str =
@@ -233,10 +228,3 @@ const FIRST_LINE: &str =
 
 const SECOND_LINE: &str =
     r#","ExternalIdentifier":[{"@type":"ElectionResults.ExternalIdentifier","Type":"local-level","Value":"W2"}]"#;
-
-#[test]
-fn refused_identified_write_ins(rt: HostRuntime) {
-    let first = write_in_faults(rt.alloc(), FIRST_LINE, SECOND_LINE, "");
-    let second = write_in_faults(rt.alloc(), FIRST_LINE, SECOND_LINE, "");
-    assert!(rt; is_pair(first, second));
-}

@@ -1,8 +1,10 @@
-//! Comparisons whose memory may be refused: `tests/refusals.sh` refuses each request of memory in turn.
+//! Comparisons, with each memory request refused in turn.
 ghost use Rattle.std.specs.Prelude.{◌≡◌};
+ghost use Rattle.serde_json.specs.View.{view};
+ghost use Rattle.erd_check.specs.Trees.{IsShallow};
 
 use crate::tests::edits::replaced;
-use crate::tests::refused::{Answer, is_pair};
+use crate::tests::refusing::{Answer, each_refused};
 use crate::vectors::{OTHER_VENDOR, SMALL_BALLOT, THREE_SHAPE_FAULTS};
 use crate::writers::PageWriter;
 use erd_canon::{Outcome, ReadFrom, Refusal, RunFault, Side, WriteTo, compare_bytes, run_compare};
@@ -11,16 +13,17 @@ use erd_compare::{Difference, first_difference};
 use erd_meaning::{Report, resolve};
 use serde_json::Value;
 use std::alloc::Global;
+use std::test::Fail;
 
-// What is told of the small ballot and of the one whose third candidate has another key.
+// The first difference between the small ballot and the one whose third candidate has another key.
 const OTHER_CANDIDATE: &str = "candidate [\"local-level\",\"\",\"K3\"]: only left";
 
-// The small ballot, whose third candidate has another key.
+// The small ballot with another key for its third candidate.
 fn with_other_candidate(alloc: Global) -> Option<String> {
     replaced(alloc, SMALL_BALLOT, "\"Value\":\"K3\"", "\"Value\":\"K4\"")
 }
 
-// The difference is told so.
+// Whether the difference has the right line.
 fn told(alloc: Global, found: Option<&Difference>) -> Answer {
     let Some(difference) = found else {
         return Answer::Wrong;
@@ -32,7 +35,7 @@ fn told(alloc: Global, found: Option<&Difference>) -> Answer {
     }
 }
 
-// The first difference of what two reports of one preference mean.
+// The first difference between the meanings of two reports with the same preference.
 fn meanings(alloc: Global, left: &Report, right: &Report) -> Answer
     requires { left.now.prefer ≡ right.now.prefer }
 {
@@ -42,7 +45,7 @@ fn meanings(alloc: Global, left: &Report, right: &Report) -> Answer
     }
 }
 
-// Faults are no answer to a request of memory.
+// Faults are a wrong result. Only running out of memory is allowed.
 fn refusal(error: &CheckError) -> Answer {
     match error {
         CheckError::Faults(_) => Answer::Wrong,
@@ -50,39 +53,34 @@ fn refusal(error: &CheckError) -> Answer {
     }
 }
 
-// The first difference of two reports without faults of their shape, twice of the same reports.
-fn shapes(alloc: Global, left: Shaped, right: Shaped) -> (Answer, Answer) {
+// The first difference between two reports without faults of their shape.
+fn shapes(alloc: Global, left: Shaped, right: Shaped) -> Answer {
     let left = match resolve(alloc, left) {
         Ok(report) => report,
-        Err(error) => return (refusal(&error), Answer::Right),
+        Err(error) => return refusal(&error),
     };
-    let right = match resolve(alloc, right) {
-        Ok(report) => report,
-        Err(error) => return (refusal(&error), Answer::Right),
-    };
-    let first = meanings(alloc, &left, &right);
-    (first, meanings(alloc, &left, &right))
-}
-
-// The first difference of two texts, twice of the same reports.
-fn texts(alloc: Global, left: &str, right: &str) -> (Answer, Answer) {
-    let Ok(left_tree) = Value::from_str(alloc, left) else {
-        return (Answer::WantsMemory, Answer::Right);
-    };
-    let Ok(right_tree) = Value::from_str(alloc, right) else {
-        return (Answer::WantsMemory, Answer::Right);
-    };
-    let left = match shape(alloc, &left_tree) {
-        Ok(shaped) => shaped,
-        Err(error) => return (refusal(&error), Answer::Right),
-    };
-    match shape(alloc, &right_tree) {
-        Ok(right) => shapes(alloc, left, right),
-        Err(error) => (refusal(&error), Answer::Right),
+    match resolve(alloc, right) {
+        Ok(right) => meanings(alloc, &left, &right),
+        Err(error) => refusal(&error),
     }
 }
 
-// What comparing the bytes of two reports answers.
+// The first difference between two trees.
+fn trees(alloc: Global, left: &Value, right: &Value) -> Answer
+    requires left_nests { IsShallow (view left.now) }
+    requires right_nests { IsShallow (view right.now) }
+{
+    let left = match shape(alloc, left) {
+        Ok(shaped) => shaped,
+        Err(error) => return refusal(&error),
+    };
+    match shape(alloc, right) {
+        Ok(right) => shapes(alloc, left, right),
+        Err(error) => refusal(&error),
+    }
+}
+
+// The result of comparing the bytes of two reports.
 fn bytes(alloc: Global) -> Answer {
     let Some(right) = with_other_candidate(alloc) else {
         return Answer::WantsMemory;
@@ -96,7 +94,7 @@ fn bytes(alloc: Global) -> Answer {
     }
 }
 
-// What comparing the small ballot with a report answers and writes.
+// The outcome and the text of comparing the small ballot with a report.
 fn run(alloc: Global, right: &str, outcome: Outcome, wanted: &str) -> Answer {
     let mut left_reader = ReadFrom::of(SMALL_BALLOT.as_bytes());
     let mut right_reader = ReadFrom::of(right.as_bytes());
@@ -111,7 +109,7 @@ fn run(alloc: Global, right: &str, outcome: Outcome, wanted: &str) -> Answer {
     }
 }
 
-// What comparing writes where the third candidate has another key.
+// The text of a comparison if the third candidate has another key.
 fn run_other_candidate(alloc: Global) -> Answer {
     match with_other_candidate(alloc) {
         Some(right) => run(
@@ -125,43 +123,36 @@ fn run_other_candidate(alloc: Global) -> Answer {
 }
 
 #[test]
-fn refused_difference(rt: HostRuntime) {
+fn refused_difference(rt: HostRuntime) -> Result<(), Fail> {
     let alloc = rt.alloc();
-    let (first, second) = match with_other_candidate(alloc) {
-        Some(right) => texts(alloc, SMALL_BALLOT, right.as_str()),
-        None => (Answer::WantsMemory, Answer::Right),
-    };
-    assert!(rt; is_pair(first, second));
+    let right = with_other_candidate(alloc).ok_or("no such text")?;
+    let left = Value::from_str(alloc, SMALL_BALLOT)?;
+    let right = Value::from_str(alloc, right.as_str())?;
+    each_refused(alloc, |alloc| trees(alloc, &left, &right))
 }
 
 #[test]
-fn refused_compare_bytes(rt: HostRuntime) {
-    let first = bytes(rt.alloc());
-    let second = bytes(rt.alloc());
-    assert!(rt; is_pair(first, second));
+fn refused_compare_bytes(rt: HostRuntime) -> Result<(), Fail> {
+    each_refused(rt.alloc(), bytes)
 }
 
 #[test]
-fn refused_compare(rt: HostRuntime) {
-    let first = run_other_candidate(rt.alloc());
-    let second = run_other_candidate(rt.alloc());
-    assert!(rt; is_pair(first, second));
+fn refused_compare(rt: HostRuntime) -> Result<(), Fail> {
+    each_refused(rt.alloc(), run_other_candidate)
 }
 
 #[test]
-fn refused_compare_of_two_vendors(rt: HostRuntime) {
-    let first = run(rt.alloc(), OTHER_VENDOR, Outcome::Good, "same\n");
-    let second = run(rt.alloc(), OTHER_VENDOR, Outcome::Good, "same\n");
-    assert!(rt; is_pair(first, second));
+fn refused_compare_of_two_vendors(rt: HostRuntime) -> Result<(), Fail> {
+    each_refused(rt.alloc(), |alloc| {
+        run(alloc, OTHER_VENDOR, Outcome::Good, "same\n")
+    })
 }
 
 #[test]
-fn refused_compare_of_faults(rt: HostRuntime) {
-    let (right, lines) = (
-        THREE_SHAPE_FAULTS,
-        "right: /Election/0/Contest/0: missing member Name\nright: /Election/0/Contest/0/VotesAllowed: wrong kind\nright: /GpUnit/1/ContactInformation/LatLng/Latitude: not a whole number\n",
-    );
-    let first = run(rt.alloc(), right, Outcome::Bad, lines);
-    let second = run(rt.alloc(), right, Outcome::Bad, lines);
-    assert!(rt; is_pair(first, second));
+fn refused_compare_of_faults(rt: HostRuntime) -> Result<(), Fail> {
+    let lines =
+        "right: /Election/0/Contest/0: missing member Name\nright: /Election/0/Contest/0/VotesAllowed: wrong kind\nright: /GpUnit/1/ContactInformation/LatLng/Latitude: not a whole number\n";
+    each_refused(rt.alloc(), |alloc| {
+        run(alloc, THREE_SHAPE_FAULTS, Outcome::Bad, lines)
+    })
 }

@@ -1,10 +1,11 @@
-//! Command lines whose memory may be refused: `tests/refusals.sh` refuses each request of memory in turn.
+//! Command lines, with each memory request refused in turn.
 use crate::tests::command_lines::line_of;
-use crate::tests::refused::{Answer, is_pair};
+use crate::tests::refusing::{Answer, each_refused};
 use erd_canon::{LineFault, Request, command_line};
 use std::alloc::Global;
+use std::test::Fail;
 
-// What is answered for the words of a comparison under a preference.
+// Whether the words of a comparison under a preference give the right request.
 fn comparison(alloc: Global) -> Answer {
     let words = ["compare", "--prefer", "fips", "left", "right"];
     let Ok(line) = line_of(alloc, words.as_slice()) else {
@@ -24,7 +25,7 @@ fn comparison(alloc: Global) -> Answer {
     }
 }
 
-// What is answered for the words of a check that lack the file.
+// Whether the words of a check without a file give the right usage text.
 fn usage(alloc: Global) -> Answer {
     let Ok(line) = line_of(alloc, &["check"]) else {
         return Answer::WantsMemory;
@@ -49,7 +50,7 @@ For more information, try '--help'.
     }
 }
 
-// What is answered for the words that ask for help, which has this end.
+// Whether the words that ask for help give the right text. It has this end.
 fn help(alloc: Global) -> Answer {
     let Ok(line) = line_of(alloc, &["--help"]) else {
         return Answer::WantsMemory;
@@ -71,22 +72,16 @@ fn help(alloc: Global) -> Answer {
 }
 
 #[test]
-fn refused_comparison(rt: HostRuntime) {
-    let first = comparison(rt.alloc());
-    let second = comparison(rt.alloc());
-    assert!(rt; is_pair(first, second));
+fn refused_comparison(rt: HostRuntime) -> Result<(), Fail> {
+    each_refused(rt.alloc(), comparison)
 }
 
 #[test]
-fn refused_usage(rt: HostRuntime) {
-    let first = usage(rt.alloc());
-    let second = usage(rt.alloc());
-    assert!(rt; is_pair(first, second));
+fn refused_usage(rt: HostRuntime) -> Result<(), Fail> {
+    each_refused(rt.alloc(), usage)
 }
 
 #[test]
-fn refused_help(rt: HostRuntime) {
-    let first = help(rt.alloc());
-    let second = help(rt.alloc());
-    assert!(rt; is_pair(first, second));
+fn refused_help(rt: HostRuntime) -> Result<(), Fail> {
+    each_refused(rt.alloc(), help)
 }

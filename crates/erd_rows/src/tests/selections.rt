@@ -1,4 +1,4 @@
-//! Names of selections: which are one, and how they are ordered.
+//! Names of selections: which are equal, and how they are ordered.
 use crate::tests::edits::{edited, spelled};
 use crate::tests::lines::check_lines;
 use crate::tests::names::{OWN, names_are};
@@ -26,7 +26,7 @@ fn added(alloc: Global, first: &str, second: &str) -> Result<String, Fail> {
     )
 }
 
-// With each of these texts after the selections of the first contest, this is told.
+// With each of these texts after the selections of the first contest, the report has the expected lines.
 fn candidates_have(alloc: Global, texts: &[&str], wanted: &str) -> Result<(), Fail> {
     for text in texts {
         let report = added(alloc, text, "")?;
@@ -38,7 +38,7 @@ fn candidates_have(alloc: Global, texts: &[&str], wanted: &str) -> Result<(), Fa
     Ok(())
 }
 
-// With each of these texts after the selections of the second contest, this is told.
+// With each of these texts after the selections of the second contest, the report has the expected lines.
 fn answers_have(alloc: Global, texts: &[&str], wanted: &str) -> Result<(), Fail> {
     for text in texts {
         let report = added(alloc, "", text)?;
@@ -66,7 +66,7 @@ fn write_in_lines(rt: HostRuntime) -> Result<(), Fail> {
     let alloc = rt.alloc();
     let second = r#",{"@id":"a15","@type":"%CandidateSelection","IsWriteIn":true}"#;
     candidates_have(alloc, &[second], TWIN_CANDIDATES)?;
-    // Told apart by `SequenceOrder`, or by identifiers.
+    // Distinguished by `SequenceOrder`, or by identifiers.
     for (first, second) in [
         (r#","SequenceOrder":1}"#, r#","SequenceOrder":2}"#),
         (
@@ -89,7 +89,7 @@ fn write_in_lines(rt: HostRuntime) -> Result<(), Fail> {
     Ok(())
 }
 
-// False and absent, `IsWriteIn` gives one name, which comes before that of a write-in line.
+// A false `IsWriteIn` and an absent one give the same name. It comes before the name of a write-in line.
 #[test]
 fn no_write_in_line(rt: HostRuntime) -> Result<(), Fail> {
     let alloc = rt.alloc();
@@ -109,7 +109,7 @@ fn no_write_in_line(rt: HostRuntime) -> Result<(), Fail> {
     )
 }
 
-// Each later selection with an earlier one's name is told.
+// Each later selection with the name of an earlier one is a fault.
 #[test]
 fn three_with_one_name(rt: HostRuntime) -> Result<(), Fail> {
     candidates_have(
@@ -121,7 +121,7 @@ fn three_with_one_name(rt: HostRuntime) -> Result<(), Fail> {
     )
 }
 
-// Two contests may have one name each, and it is found in both.
+// Two contests may each have a selection with the same name. It is found in both.
 #[test]
 fn write_in_lines_of_two_contests(rt: HostRuntime) -> Result<(), Fail> {
     let alloc = rt.alloc();
@@ -137,7 +137,8 @@ fn write_in_lines_of_two_contests(rt: HostRuntime) -> Result<(), Fail> {
     )
 }
 
-// Keys stand in rising order in a name, whatever the order of the references, and a front comes first.
+// The keys in a name are in ascending order, whatever the order of the references. A shorter list comes before its
+// continuations.
 #[test]
 fn candidates_of_a_selection(rt: HostRuntime) -> Result<(), Fail> {
     let alloc = rt.alloc();
@@ -161,7 +162,8 @@ fn candidates_of_a_selection(rt: HostRuntime) -> Result<(), Fail> {
     )
 }
 
-// A candidate and a party have one key, and a selection each: the class tells them apart, and it comes before the keys.
+// A candidate and a party have the same key, and a selection each. The class distinguishes these, and is compared before the
+// keys.
 #[test]
 fn party_and_candidate_with_one_key(rt: HostRuntime) -> Result<(), Fail> {
     let alloc = rt.alloc();
@@ -190,7 +192,7 @@ fn party_and_candidate_with_one_key(rt: HostRuntime) -> Result<(), Fail> {
     )
 }
 
-// None before a number, and numbers by value.
+// An absent number comes first. Numbers are ordered by value.
 #[test]
 fn sequence_order(rt: HostRuntime) -> Result<(), Fail> {
     let alloc = rt.alloc();
@@ -224,7 +226,8 @@ fn sequence_order(rt: HostRuntime) -> Result<(), Fail> {
     )
 }
 
-// As a text, and as one translation, a label is two; of two labels with translations the bytes decide.
+// A label as a text and the same label as one translation are different. Labels with translations are ordered by their
+// bytes.
 #[test]
 fn labels(rt: HostRuntime) -> Result<(), Fail> {
     let alloc = rt.alloc();
@@ -240,8 +243,8 @@ fn labels(rt: HostRuntime) -> Result<(), Fail> {
     )
 }
 
-// One label, however it is spelled: its translations in any order, with their members in any order, and a letter by its
-// number.
+// The same label, however it is written: its translations in any order, their members in any order, and a letter as an
+// escape.
 #[test]
 fn one_label(rt: HostRuntime) -> Result<(), Fail> {
     let alloc = rt.alloc();
@@ -257,7 +260,7 @@ fn one_label(rt: HostRuntime) -> Result<(), Fail> {
     )
 }
 
-// What is carried in a label is part of it, and what a translation carries too.
+// The carried members of a label are part of it. So are those of a translation.
 #[test]
 fn labels_with_carried_members(rt: HostRuntime) -> Result<(), Fail> {
     let alloc = rt.alloc();
@@ -273,7 +276,7 @@ fn labels_with_carried_members(rt: HostRuntime) -> Result<(), Fail> {
     )
 }
 
-// None before an identifier; of several the least counts.
+// An absent identifier comes first. If there are several, the least one counts.
 #[test]
 fn identifiers_of_selections(rt: HostRuntime) -> Result<(), Fail> {
     let alloc = rt.alloc();
@@ -303,7 +306,7 @@ fn identifiers_of_selections(rt: HostRuntime) -> Result<(), Fail> {
     )
 }
 
-// What is carried, and who endorses, is no part of a name; each part belongs to one class.
+// Carried members and endorsements are not part of a name. Each part of a name belongs to one class.
 #[test]
 fn no_part_of_a_name(rt: HostRuntime) -> Result<(), Fail> {
     let alloc = rt.alloc();

@@ -1,4 +1,4 @@
-//! Faults of the shape, by their lines.
+//! Faults of the shape, as lines.
 use crate::tests::edits::edited;
 use crate::tests::lines::{ACCEPTED, all_hold, check_lines, shape_lines};
 use crate::vectors::{
@@ -6,7 +6,7 @@ use crate::vectors::{
 };
 use std::test::Fail;
 
-// The unit's identifiers in the report with one unit, and the entry twice.
+// The identifiers of the unit in the report of one unit, and the same entry twice.
 const IDENTIFIER: &str =
     r#"[{"@type":"ElectionResults.ExternalIdentifier","Type":"local-level","Value":"U1"}]"#;
 
@@ -107,28 +107,28 @@ fn empty_and_repeated(rt: HostRuntime) -> Result<(), Fail> {
                 IDENTIFIER_TWICE,
                 "/GpUnit/0/ExternalIdentifier/1: repeated\n",
             ),
-            // Equal to two earlier ones, and told once each; members stand in any order.
+            // Each entry that equals earlier ones has one fault. The order of members does not matter.
             (
                 ONE_UNIT,
                 IDENTIFIER,
                 r#"[{"@type":"ElectionResults.ExternalIdentifier","Type":"local-level","Value":"U1"},{"Value":"U1","@type":"ElectionResults.ExternalIdentifier","Type":"local-level"},{"Type":"local-level","@type":"ElectionResults.ExternalIdentifier","Value":"U1"}]"#,
                 "/GpUnit/0/ExternalIdentifier/1: repeated\n/GpUnit/0/ExternalIdentifier/2: repeated\n",
             ),
-            // Two faults of one entry, by the numbers of their reasons.
+            // Two faults of one entry, ordered by the numbers of their reasons.
             (
                 ONE_UNIT,
                 IDENTIFIER,
                 r#"["a","a"]"#,
                 "/GpUnit/0/ExternalIdentifier/0: wrong kind\n/GpUnit/0/ExternalIdentifier/1: wrong kind\n/GpUnit/0/ExternalIdentifier/1: repeated\n",
             ),
-            // A number that is not whole is equal to none.
+            // A number that is not whole is equal to no value.
             (
                 ONE_UNIT,
                 IDENTIFIER,
                 "[1.5,1.5]",
                 "/GpUnit/0/ExternalIdentifier/0: wrong kind\n/GpUnit/0/ExternalIdentifier/1: wrong kind\n",
             ),
-            // The repetition comes before the faults inside the entry.
+            // The fault of the repetition comes before the faults inside the entry.
             (
                 ONE_UNIT,
                 IDENTIFIER,
@@ -139,7 +139,7 @@ fn empty_and_repeated(rt: HostRuntime) -> Result<(), Fail> {
     )
 }
 
-// A repeated reference is no fault of the shape: it is told with the references, where each has its target.
+// A repeated reference is not a fault of the shape. It is a fault of the phase that looks up the targets of references.
 #[test]
 fn repeated_reference_has_its_shape(rt: HostRuntime) -> Result<(), Fail> {
     let alloc = rt.alloc();
@@ -171,7 +171,7 @@ fn required_members(rt: HostRuntime) -> Result<(), Fail> {
                 r#""Name":{"@type":"ElectionResults.InternationalizedText","Text":[]}"#,
                 "/Election/0/Name/Text: empty array\n",
             ),
-            // Several at one place, by their names.
+            // Several faults at one place, ordered by name.
             (
                 ONE_UNIT,
                 r#""Name":"Test","Type":"general","StartDate":"2026-11-03","EndDate":"2026-11-03","#,
@@ -217,14 +217,14 @@ fn outside_members(rt: HostRuntime) -> Result<(), Fail> {
                 r#""@id":"a8","OtherCounts":null,"#,
                 "/Election/0/Contest/0/OtherCounts: outside the profile\n",
             ),
-            // Under another class the member is carried.
+            // In another class, the member is carried.
             (
                 SMALL_BALLOT,
                 r#""@id":"a9","#,
                 r#""@id":"a9","OtherCounts":[{}],"#,
                 ACCEPTED,
             ),
-            // Nothing is sought inside.
+            // Nothing inside is checked.
             (
                 ONE_UNIT,
                 "{",
@@ -258,7 +258,7 @@ fn identity_where_none_belongs(rt: HostRuntime) -> Result<(), Fail> {
                 r#"[{"@id":"e","@type":"ElectionResults.Election","#,
                 "/Election/0/@id: carried identity\n",
             ),
-            // Nothing is sought inside, and other endings are no references.
+            // Nothing inside is checked, and names with other endings are not references.
             (
                 ONE_UNIT,
                 "{",
@@ -299,7 +299,7 @@ fn whole_numbers(rt: HostRuntime) -> Result<(), Fail> {
                 r#""VotesAllowed":-1"#,
                 ACCEPTED,
             ),
-            // Inside carried values, however deep.
+            // Inside carried values, at any depth.
             (
                 ONE_UNIT,
                 "{",
@@ -322,7 +322,7 @@ fn nothing_further(rt: HostRuntime) -> Result<(), Fail> {
                 r#""Type":{"a":1.5}"#,
                 "/GpUnit/0/Type: wrong kind\n",
             ),
-            // In an object without `@type`, with another kind of it, or of another class.
+            // In an object without `@type`, with an `@type` of another kind, or of another class.
             (
                 ONE_UNIT,
                 r#""@type":"ElectionResults.ReportingUnit","Type":"county""#,
@@ -345,7 +345,7 @@ fn nothing_further(rt: HostRuntime) -> Result<(), Fail> {
     )
 }
 
-// Members that the table lists under another class are carried: they may be empty, and repeat entries.
+// Members that the table lists under another class are carried. They may be empty and may repeat entries.
 #[test]
 fn carried_members(rt: HostRuntime) -> Result<(), Fail> {
     all_hold(

@@ -12,5 +12,6 @@ loop-at-preserved g c =
       in_range = grind (arith, common_steps);
       works = c.in_ok-at.ensures.ok ∙ c.loop-at.invariant.works;
       counted = c.in_ok-at.ensures.counted ∙ c.loop-at.invariant.counted;
+      empty = λ none. grind (arith, common_steps);
       written = Appends-more _ _ _ bytes at c.in_ok-at.field-0 c.loop-at.invariant.written (rw rest at c.in_ok-at.ensures.bytes);
     }

@@ -7,6 +7,7 @@ invariant-loop-at g l = record {
   in_range : l.at ≤ length l.bytes;
   works : g.W.Sink.has_failed l.sink ≡ false;
   counted : g.W.Sink.flushes l.sink ≡ g.W.Sink.flushes l.fn.sink;
+  empty : length l.bytes ≡ 0 → l.sink ≡ l.fn.sink;
   written : Appends (g.W.Sink.contents l.fn.sink) (g.W.Sink.contents l.sink) (take l.at l.bytes);
 }
 

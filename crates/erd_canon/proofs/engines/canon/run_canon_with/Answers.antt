@@ -1,7 +1,7 @@
 use Rattle.std.specs.Option.{option_copied}
 use Rattle.std.proofs.Common.{◌≤◌, sym, subst}
 use Rattle.erd_canon.specs.Reading.{IsReadWhole}
-use Rattle.erd_canon.specs.declared.devices.source.TheConstants.{MOST_BYTES}
+use Rattle.erd_canon.specs.Limits.{most_bytes}
 use Rattle.erd_canon.proofs.runs.CheckTexts.{told_of_run}
 use Rattle.erd_canon.proofs.engines.canon.run_canon_with.Goals as goal
 
@@ -9,7 +9,26 @@ pub returns-clause-told : goal.returns-clause-told
 returns-clause-told g c =
     let before = g.S.Source.remaining c.args.reader.now in
     let after = g.S.Source.remaining c.read_all.new.source in
-    let whole : IsReadWhole MOST_BYTES before after c.in_ok-bytes.bytes.items =
-    record { came = c.in_ok-bytes.ensures.all.0; ended = c.in_ok-bytes.ensures.all.1; in_limit = subst (λ n. n ≤ MOST_BYTES) c.in_ok-bytes.bytes.ok.0 c.in_ok-bytes.ensures.limit } in
-    told_of_run (option_copied c.args.prefer) MOST_BYTES c.write_answer.result c.as_slice.result.now before after _ _ _ _
-    (subst (λ bytes. IsReadWhole MOST_BYTES before after bytes) (sym c.as_slice.ensures.value) whole) c.write_answer.ensures.written
+    let whole : IsReadWhole most_bytes before after c.in_ok-bytes.bytes.items =
+    record { came = c.in_ok-bytes.ensures.all.0; ended = c.in_ok-bytes.ensures.all.1; in_limit = subst (λ n. n ≤ most_bytes) c.in_ok-bytes.bytes.ok.0 c.in_ok-bytes.ensures.limit } in
+    told_of_run (option_copied c.args.prefer) most_bytes c.write_answer.result c.as_slice.result.now before after _ _ _ _
+    (subst (λ bytes. IsReadWhole most_bytes before after bytes) (sym c.as_slice.ensures.value) whole) c.write_answer.ensures.written
+
+pub returns-clause-out_needed : goal.returns-clause-out_needed
+returns-clause-out_needed g c = λ failed unflushed.
+    let before = g.S.Source.remaining c.args.reader.now in
+    let after = g.S.Source.remaining c.read_all.new.source in
+    let read : IsReadWhole most_bytes before after c.in_ok-bytes.bytes.items =
+    record { came = c.in_ok-bytes.ensures.all.0; ended = c.in_ok-bytes.ensures.all.1; in_limit = subst (λ n. n ≤ most_bytes) c.in_ok-bytes.bytes.ok.0 c.in_ok-bytes.ensures.limit } in
+    let whole = subst (λ bytes. IsReadWhole most_bytes before after bytes) (sym c.as_slice.ensures.value) read in
+    record { input = c.as_slice.result.now; whole = whole; accepted = c.write_answer.ensures.out_needed failed unflushed }
+
+pub returns-clause-err_needed : goal.returns-clause-err_needed
+returns-clause-err_needed g c = λ failed unflushed.
+    let before = g.S.Source.remaining c.args.reader.now in
+    let after = g.S.Source.remaining c.read_all.new.source in
+    let read : IsReadWhole most_bytes before after c.in_ok-bytes.bytes.items =
+    record { came = c.in_ok-bytes.ensures.all.0; ended = c.in_ok-bytes.ensures.all.1; in_limit = subst (λ n. n ≤ most_bytes) c.in_ok-bytes.bytes.ok.0 c.in_ok-bytes.ensures.limit } in
+    let whole = subst (λ bytes. IsReadWhole most_bytes before after bytes) (sym c.as_slice.ensures.value) read in
+    let refused = c.write_answer.ensures.err_needed failed unflushed in
+    record { input = c.as_slice.result.now; lines = refused.0; whole = whole; refused = refused.1 }

@@ -1,7 +1,7 @@
 use Rattle.std.specs.Option.{option_copied}
 use Rattle.std.proofs.Common.{◌≤◌, sym, subst}
 use Rattle.erd_canon.specs.Reading.{IsReadWhole}
-use Rattle.erd_canon.specs.declared.devices.source.TheConstants.{MOST_BYTES}
+use Rattle.erd_canon.specs.Limits.{most_bytes}
 use Rattle.erd_canon.proofs.runs.Comparisons.{told_of_compare}
 use Rattle.erd_canon.proofs.engines.compare.run_compare_with.Goals as goal
 
@@ -13,11 +13,11 @@ returns-clause-told g c =
     let right_after = g.T.Source.remaining c.read_all-2.new.source in
     let left = c.in_ok-left_bytes.ensures in
     let right = c.in_ok-right_bytes.ensures in
-    let left_whole : IsReadWhole MOST_BYTES left_before left_after c.in_ok-left_bytes.left_bytes.items =
-    record { came = left.all.0; ended = left.all.1; in_limit = subst (λ n. n ≤ MOST_BYTES) c.in_ok-left_bytes.left_bytes.ok.0 left.limit } in
-    let right_whole : IsReadWhole MOST_BYTES right_before right_after c.in_ok-right_bytes.right_bytes.items =
-    record { came = right.all.0; ended = right.all.1; in_limit = subst (λ n. n ≤ MOST_BYTES) c.in_ok-right_bytes.right_bytes.ok.0 right.limit } in
-    told_of_compare (option_copied c.args.prefer) MOST_BYTES c.write_compared.result c.as_slice.result.now c.as_slice-2.result.now left_before left_after right_before right_after _ _
-    (subst (λ bytes. IsReadWhole MOST_BYTES left_before left_after bytes) (sym c.as_slice.ensures.value) left_whole)
-    (subst (λ bytes. IsReadWhole MOST_BYTES right_before right_after bytes) (sym c.as_slice-2.ensures.value) right_whole)
+    let left_whole : IsReadWhole most_bytes left_before left_after c.in_ok-left_bytes.left_bytes.items =
+    record { came = left.all.0; ended = left.all.1; in_limit = subst (λ n. n ≤ most_bytes) c.in_ok-left_bytes.left_bytes.ok.0 left.limit } in
+    let right_whole : IsReadWhole most_bytes right_before right_after c.in_ok-right_bytes.right_bytes.items =
+    record { came = right.all.0; ended = right.all.1; in_limit = subst (λ n. n ≤ most_bytes) c.in_ok-right_bytes.right_bytes.ok.0 right.limit } in
+    told_of_compare (option_copied c.args.prefer) most_bytes c.write_compared.result c.as_slice.result.now c.as_slice-2.result.now left_before left_after right_before right_after _ _
+    (subst (λ bytes. IsReadWhole most_bytes left_before left_after bytes) (sym c.as_slice.ensures.value) left_whole)
+    (subst (λ bytes. IsReadWhole most_bytes right_before right_after bytes) (sym c.as_slice-2.ensures.value) right_whole)
     c.write_compared.ensures.written
