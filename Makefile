@@ -1,31 +1,90 @@
-# `make erd` proves and builds the program; `make test` is the gate; `make edits` tries the wrong bodies that the gate
-# leaves out; `make bench` and `make bench-hostile` measure the program.
+# `make erd` proves and builds the program; `make test` is the gate; `make edits` tries the wrong bodies that the gate leaves
+# out; `make agree` compares the program with the reference program on N random reports and pairs; `make bench` and
+# `make bench-hostile` measure the program. `make install` and `make uninstall` put it on this machine and take it away;
+# `make deb` and `make release` make files to hand on; `make library` makes the C library, and `make same` builds again and
+# compares. docs/INSTALL.md describes these.
 SHELL := /bin/bash
-SOURCES := crates.txt $(shell find crates -path crates/erd_rows -prune -o -name out -prune -o -name must-fail -prune -o -type f -print)
+SOURCES := crates.txt $(shell find crates \
+    \( -path crates/erd_rows -o -path crates/round_trip -o -path crates/erd_c -o -path crates/uses \) -prune \
+    -o -name out -prune -o -name must-fail -prune -o -type f -print)
 
-.PHONY: test edits bench bench-hostile tools
+prefix = $(or $(PREFIX),/usr/local)
+bindir = $(prefix)/bin
+datarootdir = $(prefix)/share
+mandir = $(datarootdir)/man
+docdir = $(datarootdir)/doc/erd
+bash_completions = $(datarootdir)/bash-completion/completions
+zsh_completions = $(datarootdir)/zsh/site-functions
+fish_completions = $(datarootdir)/fish/vendor_completions.d
 
-erd: $(SOURCES) | tools
+INSTALL = install
+INSTALL_PROGRAM = $(INSTALL) -m 755
+INSTALL_DATA = $(INSTALL) -m 644
+DOCUMENTS = README.md CHANGELOG.md LICENSE-MIT LICENSE-APACHE docs/PROFILE.md
+EXAMPLES = $(wildcard examples/*.json)
+
+# Stops where one of these tools is missing.
+needs = @for tool in $(1); do \
+    command -v $$tool > /dev/null || { echo "make: $$tool is missing" >&2; exit 1; }; \
+done
+
+.PHONY: test edits agree bench bench-hostile install uninstall deb release library same
+
+erd: $(SOURCES)
+	$(call needs,rt cc cmp)
 	@tests/build.sh
 
-test: ALSO := python3
-test: tools
+test:
+	$(call needs,rt cc cmp python3)
 	@tests/gate.sh
 
 # CRATE=.. names the crates whose edits are tried, and all are with none.
-edits: tools
+edits:
+	$(call needs,rt cc cmp)
 	@tests/edits.sh $(CRATE)
 
-bench: ALSO := python3
+agree: erd
+	$(call needs,python3)
+	@python3 tests/agree.py $(or $(N),2000) $(SEED)
+
 bench: erd
+	$(call needs,rt python3)
 	@cd crates/round_trip && rt run < stdin > ../../out/round_trip.log 2>&1
 	@python3 tests/bench.py
 
-bench-hostile: ALSO := python3
 bench-hostile: erd
+	$(call needs,python3)
 	@python3 tests/hostile.py
 
-tools:
-	@for tool in rt cc cmp $(ALSO); do \
-	    command -v $$tool > /dev/null || { echo "make: $$tool is missing" >&2; exit 1; }; \
-	done
+install: erd
+	$(INSTALL) -d $(addprefix $(DESTDIR),$(bindir) $(mandir)/man1 $(docdir)/examples $(bash_completions) \
+	    $(zsh_completions) $(fish_completions))
+	$(INSTALL_PROGRAM) erd $(DESTDIR)$(bindir)/erd
+	$(INSTALL_DATA) docs/erd.1 $(DESTDIR)$(mandir)/man1/erd.1
+	$(INSTALL_DATA) $(DOCUMENTS) $(DESTDIR)$(docdir)
+	$(INSTALL_DATA) $(EXAMPLES) $(DESTDIR)$(docdir)/examples
+	$(INSTALL_DATA) packaging/completions/erd.bash $(DESTDIR)$(bash_completions)/erd
+	$(INSTALL_DATA) packaging/completions/_erd $(DESTDIR)$(zsh_completions)/_erd
+	$(INSTALL_DATA) packaging/completions/erd.fish $(DESTDIR)$(fish_completions)/erd.fish
+
+# Takes away the files of `make install`, and of its folders those of erd alone.
+uninstall:
+	rm -f $(DESTDIR)$(bindir)/erd $(DESTDIR)$(mandir)/man1/erd.1
+	rm -f $(addprefix $(DESTDIR)$(docdir)/,$(notdir $(DOCUMENTS)) $(EXAMPLES))
+	rm -f $(DESTDIR)$(bash_completions)/erd $(DESTDIR)$(zsh_completions)/_erd $(DESTDIR)$(fish_completions)/erd.fish
+	rmdir $(DESTDIR)$(docdir)/examples $(DESTDIR)$(docdir) 2> /dev/null || true
+
+deb: erd
+	$(call needs,dpkg-deb dpkg-shlibdeps gzip)
+	@packaging/deb.sh
+
+release: deb
+	$(call needs,tar gzip sha256sum)
+	@packaging/release.sh
+
+library:
+	$(call needs,rt cc ar)
+	@packaging/library.sh
+
+same: erd library
+	@tests/same.sh

@@ -1,0 +1,108 @@
+/* The C side of the library. It allocates room for a text and calls the proved code of crates/erd_c, which fills it. */
+#include "erd.h"
+
+#include <stdbool.h>
+#include <stdint.h>
+#include <stdlib.h>
+#include <string.h>
+
+/* As in crates/erd_c/src. A slice is a pointer, which is not null, and a length. */
+struct told {
+    uint32_t outcome;
+    size_t length;
+};
+struct told erd_tell_check(const uint8_t *bytes, size_t size, bool prefers, const uint8_t *prefer, size_t prefer_size,
+                           uint8_t *room, size_t room_size);
+struct told erd_tell_canonical(const uint8_t *bytes, size_t size, bool prefers, const uint8_t *prefer, size_t prefer_size,
+                               uint8_t *room, size_t room_size);
+struct told erd_tell_compare(const uint8_t *left, size_t left_size, const uint8_t *right, size_t right_size, bool prefers,
+                             const uint8_t *prefer, size_t prefer_size, uint8_t *room, size_t room_size);
+
+enum { MOST_BYTES = 67108864, ROOM_FOR_LINES = 4096 };
+
+struct bytes {
+    const uint8_t *at;
+    size_t size;
+};
+
+enum call { CHECK, CANONICAL, COMPARE };
+
+struct question {
+    enum call call;
+    struct bytes left, right, prefer;
+    bool prefers;
+};
+
+static struct bytes bytes_of(const void *at, size_t size) {
+    static const uint8_t none[1];
+    return size == 0 ? (struct bytes){none, 0} : (struct bytes){at, size};
+}
+
+static struct question question_of(enum call call, struct bytes left, struct bytes right, const char *prefer) {
+    return (struct question){call, left, right, bytes_of(prefer, prefer ? strlen(prefer) : 0), prefer != NULL};
+}
+
+static struct told ask(const struct question *it, uint8_t *room, size_t room_size) {
+    switch (it->call) {
+    case CHECK:
+        return erd_tell_check(it->left.at, it->left.size, it->prefers, it->prefer.at, it->prefer.size, room, room_size);
+    case CANONICAL:
+        return erd_tell_canonical(it->left.at, it->left.size, it->prefers, it->prefer.at, it->prefer.size, room, room_size);
+    default:
+        return erd_tell_compare(it->left.at, it->left.size, it->right.at, it->right.size, it->prefers, it->prefer.at,
+                                it->prefer.size, room, room_size);
+    }
+}
+
+/* Calls with this much room for the text. If that is too little, calls once more with as much room as the text needs. */
+static enum erd_outcome answer(const struct question *it, size_t room_size, char **text, size_t *length) {
+    for (;;) {
+        uint8_t *room = calloc(room_size + 1, 1);
+        if (room == NULL)
+            return ERD_NO_MEMORY;
+        struct told told = ask(it, room, room_size);
+        if (text != NULL && told.length > room_size) {
+            room_size = told.length;
+            free(room);
+            continue;
+        }
+        if (length != NULL)
+            *length = told.length;
+        if (text != NULL && told.outcome <= ERD_NOT_JSON)
+            *text = (char *)room;
+        else
+            free(room);
+        return told.outcome;
+    }
+}
+
+static enum erd_outcome call(const struct question *it, size_t room_size, char **text, size_t *length) {
+    if (text != NULL)
+        *text = NULL;
+    if (length != NULL)
+        *length = 0;
+    if (it->left.size > MOST_BYTES || it->right.size > MOST_BYTES)
+        return ERD_WRONG;
+    return answer(it, text == NULL ? 0 : room_size, text, length);
+}
+
+enum erd_outcome erd_check(const void *bytes, size_t size, const char *prefer, char **text, size_t *length) {
+    struct question it = question_of(CHECK, bytes_of(bytes, size), bytes_of(NULL, 0), prefer);
+    return call(&it, ROOM_FOR_LINES, text, length);
+}
+
+enum erd_outcome erd_canonical(const void *bytes, size_t size, const char *prefer, char **text, size_t *length) {
+    struct question it = question_of(CANONICAL, bytes_of(bytes, size), bytes_of(NULL, 0), prefer);
+    /* most canonical forms are less than twice as long as their reports */
+    return call(&it, 2 * size + ROOM_FOR_LINES, text, length);
+}
+
+enum erd_outcome erd_compare(const void *left, size_t left_size, const void *right, size_t right_size, const char *prefer,
+                             char **text, size_t *length) {
+    struct question it = question_of(COMPARE, bytes_of(left, left_size), bytes_of(right, right_size), prefer);
+    return call(&it, ROOM_FOR_LINES, text, length);
+}
+
+void erd_free(char *text) {
+    free(text);
+}

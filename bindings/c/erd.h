@@ -1,0 +1,55 @@
+/* erd: canonical form, check and comparison of pre-election ballot definitions.
+ *
+ * Each call takes the bytes of one report, or of two, and does what a command of the program `erd` does. The manual page
+ * erd(1) describes the commands, their texts and the preferred type of identifier. A call keeps no state: its result does
+ * not depend on earlier calls, and several threads may call at once. It reads only the bytes that it is given, and never
+ * ends the program. */
+#ifndef ERD_H
+#define ERD_H
+
+#include <stddef.h>
+
+#ifdef __cplusplus
+extern "C" {
+#endif
+
+/* The result of a call: the exit status of the command. */
+enum erd_outcome {
+    ERD_GOOD = 0,      /* the report is accepted; or the two mean the same */
+    ERD_BAD = 1,       /* a report is refused; or the two differ */
+    ERD_NOT_JSON = 2,  /* the bytes of a report are not JSON */
+    ERD_WRONG = 3,     /* a report has more than 67,108,864 bytes, or `prefer` is not UTF-8; there is no text */
+    ERD_NO_MEMORY = 4  /* out of memory; there is no text */
+};
+
+/* In each call:
+ *
+ * - `bytes` points to `size` bytes. It may be null if `size` is 0. The same holds for `left` and `right` with their sizes.
+ * - `prefer` is the type of identifier that the keys of objects follow: a string in UTF-8, ended by a zero byte. Null means
+ *   no preference.
+ * - `*text` is set to the text. The caller owns it and frees it with erd_free. `*length` is set to its length in bytes,
+ *   without the zero byte that follows it. If there is no text, `*text` is set to null and `*length` to 0. `text` may be
+ *   null, and so may `length`. */
+
+/* Checks a report. The text is `accepted`, or one line for each fault, or `not JSON`. Each line is ended by one line
+ * feed. */
+enum erd_outcome erd_check(const void *bytes, size_t size, const char *prefer, char **text, size_t *length);
+
+/* Canonicalises a report. The text is the canonical form, with no line end; or one line for each fault, or `not JSON`, each
+ * line ended by one line feed. */
+enum erd_outcome erd_canonical(const void *bytes, size_t size, const char *prefer, char **text, size_t *length);
+
+/* Compares two reports. The text is `same`, or the line of the first difference. If the left report is refused, or else if
+ * the right one is, the text is that of erd_check for that report, with `left: ` or `right: ` before each line. Each line is
+ * ended by one line feed. */
+enum erd_outcome erd_compare(const void *left, size_t left_size, const void *right, size_t right_size, const char *prefer,
+                             char **text, size_t *length);
+
+/* Frees a text that one of these calls returned. Null is allowed, and does nothing. */
+void erd_free(char *text);
+
+#ifdef __cplusplus
+}
+#endif
+
+#endif

@@ -1,0 +1,44 @@
+-- From what the engines promise of their devices to the bytes that these hold, and from an answer to what is told of it.
+use Rattle.std.proofs.Common.{◌≡◌, ◌<◌, ◌≤◌, ◌≢◌, ℕ, List, [], ◌++◌, Option, Some, None, Result, Ok, Err, IfOk, IfErr, refl, sym, subst, ap, ◌∙◌, append-nil}
+use native.Mathlib.Omega.{arith}
+use Rattle.std.specs.Io.KnownBytes.{Appends}
+use Rattle.erd_meaning.specs.Keys.{Preference}
+use Rattle.erd_canon.specs.Reading.{IsReadWhole}
+use Rattle.erd_canon.specs.Run.{IsAnswered, IsWholeRun}
+use Rattle.erd_canon.specs.declared.engines.outcome.Outcome.{Outcome}
+use Rattle.erd_canon.specs.declared.engines.outcome.Outcome.TheVariants.{Good, Bad, NotJson}
+use Rattle.erd_c.specs.Told.{HasCanonicalText, IsTelling, IsTold}
+use Rattle.erd_c.specs.declared.told.Told.{Told}
+
+-- a reader of these bytes that is at its end gave them
+all_came : (bytes given came : List ℕ) (limit : ℕ) (after : Option (List ℕ)) → given ≡ bytes → IsReadWhole limit (Some given) after came → came ≡ bytes
+all_came bytes given came limit None same whole = absurd whole.came
+all_came bytes given came limit (Some rest) same whole = sym (whole.came ∙ ap (λ xs. came ++ xs) whole.ended ∙ append-nil came) ∙ same
+
+-- a writer that was empty holds what was written
+all_went : (first items text : List ℕ) → first ≡ [] → Appends (Some first) (Some items) text → text ≡ items
+all_went first items text none wrote = sym (wrote ∙ ap (λ xs. xs ++ text) none)
+
+-- two lists that are equal to others stand in their place
+both : (P : List ℕ → List ℕ → Type 0) (a b c d : List ℕ) → a ≡ b → c ≡ d → P a c → P b d
+both P a b c d p q it = subst (λ x. P b x) q (subst (λ x. P x c) p it)
+
+answered_why : (π : Preference) (outcome : Outcome) (bytes out err : List ℕ) → outcome ≢ Good → IsAnswered π bytes outcome out err → HasCanonicalText π bytes outcome err
+answered_why π Good bytes out err other is = absurd (other refl)
+answered_why π Bad bytes out err other is = is.0
+answered_why π NotJson bytes out err other is = is.0
+
+-- why there are none stands in the second writer
+pub refusal_of : (π : Preference) (limit : ℕ) (outcome : Outcome) (bytes given first items other others : List ℕ) (after : Option (List ℕ)) → outcome ≢ Good → given ≡ bytes → first ≡ []
+    → IsWholeRun π limit outcome (Some given) after (Some other) (Some others) (Some first) (Some items) → HasCanonicalText π bytes outcome items
+refusal_of π limit outcome bytes given first items other others after bad same none run =
+    both (λ b x. HasCanonicalText π b outcome x) _ _ _ _ (all_came bytes given run.input limit after same run.whole)
+    (all_went first items run.written.err_text none run.written.wrote_err)
+    (answered_why π outcome run.input run.written.out_text run.written.err_text bad run.written.answered)
+
+-- an outcome below 3 is told of an answer
+pub told_of : {T F : Type 0} (outcome : T → Outcome) (items : T → List ℕ) (Answers : Outcome → List ℕ → Type 0) (r : Result T F) (told : Told) (room : List ℕ)
+    → IfOk r (λ it. Answers (outcome it) (items it)) → IfOk r (λ it. IsTelling (outcome it) (items it) told room) → IfErr r (λ _. 3 ≤ told.outcome)
+    → told.outcome < 3 → IsTold Answers told room
+told_of outcome items Answers (Ok it) told room answers telling faulty low = record { outcome = outcome it; text = items it; answers = answers; telling = telling }
+told_of outcome items Answers (Err fault) told room answers telling faulty low = absurd (omega (arith, faulty, low))

@@ -1,0 +1,2 @@
+-- The lemmas of this crate, beside the folders of the functions' own proofs.
+pub mod Answered  -- what engines answer for bytes, and what is told of it

@@ -1,0 +1,85 @@
+//! The library for C. Each call takes the bytes of reports, a preferred type of identifier or none, and room for a text. It
+//! does what a command of the program does, and returns the command's exit status and text.
+#![tactic(auto)]
+
+ghost use Rattle.std.specs.Prelude.{◌≡◌, ◌<◌, length};
+ghost use Rattle.erd_canon.specs.Run.{IsChecked, IsCompared};
+ghost use Rattle.erd_c.specs.Told.{HasCanonicalText, IsTold, preference};
+
+mod answers;
+mod told;
+
+use answers::{canonical, checked, compared};
+use std::alloc::Global;
+pub use told::Told;
+use told::{given, tell};
+
+/// Checks a report, as `erd check` does.
+///
+/// The text is `accepted`, or one line for each fault, or `not JSON`. Each line is ended by one line feed.
+///
+/// `prefer` is the preferred type of identifier. It is used only if `prefers` is true. The result says how long the text is,
+/// and the text is written to the front of `room` if it fits.
+#[unsafe(no_mangle)]
+pub extern "C" fn erd_tell_check(
+    alloc: Global,
+    bytes: &[u8],
+    prefers: bool,
+    prefer: &[u8],
+    room: &mut [u8],
+) -> Told
+    ensures { result.outcome < 3 → IsTold (IsChecked (preference prefers prefer.now) bytes.now) result room.new }
+{
+    match given(prefers, prefer) {
+        Ok(prefer) => tell(checked(alloc, bytes, prefer), room),
+        Err(told) => told,
+    }
+}
+
+/// Canonicalises a report, as `erd canon` does.
+///
+/// The text is the canonical form, with no line end; or one line for each fault, or `not JSON`, each line ended by one line
+/// feed.
+///
+/// `prefer` is the preferred type of identifier. It is used only if `prefers` is true. The result says how long the text is,
+/// and the text is written to the front of `room` if it fits.
+#[unsafe(no_mangle)]
+pub extern "C" fn erd_tell_canonical(
+    alloc: Global,
+    bytes: &[u8],
+    prefers: bool,
+    prefer: &[u8],
+    room: &mut [u8],
+) -> Told
+    ensures { result.outcome < 3 → IsTold (HasCanonicalText (preference prefers prefer.now) bytes.now) result room.new }
+{
+    match given(prefers, prefer) {
+        Ok(prefer) => tell(canonical(alloc, bytes, prefer), room),
+        Err(told) => told,
+    }
+}
+
+/// Compares the meanings of two reports, as `erd compare` does.
+///
+/// The text is `same`, or the line of the first difference. If the left report is refused, or else if the right one is, the
+/// text is that of `erd_tell_check` for that report, with `left: ` or `right: ` before each line. Each line is ended by one
+/// line feed.
+///
+/// `prefer` is the preferred type of identifier. It is used only if `prefers` is true. The result says how long the text is,
+/// and the text is written to the front of `room` if it fits.
+#[unsafe(no_mangle)]
+pub extern "C" fn erd_tell_compare(
+    alloc: Global,
+    left: &[u8],
+    right: &[u8],
+    prefers: bool,
+    prefer: &[u8],
+    room: &mut [u8],
+) -> Told
+    ensures { result.outcome < 3 → IsTold (IsCompared (preference prefers prefer.now) left.now right.now) result room.new }
+{
+    match given(prefers, prefer) {
+        Ok(prefer) => tell(compared(alloc, left, right, prefer), room),
+        Err(told) => told,
+    }
+}

@@ -1,0 +1,110 @@
+#!/usr/bin/env bash
+# Builds the C library and calls it from C and from Python: the worked rows, as the program is tried on them, under the
+# sanitizers that the compiler has. One line a case.
+set -u
+cd "$(dirname "$0")/.." || exit 1
+
+# The sanitizers need parts of the address space for themselves. Where the system puts a program at random places, these parts
+# may be taken, and the program ends; so all that follows runs at fixed places, where the system allows that.
+if [ -z "${PLACES_ARE_FIXED:-}" ] && setarch "$(uname -m)" --addr-no-randomize true 2> /dev/null; then
+    PLACES_ARE_FIXED=yes exec setarch "$(uname -m)" --addr-no-randomize tests/library.sh
+fi
+
+work=$(mktemp -d) || exit 1
+trap 'rm -rf "$work"' EXIT
+. tests/counting.sh
+. tests/cli_running.sh
+compiler=${CC:-cc}
+one=examples/one-unit.json
+canonical=examples/one-unit.canonical.json
+small=examples/small-ballot.json
+: > "$work/empty"
+callers=$work/callers
+mkdir "$callers"
+
+make --no-print-directory library > "$work/out" 2> "$work/err"
+status=$?
+said 'make library' "$([ "$status" -eq 0 ] || tail -n 5 "$work/err")"
+[ "$status" -eq 0 ] || { counts; exit; }
+
+exported=$(nm -g --defined-only out/c/liberd.a 2> /dev/null | awk '$2 == "T" && $3 !~ /^(rattle_|erd_tell_)/ { print $3 }' | LC_ALL=C sort | tr '\n' ' ')
+said 'it exports its four calls' "$([ "$exported" = 'erd_canonical erd_check erd_compare erd_free ' ] || echo "it exports $exported")"
+
+# built NAME FLAG ..: the caller in C as $callers/NAME
+built() {
+    local name=$1
+    shift
+    "$compiler" -std=c11 -g -O1 -Wall -Wextra "$@" -o "$callers/$name" tests/library.c out/c/liberd.a -lpthread 2> "$work/err"
+}
+
+# has FLAG ..: whether the compiler has these sanitizers, and what it builds with them runs here
+has() {
+    "$compiler" -x c - "$@" -o "$work/nothing" <<< 'int main(void) { return 0; }' 2> /dev/null && "$work/nothing" 2> /dev/null
+}
+
+built plain
+said 'a caller in C' "$([ $? -eq 0 ] || tail -n 5 "$work/err")"
+if "$compiler" -x c++ -fsyntax-only - < /dev/null 2> /dev/null; then
+    "$compiler" -std=c++11 -x c++ -fsyntax-only - <<< '#include "bindings/c/erd.h"' 2> "$work/err"
+    said 'the header is C++ too' "$(head -n 3 "$work/err")"
+fi
+
+# The rows, under AddressSanitizer where there is one: it stops at a bad access and, at the end, at memory that was not freed.
+erd=$callers/plain
+export ASAN_OPTIONS=detect_leaks=1 UBSAN_OPTIONS=halt_on_error=1
+if has -fsanitize=address,undefined; then
+    built address -fsanitize=address,undefined
+    said 'a caller in C under AddressSanitizer' "$([ $? -eq 0 ] || tail -n 5 "$work/err")"
+    erd=$callers/address
+else
+    echo "skipped AddressSanitizer: the compiler has none, or it doesn't run here"
+fi
+# files that cli.sh makes for the rows
+head -c -1 "$one" > "$work/short"
+printf '\xff' > "$work/byte"
+. tests/cli_rows.sh
+. tests/cli_pairs.sh
+
+"$erd" odd "$one" > "$work/out" 2> "$work/err"
+status=$?
+expect 'unusual arguments' 0 "$work/empty" ''
+for vendor in a b; do
+    call canon "examples/county.vendor-$vendor.json"
+    expect "the county by vendor $vendor" 0 examples/county.canonical.json ''
+done
+"$erd" threads examples/county.vendor-a.json > "$work/out" 2> "$work/err"
+status=$?
+expect 'several threads' 0 "$work/empty" ''
+if has -fsanitize=thread; then
+    built thread -fsanitize=thread && "$callers/thread" threads examples/county.vendor-b.json > "$work/out" 2> "$work/err"
+    status=$?
+    expect 'several threads under ThreadSanitizer' 0 "$work/empty" ''
+else
+    echo "skipped several threads under ThreadSanitizer: the compiler has none, or it doesn't run here"
+fi
+
+# From Python, on files that the rows have left, with and without a preference: what the caller in C is told.
+"$compiler" -shared -o "$work/liberd.so" -Wl,--whole-archive out/c/liberd.a -Wl,--no-whole-archive 2> "$work/err"
+said 'a shared library' "$(head -n 3 "$work/err")"
+: > "$work/cases"
+: > "$work/wanted_lines"
+# asked COMMAND PREFER FILE ..: a case for Python, with what the caller in C answers
+asked() {
+    local command=$1 prefer=$2
+    shift 2
+    (IFS=$'\t'; printf '%s\n' "$command"$'\t'"$prefer"$'\t'"$*") >> "$work/cases"
+    call "$command" ${prefer:+--prefer "$prefer"} "$@"
+    printf '%s %s\n' "$status" "$(cat "$work/out" "$work/err" | python3 -c 'import json, sys
+print(json.dumps(sys.stdin.buffer.read().decode(), ensure_ascii=False))')" >> "$work/wanted_lines"
+}
+for prefer in '' local-level fips; do
+    for file in examples/*.json README.md; do
+        asked check "$prefer" "$file"
+        asked canon "$prefer" "$file"
+        asked compare "$prefer" "$one" "$file"
+    done
+done
+python3 tests/library.py "$work/liberd.so" "$work/cases" > "$work/found_lines" 2> "$work/err"
+said "$(wc -l < "$work/cases") calls from Python" "$(diff "$work/wanted_lines" "$work/found_lines" 2>&1 | head -c 300; tail -n 2 "$work/err")"
+
+counts
