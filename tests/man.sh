@@ -1,6 +1,6 @@
 #!/usr/bin/env bash
-# Holds the manual page, and the table of the README, against the built program: its subcommands with what they take,
-# their option, and its exit statuses. One line a case.
+# Holds the manual page, and the statuses and the first run of the README, against the built program: its subcommands with
+# what they take, their option, and its exit statuses. One line a case.
 set -u
 cd "$(dirname "$0")/.." || exit 1
 erd=$PWD/erd
@@ -57,7 +57,7 @@ for name in $names; do
 done
 agree 'the statuses of the README' "$(sed -n 's/^| \([0-9]\) |.*/\1/p' README.md | sort -u)" "$numbers"
 
-# A status that no run has here is that of want of memory.
+# A status that no run has here is that of a run that is out of memory.
 met=$(
     for file in examples/one-unit.json tests/man.sh tests/nosuch; do
         "$erd" check "$file" > /dev/null 2>&1
@@ -68,5 +68,16 @@ met=$(
     echo 4
 )
 agree 'the statuses of runs' "$numbers" "$(sort -u <<< "$met")"
+
+# The first run of the README: each command after `$ `, and what it writes.
+work=$(mktemp -d) || exit 1
+trap 'rm -rf "$work"' EXIT
+ln -s "$PWD/examples" "$erd" "$work"
+sed -n '/^```console$/,/^```$/{ /^```/d; p; }' README.md > "$work/first_run"
+while read -r line; do
+    echo "$line"
+    (cd "$work" && PATH=$PWD:$PATH bash -c "${line:2}" < /dev/null 2>&1)
+done < <(grep '^\$ ' "$work/first_run") > "$work/written"
+agree 'the first run of the README' "$(cat "$work/first_run")" "$(cat "$work/written")"
 
 counts

@@ -1,0 +1,179 @@
+"""Holds what several pages and texts say against the one place that has it: the member table of docs/PROFILE.md against the
+rows of `specs/`, the limit on bytes against the constant of the code, exit statuses against their definition, and what the
+table of reasons names against the code. One line a case that fails, and at the end the counts.
+"""
+
+import pathlib
+import re
+import sys
+
+ROOT = pathlib.Path(__file__).resolve().parent.parent
+SPECS = ROOT / 'crates' / 'erd_tables' / 'specs'
+
+# A member whose required array may not be empty, or is told of by reason 12 alone, has a note behind it in the page.
+NOTES = {'(reason 12)', '(not empty)'}
+FAMILIES = {'unit', 'party', 'person', 'office', 'header', 'candidate', 'contest', 'style', 'selection'}
+
+
+def read(path):
+    return (ROOT / path).read_text(encoding='utf-8')
+
+
+# ---- the member table, as the definitions have it
+
+
+def rows_by_name():
+    """Each named list of rows: its members with their kinds, and the lists that it goes on with."""
+    lists = {}
+    for name, body in re.findall(r'^(\w+_rows) =\n?((?:.*\n)+?)(?=\n|\Z)', (SPECS / 'Rows.antt').read_text(encoding='utf-8'), re.M):
+        members = re.findall(r'\(codes "([^"]+)" is ([^)]+)\)', body)
+        lists[name] = (members, re.findall(r'\b(\w+_rows)\b', body))
+    return lists
+
+
+def members_of_rows(lists, name):
+    members, others = lists[name]
+    found = {member: kind.replace('family.', '').lower() for member, kind in members}
+    for other in others:
+        found.update(members_of_rows(lists, other))
+    return found
+
+
+def table_of_specs():
+    """For each class the kind of each listed member, and the members that it requires."""
+    text = read('crates/erd_tables/specs/Rows.antt') + (SPECS / 'Table.antt').read_text(encoding='utf-8')
+    lists = rows_by_name()
+    rows = dict(re.findall(r'^rows_of_class class\.(\w+) = (\w+_rows)', text, re.M))
+    required = {
+        name: set(re.findall(r'codes "([^"]+)"', body))
+        for name, body in re.findall(r'^required_names class\.(\w+) = (.*)$', text, re.M)
+    }
+    return {name: (members_of_rows(lists, list_name), required[name]) for name, list_name in rows.items()}
+
+
+# ---- the member table, as the page has it
+
+
+def cell(words, table, column):
+    """The members of a cell, with their kinds. `those of CLASS` stands for those of another class."""
+    found = {}
+    for part in words.split('; '):
+        other = re.fullmatch(r'those of (\w+)', part)
+        if other:
+            found.update(table[other.group(1)][column])
+        elif part != 'none':
+            name, kind = re.fullmatch(r'`(\w+)` (\w+(?: \w+)?)(?: \((?:reason 12|not empty)\))?', part).groups()
+            found[name] = kind.lower()
+    return found
+
+
+def table_of_page():
+    """For each class of the page the required and the optional members, with their kinds."""
+    section = read('docs/PROFILE.md').split('### The member table')[1].split('\n### ')[0]
+    table = {}
+    for name, required, optional in re.findall(r'^\| (\w+)(?:, the envelope)? \| (.*?) \| (.*?) \|$', section, re.M):
+        if name == 'Class':
+            continue
+        pair = table.setdefault(name, ({}, {}))
+        pair[0].update(cell(required, table, 0))
+        pair[1].update(cell(optional, table, 1))
+    return table
+
+
+def told_by_reason_12(name, kind):
+    """Whether an absent member is told in the second phase alone, and so is not required by the table of the shape."""
+    return name == 'ExternalIdentifier' and kind == 'identifiers'
+
+
+def compare_tables():
+    specs, page = table_of_specs(), table_of_page()
+    yield 'the classes of the member table', sorted(specs), sorted(page)
+    for name in sorted(specs):
+        members, required = specs[name]
+        needed, optional = page.get(name, ({}, {}))
+        yield f'the members of {name}', members, {**needed, **optional}
+        listed = sorted(member for member, kind in needed.items() if not told_by_reason_12(member, kind))
+        yield f'what {name} requires', sorted(required), listed
+
+
+# ---- the limit on bytes
+
+
+def compare_limits():
+    limit = int(re.search(r'pub const MOST_BYTES: usize = ([\d_]+);', read('crates/erd_canon/src/devices/source.rt')).group(1).replace('_', ''))
+    pages = sorted({*ROOT.glob('*.md'), *ROOT.glob('docs/*'), *ROOT.glob('bindings/**/*.[ch]'), *ROOT.glob('tests/*.sh'), *ROOT.glob('crates/*/src/**/*.rt'), *ROOT.glob('crates/*/specs/*.antt')})
+    for page in pages:
+        numbers = {int(re.sub('[,_]', '', number)) for number in re.findall(r'\b6\d[,_]?\d{3}[,_]?\d{3}\b', page.read_text(encoding='utf-8'))}
+        if numbers:
+            yield f'the limit on bytes in {page.relative_to(ROOT)}', {limit}, numbers
+    mebibytes = re.search(r'\((\d+) MiB\)', read('docs/PROFILE.md'))
+    yield 'the limit in MiB', limit, int(mebibytes.group(1)) * 2**20
+
+
+# ---- the table of reasons
+
+
+def text_of_reasons():
+    """The text of each reason, by its number, as docs/PROFILE.md has it."""
+    section = read('docs/PROFILE.md').split('### The reasons')[1].split('\n### ')[0]
+    return {int(number): text for number, text in re.findall(r'^\| (\d+) \| .* \| `(.*?)(?: NAME)?` \|$', section, re.M)}
+
+
+def compare_reasons():
+    """Each definition, function and test that docs/DEFINITIONS.md names for a reason is there."""
+    texts = text_of_reasons()
+    yield 'the numbers of the reasons', list(range(1, 19)), sorted(texts)
+    section = read('docs/DEFINITIONS.md').split('## The reasons')[1].split('\n## ')[0]
+    specs, judges = (''.join(read(path) for path in re.findall(pattern, section)) for pattern in (r'`(crates/\S+\.antt)`', r'`(crates/\S+\.rt)`'))
+    rows = re.findall(r'^\| (\d+) \|.*\| (.*) \| (.*) \| (.*) \|$', section, re.M)
+    yield 'the rows of the reasons', sorted(texts), [int(row[0]) for row in rows]
+    for number, definitions, functions, tests in rows:
+        missing = [name for name in re.findall(r'`(\w+)`', definitions) if not re.search(rf'\bpub (?:data |record )?{name}\b', specs)]
+        missing += [name for name in re.findall(r'`(\w+)`', functions) if not re.search(rf'\bfn {name}\b', judges)]
+        for name in re.findall(r'`(\w+)`', tests):
+            if texts[int(number)] not in read(f'crates/erd_rows/src/tests/{name}.rt'):
+                missing.append(name)
+        yield f'what stands behind reason {number}', [], missing
+
+
+# ---- exit statuses
+
+
+def numbers_of(pattern, text):
+    return [int(number) for number in re.findall(pattern, text, re.M)]
+
+
+def compare_statuses():
+    specs = read('crates/erd_canon/specs/Statuses.antt')
+    numbers = dict(re.findall(r'^(?:outcome|fault)_status (\w+) = (\d)$', specs, re.M))
+    words = {text: int(numbers[name]) for name, text in re.findall(r'^fault_words (\w+) = codes "(.*)"$', specs, re.M)}
+    statuses = sorted({int(number) for number in numbers.values()})
+    readme = read('README.md')
+    yield 'the statuses of README.md', statuses, sorted(set(numbers_of(r'^\| (\d) \|', readme)))
+    told = {text: int(number) for number, text in re.findall(r'^\| (\d) \| .* \| `([a-z ]+)` \|$', readme, re.M)}
+    yield 'the texts of faults in README.md', words, {text: told.get(text) for text in words}
+    help_texts = read('crates/erd_canon/src/commands/help.rt').split('Exit status:\n')[1:]
+    yield 'the lists of statuses in the help', 4, len(help_texts)
+    for text in help_texts:
+        yield 'the statuses of the help', statuses, numbers_of(r'^  (\d)  ', text.split('\n\n')[0])
+    manual = read('docs/erd.1').split('.SH EXIT STATUS')[1].split('.SH ')[0]
+    yield 'the statuses of docs/erd.1', statuses, numbers_of(r'^\.B (\d)$', manual)
+    texts = [text for text in re.findall(r'^\.B ([a-z ]+)$', manual, re.M) if text in words]
+    yield 'the texts of faults in docs/erd.1', sorted(words), sorted(set(texts))
+    yield 'the statuses of bindings/c/erd.h', statuses, numbers_of(r'^    ERD_\w+ = (\d)', read('bindings/c/erd.h'))
+
+
+def main():
+    passed = failed = 0
+    for name, wanted, found in [*compare_tables(), *compare_limits(), *compare_reasons(), *compare_statuses()]:
+        if wanted == found:
+            passed += 1
+        else:
+            failed += 1
+            print(f'FAILED: {name}: {found} is there, and not {wanted}')
+    print(f'{passed} passed, {failed} failed')
+    return int(failed > 0)
+
+
+if __name__ == '__main__':
+    sys.exit(main())
