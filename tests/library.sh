@@ -83,6 +83,34 @@ else
     echo "skipped several threads under ThreadSanitizer: the compiler has none, or it doesn't run here"
 fi
 
+# Each request for memory is refused in turn, until a run makes fewer: the library returns the right answer, or is out of memory
+# and returns no text. Status 9 is the caller's own: it has no memory to read the files.
+"$compiler" -O2 -shared -fPIC -o "$work/refuse.so" tests/refuse.c -ldl
+refused() {
+    local at refusals=0 wanted why=''
+    "$callers/plain" "$@" > "$work/wanted_out" 2> "$work/wanted_err"
+    wanted=$?
+    for ((at = 1; at <= 20000; at++)); do
+        rm -f "$work/log"
+        REFUSE_AT=$at REFUSE_LOG=$work/log LD_PRELOAD=$work/refuse.so "$callers/plain" "$@" > "$work/out" 2> "$work/err"
+        status=$?
+        [ "$status" -eq "$wanted" ] && cmp -s "$work/out" "$work/wanted_out" && cmp -s "$work/err" "$work/wanted_err"
+        local differs=$?
+        [ -e "$work/log" ] || break
+        refusals=$((refusals + 1))
+        [ "$differs" -eq 0 ] && continue
+        [[ $status =~ ^[49]$ ]] && [ ! -s "$work/out" ] && [ ! -s "$work/err" ] && continue
+        why+="status $status at request $at; "
+        break
+    done
+    [ "$differs" -eq 0 ] || why+='no right answer without a refusal; '
+    [ "$refusals" -gt 10 ] || why+="$refusals refusals"
+    said "memory refused: $1 ($refusals refusals)" "$why"
+}
+refused canon "$small"
+refused check "$small"
+refused compare "$one" "$small"
+
 # From Python, on files that the rows have left, with and without a preference: what the caller in C is told.
 "$compiler" -shared -o "$work/liberd.so" -Wl,--whole-archive out/c/liberd.a -Wl,--no-whole-archive 2> "$work/err"
 said 'a shared library' "$(head -n 3 "$work/err")"

@@ -5,15 +5,10 @@ set -u
 cd "$(dirname "$0")/.." || exit 1
 erd=$PWD/erd
 page=docs/erd.1
+work=$(mktemp -d) || exit 1
+trap 'rm -rf "$work"' EXIT
 . tests/counting.sh
-
-# agree NAME PAGE PROGRAM: the page says what the program says, and something
-agree() {
-    local why=''
-    [ -n "$2" ] || why+='nothing is there; '
-    [ "$2" = "$3" ] || why+="'$2' is there, and the program has '$3'; "
-    said "$1" "$why"
-}
+. tests/running.sh
 
 # section NAME: the lines of a section of the page
 section() {
@@ -31,31 +26,31 @@ under() {
 }
 
 names=$("$erd" --help | under Commands | cut -d ' ' -f 1)
-agree 'the subcommands of the page' "$(terms SUBCOMMANDS | cut -d ' ' -f 1)" "$names"
+equal 'the subcommands of the page' "$(terms SUBCOMMANDS | cut -d ' ' -f 1)" "$names"
 
 for name in $names; do
     [ "$name" = help ] && continue
     usage=$("$erd" help "$name" | sed -n 's/^Usage: erd //p' | tr -d '<>')
-    agree "what $name takes" "$(terms SUBCOMMANDS | grep "^$name ")" "$usage"
+    equal "what $name takes" "$(terms SUBCOMMANDS | grep "^$name ")" "$usage"
 done
 
 option=$(terms OPTIONS | tr -d '\\')
 for name in $names; do
     [ "$name" = help ] && continue
-    agree "the option of $name" "$option" "$("$erd" help "$name" | sed -n 's/^ *\(--[a-z]* <[A-Z]*>\)$/\1/p' | tr -d '<>')"
+    equal "the option of $name" "$option" "$("$erd" help "$name" | sed -n 's/^ *\(--[a-z]* <[A-Z]*>\)$/\1/p' | tr -d '<>')"
 done
 
 statuses=$("$erd" --help | under 'Exit status')
 paged=$(section 'EXIT STATUS' | sed -n '/^\.B [0-9]/{ s/^\.B //; N; s/\n/ /; p; }')
-agree 'the statuses of the page' "$paged" "$statuses"
+equal 'the statuses of the page' "$paged" "$statuses"
 
 numbers=$(cut -d ' ' -f 1 <<< "$statuses")
 for name in $names; do
     [ "$name" = help ] && continue
-    agree "the statuses of $name" "$(cut -d ' ' -f 1 <<< "$paged")" \
+    equal "the statuses of $name" "$(cut -d ' ' -f 1 <<< "$paged")" \
         "$("$erd" help "$name" | under 'Exit status' | cut -d ' ' -f 1)"
 done
-agree 'the statuses of the README' "$(sed -n 's/^| \([0-9]\) |.*/\1/p' README.md | sort -u)" "$numbers"
+equal 'the statuses of the README' "$(sed -n 's/^| \([0-9]\) |.*/\1/p' README.md | sort -u)" "$numbers"
 
 # A status that no run has here is that of a run that is out of memory.
 met=$(
@@ -67,17 +62,15 @@ met=$(
     echo $?
     echo 4
 )
-agree 'the statuses of runs' "$numbers" "$(sort -u <<< "$met")"
+equal 'the statuses of runs' "$numbers" "$(sort -u <<< "$met")"
 
 # The first run of the README: each command after `$ `, and what it writes.
-work=$(mktemp -d) || exit 1
-trap 'rm -rf "$work"' EXIT
 ln -s "$PWD/examples" "$erd" "$work"
 sed -n '/^```console$/,/^```$/{ /^```/d; p; }' README.md > "$work/first_run"
 while read -r line; do
     echo "$line"
     (cd "$work" && PATH=$PWD:$PATH bash -c "${line:2}" < /dev/null 2>&1)
 done < <(grep '^\$ ' "$work/first_run") > "$work/written"
-agree 'the first run of the README' "$(cat "$work/first_run")" "$(cat "$work/written")"
+equal 'the first run of the README' "$(cat "$work/first_run")" "$(cat "$work/written")"
 
 counts
