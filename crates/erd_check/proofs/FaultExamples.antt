@@ -81,13 +81,15 @@ not_pre_election : Has (one_unit_report (codes "\"Status\":\"certified\"") unit 
 unfolding serde_json_on_literals
 not_pre_election = (refl, untrue, untrue)
 
--- each election of two is judged inside
+-- an empty array; each of two elections is judged inside
 election_count : Has (codes "{\"@type\":\"ElectionResults.ElectionReport\",\"Election\":[]}") (Name (codes "Election") ∷ []) ElectionCount
-    × Has (codes "{\"@type\":\"ElectionResults.ElectionReport\",\"Election\":[{\"@type\":\"ElectionResults.Election\"},{}]}") (Name (codes "Election") ∷ []) ElectionCount
+    × HasNot (codes "{\"@type\":\"ElectionResults.ElectionReport\",\"Election\":[]}") [] (MissingMember (codes "Election"))
+    × HasNot (codes "{\"@type\":\"ElectionResults.ElectionReport\",\"Election\":{}}") (Name (codes "Election") ∷ []) ElectionCount
+    × HasNot (codes "{\"@type\":\"ElectionResults.ElectionReport\",\"Election\":[{\"@type\":\"ElectionResults.Election\"},{}]}") (Name (codes "Election") ∷ []) ElectionCount
     × Has (codes "{\"@type\":\"ElectionResults.ElectionReport\",\"Election\":[{\"@type\":\"ElectionResults.Election\"},{}]}") (Name (codes "Election") ∷ At 0 ∷ []) (MissingMember (codes "Name"))
     × HasNot one_unit (Name (codes "Election") ∷ []) ElectionCount
 unfolding serde_json_on_literals
-election_count = (refl, refl, refl, untrue)
+election_count = (refl, untrue, untrue, untrue, refl, untrue)
 
 -- a required set of translations or references; an optional one may be empty
 empty_array : Has (one_unit_report status (unit ++ codes ",\"Name\":{\"@type\":\"ElectionResults.InternationalizedText\",\"Text\":[]}") election) (Name (codes "GpUnit") ∷ At 0 ∷ Name (codes "Name") ∷ Name (codes "Text") ∷ []) EmptyArray

@@ -1,6 +1,5 @@
 -- The objects of a report without a fault of shape, and their keyed arrays.
-use Rattle.std.proofs.lemmas.Bool.Decides.{Decides-eqb}
-use Rattle.std.proofs.Common.{◌≡◌, ℕ, List, Option, Some, None, length, Bool, false, codes, refl, sym, subst, arith}
+use Rattle.std.proofs.Common.{◌≡◌, ℕ, List, Option, Some, None, Bool, false, codes, refl, sym, subst}
 use Rattle.std.specs.Str.{bytes_eq}
 use Rattle.serde_json.specs.Data.{Data, string, array, object, Items, no_items, item, Members}
 use Rattle.serde_json.specs.Find.{get, get_member}
@@ -13,12 +12,11 @@ use Rattle.erd_tables.specs.declared.class.Class.TheVariants as class
 use Rattle.erd_tables.specs.declared.class.Role.TheVariants as role
 use Rattle.erd_tables.specs.declared.member.MemberKind.TheVariants as kind
 use Rattle.erd_check.specs.declared.want.Want.{Want}
-use Rattle.erd_check.proofs.Shapes.{AsksObject, Classed, Within, classed, wanted_within, member_within, not_false, of_role}
+use Rattle.erd_check.proofs.Shapes.{AsksObject, Classed, Within, classed, wanted_within, member_within, of_role}
 use Rattle.erd_check.specs.Wants.{asked, class_of_object}
 use Rattle.erd_check.specs.declared.want.Want.TheVariants.{Member, Object}
-use Rattle.erd_check.specs.Faults.{has_not_one_entry, NoneOf, ShapeFault}
+use Rattle.erd_check.specs.Faults.{is_empty_array, NoneOf, ShapeFault}
 use Rattle.erd_check.proofs.Entries.{array_from}
-use Rattle.erd_check.specs.Values.{list_of_items}
 use Rattle.erd_check.proofs.TableKinds.{want_by_kind}
 
 -- an object of a class, asked for at a place of a report
@@ -66,10 +64,10 @@ pub election_class : (c : Class) → role_of_class c ≡ role.Election → c ≡
 election_class class.Election e = refl
 election_class c e = cc
 
-pub one_entry : (ds : Items) → has_not_one_entry (array ds) ≡ false → (d : Data) × (ds ≡ item d no_items)
-one_entry no_items h = cc
-one_entry (item d no_items) h = (d, refl)
-one_entry (item d (item e ds)) h = let one : length (list_of_items (item d (item e ds))) ≡ 1 = (Decides-eqb _ 1).0 (not_false _ h) in absurd (omega arith)
+-- an array that is not empty
+pub not_empty : (ds : Items) → is_empty_array (array ds) ≡ false → ¬ (ds ≡ no_items)
+not_empty no_items h e = cc
+not_empty (item d ds) h e = cc
 
 -- a member that may be absent, and is an array
 pub data MayBeArray (P : Items → Type 0) : Option Data → Type 0 where

@@ -1,4 +1,5 @@
--- Reports for the worked examples: the small ballot, its canonical form, and a report of one unit in parts that examples edit.
+-- Reports for the worked examples: the small ballot, its canonical form, a report of one unit in parts that examples edit, and
+-- reports of two elections.
 use Rattle.std.proofs.Common.{ℕ, List, ◌++◌, codes, unwrap_or}
 use Rattle.serde_json.specs.Data.{Data, null}
 use Rattle.serde_json.specs.Read.{read}
@@ -59,3 +60,35 @@ with_unit_member more = one_unit_report status (unit ++ codes "," ++ more) elect
 
 abbrev pub with_election_member : List ℕ → List ℕ
 with_election_member more = one_unit_report status unit (election ++ codes "," ++ more)
+
+-- ---- several elections
+
+-- the member for one identifier of the type `local-level` with this value
+abbrev pub identifier : List ℕ → List ℕ
+identifier value = codes "\"ExternalIdentifier\":[{\"@type\":\"ElectionResults.ExternalIdentifier\",\"Type\":\"local-level\",\"Value\":\"" ++ value ++ codes "\"}]"
+
+-- the members of an election with another name than that of the report of one unit
+abbrev pub other_election : List ℕ
+other_election = codes "\"@type\":\"ElectionResults.Election\",\"Name\":\"Other\",\"Type\":\"general\",\"StartDate\":\"2026-11-03\",\"EndDate\":\"2026-11-03\",\"ElectionScopeId\":\"u7\""
+
+-- the report of one unit with two elections, which have these members
+abbrev pub report_of_two : List ℕ → List ℕ → List ℕ
+report_of_two first second = one_unit_report status unit (first ++ codes "},{" ++ second)
+
+-- with these values of their identifiers
+abbrev pub two_elections_with : List ℕ → List ℕ → List ℕ
+two_elections_with first second = report_of_two (election ++ codes "," ++ identifier first) (other_election ++ codes "," ++ identifier second)
+
+-- the election with the greater key first
+abbrev pub two_elections : List ℕ
+two_elections = two_elections_with (codes "E2") (codes "E1")
+
+-- a contest with this `@id` and this value of its identifier
+abbrev pub party_contest : List ℕ → List ℕ → List ℕ
+party_contest id value = codes "{\"@id\":\"" ++ id ++ codes "\",\"@type\":\"ElectionResults.PartyContest\",\"Name\":\"N\",\"ElectionDistrictId\":\"u7\"," ++ identifier value ++ codes "}"
+
+-- the same two elections: one contest in the first, and two in the second, the one with the greater key first
+abbrev pub three_contests : List ℕ
+three_contests =
+    report_of_two (election ++ codes "," ++ identifier (codes "E2") ++ codes ",\"Contest\":[" ++ party_contest (codes "c2") (codes "C2") ++ codes "]")
+    (other_election ++ codes "," ++ identifier (codes "E1") ++ codes ",\"Contest\":[" ++ party_contest (codes "c3") (codes "C3") ++ codes "," ++ party_contest (codes "c1") (codes "C1") ++ codes "]")

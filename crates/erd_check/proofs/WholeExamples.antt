@@ -3,13 +3,13 @@ use Rattle.std.proofs.Common.{◌≡◌, ℕ, List, [], ◌∷◌, codes, true, 
 use Rattle.serde_json.proofs.OnLiterals.{serde_json_on_literals}
 use Rattle.erd_tables.specs.Faults.{ListsAll}
 use Rattle.erd_tables.specs.declared.fault.Fault.{Fault}
-use Rattle.erd_tables.specs.declared.fault.Reason.TheVariants.{WrongKind, MissingMember, NotWhole, OutsideProfile, UnknownReference, CarriedIdentity, NotPreElection}
+use Rattle.erd_tables.specs.declared.fault.Reason.TheVariants.{WrongKind, MissingMember, NotWhole, OutsideProfile, UnknownReference, CarriedIdentity, NotPreElection, ElectionCount}
 use Rattle.erd_tables.specs.declared.place.Step.TheVariants.{Name, At}
 use Rattle.erd_check.specs.Faults.{ShapeFault, NoneOf}
 use Rattle.erd_check.specs.code.Paths.{fault_at}
 use Rattle.erd_check.specs.Trees.{IsTree}
 use Rattle.erd_check.proofs.Deciding.{is_tree, tree_sound, faults_found, faults_listed, no_fault_listed}
-use Rattle.erd_check.proofs.Reports.{tree_of, one_unit, small_ballot, small_ballot_canonical, one_unit_report}
+use Rattle.erd_check.proofs.Reports.{tree_of, one_unit, small_ballot, small_ballot_canonical, one_unit_report, three_contests, two_elections}
 
 -- ---- reports without a fault
 
@@ -55,7 +55,54 @@ small_ballot_canonical_is_tree = tree_sound (tree_of small_ballot_canonical) can
 pub small_ballot_canonical_is_faultless : NoneOf (ShapeFault (tree_of small_ballot_canonical))
 small_ballot_canonical_is_faultless = no_fault_listed (tree_of small_ballot_canonical) canonical_test canonical_faults
 
--- ---- a report with faults
+-- two elections
+two_test : is_tree (tree_of two_elections) ≡ true
+unfolding serde_json_on_literals
+two_test = refl
+
+two_faults : length (faults_found (tree_of two_elections)) ≡ 0
+unfolding serde_json_on_literals
+two_faults = refl
+
+pub two_elections_is_tree : IsTree (tree_of two_elections)
+two_elections_is_tree = tree_sound (tree_of two_elections) two_test
+
+pub two_elections_is_faultless : NoneOf (ShapeFault (tree_of two_elections))
+two_elections_is_faultless = no_fault_listed (tree_of two_elections) two_test two_faults
+
+contests_test : is_tree (tree_of three_contests) ≡ true
+unfolding serde_json_on_literals
+contests_test = refl
+
+contests_faults : length (faults_found (tree_of three_contests)) ≡ 0
+unfolding serde_json_on_literals
+contests_faults = refl
+
+pub three_contests_is_tree : IsTree (tree_of three_contests)
+three_contests_is_tree = tree_sound (tree_of three_contests) contests_test
+
+pub three_contests_is_faultless : NoneOf (ShapeFault (tree_of three_contests))
+three_contests_is_faultless = no_fault_listed (tree_of three_contests) contests_test contests_faults
+
+-- ---- reports with faults
+
+-- no election at all
+abbrev pub no_election : List ℕ
+no_election = codes "{\"@type\":\"ElectionResults.ElectionReport\",\"Status\":\"pre-election\",\"Election\":[]}"
+
+abbrev pub no_election_faults : List Fault
+no_election_faults = fault_at (Name (codes "Election") ∷ []) ElectionCount ∷ []
+
+no_election_test : is_tree (tree_of no_election) ≡ true
+unfolding serde_json_on_literals
+no_election_test = refl
+
+no_election_found : faults_found (tree_of no_election) ≡ no_election_faults
+unfolding serde_json_on_literals
+no_election_found = refl
+
+pub no_election_has_all : ListsAll (ShapeFault (tree_of no_election)) no_election_faults
+no_election_has_all = subst (ListsAll (ShapeFault (tree_of no_election))) no_election_found (faults_listed (tree_of no_election) (tree_sound (tree_of no_election) no_election_test))
 
 -- a status after the election, a strange reference, a unit without its type, an election without its scope, and more
 abbrev pub faulty : List ℕ

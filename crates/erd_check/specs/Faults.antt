@@ -38,10 +38,6 @@ is_object d = is_some (as_object d)
 abbrev pub is_empty_array : Data → Bool
 is_empty_array d = option_map_or (λ ds. length (list_of_items ds) == 0) (as_array d) false
 
--- True for an array that has no entry or more than one.
-abbrev pub has_not_one_entry : Data → Bool
-has_not_one_entry d = option_map_or (λ ds. not (length (list_of_items ds) == 1)) (as_array d) false
-
 -- True for a number that `serde_json` keeps as a float: it has a fraction or an exponent, is `-0`, or lies outside -2^63 to
 -- 2^64 - 1.
 abbrev pub is_not_whole : Data → Bool
@@ -142,7 +138,7 @@ is_shape_fault a reason.OutsideProfile = is_outside a.want && not (is_empty_arra
 is_shape_fault a reason.UnknownReference = is_strange_reference a.want
 is_shape_fault a reason.CarriedIdentity = is_strange_identity a.want
 is_shape_fault a reason.NotPreElection = is_other_status a.want a.value
-is_shape_fault a reason.ElectionCount = is_elections a.want && has_not_one_entry a.value
+is_shape_fault a reason.ElectionCount = is_elections a.want && is_empty_array a.value
 is_shape_fault a reason.EmptyArray = wants_entry a.want && is_empty_array a.value
 is_shape_fault a reason.Repeated = a.repeated && not (is_reference a.want)
 is_shape_fault a r = false

@@ -2,7 +2,7 @@ ghost use Rattle.std.specs.Prelude.{◌≡◌, ◌++◌, map, not, IfOk, IsTrue}
 ghost use Rattle.std.specs.Option.{option_to_list};
 ghost use Rattle.serde_json.specs.Find.{is_float};
 ghost use Rattle.serde_json.specs.View.{view, number_view};
-ghost use Rattle.erd_check.specs.Faults.{has_kind, has_wanted_kind, names_wanted, is_not_whole, has_not_one_entry, is_reference, lacks};
+ghost use Rattle.erd_check.specs.Faults.{has_kind, has_wanted_kind, names_wanted, is_not_whole, is_reference, lacks};
 ghost use Rattle.erd_check.specs.Numbers.{IsFittingNumber, IsInRange};
 ghost use Rattle.erd_check.specs.code.Walk.{IsAskedInRange, other_reasons, missing, faults_of};
 ghost use Rattle.erd_check.specs.code.Paths.{steps_of};
@@ -155,7 +155,7 @@ fn member_reason(kind: MemberKind, is_required: bool, value: &Value) -> Option<R
         MemberKind::Outside if !is_empty_array(value) => Some(Reason::OutsideProfile),
         MemberKind::StrangeReference => Some(Reason::UnknownReference),
         MemberKind::StrangeIdentity => Some(Reason::CarriedIdentity),
-        MemberKind::Elections if has_other_count(value) => Some(Reason::ElectionCount),
+        MemberKind::Elections if is_empty_array(value) => Some(Reason::ElectionCount),
         MemberKind::Many(_) | MemberKind::Languages if is_required && is_empty_array(value) => {
             Some(Reason::EmptyArray)
         }
@@ -179,15 +179,4 @@ fn is_whole(number: &Number) -> bool
     ensures fits { IsTrue result → IsFittingNumber (number_view number.now) }
 {
     number.as_u64().is_some() || number.as_i64().is_some()
-}
-
-/// Returns whether a value is an array with no entry, or with more than one.
-#[tactic(auto, using(crate::proofs::Lists::count_of_view))]
-fn has_other_count(value: &Value) -> bool
-    ensures { result ≡ has_not_one_entry (view value.now) }
-{
-    match value.as_array() {
-        Some(items) => items.len() != 1,
-        None => false,
-    }
 }

@@ -3,6 +3,5 @@ pub mod HeldObjects
 pub mod Phases
 pub mod References
 pub mod Skeleton
-pub mod SoleElection
 pub mod Standing
 pub mod KeyedElections

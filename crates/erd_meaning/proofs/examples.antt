@@ -3,6 +3,7 @@ mod PreferenceExamples
 mod ReferenceExamples
 mod NameExamples
 pub mod RecordExamples
+mod ElectionExamples
 mod LaterFaultExamples
 pub mod AcceptedExamples
 mod RefusedExamples

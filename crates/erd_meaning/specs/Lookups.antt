@@ -5,7 +5,7 @@ use Rattle.serde_json.specs.Data.{Data}
 use Rattle.erd_tables.specs.declared.class.Family.{Family}
 use Rattle.erd_tables.specs.declared.class.Family.TheVariants as family
 use Rattle.erd_meaning.specs.NameParts.{NameParts}
-use Rattle.erd_meaning.specs.Objects.{election_of_place, elections, id_of, numbered_selections, objects}
+use Rattle.erd_meaning.specs.Objects.{Placed, election_of_place, elections, id_of, numbered_selections, objects}
 use Rattle.erd_meaning.specs.Keys.{Preference, key_of, key_of_family_object}
 use Rattle.erd_meaning.specs.SelectionNames.{name_of}
 use Rattle.erd_meaning.specs.declared.keys.key.Key.{Key}
@@ -21,6 +21,10 @@ id_in f t i = option_and_then (λ o. id_of o.value) (slice_get (objects f t) i)
 -- The key of the election at this position, or none if there is no such election or it has no identifier.
 abbrev pub election_key_in : Preference → Data → ℕ → Option Key
 election_key_in π t i = option_and_then (λ e. key_of π e.value) (slice_get (elections t) i)
+
+-- The key of the election that holds the object, or none if no election holds it or that election has no identifier.
+abbrev pub election_key_of : Preference → Data → Placed → Option Key
+election_key_of π t o = option_and_then (election_key_in π t) (election_of_place o.place)
 
 -- The position of the election that holds the object at this position of its family, or none. A selection is held by its
 -- contest instead.

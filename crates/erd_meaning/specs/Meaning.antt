@@ -63,9 +63,9 @@ pub data MemberValue : Type 0 where
 abbrev pub ObjectRecord : Type 0
 ObjectRecord = Record MemberValue
 
--- What a report means: the record of the report, the record of its election, and for each family that has keys a map from
--- keys to records.
+-- What a report means: the record of the report, a map from the keys of its elections to their records, and for each family
+-- that has keys a map from keys to records. A sole election may have no key.
 pub record Meaning : Type 0 where
   pub report : Option ObjectRecord
-  pub election : Option ObjectRecord
+  pub elections : Option Key → Option ObjectRecord
   pub objects : Family → Key → Option ObjectRecord

@@ -1,5 +1,5 @@
 -- What the objects of a report mean. All of this is the profile's own.
-use Rattle.std.specs.Prelude.{ℕ, List, [], Bool, true, false, ◌||◌, if◌then◌else◌, Option, Some, None, option_and_then, option_map, unwrap_or, map, find, slice_get, codes}
+use Rattle.std.specs.Prelude.{ℕ, List, [], Bool, true, false, ◌||◌, if◌then◌else◌, Option, Some, None, option_and_then, option_map, unwrap_or, map, find, codes}
 use Rattle.std.specs.List.{list_any}
 use Rattle.std.specs.Option.{option_cmp}
 use Rattle.std.specs.Ordering.{is_eq}
@@ -21,7 +21,8 @@ use Rattle.erd_check.specs.Wants.{class_of_object}
 use Rattle.erd_meaning.specs.Keys.{Preference, key_cmp, key_of}
 use Rattle.erd_meaning.specs.Meaning.{JsonMap, JsonSet, KeySet, Label, untranslated, translated, Content, no_content, first_node, Node, a_contest, a_header, PlainValue, a_json, a_label, a_json_set, a_key, a_key_set, a_content, Record, SelectionRecord, MemberValue, a_plain, a_selection_map, ObjectRecord, Meaning}
 use Rattle.erd_meaning.specs.NameParts.{NameParts}
-use Rattle.erd_meaning.specs.Objects.{objects, elections}
+use Rattle.erd_meaning.specs.Lookups.{election_key_of}
+use Rattle.erd_meaning.specs.Objects.{Placed, objects, elections}
 use Rattle.erd_meaning.specs.SelectionNames.{selection_role, name_of, name_cmp, key_named, keys_named, name_named}
 use Rattle.erd_meaning.specs.declared.keys.key.Key.{Key}
 
@@ -162,20 +163,43 @@ member_of_class π t d c name = member_value π t (kind_of_member c name) (get n
 abbrev pub object_record : Preference → Data → Role → Data → Option ObjectRecord
 object_record π t r d = record_with (member_of_class π t d) r d
 
--- The first object of the family with this key, or none.
-abbrev pub object_with_key : Preference → Data → Family → Key → Option Data
-object_with_key π t f k =
-    option_map (λ o. o.value) (find (λ o. is_eq (option_cmp key_cmp (key_of π o.value) (Some k))) (objects f t))
+-- ---- objects under their keys
+
+-- The members, with the key of an election under the name `ElectionId`, if there is a key. No accepted object has a member of
+-- this name, since no class lists it.
+abbrev pub with_election_id : Option Key → (List ℕ → Option MemberValue) → List ℕ → Option MemberValue
+with_election_id None members name = members name
+with_election_id (Some k) members name = if bytes_eq name (codes "ElectionId") then Some (a_plain (a_key (Some k))) else members name
+
+-- The record with the key of the election that holds the object.
+abbrev pub record_in_election : Option Key → ObjectRecord → ObjectRecord
+record_in_election k r = record { class = r.class; members = with_election_id k r.members }
+
+-- What an object of the family means, with the key of the election that holds it.
+abbrev pub placed_record : Preference → Data → Family → Placed → Option ObjectRecord
+placed_record π t f o = option_map (record_in_election (election_key_of π t o)) (object_record π t (role.OfFamily f) o.value)
+
+-- The first object of the family with this key, and its place, or none.
+abbrev pub placed_with_key : Preference → Data → Family → Key → Option Placed
+placed_with_key π t f k = find (λ o. is_eq (option_cmp key_cmp (key_of π o.value) (Some k))) (objects f t)
 
 -- What the object of the family with this key means, or none. Selections are in the records of their contests.
 abbrev pub records_of : Preference → Data → Family → Key → Option ObjectRecord
 records_of π t family.Selection k = None
-records_of π t f k = option_and_then (object_record π t (role.OfFamily f)) (object_with_key π t f k)
+records_of π t f k = option_and_then (placed_record π t f) (placed_with_key π t f k)
+
+-- The first election with this key, or without a key, and its place, or none.
+abbrev pub election_with_key : Preference → Data → Option Key → Option Placed
+election_with_key π t k = find (λ e. is_eq (option_cmp key_cmp (key_of π e.value) k)) (elections t)
+
+-- What the election with this key, or without a key, means, or none.
+abbrev pub election_records : Preference → Data → Option Key → Option ObjectRecord
+election_records π t k = option_and_then (λ e. object_record π t role.Election e.value) (election_with_key π t k)
 
 -- What a report means under a preference.
 abbrev pub meaning : Preference → Data → Meaning
 meaning π t = record {
   report = object_record π t role.Report t;
-  election = option_and_then (λ o. object_record π t role.Election o.value) (slice_get (elections t) 0);
+  elections = election_records π t;
   objects = records_of π t;
 }

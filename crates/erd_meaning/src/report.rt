@@ -1,4 +1,4 @@
-ghost use Rattle.std.specs.Prelude.{◌≡◌, false, [], ◌∷◌, length, map, option_map, slice_get, IfOk};
+ghost use Rattle.std.specs.Prelude.{◌≡◌, false, Some, length, option_map, slice_get, IfOk};
 ghost use Rattle.std.specs.Option.{option_copied};
 ghost use Rattle.serde_json.specs.View.{view};
 ghost use Rattle.serde_json.specs.Written.{has_float};
@@ -138,9 +138,9 @@ impl<'a> Report<'a> {
         }
     }
 
-    /// Returns the only election of the report.
+    /// Returns the election at position 0. A report has at least one (reason 9).
     pub fn election(&self) -> &'a Value
-        ensures { map (λ o. o.value) (elections (view self.now.tree)) ≡ view result.now ∷ [] }
+        ensures { option_map (λ o. o.value) (slice_get (elections (view self.now.tree)) 0) ≡ Some (view result.now) }
     {
         &entries_at(self.tree, "Election")[0]
     }

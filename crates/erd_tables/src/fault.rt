@@ -30,7 +30,7 @@ pub enum Reason {
     CarriedIdentity,
     /// `Status` is a text other than `pre-election`.
     NotPreElection,
-    /// `Election` does not have exactly one entry.
+    /// `Election` is an empty array. A report needs at least one election.
     ElectionCount,
     /// The array is empty, and must have an entry.
     EmptyArray,
@@ -38,7 +38,7 @@ pub enum Reason {
     Repeated,
     /// The object needs a key and has no external identifier.
     NoIdentifier,
-    /// The object has the same key as an earlier object of its family.
+    /// The object has the same key as an earlier object of its family, or as an earlier election if it is one.
     TwinIdentifier,
     /// The object has the same `@id` as an earlier object of any family.
     DuplicateId,

@@ -1,13 +1,16 @@
--- In which election an object stands, and where in it.
-use Rattle.std.proofs.Common.{◌≡◌, ◌+◌, ℕ, zero, suc, List, [], ◌∷◌, ◌++◌, Some, flat_map, slice_get, codes, sym, ap, ◌∙◌, subst, ◌⊎◌, inl, inr, ⊎_elim, arith}
+-- In which election an object stands, where in it, and the key of that election.
+use Rattle.std.proofs.Common.{◌≡◌, ◌+◌, ℕ, zero, suc, List, [], ◌∷◌, ◌++◌, Some, None, option_and_then, false, refl, flat_map, slice_get, codes, sym, ap, ◌∙◌, subst, ◌⊎◌, inl, inr, ⊎_elim, arith}
+use Rattle.std.specs.Str.{bytes_eq}
 use Rattle.serde_json.specs.Data.{Data}
 use Rattle.erd_tables.specs.declared.place.Step.{Step}
 use Rattle.erd_tables.specs.declared.place.Step.TheVariants.{At, Name}
 use Rattle.erd_check.proofs.Rising.{Has, Has-cases, here, later}
 use Rattle.erd_check.specs.Values.{entries_at}
-use Rattle.erd_meaning.specs.Objects.{Placed, elections, placed_entries, placed_from}
+use Rattle.erd_meaning.specs.Keys.{Preference, key_of}
+use Rattle.erd_meaning.specs.Lookups.{election_key_in, election_key_of}
+use Rattle.erd_meaning.specs.Objects.{Placed, election_of_place, elections, placed_entries, placed_from, report_of}
 
-has-append : {A : Type 0} (xs ys : List A) (x : A) → Has (xs ++ ys) x → Has xs x ⊎ Has ys x
+pub has-append : {A : Type 0} (xs ys : List A) (x : A) → Has (xs ++ ys) x → Has xs x ⊎ Has ys x
 has-append [] ys x h = inr h
 has-append (z ∷ xs) ys x h = ⊎_elim (λ e. inl (subst (Has (z ∷ xs)) e here)) (λ k. ⊎_elim (λ l. inl (later l)) inr (has-append xs ys x k)) (Has-cases z x (xs ++ ys) h)
 
@@ -40,17 +43,39 @@ entry_placed p i (d ∷ ds) o h = at (Has-cases (record { place = p ++ At i ∷ 
 entry_at : (p : List Step) (ds : List Data) (o : Placed) → Has (placed_from p 0 ds) o → (j : ℕ) × (slice_get (placed_from p 0 ds) j ≡ Some o) × (o.place ≡ p ++ At j ∷ [])
 entry_at p ds o h = let r = entry_placed p 0 ds o h in let s : 0 + r.0 ≡ r.0 = omega arith in (r.0, r.1, r.2 ∙ ap (λ n. p ++ At n ∷ []) s)
 
+-- what stands in an array of an election is held by it
+held_in : (t : Data) (name : List ℕ) (e o : Placed) → Has (elections t) e → Has (placed_entries name e) o → (held : HeldObject t name o) × (held.election ≡ e)
+held_in t name e o h k =
+    let i = entry_at (Name (codes "Election") ∷ []) (entries_at (codes "Election") t) e h in
+    let j = entry_at (e.place ++ Name name ∷ []) (entries_at name e.value) o k in (
+      record {
+        election = e;
+        stands = h;
+        holds = k;
+        index = i.0;
+        found = i.1;
+        entry = j.0;
+        place = j.2 ∙ ap (λ p. (p ++ Name name ∷ []) ++ At j.0 ∷ []) i.2;
+      },
+      refl,
+    )
+
 pub held_object : (t : Data) (name : List ℕ) (o : Placed) → Has (flat_map (placed_entries name) (elections t)) o → HeldObject t name o
-held_object t name o h =
-    let e = has-flat (placed_entries name) (elections t) o h in
-    let i = entry_at (Name (codes "Election") ∷ []) (entries_at (codes "Election") t) e.0 e.1 in
-    let j = entry_at (e.0.place ++ Name name ∷ []) (entries_at name e.0.value) o e.2 in
-    record {
-      election = e.0;
-      stands = e.1;
-      holds = e.2;
-      index = i.0;
-      found = i.1;
-      entry = j.0;
-      place = j.2 ∙ ap (λ p. (p ++ Name name ∷ []) ++ At j.0 ∷ []) i.2;
-    }
+held_object t name o h = let e = has-flat (placed_entries name) (elections t) o h in (held_in t name e.0 o e.1 e.2).0
+
+-- ---- the keys of elections
+
+-- the key of its election
+pub held_key : (π : Preference) (t : Data) (name : List ℕ) (o : Placed) (h : HeldObject t name o) → election_key_of π t o ≡ key_of π h.election.value
+held_key π t name o h =
+    ap (λ p. option_and_then (election_key_in π t) (election_of_place p)) h.place ∙ ap (option_and_then (λ e. key_of π e.value)) h.found
+
+-- the same, where the election is known
+pub held_key_in : (π : Preference) (t : Data) (name : List ℕ) (e o : Placed) → Has (elections t) e → Has (placed_entries name e) o → election_key_of π t o ≡ key_of π e.value
+held_key_in π t name e o h k = let x = held_in t name e o h k in held_key π t name o x.0 ∙ ap (λ (d : Placed). key_of π d.value) x.1
+
+-- no election holds what stands in an array of the report itself
+pub held_by_none : (π : Preference) (t : Data) (name : List ℕ) (o : Placed) → bytes_eq name (codes "Election") ≡ false → Has (placed_entries name (report_of t)) o → election_key_of π t o ≡ None
+held_by_none π t name o other h =
+    let j = entry_at (Name name ∷ []) (entries_at name t) o h in
+    ap (λ p. option_and_then (election_key_in π t) (election_of_place p)) j.2 ∙ rw other refl

@@ -1,5 +1,5 @@
 -- The report and its elections, and where the objects of families stand.
-use Rattle.std.proofs.Common.{◌≡◌, sym, ◌+◌, ℕ, suc, List, [], ◌∷◌, ◌++◌, Option, Some, None, map, flat_map, true, codes, refl, ap, ap₂, ◌∙◌, subst, ◌⊎◌, inl, inr, arith, false}
+use Rattle.std.proofs.Common.{◌≡◌, sym, ◌+◌, ℕ, suc, List, [], ◌∷◌, ◌++◌, Option, Some, None, map, flat_map, true, codes, refl, ap, ap₂, ◌∙◌, subst, ◌⊎◌, inl, inr, arith}
 use Rattle.std.proofs.lemmas.List.{map-append}
 use Rattle.serde_json.specs.Data.{Data, array, object, Items, no_items, item, Members}
 use Rattle.serde_json.specs.Find.{get_member, get_item}
@@ -10,9 +10,9 @@ use Rattle.erd_tables.specs.declared.class.Role.TheVariants as role
 use Rattle.erd_tables.specs.declared.member.MemberKind.TheVariants as kind
 use Rattle.erd_tables.specs.declared.fault.Reason.TheVariants as reason
 use Rattle.erd_check.specs.declared.want.Want.TheVariants.{Member, Object}
-use Rattle.erd_check.proofs.ObjectsAt.{ObjectAt, election_class, object_at, one_entry, report_class}
+use Rattle.erd_check.proofs.ObjectsAt.{ObjectAt, election_class, not_empty, object_at, report_class}
 use Rattle.erd_check.proofs.Shapes.{Within, Within-root, Within-step, asked_at-step, asked_inside_object, faultless, wanted_within, lacks_none, member_within, of_role}
-use Rattle.erd_check.specs.Faults.{has_not_one_entry, NoneOf, ShapeFault}
+use Rattle.erd_check.specs.Faults.{NoneOf, ShapeFault}
 use Rattle.erd_check.specs.Wants.{asked, asked_at, asked_inside}
 use Rattle.erd_check.proofs.Entries.{array_from, entries_in, list_of_items-place}
 use Rattle.erd_check.proofs.Rising.{Has, Has-cases}
@@ -31,9 +31,6 @@ pub record Skeleton (t : Data) : Type 0 where
   pub listed : get_member (codes "Election") ms ≡ Some (array es)
   pub inside : Within t (asked (Member kind.Elections true) (array es))
   pub filled : ¬ (es ≡ no_items)
-
-not_empty : (ds : Items) → has_not_one_entry (array ds) ≡ false → ¬ (ds ≡ no_items)
-not_empty ds h e = let x : item (one_entry ds h).0 no_items ≡ no_items = sym (one_entry ds h).1 ∙ e in cc
 
 pub skeleton_of_shape : (t : Data) → NoneOf (ShapeFault t) → Skeleton t
 skeleton_of_shape t none = at (get_member (codes "Election") ms) refl

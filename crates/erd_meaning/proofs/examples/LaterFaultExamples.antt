@@ -14,7 +14,7 @@ use Rattle.erd_check.specs.Wants.{asked}
 use Rattle.erd_check.specs.declared.want.Want.TheVariants.{Object, Reference}
 use Rattle.erd_meaning.specs.LaterFaults.{IdentityFault, ReferenceFault, SelectionFault}
 use Rattle.erd_meaning.specs.Meaning.{a_json}
-use Rattle.erd_meaning.specs.Objects.{Placed, objects, report_of}
+use Rattle.erd_meaning.specs.Objects.{Placed, elections, objects, report_of}
 use Rattle.erd_meaning.specs.Records.{selection_record}
 use Rattle.erd_meaning.specs.SelectionNames.{name_of, name_in_class}
 
@@ -77,6 +77,55 @@ twin_units = (
     id = codes "u7";
     later_id = refl;
     earlier_id = refl;
+  },
+)
+
+-- the first of these elections has no identifier, the third has the key of the second, and a candidate in the third that of one in
+-- the second
+abbrev several : Data
+several = tree_of (codes "{\"Election\":[{},{\"Candidate\":[{\"ExternalIdentifier\":[{\"Value\":\"K\"}]}],\"ExternalIdentifier\":[{\"Value\":\"E\"}]},{\"Candidate\":[{\"ExternalIdentifier\":[{\"Value\":\"K\"}]}],\"ExternalIdentifier\":[{\"Value\":\"E\"}]}]}")
+
+-- the election at this position
+abbrev election_at : ℕ → Placed
+election_at i = unwrap_or (slice_get (elections several) i) (report_of several)
+
+several_elections : IdentityFault None several (Name (codes "Election") ∷ At 0 ∷ []) NoIdentifier × IdentityFault None several (Name (codes "Election") ∷ At 2 ∷ []) TwinIdentifier
+    × IdentityFault None several (Name (codes "Election") ∷ At 2 ∷ Name (codes "Candidate") ∷ At 0 ∷ []) TwinIdentifier
+unfolding serde_json_on_literals
+several_elections = (
+  record {
+    role = role.Election;
+    needed = refl;
+    placed = election_at 0;
+    stands = (0, lit< tt, refl);
+    place = refl;
+    keyless = refl;
+  },
+  record {
+    role = role.Election;
+    keyed = refl;
+    later = election_at 2;
+    later_stands = (2, lit< tt, refl);
+    place = refl;
+    earlier = election_at 1;
+    earlier_stands = (1, lit< tt, refl);
+    before = refl;
+    key = record { kind = []; other = []; value = codes "E" };
+    later_key = refl;
+    earlier_key = refl;
+  },
+  record {
+    role = role.OfFamily family.Candidate;
+    keyed = refl;
+    later = object_at several family.Candidate 1;
+    later_stands = (1, lit< tt, refl);
+    place = refl;
+    earlier = object_at several family.Candidate 0;
+    earlier_stands = (0, lit< tt, refl);
+    before = refl;
+    key = record { kind = []; other = []; value = codes "K" };
+    later_key = refl;
+    earlier_key = refl;
   },
 )
 

@@ -19,10 +19,10 @@ use Rattle.erd_check.specs.Values.{entries_of}
 use Rattle.erd_check.specs.Wants.{asked_at}
 use Rattle.erd_meaning.specs.Keys.{key_cmp}
 use Rattle.erd_meaning.specs.Meaning.{Label, Content, no_content, first_node, Node, a_contest, a_header, a_json, a_label, untranslated, a_key, a_key_set, MemberValue, a_plain}
-use Rattle.erd_meaning.specs.Records.{selection_record, object_with_key, member_of_class, plain_member, label_of, content_of, json_set, plain_value, records_of, label_beside_text, carried_members, meaning}
+use Rattle.erd_meaning.specs.Records.{selection_record, member_of_class, plain_member, label_of, content_of, json_set, plain_value, records_of, label_beside_text, carried_members, meaning}
 use Rattle.erd_meaning.specs.SelectionNames.{name_named}
 use Rattle.erd_meaning.specs.declared.keys.key.Key.{Key}
-use Rattle.erd_meaning.proofs.meanings.WholeMeanings.{record_of_members}
+use Rattle.erd_meaning.proofs.meanings.WholeMeanings.{record_of_members, value_with_key}
 use Rattle.erd_meaning.proofs.meanings.WholeRecords.{names_in, absent_plain, absent_member, same_at_every_name}
 
 abbrev pub local_key : List ℕ → Key
@@ -137,7 +137,7 @@ same_translations = (refl, refl, refl)
 -- ---- whole records
 
 abbrev object_of : Data → Family → List ℕ → Data
-object_of t f key = unwrap_or (object_with_key None t f (local_key key)) null
+object_of t f key = value_with_key None t f (local_key key)
 
 -- the candidate means the same in both, at every name
 same_candidate : (let t = tree_of small_ballot in let u = tree_of small_ballot_canonical in

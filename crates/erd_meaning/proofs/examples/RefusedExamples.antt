@@ -1,23 +1,27 @@
--- Whole reports that are refused, each with the list of all its faults: one for each phase, by computation.
+-- Whole reports that are refused, each with the list of all its faults: one or more for each phase, by computation.
 use Rattle.std.proofs.Common.{◌≡◌, ℕ, List, [], ◌∷◌, ◌++◌, codes, true, length, refl, None}
 use Rattle.serde_json.specs.Data.{Data}
 use Rattle.serde_json.proofs.OnLiterals.{serde_json_on_literals}
 use Rattle.erd_tables.specs.Faults.{ListsAll}
 use Rattle.erd_tables.specs.declared.fault.Fault.{Fault}
-use Rattle.erd_tables.specs.declared.fault.Reason.TheVariants.{TwinIdentifier, Unresolved, WrongFamily, SelectionOfOtherContest, TwinSelection}
+use Rattle.erd_tables.specs.declared.fault.Reason.{Reason}
+use Rattle.erd_tables.specs.declared.fault.Reason.TheVariants.{NoIdentifier, TwinIdentifier, Unresolved, WrongFamily, SelectionOfOtherContest, TwinSelection}
 use Rattle.erd_tables.specs.declared.place.Step.{Step}
 use Rattle.erd_tables.specs.declared.place.Step.TheVariants.{Name, At}
 use Rattle.erd_check.specs.code.Paths.{fault_at}
 use Rattle.erd_check.proofs.Deciding.{is_tree, faults_found, no_fault_listed, tree_sound}
-use Rattle.erd_check.proofs.Reports.{tree_of, small_ballot_with, header_node, contest_node, with_election_member}
-use Rattle.erd_check.proofs.WholeExamples.{faulty, faulty_faults, faulty_has_all}
+use Rattle.erd_check.proofs.Reports.{tree_of, small_ballot_with, header_node, contest_node, with_election_member, election, report_of_two, two_elections_with}
+use Rattle.erd_check.proofs.WholeExamples.{faulty, faulty_faults, faulty_has_all, no_election, no_election_faults, no_election_has_all}
 use Rattle.erd_meaning.specs.Accepted.{IsFault}
 use Rattle.erd_meaning.proofs.identity.IdentityFaults.{identity_told}
 use Rattle.erd_meaning.proofs.references.SelectionEntries.{reference_faults}
 use Rattle.erd_meaning.proofs.selections.SelectionFaults.{selections_told}
 use Rattle.erd_meaning.proofs.refused.RefusedLists.{refused_by_shape, refused_by_identity, refused_by_references, refused_by_selections}
 
--- ---- the shape: a report with many faults
+-- ---- the shape: a report with no election, and one with many faults
+
+no_election_refused : ListsAll (IsFault None (tree_of no_election)) no_election_faults
+no_election_refused = refused_by_shape None (tree_of no_election) no_election_has_all
 
 faulty_refused : ListsAll (IsFault None (tree_of faulty)) faulty_faults
 faulty_refused = refused_by_shape None (tree_of faulty) faulty_has_all
@@ -46,6 +50,51 @@ twin_candidates_found = refl
 twin_candidates_refused : ListsAll (IsFault None twin_candidates) (twin_candidate ∷ [])
 twin_candidates_refused =
     refused_by_identity None twin_candidates twin_candidate [] (no_fault_listed twin_candidates twin_candidates_tree twin_candidates_shape) twin_candidates_found
+
+-- ---- identity: two elections without identifiers, and two with one key
+
+-- the election at this position, with this fault
+abbrev election_fault : ℕ → Reason → Fault
+election_fault i r = fault_at (Name (codes "Election") ∷ At i ∷ []) r
+
+abbrev keyless_elections : Data
+keyless_elections = tree_of (report_of_two election election)
+
+keyless_elections_tree : is_tree keyless_elections ≡ true
+unfolding serde_json_on_literals
+keyless_elections_tree = refl
+
+keyless_elections_shape : length (faults_found keyless_elections) ≡ 0
+unfolding serde_json_on_literals
+keyless_elections_shape = refl
+
+keyless_elections_found : identity_told None keyless_elections ≡ election_fault 0 NoIdentifier ∷ election_fault 1 NoIdentifier ∷ []
+unfolding serde_json_on_literals
+keyless_elections_found = refl
+
+keyless_elections_refused : ListsAll (IsFault None keyless_elections) (election_fault 0 NoIdentifier ∷ election_fault 1 NoIdentifier ∷ [])
+keyless_elections_refused =
+    refused_by_identity None keyless_elections (election_fault 0 NoIdentifier) (election_fault 1 NoIdentifier ∷ [])
+    (no_fault_listed keyless_elections keyless_elections_tree keyless_elections_shape) keyless_elections_found
+
+abbrev twin_elections : Data
+twin_elections = tree_of (two_elections_with (codes "E1") (codes "E1"))
+
+twin_elections_tree : is_tree twin_elections ≡ true
+unfolding serde_json_on_literals
+twin_elections_tree = refl
+
+twin_elections_shape : length (faults_found twin_elections) ≡ 0
+unfolding serde_json_on_literals
+twin_elections_shape = refl
+
+twin_elections_found : identity_told None twin_elections ≡ election_fault 1 TwinIdentifier ∷ []
+unfolding serde_json_on_literals
+twin_elections_found = refl
+
+twin_elections_refused : ListsAll (IsFault None twin_elections) (election_fault 1 TwinIdentifier ∷ [])
+twin_elections_refused =
+    refused_by_identity None twin_elections (election_fault 1 TwinIdentifier) [] (no_fault_listed twin_elections twin_elections_tree twin_elections_shape) twin_elections_found
 
 -- ---- references: a contest on the ballot with a selection of another contest, one of its own, a header and nothing
 

@@ -1,17 +1,19 @@
 -- The elections of a report by position: their values, their keys, and which one holds an object.
-use Rattle.std.proofs.Common.{◌≡◌, ◌+◌, ℕ, zero, suc, List, [], ◌∷◌, ◌++◌, length, map, false, codes, replicate, Option, Some, None, option_and_then, option_map, refl, sym, ap, ap₂, ◌∙◌}
+use Rattle.std.proofs.Common.{◌≡◌, ◌<◌, ◌+◌, arith, ℕ, zero, suc, List, [], ◌∷◌, ◌++◌, length, map, false, codes, replicate, Option, Some, None, option_and_then, option_map, refl, sym, ap, ap₂, ◌∙◌}
 use Rattle.std.specs.List.{flat_map, slice_get}
 use Rattle.std.specs.Str.{bytes_eq}
 use Rattle.std.proofs.lemmas.List.{length-map, map-append}
 use Rattle.std.proofs.lemmas.Option.{slice_get-map}
-use Rattle.serde_json.specs.Data.{Data}
+use Rattle.serde_json.specs.Data.{Data, no_items}
 use Rattle.serde_json.specs.View.{view}
 use Rattle.serde_json.specs.declared.value.Value.{Value}
 use Rattle.erd_tables.specs.declared.class.Family.{Family}
 use Rattle.erd_tables.specs.declared.class.Family.TheVariants as family
 use Rattle.erd_tables.specs.declared.place.Step.{Step}
 use Rattle.erd_tables.specs.declared.place.Step.TheVariants.{At, Name}
+use Rattle.erd_check.specs.Faults.{NoneOf, ShapeFault}
 use Rattle.erd_check.specs.Values.{entries_at}
+use Rattle.erd_check.proofs.Entries.{list_of_items_exact}
 use Rattle.erd_meaning.specs.Keys.{Preference, key_of}
 use Rattle.erd_meaning.specs.Lookups.{election_in, election_key_in}
 use Rattle.erd_meaning.specs.Objects.{Placed, election_of_place, elections, placed_entries, placed_from}
@@ -20,31 +22,30 @@ use Rattle.erd_meaning.specs.code.Holding.{AreHeld, held}
 use Rattle.erd_meaning.specs.code.ObjectWalk.{election_keys}
 use Rattle.erd_meaning.specs.declared.keys.key.Key.{Key}
 use Rattle.erd_meaning.specs.declared.objects.holders.Holders.{Holders}
+use Rattle.erd_meaning.proofs.accepted.Skeleton.{election_entries, skeleton_of_shape, values-placed_from}
+use Rattle.erd_meaning.proofs.meanings.HeldValues.{mapped_then}
 
 -- ---- by position
-
-values_placed : (p : List Step) (i : ℕ) (ds : List Data) → map (λ o. o.value) (placed_from p i ds) ≡ ds
-values_placed p i [] = refl
-values_placed p i (d ∷ ds) = ap (λ es. d ∷ es) (values_placed p (i + 1) ds)
 
 -- there are as many objects as values in the array
 pub as_many : (p : List Step) (vs : List Value) {ds : List Data} → map view vs ≡ ds → length vs ≡ length (placed_from p 0 ds)
 as_many p vs {ds} e =
-    sym (length-map vs view) ∙ ap length (e ∙ sym (values_placed p 0 ds)) ∙ length-map (placed_from p 0 ds) (λ (o : Placed). o.value)
+    sym (length-map vs view) ∙ ap length (e ∙ sym (values-placed_from p 0 ds)) ∙ length-map (placed_from p 0 ds) (λ (o : Placed). o.value)
 
 pub election_value : (t : Data) (vs : List Value) (i : ℕ) → map view vs ≡ entries_at (codes "Election") t
     → option_map view (slice_get vs i) ≡ option_map (λ o. o.value) (slice_get (elections t) i)
 election_value t vs i e =
-    sym (slice_get-map view vs i) ∙ ap (λ (ds : List Data). slice_get ds i) (e ∙ sym (values_placed (Name (codes "Election") ∷ []) 0 (entries_at (codes "Election") t)))
+    sym (slice_get-map view vs i) ∙ ap (λ (ds : List Data). slice_get ds i) (e ∙ sym (values-placed_from (Name (codes "Election") ∷ []) 0 (entries_at (codes "Election") t)))
     ∙ slice_get-map (λ (o : Placed). o.value) (elections t) i
 
-mapped_then : {A B : Type 0} (f : A → Option B) (o : Option A) → option_and_then (λ k. k) (option_map f o) ≡ option_and_then f o
-mapped_then f None = refl
-mapped_then f (Some a) = refl
+-- a report without a fault of the shape has an election
+pub some_election : (t : Data) → NoneOf (ShapeFault t) → (vs : List Value) → map view vs ≡ entries_at (codes "Election") t → 0 < length vs
+some_election t none [] e = let s = skeleton_of_shape t none in absurd (s.filled (list_of_items_exact s.es no_items (sym (election_entries t s) ∙ sym e)))
+some_election t none (v ∷ vs) e = omega arith
 
 pub election_key_is : (π : Preference) (t : Data) (i : ℕ) → option_and_then (λ k. k) (slice_get (election_keys π t) i) ≡ election_key_in π t i
 election_key_is π t i =
-    ap (λ (o : Option (Option Key)). option_and_then (λ k. k) o) (slice_get-map (λ (e : Placed). key_of π e.value) (elections t) i) ∙ mapped_then (λ (e : Placed). key_of π e.value) (slice_get (elections t) i)
+    ap (λ (o : Option (Option Key)). option_and_then (λ k. k) o) (slice_get-map (λ (e : Placed). key_of π e.value) (elections t) i) ∙ mapped_then (λ k. k) (λ (e : Placed). key_of π e.value) (slice_get (elections t) i)
 
 -- ---- which election holds an object
 

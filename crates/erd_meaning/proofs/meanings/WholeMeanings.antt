@@ -1,5 +1,5 @@
--- When two reports mean the same: the report, the election and the object of each key mean the same.
-use Rattle.std.proofs.Common.{◌≡◌, ℕ, List, [], ◌∷◌, ◌++◌, Bool, true, false, true≢false, not, ◌&&◌, ◌||◌, Contains, Option, Some, None, find, filter, map, Ordering, refl, sym, ap, ◌∙◌, subst, zero, suc, arith}
+-- When two reports mean the same: the report, and the election and the object of each key, mean the same.
+use Rattle.std.proofs.Common.{◌≡◌, ℕ, List, [], ◌∷◌, ◌++◌, Bool, true, false, true≢false, not, ◌&&◌, ◌||◌, Contains, Option, Some, None, find, filter, map, Ordering, refl, sym, ap, ap₂, ◌∙◌, subst, zero, suc, arith}
 use Rattle.std.proofs.Math.Path.{fun_ext}
 use Rattle.std.proofs.lemmas.Bool.{and_parts, or_from, or_parts}
 use Rattle.std.proofs.lemmas.List.Folds.{list_any-append}
@@ -7,7 +7,7 @@ use Rattle.std.proofs.lemmas.Slice.Eq.{bytes_eq-Decides}
 use Rattle.std.specs.List.{list_any}
 use Rattle.std.specs.Option.{option_cmp}
 use Rattle.std.specs.Ordering.{is_eq}
-use Rattle.std.specs.Prelude.{option_and_then, option_map, unwrap_or, is_some, cond, ⊤}
+use Rattle.std.specs.Prelude.{option_and_then, option_map, unwrap_or, is_some, ⊤}
 use Rattle.std.specs.Str.{bytes_eq}
 use Rattle.serde_json.specs.Data.{Data, null}
 use Rattle.serde_json.specs.Find.{get}
@@ -23,12 +23,13 @@ use Rattle.erd_check.specs.Wants.{class_of_object}
 use Rattle.erd_meaning.specs.Keys.{Preference, has_keys, key_cmp, key_of}
 use Rattle.erd_meaning.specs.Meaning.{Record}
 use Rattle.erd_meaning.specs.NameParts.{NameParts}
-use Rattle.erd_meaning.specs.Objects.{Placed, objects}
-use Rattle.erd_meaning.specs.Records.{object_with_key, if_carried, carried_members, label_beside_text, plain_member, member_of_class, record_with, object_record, selection_record, selection_map, records_of, meaning}
+use Rattle.erd_meaning.specs.Lookups.{election_key_of}
+use Rattle.erd_meaning.specs.Objects.{Placed, elections, objects, report_of}
+use Rattle.erd_meaning.specs.Records.{election_records, placed_record, placed_with_key, record_in_election, if_carried, carried_members, label_beside_text, plain_member, member_of_class, record_with, object_record, selection_record, selection_map, records_of, meaning}
 use Rattle.erd_meaning.specs.SelectionNames.{selection_role, name_cmp, name_of}
 use Rattle.erd_meaning.specs.declared.keys.key.Key.{Key}
 use Rattle.erd_meaning.proofs.orders.EqualNames.{options_exact, equal_keys, equal_names}
-use Rattle.erd_meaning.proofs.meanings.WholeRecords.{names_in, absent_member, absent_plain, same_at_every_name, same_at_other_names}
+use Rattle.erd_meaning.proofs.meanings.WholeRecords.{names_in, nothing_either_way, absent_member, absent_plain, same_at_every_name, same_at_other_names}
 
 -- ---- members
 
@@ -115,10 +116,6 @@ nothing_carried k = refl
 -- carried members, and what stands beside translations, are maps of members
 pub absent_carried : (c : Class) (d : Data) → IsOfMembers d (carried_members (Some c) d)
 absent_carried c d name e = ap (if_carried (kind_of_member c name)) e ∙ nothing_carried (kind_of_member c name)
-
-nothing_either_way : {V : Type 0} (b : Bool) (o : Option V) → o ≡ None → cond b None o ≡ None
-nothing_either_way true o e = refl
-nothing_either_way false o e = e
 
 pub absent_beside : (d : Data) → IsOfMembers d (label_beside_text d)
 absent_beside d name e = nothing_either_way _ (get name d) e
@@ -207,41 +204,51 @@ none_found test (x ∷ xs) h = let both = or_parts (test x) (list_any test xs) h
 -- a family means nothing at a key that none of its objects has
 pub no_record : (π : Preference) (t : Data) (f : Family) (k : Key) → list_any (has_key π k) (objects f t) ≡ false → records_of π t f k ≡ None
 no_record π t family.Selection k h = refl
-no_record π t f k h = ap (λ o. option_and_then (object_record π t (role.OfFamily f)) (option_map (λ p. p.value) o)) (none_found (has_key π k) (objects f t) h)
+no_record π t f k h = ap (option_and_then (placed_record π t f)) (none_found (has_key π k) (objects f t) h)
+
+-- the object of the family with this key, and its place, or nothing at the root
+abbrev pub object_with_key : Preference → Data → Family → Key → Placed
+object_with_key π t f k = unwrap_or (placed_with_key π t f k) (report_of null)
 
 abbrev pub value_with_key : Preference → Data → Family → Key → Data
-value_with_key π t f k = unwrap_or (object_with_key π t f k) null
+value_with_key π t f k = (object_with_key π t f k).value
 
-one_found : (o : Option Data) → is_some o ≡ true → o ≡ Some (unwrap_or o null)
-one_found None h = absurd (cc h)
-one_found (Some d) h = refl
+one_found : {A : Type 0} (o : Option A) (other : A) → is_some o ≡ true → o ≡ Some (unwrap_or o other)
+one_found None other h = absurd (cc h)
+one_found (Some d) other h = refl
 
-record_with_key : (π : Preference) (t : Data) (f : Family) (k : Key) → has_keys f ≡ true → is_some (object_with_key π t f k) ≡ true → records_of π t f k ≡ object_record π t (role.OfFamily f) (value_with_key π t f k)
+record_with_key : (π : Preference) (t : Data) (f : Family) (k : Key) → has_keys f ≡ true → is_some (placed_with_key π t f k) ≡ true → records_of π t f k ≡ placed_record π t f (object_with_key π t f k)
 record_with_key π t family.Selection k keyed h = absurd (cc keyed)
-record_with_key π t f k keyed h = ap (option_and_then (object_record π t (role.OfFamily f))) (one_found (object_with_key π t f k) h)
+record_with_key π t f k keyed h = ap (option_and_then (placed_record π t f)) (one_found (placed_with_key π t f k) (report_of null) h)
 
--- the objects of one key mean the same in both reports
-pub same_with_key : (π : Preference) (t u : Data) (f : Family) (k : Key) → has_keys f ≡ true → is_some (object_with_key π t f k) ≡ true → is_some (object_with_key π u f k) ≡ true
+-- the key of the election that holds the object with this key
+abbrev pub election_with : Preference → Data → Family → Key → Option Key
+election_with π t f k = election_key_of π t (object_with_key π t f k)
+
+-- the objects of one key mean the same in both reports, and are held by elections with one key
+pub same_with_key : (π : Preference) (t u : Data) (f : Family) (k : Key) → has_keys f ≡ true → is_some (placed_with_key π t f k) ≡ true → is_some (placed_with_key π u f k) ≡ true
+    → election_with π t f k ≡ election_with π u f k
     → object_record π t (role.OfFamily f) (value_with_key π t f k) ≡ object_record π u (role.OfFamily f) (value_with_key π u f k) → records_of π t f k ≡ records_of π u f k
-same_with_key π t u f k keyed left right same = record_with_key π t f k keyed left ∙ (same ∙ sym (record_with_key π u f k keyed right))
+same_with_key π t u f k keyed left right held same =
+    record_with_key π t f k keyed left ∙ (ap₂ (λ e r. option_map (record_in_election e) r) held same ∙ sym (record_with_key π u f k keyed right))
 
 -- both reports have an object of this key and class, with the same members
 abbrev pub ObjectsAgree : Preference → Data → Data → Family → Key → Class → Type 0
 ObjectsAgree π t u f k c =
     let d = value_with_key π t f k in let e = value_with_key π u f k in
-    (is_some (object_with_key π t f k) ≡ true) × (is_some (object_with_key π u f k) ≡ true)
+    (is_some (placed_with_key π t f k) ≡ true) × (is_some (placed_with_key π u f k) ≡ true) × (election_with π t f k ≡ election_with π u f k)
     × (class_of_object (role.OfFamily f) d ≡ Some c) × (class_of_object (role.OfFamily f) e ≡ Some c)
     × (map (member_of_class π t d c) (names_of_both d e) ≡ map (member_of_class π u e c) (names_of_both d e))
 
 pub same_at_key : (π : Preference) (t u : Data) (f : Family) (k : Key) (c : Class) → has_keys f ≡ true → ObjectsAgree π t u f k c → records_of π t f k ≡ records_of π u f k
 same_at_key π t u f k c keyed agree =
-    same_with_key π t u f k keyed agree.0 agree.1 (same_object π t u (value_with_key π t f k) (value_with_key π u f k) (role.OfFamily f) c agree.2 agree.3 agree.4)
+    same_with_key π t u f k keyed agree.0 agree.1 agree.2 (same_object π t u (value_with_key π t f k) (value_with_key π u f k) (role.OfFamily f) c agree.3 agree.4 agree.5)
 
 -- the same members but for one
 abbrev pub ObjectsAgreeButOne : Preference → Data → Data → Family → Key → Class → List ℕ → Type 0
 ObjectsAgreeButOne π t u f k c one =
     let d = value_with_key π t f k in let e = value_with_key π u f k in
-    (is_some (object_with_key π t f k) ≡ true) × (is_some (object_with_key π u f k) ≡ true)
+    (is_some (placed_with_key π t f k) ≡ true) × (is_some (placed_with_key π u f k) ≡ true) × (election_with π t f k ≡ election_with π u f k)
     × (class_of_object (role.OfFamily f) d ≡ Some c) × (class_of_object (role.OfFamily f) e ≡ Some c)
     × (map (member_of_class π t d c) (but_one one (names_of_both d e)) ≡ map (member_of_class π u e c) (but_one one (names_of_both d e)))
 
@@ -250,7 +257,7 @@ SameMember π t u f k c one = member_of_class π t (value_with_key π t f k) c o
 
 pub same_at_key_with : (π : Preference) (t u : Data) (f : Family) (k : Key) (c : Class) (one : List ℕ) → has_keys f ≡ true → ObjectsAgreeButOne π t u f k c one → SameMember π t u f k c one → records_of π t f k ≡ records_of π u f k
 same_at_key_with π t u f k c one keyed agree at_one =
-    same_with_key π t u f k keyed agree.0 agree.1 (same_object_with π t u (value_with_key π t f k) (value_with_key π u f k) (role.OfFamily f) c one agree.2 agree.3 agree.4 at_one)
+    same_with_key π t u f k keyed agree.0 agree.1 agree.2 (same_object_with π t u (value_with_key π t f k) (value_with_key π u f k) (role.OfFamily f) c one agree.3 agree.4 agree.5 at_one)
 
 -- the keys of the objects of a family, in their order
 abbrev pub HaveKeys : Preference → Data → Family → List Key → Type 0
@@ -281,7 +288,7 @@ selection_with_name π t ds n = unwrap_or (find (has_name π t n) ds) null
 pub same_with_name : (π : Preference) (t u : Data) (ds es : List Data) (n : NameParts) → is_some (find (has_name π t n) ds) ≡ true → is_some (find (has_name π u n) es) ≡ true
     → selection_record π t (selection_with_name π t ds n) ≡ selection_record π u (selection_with_name π u es n) → selection_map π t ds n ≡ selection_map π u es n
 same_with_name π t u ds es n left right same =
-    ap (option_and_then (selection_record π t)) (one_found (find (has_name π t n) ds) left) ∙ (same ∙ sym (ap (option_and_then (selection_record π u)) (one_found (find (has_name π u n) es) right)))
+    ap (option_and_then (selection_record π t)) (one_found (find (has_name π t n) ds) null left) ∙ (same ∙ sym (ap (option_and_then (selection_record π u)) (one_found (find (has_name π u n) es) null right)))
 
 -- both have a selection of this name and class, with the same members but for one
 abbrev pub SelectionsAgreeButOne : Preference → Data → Data → List Data → List Data → NameParts → Class → List ℕ → Type 0
@@ -312,12 +319,32 @@ same_selections π t u ds es names others have have_others among agree =
     (λ n h. ap (option_and_then (selection_record π u)) (none_found (has_name π u n) es
     (looked_for name_cmp (name_of π u) es others have_others n ∙ none_among (λ m. is_eq (name_cmp m n)) names others among h))))
 
+-- ---- elections
+
+-- the election has this key, or none
+abbrev pub election_has_key : Preference → Option Key → Placed → Bool
+election_has_key π k e = is_eq (option_cmp key_cmp (key_of π e.value) k)
+
+-- reports of one election mean the same there, if the two have one key and mean the same
+pub same_sole_election : (π ρ : Preference) (t u : Data) (d e : Placed) → elections t ≡ d ∷ [] → elections u ≡ e ∷ [] → key_of π d.value ≡ key_of ρ e.value
+    → object_record π t role.Election d.value ≡ object_record ρ u role.Election e.value → (k : Option Key) → election_records π t k ≡ election_records ρ u k
+same_sole_election π ρ t u d e left right keys same k =
+    ap (λ es. option_and_then (λ e. object_record π t role.Election e.value) (find (election_has_key π k) es)) left
+    ∙ (at (election_has_key π k d) refl (election_has_key ρ k e) (ap (λ l. is_eq (option_cmp key_cmp l k)) (sym keys))
+    ∙ sym (ap (λ es. option_and_then (λ e. object_record ρ u role.Election e.value) (find (election_has_key ρ k) es)) right))
+  where
+    at : (b : Bool) → election_has_key π k d ≡ b → (c : Bool) → election_has_key ρ k e ≡ election_has_key π k d
+        → option_and_then (λ e. object_record π t role.Election e.value) (find (election_has_key π k) (d ∷ []))
+        ≡ option_and_then (λ e. object_record ρ u role.Election e.value) (find (election_has_key ρ k) (e ∷ []))
+    at true is c also = let other : election_has_key ρ k e ≡ true = also ∙ is in rw (is, other) same
+    at false is c also = let other : election_has_key ρ k e ≡ false = also ∙ is in rw (is, other) refl
+
 -- ---- the whole
 
--- reports mean the same, if they and their elections do, and their objects at each key
-pub same_meaning : (π ρ : Preference) (t u : Data) → object_record π t role.Report t ≡ object_record ρ u role.Report u → (meaning π t).election ≡ (meaning ρ u).election
+-- reports mean the same, if they do, and their elections and objects at each key
+pub same_meaning : (π ρ : Preference) (t u : Data) → object_record π t role.Report t ≡ object_record ρ u role.Report u → ((k : Option Key) → election_records π t k ≡ election_records ρ u k)
     → ((f : Family) (k : Key) → records_of π t f k ≡ records_of ρ u f k) → meaning π t ≡ meaning ρ u
-same_meaning π ρ t u report election at_key =
-    ap (λ x. record { report = x; election = (meaning π t).election; objects = records_of π t }) report
-    ∙ (ap (λ x. record { report = object_record ρ u role.Report u; election = x; objects = records_of π t }) election
-    ∙ ap (λ x. record { report = object_record ρ u role.Report u; election = (meaning ρ u).election; objects = x }) (fun_ext (λ f. fun_ext (λ k. at_key f k))))
+same_meaning π ρ t u report elections at_key =
+    ap (λ x. record { report = x; elections = election_records π t; objects = records_of π t }) report
+    ∙ (ap (λ x. record { report = object_record ρ u role.Report u; elections = x; objects = records_of π t }) (fun_ext elections)
+    ∙ ap (λ x. record { report = object_record ρ u role.Report u; elections = election_records ρ u; objects = x }) (fun_ext (λ f. fun_ext (λ k. at_key f k))))

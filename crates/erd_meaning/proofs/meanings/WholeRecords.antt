@@ -48,9 +48,9 @@ absent name (string s) e = refl
 absent name (array ds) e = refl
 absent name (object ms) e = member_absent name ms e
 
-neither : (b : Bool) (o : Option PlainValue) → o ≡ None → cond b None o ≡ None
-neither true o e = refl
-neither false o e = e
+pub nothing_either_way : {V : Type 0} (b : Bool) (o : Option V) → o ≡ None → cond b None o ≡ None
+nothing_either_way true o e = refl
+nothing_either_way false o e = e
 
 nothing_meant : (π : Preference) (t : Data) (k : MemberKind) (plain : Option PlainValue) → plain ≡ None → member_value π t k None plain ≡ None
 nothing_meant π t (kind.Keyed family.Selection) plain e = refl
@@ -59,7 +59,7 @@ nothing_meant π t k plain e = ap (option_map a_plain) e
 -- a member that is not there means nothing
 pub absent_plain : (π : Preference) (t d : Data) (c : Class) (name : List ℕ) → get name d ≡ None → plain_member π t d c name ≡ None
 absent_plain π t d c name e =
-    ap (λ o. cond (is_in_envelope c name) None (option_and_then (plain_value π t (kind_of_member c name)) o)) e ∙ neither (is_in_envelope c name) None refl
+    ap (λ o. cond (is_in_envelope c name) None (option_and_then (plain_value π t (kind_of_member c name)) o)) e ∙ nothing_either_way (is_in_envelope c name) None refl
 
 pub absent_member : (π : Preference) (t d : Data) (c : Class) (name : List ℕ) → get name d ≡ None → member_of_class π t d c name ≡ None
 absent_member π t d c name e =

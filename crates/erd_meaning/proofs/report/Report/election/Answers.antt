@@ -1,4 +1,6 @@
-use Rattle.std.proofs.Common.{arith, ◌≡◌, ◌∷◌, [], map, ap, ◌∙◌, sym, subst, length, get_or, List}
+use Rattle.std.proofs.Common.{◌∷◌, [], Option, Some, List, ap, option_map, refl, sym, ◌≡◌, ◌∙◌}
+use Rattle.std.specs.List.{slice_get}
+use Rattle.std.proofs.lemmas.Option.{slice_get_read}
 use Rattle.serde_json.specs.View.{view}
 use Rattle.serde_json.specs.declared.value.Value.{Value}
 use Rattle.erd_check.specs.Shapes.{IsFaultless}
@@ -7,7 +9,7 @@ use Rattle.erd_meaning.specs.Keys.{Preference}
 use Rattle.erd_meaning.specs.Objects.{Placed, elections}
 use Rattle.erd_meaning.specs.code.ResolvedIndexes.{AreResolved}
 use Rattle.erd_meaning.specs.declared.report.Indexes.{Indexes}
-use Rattle.erd_meaning.proofs.accepted.SoleElection.{sole_value}
+use Rattle.erd_meaning.proofs.finding.ElectionsHeld.{election_value, some_election}
 use Rattle.erd_meaning.proofs.report.Report.election.Goals as goal
 
 -- the report has no fault of the shape
@@ -18,13 +20,12 @@ without_faults π tree (x ∷ y ∷ xs) r = absurd r
 
 pub bounds-entries_at-0 : goal.bounds-entries_at-0
 bounds-entries_at-0 c =
-    let found = sole_value (view c.self.inside.tree.now) (without_faults c.self.inside.prefer c.self.inside.tree.now c.self.inside.indexes.items c.self.invariant) c.entries_at.result.now c.entries_at.ensures in
-    let one : length c.entries_at.result.now ≡ 1 = ap length found.alone in
-    omega (arith, one)
+    some_election (view c.self.inside.tree.now) (without_faults c.self.inside.prefer c.self.inside.tree.now c.self.inside.indexes.items c.self.invariant) c.entries_at.result.now c.entries_at.ensures
 
 pub returns : goal.returns
 returns c =
-    let result = c.index-entries_at-0.result in
-    let found = sole_value (view c.self.inside.tree.now) (without_faults c.self.inside.prefer c.self.inside.tree.now c.self.inside.indexes.items c.self.invariant) c.entries_at.result.now c.entries_at.ensures in
-    let same : result ≡ found.one = c.index-entries_at-0.is ∙ ap (λ (vs : List Value). get_or vs 0 result) found.alone in
-    subst (λ (v : Value). map (λ (o : Placed). o.value) (elections (view v)) ≡ view result ∷ []) (ap (λ (r : Judged). r.tree) c.self.view_is) (found.is ∙ ap (λ (v : Value). view v ∷ []) (sym same))
+    let vs = c.entries_at.result.now in
+    let filled = some_election (view c.self.inside.tree.now) (without_faults c.self.inside.prefer c.self.inside.tree.now c.self.inside.indexes.items c.self.invariant) vs c.entries_at.ensures in
+    let first : slice_get vs 0 ≡ Some c.index-entries_at-0.result = slice_get_read vs _ 0 c.index-entries_at-0.result refl filled c.index-entries_at-0.is in
+    ap (λ (r : Judged). option_map (λ (o : Placed). o.value) (slice_get (elections (view r.tree)) 0)) (sym c.self.view_is)
+    ∙ sym (election_value (view c.self.inside.tree.now) vs 0 c.entries_at.ensures) ∙ ap (λ (o : Option Value). option_map view o) first
