@@ -8,4 +8,5 @@ pub mod BallotMeaningExamples
 mod RearrangedExamples
 mod StableOrderExamples
 mod NormalTreeExamples
+mod ElectionExamples
 mod PreferencesAgreeExamples

@@ -2,6 +2,7 @@
 pub mod Reordered
 pub mod RisingSets
 pub mod RisingOrders
+pub mod FilteredRising
 pub mod RisingAgain
 pub mod RisingRanks
 pub mod NumbersInOrder
@@ -15,5 +16,7 @@ pub mod Lists
 pub mod FoundInParts
 pub mod FoundBuilt
 pub mod Paired
+pub mod PairedParts
 pub mod Matched
 pub mod NumberedParts
+pub mod NumberedKept

@@ -4,11 +4,14 @@ pub mod KeyPlaces
 pub mod Numbered
 pub mod RisingTables
 pub mod FamilyNumbers
+pub mod PlacedEntries
+pub mod PartsFilled
+pub mod PartObjects
+pub mod PartsWhole
 pub mod SelectionPlaces
 pub mod NumberedReferences
 pub mod SelectionReferences
 pub mod NamesInTurn
 pub mod SelectionsInTurn
-pub mod PlacedEntries
 pub mod ContestTables
 pub mod PlacedTrees

@@ -5,6 +5,7 @@ pub mod Contents
 pub mod Records
 pub mod Apart
 pub mod FamilyArrays
+pub mod ElectionPairs
 pub mod Families
 pub mod Selections
 pub mod Agreement

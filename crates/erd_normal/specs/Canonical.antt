@@ -63,11 +63,12 @@ keys_of π ds = map (key_of π) ds
 abbrev pub keys_referred : Preference → Data → Family → List Data → List (Option Key)
 keys_referred π t f ds = map (λ r. option_and_then (key_named π t f) (as_str r)) ds
 
--- The entries of a set of this kind strictly rise: objects by key, selections by name, identifiers and translations by
--- compact text, references by the key of what they name.
+-- The entries of a set of this kind strictly rise: objects and elections by key, selections by name, identifiers and
+-- translations by compact text, references by the key of what they name.
 abbrev pub RisesAs : Preference → Data → MemberKind → List Data → Type 0
 RisesAs π t (kind.Keyed family.Selection) ds = IsStrictlySortedBy (option_cmp name_cmp) (map (name_of π t) ds)
 RisesAs π t (kind.Keyed f) ds = IsStrictlySortedBy (option_cmp key_cmp) (keys_of π ds)
+RisesAs π t kind.Elections ds = IsStrictlySortedBy (option_cmp key_cmp) (keys_of π ds)
 RisesAs π t kind.Identifiers ds = IsStrictlySortedBy compact_cmp ds
 RisesAs π t kind.Languages ds = IsStrictlySortedBy compact_cmp ds
 RisesAs π t (kind.Many f) ds = IsStrictlySortedBy (option_cmp key_cmp) (keys_referred π t f ds)

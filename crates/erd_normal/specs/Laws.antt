@@ -13,7 +13,7 @@ use Rattle.erd_check.specs.Wants.{Asked, asked_at}
 use Rattle.erd_meaning.specs.Accepted.{IsAccepted}
 use Rattle.erd_meaning.specs.Keys.{Preference, has_keys, key_of}
 use Rattle.erd_meaning.specs.NameParts.{NameParts}
-use Rattle.erd_meaning.specs.Objects.{Placed, contests, objects, selections_of_contest, IsObject, IsBounded, id_of}
+use Rattle.erd_meaning.specs.Objects.{Placed, contests, elections, objects, selections_of_contest, IsObject, IsBounded, id_of}
 use Rattle.erd_meaning.specs.Records.{content_of, key_set, object_record, selection_record, meaning}
 use Rattle.erd_meaning.specs.SelectionNames.{name_of, key_named, keys_named}
 use Rattle.erd_meaning.specs.declared.keys.key.Key.{Key}
@@ -42,9 +42,10 @@ ids_in f t = map (λ o. id_of o.value) (objects f t)
 abbrev pub names_in : Preference → Data → Placed → List (Option NameParts)
 names_in π t contest = map (λ o. name_of π t o.value) (selections_of_contest contest)
 
--- In both trees, each family that has keys has the same list of keys, each family the same list of `@id` texts, and each
--- contest the same list of selection names.
+-- In both trees, the elections have the same list of keys, each family that has keys has the same list of keys, each family
+-- the same list of `@id` texts, and each contest the same list of selection names.
 pub record HaveSameNames (π : Preference) (t u : Data) : Type 0 where
+  pub election_keys : map (λ e. key_of π e.value) (elections t) ≡ map (λ e. key_of π e.value) (elections u)
   pub keys : (f : Family) → IsTrue (has_keys f) → keys_in π f t ≡ keys_in π f u
   pub names : map (names_in π t) (contests t) ≡ map (names_in π u) (contests u)
   pub ids : (f : Family) → ids_in f t ≡ ids_in f u

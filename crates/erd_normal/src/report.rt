@@ -3,3 +3,4 @@
 pub(crate) mod canonical_form;
 pub(crate) mod election;
 pub(crate) mod report_tree;
+pub(crate) mod rising_elections;

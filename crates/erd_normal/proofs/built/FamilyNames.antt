@@ -20,7 +20,6 @@ use Rattle.erd_check.proofs.Exact.{text_exact}
 use Rattle.erd_check.proofs.Rising.{Has}
 use Rattle.erd_check.proofs.TableKinds.{kind_of_id, kind_of_name}
 use Rattle.erd_meaning.proofs.accepted.Skeleton.{Skeleton, values_in_elections}
-use Rattle.erd_meaning.proofs.accepted.SoleElection.{SoleElection, values_in_sole}
 use Rattle.erd_meaning.specs.Objects.{elections, objects, placed_entries}
 use Rattle.erd_normal.proofs.built.AskedMembers.{kind_of_type}
 use Rattle.erd_normal.proofs.lists.ListParts.{IsPart, part_flat, part_self}
@@ -106,11 +105,3 @@ election_part t s e ms h same f d is stands = at f is stands
     at family.Contest k found = held (codes "Contest") found
     at family.Style k found = held (codes "BallotStyle") found
     at g k found = cc
-
--- in the one election
-pub election_objects_are : (t : Data) (s : Skeleton t) (sole : SoleElection t s) (f : Family) (d : Data) → kind_of_member class.Election (family_name f) ≡ kind.Keyed f → get_member (family_name f) sole.members ≡ Some d
-    → map (λ o. o.value) (objects f t) ≡ entries_of d
-election_objects_are t s sole family.Candidate d is stands = values_in_sole t s sole (codes "Candidate") ∙ ap entries_in stands
-election_objects_are t s sole family.Contest d is stands = values_in_sole t s sole (codes "Contest") ∙ ap entries_in stands
-election_objects_are t s sole family.Style d is stands = values_in_sole t s sole (codes "BallotStyle") ∙ ap entries_in stands
-election_objects_are t s sole f d is stands = cc

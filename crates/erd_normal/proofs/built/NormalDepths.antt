@@ -249,7 +249,7 @@ module _ (π : Preference) (t : Data) (clean : NoneOf (ShapeFault t)) (tree : Is
   normal_report_value-depth name (kind.Keyed f) d a = keyed_depth f d a
   normal_report_value-depth name kind.Elections d a =
       built_depth d (Member kind.Elections a.0) (Object role.Election) (wanted_within t clean (asked (Member kind.Elections a.0) d) a.1) refl refl a.1
-      (λ xs. xs) (λ P xs all. all) (normal_election π t) normal_election-depth
+      (rising_list (by_key π)) (λ P xs all. all_rising P (by_key π) xs all) (normal_election π t) normal_election-depth
   normal_report_value-depth name k d a = outside_envelope_depth name k d a
 
   -- what is built of a report is nested no deeper

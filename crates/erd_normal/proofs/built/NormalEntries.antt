@@ -90,9 +90,10 @@ module _ (π : Preference) (t : Data) (clean : NoneOf (ShapeFault t)) (tree : Is
   identifiers_of_election d inside among =
       entries_built (rising_list compact_cmp) refl (codes "ExternalIdentifier") d (normal_election π t d) (get_election π t d inside among (codes "ExternalIdentifier"))
 
-  elections_listed : (o : Option Data) → entries_in (option_and_then (λ v. Some (array_of (map (normal_election π t) (entries_of v)))) o) ≡ map (normal_election π t) (entries_in o)
+  elections_listed : (o : Option Data) → entries_in (option_and_then (λ v. Some (array_of (map (normal_election π t) (rising_list (by_key π) (entries_of v))))) o)
+      ≡ map (normal_election π t) (rising_list (by_key π) (entries_in o))
   elections_listed None = refl
-  elections_listed (Some d) = list_of_items-items_of (map (normal_election π t) (entries_of d))
+  elections_listed (Some d) = list_of_items-items_of (map (normal_election π t) (rising_list (by_key π) (entries_of d)))
 
-  pub entries_of_elections : entries_at (codes "Election") (normal_tree π t) ≡ map (normal_election π t) (entries_at (codes "Election") t)
+  pub entries_of_elections : entries_at (codes "Election") (normal_tree π t) ≡ map (normal_election π t) (rising_list (by_key π) (entries_at (codes "Election") t))
   entries_of_elections = ap entries_in (get_report π t clean tree (codes "Election") refl) ∙ elections_listed (get (codes "Election") t)

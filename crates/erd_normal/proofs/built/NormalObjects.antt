@@ -1,5 +1,5 @@
 -- The objects of each family in the report that is built: those of the report, each built.
-use Rattle.std.proofs.Common.{◌≡◌, ℕ, List, [], ◌∷◌, map, flat_map, true, false, Some, codes, refl, sym, ap, ◌∙◌, subst}
+use Rattle.std.proofs.Common.{◌≡◌, ℕ, List, map, flat_map, true, false, Some, codes, refl, sym, ap, ◌∙◌, subst}
 use Rattle.serde_json.specs.Data.{Data}
 use Rattle.erd_tables.specs.Table.{is_envelope_name, kind_of_member}
 use Rattle.erd_tables.specs.declared.class.Class.{Class}
@@ -8,7 +8,6 @@ use Rattle.erd_tables.specs.declared.class.Family.{Family}
 use Rattle.erd_tables.specs.declared.class.Family.TheVariants as family
 use Rattle.erd_tables.specs.declared.class.Role.TheVariants as role
 use Rattle.erd_tables.specs.declared.member.MemberKind.TheVariants as kind
-use Rattle.erd_tables.specs.declared.place.Step.TheVariants.{Name}
 use Rattle.erd_check.specs.Faults.{NoneOf, ShapeFault}
 use Rattle.erd_check.specs.Trees.{IsTree}
 use Rattle.erd_check.specs.Wants.{asked, class_of_object}
@@ -17,9 +16,9 @@ use Rattle.erd_check.proofs.Shapes.{Within, within-tree}
 use Rattle.erd_check.proofs.Rising.{Has}
 use Rattle.erd_meaning.specs.Keys.{Preference, has_keys}
 use Rattle.erd_check.specs.Values.{entries_at, list_of_items}
-use Rattle.erd_meaning.specs.Objects.{elections, objects, placed_entries, placed_from, report_of}
+use Rattle.erd_meaning.specs.Objects.{elections, objects, placed_entries, report_of}
 use Rattle.erd_meaning.specs.SelectionNames.{rising_list}
-use Rattle.erd_meaning.proofs.accepted.Skeleton.{Skeleton, election_entries, election_object, election_within, skeleton_of_shape, values-placed_entries, values-placed_flat, values-placed_from, values_in_elections}
+use Rattle.erd_meaning.proofs.accepted.Skeleton.{Skeleton, election_entries, election_object, election_within, skeleton_of_shape, values-placed_entries, values-placed_flat, values_in_elections}
 use Rattle.erd_meaning.proofs.accepted.Standing.{contest_selections}
 use Rattle.erd_normal.specs.code.NormalTree.{by_key, by_name, normal_election, normal_object, normal_selection, normal_tree}
 use Rattle.erd_normal.proofs.built.NormalEntries.{entries_of_election, entries_of_elections, entries_of_report, entries_of_selections}
@@ -46,7 +45,7 @@ abbrev pub IsBuilt : Preference → Data → Family → Data → Data → Type 0
 IsBuilt π t f d e = normal_object π t f d ≡ e
 
 -- what is built of objects, in the order of their keys
-matched_built : (π : Preference) (t : Data) (f : Family) (ds : List Data) → Matched (IsBuilt π t f) ds (built_objects π t f ds)
+pub matched_built : (π : Preference) (t : Data) (f : Family) (ds : List Data) → Matched (IsBuilt π t f) ds (built_objects π t f ds)
 matched_built π t f ds = matched_then (matched_map (normal_object π t f) ds) (reordered_map (normal_object π t f) (reordered_rising (by_key π) ds))
 
 module _ (π : Preference) (t : Data) (clean : NoneOf (ShapeFault t)) (tree : IsTree t) where
@@ -64,20 +63,20 @@ module _ (π : Preference) (t : Data) (clean : NoneOf (ShapeFault t)) (tree : Is
       let built : List Data = map (λ o. o.value) (elections (normal_tree π t)) in
       subst (λ (ds : List Data). Matched (λ d e. normal_election π t d ≡ e) ds built) (sym (values-placed_entries name (report_of t)))
       (subst (Matched (λ d e. normal_election π t d ≡ e) (entries_at name t)) (sym (values-placed_entries name (report_of (normal_tree π t)) ∙ entries_of_elections π t clean tree))
-      (matched_map (normal_election π t) (entries_at name t)))
+      (matched_then (matched_map (normal_election π t) (entries_at name t)) (reordered_map (normal_election π t) (reordered_rising (by_key π) (entries_at name t)))))
 
   module _ (s : Skeleton t) where
-    -- the elections that are built
-    pub elections_built : elections (normal_tree π t) ≡ placed_from (Name (codes "Election") ∷ []) 0 (map (normal_election π t) (list_of_items s.es))
-    elections_built = ap (placed_from (Name (codes "Election") ∷ []) 0) (entries_of_elections π t clean tree ∙ ap (map (normal_election π t)) (election_entries t s))
+    -- an election has its class, and is a tree
+    pub election_classed : (d : Data) → Has (list_of_items s.es) d → (class_of_object role.Election d ≡ Some class.Election) × IsTree d
+    election_classed d h =
+        let w : Within t (asked (Object role.Election) d) = election_within t s d h in
+        let o = election_object t clean d w in
+        (ap (class_of_object role.Election) o.1 ∙ o.2.among, within-tree t (asked (Object role.Election) d) tree w)
 
     -- what stands in an election that is built
     in_one_election : (f : Family) (name : List ℕ) → kind_of_member class.Election name ≡ kind.Keyed f → (d : Data) → Has (list_of_items s.es) d
         → entries_at name (normal_election π t d) ≡ built_objects π t f (entries_at name d)
-    in_one_election f name is d h =
-        let w : Within t (asked (Object role.Election) d) = election_within t s d h in
-        let o = election_object t clean d w in
-        entries_of_election π t clean tree d (within-tree t (asked (Object role.Election) d) tree w) (ap (class_of_object role.Election) o.1 ∙ o.2.among) f name is
+    in_one_election f name is d h = let c = election_classed d h in entries_of_election π t clean tree d c.1 c.0 f name is
 
     -- an election that is built holds what is built of the objects of the election
     in_elections : (f : Family) (name : List ℕ) → kind_of_member class.Election name ≡ kind.Keyed f
@@ -85,11 +84,10 @@ module _ (π : Preference) (t : Data) (clean : NoneOf (ShapeFault t)) (tree : Is
     in_elections f name is =
         let ds : List Data = list_of_items s.es in
         subst (λ xs. Matched (IsBuilt π t f) xs (map (λ o. o.value) (flat_map (placed_entries name) (elections (normal_tree π t))))) (sym (values_in_elections t s name))
-        (subst (Matched (IsBuilt π t f) (flat_map (entries_at name) ds))
-        (sym (values-placed_flat name (elections (normal_tree π t)) ∙ ap (flat_map (entries_at name)) (ap (map (λ o. o.value)) elections_built ∙ values-placed_from (Name (codes "Election") ∷ []) 0 (map (normal_election π t) ds))))
+        (subst (Matched (IsBuilt π t f) (flat_map (entries_at name) ds)) (sym (values-placed_flat name (elections (normal_tree π t))))
         (matched_flat (entries_at name) (entries_at name)
         (λ d e h r. subst (Matched (IsBuilt π t f) (entries_at name d)) (sym (ap (entries_at name) (sym r) ∙ in_one_election f name is d h)) (matched_built π t f (entries_at name d)))
-        (matched_map (normal_election π t) ds)))
+        (subst (λ (xs : List Data). Matched (λ d e. normal_election π t d ≡ e) xs (map (λ o. o.value) (elections (normal_tree π t)))) (values-placed_entries (codes "Election") (report_of t) ∙ election_entries t s) elections_matched)))
 
   -- the objects of one of the first eight families are built, each of one
   pub objects_matched : (f : Family) → has_keys f ≡ true → Matched (IsBuilt π t f) (values_of f t) (values_of f (normal_tree π t))

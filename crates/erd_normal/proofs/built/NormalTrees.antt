@@ -160,7 +160,8 @@ outside_envelope π t name k d tree = at (is_envelope_name name)
 pub normal_report_value-tree : (π : Preference) (t : Data) (name : List ℕ) (k : MemberKind) (d : Data) → IsTree d → IfSome IsTree (normal_report_value π t name k d)
 normal_report_value-tree π t name (kind.Keyed f) d tree = keyed-holds π t f d tree
 normal_report_value-tree π t name kind.Elections d tree =
-    array_of-tree (map (normal_election π t) (entries_of d)) (all_map IsTree IsTree (normal_election π t) (entries_of d) (normal_election-tree π t) (entries_of-trees d tree))
+    array_of-tree (map (normal_election π t) (rising_list (by_key π) (entries_of d)))
+    (all_map IsTree IsTree (normal_election π t) (rising_list (by_key π) (entries_of d)) (normal_election-tree π t) (all_rising IsTree (by_key π) (entries_of d) (entries_of-trees d tree)))
 normal_report_value-tree π t name k d tree = outside_envelope π t name k d tree
 
 in_envelope-tree : (d : Data) → IsTree d → IsTree (in_envelope d)

@@ -1,5 +1,7 @@
--- In an accepted report no two objects of a family have one key, and no two selections of a contest one name.
-use Rattle.std.proofs.Common.{◌≡◌, ◌+◌, ◌++◌, ℕ, zero, suc, List, [], ◌∷◌, map, true, cond, codes, Some, None, option_and_then, option_map, is_eq, slice_get, sym, ap, ap₂, ◌∙◌, subst, arith}
+-- In an accepted report no two objects of a family and no two elections have one key, and no two selections of a contest one name.
+use Rattle.std.proofs.Common.{◌≡◌, ◌+◌, ◌++◌, ℕ, zero, suc, List, [], ◌∷◌, length, map, Bool, true, false, nat_lt, cond, codes, Some, None, option_and_then, option_map, is_eq, slice_get, refl, sym, ap, ap₂, ◌∙◌, subst, arith}
+use Rattle.std.proofs.lemmas.Bool.{ltb-false}
+use Rattle.std.proofs.lemmas.Option.{slice_get_within}
 use Rattle.std.specs.Cmp.{Equal-is}
 use Rattle.std.specs.List.{IsDistinct}
 use Rattle.std.specs.Option.{option_cmp}
@@ -15,11 +17,12 @@ use Rattle.erd_meaning.specs.Keys.{Preference, has_keys, key_cmp, key_of, key_of
 use Rattle.erd_check.specs.Values.{entries_at}
 use Rattle.erd_meaning.specs.Lookups.{key_in}
 use Rattle.erd_meaning.specs.NameParts.{NameParts}
-use Rattle.erd_meaning.specs.Objects.{Placed, contests, objects, placed_from, selections_of_contest}
+use Rattle.erd_meaning.specs.Objects.{Placed, contests, elections, has_several, objects, placed_from, report_of, selections_of_contest}
 use Rattle.erd_meaning.specs.code.Orders.{key_cmp_exact, name_cmp_exact}
 use Rattle.erd_meaning.specs.SelectionNames.{name_cmp, name_of}
 use Rattle.erd_meaning.specs.declared.keys.key.Key.{Key}
 use Rattle.erd_meaning.proofs.finding.OneObject.{in_at, one_key}
+use Rattle.erd_meaning.proofs.accepted.KeyedElections.{election_has_identifier}
 use Rattle.erd_meaning.proofs.accepted.Phases.{no_identity_fault}
 use Rattle.erd_meaning.proofs.accepted.References.{has_identifier}
 use Rattle.erd_meaning.proofs.accepted.Standing.{flat-has, one_named, stands}
@@ -27,7 +30,8 @@ use Rattle.erd_normal.specs.code.NormalTree.{by_key, by_name}
 use Rattle.erd_normal.proofs.lists.DistinctEntries.{distinct_from_one_place, distinct_map}
 use Rattle.erd_normal.proofs.lists.RisingSets.{has_from_In}
 use Rattle.erd_normal.proofs.unique.Selections.{has_name}
-use Rattle.erd_meaning.proofs.accepted.Skeleton.{values-placed_from}
+use Rattle.erd_meaning.proofs.accepted.Skeleton.{values-placed_entries, values-placed_from}
+use Rattle.erd_meaning.proofs.finding.TwinElections.{one_election_key}
 
 -- ---- objects by their keys
 
@@ -44,6 +48,29 @@ objects_distinct π t accepted f keyed = distinct_from_one_place (λ o p. eq_by_
 -- the values of a family's objects
 pub values_distinct : (π : Preference) (t : Data) → IsAccepted π t → (f : Family) → has_keys f ≡ true → IsDistinct (eq_by_cmp (by_key π)) (map (λ o. o.value) (objects f t))
 values_distinct π t accepted f keyed = distinct_map (λ o. o.value) (eq_by_cmp (by_key π)) (objects f t) (objects_distinct π t accepted f keyed)
+
+-- ---- elections by their keys
+
+-- an election of a report that has one
+only_place : {A : Type 0} (xs : List A) (i : ℕ) (x : A) → nat_lt 1 (length xs) ≡ false → slice_get xs i ≡ Some x → i ≡ 0
+only_place xs i x few found = let h = slice_get_within xs i x found in let l = ltb-false 1 (length xs) few in omega arith
+
+module _ (π : Preference) (t : Data) (accepted : IsAccepted π t) where
+  one_election_place : (several : Bool) → has_several t ≡ several → (i j : ℕ) (d e : Placed) → slice_get (elections t) i ≡ Some d → slice_get (elections t) j ≡ Some e
+      → eq_by_cmp (by_key π) d.value e.value ≡ true → i ≡ j
+  one_election_place true is i j d e at there h =
+      let k = election_has_identifier π t accepted is d (has_from_In d (elections t) (in_at (elections t) i d at)) in
+      let l = election_has_identifier π t accepted is e (has_from_In e (elections t) (in_at (elections t) j e there)) in
+      let same : k.0 ≡ l.0 = key_cmp_exact k.0 l.0 ((Equal-is (key_cmp k.0 l.0)).0 (sym (ap₂ (λ x y. is_eq (option_cmp key_cmp x y)) k.1 l.1) ∙ h)) in
+      one_election_key π t (no_identity_fault π t accepted) i j d e k.0 at there k.1 (l.1 ∙ ap Some (sym same))
+  one_election_place false is i j d e at there h = only_place (elections t) i d is at ∙ sym (only_place (elections t) j e is there)
+
+  -- no two elections have one key, and none are two without
+  pub elections_distinct : IsDistinct (eq_by_cmp (by_key π)) (entries_at (codes "Election") t)
+  elections_distinct =
+      subst (IsDistinct (eq_by_cmp (by_key π))) (values-placed_entries (codes "Election") (report_of t))
+      (distinct_map (λ (e : Placed). e.value) (eq_by_cmp (by_key π)) (elections t)
+      (distinct_from_one_place (λ (d e : Placed). eq_by_cmp (by_key π) d.value e.value) (elections t) (one_election_place (has_several t) refl)))
 
 -- ---- selections by their names
 

@@ -1,5 +1,5 @@
 -- Elections that are matched with those of an accepted report, each with one of its key, have keys where they need them, and no two have one.
-use Rattle.std.proofs.Common.{◌≡◌, List, map, Bool, true, true≢false, nat_lt, length, Option, Some, None, IsTrue, refl, sym, ap, ◌∙◌, subst}
+use Rattle.std.proofs.Common.{◌≡◌, List, map, true, true≢false, nat_lt, Some, None, sym, ap, ◌∙◌}
 use Rattle.std.proofs.lemmas.Cmp.{tied_itself}
 use Rattle.std.proofs.lemmas.List.{length-map}
 use Rattle.std.specs.List.{IsDistinct}
@@ -7,10 +7,8 @@ use Rattle.serde_json.specs.Data.{Data}
 use Rattle.erd_check.proofs.Positions.{has_mapped, map_has}
 use Rattle.erd_check.proofs.Rising.{Has}
 use Rattle.erd_check.proofs.Shapes.{false_unless}
-use Rattle.erd_check.specs.Values.{entries_at}
 use Rattle.erd_meaning.specs.Accepted.{IsAccepted}
-use Rattle.erd_meaning.specs.Keys.{Preference, key_cmp, key_of}
-use Rattle.erd_meaning.specs.LaterFaults.{IsBefore}
+use Rattle.erd_meaning.specs.Keys.{Preference, key_of}
 use Rattle.erd_meaning.specs.Objects.{Placed, elections, has_several}
 use Rattle.erd_meaning.specs.code.ObjectWalk.{same_key}
 use Rattle.erd_meaning.specs.code.Orders.{key_cmp_total}

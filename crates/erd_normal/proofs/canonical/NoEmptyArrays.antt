@@ -1,18 +1,17 @@
 -- No array of the table is empty in the report that is built.
 use Rattle.std.proofs.Common.{◌≡◌, suc, List, map, length, Some, Bool, true, false, ◌==◌, refl, ap, ◌∙◌}
-use Rattle.std.proofs.lemmas.Bool.Decides.{Decides-eqb}
 use Rattle.std.proofs.lemmas.List.{length-map}
 use Rattle.serde_json.specs.Data.{Data, null, boolean, number, string, array, object, Items, no_items, item}
 use Rattle.erd_tables.specs.declared.fault.Reason.TheVariants as reason
 use Rattle.erd_tables.specs.declared.member.MemberKind.{MemberKind}
 use Rattle.erd_tables.specs.declared.member.MemberKind.TheVariants as kind
-use Rattle.erd_check.specs.Faults.{has_not_one_entry, is_array, is_empty_array, NoneOf, ShapeFault}
+use Rattle.erd_check.specs.Faults.{is_array, is_empty_array, NoneOf, ShapeFault}
 use Rattle.erd_check.specs.Trees.{IsTree}
 use Rattle.erd_check.specs.Values.{entries_of, list_of_items}
 use Rattle.erd_check.specs.Wants.{Asked, asked}
 use Rattle.erd_check.specs.declared.want.Want.{Want}
 use Rattle.erd_check.specs.declared.want.Want.TheVariants.{Member}
-use Rattle.erd_check.proofs.Shapes.{Within, faultless, not_false, unrepeated, wanted_within}
+use Rattle.erd_check.proofs.Shapes.{Within, faultless, unrepeated, wanted_within}
 use Rattle.erd_check.proofs.Whole.{no_strange, no_unknown}
 use Rattle.erd_meaning.proofs.accepted.Phases.{no_shape_fault}
 use Rattle.erd_meaning.specs.Keys.{Preference}
@@ -20,7 +19,7 @@ use Rattle.erd_meaning.specs.Accepted.{IsAccepted}
 use Rattle.erd_meaning.specs.SelectionNames.{compact_cmp, rising_list, with_rising_text}
 use Rattle.erd_normal.specs.Canonical.{HasNoEmptyArray, kind_wanted}
 use Rattle.erd_normal.specs.code.NormalTree.{array_of, by_key, by_name, normal_content, normal_election, normal_nodes, normal_object, normal_reference, normal_selection, normal_selection_reference, normal_tree, reference_cmp}
-use Rattle.erd_normal.proofs.lists.BuiltLists.{as_empty, as_one}
+use Rattle.erd_normal.proofs.lists.BuiltLists.{as_empty}
 use Rattle.erd_normal.proofs.lists.RisingSets.{length-rising}
 use Rattle.erd_normal.proofs.throughout.ThroughoutMembers.{HoldsOfMembers}
 use Rattle.erd_normal.proofs.throughout.ThroughoutObjects.{HoldsOfObjects}
@@ -50,14 +49,6 @@ full_content π t (boolean b) full = full
 full_content π t (number n) full = full
 full_content π t (string s) full = full
 full_content π t (object ms) full = full
-
-full_one : (d : Data) → has_not_one_entry d ≡ false → is_empty_array d ≡ false
-full_one (array ds) one = let same : length (list_of_items ds) ≡ 1 = (Decides-eqb (length (list_of_items ds)) 1).0 (not_false (length (list_of_items ds) == 1) one) in ap (λ n. n == 0) same
-full_one null one = refl
-full_one (boolean b) one = refl
-full_one (number n) one = refl
-full_one (string s) one = refl
-full_one (object ms) one = refl
 
 module _ (π : Preference) (t : Data) (clean : NoneOf (ShapeFault t)) (tree : IsTree t) where
   label_full : (required : Bool) (d : Data) → Within t (asked (Member kind.Label required) d) → is_empty_array (with_rising_text d) ≡ false
@@ -114,17 +105,18 @@ module _ (π : Preference) (t : Data) (clean : NoneOf (ShapeFault t)) (tree : Is
     object = λ f d w. record { full = λ k e. cc };
   }
 
+  pub full_elections : (required : Bool) (d : Data) → Within t (asked (Member kind.Elections required) d) → is_empty_array (array_of (map (normal_election π t) (rising_list (by_key π) (entries_of d)))) ≡ false
+  full_elections required d w =
+      let a : Asked = asked (Member kind.Elections required) d in
+      full_list d (normal_election π t) (rising_list (by_key π)) (length-rising (by_key π)) (wanted_within t clean a w) (faultless t clean a reason.ElectionCount w)
+
   pub built : HoldsOfBuilt π t IsNotEmpty
   built = record {
     parts = objects;
     word = λ required text. full_value _ refl;
     whole = λ required n. full_value _ refl;
     keyed = λ f keyed required d w all full. full_value _ (full_list d (normal_object π t f) (rising_list (by_key π)) (length-rising (by_key π)) (wanted_within t clean (asked (Member (kind.Keyed f) required) d) w) full);
-    elections = λ required d w.
-        full_value _
-        (full_one (array_of (map (normal_election π t) (entries_of d)))
-        (as_one d (map (normal_election π t) (entries_of d)) (wanted_within t clean (asked (Member kind.Elections required) d) w) (length-map (entries_of d) (normal_election π t))
-        ∙ faultless t clean (asked (Member kind.Elections required) d) reason.ElectionCount w));
+    elections = λ required d w is. full_value _ (full_elections required d w);
     election = λ d w. record { full = λ k e. cc };
     report = record { full = λ k e. cc };
   }

@@ -218,7 +218,7 @@ module _ (π : Preference) (t : Data) (accepted : IsAccepted π t) (tree : IsTre
     word = λ required text. unlisted u _ _ false (λ e. cc);
     whole = λ required n. unlisted u _ _ false (λ e. cc);
     keyed = λ f keyed required d w all full. unlisted u _ _ false (λ e. cc);
-    elections = λ required d w. unlisted u _ _ false (λ e. cc);
+    elections = λ required d w is. unlisted u _ _ false (λ e. cc);
     election = λ d w. unlisted u _ _ false (λ e. let x : role.Election ≡ role.Content = cc in cc);
     report = unlisted u _ _ false (λ e. let x : role.Report ≡ role.Content = cc in cc);
   }

@@ -2,7 +2,6 @@
 use Rattle.std.proofs.Common.{◌≡◌, ℕ, List, map, Option, Some, None, Bool, true, false, ◌&&◌, not, is_none, codes, refl, sym, ap, ◌∙◌, subst}
 use Rattle.std.specs.List.{list_any}
 use Rattle.std.specs.Str.{bytes_eq}
-use Rattle.std.proofs.lemmas.List.{length-map}
 use Rattle.serde_json.specs.Data.{Data, string, number, unsigned, array, object, Items, Members}
 use Rattle.serde_json.specs.Find.{get, get_member}
 use Rattle.serde_json.specs.View.{items_of}
@@ -18,7 +17,7 @@ use Rattle.erd_tables.specs.declared.fault.Reason.{Reason}
 use Rattle.erd_tables.specs.declared.fault.Reason.TheVariants as reason
 use Rattle.erd_tables.specs.declared.member.MemberKind.{MemberKind}
 use Rattle.erd_tables.specs.declared.member.MemberKind.TheVariants as kind
-use Rattle.erd_check.specs.Faults.{has_not_one_entry, is_array, is_empty_array, is_shape_fault, NoneOf, ShapeFault}
+use Rattle.erd_check.specs.Faults.{is_array, is_empty_array, is_shape_fault, NoneOf, ShapeFault}
 use Rattle.erd_check.specs.Trees.{IsTree}
 use Rattle.erd_check.specs.Values.{entries_of}
 use Rattle.erd_check.specs.Wants.{Asked, asked, class_of_object, is_repeated}
@@ -35,9 +34,9 @@ use Rattle.erd_meaning.specs.Accepted.{IsAccepted}
 use Rattle.erd_meaning.specs.SelectionNames.{compact_cmp, rising_list, selection_role, with_rising_text}
 use Rattle.erd_normal.specs.code.NormalTree.{by_key, by_name, normal_content, normal_election, normal_election_value, normal_node, normal_node_value, normal_nodes, normal_object, normal_object_value, normal_report_value, normal_selection, normal_selection_reference, normal_tree, reference_cmp}
 use Rattle.erd_normal.proofs.built.BuiltFrom.{Builder, BuiltObject, IsFilled, has_required, is_kept, normal_value-kept, required_is, required_other}
-use Rattle.erd_normal.proofs.lists.BuiltLists.{as_one, entry_holds}
+use Rattle.erd_normal.proofs.lists.BuiltLists.{entry_holds}
 use Rattle.erd_normal.proofs.built.BuiltObjects.{built_election, built_node, built_object, built_report, built_selection, election_builder, is_id, no_name, node_builder, object_builder, plain_builder}
-use Rattle.erd_normal.proofs.canonical.NoEmptyArrays.{members as full_members}
+use Rattle.erd_normal.proofs.canonical.NoEmptyArrays.{full_elections, members as full_members}
 use Rattle.erd_normal.proofs.throughout.ThroughoutMembers.{BuiltLabel, HoldsOfMembers, built_label, built_references, built_texts}
 use Rattle.erd_normal.proofs.throughout.ThroughoutObjects.{HoldsOfObjects}
 use Rattle.erd_normal.proofs.throughout.ThroughoutReports.{HoldsOfBuilt, holds_of_built, none_found}
@@ -107,9 +106,9 @@ keyed_local : (f : Family) (required : Bool) (ds : Items) (r : Reason) → is_sh
 keyed_local f required ds reason.WrongKind = refl
 keyed_local f required ds r = refl
 
-elections_local : (required : Bool) (ds : Items) → has_not_one_entry (array ds) ≡ false → (r : Reason) → is_shape_fault (asked (Member kind.Elections required) (array ds)) r ≡ false
-elections_local required ds one reason.ElectionCount = one
-elections_local required ds one r = refl
+elections_local : (required : Bool) (ds : Items) → is_empty_array (array ds) ≡ false → (r : Reason) → is_shape_fault (asked (Member kind.Elections required) (array ds)) r ≡ false
+elections_local required ds full reason.ElectionCount = full
+elections_local required ds full r = refl
 
 -- ---- objects
 
@@ -255,10 +254,8 @@ module _ (π : Preference) (t : Data) (clean : NoneOf (ShapeFault t)) (tree : Is
     word = λ required text. record { none = word_local required text };
     whole = λ required n. record { none = whole_local required n };
     keyed = λ f keyed required d w all full. record { none = keyed_local f required (items_of (map (normal_object π t f) (rising_list (by_key π) (entries_of d)))) };
-    elections = λ required d w. record {
-      none = elections_local required (items_of (map (normal_election π t) (entries_of d)))
-          (as_one d (map (normal_election π t) (entries_of d)) (wanted_within t clean (asked (Member kind.Elections required) d) w) (length-map (entries_of d) (normal_election π t))
-          ∙ faultless t clean (asked (Member kind.Elections required) d) reason.ElectionCount w);
+    elections = λ required d w is. record {
+      none = elections_local required (items_of (map (normal_election π t) (rising_list (by_key π) (entries_of d)))) (full_elections π t clean tree required d w);
     };
     election = election_faultless;
     report = report_faultless;

@@ -11,24 +11,21 @@ use Rattle.erd_tables.specs.declared.place.Step.{Step}
 use Rattle.erd_tables.proofs.PlaceOrder.{place_cmp_total}
 use Rattle.erd_check.specs.Faults.{NoneOf}
 use Rattle.erd_check.specs.Trees.{IsTree}
-use Rattle.erd_check.specs.Wants.{asked, class_of_object}
-use Rattle.erd_check.specs.declared.want.Want.TheVariants.{Object}
 use Rattle.erd_check.proofs.Rising.{Has}
-use Rattle.erd_check.proofs.Shapes.{within-tree}
 use Rattle.erd_meaning.specs.Accepted.{IsAccepted}
 use Rattle.erd_meaning.specs.Keys.{Preference, has_keys, is_keyed_role, key_of}
 use Rattle.erd_meaning.specs.LaterFaults.{IdentityFault, IsBefore, LacksIdentifier, RepeatsId, RepeatsKey}
-use Rattle.erd_meaning.specs.Objects.{IsBounded, Placed, contests, elections, id_of, needs_key, objects, objects_with_role, report_of, selections_of_contest}
+use Rattle.erd_meaning.specs.Objects.{IsBounded, Placed, contests, id_of, needs_key, objects, objects_with_role, report_of, selections_of_contest}
 use Rattle.erd_meaning.proofs.accepted.References.{Contains-Has, Has-Contains, has_identifier}
 use Rattle.erd_meaning.specs.declared.keys.key.Key.{Key}
 use Rattle.erd_meaning.proofs.accepted.HeldObjects.{has-flat}
 use Rattle.erd_meaning.proofs.accepted.Phases.{no_shape_fault}
-use Rattle.erd_meaning.proofs.accepted.Skeleton.{election_entries, election_object, election_within, skeleton_of_shape, values-placed_entries}
+use Rattle.erd_meaning.proofs.accepted.Skeleton.{election_entries, skeleton_of_shape, values-placed_entries}
 use Rattle.erd_normal.specs.Canonical.{rank_of}
 use Rattle.erd_normal.specs.code.NormalTree.{normal_tree}
 use Rattle.erd_normal.proofs.canonical.CanonicalIds.{canonical_id_exact, selection_id_apart}
 use Rattle.erd_normal.proofs.built.LeastKeys.{key_of_election, key_of_object}
-use Rattle.erd_normal.proofs.built.NormalObjects.{elections_matched}
+use Rattle.erd_normal.proofs.built.NormalObjects.{election_classed, elections_matched}
 use Rattle.erd_normal.proofs.canonical.ElectionsApart.{election_values, none_keyless, one_election}
 use Rattle.erd_normal.proofs.lists.Matched.{Matched, matched_within}
 use Rattle.erd_normal.proofs.canonical.NormalKeys.{IsClassed, ids_by_rank, object_classed, object_from, one_ranked_built, rank_counted}
@@ -73,9 +70,8 @@ module _ (π : Preference) (t : Data) (accepted : IsAccepted π t) (tree : IsTre
       let s = skeleton_of_shape t clean in
       matched_within (λ d e. key_of π d ≡ key_of π e) (λ d e h r.
       let there = subst (λ (ds : List Data). Has ds d) (values-placed_entries (codes "Election") (report_of t) ∙ election_entries t s) h in
-      let w = election_within t s d there in
-      let o = election_object t clean d w in
-      sym (key_of_election π π t clean tree d (within-tree t (asked (Object role.Election) d) tree w) (ap (class_of_object role.Election) o.1 ∙ o.2.among)) ∙ ap (key_of π) r)
+      let c = election_classed π t clean tree s d there in
+      sym (key_of_election π π t clean tree d c.1 c.0) ∙ ap (key_of π) r)
       (elections_matched π t clean tree)
 
   lacks_none : (r : Role) (o : Placed) → needs_key (normal_tree π t) r ≡ true → Has (objects_with_role r (normal_tree π t)) o → key_of π o.value ≡ None → ⊥

@@ -201,7 +201,7 @@ module _ (π : Preference) (t : Data) (accepted : IsAccepted π t) (tree : IsTre
     word = λ required text. no_reference u _ _ refl;
     whole = λ required n. no_reference u _ _ refl;
     keyed = λ f keyed required d w all full. no_reference u _ _ refl;
-    elections = λ required d w. no_reference u _ _ refl;
+    elections = λ required d w is. no_reference u _ _ refl;
     election = λ d w. no_reference u _ _ refl;
     report = no_reference u _ _ refl;
   }

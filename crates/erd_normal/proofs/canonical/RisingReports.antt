@@ -27,7 +27,7 @@ use Rattle.erd_meaning.specs.SelectionNames.{compact_cmp, key_named, name_cmp, n
 use Rattle.erd_normal.specs.Canonical.{canonical_id, canonical_selection_id, rank_of}
 use Rattle.erd_normal.specs.code.NormalTree.{by_key, by_name, id_of_key, id_of_selection, rank_of_name, reference_cmp}
 use Rattle.erd_normal.proofs.texts.CompactTexts.{compact_exact}
-use Rattle.erd_normal.proofs.canonical.DistinctObjects.{selection_values_distinct, values_distinct}
+use Rattle.erd_normal.proofs.canonical.DistinctObjects.{elections_distinct, selection_values_distinct, values_distinct}
 use Rattle.erd_normal.proofs.canonical.DistinctSets.{json_values_distinct, references_distinct}
 use Rattle.erd_normal.proofs.texts.FittingNumbers.{entry-fitting}
 use Rattle.erd_normal.proofs.unique.Labels.{identifier_simple, language_simple}
@@ -52,6 +52,12 @@ pub objects_rise : (π : Preference) (t : Data) → IsAccepted π t → (f : Fam
 objects_rise π t accepted f keyed ds part =
     sorted_map (key_of π) (by_key π) (option_cmp key_cmp) (λ x y h. h) (rising_list (by_key π) ds)
     (rising_strictly (by_key_total π) ds (part_distinct (eq_by_cmp (by_key π)) ds (map (λ o. o.value) (objects f t)) part (values_distinct π t accepted f keyed)))
+
+-- the elections
+pub elections_rise : (π : Preference) (t : Data) → IsAccepted π t → IsStrictlySortedBy (option_cmp key_cmp) (map (key_of π) (rising_list (by_key π) (entries_at (codes "Election") t)))
+elections_rise π t accepted =
+    sorted_map (key_of π) (by_key π) (option_cmp key_cmp) (λ x y h. h) (rising_list (by_key π) (entries_at (codes "Election") t))
+    (rising_strictly (by_key_total π) (entries_at (codes "Election") t) (elections_distinct π t accepted))
 
 -- the object at a position has that rank
 pub object_ranks : (π : Preference) (t : Data) → IsAccepted π t → (f : Family) (i : ℕ) (d : Data) → has_keys f ≡ true → slice_get (rising_list (by_key π) (map (λ o. o.value) (objects f t))) i ≡ Some d → rank_of π t f (key_of π d) ≡ i

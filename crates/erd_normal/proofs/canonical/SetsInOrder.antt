@@ -5,6 +5,7 @@ use Rattle.std.specs.List.Sorted.{IsStrictlySortedBy}
 use Rattle.std.specs.Option.{option_cmp, option_map_or}
 use Rattle.serde_json.specs.Data.{Data, array}
 use Rattle.serde_json.specs.Find.{as_str, get}
+use Rattle.erd_tables.specs.declared.class.Class.TheVariants as class
 use Rattle.erd_tables.specs.declared.class.Family.{Family}
 use Rattle.erd_tables.specs.declared.class.Family.TheVariants as family
 use Rattle.erd_tables.specs.declared.class.Role.TheVariants as role
@@ -12,30 +13,32 @@ use Rattle.erd_tables.specs.declared.member.MemberKind.{MemberKind}
 use Rattle.erd_tables.specs.declared.member.MemberKind.TheVariants as kind
 use Rattle.erd_check.specs.declared.want.Want.{Want}
 use Rattle.erd_check.specs.declared.want.Want.TheVariants.{Member, Object}
-use Rattle.erd_check.specs.Faults.{is_array}
+use Rattle.erd_check.specs.Faults.{NoneOf, ShapeFault, is_array}
 use Rattle.erd_check.specs.Numbers.{HasFittingNumbers}
 use Rattle.erd_check.specs.Trees.{IsTree}
 use Rattle.erd_check.specs.Values.{entries_of, list_of_items, entries_at, text_of}
-use Rattle.erd_check.specs.Wants.{Asked, asked}
+use Rattle.erd_check.specs.Wants.{Asked, asked, class_of_object}
 use Rattle.erd_check.proofs.Entries.{array_from}
 use Rattle.erd_check.proofs.Rising.{Has, all-Has}
 use Rattle.erd_check.proofs.Shapes.{Within, wanted_within, within-tree}
 use Rattle.erd_check.proofs.Positions.{all_by_entry}
 use Rattle.erd_meaning.specs.Accepted.{IsAccepted}
-use Rattle.erd_meaning.specs.Keys.{Preference, has_keys, key_cmp}
+use Rattle.erd_meaning.specs.Keys.{Preference, has_keys, key_cmp, key_of}
 use Rattle.erd_meaning.specs.Objects.{IsBounded, Placed, objects}
 use Rattle.erd_meaning.specs.SelectionNames.{compact_cmp, key_named, name_cmp, name_of, rising_list, selection_role}
 use Rattle.erd_meaning.proofs.accepted.Phases.{no_shape_fault}
+use Rattle.erd_meaning.proofs.accepted.Skeleton.{Skeleton, election_entries, skeleton_of_shape}
 use Rattle.erd_normal.specs.Canonical.{AreSetsInOrder, RisesAs, id_prefix, keys_of, keys_referred, kind_wanted}
-use Rattle.erd_normal.specs.code.NormalTree.{array_of, by_key, by_name, normal_object, normal_objects, normal_reference, normal_selection, normal_tree, reference_cmp}
+use Rattle.erd_normal.specs.code.NormalTree.{array_of, by_key, by_name, normal_election, normal_object, normal_objects, normal_reference, normal_selection, normal_tree, reference_cmp}
 use Rattle.erd_normal.proofs.built.AskedMembers.{entries_asked}
 use Rattle.erd_normal.proofs.lists.BuiltLists.{all_rising}
 use Rattle.erd_normal.proofs.texts.FittingNumbers.{within-fitting}
-use Rattle.erd_normal.proofs.built.LeastKeys.{key_of_object}
+use Rattle.erd_normal.proofs.built.LeastKeys.{key_of_election, key_of_object}
+use Rattle.erd_normal.proofs.built.NormalObjects.{election_classed}
 use Rattle.erd_normal.proofs.canonical.NormalKeys.{IsClassed, values_classed}
 use Rattle.erd_normal.proofs.canonical.NormalNames.{Refers, name_built_within, reference_key_built, references_refer}
 use Rattle.erd_normal.proofs.lists.ListParts.{IsPart, part_has}
-use Rattle.erd_normal.proofs.canonical.RisingReports.{identifiers_rise, languages_rise, objects_rise, references_rise, selections_rise}
+use Rattle.erd_normal.proofs.canonical.RisingReports.{elections_rise, identifiers_rise, languages_rise, objects_rise, references_rise, selections_rise}
 use Rattle.erd_normal.proofs.throughout.ThroughoutMembers.{HoldsOfMembers, built_references, is_prefixed}
 use Rattle.erd_normal.proofs.throughout.ThroughoutObjects.{HoldsOfObjects}
 use Rattle.erd_normal.proofs.throughout.ThroughoutReports.{HoldsOfBuilt, holds_of_built}
@@ -82,7 +85,17 @@ letters_of f = at (id_prefix f)
 
 -- ---- the parts that are built
 
+-- the value has the class of elections, and is a tree
+abbrev IsElection : Data → Type 0
+IsElection d = (class_of_object role.Election d ≡ Some class.Election) × IsTree d
+
 module _ (π : Preference) (t : Data) (accepted : IsAccepted π t) (tree : IsTree t) where
+  abbrev clean : NoneOf (ShapeFault t)
+  clean = no_shape_fault π t accepted
+
+  abbrev s : Skeleton t
+  s = skeleton_of_shape t clean
+
   keys_kept : (f : Family) (ds : List Data) → AllByRecursion (IsClassed f) ds → keys_of π (map (normal_object π t f) ds) ≡ keys_of π ds
   keys_kept f [] all = refl
   keys_kept f (d ∷ ds) all = ap₂ (λ k ks. k ∷ ks) (key_of_object π π t f all.0.0 d all.0.2 all.0.1) (keys_kept f ds all.1)
@@ -94,6 +107,18 @@ module _ (π : Preference) (t : Data) (accepted : IsAccepted π t) (tree : IsTre
       keyed_rises π (normal_tree π t) f (entries_of (normal_objects π t f ds)) keyed
       (subst (λ xs. IsStrictlySortedBy (option_cmp key_cmp) (keys_of π xs)) (sym (list_of_items-items_of (map (normal_object π t f) (rising_list (by_key π) ds))))
       (subst (IsStrictlySortedBy (option_cmp key_cmp)) (sym (keys_kept f (rising_list (by_key π) ds) (all_rising (IsClassed f) (by_key π) ds classed))) (objects_rise π t accepted f keyed ds part)))
+
+  -- what is built of the elections has their keys
+  election_keys_kept : (ds : List Data) → AllByRecursion IsElection ds → keys_of π (map (normal_election π t) ds) ≡ keys_of π ds
+  election_keys_kept [] all = refl
+  election_keys_kept (d ∷ ds) all = ap₂ (λ k ks. k ∷ ks) (key_of_election π π t clean tree d all.0.1 all.0.0) (election_keys_kept ds all.1)
+
+  elections_rising : (ds : List Data) → ds ≡ entries_at (codes "Election") t
+      → IsStrictlySortedBy (option_cmp key_cmp) (keys_of π (map (normal_election π t) (rising_list (by_key π) ds)))
+  elections_rising ds is =
+      let classed : AllByRecursion IsElection ds = all_by_entry IsElection ds (λ d h. election_classed π t clean tree s d (subst (λ xs. Has xs d) (is ∙ election_entries t s) h)) in
+      subst (IsStrictlySortedBy (option_cmp key_cmp)) (sym (election_keys_kept (rising_list (by_key π) ds) (all_rising IsElection (by_key π) ds classed)))
+      (subst (λ xs. IsStrictlySortedBy (option_cmp key_cmp) (map (key_of π) (rising_list (by_key π) xs))) (sym is) (elections_rise π t accepted))
 
   identifiers_rising : HasFittingNumbers t → (required : Bool) (d : Data) → Within t (asked (Member kind.Identifiers required) d) → IsStrictlySortedBy compact_cmp (rising_list compact_cmp (entries_of d))
   identifiers_rising fits required d w =
@@ -196,7 +221,10 @@ module _ (π : Preference) (t : Data) (accepted : IsAccepted π t) (tree : IsTre
     word = λ required text. rising_value π u kind.Word required _ tt;
     whole = λ required n. rising_value π u kind.Whole required _ tt;
     keyed = λ f keyed required d w all full. rising_value π u (kind.Keyed f) required (normal_objects π t f (entries_of d)) (objects_rising π t accepted tree f keyed (entries_of d) all);
-    elections = λ required d w. rising_value π u kind.Elections required _ tt;
+    elections = λ required d w is.
+        let ds : List Data = map (normal_election π t) (rising_list (by_key π) (entries_of d)) in
+        rising_value π u kind.Elections required (array_of ds)
+        (subst (λ xs. IsStrictlySortedBy (option_cmp key_cmp) (keys_of π xs)) (sym (list_of_items-items_of ds)) (elections_rising π t accepted tree (entries_of d) is));
     election = λ d w. record { rises = λ k e. cc };
     report = record { rises = λ k e. cc };
   }

@@ -15,12 +15,12 @@ use Rattle.erd_check.proofs.Reports.{tree_of, small_ballot, small_ballot_canonic
 use Rattle.erd_check.specs.Trees.{is_same_json}
 use Rattle.erd_check.specs.Values.{entries_of, entries_at}
 use Rattle.erd_meaning.proofs.examples.RecordExamples.{local_key}
-use Rattle.erd_meaning.proofs.meanings.WholeMeanings.{same_members, same_object, absent_carried, absent_beside, AgreeAt, AreAmong, ObjectsAgree, same_at_key, ObjectsAgreeButOne, SameMember, same_at_key_with, value_with_key, HaveKeys, keys_of_family, same_family, selection_with_name, SelectionsAgreeButOne, same_at_name, HaveNames, names_of_selections, same_selections, same_meaning}
+use Rattle.erd_meaning.proofs.meanings.WholeMeanings.{same_members, same_object, absent_carried, absent_beside, AgreeAt, AreAmong, ObjectsAgree, same_at_key, ObjectsAgreeButOne, SameMember, same_at_key_with, value_with_key, HaveKeys, keys_of_family, same_family, selection_with_name, SelectionsAgreeButOne, same_at_name, HaveNames, names_of_selections, same_selections, same_sole_election, same_meaning}
 use Rattle.erd_meaning.specs.Keys.{has_keys, key_cmp}
 use Rattle.erd_meaning.specs.Meaning.{Content, no_content, first_node, a_contest, a_header, JsonMap, a_label, translated, a_key_set, a_content, a_plain, a_selection_map}
 use Rattle.erd_meaning.specs.NameParts.{NameParts}
-use Rattle.erd_meaning.specs.Objects.{elections, contests}
-use Rattle.erd_meaning.specs.Records.{content_of, label_beside_text, carried_members, json_set, plain_member, object_record, selection_map, records_of, meaning}
+use Rattle.erd_meaning.specs.Objects.{Placed, elections, contests, report_of}
+use Rattle.erd_meaning.specs.Records.{content_of, election_records, label_beside_text, carried_members, json_set, plain_member, object_record, selection_map, records_of, meaning}
 use Rattle.erd_meaning.specs.SelectionNames.{name_named, name_of}
 use Rattle.erd_meaning.specs.declared.keys.key.Key.{Key}
 
@@ -32,8 +32,8 @@ canonical = tree_of small_ballot_canonical
 
 -- ---- the report, the election, and objects that refer to others alone
 
-abbrev election_in : Data → Data
-election_in t = unwrap_or (option_map (λ o. o.value) (slice_get (elections t) 0)) null
+abbrev election_in : Data → Placed
+election_in t = unwrap_or (slice_get (elections t) 0) (report_of null)
 
 -- the object of this key means the same in both
 abbrev MeansTheSame : Family → List ℕ → Type 0
@@ -46,36 +46,38 @@ same_report : object_record None canonical role.Report canonical ≡ object_reco
 unfolding serde_json_on_literals
 same_report = same_object None canonical given canonical given role.Report class.ElectionReport refl refl refl
 
-same_election : (meaning None canonical).election ≡ (meaning None given).election
+same_election : (k : Option Key) → election_records None canonical k ≡ election_records None given k
 unfolding serde_json_on_literals
-same_election = same_object None canonical given (election_in canonical) (election_in given) role.Election class.Election refl refl refl
+same_election =
+    same_sole_election None None canonical given (election_in canonical) (election_in given) refl refl refl
+    (same_object None canonical given (election_in canonical).value (election_in given).value role.Election class.Election refl refl refl)
 
 same_units : MeansTheSame family.Unit (codes "U1") × MeansTheSame family.Unit (codes "U2")
 unfolding serde_json_on_literals
-same_units = (same family.Unit (codes "U1") class.ReportingUnit refl (refl, refl, refl, refl, refl), same family.Unit (codes "U2") class.ReportingUnit refl (refl, refl, refl, refl, refl))
+same_units = (same family.Unit (codes "U1") class.ReportingUnit refl (refl, refl, refl, refl, refl, refl), same family.Unit (codes "U2") class.ReportingUnit refl (refl, refl, refl, refl, refl, refl))
 
 same_party : MeansTheSame family.Party (codes "P1")
 unfolding serde_json_on_literals
-same_party = same family.Party (codes "P1") class.Party refl (refl, refl, refl, refl, refl)
+same_party = same family.Party (codes "P1") class.Party refl (refl, refl, refl, refl, refl, refl)
 
 same_person : MeansTheSame family.Person (codes "Q1")
 unfolding serde_json_on_literals
-same_person = same family.Person (codes "Q1") class.Person refl (refl, refl, refl, refl, refl)
+same_person = same family.Person (codes "Q1") class.Person refl (refl, refl, refl, refl, refl, refl)
 
 same_office : MeansTheSame family.Office (codes "O1")
 unfolding serde_json_on_literals
-same_office = same family.Office (codes "O1") class.Office refl (refl, refl, refl, refl, refl)
+same_office = same family.Office (codes "O1") class.Office refl (refl, refl, refl, refl, refl, refl)
 
 same_header : MeansTheSame family.Header (codes "H1")
 unfolding serde_json_on_literals
-same_header = same family.Header (codes "H1") class.Header refl (refl, refl, refl, refl, refl)
+same_header = same family.Header (codes "H1") class.Header refl (refl, refl, refl, refl, refl, refl)
 
 same_candidates : MeansTheSame family.Candidate (codes "K1") × MeansTheSame family.Candidate (codes "K2") × MeansTheSame family.Candidate (codes "K3")
 unfolding serde_json_on_literals
 same_candidates = (
-  same family.Candidate (codes "K1") class.Candidate refl (refl, refl, refl, refl, refl),
-  same family.Candidate (codes "K2") class.Candidate refl (refl, refl, refl, refl, refl),
-  same family.Candidate (codes "K3") class.Candidate refl (refl, refl, refl, refl, refl),
+  same family.Candidate (codes "K1") class.Candidate refl (refl, refl, refl, refl, refl, refl),
+  same family.Candidate (codes "K2") class.Candidate refl (refl, refl, refl, refl, refl, refl),
+  same family.Candidate (codes "K3") class.Candidate refl (refl, refl, refl, refl, refl, refl),
 )
 
 -- ---- selections
@@ -190,8 +192,8 @@ second_contest = ap (λ m. Some (a_selection_map m)) second_selections
 same_contests : MeansTheSame family.Contest (codes "C1") × MeansTheSame family.Contest (codes "C2")
 unfolding serde_json_on_literals
 same_contests = (
-  same_with family.Contest (codes "C1") class.CandidateContest (codes "ContestSelection") refl (refl, refl, refl, refl, refl) first_contest,
-  same_with family.Contest (codes "C2") class.BallotMeasureContest (codes "ContestSelection") refl (refl, refl, refl, refl, refl) second_contest,
+  same_with family.Contest (codes "C1") class.CandidateContest (codes "ContestSelection") refl (refl, refl, refl, refl, refl, refl) first_contest,
+  same_with family.Contest (codes "C2") class.BallotMeasureContest (codes "ContestSelection") refl (refl, refl, refl, refl, refl, refl) second_contest,
 )
 
 -- ---- the style
@@ -271,7 +273,7 @@ style_order = ap (λ c. Some (a_plain (a_content c))) same_content
 
 same_style : MeansTheSame family.Style (codes "S1")
 unfolding serde_json_on_literals
-same_style = same_with family.Style (codes "S1") class.BallotStyle (codes "OrderedContent") refl (refl, refl, refl, refl, refl) style_order
+same_style = same_with family.Style (codes "S1") class.BallotStyle (codes "OrderedContent") refl (refl, refl, refl, refl, refl, refl) style_order
 
 -- ---- the whole
 

@@ -57,6 +57,7 @@ rising cmp (x ∷ xs) e =
 abbrev rises_as : Data → MemberKind → List Data → Bool
 rises_as t (kind.Keyed family.Selection) ds = rises (option_cmp name_cmp) (map (name_of None t) ds)
 rises_as t (kind.Keyed f) ds = rises (option_cmp key_cmp) (keys_of None ds)
+rises_as t kind.Elections ds = rises (option_cmp key_cmp) (keys_of None ds)
 rises_as t kind.Identifiers ds = rises compact_cmp ds
 rises_as t kind.Languages ds = rises compact_cmp ds
 rises_as t (kind.Many f) ds = rises (option_cmp key_cmp) (keys_referred None t f ds)
@@ -75,6 +76,7 @@ keyed_rising t family.Style ds e = rising (option_cmp key_cmp) (keys_of None ds)
 
 rising_as : (t : Data) (k : MemberKind) (ds : List Data) → rises_as t k ds ≡ true → RisesAs None t k ds
 rising_as t (kind.Keyed f) ds e = keyed_rising t f ds e
+rising_as t kind.Elections ds e = rising (option_cmp key_cmp) (keys_of None ds) e
 rising_as t kind.Identifiers ds e = rising compact_cmp ds e
 rising_as t kind.Languages ds e = rising compact_cmp ds e
 rising_as t (kind.Many f) ds e = rising (option_cmp key_cmp) (keys_referred None t f ds) e

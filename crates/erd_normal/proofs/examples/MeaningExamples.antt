@@ -1,5 +1,5 @@
 -- The report of one unit and its canonical form mean the same.
-use Rattle.std.proofs.Common.{◌≡◌, ℕ, List, [], ◌∷◌, codes, slice_get, refl, None}
+use Rattle.std.proofs.Common.{◌≡◌, ℕ, List, [], ◌∷◌, codes, slice_get, refl, Option, None}
 use Rattle.std.specs.Prelude.{option_map, unwrap_or}
 use Rattle.serde_json.specs.Data.{Data, null}
 use Rattle.serde_json.proofs.OnLiterals.{serde_json_on_literals}
@@ -9,9 +9,9 @@ use Rattle.erd_tables.specs.declared.class.Family.TheVariants as family
 use Rattle.erd_tables.specs.declared.class.Role.TheVariants as role
 use Rattle.erd_check.proofs.Reports.{tree_of, one_unit}
 use Rattle.erd_meaning.proofs.examples.RecordExamples.{local_key}
-use Rattle.erd_meaning.proofs.meanings.WholeMeanings.{same_object, same_at_every_key, no_record, same_meaning}
-use Rattle.erd_meaning.specs.Objects.{objects, elections}
-use Rattle.erd_meaning.specs.Records.{object_record, records_of, meaning}
+use Rattle.erd_meaning.proofs.meanings.WholeMeanings.{same_object, same_at_every_key, no_record, same_sole_election, same_meaning}
+use Rattle.erd_meaning.specs.Objects.{Placed, objects, elections, report_of}
+use Rattle.erd_meaning.specs.Records.{election_records, object_record, records_of, meaning}
 use Rattle.erd_meaning.specs.declared.keys.key.Key.{Key}
 
 -- the canonical form of the report of one unit
@@ -24,8 +24,8 @@ given = tree_of one_unit
 abbrev canonical : Data
 canonical = tree_of one_unit_canonical
 
-abbrev election_in : Data → Data
-election_in t = unwrap_or (option_map (λ o. o.value) (slice_get (elections t) 0)) null
+abbrev election_in : Data → Placed
+election_in t = unwrap_or (slice_get (elections t) 0) (report_of null)
 
 abbrev unit_in : Data → Data
 unit_in t = unwrap_or (option_map (λ o. o.value) (slice_get (objects family.Unit t) 0)) null
@@ -34,9 +34,11 @@ same_report : object_record None canonical role.Report canonical ≡ object_reco
 unfolding serde_json_on_literals
 same_report = same_object None canonical given canonical given role.Report class.ElectionReport refl refl refl
 
-same_election : (meaning None canonical).election ≡ (meaning None given).election
+same_election : (k : Option Key) → election_records None canonical k ≡ election_records None given k
 unfolding serde_json_on_literals
-same_election = same_object None canonical given (election_in canonical) (election_in given) role.Election class.Election refl refl refl
+same_election =
+    same_sole_election None None canonical given (election_in canonical) (election_in given) refl refl refl
+    (same_object None canonical given (election_in canonical).value (election_in given).value role.Election class.Election refl refl refl)
 
 same_unit : records_of None canonical family.Unit (local_key (codes "U1")) ≡ records_of None given family.Unit (local_key (codes "U1"))
 unfolding serde_json_on_literals

@@ -1,5 +1,5 @@
 -- Small reports under two preferences: what the law says of them.
-use Rattle.std.proofs.Common.{◌≡◌, ◌<◌, ◌^◌, ℕ, List, [], ◌∷◌, ◌++◌, true, false, true≢false, Some, None, codes, slice_index_or, length, map, refl, sym, ap, ◌∙◌, arith}
+use Rattle.std.proofs.Common.{◌≡◌, ◌<◌, ◌^◌, ℕ, List, [], ◌∷◌, ◌++◌, true, false, true≢false, Option, Some, None, codes, slice_index_or, length, map, refl, sym, ap, ◌∙◌, arith}
 use Rattle.std.specs.List.{slice_get}
 use Rattle.std.specs.Prelude.{is_some, option_map, unwrap_or}
 use Rattle.serde_json.specs.Data.{Data, null}
@@ -13,12 +13,12 @@ use Rattle.erd_check.specs.Numbers.{HasFittingNumbers}
 use Rattle.erd_check.proofs.Deciding.{faults_found, is_tree, no_fault_listed, tree_sound}
 use Rattle.erd_check.proofs.Reports.{tree_of}
 use Rattle.erd_meaning.specs.Keys.{Preference}
-use Rattle.erd_meaning.specs.Objects.{IsBounded, objects, elections}
-use Rattle.erd_meaning.specs.Records.{object_record, records_of, meaning}
+use Rattle.erd_meaning.specs.Objects.{IsBounded, Placed, objects, elections, report_of}
+use Rattle.erd_meaning.specs.Records.{election_records, object_record, records_of, meaning}
 use Rattle.erd_meaning.specs.declared.keys.key.Key.{Key}
 use Rattle.erd_meaning.proofs.examples.RecordExamples.{local_key}
 use Rattle.erd_meaning.proofs.identity.IdentityFaults.{identity_told}
-use Rattle.erd_meaning.proofs.meanings.WholeMeanings.{same_object, same_at_every_key, no_record, same_meaning}
+use Rattle.erd_meaning.proofs.meanings.WholeMeanings.{same_object, same_at_every_key, no_record, same_sole_election, same_meaning}
 use Rattle.erd_meaning.proofs.references.SelectionEntries.{reference_faults}
 use Rattle.erd_meaning.proofs.refused.RefusedLists.{accepted_by_lists}
 use Rattle.erd_meaning.proofs.selections.SelectionFaults.{selections_told}
@@ -103,8 +103,8 @@ moved_is = given_by moved refl (tt, (((tt, (tt, (tt, (tt, (tt, (tt, tt)))))), tt
 
 -- ---- equal under one, and so under the other
 
-abbrev election_in : Data → Data
-election_in t = unwrap_or (option_map (λ o. o.value) (slice_get (elections t) 0)) null
+abbrev election_in : Data → Placed
+election_in t = unwrap_or (slice_get (elections t) 0) (report_of null)
 
 abbrev unit_in : Data → Data
 unit_in t = unwrap_or (option_map (λ o. o.value) (slice_get (objects family.Unit t) 0)) null
@@ -113,9 +113,11 @@ same_report : object_record None given role.Report given ≡ object_record None 
 unfolding serde_json_on_literals
 same_report = same_object None given renamed given renamed role.Report class.ElectionReport refl refl refl
 
-same_election : (meaning None given).election ≡ (meaning None renamed).election
+same_election : (k : Option Key) → election_records None given k ≡ election_records None renamed k
 unfolding serde_json_on_literals
-same_election = same_object None given renamed (election_in given) (election_in renamed) role.Election class.Election refl refl refl
+same_election =
+    same_sole_election None None given renamed (election_in given) (election_in renamed) refl refl refl
+    (same_object None given renamed (election_in given).value (election_in renamed).value role.Election class.Election refl refl refl)
 
 same_unit : records_of None given family.Unit fips_key ≡ records_of None renamed family.Unit fips_key
 unfolding serde_json_on_literals

@@ -1,5 +1,5 @@
 -- Lists that are put in order and built entry by entry, and the arrays of them.
-use Rattle.std.proofs.Common.{◌≡◌, ◌≤◌, ℕ, zero, suc, List, [], ◌∷◌, map, length, Bool, true, false, not, ◌==◌, if◌then◌else◌, is_lt, Ordering, Option, Some, None, refl, ap, ◌∙◌, subst, arith}
+use Rattle.std.proofs.Common.{◌≡◌, ◌≤◌, ℕ, zero, suc, List, [], ◌∷◌, map, length, Bool, true, false, ◌==◌, if◌then◌else◌, is_lt, Ordering, Option, Some, None, refl, ap, ◌∙◌, subst, arith}
 use Rattle.std.specs.Bool.{⊤}
 use Rattle.std.specs.List.{AllByRecursion}
 use Rattle.serde_json.specs.Data.{Data, array, Items, no_items, item, items_depth, depth}
@@ -7,7 +7,7 @@ use Rattle.serde_json.specs.Find.{get_item}
 use Rattle.serde_json.specs.View.{items_of}
 use Rattle.erd_check.specs.Trees.{IsTree, AreTrees}
 use Rattle.erd_check.specs.Values.{entries_of, list_of_items}
-use Rattle.erd_check.specs.Faults.{has_not_one_entry, is_array, is_empty_array}
+use Rattle.erd_check.specs.Faults.{is_array, is_empty_array}
 use Rattle.erd_check.proofs.Lists.{list_of_items-items_of}
 use Rattle.erd_meaning.specs.SelectionNames.{with_inserted, rising_list}
 use Rattle.erd_normal.specs.code.NormalTree.{array_of, unless_no_entry}
@@ -91,10 +91,6 @@ entry_holds P (x ∷ xs) (suc i) e all found = entry_holds P xs i e all.1 found
 pub as_empty : (d : Data) (es : List Data) → is_array d ≡ true → length es ≡ length (entries_of d) → is_empty_array (array_of es) ≡ is_empty_array d
 as_empty (array ds) es is same = ap (λ n. n == 0) (ap length (list_of_items-items_of es) ∙ same)
 as_empty d es is same = cc
-
-pub as_one : (d : Data) (es : List Data) → is_array d ≡ true → length es ≡ length (entries_of d) → has_not_one_entry (array_of es) ≡ has_not_one_entry d
-as_one (array ds) es is same = ap (λ n. not (n == 1)) (ap length (list_of_items-items_of es) ∙ same)
-as_one _ es is same = cc
 
 -- what is given is the value, and the array is not empty
 pub given_unless : (d v v' : Data) → unless_no_entry d v ≡ Some v' → (is_empty_array d ≡ false) × (v ≡ v')

@@ -8,7 +8,7 @@ use Rattle.erd_check.proofs.Shapes.{false_unless}
 use Rattle.erd_check.proofs.Rising.{Has, here, later}
 use Rattle.erd_normal.proofs.lists.FoundBuilt.{AreApart}
 use Rattle.erd_normal.proofs.lists.Paired.{Paired, none, more}
-use Rattle.erd_normal.proofs.lists.Reordered.{Reordered, no_entry, one_kept, two_exchanged, in_turn, any-reordered, count-reordered, length-reordered, reordered_after, reordered_back, reordered_before, reordered_flat, reordered-has, reordered_self}
+use Rattle.erd_normal.proofs.lists.Reordered.{Reordered, no_entry, one_kept, two_exchanged, in_turn, any-reordered, count-reordered, length-reordered, reordered_after, reordered_back, reordered_before, reordered_flat, reordered-has, reordered_map, reordered_self}
 
 -- the entries of the one list are related to those of the other, each to one, in some order
 pub record Matched {A B : Type 0} (R : A → B → Type 0) (xs : List A) (ys : List B) : Type 0 where
@@ -84,6 +84,14 @@ flat_paired f g each (more {x = x} {y = y} r rest) = matched_append (each x y he
 pub matched_flat : {A B C D : Type 0} {R : A → B → Type 0} {S : C → D → Type 0} (f : A → List C) (g : B → List D) → {xs : List A} {ys : List B} → ((x : A) (y : B) → Has xs x → R x y → Matched S (f x) (g y))
     → Matched R xs ys → Matched S (flat_map f xs) (flat_map g ys)
 matched_flat f g each m = matched_then (flat_paired f g each m.paired) (reordered_flat g m.reordered)
+
+-- values of functions of related entries
+paired_mapped : {A B C D : Type 0} {R : A → B → Type 0} {S : C → D → Type 0} (f : A → C) (g : B → D) → ((x : A) (y : B) → R x y → S (f x) (g y)) → {xs : List A} {ys : List B} → Paired R xs ys → Paired S (map f xs) (map g ys)
+paired_mapped f g h none = none
+paired_mapped f g h (more {x = x} {y = y} r rest) = more (h x y r) (paired_mapped f g h rest)
+
+pub matched_mapped : {A B C D : Type 0} {R : A → B → Type 0} {S : C → D → Type 0} (f : A → C) (g : B → D) → ((x : A) (y : B) → R x y → S (f x) (g y)) → {xs : List A} {ys : List B} → Matched R xs ys → Matched S (map f xs) (map g ys)
+matched_mapped f g h m = record { middle = map g m.middle; paired = paired_mapped f g h m.paired; reordered = reordered_map g m.reordered }
 
 -- ---- what is found
 

@@ -31,6 +31,11 @@ all_keys {A} {K} key (x ∷ xs) each = at (key x) refl (each x here) (all_keys k
     at : (o : Option K) → key x ≡ o → (k : K) × (key x ≡ Some k) → Keys key xs (filter_map key xs) → Keys key (x ∷ xs) (filter_map key (x ∷ xs))
     at o e k rest = subst (λ p. Keys key (x ∷ xs) (cons_option p (filter_map key xs))) (sym k.1) (more k.1 rest)
 
+-- where each has one in any case
+pub sure_keys : {A K : Type 0} (key : A → K) (xs : List A) → Keys (λ x. Some (key x)) xs (map key xs)
+sure_keys key [] = none
+sure_keys key (x ∷ xs) = more refl (sure_keys key xs)
+
 keys_above : {A K : Type 0} (cmp : K → K → Ordering) (key : A → Option K) (k : K) (o : Option K) (xs : List A) (ks : List K) → o ≡ Some k → Keys key xs ks
     → AllByRecursion (λ p. option_cmp cmp o p ≡ Less) (map key xs) → AllByRecursion (λ l. cmp k l ≡ Less) ks
 keys_above cmp key k o xs ks is none all = tt

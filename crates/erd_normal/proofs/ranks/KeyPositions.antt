@@ -5,8 +5,8 @@ use Rattle.std.specs.List.{slice_get}
 use Rattle.serde_json.specs.Data.{Data}
 use Rattle.erd_tables.specs.declared.class.Family.{Family}
 use Rattle.erd_meaning.specs.Keys.{Preference, has_keys, key_of, key_of_family_object}
-use Rattle.erd_meaning.specs.Lookups.{key_in}
-use Rattle.erd_meaning.specs.Objects.{Placed, objects}
+use Rattle.erd_meaning.specs.Lookups.{election_key_in, key_in}
+use Rattle.erd_meaning.specs.Objects.{Placed, elections, objects}
 use Rattle.erd_normal.specs.code.KeyRanks.{keyed_from}
 
 -- ---- what is left of a list
@@ -61,3 +61,11 @@ key_lent π f t i d keyed e = at (slice_get (objects f t) i) e
     at : (o : Option Placed) → option_map (λ o. o.value) o ≡ Some d → option_and_then (λ o. key_of_family_object π f o.value) o ≡ key_of π d
     at None e = cc
     at (Some o) e = let same : o.value ≡ d = cc in ap (λ b. cond b (key_of π o.value) None) keyed ∙ ap (key_of π) same
+
+-- and for the election at a position
+pub election_key_lent : (π : Preference) (t : Data) (i : ℕ) (d : Data) → option_map (λ e. e.value) (slice_get (elections t) i) ≡ Some d → election_key_in π t i ≡ key_of π d
+election_key_lent π t i d e = at (slice_get (elections t) i) e
+  where
+    at : (o : Option Placed) → option_map (λ e. e.value) o ≡ Some d → option_and_then (λ (e : Placed). key_of π e.value) o ≡ key_of π d
+    at None e = cc
+    at (Some o) e = let same : o.value ≡ d = cc in ap (key_of π) same

@@ -1,5 +1,5 @@
 -- What a reference names, by the number of the object that has the `@id`.
-use Rattle.std.proofs.Common.{◌≡◌, ◌==◌, ◌<◌, ◌≤◌, ◌^◌, ℕ, ◌+◌, List, [], ◌∷◌, ◌++◌, filter, length, Bool, true, false, true≢false, cond, Option, Some, None, option_and_then, option_map, is_some, map, unwrap_or, decimal, if◌then◌else◌, is_gt, is_lt, refl, sym, ap, ◌∙◌, subst, arith}
+use Rattle.std.proofs.Common.{◌≡◌, ◌==◌, ◌<◌, ◌≤◌, ◌^◌, ℕ, zero, suc, ◌+◌, Vec, Global, List, [], ◌∷◌, ◌++◌, filter, length, Bool, true, false, true≢false, cond, Option, Some, None, option_and_then, option_map, is_some, map, unwrap_or, decimal, if◌then◌else◌, is_gt, is_lt, refl, sym, ap, ◌∙◌, subst, arith}
 use Rattle.std.specs.Cmp.Lexicographic.{options_total}
 use Rattle.std.specs.Option.{option_cmp, option_map_or}
 use Rattle.serde_json.specs.Data.{Data}
@@ -25,9 +25,10 @@ use Rattle.erd_normal.proofs.lists.NumbersInOrder.{ranks_climb}
 use Rattle.erd_normal.proofs.lists.RisingSets.{has_from_In, In-from_has}
 use Rattle.erd_normal.specs.code.Building.{AreNumbers, numbered_id}
 use Rattle.erd_normal.specs.Canonical.{id_prefix, rank_of}
-use Rattle.erd_normal.specs.code.KeyRanks.{keyed_value, rising_in_contest, rising_objects}
+use Rattle.erd_normal.specs.code.ElectionParts.{objects_of_part, part_seen}
+use Rattle.erd_normal.specs.code.KeyRanks.{keyed_value, rising_in_contest}
 use Rattle.erd_normal.specs.code.NormalTree.{normal_id, reference_cmp}
-use Rattle.erd_normal.specs.code.ObjectNumbers.{AreSelectionNumbers, AreObjectNumbers, number_in, number_named, numbers_of_family, rising_of_family}
+use Rattle.erd_normal.specs.code.ObjectNumbers.{AreSelectionNumbers, AreObjectNumbers, number_in, number_named, numbers_of_family, parts_of_family}
 use Rattle.erd_normal.specs.declared.numbers.family_table.FamilyTable.{FamilyTable}
 use Rattle.erd_normal.specs.declared.numbers.object_numbers.ObjectNumbers.{ObjectNumbers}
 use denote.Ref.{Bor}
@@ -147,42 +148,43 @@ bounded_by t u p e o h c k s l family.Contest = k
 bounded_by t u p e o h c k s l family.Style = s
 bounded_by t u p e o h c k s l family.Selection = l
 
--- the objects of a family in order, which are few
-pub record IsRising (π : Preference) (t : Data) (f : Family) (rising : List (Option Key × (ℕ × Bor Value))) : Type 0 where
-  pub is : map (λ p. keyed_value p.0 p.1.0 (view p.1.1.now)) rising ≡ rising_objects π t f
+-- the objects of a family election by election, which are few
+pub record AreParts (π : Preference) (t : Data) (f : Family) (parts : List (Vec (ℕ × (ℕ × Bor Value)) Global)) : Type 0 where
+  pub are : (i : ℕ) → part_seen parts i ≡ objects_of_part π t f i
   pub few : length (objects f t) < 2 ^ 64
 
 -- and with their numbers
 pub record IsTable (π : Preference) (t : Data) (f : Family) (table : FamilyTable) : Type 0 where
-  pub rising : IsRising π t f table.rising.items
+  pub parts : AreParts π t f table.parts.items
   pub numbers : AreNumbers π t f table.numbers.items
 
-rising_by_family : (π : Preference) (t : Data) (n : ObjectNumbers) → IsRising π t family.Unit n.units.rising.items → IsRising π t family.Party n.parties.rising.items
-    → IsRising π t family.Person n.persons.rising.items → IsRising π t family.Office n.offices.rising.items → IsRising π t family.Header n.headers.rising.items
-    → IsRising π t family.Candidate n.candidates.rising.items → IsRising π t family.Contest n.contests.rising.items → IsRising π t family.Style n.styles.items
-    → (f : Family) → map (λ p. keyed_value p.0 p.1.0 (view p.1.1.now)) (rising_of_family f n) ≡ rising_objects π t f
-rising_by_family π t n u p e o h c k s family.Unit = u.is
-rising_by_family π t n u p e o h c k s family.Party = p.is
-rising_by_family π t n u p e o h c k s family.Person = e.is
-rising_by_family π t n u p e o h c k s family.Office = o.is
-rising_by_family π t n u p e o h c k s family.Header = h.is
-rising_by_family π t n u p e o h c k s family.Candidate = c.is
-rising_by_family π t n u p e o h c k s family.Contest = k.is
-rising_by_family π t n u p e o h c k s family.Style = s.is
-rising_by_family π t n u p e o h c k s family.Selection = refl
+parts_by_family : (π : Preference) (t : Data) (n : ObjectNumbers) → AreParts π t family.Unit n.units.parts.items → AreParts π t family.Party n.parties.parts.items
+    → AreParts π t family.Person n.persons.parts.items → AreParts π t family.Office n.offices.parts.items → AreParts π t family.Header n.headers.parts.items
+    → AreParts π t family.Candidate n.candidates.parts.items → AreParts π t family.Contest n.contests.parts.items → AreParts π t family.Style n.styles.items
+    → (f : Family) (i : ℕ) → part_seen (parts_of_family f n) i ≡ objects_of_part π t f i
+parts_by_family π t n u p e o h c k s family.Unit i = u.are i
+parts_by_family π t n u p e o h c k s family.Party i = p.are i
+parts_by_family π t n u p e o h c k s family.Person i = e.are i
+parts_by_family π t n u p e o h c k s family.Office i = o.are i
+parts_by_family π t n u p e o h c k s family.Header i = h.are i
+parts_by_family π t n u p e o h c k s family.Candidate i = c.are i
+parts_by_family π t n u p e o h c k s family.Contest i = k.are i
+parts_by_family π t n u p e o h c k s family.Style i = s.are i
+parts_by_family π t n u p e o h c k s family.Selection zero = refl
+parts_by_family π t n u p e o h c k s family.Selection (suc i) = refl
 
 pub object_numbers_made : (π : Preference) (t : Data) (n : ObjectNumbers) → IsAccepted π t → has_float t ≡ false → IsTable π t family.Unit n.units → IsTable π t family.Party n.parties
     → IsTable π t family.Person n.persons → IsTable π t family.Office n.offices → IsTable π t family.Header n.headers → IsTable π t family.Candidate n.candidates
-    → IsTable π t family.Contest n.contests → IsRising π t family.Style n.styles.items
+    → IsTable π t family.Contest n.contests → AreParts π t family.Style n.styles.items
     → map (λ table. map (λ p. keyed_value p.0 p.1.0 (view p.1.1.now)) table.items) n.selections.rising.items ≡ map (λ o. rising_in_contest π t o.value) (contests t)
     → AreSelectionNumbers π t n.selections.numbers.items → length (objects family.Selection t) < 2 ^ 64
     → AreObjectNumbers π t n
-object_numbers_made π t n accepted whole u p e o h c k s rising selections few = record {
+object_numbers_made π t n accepted whole u p e o h c k s tables selections few = record {
   accepted = accepted;
-  bounded = record { few = bounded_by t u.rising.few p.rising.few e.rising.few o.rising.few h.rising.few c.rising.few k.rising.few s.few few };
+  bounded = record { few = bounded_by t u.parts.few p.parts.few e.parts.few o.parts.few h.parts.few c.parts.few k.parts.few s.few few };
   whole = whole;
-  rising = rising_by_family π t n u.rising p.rising e.rising o.rising h.rising c.rising k.rising s;
+  parts = parts_by_family π t n u.parts p.parts e.parts o.parts h.parts c.parts k.parts s;
   numbers = numbers_by_family π t n u.numbers p.numbers e.numbers o.numbers h.numbers c.numbers k.numbers;
-  contests = rising;
+  contests = tables;
   selections = selections;
 }

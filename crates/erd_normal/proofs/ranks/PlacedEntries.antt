@@ -17,7 +17,7 @@ from_append f n (x ∷ xs) y =
     let same : length xs + (n + 1) ≡ length (x ∷ xs) + n = omega arith in
     ap (λ ys. f n x ∷ ys) (from_append f (n + 1) xs y ∙ ap (λ m. map_from f (n + 1) xs ++ f m y ∷ []) same)
 
-count_taken : {A : Type 0} (xs : List A) (i : ℕ) → i < length xs → length (take i xs) ≡ i
+pub count_taken : {A : Type 0} (xs : List A) (i : ℕ) → i < length xs → length (take i xs) ≡ i
 count_taken [] i low = absurd (omega arith)
 count_taken (x ∷ xs) zero low = refl
 count_taken (x ∷ xs) (suc i) low = let rest : length (take i xs) ≡ i = count_taken xs i (omega arith) in omega arith
@@ -36,7 +36,7 @@ placed_more see g f built vs i v x low here new earlier =
 
 -- ---- without fractions
 
-unmapped : {X : Type 0} (P : Data → Type 0) (g : X → Data) (xs : List X) → AllByRecursion P (map g xs) → AllByRecursion (λ x. P (g x)) xs
+pub unmapped : {X Y : Type 0} (P : Y → Type 0) (g : X → Y) (xs : List X) → AllByRecursion P (map g xs) → AllByRecursion (λ x. P (g x)) xs
 unmapped P g [] all = tt
 unmapped P g (x ∷ xs) all = (all.0, unmapped P g xs all.1)
 

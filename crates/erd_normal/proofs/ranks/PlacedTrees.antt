@@ -1,9 +1,9 @@
 -- The tree with objects numbered by their places is the tree that is built for an accepted report.
-use Rattle.std.proofs.Common.{◌≡◌, ℕ, zero, suc, ◌+◌, List, [], ◌∷◌, map, true, Option, Some, codes, option_map, slice_get, refl, sym, ap, ap₂, ◌∙◌, subst, arith}
+use Rattle.std.proofs.Common.{◌≡◌, ℕ, zero, suc, ◌+◌, List, [], ◌∷◌, filter, flat_map, map, true, Option, Some, codes, option_map, slice_get, refl, sym, ap, ap₂, ◌∙◌, subst, arith}
 use Rattle.std.proofs.lemmas.Option.{slice_get-map}
 use Rattle.std.specs.Option.{option_cmp, option_map_or}
 use Rattle.serde_json.specs.Data.{Data, array, object, Members, no_members, member}
-use Rattle.serde_json.specs.Find.{get_member}
+use Rattle.serde_json.specs.Find.{get, get_member}
 use Rattle.erd_tables.specs.Classes.{role_of_class}
 use Rattle.erd_tables.specs.Table.{kind_of_member}
 use Rattle.erd_tables.specs.declared.class.Class.{Class}
@@ -17,29 +17,32 @@ use Rattle.erd_check.specs.Trees.{AreMembers, IsTree}
 use Rattle.erd_check.specs.Values.{entries_of, entries_at, list_of_items}
 use Rattle.erd_check.specs.Wants.{asked, class_of_object}
 use Rattle.erd_check.specs.declared.want.Want.TheVariants.{Object}
+use Rattle.erd_check.proofs.Entries.{entries_in}
 use Rattle.erd_check.proofs.Members.{get_member-first}
 use Rattle.erd_check.proofs.ObjectsAt.{ObjectIn, object_in}
 use Rattle.erd_check.proofs.Rising.{Has, here, later}
 use Rattle.erd_check.proofs.Shapes.{Within, within-tree}
 use Rattle.erd_meaning.proofs.accepted.Phases.{no_shape_fault}
-use Rattle.erd_meaning.proofs.accepted.Skeleton.{Skeleton, skeleton}
-use Rattle.erd_meaning.proofs.accepted.SoleElection.{SoleElection, only_sole, sole_election}
+use Rattle.erd_meaning.proofs.accepted.Skeleton.{Skeleton, election_entries, election_object, election_stands, skeleton, values-placed_entries}
 use Rattle.erd_meaning.proofs.accepted.Standing.{stands}
 use Rattle.erd_meaning.specs.Accepted.{IsAccepted}
 use Rattle.erd_meaning.specs.Keys.{Preference, has_keys, key_cmp, key_of}
-use Rattle.erd_meaning.specs.Objects.{Placed, objects}
+use Rattle.erd_meaning.specs.Objects.{Placed, elections, objects, placed_entries, report_of}
 use Rattle.erd_meaning.specs.NameParts.{NameParts}
 use Rattle.erd_meaning.specs.SelectionNames.{name_cmp, name_of, rising_list, selection_role}
 use Rattle.erd_meaning.specs.declared.keys.key.Key.{Key}
 use Rattle.erd_meaning.proofs.accepted.References.{option_map-Some}
 use Rattle.erd_normal.proofs.built.BuiltFrom.{Builder}
-use Rattle.erd_normal.proofs.built.FamilyNames.{contest_of_selections, election_objects_are, elections_name, family_name, keyed_name, report_objects}
+use Rattle.erd_normal.proofs.built.FamilyNames.{contest_of_selections, elections_name, family_name, keyed_name, report_objects}
 use Rattle.erd_normal.proofs.canonical.RisingReports.{object_ids, selection_ids}
+use Rattle.erd_normal.proofs.lists.NumberedKept.{kept_has, numbered_stands}
 use Rattle.erd_normal.proofs.ranks.FamilyNumbers.{values_kept}
+use Rattle.erd_normal.proofs.ranks.PartObjects.{in_elections_kept, in_report_kept, is_in, values_of_part}
 use Rattle.erd_normal.proofs.ranks.RisingTables.{stands_in, values_in}
-use Rattle.erd_normal.specs.code.KeyRanks.{keyed_values, rising_at, rising_in_contest, rising_objects}
+use Rattle.erd_normal.specs.code.ElectionParts.{numbered_objects, objects_of_part}
+use Rattle.erd_normal.specs.code.KeyRanks.{keyed_values, rising_at, rising_elections, rising_in_contest, rising_objects}
 use Rattle.erd_normal.specs.code.NormalTree.{array_of, by_key, by_name, in_envelope, normal_election, normal_election_value, normal_members, normal_object, normal_object_value, normal_object_with, normal_report_value, normal_selection, normal_tree, normal_value, unless_no_entry, with_id}
-use Rattle.erd_normal.specs.code.PlacedTree.{map_from, placed_election, placed_election_value, placed_object, placed_object_value, placed_objects, placed_report_value, placed_selection}
+use Rattle.erd_normal.specs.code.PlacedTree.{map_from, placed_election, placed_election_value, placed_elections, placed_object, placed_object_value, placed_objects, placed_report_value, placed_selection}
 use Rattle.erd_check.proofs.Positions.{map_has, has_at}
 use Rattle.erd_normal.proofs.lists.RisingSets.{In-from_has}
 use Rattle.erd_normal.proofs.lists.StableRising.{map_after}
@@ -140,40 +143,70 @@ module _ (π : Preference) (t : Data) (accepted : IsAccepted π t) (tree : IsTre
         subst (λ d. placed_object π t f (i + 1) (x.0, d) ≡ normal_object π t f d) o.2
         (object_agrees f i x.0 o.0 (has_at (objects f t) x.0 o.0 o.1) o.1 (here ∙ ap Some (sym o.2)) keyed)
 
-    objects_agree : (ds : List Data) → map (λ o. o.value) (objects f t) ≡ ds → placed_objects π t f ≡ map (normal_object π t f) (rising_list (by_key π) ds)
-    objects_agree ds is =
-        map_by_place (placed_object π t f) (λ x. normal_object π t f x.1) 1 pairs each_agrees
-        ∙ (map_after (λ (x : ℕ × Data). x.1) (normal_object π t f) pairs
-        ∙ ap (map (normal_object π t f)) (values_are ∙ ap (rising_list (by_key π)) is))
+    -- the number of an object is the place of its key
+    numbered_agrees : (o : ℕ × (ℕ × Data)) → Has (numbered_objects π t f) o → placed_object π t f o.0 o.1 ≡ normal_object π t f o.1.1
+    numbered_agrees o h =
+        let place = numbered_stands 1 pairs o h in
+        ap (λ n. placed_object π t f n o.1) place.1 ∙ each_agrees place.0 o.1 place.2
 
-  -- ---- the election
+    -- the objects of one election, or of the report
+    objects_agree : (i : ℕ) (ds : List Data) → map (λ o. o.value) (filter (is_in i) (objects f t)) ≡ ds → placed_objects π t f i ≡ map (normal_object π t f) (rising_list (by_key π) ds)
+    objects_agree i ds is =
+        maps_agree (λ o. placed_object π t f o.0 o.1) (λ o. normal_object π t f o.1.1) (objects_of_part π t f i) (λ o h. numbered_agrees o (kept_has _ (numbered_objects π t f) o h))
+        ∙ (map_after (λ (o : ℕ × (ℕ × Data)). o.1.1) (normal_object π t f) (objects_of_part π t f i)
+        ∙ ap (map (normal_object π t f)) (values_of_part π t f keyed i ∙ ap (rising_list (by_key π)) is))
 
-  module _ (s : Skeleton t) (sole : SoleElection t s) where
-    keyed_in_election : (f : Family) → kind_of_member class.Election (family_name f) ≡ kind.Keyed f → has_keys f ≡ true
-    keyed_in_election family.Selection is = cc
-    keyed_in_election f is = refl
+  -- ---- the elections
 
-    election_value : (name : List ℕ) (v : Data) → get_member name sole.members ≡ Some v → (k : MemberKind) → kind_of_member class.Election name ≡ k → placed_election_value π t k v ≡ normal_election_value π t k v
-    election_value name v found (kind.Keyed f) named =
-        let called : name ≡ family_name f = keyed_name class.Election name f named in
-        let is : kind_of_member class.Election (family_name f) ≡ kind.Keyed f = ap (kind_of_member class.Election) (sym called) ∙ named in
-        ap (λ ds. unless_no_entry v (array_of ds))
-        (objects_agree f (keyed_in_election f is) (entries_of v) (election_objects_are t s sole f v is (ap (λ n. get_member n sole.members) (sym called) ∙ found)))
-    election_value name v found k named = refl
+  keyed_in_election : (f : Family) → kind_of_member class.Election (family_name f) ≡ kind.Keyed f → has_keys f ≡ true
+  keyed_in_election family.Selection is = cc
+  keyed_in_election f is = refl
 
-    election_agrees : placed_election π t (object sole.members) ≡ normal_election π t (object sole.members)
-    election_agrees =
-        let left : Builder = λ name k v. placed_election_value π t k v in
-        let right : Builder = λ name k v. normal_election_value π t k v in
-        let trees : AreMembers sole.members = within-tree t (asked (Object role.Election) (object sole.members)) tree sole.at.inside in
-        let members : normal_object_with left (Some class.Election) (object sole.members) ≡ normal_object_with right (Some class.Election) (object sole.members) =
-        ap object (members_agree left right class.Election sole.members trees (λ name v found. election_value name v found (kind_of_member class.Election name) refl)) in
-        ap (λ c. normal_object_with left c (object sole.members)) sole.at.among ∙ (members ∙ sym (ap (λ c. normal_object_with right c (object sole.members)) sole.at.among))
+  module _ (s : Skeleton t) where
+    module _ (i : ℕ) (e : Placed) (at : slice_get (elections t) i ≡ Some e) where
+      held : (name : List ℕ) → map (λ o. o.value) (filter (is_in i) (flat_map (placed_entries name) (elections t))) ≡ entries_at name e.value
+      held name =
+          ap (map (λ (o : Placed). o.value)) (in_elections_kept t name i ∙ ap (λ o. option_map_or (placed_entries name) o []) at)
+          ∙ values-placed_entries name e
 
-    elections_agree : map (placed_election π t) (list_of_items s.es) ≡ map (normal_election π t) (list_of_items s.es)
+      -- what the election holds
+      held_here : (f : Family) → kind_of_member class.Election (family_name f) ≡ kind.Keyed f → map (λ o. o.value) (filter (is_in i) (objects f t)) ≡ entries_at (family_name f) e.value
+      held_here family.Candidate is = held (codes "Candidate")
+      held_here family.Contest is = held (codes "Contest")
+      held_here family.Style is = held (codes "BallotStyle")
+      held_here f is = cc
+
+      election_value : (name : List ℕ) (v : Data) → get name e.value ≡ Some v → (k : MemberKind) → kind_of_member class.Election name ≡ k → placed_election_value π t i k v ≡ normal_election_value π t k v
+      election_value name v found (kind.Keyed f) named =
+          let called : name ≡ family_name f = keyed_name class.Election name f named in
+          let is : kind_of_member class.Election (family_name f) ≡ kind.Keyed f = ap (kind_of_member class.Election) (sym called) ∙ named in
+          ap (λ ds. unless_no_entry v (array_of ds))
+          (objects_agree f (keyed_in_election f is) i (entries_of v) (held_here f is ∙ ap entries_in (ap (λ n. get n e.value) (sym called) ∙ found)))
+      election_value name v found k named = refl
+
+      election_agrees : placed_election π t (i, e.value) ≡ normal_election π t e.value
+      election_agrees =
+          let clean = no_shape_fault π t accepted in
+          let w : Within t (asked (Object role.Election) e.value) = record { place = e.place; is = election_stands t s e (has_at (elections t) i e at) } in
+          let x = election_object t clean e.value w in
+          let left : Builder = λ name k v. placed_election_value π t i k v in
+          let right : Builder = λ name k v. normal_election_value π t k v in
+          let trees : AreMembers x.0 = subst IsTree x.1 (within-tree t (asked (Object role.Election) e.value) tree w) in
+          let among : class_of_object role.Election e.value ≡ Some class.Election = ap (class_of_object role.Election) x.1 ∙ x.2.among in
+          let members : normal_object_with left (Some class.Election) (object x.0) ≡ normal_object_with right (Some class.Election) (object x.0) =
+          ap object (members_agree left right class.Election x.0 trees (λ name v found. election_value name v (ap (get name) x.1 ∙ found) (kind_of_member class.Election name) refl)) in
+          ap₂ (normal_object_with left) among x.1 ∙ (members ∙ sym (ap₂ (normal_object_with right) among x.1))
+
+    elections_agree : placed_elections π t ≡ map (normal_election π t) (rising_list (by_key π) (list_of_items s.es))
     elections_agree =
-        maps_agree (placed_election π t) (normal_election π t) (list_of_items s.es)
-        (λ d h. subst (λ x. placed_election π t x ≡ normal_election π t x) (sym (only_sole t s sole d h)) election_agrees)
+        let ds = map (λ (e : Placed). e.value) (elections t) in
+        maps_agree (λ (p : Option Key × (ℕ × Data)). placed_election π t p.1) (λ p. normal_election π t p.1.1) (rising_elections π t) (λ p h.
+        let there = stands_in (option_cmp key_cmp) (key_of π) ds p (In-from_has p (rising_elections π t) h) in
+        let e = option_map-Some (λ (e : Placed). e.value) (slice_get (elections t) p.1.0) p.1.1 (sym (slice_get-map (λ (e : Placed). e.value) (elections t) p.1.0) ∙ there) in
+        subst (λ d. placed_election π t (p.1.0, d) ≡ normal_election π t d) e.2 (election_agrees p.1.0 e.0 e.1))
+        ∙ (map_after (λ (p : Option Key × (ℕ × Data)). p.1.1) (normal_election π t) (rising_elections π t)
+        ∙ ap (map (normal_election π t))
+        (values_in (option_cmp key_cmp) (key_of π) ds ∙ ap (rising_list (by_key π)) (values-placed_entries (codes "Election") (report_of t) ∙ election_entries t s)))
 
     -- ---- the report
 
@@ -181,18 +214,25 @@ module _ (π : Preference) (t : Data) (accepted : IsAccepted π t) (tree : IsTre
     keyed_in_report family.Selection is = cc
     keyed_in_report f is = refl
 
+    held_by_report : (f : Family) → kind_of_member class.ElectionReport (family_name f) ≡ kind.Keyed f → filter (is_in 0) (objects f t) ≡ objects f t
+    held_by_report family.Unit is = in_report_kept t (codes "GpUnit") refl 0
+    held_by_report family.Party is = in_report_kept t (codes "Party") refl 0
+    held_by_report family.Person is = in_report_kept t (codes "Person") refl 0
+    held_by_report family.Office is = in_report_kept t (codes "Office") refl 0
+    held_by_report family.Header is = in_report_kept t (codes "Header") refl 0
+    held_by_report f is = cc
+
     report_value : (name : List ℕ) (v : Data) → get_member name s.ms ≡ Some v → (k : MemberKind) → kind_of_member class.ElectionReport name ≡ k → placed_report_value π t name k v ≡ normal_report_value π t name k v
     report_value name v found (kind.Keyed f) named =
         let called : name ≡ family_name f = keyed_name class.ElectionReport name f named in
         let is : kind_of_member class.ElectionReport (family_name f) ≡ kind.Keyed f = ap (kind_of_member class.ElectionReport) (sym called) ∙ named in
         ap (λ ds. unless_no_entry v (array_of ds))
-        (objects_agree f (keyed_in_report f is) (entries_of v) (report_objects t s f v is (ap (λ n. get_member n s.ms) (sym called) ∙ found)))
+        (objects_agree f (keyed_in_report f is) 0 (entries_of v) (ap (map (λ (o : Placed). o.value)) (held_by_report f is) ∙ report_objects t s f v is (ap (λ n. get_member n s.ms) (sym called) ∙ found)))
     report_value name v found kind.Elections named =
         let called : name ≡ codes "Election" = elections_name class.ElectionReport name named in
         let listed : Some v ≡ Some (array s.es) = sym found ∙ (ap (λ n. get_member n s.ms) called ∙ s.listed) in
         let same : v ≡ array s.es = cc in
-        subst (λ x. Some (array_of (map (placed_election π t) (entries_of x))) ≡ Some (array_of (map (normal_election π t) (entries_of x)))) (sym same)
-        (ap (λ ds. Some (array_of ds)) elections_agree)
+        ap (λ ds. Some (array_of ds)) (elections_agree ∙ ap (λ x. map (normal_election π t) (rising_list (by_key π) (entries_of x))) (sym same))
     report_value name v found k named = refl
 
     report_agrees : placed_tree π t ≡ normal_tree π t
@@ -207,4 +247,4 @@ module _ (π : Preference) (t : Data) (accepted : IsAccepted π t) (tree : IsTre
 
   -- the tree with numbers by places is the tree that is built
   pub placed_is_normal : placed_tree π t ≡ normal_tree π t
-  placed_is_normal = let s : Skeleton t = skeleton π t accepted in report_agrees s (sole_election t (no_shape_fault π t accepted) s)
+  placed_is_normal = report_agrees (skeleton π t accepted)

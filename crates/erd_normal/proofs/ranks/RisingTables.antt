@@ -1,7 +1,8 @@
 -- A table of values in the order of their keys gives the order of the values and the places of their keys.
-use Rattle.std.proofs.Common.{◌≡◌, ℕ, suc, ◌+◌, inl, inr, List, [], ◌∷◌, map, length, replicate, Some, Ordering, slice_get, refl, sym, ap, ◌∙◌, arith}
+use Rattle.std.proofs.Common.{◌≡◌, ℕ, suc, ◌+◌, inl, inr, List, [], ◌∷◌, map, length, replicate, Some, Ordering, slice_get, refl, sym, ap, ap₂, ◌∙◌, arith}
 use Rattle.std.proofs.lemmas.List.{length-map}
 use Rattle.std.specs.Cmp.{IsTotalOrder}
+use Rattle.std.specs.List.{AllByRecursion}
 use Rattle.serde_json.specs.Data.{Data}
 use Rattle.erd_check.proofs.Order.{In}
 use Rattle.erd_meaning.proofs.orders.RisingLists.{rising_list_map}
@@ -36,9 +37,31 @@ module _ {K : Type 0} (cmp : K → K → Ordering) where
     keyed_places i [] = refl
     keyed_places i (d ∷ ds) = ap (λ ps. (key d, i) ∷ ps) (keyed_places (i + 1) ds)
 
-    keyed_parts : (i : ℕ) (ds : List Data) → map value_in (keyed_from key i ds) ≡ map beside_key ds
-    keyed_parts i [] = refl
-    keyed_parts i (d ∷ ds) = ap (λ ps. (key d, d) ∷ ps) (keyed_parts (i + 1) ds)
+    -- each key is that of the value beside it
+    abbrev pub IsOfValue : K × (ℕ × Data) → Type 0
+    IsOfValue p = p.0 ≡ key p.1.1
+
+    pub keys_of_values : (i : ℕ) (ds : List Data) → AllByRecursion IsOfValue (keyed_from key i ds)
+    keys_of_values i [] = tt
+    keys_of_values i (d ∷ ds) = (refl, keys_of_values (i + 1) ds)
+
+    values_kept : (i : ℕ) (ds : List Data) → map (λ (p : K × (ℕ × Data)). p.1.1) (keyed_from key i ds) ≡ ds
+    values_kept i [] = refl
+    values_kept i (d ∷ ds) = ap (λ es. d ∷ es) (values_kept (i + 1) ds)
+
+    parts_of_values : (ps : List (K × (ℕ × Data))) → AllByRecursion IsOfValue ps → map value_in ps ≡ map beside_key (map (λ p. p.1.1) ps)
+    parts_of_values [] all = refl
+    parts_of_values (p ∷ ps) all = ap₂ (λ k rest. (k, p.1.1) ∷ rest) all.0 (parts_of_values ps all.1)
+
+    -- the values that stand in a table, in the order of its keys
+    pub values_sorted : (ps : List (K × (ℕ × Data))) → AllByRecursion IsOfValue ps
+        → map (λ (p : K × (ℕ × Data)). p.1.1) (rising_list (by_first cmp) ps) ≡ rising_list (λ a b. cmp (key a) (key b)) (map (λ p. p.1.1) ps)
+    values_sorted ps all =
+        let ds = map (λ (p : K × (ℕ × Data)). p.1.1) ps in
+        map_after value_in (λ (p : K × Data). p.1) (rising_list (by_first cmp) ps)
+        ∙ (ap (map (λ (p : K × Data). p.1))
+        (rising_list_map value_in (by_first cmp) ps ∙ (ap (rising_list (by_first cmp)) (parts_of_values ps all) ∙ sym (rising_list_map beside_key (by_first cmp) ds)))
+        ∙ map_back beside_key (λ (p : K × Data). p.1) (rising_list (λ a b. cmp (key a) (key b)) ds) (λ a. refl))
 
     -- the places of the keys
     pub places_in : (ds : List Data) → places_by (map place_in (rising_table cmp key ds)) ≡ places_of cmp (map key ds)
@@ -46,11 +69,7 @@ module _ {K : Type 0} (cmp : K → K → Ordering) where
 
     -- the values in their order
     pub values_in : (ds : List Data) → map (λ (p : K × (ℕ × Data)). p.1.1) (rising_table cmp key ds) ≡ rising_list (λ a b. cmp (key a) (key b)) ds
-    values_in ds =
-        map_after value_in (λ (p : K × Data). p.1) (rising_table cmp key ds)
-        ∙ (ap (map (λ (p : K × Data). p.1))
-        (rising_list_map value_in (by_first cmp) (keyed_from key 0 ds) ∙ (ap (rising_list (by_first cmp)) (keyed_parts 0 ds) ∙ sym (rising_list_map beside_key (by_first cmp) ds)))
-        ∙ map_back beside_key (λ (p : K × Data). p.1) (rising_list (λ a b. cmp (key a) (key b)) ds) (λ a. refl))
+    values_in ds = values_sorted (keyed_from key 0 ds) (keys_of_values 0 ds) ∙ ap (rising_list (λ a b. cmp (key a) (key b))) (values_kept 0 ds)
 
     keyed_stands : (n : ℕ) (ds : List Data) (p : K × (ℕ × Data)) → In p (keyed_from key n ds) → (j : ℕ) × (p.1.0 ≡ n + j) × (slice_get ds j ≡ Some p.1.1)
     keyed_stands n [] p h = absurd h

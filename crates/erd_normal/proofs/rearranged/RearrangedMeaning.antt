@@ -1,10 +1,9 @@
 -- A report that is alike to an accepted one means the same, where the function of texts tells `@id`s apart.
 use mathlib.Core.Path.{fun_ext}
-use Rattle.std.proofs.Common.{◌≡◌, ℕ, List, [], ◌∷◌, Bool, true, false, is_eq, Option, Some, None, option_and_then, find, codes, refl, sym, ap, ◌∙◌, subst, arith}
+use Rattle.std.proofs.Common.{◌≡◌, ℕ, List, Bool, true, false, is_eq, Option, Some, None, option_and_then, find, codes, refl, sym, ap, ◌∙◌, subst}
 use Rattle.std.specs.List.{IsDistinct}
 use Rattle.std.specs.Option.{option_cmp}
 use Rattle.std.specs.Ordering.{eq_by_cmp}
-use Rattle.std.specs.Prelude.{slice_get}
 use Rattle.serde_json.specs.Data.{Data}
 use Rattle.serde_json.specs.Find.{get}
 use Rattle.erd_tables.specs.Classes.{role_of_class}
@@ -15,50 +14,38 @@ use Rattle.erd_tables.specs.declared.class.Family.TheVariants as family
 use Rattle.erd_tables.specs.declared.class.Role.{Role}
 use Rattle.erd_tables.specs.declared.class.Role.TheVariants as role
 use Rattle.erd_tables.specs.declared.member.MemberKind.TheVariants as kind
-use Rattle.erd_tables.specs.declared.place.Step.{Step}
-use Rattle.erd_tables.specs.declared.place.Step.TheVariants.{Name}
 use Rattle.erd_check.specs.Faults.{NoneOf, ShapeFault}
 use Rattle.erd_check.specs.Trees.{IsTree}
-use Rattle.erd_check.specs.Values.{entries_at, entries_of, list_of_items}
+use Rattle.erd_check.specs.Values.{entries_at, entries_of}
 use Rattle.erd_check.specs.declared.want.Want.TheVariants.{Member, Object}
 use Rattle.erd_check.proofs.Entries.{entries_in}
 use Rattle.erd_check.proofs.ObjectsAt.{election_class, report_class}
+use Rattle.erd_check.proofs.Positions.{map_has}
+use Rattle.erd_check.proofs.Rising.{Has}
 use Rattle.erd_check.proofs.Shapes.{Within-root}
 use Rattle.erd_check.proofs.TableKinds.{want_by_kind}
 use Rattle.erd_meaning.specs.Accepted.{IsAccepted}
-use Rattle.erd_meaning.specs.Keys.{Preference, has_keys, key_cmp}
+use Rattle.erd_meaning.specs.Keys.{Preference, has_keys}
 use Rattle.erd_meaning.specs.Meaning.{a_selection_map}
 use Rattle.erd_meaning.specs.NameParts.{NameParts}
-use Rattle.erd_meaning.specs.Objects.{Placed, elections, objects, placed_from}
-use Rattle.erd_meaning.specs.Records.{meaning, member_of_class, member_value, object_record, object_with_key, plain_member, records_of, selection_map, selection_record, unless_empty}
+use Rattle.erd_meaning.specs.Objects.{objects}
+use Rattle.erd_meaning.specs.Records.{meaning, member_of_class, member_value, object_record, plain_member, selection_map, selection_record, unless_empty}
 use Rattle.erd_meaning.specs.SelectionNames.{name_cmp}
-use Rattle.erd_meaning.specs.declared.keys.key.Key.{Key}
 use Rattle.erd_meaning.proofs.accepted.Phases.{no_shape_fault}
-use Rattle.erd_meaning.proofs.accepted.Skeleton.{Skeleton, election_entries, skeleton_of_shape}
-use Rattle.erd_meaning.proofs.accepted.SoleElection.{sole_election}
-use Rattle.erd_normal.specs.code.NormalTree.{by_key, by_name}
-use Rattle.erd_normal.proofs.canonical.DistinctObjects.{selection_values_distinct, values_distinct}
-use Rattle.erd_normal.proofs.lists.FoundBuilt.{find_values}
-use Rattle.erd_normal.proofs.lists.Matched.{AtMostOne, Both, both, neither, apart_distinct, matched_find, one_if_apart, said_same}
+use Rattle.erd_meaning.proofs.meanings.HeldValues.{Held, held_of, held_values}
+use Rattle.erd_normal.specs.code.NormalTree.{by_name}
+use Rattle.erd_normal.proofs.canonical.DistinctObjects.{selection_values_distinct}
+use Rattle.erd_normal.proofs.lists.Matched.{AtMostOne, Both, both, neither, Matched, apart_distinct, matched_find, matched_within, one_if_apart, said_same}
+use Rattle.erd_normal.proofs.meaning.MatchedMeanings.{HeldAlike, MeanOne, held_matched, matched_meaning}
 use Rattle.erd_normal.proofs.meaning.MeantKinds.{flat_no_selections, is_flat_class, is_selections, kind_is_flat, selections_family, selections_kind, selections_name}
 use Rattle.erd_normal.proofs.meaning.MeantObjects.{is_named, named_tied, plain_members, record_alike}
-use Rattle.erd_normal.proofs.meaning.MeantReports.{is_of_key, keys_tied, same_meaning}
 use Rattle.erd_normal.proofs.rearranged.Alike.{Alike}
 use Rattle.erd_normal.proofs.rearranged.RelatedMembers.{Related}
 use Rattle.erd_normal.proofs.rearranged.RelatedNames.{related_name}
-use Rattle.erd_normal.proofs.rearranged.RelatedObjects.{elections_in_some_order, family_values, object_values, related_key}
-use Rattle.erd_normal.proofs.rearranged.RelatedOwners.{Kin, kin_matched, kin_selections}
+use Rattle.erd_normal.proofs.rearranged.RelatedObjects.{elections_in_some_order, family_values, in_election, in_report, related_election_key, related_key}
+use Rattle.erd_normal.proofs.rearranged.RelatedOwners.{Kin, kin_selections}
 use Rattle.erd_normal.proofs.rearranged.RelatedRecords.{BothObjects, both_objects, plain_still, selection_still, unless_empty_same}
-use Rattle.erd_normal.proofs.rearranged.SharedIds.{TellsIds, value_placed}
-
--- the first entry is the one that is found by a test that each passes
-first_found : {A : Type 0} (xs : List A) → find (λ x. true) xs ≡ slice_get xs 0
-first_found [] = refl
-first_found (x ∷ xs) = refl
-
-first_placed : {C : Type 0} (f : Data → Option C) (p : List Step) (ds : List Data) → option_and_then (λ (o : Placed). f o.value) (slice_get (placed_from p 0 ds) 0) ≡ option_and_then f (slice_get ds 0)
-first_placed f p [] = refl
-first_placed f p (d ∷ ds) = refl
+use Rattle.erd_normal.proofs.rearranged.SharedIds.{TellsIds, placed_value, value_placed}
 
 module _ (π : Preference) (ρ : List ℕ → List ℕ) (t u : Data) (alike : Alike ρ (Some (Object role.Report)) t u) (tree : IsTree t) (accepted : IsAccepted π t) (tells : TellsIds ρ t) where
   clean : NoneOf (ShapeFault t)
@@ -134,27 +121,24 @@ module _ (π : Preference) (ρ : List ℕ → List ℕ) (t u : Data) (alike : Al
 
   -- ---- families
 
-  module _ (f : Family) (keyed : has_keys f ≡ true) (key : Key) where
-    one_keyed : AtMostOne (is_of_key π key) (family_values f t)
-    one_keyed =
-        one_if_apart (is_of_key π key) (family_values f t)
-        (apart_distinct (is_of_key π key) (eq_by_cmp (by_key π)) (family_values f t) (λ x y h i. ap is_eq (keys_tied π key x y h i))
-        (subst (IsDistinct (eq_by_cmp (by_key π))) (object_values f t) (values_distinct π t accepted f keyed)))
+  abbrev Means : Family → Held → Held → Type 0
+  Means f = HeldAlike (MeanOne π t u (role.OfFamily f))
 
-    found_keyed : (v : Data) → object_with_key π v f key ≡ find (is_of_key π key) (family_values f v)
-    found_keyed v = find_values (is_of_key π key) (λ (o : Placed). o.value) (objects f v) ∙ ap (find (is_of_key π key)) (object_values f v)
+  held_still : (f : Family) (a b : Held) → Has (held_values π f t) a → HeldAlike (Related ρ t (Object (role.OfFamily f))) a b → Means f a b
+  held_still f a b h same =
+      let o = map_has (held_of π t) (objects f t) a h in
+      let k : KinOf f a.1 b.1 = record { stands = subst (Has (family_values f t)) (ap (λ (x : Held). x.1) o.2) (placed_value f t o.0 o.1); related = same.1 } in
+      (same.0, record { keys = related_key ρ t clean π f a.1 b.1 same.1; records = object_still f a.1 b.1 k })
 
-    keyed_still : option_and_then (object_record π t (role.OfFamily f)) (object_with_key π t f key) ≡ option_and_then (object_record π u (role.OfFamily f)) (object_with_key π u f key)
-    keyed_still =
-        ap (option_and_then (object_record π t (role.OfFamily f))) (found_keyed t)
-        ∙ said_same (object_record π t (role.OfFamily f)) (object_record π u (role.OfFamily f)) (object_still f) (find (is_of_key π key) (family_values f t)) (find (is_of_key π key) (family_values f u))
-        (matched_find (is_of_key π key) (is_of_key π key) (λ x y r. ap (λ k. is_eq (option_cmp key_cmp k (Some key))) (related_key ρ t clean π f x y r.related))
-        (kin_matched π ρ t u alike accepted tells f) one_keyed)
-        ∙ sym (ap (option_and_then (object_record π u (role.OfFamily f))) (found_keyed u))
-
-  records_still : (f : Family) (key : Key) → records_of π t f key ≡ records_of π u f key
-  records_still family.Selection key = refl
-  records_still f key = keyed_still f refl key
+  -- related objects stand in related elections
+  families_still : (f : Family) → has_keys f ≡ true → Matched (Means f) (held_values π f t) (held_values π f u)
+  families_still f keyed =
+      matched_within (Means f) (held_still f)
+      (held_matched π t u (Related ρ t (Object role.Election)) (λ g. Related ρ t (Object (role.OfFamily g))) (elections_in_some_order ρ t clean u alike)
+      (λ d e h r. related_election_key ρ t clean π d e r)
+      (λ g name other outside listed. in_report ρ t clean u alike g name other listed)
+      (λ g name other listed d e h r. in_election ρ t clean u alike g name other listed d e r)
+      f keyed)
 
   -- ---- the whole
 
@@ -164,25 +148,11 @@ module _ (π : Preference) (ρ : List ℕ → List ℕ) (t u : Data) (alike : Al
   flat_election : (c : Class) → role_of_class c ≡ role.Election → is_flat_class c ≡ true
   flat_election c is = ap is_flat_class (election_class c is)
 
-  one_election : AtMostOne (λ (d : Data). true) (entries_at (codes "Election") t)
-  one_election =
-      let s : Skeleton t = skeleton_of_shape t clean in
-      subst (AtMostOne (λ (d : Data). true)) (sym (election_entries t s ∙ ap list_of_items (sole_election t clean s).alone)) (record { few = omega arith })
-
-  elections_both : Both (Related ρ t (Object role.Election)) (slice_get (entries_at (codes "Election") t) 0) (slice_get (entries_at (codes "Election") u) 0)
-  elections_both =
-      subst (λ o. Both (Related ρ t (Object role.Election)) o (slice_get (entries_at (codes "Election") u) 0)) (first_found (entries_at (codes "Election") t))
-      (subst (Both (Related ρ t (Object role.Election)) (find (λ d. true) (entries_at (codes "Election") t))) (first_found (entries_at (codes "Election") u))
-      (matched_find (λ d. true) (λ d. true) (λ x y r. refl) (elections_in_some_order ρ t clean u alike) one_election))
-
-  elections_still : option_and_then (λ (o : Placed). object_record π t role.Election o.value) (slice_get (elections t) 0) ≡ option_and_then (λ (o : Placed). object_record π u role.Election o.value) (slice_get (elections u) 0)
+  elections_still : Matched (MeanOne π t u role.Election) (entries_at (codes "Election") t) (entries_at (codes "Election") u)
   elections_still =
-      first_placed (object_record π t role.Election) (Name (codes "Election") ∷ []) (entries_at (codes "Election") t)
-      ∙ said_same (object_record π t role.Election) (object_record π u role.Election) (flat_still role.Election flat_election)
-      (slice_get (entries_at (codes "Election") t) 0) (slice_get (entries_at (codes "Election") u) 0) elections_both
-      ∙ sym (first_placed (object_record π u role.Election) (Name (codes "Election") ∷ []) (entries_at (codes "Election") u))
+      matched_within (MeanOne π t u role.Election)
+      (λ d e h r. record { keys = related_election_key ρ t clean π d e r; records = flat_still role.Election flat_election d e r }) (elections_in_some_order ρ t clean u alike)
 
   pub meaning_still : meaning π u ≡ meaning π t
   meaning_still =
-      sym (same_meaning (object_record π t role.Report t) (object_record π u role.Report u) _ _ (records_of π t) (records_of π u)
-      (flat_still role.Report flat_report t u (record { inside = Within-root t; is_alike = alike })) elections_still records_still)
+      sym (matched_meaning π t u accepted (flat_still role.Report flat_report t u (record { inside = Within-root t; is_alike = alike })) elections_still families_still)

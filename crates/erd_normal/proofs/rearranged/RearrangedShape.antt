@@ -12,7 +12,7 @@ use Rattle.erd_tables.specs.declared.fault.Reason.{Reason}
 use Rattle.erd_tables.specs.declared.fault.Reason.TheVariants as reason
 use Rattle.erd_tables.specs.declared.member.MemberKind.{MemberKind}
 use Rattle.erd_tables.specs.declared.member.MemberKind.TheVariants as kind
-use Rattle.erd_check.specs.Faults.{NoneOf, ShapeFault, has_kind, has_not_one_entry, has_wanted_kind, is_array, is_empty_array, is_object, is_other_status, is_outside, is_reference, is_shape_fault, is_text, is_wrong_class, lacks, names_wanted, wants_entry, wants_whole}
+use Rattle.erd_check.specs.Faults.{NoneOf, ShapeFault, has_kind, has_wanted_kind, is_array, is_empty_array, is_object, is_other_status, is_outside, is_reference, is_shape_fault, is_text, is_wrong_class, lacks, names_wanted, wants_entry, wants_whole}
 use Rattle.erd_check.specs.Trees.{IsTree, is_same_json}
 use Rattle.erd_check.specs.Values.{list_of_items}
 use Rattle.erd_check.specs.Wants.{Asked, asked_at, entry_want, is_compared_set, is_elections, scope_inside, want_of_name}
@@ -59,9 +59,6 @@ module _ (ρ : List ℕ → List ℕ) (w : Want) where
 
   pub alike_empty : (d e : Data) → Alike ρ (Some w) d e → is_empty_array d ≡ is_empty_array e
   alike_empty = alike_kind is_empty_array (λ s s'. refl, λ ds es l. ap (λ n. n == 0) l, λ ms ns. refl)
-
-  alike_one : (d e : Data) → Alike ρ (Some w) d e → has_not_one_entry d ≡ has_not_one_entry e
-  alike_one = alike_kind has_not_one_entry (λ s s'. refl, λ ds es l. ap (λ n. not (n == 1)) l, λ ms ns. refl)
 
   alike_lacks : (name : List ℕ) (d e : Data) → Alike ρ (Some w) d e → lacks d name ≡ lacks e name
   alike_lacks name null e h = ap (λ x. lacks x name) h
@@ -126,7 +123,7 @@ fault_alike ρ w d e b c reason.WrongClassText other h = class_text_alike ρ w d
 fault_alike ρ w d e b c reason.NotWhole other h = ap (λ o. wants_whole w && option_map_or is_float o false) (alike_number ρ w d e h)
 fault_alike ρ w d e b c reason.OutsideProfile other h = ap (λ x. is_outside w && not x) (alike_empty ρ w d e h)
 fault_alike ρ w d e b c reason.NotPreElection other h = status_alike ρ w d e h
-fault_alike ρ w d e b c reason.ElectionCount other h = ap (λ x. is_elections w && x) (alike_one ρ w d e h)
+fault_alike ρ w d e b c reason.ElectionCount other h = ap (λ x. is_elections w && x) (alike_empty ρ w d e h)
 fault_alike ρ w d e b c reason.EmptyArray other h = ap (λ x. wants_entry w && x) (alike_empty ρ w d e h)
 fault_alike ρ w d e b c reason.Repeated other h = cc
 fault_alike ρ w d e b c r other h = refl

@@ -16,7 +16,6 @@ use Rattle.erd_check.specs.Faults.{NoneOf, ShapeFault}
 use Rattle.erd_check.specs.Values.{entries_at, entries_of}
 use Rattle.erd_check.specs.declared.want.Want.TheVariants.{Member, Object}
 use Rattle.erd_check.proofs.ObjectsAt.{ObjectIn, election_class, object_in, report_class}
-use Rattle.erd_check.proofs.Rising.{Has}
 use Rattle.erd_check.proofs.Shapes.{Within-root}
 use Rattle.erd_check.proofs.TableKinds.{want_by_kind}
 use Rattle.erd_meaning.specs.Keys.{Preference, key_of}
@@ -121,7 +120,7 @@ module _ (ρ : List ℕ → List ℕ) (t : Data) (clean : NoneOf (ShapeFault t))
     top : ObjectIn t role.Report t
     top = object_in t clean role.Report t (Within-root t)
 
-    in_report : (f : Family) (name : List ℕ) → bytes_eq name (codes "@type") ≡ false → kind_of_member class.ElectionReport name ≡ kind.Keyed f
+    pub in_report : (f : Family) (name : List ℕ) → bytes_eq name (codes "@type") ≡ false → kind_of_member class.ElectionReport name ≡ kind.Keyed f
         → Matched (RelatedIn (role.OfFamily f)) (entries_at name t) (entries_at name u)
     in_report f name other keyed = related_array ρ t clean role.Report t u top report f name other (ap (λ c. kind_of_member c name) (report_class top.class top.role) ∙ keyed)
 
@@ -135,14 +134,16 @@ module _ (ρ : List ℕ → List ℕ) (t : Data) (clean : NoneOf (ShapeFault t))
     elections_in_some_order =
         related_listed ρ t (Member kind.Elections (is_required top.class (codes "Election"))) (Object role.Election) (get (codes "Election") t) (get (codes "Election") u) refl refl elections_both
 
+    -- the objects of elections that are related
+    pub in_election : (f : Family) (name : List ℕ) → bytes_eq name (codes "@type") ≡ false → kind_of_member class.Election name ≡ kind.Keyed f
+        → (x y : Data) → RelatedIn role.Election x y → Matched (RelatedIn (role.OfFamily f)) (entries_at name x) (entries_at name y)
+    in_election f name other keyed x y r =
+        let o : ObjectIn t role.Election x = object_in t clean role.Election x r.inside in
+        related_array ρ t clean role.Election x y o r f name other (ap (λ c. kind_of_member c name) (election_class o.class o.role) ∙ keyed)
+
     in_elections : (f : Family) (name : List ℕ) → bytes_eq name (codes "@type") ≡ false → kind_of_member class.Election name ≡ kind.Keyed f
         → Matched (RelatedIn (role.OfFamily f)) (flat_map (entries_at name) (entries_at (codes "Election") t)) (flat_map (entries_at name) (entries_at (codes "Election") u))
-    in_elections f name other keyed = matched_flat (entries_at name) (entries_at name) each elections_in_some_order
-      where
-        each : (x y : Data) → Has (entries_at (codes "Election") t) x → RelatedIn role.Election x y → Matched (RelatedIn (role.OfFamily f)) (entries_at name x) (entries_at name y)
-        each x y h r =
-            let o : ObjectIn t role.Election x = object_in t clean role.Election x r.inside in
-            related_array ρ t clean role.Election x y o r f name other (ap (λ c. kind_of_member c name) (election_class o.class o.role) ∙ keyed)
+    in_elections f name other keyed = matched_flat (entries_at name) (entries_at name) (λ x y h r. in_election f name other keyed x y r) elections_in_some_order
 
     -- the selections of contests that are related
     pub selections_matched : (x y : Data) → RelatedIn (role.OfFamily family.Contest) x y

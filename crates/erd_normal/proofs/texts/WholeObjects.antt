@@ -58,6 +58,9 @@ module _ (t : Data) (whole : has_float t ≡ false) where
       at true = all_map IsWhole (λ d. has_float d ≡ false) (λ o. o.value) (objects f t) (λ o h. h) (objects_whole f)
       at false = tt
 
+  pub elections_whole : AllByRecursion (λ d. has_float d ≡ false) (map (λ o. o.value) (elections t))
+  elections_whole = all_map IsWhole (λ d. has_float d ≡ false) (λ o. o.value) (elections t) (λ o h. h) (in_report (codes "Election"))
+
   -- the selections of a contest
   pub selections_whole : (i : ℕ) (o : Placed) → slice_get (contests t) i ≡ Some o → AllByRecursion (λ d. has_float d ≡ false) (entries_at (codes "ContestSelection") o.value)
   selections_whole i o at =

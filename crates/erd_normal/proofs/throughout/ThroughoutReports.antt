@@ -16,7 +16,7 @@ use Rattle.erd_tables.specs.declared.member.MemberKind.TheVariants as kind
 use Rattle.erd_tables.specs.declared.place.Step.{Step}
 use Rattle.erd_check.specs.Faults.{is_empty_array, NoneOf, ShapeFault}
 use Rattle.erd_check.specs.Trees.{IsTree}
-use Rattle.erd_check.specs.Values.{entries_of, list_of_items}
+use Rattle.erd_check.specs.Values.{entries_at, entries_of, list_of_items}
 use Rattle.erd_check.specs.Wants.{Asked, asked, asked_at, asked_inside, member_want, want_of_kind}
 use Rattle.erd_check.specs.declared.want.Want.TheVariants.{Member, Object}
 use Rattle.erd_check.proofs.Exact.{text_exact}
@@ -25,13 +25,14 @@ use Rattle.erd_check.proofs.Positions.{all_by_entry}
 use Rattle.erd_check.proofs.Rising.{Has}
 use Rattle.erd_check.proofs.Shapes.{Within}
 use Rattle.erd_check.proofs.TableKinds.{kind_of_class}
-use Rattle.erd_meaning.proofs.accepted.Skeleton.{Skeleton, election_object, election_within, skeleton_of_shape}
+use Rattle.erd_meaning.proofs.accepted.Skeleton.{Skeleton, election_entries, election_object, election_within, skeleton_of_shape}
 use Rattle.erd_meaning.specs.Keys.{Preference, has_keys}
 use Rattle.erd_meaning.specs.Objects.{objects}
-use Rattle.erd_normal.specs.code.NormalTree.{array_of, normal_election, normal_election_value, normal_objects, normal_report_value, normal_tree, normal_value}
+use Rattle.erd_meaning.specs.SelectionNames.{rising_list}
+use Rattle.erd_normal.specs.code.NormalTree.{array_of, by_key, normal_election, normal_election_value, normal_objects, normal_report_value, normal_tree, normal_value}
 use Rattle.erd_normal.proofs.built.BuiltFrom.{BuiltFrom, member_holds}
 use Rattle.erd_normal.proofs.built.BuiltObjects.{built_election, built_report, election_builder, no_name}
-use Rattle.erd_normal.proofs.lists.BuiltLists.{all_map, given_unless}
+use Rattle.erd_normal.proofs.lists.BuiltLists.{all_map, all_rising, given_unless}
 use Rattle.erd_normal.proofs.built.FamilyNames.{election_part, elections_name, family_name, keyed_name, report_part}
 use Rattle.erd_normal.proofs.lists.ListParts.{IsPart}
 use Rattle.erd_normal.proofs.built.NormalReports.{has_canonical_envelope}
@@ -46,7 +47,8 @@ pub record HoldsOfBuilt (π : Preference) (t : Data) (P : Asked → Type 0) : Ty
   pub whole : (required : Bool) (n : ℕ) → P (asked (Member kind.Whole required) (number (unsigned n)))
   pub keyed : (f : Family) → has_keys f ≡ true → (required : Bool) (d : Data) → Within t (asked (Member (kind.Keyed f) required) d) → IsPart (entries_of d) (map (λ o. o.value) (objects f t)) → is_empty_array d ≡ false
       → P (asked (Member (kind.Keyed f) required) (normal_objects π t f (entries_of d)))
-  pub elections : (required : Bool) (d : Data) → Within t (asked (Member kind.Elections required) d) → P (asked (Member kind.Elections required) (array_of (map (normal_election π t) (entries_of d))))
+  pub elections : (required : Bool) (d : Data) → Within t (asked (Member kind.Elections required) d) → entries_of d ≡ entries_at (codes "Election") t
+      → P (asked (Member kind.Elections required) (array_of (map (normal_election π t) (rising_list (by_key π) (entries_of d)))))
   pub election : (d : Data) → Within t (asked (Object role.Election) d) → P (asked (Object role.Election) (normal_election π t d))
   pub report : P (asked (Object role.Report) (normal_tree π t))
 
@@ -124,13 +126,15 @@ module _ (π : Preference) (t : Data) (clean : NoneOf (ShapeFault t)) (tree : Is
 
   -- the array of elections
   throughout_elections : ((d : Data) → Has (list_of_items s.es) d → Throughout P (asked (Object role.Election) (normal_election π t d))) → (required : Bool) (d : Data) → d ≡ array s.es
-      → Within t (asked (Member kind.Elections required) d) → Throughout P (asked (Member kind.Elections required) (array_of (map (normal_election π t) (entries_of d))))
+      → Within t (asked (Member kind.Elections required) d) → Throughout P (asked (Member kind.Elections required) (array_of (map (normal_election π t) (rising_list (by_key π) (entries_of d)))))
   throughout_elections each required d is w =
-      let here = subst (λ x. P (asked (Member kind.Elections required) (array_of (map (normal_election π t) (entries_of x))))) is (holds.elections required d w) in
-      subst (λ x. Throughout P (asked (Member kind.Elections required) (array_of (map (normal_election π t) (entries_of x))))) (sym is)
-      (throughout_list P (Member kind.Elections required) (Object role.Election) (map (normal_election π t) (list_of_items s.es)) refl refl here
-      (all_map (λ e. Throughout P (asked (Object role.Election) (normal_election π t e))) (λ e. Throughout P (asked (Object role.Election) e)) (normal_election π t) (list_of_items s.es) (λ e h. h)
-      (all_by_entry (λ e. Throughout P (asked (Object role.Election) (normal_election π t e))) (list_of_items s.es) each)))
+      let built : Data → Data = λ x. array_of (map (normal_election π t) (rising_list (by_key π) (entries_of x))) in
+      let here = subst (λ x. P (asked (Member kind.Elections required) (built x))) is (holds.elections required d w (ap entries_of is ∙ sym (election_entries t s))) in
+      let holds_of_each : Data → Type 0 = λ e. Throughout P (asked (Object role.Election) (normal_election π t e)) in
+      subst (λ x. Throughout P (asked (Member kind.Elections required) (built x))) (sym is)
+      (throughout_list P (Member kind.Elections required) (Object role.Election) (map (normal_election π t) (rising_list (by_key π) (list_of_items s.es))) refl refl here
+      (all_map holds_of_each (λ e. Throughout P (asked (Object role.Election) e)) (normal_election π t) (rising_list (by_key π) (list_of_items s.es)) (λ e h. h)
+      (all_rising holds_of_each (by_key π) (list_of_items s.es) (all_by_entry holds_of_each (list_of_items s.es) each))))
 
   throughout_each : (d : Data) → Has (list_of_items s.es) d → Throughout P (asked (Object role.Election) (normal_election π t d))
   throughout_each d h = subst (λ x. Throughout P (asked (Object role.Election) (normal_election π t x))) (sym this.1) (throughout_election this.0 this.2 family)
@@ -214,7 +218,7 @@ module _ (π : Preference) (t : Data) (clean : NoneOf (ShapeFault t)) (tree : Is
       let parts = given_unless d (normal_objects π t f (entries_of d)) v given in
       subst (λ x. Throughout P (asked (Member (kind.Keyed f) required) x)) parts.1 (throughout_objects π t clean tree P holds.parts f required d (held f refl) w (holds.keyed f is required d w (held f refl) parts.0))
   report_member name kind.Elections required d v is held listed w given =
-      let same : array_of (map (normal_election π t) (entries_of d)) ≡ v = cc in
+      let same : array_of (map (normal_election π t) (rising_list (by_key π) (entries_of d))) ≡ v = cc in
       subst (λ x. Throughout P (asked (Member kind.Elections required) x)) same (throughout_elections throughout_each required d (listed refl) w)
   report_member name kind.Content required d v is held listed w given = cc
   report_member name k required d v is held listed w given = other_member k required d v is w (is_envelope_name name) given

@@ -73,14 +73,14 @@ selection_named π t canonical o r h e =
 
 module _ (π : Preference) (t u : Data) (canonical : IsCanonical π t) (canonical' : IsCanonical π u) (same : meaning π t ≡ meaning π u) where
   pub pairs_of : (f : Family) → has_keys f ≡ true → Paired (ObjectPair π t u f) (objects f t) (objects f u)
-  pairs_of f h = object_pairs π t u canonical canonical' f h (family_paired π t u canonical canonical' same f h)
+  pairs_of f h = object_pairs π t u canonical canonical' f h (family_paired π t u canonical canonical' f same h)
 
   pub contest_pairs : Paired (ContestPair π t u) (objects family.Contest t) (objects family.Contest u)
   contest_pairs = paired_at (ObjectPair π t u family.Contest) (ContestPair π t u) (objects family.Contest t) (objects family.Contest u) (pairs_of family.Contest refl)
       (λ i o p e g r. record {
         pair = r;
         selections = selection_pairs π t u canonical canonical' o p (has_at (objects family.Contest t) i o e) (has_at (objects family.Contest u) i p g)
-            (ranks_alike π t u family.Contest (family_paired π t u canonical canonical' same family.Contest refl) o p r.alike)
+            (ranks_alike π t u family.Contest (family_paired π t u canonical canonical' family.Contest same refl) o p r.alike)
             (selections_paired π t u canonical canonical' o.value p.value (record { place = o.place; is = stands π t canonical.accepted family.Contest o (has_at (objects family.Contest t) i o e) }) (record { place = p.place; is = stands π u canonical'.accepted family.Contest p (has_at (objects family.Contest u) i p g) }) r.alike.1);
       })
 

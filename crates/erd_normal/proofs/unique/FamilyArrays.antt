@@ -1,9 +1,10 @@
 -- The arrays that hold the objects of families: they are full and rise.
-use Rattle.std.proofs.Common.{◌≡◌, ℕ, List, Option, Some, None, map, Bool, true, false, codes, refl, ap, ◌∙◌}
+use Rattle.std.proofs.Common.{◌≡◌, ℕ, List, Option, Some, map, flat_map, Bool, true, false, codes, refl, sym, ap, ◌∙◌, subst, ◌⊎◌, inl, inr}
+use Rattle.std.proofs.lemmas.Simd.{map-map}
 use Rattle.std.specs.Str.{bytes_eq}
 use Rattle.std.specs.Option.{option_cmp}
 use Rattle.std.specs.List.Sorted.{IsStrictlySortedBy}
-use Rattle.serde_json.specs.Data.{Data, array, Items, no_items, item, Members}
+use Rattle.serde_json.specs.Data.{Data, array, object, Items, no_items, item, Members}
 use Rattle.serde_json.specs.Find.{get_member}
 use Rattle.erd_tables.specs.declared.class.Class.{Class}
 use Rattle.erd_tables.specs.declared.class.Family.{Family}
@@ -23,8 +24,7 @@ use Rattle.erd_check.specs.Wants.{asked}
 use Rattle.erd_check.proofs.Entries.{entries_in, list_of_items-place, list_of_items_exact}
 use Rattle.erd_check.specs.Values.{list_of_items, entries_at}
 use Rattle.erd_meaning.proofs.accepted.Skeleton.{Skeleton, values-placed_entries}
-use Rattle.erd_meaning.proofs.accepted.SoleElection.{SoleElection, values_in_sole}
-use Rattle.erd_meaning.specs.Objects.{objects, placed_entries, report_of}
+use Rattle.erd_meaning.specs.Objects.{Placed, elections, objects, placed_entries, report_of}
 use Rattle.erd_meaning.specs.Keys.{Preference, has_keys, key_cmp, key_of}
 use Rattle.erd_meaning.proofs.accepted.Phases.{no_shape_fault}
 use Rattle.erd_normal.proofs.unique.Contents.{Filled, absent, filled}
@@ -70,42 +70,64 @@ arrays_same P Q o p (filled {ds = no_items} full w) absent e = cc
 arrays_same P Q o p (filled {ds = item d ds} full w) absent e = cc
 arrays_same P Q o p (filled {ds = ds} full w) (filled {ds = es} full' w') e = ap (λ x. Some (array x)) (list_of_items_exact ds es e)
 
--- the array that holds the objects of a family, by the members of the report and of an election
-abbrev pub array_of : (f : Family) → Members → Members → Option Data
-array_of family.Unit ms es = get_member (codes "GpUnit") ms
-array_of family.Party ms es = get_member (codes "Party") ms
-array_of family.Person ms es = get_member (codes "Person") ms
-array_of family.Office ms es = get_member (codes "Office") ms
-array_of family.Header ms es = get_member (codes "Header") ms
-array_of family.Candidate ms es = get_member (codes "Candidate") es
-array_of family.Contest ms es = get_member (codes "Contest") es
-array_of family.Style ms es = get_member (codes "BallotStyle") es
-array_of family.Selection ms es = None
+-- ---- where the objects of a family stand
 
--- it isn't empty, in whichever election
-pub family_array : (π : Preference) (t : Data) → IsCanonical π t → (s : Skeleton t) (es : Members) → ObjectAt t (Object role.Election) role.Election class.Election es → (f : Family) → has_keys f ≡ true
-    → Filled (λ ds. Within t (asked (Member (kind.Keyed f) false) (array ds))) (array_of f s.ms es)
-family_array π t canonical s es election family.Unit h = keyed_array π t canonical (Object role.Report) role.Report class.ElectionReport s.ms s.report family.Unit (codes "GpUnit") refl refl _ refl
-family_array π t canonical s es election family.Party h = keyed_array π t canonical (Object role.Report) role.Report class.ElectionReport s.ms s.report family.Party (codes "Party") refl refl _ refl
-family_array π t canonical s es election family.Person h = keyed_array π t canonical (Object role.Report) role.Report class.ElectionReport s.ms s.report family.Person (codes "Person") refl refl _ refl
-family_array π t canonical s es election family.Office h = keyed_array π t canonical (Object role.Report) role.Report class.ElectionReport s.ms s.report family.Office (codes "Office") refl refl _ refl
-family_array π t canonical s es election family.Header h = keyed_array π t canonical (Object role.Report) role.Report class.ElectionReport s.ms s.report family.Header (codes "Header") refl refl _ refl
-family_array π t canonical s es election family.Candidate h = keyed_array π t canonical (Object role.Election) role.Election class.Election es election family.Candidate (codes "Candidate") refl refl _ refl
-family_array π t canonical s es election family.Contest h = keyed_array π t canonical (Object role.Election) role.Election class.Election es election family.Contest (codes "Contest") refl refl _ refl
-family_array π t canonical s es election family.Style h = keyed_array π t canonical (Object role.Election) role.Election class.Election es election family.Style (codes "BallotStyle") refl refl _ refl
-family_array π t canonical s es election family.Selection h = cc
+-- in an array of the report
+pub record InReport (f : Family) (name : List ℕ) : Type 0 where
+  pub other : bytes_eq name (codes "@type") ≡ false
+  pub no_election : bytes_eq name (codes "Election") ≡ false
+  pub keyed : kind_of_member class.ElectionReport name ≡ kind.Keyed f
+  pub are : (t : Data) → objects f t ≡ placed_entries name (report_of t)
+
+-- in an array of each election
+pub record InElections (f : Family) (name : List ℕ) : Type 0 where
+  pub other : bytes_eq name (codes "@type") ≡ false
+  pub keyed : kind_of_member class.Election name ≡ kind.Keyed f
+  pub are : (t : Data) → objects f t ≡ flat_map (placed_entries name) (elections t)
+
+pub units : InReport family.Unit (codes "GpUnit")
+units = record { other = refl; no_election = refl; keyed = refl; are = λ t. refl }
+
+pub parties : InReport family.Party (codes "Party")
+parties = record { other = refl; no_election = refl; keyed = refl; are = λ t. refl }
+
+pub persons : InReport family.Person (codes "Person")
+persons = record { other = refl; no_election = refl; keyed = refl; are = λ t. refl }
+
+pub offices : InReport family.Office (codes "Office")
+offices = record { other = refl; no_election = refl; keyed = refl; are = λ t. refl }
+
+pub headers : InReport family.Header (codes "Header")
+headers = record { other = refl; no_election = refl; keyed = refl; are = λ t. refl }
+
+pub candidates : InElections family.Candidate (codes "Candidate")
+candidates = record { other = refl; keyed = refl; are = λ t. refl }
+
+pub contests : InElections family.Contest (codes "Contest")
+contests = record { other = refl; keyed = refl; are = λ t. refl }
+
+pub styles : InElections family.Style (codes "BallotStyle")
+styles = record { other = refl; keyed = refl; are = λ t. refl }
+
+pub stands_in : (f : Family) → has_keys f ≡ true → ((name : List ℕ) × InReport f name) ⊎ ((name : List ℕ) × InElections f name)
+stands_in family.Unit h = inl (_, units)
+stands_in family.Party h = inl (_, parties)
+stands_in family.Person h = inl (_, persons)
+stands_in family.Office h = inl (_, offices)
+stands_in family.Header h = inl (_, headers)
+stands_in family.Candidate h = inr (_, candidates)
+stands_in family.Contest h = inr (_, contests)
+stands_in family.Style h = inr (_, styles)
+stands_in family.Selection h = cc
 
 pub values_in_report : (t : Data) (s : Skeleton t) (name : List ℕ) → map (λ o. o.value) (placed_entries name (report_of t)) ≡ entries_in (get_member name s.ms)
 values_in_report t s name = values-placed_entries name (report_of t) ∙ ap (entries_at name) s.is_object
 
--- the objects of a family are the entries of its array, in the one election
-pub values_of : (t : Data) (s : Skeleton t) (sole : SoleElection t s) (f : Family) → has_keys f ≡ true → map (λ o. o.value) (objects f t) ≡ entries_in (array_of f s.ms sole.members)
-values_of t s sole family.Unit h = values_in_report t s (codes "GpUnit")
-values_of t s sole family.Party h = values_in_report t s (codes "Party")
-values_of t s sole family.Person h = values_in_report t s (codes "Person")
-values_of t s sole family.Office h = values_in_report t s (codes "Office")
-values_of t s sole family.Header h = values_in_report t s (codes "Header")
-values_of t s sole family.Candidate h = values_in_sole t s sole (codes "Candidate")
-values_of t s sole family.Contest h = values_in_sole t s sole (codes "Contest")
-values_of t s sole family.Style h = values_in_sole t s sole (codes "BallotStyle")
-values_of t s sole family.Selection h = cc
+-- the objects in an array of an object rise by their keys
+pub entries_rise : (π : Preference) (t : Data) → IsCanonical π t → (o : Placed) (q : Role) (c : Class) (ms : Members) → o.value ≡ object ms → ObjectAt t (Object q) q c ms → (f : Family) (name : List ℕ) → has_keys f ≡ true
+    → bytes_eq name (codes "@type") ≡ false → kind_of_member c name ≡ kind.Keyed f → IsStrictlySortedBy (option_cmp key_cmp) (map (λ x. key_of π x.value) (placed_entries name o))
+entries_rise π t canonical o q c ms is a f name h other keyed =
+    let array = keyed_array π t canonical (Object q) q c ms a f name other keyed (get_member name ms) refl in
+    let keys : map (λ x. key_of π x.value) (placed_entries name o) ≡ map (key_of π) (entries_in (get_member name ms)) =
+    sym (map-map (key_of π) (λ (x : Placed). x.value) (placed_entries name o)) ∙ ap (map (key_of π)) (values-placed_entries name o ∙ ap (entries_at name) is) in
+    subst (IsStrictlySortedBy (option_cmp key_cmp)) (sym keys) (keyed_rises π t canonical f (is_required c name) (get_member name ms) h array)

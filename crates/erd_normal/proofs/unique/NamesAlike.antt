@@ -4,11 +4,11 @@ use Rattle.serde_json.specs.Data.{Data}
 use Rattle.erd_tables.specs.declared.class.Family.{Family}
 use Rattle.erd_tables.specs.declared.class.Family.TheVariants as family
 use Rattle.erd_meaning.specs.Keys.{Preference}
-use Rattle.erd_meaning.specs.Objects.{contests, id_of, objects, selections_of_contest}
+use Rattle.erd_meaning.specs.Objects.{contests, elections, id_of, objects, selections_of_contest}
 use Rattle.erd_meaning.specs.SelectionNames.{name_of}
 use Rattle.erd_normal.specs.Laws.{MeanAlike, NamesAgree, ids_in, names_in}
 use Rattle.erd_normal.proofs.unique.Agreement.{all_selections, contest_pairs, pairs_of}
-use Rattle.erd_normal.proofs.unique.Families.{key_at}
+use Rattle.erd_normal.proofs.unique.ElectionPairs.{elections_paired, key_at}
 use Rattle.erd_normal.proofs.lists.Paired.{Paired}
 
 -- what pairs have alike is alike in the lists
@@ -23,6 +23,7 @@ ids_alike π t u alike f = paired_map (λ o. id_of o.value) (λ o. id_of o.value
 
 pub names_agree : NamesAgree
 names_agree π t u alike = record {
+  election_keys = paired_map (key_at π) (key_at π) (elections t) (elections u) (elections_paired π t u alike.left alike.right alike.same) (λ x y r. r.0);
   keys = λ f h. paired_map (key_at π) (key_at π) (objects f t) (objects f u) (pairs_of π t u alike.left alike.right alike.same f h) (λ x y r. r.alike.0);
   names = paired_map (names_in π t) (names_in π u) (contests t) (contests u) (contest_pairs π t u alike.left alike.right alike.same)
       (λ x y r. paired_map (λ o. name_of π t o.value) (λ o. name_of π u o.value) (selections_of_contest x) (selections_of_contest y) r.selections (λ v w q. q.alike.0));

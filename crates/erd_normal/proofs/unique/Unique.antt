@@ -1,7 +1,7 @@
 -- Canonical reports that mean the same are equal.
-use Rattle.std.proofs.Common.{◌≡◌, ℕ, List, [], ◌∷◌, Option, Some, None, option_and_then, option_map, map, slice_get, is_some, Bool, true, false, not, ◌&&◌, codes, refl, sym, ap, ap₂, ◌∙◌, subst, ⊎_elim}
+use Rattle.std.proofs.Common.{◌≡◌, ℕ, List, [], ◌∷◌, Option, Some, None, option_and_then, option_map, map, is_some, Bool, true, false, not, ◌&&◌, codes, refl, sym, ap, ap₂, ◌∙◌, subst, ⊎_elim}
 use Rattle.std.specs.Str.{bytes_eq}
-use Rattle.serde_json.specs.Data.{Data, array, object, no_items, item, Members}
+use Rattle.serde_json.specs.Data.{Data, array, object, Members}
 use Rattle.serde_json.specs.Find.{get, get_member, as_str}
 use Rattle.erd_tables.specs.declared.class.Class.{Class}
 use Rattle.erd_tables.specs.declared.class.Family.{Family}
@@ -20,25 +20,26 @@ use Rattle.erd_check.specs.declared.want.Want.TheVariants.{Object}
 use Rattle.erd_check.proofs.ObjectsAt.{ObjectAt, ObjectIn, object_in}
 use Rattle.erd_check.proofs.Shapes.{Within, within-tree}
 use Rattle.erd_check.specs.Wants.{asked, class_of_object, is_report_class, want_of_kind}
+use Rattle.erd_check.proofs.Entries.{list_of_items_exact}
 use Rattle.erd_check.proofs.Exact.{both_true, text_exact}
 use Rattle.erd_check.proofs.Whole.{no_strange, not_true}
 use Rattle.erd_meaning.specs.Accepted.{IsAccepted}
-use Rattle.erd_meaning.specs.Objects.{Placed, elections, id_of, objects, selections_of_contest}
-use Rattle.erd_meaning.proofs.accepted.Skeleton.{Skeleton, skeleton, values-placed_entries}
-use Rattle.erd_meaning.proofs.accepted.SoleElection.{SoleElection, sole_election, sole_listed, sole_placed}
+use Rattle.erd_meaning.specs.Objects.{Placed, elections, id_of, objects, placed_entries, report_of, selections_of_contest}
+use Rattle.erd_meaning.proofs.accepted.Skeleton.{Skeleton, election_entries, election_object, skeleton, values-placed_entries}
 use Rattle.erd_meaning.specs.Keys.{Preference, has_keys}
-use Rattle.erd_check.specs.Values.{entries_at}
+use Rattle.erd_check.specs.Values.{entries_at, list_of_items}
 use Rattle.erd_meaning.specs.Records.{is_in_envelope, meaning, member_of_class, plain_member, selection_record, object_record}
 use Rattle.erd_meaning.specs.Meaning.{ObjectRecord, SelectionRecord}
 use Rattle.erd_meaning.specs.SelectionNames.{selection_role}
 use Rattle.erd_meaning.proofs.accepted.Standing.{flat-has, stands}
 use Rattle.erd_meaning.proofs.accepted.Phases.{no_shape_fault}
-use Rattle.erd_normal.proofs.unique.Selections.{selection_array}
+use Rattle.erd_normal.proofs.unique.Selections.{ObjectPair, selection_array}
 use Rattle.erd_normal.proofs.unique.Agreement.{ContestPair, contest_pairs, pairs_of, same_names}
 use Rattle.erd_normal.specs.Canonical.{IsCanonical}
 use Rattle.erd_normal.proofs.lists.Paired.{Paired}
 use Rattle.erd_normal.proofs.unique.Apart.{apart_cases, apart_named, are_apart, no_envelope, plain_from_value, plain_unless_apart}
-use Rattle.erd_normal.proofs.unique.FamilyArrays.{array_of, arrays_same, family_array, values_of}
+use Rattle.erd_normal.proofs.unique.ElectionPairs.{AlikeElections, election_within, elections_paired, held_paired}
+use Rattle.erd_normal.proofs.unique.FamilyArrays.{InElections, InReport, arrays_same, candidates, contests, headers, keyed_array, offices, parties, persons, styles, units, values_in_report}
 use Rattle.erd_normal.proofs.unique.Records.{class_of_record, id_within, is_apart, members_in, object_same}
 use Rattle.erd_normal.specs.Laws.{CanonicalIsUnique}
 
@@ -104,10 +105,6 @@ no_id π t accepted w q c ms a h = at (get_member (codes "@id") ms) refl
         let strange : kind_of_identity c ≡ kind.StrangeIdentity = rw h in
         absurd (no_strange t (no_shape_fault π t accepted) v (is_required c (codes "@id")) (subst (λ k. Within t (asked (want_of_kind k (is_required c (codes "@id"))) v)) strange (id_within π t accepted w q c ms a v e)))
 
--- the election that the meaning tells of is the one election
-election_is : (π : Preference) (t : Data) (a : Skeleton t) (sole : SoleElection t a) → option_and_then (λ o. object_record π t role.Election o.value) (slice_get (elections t) 0) ≡ object_record π t role.Election (object sole.members)
-election_is π t a sole = ap (λ os. option_and_then (λ o. object_record π t role.Election o.value) (slice_get os 0)) (sole_placed t a sole)
-
 -- the row of a name that rows have
 row_named : (k : List ℕ) (rows : List Row) → is_some (kind_in_rows rows k) ≡ true → (m : Row) × Has rows m × (bytes_eq k m.name ≡ true)
 row_named k [] e = cc
@@ -171,26 +168,10 @@ module _ (π : Preference) (t u : Data) (canonical : IsCanonical π t) (canonica
       (ap (entries_at selection_member) (sym two.is) ∙ selections_same o p h k pair ∙ ap (entries_at selection_member) two.is')))
       (λ j. elim j [ ]) (Has-cases selection_member n [] i))
 
-  -- an object of a family without selections
-  other_same : (f : Family) → has_keys f ≡ true → ((c : Class) → role_of_class c ≡ role.OfFamily f → leaves_out [] c ≡ true) → map (λ o. o.value) (objects f t) ≡ map (λ o. o.value) (objects f u)
-  other_same f h plain = paired_values (objects f t) (objects f u) (pairs_of π t u canonical canonical' same f h)
-      (λ o p i j r. object_unique [] (role.OfFamily f) o.value p.value plain (within_t f o i) (within_u f p j) r.alike.1 r.same_id (λ two n k. elim k [ ]))
-
-  family_same : (f : Family) → has_keys f ≡ true → map (λ o. o.value) (objects f t) ≡ map (λ o. o.value) (objects f u)
-  family_same family.Unit h = other_same family.Unit h (leaves family.Unit)
-  family_same family.Party h = other_same family.Party h (leaves family.Party)
-  family_same family.Person h = other_same family.Person h (leaves family.Person)
-  family_same family.Office h = other_same family.Office h (leaves family.Office)
-  family_same family.Header h = other_same family.Header h (leaves family.Header)
-  family_same family.Candidate h = other_same family.Candidate h (leaves family.Candidate)
-  family_same family.Style h = other_same family.Style h (leaves family.Style)
-  family_same family.Contest h = paired_values (objects family.Contest t) (objects family.Contest u) (contest_pairs π t u canonical canonical' same) contest_same
-  family_same family.Selection h = cc
-
-  array_same : (a : Skeleton t) (b : Skeleton u) (left : SoleElection t a) (right : SoleElection u b) (f : Family) → has_keys f ≡ true → array_of f a.ms left.members ≡ array_of f b.ms right.members
-  array_same a b left right f h =
-      arrays_same _ _ (array_of f a.ms left.members) (array_of f b.ms right.members) (family_array π t canonical a left.members left.at f h) (family_array π u canonical' b right.members right.at f h)
-      (sym (values_of t a left f h) ∙ family_same f h ∙ values_of u b right f h)
+  -- two paired objects of a family without selections are equal
+  other_same : (f : Family) → ((c : Class) → role_of_class c ≡ role.OfFamily f → leaves_out [] c ≡ true) → (o p : Placed) → Has (objects f t) o → Has (objects f u) p → ObjectPair π t u f o p → o.value ≡ p.value
+  other_same f plain o p h k pair =
+      object_unique [] (role.OfFamily f) o.value p.value plain (within_t f o h) (within_u f p k) pair.alike.1 pair.same_id (λ two n i. elim i [ ])
 
   -- the names that an election's record and the report's leave out
   abbrev election_names : List (List ℕ)
@@ -203,23 +184,73 @@ module _ (π : Preference) (t u : Data) (canonical : IsCanonical π t) (canonica
   each_name : (P : List ℕ → Type 0) (n : List ℕ) (names : List (List ℕ)) (k : List ℕ) → P n → (Has names k → P k) → Has (n ∷ names) k → P k
   each_name P n names k h rest i = ⊎_elim (λ e. subst P e h) rest (Has-cases n k names i)
 
+  -- two elections with one record and the same arrays
+  election_same : (es fs : Members) (one : ObjectAt t (Object role.Election) role.Election class.Election es) (other : ObjectAt u (Object role.Election) role.Election class.Election fs)
+      → object_record π t role.Election (object es) ≡ object_record π u role.Election (object fs) → get_member (codes "Candidate") es ≡ get_member (codes "Candidate") fs
+      → get_member (codes "Contest") es ≡ get_member (codes "Contest") fs → get_member (codes "BallotStyle") es ≡ get_member (codes "BallotStyle") fs → es ≡ fs
+  election_same es fs one other records candidates_same contests_same styles_same =
+      object_same π t u canonical canonical' (same_names π t u canonical canonical' same) (Object role.Election) (Object role.Election) role.Election class.Election es fs one other
+      (within-tree t (asked (Object role.Election) (object es)) tree one.inside) (within-tree u (asked (Object role.Election) (object fs)) tree' other.inside)
+      (no_id π t canonical.accepted (Object role.Election) role.Election class.Election es one refl ∙ sym (no_id π u canonical'.accepted (Object role.Election) role.Election class.Election fs other refl))
+      (λ k f g h.
+      each_name Same (codes "Candidate") _ k candidates_same (each_name Same (codes "Contest") _ k contests_same (each_name Same (codes "BallotStyle") _ k styles_same (λ i. elim i [ ])))
+      (left_out election_names class.Election k refl f g h))
+      (members_value (Object role.Election) (Object role.Election) role.Election class.Election es fs one other records)
+    where
+      Same : List ℕ → Type 0
+      Same n = get_member n es ≡ get_member n fs
+
+  -- the arrays of two elections whose entries are paired
+  held_same : (R : Placed → Placed → Type 0) (f : Family) (name : List ℕ) → InElections f name → ((o p : Placed) → Has (objects f t) o → Has (objects f u) p → R o p → o.value ≡ p.value)
+      → (d e : Placed) → Has (elections t) d → Has (elections u) e → Paired R (placed_entries name d) (placed_entries name e)
+      → (ms ns : Members) → d.value ≡ object ms → e.value ≡ object ns → ObjectAt t (Object role.Election) role.Election class.Election ms → ObjectAt u (Object role.Election) role.Election class.Election ns
+      → get_member name ms ≡ get_member name ns
+  held_same R f name home equal d e h k pairs ms ns is is' a b =
+      arrays_same _ _ (get_member name ms) (get_member name ns) (keyed_array π t canonical (Object role.Election) role.Election class.Election ms a f name home.other home.keyed _ refl)
+      (keyed_array π u canonical' (Object role.Election) role.Election class.Election ns b f name home.other home.keyed _ refl)
+      (sym (values-placed_entries name d ∙ ap (entries_at name) is)
+      ∙ (paired_values (placed_entries name d) (placed_entries name e) pairs (λ o p i j r.
+      equal o p (subst (λ os. Has os o) (sym (home.are t)) (flat-has (placed_entries name) (elections t) d o h i)) (subst (λ os. Has os p) (sym (home.are u)) (flat-has (placed_entries name) (elections u) e p k j)) r)
+      ∙ (values-placed_entries name e ∙ ap (entries_at name) is')))
+
+  -- two elections with one key and one record, whose objects are paired
+  abbrev ElectionPair : Placed → Placed → Type 0
+  ElectionPair d e =
+      ((AlikeElections π t u d e × Paired (ObjectPair π t u family.Candidate) (placed_entries (codes "Candidate") d) (placed_entries (codes "Candidate") e))
+      × Paired (ContestPair π t u) (placed_entries (codes "Contest") d) (placed_entries (codes "Contest") e))
+      × Paired (ObjectPair π t u family.Style) (placed_entries (codes "BallotStyle") d) (placed_entries (codes "BallotStyle") e)
+
+  election_pairs : Paired ElectionPair (elections t) (elections u)
+  election_pairs =
+      held_paired π t u canonical canonical' _ (ObjectPair π t u family.Style) (codes "BallotStyle") (λ d e s. s.0.0.0) (λ o p r. r.alike.2)
+      (held_paired π t u canonical canonical' _ (ContestPair π t u) (codes "Contest") (λ d e s. s.0.0) (λ o p r. r.pair.alike.2)
+      (held_paired π t u canonical canonical' (AlikeElections π t u) (ObjectPair π t u family.Candidate) (codes "Candidate") (λ d e s. s.0) (λ o p r. r.alike.2)
+      (elections_paired π t u canonical canonical' same) (pairs_of π t u canonical canonical' same family.Candidate refl))
+      (contest_pairs π t u canonical canonical' same)) (pairs_of π t u canonical canonical' same family.Style refl)
+
+  pair_same : (d e : Placed) → Has (elections t) d → Has (elections u) e → ElectionPair d e → d.value ≡ e.value
+  pair_same d e h k pair =
+      let x = election_object t (no_shape_fault π t canonical.accepted) d.value (election_within π t canonical d h) in
+      let y = election_object u (no_shape_fault π u canonical'.accepted) e.value (election_within π u canonical' e k) in
+      x.1 ∙ ap object (election_same x.0 y.0 x.2 y.2 (sym (ap (object_record π t role.Election) x.1) ∙ pair.0.0.0.1 ∙ ap (object_record π u role.Election) y.1)
+      (held_same (ObjectPair π t u family.Candidate) family.Candidate (codes "Candidate") candidates (other_same family.Candidate (leaves family.Candidate)) d e h k pair.0.0.1 x.0 y.0 x.1 y.1 x.2 y.2)
+      (held_same (ContestPair π t u) family.Contest (codes "Contest") contests contest_same d e h k pair.0.1 x.0 y.0 x.1 y.1 x.2 y.2)
+      (held_same (ObjectPair π t u family.Style) family.Style (codes "BallotStyle") styles (other_same family.Style (leaves family.Style)) d e h k pair.1 x.0 y.0 x.1 y.1 x.2 y.2)) ∙ sym y.1
+
   module _ (a : Skeleton t) (b : Skeleton u) where
-    -- two elections with one record and the same arrays
-    election_same : (es fs : Members) (one : ObjectAt t (Object role.Election) role.Election class.Election es) (other : ObjectAt u (Object role.Election) role.Election class.Election fs)
-        → object_record π t role.Election (object es) ≡ object_record π u role.Election (object fs) → ((f : Family) → has_keys f ≡ true → array_of f a.ms es ≡ array_of f b.ms fs) → es ≡ fs
-    election_same es fs one other records arrays =
-        object_same π t u canonical canonical' (same_names π t u canonical canonical' same) (Object role.Election) (Object role.Election) role.Election class.Election es fs one other
-        (within-tree t (asked (Object role.Election) (object es)) tree one.inside) (within-tree u (asked (Object role.Election) (object fs)) tree' other.inside)
-        (no_id π t canonical.accepted (Object role.Election) role.Election class.Election es one refl ∙ sym (no_id π u canonical'.accepted (Object role.Election) role.Election class.Election fs other refl))
-        (λ k f g h.
-        each_name Same (codes "Candidate") _ k (arrays family.Candidate refl)
-        (each_name Same (codes "Contest") _ k (arrays family.Contest refl)
-        (each_name Same (codes "BallotStyle") _ k (arrays family.Style refl) (λ i. elim i [ ])))
-        (left_out election_names class.Election k refl f g h))
-        (members_value (Object role.Election) (Object role.Election) role.Election class.Election es fs one other records)
-      where
-        Same : List ℕ → Type 0
-        Same n = get_member n es ≡ get_member n fs
+    -- an array of the report
+    listed_in_report : (f : Family) (name : List ℕ) → has_keys f ≡ true → ((c : Class) → role_of_class c ≡ role.OfFamily f → leaves_out [] c ≡ true) → InReport f name → get_member name a.ms ≡ get_member name b.ms
+    listed_in_report f name h plain home =
+        arrays_same _ _ (get_member name a.ms) (get_member name b.ms) (keyed_array π t canonical (Object role.Report) role.Report class.ElectionReport a.ms a.report f name home.other home.keyed _ refl)
+        (keyed_array π u canonical' (Object role.Report) role.Report class.ElectionReport b.ms b.report f name home.other home.keyed _ refl)
+        (sym (values_in_report t a name) ∙ (ap (map (λ o. o.value)) (sym (home.are t))
+        ∙ (paired_values (objects f t) (objects f u) (pairs_of π t u canonical canonical' same f h) (other_same f plain) ∙ (ap (map (λ o. o.value)) (home.are u) ∙ values_in_report u b name))))
+
+    elections_listed : get_member (codes "Election") a.ms ≡ get_member (codes "Election") b.ms
+    elections_listed =
+        let here : map (λ e. e.value) (elections t) ≡ list_of_items a.es = values-placed_entries (codes "Election") (report_of t) ∙ election_entries t a in
+        let there : map (λ e. e.value) (elections u) ≡ list_of_items b.es = values-placed_entries (codes "Election") (report_of u) ∙ election_entries u b in
+        a.listed ∙ (ap (λ es. Some (array es)) (list_of_items_exact a.es b.es (sym here ∙ (paired_values (elections t) (elections u) election_pairs pair_same ∙ there))) ∙ sym b.listed)
 
     both_have : (n : List ℕ) (o : Option Data) → get n t ≡ o → get n u ≡ o → get_member n a.ms ≡ get_member n b.ms
     both_have n o e f = sym (ap (get n) a.is_object) ∙ e ∙ sym f ∙ ap (get n) b.is_object
@@ -239,8 +270,8 @@ module _ (π : Preference) (t u : Data) (canonical : IsCanonical π t) (canonica
     in_envelope : (k : List ℕ) → is_in_envelope class.ElectionReport k ≡ true → get_member k a.ms ≡ get_member k b.ms
     in_envelope k e = let r = row_named k envelope_rows e in subst (λ n. get_member n a.ms ≡ get_member n b.ms) (sym (text_exact k r.0.name r.2)) (envelope_same r.0 r.1)
 
-    report_same : (left : SoleElection t a) (right : SoleElection u b) → a.ms ≡ b.ms
-    report_same left right =
+    report_same : a.ms ≡ b.ms
+    report_same =
         object_same π t u canonical canonical' (same_names π t u canonical canonical' same) (Object role.Report) (Object role.Report) role.Report class.ElectionReport a.ms b.ms a.report b.report
         (within-tree t (asked (Object role.Report) (object a.ms)) tree a.report.inside) (within-tree u (asked (Object role.Report) (object b.ms)) tree' b.report.inside)
         (no_id π t canonical.accepted (Object role.Report) role.Report class.ElectionReport a.ms a.report refl ∙ sym (no_id π u canonical'.accepted (Object role.Report) role.Report class.ElectionReport b.ms b.report refl))
@@ -251,27 +282,18 @@ module _ (π : Preference) (t u : Data) (canonical : IsCanonical π t) (canonica
         Same : List ℕ → Type 0
         Same n = get_member n a.ms ≡ get_member n b.ms
 
-        sole_same : left.members ≡ right.members
-        sole_same =
-            election_same left.members right.members left.at right.at (sym (election_is π t a left) ∙ ap (λ m. m.election) same ∙ election_is π u b right) (array_same a b left right)
-
-        listed_same : Same (codes "Election")
-        listed_same = sole_listed t a left ∙ ap (λ es. Some (array (item (object es) no_items))) sole_same ∙ sym (sole_listed u b right)
-
         by_name : (k : List ℕ) → Has report_names k → Same k
         by_name k =
-            each_name Same (codes "GpUnit") _ k (array_same a b left right family.Unit refl)
-            (each_name Same (codes "Party") _ k (array_same a b left right family.Party refl)
-            (each_name Same (codes "Person") _ k (array_same a b left right family.Person refl)
-            (each_name Same (codes "Office") _ k (array_same a b left right family.Office refl)
-            (each_name Same (codes "Header") _ k (array_same a b left right family.Header refl)
-            (each_name Same (codes "Election") _ k listed_same (λ i. elim i [ ]))))))
+            each_name Same (codes "GpUnit") _ k (listed_in_report family.Unit (codes "GpUnit") refl (leaves family.Unit) units)
+            (each_name Same (codes "Party") _ k (listed_in_report family.Party (codes "Party") refl (leaves family.Party) parties)
+            (each_name Same (codes "Person") _ k (listed_in_report family.Person (codes "Person") refl (leaves family.Person) persons)
+            (each_name Same (codes "Office") _ k (listed_in_report family.Office (codes "Office") refl (leaves family.Office) offices)
+            (each_name Same (codes "Header") _ k (listed_in_report family.Header (codes "Header") refl (leaves family.Header) headers)
+            (each_name Same (codes "Election") _ k elections_listed (λ i. elim i [ ]))))))
 
 -- canonical trees that mean the same are equal
 pub unique : CanonicalIsUnique
 unique π t u alike =
     let a : Skeleton t = skeleton π t alike.left.accepted in
     let b : Skeleton u = skeleton π u alike.right.accepted in
-    let left : SoleElection t a = sole_election t (no_shape_fault π t alike.left.accepted) a in
-    let right : SoleElection u b = sole_election u (no_shape_fault π u alike.right.accepted) b in
-    a.is_object ∙ ap object (report_same π t u alike.left alike.right alike.same alike.left_tree alike.right_tree a b left right) ∙ sym b.is_object
+    a.is_object ∙ ap object (report_same π t u alike.left alike.right alike.same alike.left_tree alike.right_tree a b) ∙ sym b.is_object

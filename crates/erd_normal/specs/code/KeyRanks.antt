@@ -9,7 +9,7 @@ use Rattle.erd_check.specs.Values.{entries_at}
 use Rattle.erd_meaning.specs.Keys.{Preference, has_keys, key_cmp, key_of}
 use Rattle.erd_meaning.specs.Lookups.{selection_in}
 use Rattle.erd_meaning.specs.NameParts.{NameParts}
-use Rattle.erd_meaning.specs.Objects.{contests, objects}
+use Rattle.erd_meaning.specs.Objects.{contests, elections, objects}
 use Rattle.erd_meaning.specs.SelectionNames.{name_cmp, name_of, rising_list}
 use Rattle.erd_meaning.specs.declared.keys.key.Key.{Key}
 use Rattle.erd_normal.specs.code.Building.{numbered}
@@ -36,6 +36,10 @@ keyed_values f t = if has_keys f then map (λ o. o.value) (objects f t) else []
 -- The objects of a family in the order of their keys, each with its key and its position.
 abbrev pub rising_objects : Preference → Data → Family → List (Option Key × (ℕ × Data))
 rising_objects π t f = rising_table (option_cmp key_cmp) (key_of π) (keyed_values f t)
+
+-- The same for the elections of a report.
+abbrev pub rising_elections : Preference → Data → List (Option Key × (ℕ × Data))
+rising_elections π t = rising_table (option_cmp key_cmp) (key_of π) (map (λ e. e.value) (elections t))
 
 -- The name of the selection at this position of the report, or none.
 abbrev pub name_in : Preference → Data → ℕ → Option NameParts

@@ -144,7 +144,7 @@ abbrev pub normal_selection : Preference → Data → Data → Data → Data
 normal_selection π t contest d =
     with_id (Some (id_of_selection π t contest d)) (normal_object_with (λ name k v. normal_value π t k v) (class_of_object selection_role d) d)
 
--- Objects are compared by their keys.
+-- Objects and elections are compared by their keys.
 abbrev pub by_key : Preference → Data → Data → Ordering
 by_key π a b = option_cmp key_cmp (key_of π a) (key_of π b)
 
@@ -182,7 +182,7 @@ normal_election π t d = normal_object_with (λ name k v. normal_election_value 
 -- What a member of the report becomes. Members of the envelope become none.
 abbrev pub normal_report_value : Preference → Data → List ℕ → MemberKind → Data → Option Data
 normal_report_value π t name (kind.Keyed f) d = unless_no_entry d (normal_objects π t f (entries_of d))
-normal_report_value π t name kind.Elections d = Some (array_of (map (normal_election π t) (entries_of d)))
+normal_report_value π t name kind.Elections d = Some (array_of (map (normal_election π t) (rising_list (by_key π) (entries_of d))))
 normal_report_value π t name k d = if is_envelope_name name then None else normal_value π t k d
 
 -- The members with those of the canonical envelope.

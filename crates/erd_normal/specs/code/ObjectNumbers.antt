@@ -1,6 +1,7 @@
 -- The objects of a report in the order of their keys, and their numbers by family and position.
-use Rattle.std.specs.Prelude.{◌≡◌, ◌+◌, ℕ, List, [], true, false, Option, Some, codes, if◌then◌else◌, is_some, map, unwrap_or}
+use Rattle.std.specs.Prelude.{◌≡◌, ◌+◌, ℕ, List, [], Vec, true, false, Some, codes, if◌then◌else◌, is_some, map, unwrap_or}
 use Rattle.std.specs.List.{slice_get}
+use Rattle.std.specs.declared.alloc.Global.{Global}
 use Rattle.serde_json.specs.Data.{Data}
 use Rattle.serde_json.specs.View.{view}
 use Rattle.serde_json.specs.Written.{has_float}
@@ -12,25 +13,25 @@ use Rattle.erd_meaning.specs.Keys.{Preference}
 use Rattle.erd_check.specs.Values.{entries_at}
 use Rattle.erd_meaning.specs.Objects.{IsBounded, Placed, contests, numbered_selections}
 use Rattle.erd_meaning.specs.SelectionNames.{key_named, name_of}
-use Rattle.erd_meaning.specs.declared.keys.key.Key.{Key}
 use Rattle.erd_normal.specs.Canonical.{id_prefix, rank_of}
 use Rattle.erd_normal.specs.code.Building.{AreNumbers}
-use Rattle.erd_normal.specs.code.KeyRanks.{keyed_value, rising_in_contest, rising_objects}
+use Rattle.erd_normal.specs.code.ElectionParts.{objects_of_part, part_seen}
+use Rattle.erd_normal.specs.code.KeyRanks.{keyed_value, rising_in_contest}
 use Rattle.erd_normal.specs.code.NormalTree.{rank_of_name}
 use Rattle.erd_normal.specs.declared.numbers.object_numbers.ObjectNumbers.{ObjectNumbers}
 use denote.Ref.{Bor}
 
--- The objects of a family in the order of their keys. For selections the list is empty.
-abbrev pub rising_of_family : Family → ObjectNumbers → List (Option Key × (ℕ × Bor Value))
-rising_of_family family.Unit n = n.units.rising.items
-rising_of_family family.Party n = n.parties.rising.items
-rising_of_family family.Person n = n.persons.rising.items
-rising_of_family family.Office n = n.offices.rising.items
-rising_of_family family.Header n = n.headers.rising.items
-rising_of_family family.Candidate n = n.candidates.rising.items
-rising_of_family family.Contest n = n.contests.rising.items
-rising_of_family family.Style n = n.styles.items
-rising_of_family family.Selection n = []
+-- The parts of a family: for each election, its objects in the order of their keys. For selections the list is empty.
+abbrev pub parts_of_family : Family → ObjectNumbers → List (Vec (ℕ × (ℕ × Bor Value)) Global)
+parts_of_family family.Unit n = n.units.parts.items
+parts_of_family family.Party n = n.parties.parts.items
+parts_of_family family.Person n = n.persons.parts.items
+parts_of_family family.Office n = n.offices.parts.items
+parts_of_family family.Header n = n.headers.parts.items
+parts_of_family family.Candidate n = n.candidates.parts.items
+parts_of_family family.Contest n = n.contests.parts.items
+parts_of_family family.Style n = n.styles.items
+parts_of_family family.Selection n = []
 
 -- The numbers of the objects of a family. The list is empty for styles and for selections.
 abbrev pub numbers_of_family : Family → ObjectNumbers → List ℕ
@@ -64,7 +65,7 @@ pub record AreObjectNumbers (π : Preference) (t : Data) (n : ObjectNumbers) : T
   pub accepted : IsAccepted π t
   pub bounded : IsBounded t
   pub whole : has_float t ≡ false
-  pub rising : (f : Family) → map (λ p. keyed_value p.0 p.1.0 (view p.1.1.now)) (rising_of_family f n) ≡ rising_objects π t f
+  pub parts : (f : Family) (i : ℕ) → part_seen (parts_of_family f n) i ≡ objects_of_part π t f i
   pub numbers : (f : Family) → is_some (id_prefix f) ≡ true → AreNumbers π t f (numbers_of_family f n)
   pub contests : map (λ table. map (λ p. keyed_value p.0 p.1.0 (view p.1.1.now)) table.items) n.selections.rising.items ≡ map (λ o. rising_in_contest π t o.value) (contests t)
   pub selections : AreSelectionNumbers π t n.selections.numbers.items

@@ -8,12 +8,12 @@ use Rattle.erd_tables.specs.declared.class.Family.TheVariants as family
 use Rattle.erd_tables.specs.declared.class.Role.TheVariants as role
 use Rattle.erd_tables.specs.declared.member.MemberKind.{MemberKind}
 use Rattle.erd_tables.specs.declared.member.MemberKind.TheVariants as kind
-use Rattle.erd_check.specs.Values.{entries_of}
 use Rattle.erd_check.specs.Wants.{class_of_object}
 use Rattle.erd_meaning.specs.Keys.{Preference}
 use Rattle.erd_meaning.specs.SelectionNames.{selection_role}
 use Rattle.erd_normal.specs.Canonical.{id_prefix}
-use Rattle.erd_normal.specs.code.KeyRanks.{rising_at, rising_objects}
+use Rattle.erd_normal.specs.code.ElectionParts.{objects_of_part}
+use Rattle.erd_normal.specs.code.KeyRanks.{rising_at, rising_elections}
 use Rattle.erd_normal.specs.code.NormalTree.{array_of, normal_content, normal_object_with, normal_value, unless_no_entry, with_id}
 
 -- What each entry becomes with its number, counted from n.
@@ -53,23 +53,27 @@ abbrev pub placed_object : Preference → Data → Family → ℕ → ℕ × Dat
 placed_object π t f n o =
     with_id (id_numbered f n) (normal_object_with (λ name k v. placed_object_value π t n o.0 k v) (class_of_object (role.OfFamily f) o.1) o.1)
 
--- The objects of a family, in the order of their keys.
-abbrev pub placed_objects : Preference → Data → Family → List Data
-placed_objects π t f = map_from (placed_object π t f) 1 (map (λ p. p.1) (rising_objects π t f))
+-- The objects of a family in the election at this position, in the order of their keys. The report itself is part 0.
+abbrev pub placed_objects : Preference → Data → Family → ℕ → List Data
+placed_objects π t f part = map (λ o. placed_object π t f o.0 o.1) (objects_of_part π t f part)
 
--- ---- the election and the report
+-- ---- the elections and the report
 
--- A member of the election.
-abbrev pub placed_election_value : Preference → Data → MemberKind → Data → Option Data
-placed_election_value π t (kind.Keyed f) d = unless_no_entry d (array_of (placed_objects π t f))
-placed_election_value π t k d = normal_value π t k d
+-- A member of the election at this position.
+abbrev pub placed_election_value : Preference → Data → ℕ → MemberKind → Data → Option Data
+placed_election_value π t part (kind.Keyed f) d = unless_no_entry d (array_of (placed_objects π t f part))
+placed_election_value π t part k d = normal_value π t k d
 
--- The election.
-abbrev pub placed_election : Preference → Data → Data → Data
-placed_election π t d = normal_object_with (λ name k v. placed_election_value π t k v) (class_of_object role.Election d) d
+-- An election with its position.
+abbrev pub placed_election : Preference → Data → ℕ × Data → Data
+placed_election π t e = normal_object_with (λ name k v. placed_election_value π t e.0 k v) (class_of_object role.Election e.1) e.1
+
+-- The elections, in the order of their keys.
+abbrev pub placed_elections : Preference → Data → List Data
+placed_elections π t = map (λ p. placed_election π t p.1) (rising_elections π t)
 
 -- A member of the report.
 abbrev pub placed_report_value : Preference → Data → List ℕ → MemberKind → Data → Option Data
-placed_report_value π t name (kind.Keyed f) d = unless_no_entry d (array_of (placed_objects π t f))
-placed_report_value π t name kind.Elections d = Some (array_of (map (placed_election π t) (entries_of d)))
+placed_report_value π t name (kind.Keyed f) d = unless_no_entry d (array_of (placed_objects π t f 0))
+placed_report_value π t name kind.Elections d = Some (array_of (placed_elections π t))
 placed_report_value π t name k d = if is_envelope_name name then None else normal_value π t k d

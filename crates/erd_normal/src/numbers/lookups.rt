@@ -1,17 +1,17 @@
-ghost use Rattle.std.specs.Prelude.{◌≡◌, ◌==◌, [], string_bytes, IfOk};
+ghost use Rattle.std.specs.Prelude.{◌≡◌, ◌==◌, [], map, string_bytes, IfOk};
 ghost use Rattle.std.specs.List.{slice_get};
 ghost use Rattle.std.specs.Option.{option_map_or};
 ghost use Rattle.serde_json.specs.Data.{string};
 ghost use Rattle.serde_json.specs.View.{view};
 ghost use Rattle.erd_tables.specs.Classes.{family_number};
 ghost use Rattle.erd_meaning.specs.Lookups.{selection_in};
+ghost use Rattle.erd_normal.specs.code.ElectionParts.{part_seen};
 ghost use Rattle.erd_normal.specs.code.NormalTree.{normal_selection_reference};
-ghost use Rattle.erd_normal.specs.code.ObjectNumbers.{AreObjectNumbers, number_in, number_named, numbers_of_family, rising_of_family};
+ghost use Rattle.erd_normal.specs.code.ObjectNumbers.{AreObjectNumbers, number_in, number_named, numbers_of_family, parts_of_family};
 ghost use Rattle.erd_normal.specs.code.PlacedTree.{selection_id_numbered};
 
 use crate::numbers::id_texts::selection_id_text;
 use crate::numbers::object_numbers::ObjectNumbers;
-use crate::order::lent_key::LentKey;
 use crate::order::lent_name::LentName;
 use erd_meaning::Report;
 use erd_tables::Family;
@@ -102,23 +102,40 @@ fn numbers_in<'b, 'a>(numbers: &'b ObjectNumbers<'a>, family: Family) -> &'b [us
     }
 }
 
-/// The objects of a family, sorted by key, each with its key and its position. There are none for selections.
-pub(crate) fn rising_in<'b, 'a>(
+/// The sorted objects of a family in one part for each election. There are no parts for selections.
+fn parts_in<'b, 'a>(
     numbers: &'b ObjectNumbers<'a>,
     family: Family,
-) -> &'b [(LentKey<'a>, (usize, &'a Value))]
-    ensures { result.now ≡ rising_of_family family numbers.now }
+) -> &'b [Vec<(usize, (usize, &'a Value))>]
+    ensures { result.now ≡ parts_of_family family numbers.now }
 {
     match family {
-        Family::Unit => numbers.units.rising.as_slice(),
-        Family::Party => numbers.parties.rising.as_slice(),
-        Family::Person => numbers.persons.rising.as_slice(),
-        Family::Office => numbers.offices.rising.as_slice(),
-        Family::Header => numbers.headers.rising.as_slice(),
-        Family::Candidate => numbers.candidates.rising.as_slice(),
-        Family::Contest => numbers.contests.rising.as_slice(),
+        Family::Unit => numbers.units.parts.as_slice(),
+        Family::Party => numbers.parties.parts.as_slice(),
+        Family::Person => numbers.persons.parts.as_slice(),
+        Family::Office => numbers.offices.parts.as_slice(),
+        Family::Header => numbers.headers.parts.as_slice(),
+        Family::Candidate => numbers.candidates.parts.as_slice(),
+        Family::Contest => numbers.contests.parts.as_slice(),
         Family::Style => numbers.styles.as_slice(),
         Family::Selection => &[],
+    }
+}
+
+/// The objects of a family in the election at this position, sorted by key, each with its number and its position in the
+/// report. A family that no election holds stands at position 0.
+pub(crate) fn part_in<'b, 'a>(
+    numbers: &'b ObjectNumbers<'a>,
+    family: Family,
+    part: usize,
+) -> &'b [(usize, (usize, &'a Value))]
+    ensures { map (λ o. (o.0, (o.1.0, view o.1.1.now))) result.now ≡ part_seen (parts_of_family family numbers.now) part }
+{
+    let parts = parts_in(numbers, family);
+    if part < parts.len() {
+        parts[part].as_slice()
+    } else {
+        &[]
     }
 }
 

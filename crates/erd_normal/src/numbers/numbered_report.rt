@@ -4,13 +4,13 @@ ghost use Rattle.serde_json.specs.Data.{string};
 ghost use Rattle.serde_json.specs.View.{view};
 ghost use Rattle.serde_json.specs.Written.{has_float};
 ghost use Rattle.erd_meaning.specs.Accepted.{IsAccepted};
-ghost use Rattle.erd_normal.specs.code.KeyRanks.{keyed_value, rising_at, rising_objects};
+ghost use Rattle.erd_normal.specs.code.ElectionParts.{objects_of_part};
+ghost use Rattle.erd_normal.specs.code.KeyRanks.{keyed_value, rising_at};
 ghost use Rattle.erd_normal.specs.code.NormalTree.{normal_selection_reference};
 ghost use Rattle.erd_normal.specs.code.ObjectNumbers.{AreObjectNumbers, number_named};
 
-use crate::numbers::lookups::{number_of, rising_in, selection_id, selections_in};
+use crate::numbers::lookups::{number_of, part_in, selection_id, selections_in};
 use crate::numbers::object_numbers::ObjectNumbers;
-use crate::order::lent_key::LentKey;
 use crate::order::lent_name::LentName;
 use erd_meaning::Report;
 use erd_tables::Family;
@@ -55,16 +55,18 @@ impl<'a> NumberedReport<'a> {
     pub(crate) fn report(&self) -> &Report<'a>
         ensures same { result.now ≡ self.now }
         ensures accepted { IsAccepted self.now.prefer (view self.now.tree) }
+        ensures whole { has_float (view self.now.tree) ≡ false }
     {
         self.report
     }
 
-    /// The objects of a family, sorted by key, each with its key and its position. There are none for selections.
-    pub(crate) fn rising(&self, family: Family) -> &[(LentKey<'a>, (usize, &'a Value))]
-        ensures objects { map (λ p. keyed_value p.0 p.1.0 (view p.1.1.now)) result.now ≡ rising_objects self.now.prefer (view self.now.tree) family }
-        ensures whole { AllByRecursion (λ p. has_float (view p.1.1.now) ≡ false) result.now }
+    /// The objects of a family in the election at this position, sorted by key, each with its number in the report and its
+    /// position there. A family that no election holds stands at position 0.
+    pub(crate) fn rising(&self, family: Family, part: usize) -> &[(usize, (usize, &'a Value))]
+        ensures objects { map (λ o. (o.0, (o.1.0, view o.1.1.now))) result.now ≡ objects_of_part self.now.prefer (view self.now.tree) family part }
+        ensures whole { AllByRecursion (λ o. has_float (view o.1.1.now) ≡ false) result.now }
     {
-        rising_in(self.numbers, family)
+        part_in(self.numbers, family, part)
     }
 
     /// The selections of the contest at a position, sorted by name, each with its name and its position.

@@ -3,6 +3,7 @@ ghost use Rattle.serde_json.specs.View.{view};
 ghost use Rattle.erd_meaning.specs.Accepted.{IsAccepted};
 ghost use Rattle.erd_normal.specs.code.ObjectNumbers.{AreObjectNumbers};
 
+use crate::numbers::election_parts::election_parts;
 use crate::numbers::family_table::family_table;
 use crate::numbers::object_numbers::ObjectNumbers;
 use crate::numbers::rising_objects::rising_objects;
@@ -21,6 +22,7 @@ pub(crate) fn numbers_of<'a>(
 {
     // read for `whole`: no number in the report is a fraction
     let _tree = report.tree();
+    let styles = rising_objects(alloc, report, Family::Style)?;
     Ok(ObjectNumbers {
         units: family_table(alloc, report, Family::Unit)?,
         parties: family_table(alloc, report, Family::Party)?,
@@ -29,7 +31,7 @@ pub(crate) fn numbers_of<'a>(
         headers: family_table(alloc, report, Family::Header)?,
         candidates: family_table(alloc, report, Family::Candidate)?,
         contests: family_table(alloc, report, Family::Contest)?,
-        styles: rising_objects(alloc, report, Family::Style)?,
+        styles: election_parts(alloc, report, Family::Style, &styles)?,
         selections: selection_tables(alloc, report)?,
     })
 }

@@ -1,6 +1,5 @@
 use crate::numbers::family_table::FamilyTable;
 use crate::numbers::selection_tables::SelectionTables;
-use crate::order::lent_key::LentKey;
 use serde_json::Value;
 
 /// The objects of each family, sorted by key, and the selections of each contest, sorted by name, with their numbers. No
@@ -14,6 +13,6 @@ pub(crate) struct ObjectNumbers<'a> {
     pub(crate) headers: FamilyTable<'a>,
     pub(crate) candidates: FamilyTable<'a>,
     pub(crate) contests: FamilyTable<'a>,
-    pub(crate) styles: Vec<(LentKey<'a>, (usize, &'a Value))>,
+    pub(crate) styles: Vec<Vec<(usize, (usize, &'a Value))>>,
     pub(crate) selections: SelectionTables<'a>,
 }

@@ -53,13 +53,18 @@ fn contest_tables<'a>(
 {
     // read for `bounded`: a machine word counts the selections
     let _tree = report.tree();
-    let contests = entries_at(report.election(), "Contest");
-    let mut tables = Vec::with_capacity(alloc, contests.len())?;
+    let count = report.count(Family::Contest);
+    let mut tables = Vec::with_capacity(alloc, count)?;
     let mut start = 0;
-    for contest in contests {
-        let selections = entries_at(contest, "ContestSelection");
-        tables.push(rising_selections(alloc, report, start, selections)?)?;
-        start += selections.len();
+    for index in 0..count {
+        match report.object(Family::Contest, index) {
+            Some(contest) => {
+                let selections = entries_at(contest, "ContestSelection");
+                tables.push(rising_selections(alloc, report, start, selections)?)?;
+                start += selections.len();
+            }
+            None => {}
+        }
     }
     Ok(tables)
 }

@@ -50,33 +50,36 @@ impl<'a> MemberRule for ObjectMembers<'a> {
     }
 }
 
-/// The array of the canonical objects of a family, sorted by key, or `None` if the value is an empty array.
+/// The array of the canonical objects of a family in the election at a position, sorted by key, or `None` if the value is an
+/// empty array. The objects of the report itself stand at position 0.
 pub(crate) fn family_array(
     alloc: Global,
     numbered: &NumberedReport,
     family: Family,
+    part: usize,
     value: &Value,
 ) -> Result<Option<Value>, AllocError>
     ensures { IfOk result (λ built. option_map view built
-        ≡ unless_no_entry (view value.now) (array_of (placed_objects numbered.now.prefer (view numbered.now.tree) family))) }
+        ≡ unless_no_entry (view value.now) (array_of (placed_objects numbered.now.prefer (view numbered.now.tree) family part))) }
 {
-    let built = family_objects(alloc, numbered, family)?;
+    let built = family_objects(alloc, numbered, family, part)?;
     Ok(unless_empty(value, Value::Array(built)))
 }
 
-/// The canonical objects of a family, sorted by key.
+/// The canonical objects of a family in the election at a position, sorted by key.
 fn family_objects(
     alloc: Global,
     numbered: &NumberedReport,
     family: Family,
+    part: usize,
 ) -> Result<Vec<Value>, AllocError>
     ensures { IfOk result (λ built. map view built.items
-        ≡ placed_objects numbered.now.prefer (view numbered.now.tree) family) }
+        ≡ placed_objects numbered.now.prefer (view numbered.now.tree) family part) }
 {
-    let rising = numbered.rising(family);
+    let rising = numbered.rising(family, part);
     let mut built = Vec::with_capacity(alloc, rising.len())?;
-    for (index, entry) in rising.iter().enumerate() {
-        built.push(object(alloc, numbered, family, index + 1, entry.1)?)?;
+    for entry in rising {
+        built.push(object(alloc, numbered, family, entry.0, entry.1)?)?;
     }
     Ok(built)
 }

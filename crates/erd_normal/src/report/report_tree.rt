@@ -34,9 +34,9 @@ impl<'a> MemberRule for ReportMembers<'a> {
         member: &Value,
     ) -> Result<Option<Value>, AllocError> {
         match kind {
-            MemberKind::Keyed(family) => family_array(alloc, self.numbered, family, member),
+            MemberKind::Keyed(family) => family_array(alloc, self.numbered, family, 0, member),
             MemberKind::Elections => {
-                let built = election_array(alloc, self.numbered, member)?;
+                let built = election_array(alloc, self.numbered)?;
                 Ok(Some(built))
             }
             _ => {

@@ -1,17 +1,39 @@
-use Rattle.std.proofs.Common.{map, ap, ◌∙◌}
-use Rattle.serde_json.specs.Data.{array}
+use Rattle.std.proofs.Common.{◌≡◌, ℕ, map, false, Option, Bor, ap, sym, ◌∙◌, subst}
+use Rattle.std.specs.List.{AllByRecursion}
+use Rattle.serde_json.specs.Data.{Data, array}
 use Rattle.serde_json.specs.View.{items_of, view}
+use Rattle.serde_json.specs.Written.{has_float}
+use Rattle.serde_json.specs.declared.value.Value.{Value}
 use Rattle.serde_json.proofs.Views.{view-Array}
+use Rattle.erd_meaning.specs.Judged.{Judged}
+use Rattle.erd_meaning.specs.declared.keys.key.Key.{Key}
 use Rattle.erd_normal.proofs.lists.StableRising.{map_after}
-use Rattle.erd_normal.proofs.texts.WholeEntries.{whole_list}
+use Rattle.erd_normal.proofs.ranks.PartsWhole.{rising_elections_whole}
+use Rattle.erd_normal.proofs.ranks.PlacedEntries.{unmapped}
+use Rattle.erd_normal.specs.code.KeyRanks.{keyed_value, rising_elections}
 use Rattle.erd_normal.specs.code.PlacedTree.{placed_election}
 use Rattle.erd_normal.proofs.report.election.election_array.Goals as goal
 
+-- an election as a table has it
+abbrev see : Option Key × (ℕ × Bor Value) → Option Key × (ℕ × Data)
+see p = keyed_value p.0 p.1.0 (view p.1.1.now)
+
 pub elections-requires : goal.elections-requires
-elections-requires c = record { whole = whole_list (view c.args.value.now) c.entries_of.result.now c.requires.whole c.entries_of.ensures }
+elections-requires c =
+    let π = c.args.numbered.now.prefer in
+    let t = view c.args.numbered.now.tree in
+    record {
+      whole = unmapped (λ p. has_float p.1.1 ≡ false) see c.deref.result.now
+          (subst (AllByRecursion (λ (p : Option Key × (ℕ × Data)). has_float p.1.1 ≡ false))
+          (sym (ap (map see) c.deref.ensures.value ∙ c.in_ok-rising.ensures ∙ ap (λ (r : Judged). rising_elections r.prefer (view r.tree)) c.report.ensures.same))
+          (rising_elections_whole π t c.report.ensures.whole));
+    }
 
 pub returns : goal.returns
 returns c =
     let each = placed_election c.args.numbered.now.prefer (view c.args.numbered.now.tree) in
     view-Array c.in_ok-built.built
-    ∙ ap (λ ds. array (items_of ds)) (c.in_ok-built.ensures ∙ (map_after view each c.entries_of.result.now ∙ ap (map each) c.entries_of.ensures))
+    ∙ ap (λ ds. array (items_of ds))
+    (c.in_ok-built.ensures
+    ∙ (map_after see (λ (p : Option Key × (ℕ × Data)). each p.1) c.deref.result.now
+    ∙ ap (map (λ (p : Option Key × (ℕ × Data)). each p.1)) (ap (map see) c.deref.ensures.value ∙ c.in_ok-rising.ensures ∙ ap (λ (r : Judged). rising_elections r.prefer (view r.tree)) c.report.ensures.same)))

@@ -1,0 +1,35 @@
+-- Reports of two elections: they rise by key, and the numbers of contests count both.
+use Rattle.std.proofs.Common.{◌≡◌, ℕ, List, [], ◌++◌, codes, refl, None}
+use Rattle.std.specs.Fmt.{digits}
+use Rattle.serde_json.proofs.OnLiterals.{serde_json_on_literals}
+use Rattle.erd_check.proofs.Reports.{identifier, three_contests, tree_of, two_elections}
+use Rattle.erd_normal.specs.code.NormalTree.{normal_tree}
+
+-- a contest of the canonical form
+abbrev numbered_contest : List ℕ → List ℕ → List ℕ
+numbered_contest id value = codes "{\"@id\":\"" ++ id ++ codes "\",\"@type\":\"ElectionResults.PartyContest\",\"ElectionDistrictId\":\"gp1\"," ++ identifier value ++ codes ",\"Name\":\"N\"}"
+
+-- an election of the canonical form, with this member for its contests
+abbrev rising_election : List ℕ → List ℕ → List ℕ → List ℕ
+rising_election contests value name =
+    codes "{\"@type\":\"ElectionResults.Election\"," ++ contests ++ codes "\"ElectionScopeId\":\"gp1\",\"EndDate\":\"2026-11-03\"," ++ identifier value
+    ++ codes ",\"Name\":\"" ++ name ++ codes "\",\"StartDate\":\"2026-11-03\",\"Type\":\"general\"}"
+
+-- the canonical form of the report of one unit with these elections
+abbrev canonical_with : List ℕ → List ℕ → List ℕ
+canonical_with first second =
+    codes "{\"@type\":\"ElectionResults.ElectionReport\",\"Election\":[" ++ first ++ codes "," ++ second
+    ++ codes "],\"Format\":\"summary-contest\",\"GeneratedDate\":\"2000-01-01T00:00:00Z\",\"GpUnit\":[{\"@id\":\"gp1\",\"@type\":\"ElectionResults.ReportingUnit\",\"ExternalIdentifier\":[{\"@type\":\"ElectionResults.ExternalIdentifier\",\"Type\":\"local-level\",\"Value\":\"U1\"}],\"Type\":\"county\"}],\"Issuer\":\"canonical\",\"IssuerAbbreviation\":\"canonical\",\"SequenceEnd\":1,\"SequenceStart\":1,\"Status\":\"pre-election\",\"VendorApplicationId\":\"canonical\"}"
+
+-- the election E1 stands first
+two_elections_built : normal_tree None (tree_of two_elections)
+    ≡ tree_of (canonical_with (rising_election [] (codes "E1") (codes "Other")) (rising_election [] (codes "E2") (codes "Test")))
+unfolding serde_json_on_literals digits
+two_elections_built = refl
+
+-- E1 has the first and the third contest, and E2 the second
+three_contests_built : normal_tree None (tree_of three_contests)
+    ≡ tree_of (canonical_with (rising_election (codes "\"Contest\":[" ++ numbered_contest (codes "co1") (codes "C1") ++ codes "," ++ numbered_contest (codes "co3") (codes "C3") ++ codes "],") (codes "E1") (codes "Other"))
+    (rising_election (codes "\"Contest\":[" ++ numbered_contest (codes "co2") (codes "C2") ++ codes "],") (codes "E2") (codes "Test")))
+unfolding serde_json_on_literals digits
+three_contests_built = refl
