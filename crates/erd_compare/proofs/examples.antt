@@ -2,3 +2,4 @@ mod DifferenceExamples
 pub mod OrderExamples
 pub mod FirstDifferenceExamples
 mod BallotDifferenceExamples
+mod ElectionDifferenceExamples

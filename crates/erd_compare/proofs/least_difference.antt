@@ -1,8 +1,8 @@
 pub mod StepWalks
 pub mod RisingTables
 pub mod NameWalks
+pub mod HeldRecords
 pub mod KeyedRecords
 pub mod KeyTables
 pub mod KeyWalks
-pub mod PartsTold
 pub mod PartsInOrder

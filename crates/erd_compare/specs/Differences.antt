@@ -40,7 +40,7 @@ abbrev pub record_with_key : Meaning → Family → Option Key → Option Object
 record_with_key m f None = None
 record_with_key m f (Some k) = m.objects f k
 
--- The record of the report or of the election. Neither has a key, so there is none where a key is given.
+-- The record of the report. It has no key, so there is none where a key is given.
 abbrev pub record_without_key : Option ObjectRecord → Option Key → Option ObjectRecord
 record_without_key r None = r
 record_without_key r (Some k) = None
@@ -53,7 +53,7 @@ record_at m part.Party k = record_with_key m family.Party k
 record_at m part.Person k = record_with_key m family.Person k
 record_at m part.Office k = record_with_key m family.Office k
 record_at m part.Header k = record_with_key m family.Header k
-record_at m part.Election k = record_without_key m.election k
+record_at m part.Election k = m.elections k
 record_at m part.Candidate k = record_with_key m family.Candidate k
 record_at m part.Contest k = record_with_key m family.Contest k
 record_at m part.Style k = record_with_key m family.Style k

@@ -12,7 +12,7 @@ use erd_tables::Text;
 use serde_json::Value;
 use std::alloc::{AllocError, Global};
 
-/// A part of a report: the report itself, the election, or one of the eight families of objects with keys. Parts are
+/// A part of a report: the report itself, its elections, or one of the eight families of objects with keys. Parts are
 /// compared in this order.
 #[derive(Clone, Copy, Debug, PartialEq, Eq, PartialOrd, Ord)]
 pub enum Part {
@@ -28,7 +28,7 @@ pub enum Part {
     Office,
     /// The headers, which are Header objects.
     Header,
-    /// The election. It has no key.
+    /// The elections. The only election of a report may have no key.
     Election,
     /// The candidates, which are Candidate objects.
     Candidate,
@@ -38,7 +38,7 @@ pub enum Part {
     Style,
 }
 
-/// How two reports differ at a part and, if the part is a family, at a key.
+/// How two reports differ at a part and, if the object there has one, at a key.
 #[derive(Debug, Drop)]
 pub enum How {
     /// Only the left report has the object.
@@ -47,7 +47,8 @@ pub enum How {
     OnlyRight,
     /// The two objects have different classes.
     OtherClass,
-    /// The objects have the same class and differ in a member. This is the least name of such a member.
+    /// The objects have the same class and differ in a member. This is the least name of such a member. If the keys of the
+    /// elections that hold them differ, `ElectionId` is such a name.
     Member(Text),
 }
 
@@ -56,7 +57,7 @@ pub enum How {
 pub struct Difference {
     /// The part of the report that differs.
     pub part: Part,
-    /// The key of the object that differs. It is `None` for the report and the election.
+    /// The key of the object that differs. It is `None` for the report and for an election without external identifiers.
     pub key: Option<Key>,
     /// How the reports differ there.
     pub how: How,

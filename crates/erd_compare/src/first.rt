@@ -3,8 +3,9 @@ ghost use Rattle.serde_json.specs.View.{view};
 ghost use Rattle.erd_meaning.specs.Records.{meaning};
 ghost use Rattle.erd_compare.specs.Differences.{IsDifference};
 
-mod families;
 mod parts;
+mod role_objects;
+mod tables;
 
 use crate::difference::{Difference, Part};
 use crate::first::parts::part_difference;
@@ -29,13 +30,14 @@ const PARTS: [Part; 10] = [
 /// Returns the first difference between the meanings of two reports, or `None` if and only if they mean the same. Both
 /// reports must have been resolved under the same preference.
 ///
-/// The first difference is at the least part that differs, and there at the least key. If only one report has an object
-/// there, that is the difference. Otherwise it is the class, or else the least name of a member that differs. A contest with
-/// other selections differs at its member `ContestSelection`, and a ballot style with other contents at `OrderedContent`.
-/// docs/PROFILE.md lists the parts, the keys and what members mean.
+/// The first difference is at the least part that differs, and there at the least key. An election without a key comes
+/// before those with one. If only one report has an object there, that is the difference. Otherwise it is the class, or else
+/// the least name of a member that differs. A contest with other selections differs at its member `ContestSelection`, and a
+/// ballot style with other contents at `OrderedContent`. A candidate, contest or style that is in an election with another
+/// key differs at `ElectionId`. docs/PROFILE.md lists the parts, the keys and what members mean.
 ///
 /// The code copies and builds no records. It compares members in place, and references by the keys of the objects that they
-/// name. In each family it sorts the keys of both reports, walks both lists in step, and stops at the first difference.
+/// name. In each part it sorts the keys of both reports, walks both lists in step, and stops at the first difference.
 ///
 /// # Errors
 ///

@@ -1,5 +1,6 @@
 //! How two objects differ, and whether their members mean the same.
 
+pub(crate) mod held;
 mod member_names;
 mod plain_members;
 pub(crate) mod records;

@@ -10,13 +10,13 @@ use Rattle.erd_tables.specs.declared.class.Family.{Family}
 use Rattle.erd_tables.specs.declared.class.Family.TheVariants as family
 use Rattle.erd_tables.specs.declared.class.Role.TheVariants as role
 use Rattle.erd_meaning.proofs.examples.RecordExamples.{local_key}
-use Rattle.erd_meaning.proofs.meanings.WholeMeanings.{same_object, AreAmong, AgreeAt, ObjectsAgree, same_at_key, ObjectsAgreeButOne, SameMember, same_at_key_with, HaveKeys, keys_of_family, nothing_at, same_family, selection_with_name, SelectionsAgreeButOne, same_at_name, HaveNames, names_of_selections, same_selections}
+use Rattle.erd_meaning.proofs.meanings.WholeMeanings.{same_object, same_sole_election, AreAmong, AgreeAt, ObjectsAgree, same_at_key, ObjectsAgreeButOne, SameMember, same_at_key_with, HaveKeys, keys_of_family, nothing_at, same_family, selection_with_name, SelectionsAgreeButOne, same_at_name, HaveNames, names_of_selections, same_selections}
 use Rattle.erd_meaning.specs.Keys.{has_keys, key_cmp}
 use Rattle.erd_check.specs.Values.{entries_at}
 use Rattle.erd_meaning.specs.Meaning.{a_selection_map}
 use Rattle.erd_meaning.specs.NameParts.{NameParts}
 use Rattle.erd_meaning.specs.Objects.{contests}
-use Rattle.erd_meaning.specs.Records.{plain_member, object_record, selection_map, records_of, meaning}
+use Rattle.erd_meaning.specs.Records.{election_records, plain_member, object_record, selection_map, records_of, meaning}
 use Rattle.erd_meaning.specs.SelectionNames.{name_of}
 use Rattle.erd_meaning.specs.declared.keys.key.Key.{Key}
 use Rattle.erd_compare.proofs.examples.FirstDifferenceExamples.{election_in, not_in}
@@ -36,36 +36,38 @@ same_report : object_record None left role.Report left ≡ object_record None ri
 unfolding serde_json_on_literals
 same_report = same_object None left right left right role.Report class.ElectionReport refl refl refl
 
-same_election : (meaning None left).election ≡ (meaning None right).election
+same_election : (k : Option Key) → election_records None left k ≡ election_records None right k
 unfolding serde_json_on_literals
-same_election = same_object None left right (election_in left) (election_in right) role.Election class.Election refl refl refl
+same_election =
+    same_sole_election None None left right (election_in left) (election_in right) refl refl refl
+    (same_object None left right (election_in left).value (election_in right).value role.Election class.Election refl refl refl)
 
 same_units : MeansTheSame family.Unit (codes "U1") × MeansTheSame family.Unit (codes "U2")
 unfolding serde_json_on_literals
-same_units = (same family.Unit (codes "U1") class.ReportingUnit refl (refl, refl, refl, refl, refl), same family.Unit (codes "U2") class.ReportingUnit refl (refl, refl, refl, refl, refl))
+same_units = (same family.Unit (codes "U1") class.ReportingUnit refl (refl, refl, refl, refl, refl, refl), same family.Unit (codes "U2") class.ReportingUnit refl (refl, refl, refl, refl, refl, refl))
 
 same_party : MeansTheSame family.Party (codes "P1")
 unfolding serde_json_on_literals
-same_party = same family.Party (codes "P1") class.Party refl (refl, refl, refl, refl, refl)
+same_party = same family.Party (codes "P1") class.Party refl (refl, refl, refl, refl, refl, refl)
 
 same_person : MeansTheSame family.Person (codes "Q1")
 unfolding serde_json_on_literals
-same_person = same family.Person (codes "Q1") class.Person refl (refl, refl, refl, refl, refl)
+same_person = same family.Person (codes "Q1") class.Person refl (refl, refl, refl, refl, refl, refl)
 
 same_office : MeansTheSame family.Office (codes "O1")
 unfolding serde_json_on_literals
-same_office = same family.Office (codes "O1") class.Office refl (refl, refl, refl, refl, refl)
+same_office = same family.Office (codes "O1") class.Office refl (refl, refl, refl, refl, refl, refl)
 
 same_header : MeansTheSame family.Header (codes "H1")
 unfolding serde_json_on_literals
-same_header = same family.Header (codes "H1") class.Header refl (refl, refl, refl, refl, refl)
+same_header = same family.Header (codes "H1") class.Header refl (refl, refl, refl, refl, refl, refl)
 
 same_candidates : MeansTheSame family.Candidate (codes "K1") × MeansTheSame family.Candidate (codes "K2") × MeansTheSame family.Candidate (codes "K3")
 unfolding serde_json_on_literals
 same_candidates = (
-  same family.Candidate (codes "K1") class.Candidate refl (refl, refl, refl, refl, refl),
-  same family.Candidate (codes "K2") class.Candidate refl (refl, refl, refl, refl, refl),
-  same family.Candidate (codes "K3") class.Candidate refl (refl, refl, refl, refl, refl),
+  same family.Candidate (codes "K1") class.Candidate refl (refl, refl, refl, refl, refl, refl),
+  same family.Candidate (codes "K2") class.Candidate refl (refl, refl, refl, refl, refl, refl),
+  same family.Candidate (codes "K3") class.Candidate refl (refl, refl, refl, refl, refl, refl),
 )
 
 -- ---- contests
@@ -154,8 +156,8 @@ second_contest = ap (λ m. Some (a_selection_map m)) second_selections
 same_contests : MeansTheSame family.Contest (codes "C1") × MeansTheSame family.Contest (codes "C2")
 unfolding serde_json_on_literals
 same_contests = (
-  same_with family.Contest (codes "C1") class.CandidateContest (codes "ContestSelection") refl (refl, refl, refl, refl, refl) first_contest,
-  same_with family.Contest (codes "C2") class.BallotMeasureContest (codes "ContestSelection") refl (refl, refl, refl, refl, refl) second_contest,
+  same_with family.Contest (codes "C1") class.CandidateContest (codes "ContestSelection") refl (refl, refl, refl, refl, refl, refl) first_contest,
+  same_with family.Contest (codes "C2") class.BallotMeasureContest (codes "ContestSelection") refl (refl, refl, refl, refl, refl, refl) second_contest,
 )
 
 -- ---- all that comes before the style
@@ -221,8 +223,7 @@ before_style part.Office None less = refl
 before_style part.Office (Some k) less = same_objects family.Office k refl
 before_style part.Header None less = refl
 before_style part.Header (Some k) less = same_objects family.Header k refl
-before_style part.Election None less = same_election
-before_style part.Election (Some k) less = refl
+before_style part.Election k less = same_election k
 before_style part.Candidate None less = refl
 before_style part.Candidate (Some k) less = same_objects family.Candidate k refl
 before_style part.Contest None less = refl

@@ -2,7 +2,7 @@
 use Rattle.std.proofs.Common.{◌≡◌, ◌≢◌, ℕ, List, [], ◌∷◌, codes, slice_get, Bool, true, false, true≢false, Option, Some, None, refl, sym, ap, ◌∙◌, Equal}
 use Rattle.std.proofs.lemmas.Slice.Eq.{bytes_eq-Decides}
 use Rattle.std.specs.Ordering.{is_eq, is_lt}
-use Rattle.std.specs.Prelude.{option_and_then, option_map, unwrap_or, is_some}
+use Rattle.std.specs.Prelude.{option_and_then, unwrap_or, is_some}
 use Rattle.std.specs.Str.{bytes_eq}
 use Rattle.std.specs.declared.cmp.Ordering.TheVariants.{Less}
 use Rattle.serde_json.specs.Data.{Data, null, string}
@@ -15,12 +15,12 @@ use Rattle.erd_tables.specs.declared.class.Role.TheVariants as role
 use Rattle.erd_check.proofs.Reports.{tree_of, one_unit_report, status, unit, election, one_unit}
 use Rattle.erd_meaning.specs.Keys.{key_cmp}
 use Rattle.erd_meaning.specs.Meaning.{ObjectRecord, MemberValue, a_plain, a_label, a_json, untranslated}
-use Rattle.erd_meaning.specs.Objects.{objects, elections}
-use Rattle.erd_meaning.specs.Records.{member_of_class, object_record, records_of, meaning}
+use Rattle.erd_meaning.specs.Objects.{Placed, elections, report_of}
+use Rattle.erd_meaning.specs.Records.{election_records, member_of_class, object_record, records_of, meaning}
 use Rattle.erd_meaning.specs.declared.keys.key.Key.{Key}
 use Rattle.erd_meaning.proofs.examples.RecordExamples.{local_key}
 use Rattle.erd_meaning.proofs.orders.EqualNames.{equal_keys}
-use Rattle.erd_meaning.proofs.meanings.WholeMeanings.{same_but_one, same_object, is_key_in, same_at_every_key, no_record, same_meaning}
+use Rattle.erd_meaning.proofs.meanings.WholeMeanings.{same_at_key, same_but_one, same_object, same_sole_election, is_key_in, same_at_every_key, no_record, same_meaning}
 use Rattle.erd_meaning.proofs.meanings.WholeRecords.{absent_member}
 use Rattle.erd_compare.specs.Differences.{record_at, part_cmp, IsFirstDifference, IsDifference}
 use Rattle.erd_compare.specs.declared.difference.How.{How}
@@ -43,12 +43,9 @@ other_if_less name one itself less = at (bytes_eq name one) refl
 abbrev left : Data
 left = tree_of one_unit
 
--- the first election of a report
-abbrev pub election_in : Data → Data
-election_in t = unwrap_or (option_map (λ o. o.value) (slice_get (elections t) 0)) null
-
-abbrev unit_in : Data → Data
-unit_in t = unwrap_or (option_map (λ o. o.value) (slice_get (objects family.Unit t) 0)) null
+-- the first election of a report, and its place
+abbrev pub election_in : Data → Placed
+election_in t = unwrap_or (slice_get (elections t) 0) (report_of null)
 
 abbrev key : Key
 key = local_key (codes "U1")
@@ -61,13 +58,15 @@ respelled_report : object_record None left role.Report left ≡ object_record No
 unfolding serde_json_on_literals
 respelled_report = same_object None left respelled left respelled role.Report class.ElectionReport refl refl refl
 
-respelled_election : (meaning None left).election ≡ (meaning None respelled).election
+respelled_election : (k : Option Key) → election_records None left k ≡ election_records None respelled k
 unfolding serde_json_on_literals
-respelled_election = same_object None left respelled (election_in left) (election_in respelled) role.Election class.Election refl refl refl
+respelled_election =
+    same_sole_election None None left respelled (election_in left) (election_in respelled) refl refl refl
+    (same_object None left respelled (election_in left).value (election_in respelled).value role.Election class.Election refl refl refl)
 
 respelled_unit : records_of None left family.Unit key ≡ records_of None respelled family.Unit key
 unfolding serde_json_on_literals
-respelled_unit = same_object None left respelled (unit_in left) (unit_in respelled) (role.OfFamily family.Unit) class.ReportingUnit refl refl refl
+respelled_unit = same_at_key None left respelled family.Unit key class.ReportingUnit refl (refl, refl, refl, refl, refl, refl)
 
 respelled_objects : (f : Family) (k : Key) → records_of None left f k ≡ records_of None respelled f k
 unfolding serde_json_on_literals
@@ -85,7 +84,7 @@ abbrev renamed : Data
 renamed = tree_of (one_unit_report status unit (codes "\"@type\":\"ElectionResults.Election\",\"Name\":\"Trial\",\"Type\":\"general\",\"StartDate\":\"2026-11-03\",\"EndDate\":\"2026-11-03\",\"ElectionScopeId\":\"u7\""))
 
 abbrev election_member : Data → List ℕ → Option MemberValue
-election_member t = member_of_class None t (election_in t) class.Election
+election_member t = member_of_class None t (election_in t).value class.Election
 
 -- the label is this text
 abbrev is_labelled : List ℕ → Option MemberValue → Bool
@@ -106,7 +105,8 @@ other_name e = true≢false (sym old_name ∙ ap (is_labelled (codes "Test")) e 
 same_but_name : (name : List ℕ) → bytes_eq name (codes "Name") ≡ false → election_member left name ≡ election_member renamed name
 unfolding serde_json_on_literals
 same_but_name =
-    same_but_one (election_member left) (election_member renamed) (election_in left) (election_in renamed) (codes "Name") (absent_member None left (election_in left) class.Election) (absent_member None renamed (election_in renamed) class.Election) refl
+    same_but_one (election_member left) (election_member renamed) (election_in left).value (election_in renamed).value (codes "Name") (absent_member None left (election_in left).value class.Election)
+    (absent_member None renamed (election_in renamed).value class.Election) refl
 
 renamed_report : object_record None left role.Report left ≡ object_record None renamed role.Report renamed
 unfolding serde_json_on_literals
@@ -114,7 +114,7 @@ renamed_report = same_object None left renamed left renamed role.Report class.El
 
 renamed_unit : records_of None left family.Unit key ≡ records_of None renamed family.Unit key
 unfolding serde_json_on_literals
-renamed_unit = same_object None left renamed (unit_in left) (unit_in renamed) (role.OfFamily family.Unit) class.ReportingUnit refl refl refl
+renamed_unit = same_at_key None left renamed family.Unit key class.ReportingUnit refl (refl, refl, refl, refl, refl, refl)
 
 renamed_units : (k : Key) → records_of None left family.Unit k ≡ records_of None renamed family.Unit k
 unfolding serde_json_on_literals
@@ -156,7 +156,7 @@ not_a_later_member h = other_name (h.differ.least (codes "Name") refl)
 
 some_difference : IsDifference (meaning None left) (meaning None renamed) None → ⊥
 unfolding serde_json_on_literals
-some_difference h = other_name (ap (λ m. option_and_then (λ r. r.members (codes "Name")) m.election) h)
+some_difference h = other_name (ap (λ m. option_and_then (λ r. r.members (codes "Name")) (m.elections None)) h)
 
 -- ---- another type of unit besides
 

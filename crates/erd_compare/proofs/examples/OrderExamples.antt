@@ -3,18 +3,18 @@ use Rattle.std.proofs.Common.{◌≡◌, ◌≢◌, ℕ, List, [], ◌∷◌, �
 use Rattle.std.proofs.lemmas.Bool.{or_from, or_parts}
 use Rattle.std.proofs.lemmas.Slice.Eq.{bytes_eq-Decides}
 use Rattle.std.specs.List.{list_any}
-use Rattle.std.specs.Prelude.{unwrap_or}
 use Rattle.std.specs.Str.{bytes_eq}
 use Rattle.std.specs.declared.cmp.Ordering.TheVariants.{Less}
-use Rattle.serde_json.specs.Data.{Data, null}
+use Rattle.serde_json.specs.Data.{Data}
 use Rattle.serde_json.proofs.OnLiterals.{serde_json_on_literals}
 use Rattle.erd_tables.specs.Texts.{text_cmp}
 use Rattle.erd_tables.specs.declared.class.Class.TheVariants as class
 use Rattle.erd_tables.specs.declared.class.Family.TheVariants as family
 use Rattle.erd_check.proofs.Reports.{tree_of, small_ballot, small_ballot_with, header_node, contest_node}
 use Rattle.erd_meaning.specs.Meaning.{first_node, a_header, a_content, MemberValue, a_plain}
-use Rattle.erd_meaning.specs.Records.{object_with_key, member_of_class, meaning}
+use Rattle.erd_meaning.specs.Records.{member_of_class, meaning}
 use Rattle.erd_meaning.specs.declared.keys.key.Key.{Key}
+use Rattle.erd_meaning.proofs.meanings.WholeMeanings.{value_with_key}
 use Rattle.erd_meaning.proofs.meanings.WholeRecords.{absent_member, same_at_other_names}
 use Rattle.erd_compare.specs.Differences.{record_at, Differ}
 use Rattle.erd_compare.specs.declared.difference.How.TheVariants.{Member}
@@ -31,7 +31,7 @@ abbrev pub right : Data
 right = tree_of (small_ballot_with (codes "K3") (contest_node ++ codes "," ++ header_node))
 
 abbrev style : Data → Data
-style t = unwrap_or (object_with_key None t family.Style style_key) null
+style t = value_with_key None t family.Style style_key
 
 abbrev style_member : Data → List ℕ → Option MemberValue
 style_member t = member_of_class None t (style t) class.BallotStyle

@@ -1,6 +1,6 @@
--- The object of a family at a position, and the record at its key: each object of an accepted report has a record, and no two
--- have one key.
-use Rattle.std.proofs.Common.{◌≡◌, ℕ, zero, suc, inl, inr, List, [], ◌∷◌, true, Option, Some, None, option_and_then, option_map, find, refl, sym, ap, ◌∙◌, subst}
+-- What a report means at the keys of a part are the records of its objects: each object of an accepted report has a record,
+-- and no two of a part have one key.
+use Rattle.std.proofs.Common.{◌≡◌, ◌≤◌, ◌<◌, ℕ, zero, suc, ◌⊎◌, inl, inr, List, [], ◌∷◌, Bool, true, false, length, nat_lt, Option, Some, None, option_and_then, option_map, find, refl, sym, ap, ◌∙◌, subst, arith}
 use Rattle.std.specs.Cmp.{Equal-is}
 use Rattle.std.specs.List.{slice_get}
 use Rattle.std.specs.Option.{option_cmp}
@@ -10,148 +10,255 @@ use Rattle.serde_json.specs.Data.{Data}
 use Rattle.erd_tables.specs.declared.class.Class.{Class}
 use Rattle.erd_tables.specs.declared.class.Family.{Family}
 use Rattle.erd_tables.specs.declared.class.Family.TheVariants as family
+use Rattle.erd_tables.specs.declared.class.Role.{Role}
 use Rattle.erd_tables.specs.declared.class.Role.TheVariants as role
 use Rattle.erd_check.specs.Wants.{asked, class_of_object}
 use Rattle.erd_check.specs.declared.want.Want.TheVariants.{Object}
 use Rattle.erd_check.proofs.ObjectsAt.{ObjectIn, object_in}
 use Rattle.erd_check.proofs.Order.{In, any_at}
 use Rattle.erd_check.proofs.Rising.{Has, here, later}
-use Rattle.erd_check.proofs.Shapes.{Within}
-use Rattle.erd_meaning.specs.Keys.{Preference, has_keys, key_cmp, key_of, key_of_family_object}
-use Rattle.erd_meaning.specs.Lookups.{key_in}
+use Rattle.erd_check.proofs.Shapes.{Within, Within-root}
+use Rattle.erd_meaning.specs.Keys.{Preference, has_keys, key_cmp, key_of}
+use Rattle.erd_meaning.specs.Lookups.{election_in, election_key_in}
 use Rattle.erd_meaning.specs.Meaning.{ObjectRecord}
-use Rattle.erd_meaning.specs.Objects.{Placed, objects}
+use Rattle.erd_meaning.specs.Objects.{Placed, election_of_place, elections, has_several, objects, report_of}
 use Rattle.erd_meaning.specs.code.Orders.{key_cmp_total}
-use Rattle.erd_meaning.specs.Records.{member_of_class, object_record, object_with_key, records_of}
+use Rattle.erd_meaning.specs.Records.{election_records, meaning, member_of_class, object_record, placed_record, record_in_election, records_of}
 use Rattle.erd_meaning.specs.declared.keys.key.Key.{Key}
 use Rattle.erd_meaning.proofs.orders.EqualNames.{equal_keys, options_exact}
 use Rattle.erd_meaning.proofs.finding.OneObject.{in_at, one_key}
+use Rattle.erd_meaning.proofs.finding.OwnedObjects.{position_of}
+use Rattle.erd_meaning.proofs.finding.TwinElections.{one_election_key}
+use Rattle.erd_meaning.proofs.accepted.KeyedElections.{election_has_identifier}
 use Rattle.erd_meaning.proofs.accepted.Phases.{no_identity_fault, no_shape_fault}
-use Rattle.erd_meaning.proofs.accepted.References.{find-Some, find-any, option_map-Some}
+use Rattle.erd_meaning.proofs.accepted.References.{find-Some, find-any, has_identifier, option_map-Some}
+use Rattle.erd_meaning.proofs.accepted.Skeleton.{election_stands, skeleton}
 use Rattle.erd_meaning.proofs.accepted.Standing.{stands}
-use Rattle.erd_meaning.proofs.meanings.WholeMeanings.{has_key}
-use Rattle.erd_compare.specs.code.Comparing.{IsWholeTree, TellsHow}
-use Rattle.erd_compare.specs.Differences.{Differ}
-use Rattle.erd_compare.specs.code.KeyedDifferences.{HasKey, IsComparable, TellsAtPositions}
+use Rattle.erd_meaning.proofs.meanings.ElectionIds.{no_election_id}
+use Rattle.erd_compare.specs.code.Comparing.{IsWholeTree, RecordMap, TellsHow}
+use Rattle.erd_compare.specs.Differences.{Differ, record_at, record_with_key, record_without_key}
+use Rattle.erd_compare.specs.code.HeldDifferences.{HasNoElectionId, TellsHeld}
+use Rattle.erd_compare.specs.code.KeyedDifferences.{HasKeyAt, IsComparable, TellsAtPositions, holder_key_in, key_with_role, objects_in, role_of_part}
 use Rattle.erd_compare.specs.declared.difference.How.{How}
 use Rattle.erd_compare.specs.declared.difference.How.TheVariants.{OnlyLeft, OnlyRight}
+use Rattle.erd_compare.specs.declared.difference.Part.{Part}
+use Rattle.erd_compare.specs.declared.difference.Part.TheVariants as part
 use Rattle.erd_compare.proofs.least_difference.StepWalks.{IsNoneBeside}
-use Rattle.erd_meaning.proofs.finding.OwnedObjects.{position_of}
-use Rattle.erd_compare.proofs.whole_trees.FamilyTrees.{whole_object}
+use Rattle.erd_compare.proofs.whole_trees.FamilyTrees.{whole_election, whole_object}
 
--- what is made of a value
-part_of : {A B : Type 0} (g : A → Option B) (o : Option A) (b : B) → option_and_then g o ≡ Some b → (a : A) × (o ≡ Some a) × (g a ≡ Some b)
-part_of g None b e = cc
-part_of g (Some a) b e = (a, refl, e)
+-- ---- the first object with a key
 
--- ---- keys
+-- the object has this key, or none
+abbrev has_key : Preference → Option Key → Placed → Bool
+has_key π k o = is_eq (option_cmp key_cmp (key_of π o.value) k)
 
-key_itself : (k : Key) → is_eq (option_cmp key_cmp (Some k) (Some k)) ≡ true
-key_itself k = (Equal-is (key_cmp k k)).1 (tied_itself key_cmp_total k)
-
-has_its_key : (π : Preference) (k : Key) (o : Placed) → key_of π o.value ≡ Some k → has_key π k o ≡ true
-has_its_key π k o e = ap (λ l. is_eq (option_cmp key_cmp l (Some k))) e ∙ key_itself k
-
-its_key : (π : Preference) (k : Key) (o : Placed) → has_key π k o ≡ true → key_of π o.value ≡ Some k
-its_key π k o h = options_exact key_cmp equal_keys (key_of π o.value) (Some k) h
-
--- the records of a family with keys
-pub records_keyed : (π : Preference) (t : Data) (f : Family) (k : Key) → has_keys f ≡ true → records_of π t f k ≡ option_and_then (object_record π t (role.OfFamily f)) (object_with_key π t f k)
-records_keyed π t family.Selection k keyed = absurd (cc keyed)
-records_keyed π t f k keyed = refl
-
--- the record of an object of this class
-abbrev made_with : Preference → Data → Data → Class → ObjectRecord
-made_with π t d c = record { class = c; members = member_of_class π t d c }
-
-module _ (π : Preference) (t : Data) (c : IsComparable π t) (f : Family) (keyed : has_keys f ≡ true) where
-  kept_key_is : (d : Data) → key_of_family_object π f d ≡ key_of π d
-  kept_key_is d = rw keyed
-
-  key_at : (i : ℕ) (o : Placed) → slice_get (objects f t) i ≡ Some o → key_in π f t i ≡ key_of π o.value
-  key_at i o at = ap (option_and_then (λ (x : Placed). key_of_family_object π f x.value)) at ∙ kept_key_is o.value
-
-  -- an object that is found by its key stands at a position
-  found_has : (k : Key) (o : Placed) → find (has_key π k) (objects f t) ≡ Some o → HasKey π t f k
-  found_has k o e =
-      let found = find-Some (has_key π k) (objects f t) o e in
-      let place = position_of (objects f t) o found.0 in
-      (place.0, key_at place.0 o place.1 ∙ its_key π k o found.1)
-
-  -- the object at a position is found by its key
-  find_at : (k : Key) (i : ℕ) → key_in π f t i ≡ Some k → find (has_key π k) (objects f t) ≡ slice_get (objects f t) i
-  find_at k i e =
-      let one = part_of (λ (x : Placed). key_of_family_object π f x.value) (slice_get (objects f t) i) k e in
-      let its : key_of π one.0.value ≡ Some k = sym (kept_key_is one.0.value) ∙ one.2 in
-      let found = find-any (has_key π k) (objects f t) (any_at (has_key π k) one.0 (objects f t) (in_at (objects f t) i one.0 one.1) (has_its_key π k one.0 its)) in
-      let place = position_of (objects f t) found.0 found.3 in
-      let same : place.0 ≡ i = one_key π t f k place.0 i (no_identity_fault π t c.accepted) (key_at place.0 found.0 place.1 ∙ its_key π k found.0 found.2) e in
-      found.1 ∙ sym place.1 ∙ ap (slice_get (objects f t)) same
-
-  -- the value at a position is the object with the key there
-  pub object_at_key : (k : Key) (i : ℕ) → key_in π f t i ≡ Some k → option_map (λ o. o.value) (slice_get (objects f t) i) ≡ object_with_key π t f k
-  object_at_key k i e = ap (option_map (λ (o : Placed). o.value)) (sym (find_at k i e))
-
-  -- an object with a key is one at a position
-  pub object_has : (k : Key) (d : Data) → object_with_key π t f k ≡ Some d → HasKey π t f k
-  object_has k d e = let o = option_map-Some (λ (o : Placed). o.value) (find (has_key π k) (objects f t)) d e in found_has k o.0 o.1
-
-  -- ---- records
-
-  -- an object with a key is one of the family
-  one_of : (k : Key) (d : Data) → object_with_key π t f k ≡ Some d → (o : Placed) × Has (objects f t) o × (o.value ≡ d)
-  one_of k d e =
-      let o = option_map-Some (λ (o : Placed). o.value) (find (has_key π k) (objects f t)) d e in
-      (o.0, (find-Some (has_key π k) (objects f t) o.0 o.1).0, o.2)
-
-  record_in : (o : Placed) → Has (objects f t) o → (r : ObjectRecord) × (object_record π t (role.OfFamily f) o.value ≡ Some r)
-  record_in o h =
-      let w : Within t (asked (Object (role.OfFamily f)) o.value) = record { place = o.place; is = stands π t c.accepted f o h } in
-      let i : ObjectIn t (role.OfFamily f) o.value = object_in t (no_shape_fault π t c.accepted) (role.OfFamily f) o.value w in
-      let class : class_of_object (role.OfFamily f) o.value ≡ Some i.class = ap (class_of_object (role.OfFamily f)) i.is_object ∙ i.at.among in
-      (made_with π t o.value i.class, ap (option_map (made_with π t o.value)) class)
-
-  -- an object with a key has a record
-  record_with : (k : Key) (d : Data) → object_with_key π t f k ≡ Some d → (r : ObjectRecord) × (records_of π t f k ≡ Some r)
-  record_with k d e =
-      let o = one_of k d e in
-      let r = record_in o.0 o.1 in
-      (r.0, records_keyed π t f k keyed ∙ (ap (option_and_then (object_record π t (role.OfFamily f))) e ∙ (ap (object_record π t (role.OfFamily f)) (sym o.2) ∙ r.1)))
-
-  -- and a key of no object has none
-  record_absent : (k : Key) → object_with_key π t f k ≡ None → records_of π t f k ≡ None
-  record_absent k e = records_keyed π t f k keyed ∙ ap (option_and_then (object_record π t (role.OfFamily f))) e
-
-  -- an object of the family that has the key has a record
-  pub record_at : (k : Key) (i : ℕ) → key_in π f t i ≡ Some k → (r : ObjectRecord) × (records_of π t f k ≡ Some r)
-  record_at k i is =
-      let one = part_of (λ (x : Placed). key_of_family_object π f x.value) (slice_get (objects f t) i) k is in
-      record_with k one.0.value (sym (object_at_key k i is) ∙ ap (option_map (λ (o : Placed). o.value)) one.1)
-
-  -- a key has no record, unless it is among these, among which is each key of an object
-  pub none_beside : (ks : List Key) → ((k : Key) → HasKey π t f k → In k ks) → (k : Key) → IsNoneBeside (records_of π t f) ks k
-  none_beside ks all k = at (object_with_key π t f k) refl
-    where
-      at : (o : Option Data) → object_with_key π t f k ≡ o → IsNoneBeside (records_of π t f) ks k
-      at None is = inl (record_absent k is)
-      at (Some d) is = inr (all k (object_has k d is))
-
-  -- what the object at a position means is the record at its key
-  pub record_here : (k : Key) (i : ℕ) (d : Data) → key_in π f t i ≡ Some k → Some d ≡ option_map (λ o. o.value) (slice_get (objects f t) i)
-      → object_record π t (role.OfFamily f) d ≡ records_of π t f k
-  record_here k i d is found =
-      sym (records_keyed π t f k keyed ∙ ap (option_and_then (object_record π t (role.OfFamily f))) (sym (found ∙ object_at_key k i is)))
+key_itself : (k : Option Key) → is_eq (option_cmp key_cmp k k) ≡ true
+key_itself None = refl
+key_itself (Some k) = (Equal-is (key_cmp k k)).1 (tied_itself key_cmp_total k)
 
 has_at : {A : Type 0} (xs : List A) (i : ℕ) (x : A) → slice_get xs i ≡ Some x → Has xs x
 has_at [] i x e = cc
 has_at (y ∷ xs) zero x e = let same : y ≡ x = cc in subst (Has (y ∷ xs)) same here
 has_at (y ∷ xs) (suc i) x e = later (has_at xs i x e)
 
--- the object at a position is a whole tree
-pub whole_here : (π : Preference) (t : Data) (c : IsComparable π t) (f : Family) (i : ℕ) (d : Data) → Some d ≡ option_map (λ o. o.value) (slice_get (objects f t) i) → IsWholeTree d
-whole_here π t c f i d found =
-    let o = option_map-Some (λ (o : Placed). o.value) (slice_get (objects f t) i) d (sym found) in
-    subst IsWholeTree o.2 (whole_object t f c.whole o.0 (has_at (objects f t) i o.0 o.1))
+-- a position in a list is low
+pub low_at : {A : Type 0} (xs : List A) (i : ℕ) (x : A) → slice_get xs i ≡ Some x → i < length xs
+low_at [] i x e = cc
+low_at (y ∷ xs) zero x e = omega arith
+low_at (y ∷ xs) (suc i) x e = omega (arith, low_at xs i x e)
+
+-- objects with one key, or with none, stand at one position
+abbrev AreApart : Preference → List Placed → Type 0
+AreApart π os = (i j : ℕ) (o p : Placed) → slice_get os i ≡ Some o → slice_get os j ≡ Some p → key_of π o.value ≡ key_of π p.value → i ≡ j
+
+module _ (π : Preference) (os : List Placed) where
+  -- the object at a position is found by its key
+  find_here : AreApart π os → (i : ℕ) (o : Placed) → slice_get os i ≡ Some o → find (has_key π (key_of π o.value)) os ≡ Some o
+  find_here apart i o at =
+      let k = key_of π o.value in
+      let found = find-any (has_key π k) os (any_at (has_key π k) o os (in_at os i o at) (key_itself k)) in
+      let place = position_of os found.0 found.3 in
+      let same : place.0 ≡ i = apart place.0 i found.0 o place.1 at (options_exact key_cmp equal_keys (key_of π found.0.value) k found.2) in
+      found.1 ∙ (sym place.1 ∙ (ap (slice_get os) same ∙ at))
+
+  -- an object that is found has the key
+  found_at : (k : Option Key) (o : Placed) → find (has_key π k) os ≡ Some o → (i : ℕ) × (slice_get os i ≡ Some o) × (key_of π o.value ≡ k)
+  found_at k o e =
+      let found = find-Some (has_key π k) os o e in
+      let place = position_of os o found.0 in
+      (place.0, place.1, options_exact key_cmp equal_keys (key_of π o.value) k found.1)
+
+-- ---- the records at keys
+
+-- the map has the record of each object with the role at its key, and nothing at any other key
+pub record HoldsRecords (π : Preference) (t : Data) (r : Role) (m : RecordMap) : Type 0 where
+  pub at_key : (i : ℕ) (o : Placed) → slice_get (objects_in r t) i ≡ Some o → m (key_with_role π r o.value) ≡ option_map (record_in_election (holder_key_in π r t i)) (object_record π t r o.value)
+  pub beside : (k : Option Key) → (m k ≡ None) ⊎ ((i : ℕ) × HasKeyAt π t r i k)
+  pub one : (i j : ℕ) (k : Option Key) → HasKeyAt π t r i k → HasKeyAt π t r j k → i ≡ j
+  pub within : (i : ℕ) (o : Placed) → slice_get (objects_in r t) i ≡ Some o → Within t (asked (Object r) o.value)
+  pub whole : (i : ℕ) (o : Placed) → slice_get (objects_in r t) i ≡ Some o → IsWholeTree o.value
+
+-- the records of a family with keys
+records_keyed : (π : Preference) (t : Data) (f : Family) (k : Key) → has_keys f ≡ true → records_of π t f k ≡ option_and_then (placed_record π t f) (find (has_key π (Some k)) (objects f t))
+records_keyed π t family.Selection k keyed = absurd (cc keyed)
+records_keyed π t f k keyed = refl
+
+-- the election that holds an object of such a family
+election_here : (t : Data) (f : Family) (i : ℕ) (o : Placed) → has_keys f ≡ true → slice_get (objects f t) i ≡ Some o → election_in f t i ≡ election_of_place o.place
+election_here t family.Selection i o keyed at = absurd (cc keyed)
+election_here t f i o keyed at = ap (option_and_then (λ (x : Placed). election_of_place x.place)) at
+
+module _ (π : Preference) (t : Data) (c : IsComparable π t) (f : Family) (keyed : has_keys f ≡ true) where
+  kept : (d : Data) → key_with_role π (role.OfFamily f) d ≡ key_of π d
+  kept d = rw keyed
+
+  identified : (i : ℕ) (o : Placed) → slice_get (objects f t) i ≡ Some o → (k : Key) × (key_of π o.value ≡ Some k)
+  identified i o at = has_identifier π t c.accepted f o keyed (has_at (objects f t) i o at)
+
+  apart_in_family : AreApart π (objects f t)
+  apart_in_family i j o p at there same =
+      let its = identified i o at in
+      one_key π t f its.0 i j (no_identity_fault π t c.accepted) (ap (option_and_then (λ (x : Placed). key_with_role π (role.OfFamily f) x.value)) at ∙ (kept o.value ∙ its.1))
+      (ap (option_and_then (λ (x : Placed). key_with_role π (role.OfFamily f) x.value)) there ∙ (kept p.value ∙ (sym same ∙ its.1)))
+
+  family_at_key : (i : ℕ) (o : Placed) → slice_get (objects f t) i ≡ Some o
+      → record_with_key (meaning π t) f (key_with_role π (role.OfFamily f) o.value) ≡ option_map (record_in_election (holder_key_in π (role.OfFamily f) t i)) (object_record π t (role.OfFamily f) o.value)
+  family_at_key i o at =
+      let its = identified i o at in
+      let found : find (has_key π (Some its.0)) (objects f t) ≡ Some o = subst (λ k. find (has_key π k) (objects f t) ≡ Some o) its.1 (find_here π (objects f t) apart_in_family i o at) in
+      ap (record_with_key (meaning π t) f) (kept o.value ∙ its.1)
+      ∙ (records_keyed π t f its.0 keyed
+      ∙ (ap (option_and_then (placed_record π t f)) found
+      ∙ ap (λ e. option_map (record_in_election (option_and_then (election_key_in π t) e)) (object_record π t (role.OfFamily f) o.value)) (sym (election_here t f i o keyed at))))
+
+  family_beside : (k : Option Key) → (record_with_key (meaning π t) f k ≡ None) ⊎ ((i : ℕ) × HasKeyAt π t (role.OfFamily f) i k)
+  family_beside None = inl refl
+  family_beside (Some k) = at (find (has_key π (Some k)) (objects f t)) refl
+    where
+      at : (x : Option Placed) → find (has_key π (Some k)) (objects f t) ≡ x → (record_with_key (meaning π t) f (Some k) ≡ None) ⊎ ((i : ℕ) × HasKeyAt π t (role.OfFamily f) i (Some k))
+      at None is = inl (records_keyed π t f k keyed ∙ ap (option_and_then (placed_record π t f)) is)
+      at (Some o) is = let found = found_at π (objects f t) (Some k) o is in inr (found.0, record { object = o; stands = found.1; key = kept o.value ∙ found.2 })
+
+  family_records : HoldsRecords π t (role.OfFamily f) (record_with_key (meaning π t) f)
+  family_records = record {
+    at_key = family_at_key;
+    beside = family_beside;
+    one = λ i j k h g. apart_in_family i j h.object g.object h.stands g.stands (sym (kept h.object.value) ∙ (h.key ∙ sym (sym (kept g.object.value) ∙ g.key)));
+    within = λ i o at. record { place = o.place; is = stands π t c.accepted f o (has_at (objects f t) i o at) };
+    whole = λ i o at. whole_object t f c.whole o (has_at (objects f t) i o at);
+  }
+
+-- a record that no election holds
+unheld : (r : Option ObjectRecord) → r ≡ option_map (record_in_election None) r
+unheld None = refl
+unheld (Some r) = refl
+
+few : (n : ℕ) → nat_lt 1 n ≡ false → n ≤ 1
+few n h = grind arith
+
+module _ (π : Preference) (t : Data) (c : IsComparable π t) where
+  apart_elections : AreApart π (elections t)
+  apart_elections i j o p at there same = by_key (key_of π o.value) refl
+    where
+      sole : (b : Bool) → has_several t ≡ b → key_of π o.value ≡ None → i ≡ j
+      sole true is none = let its = election_has_identifier π t c.accepted is o (has_at (elections t) i o at) in let clash : None ≡ Some its.0 = sym none ∙ its.1 in absurd (cc clash)
+      sole false is none = omega (arith, few (length (elections t)) is, low_at (elections t) i o at, low_at (elections t) j p there)
+
+      by_key : (k : Option Key) → key_of π o.value ≡ k → i ≡ j
+      by_key None is = sole (has_several t) refl is
+      by_key (Some k) is = one_election_key π t (no_identity_fault π t c.accepted) i j o p k at there is (sym same ∙ is)
+
+  election_at_key : (i : ℕ) (o : Placed) → slice_get (elections t) i ≡ Some o → election_records π t (key_of π o.value) ≡ option_map (record_in_election None) (object_record π t role.Election o.value)
+  election_at_key i o at =
+      ap (option_and_then (λ (e : Placed). object_record π t role.Election e.value)) (find_here π (elections t) apart_elections i o at) ∙ unheld (object_record π t role.Election o.value)
+
+  election_beside : (k : Option Key) → (election_records π t k ≡ None) ⊎ ((i : ℕ) × HasKeyAt π t role.Election i k)
+  election_beside k = at (find (has_key π k) (elections t)) refl
+    where
+      at : (x : Option Placed) → find (has_key π k) (elections t) ≡ x → (election_records π t k ≡ None) ⊎ ((i : ℕ) × HasKeyAt π t role.Election i k)
+      at None is = inl (ap (option_and_then (λ (e : Placed). object_record π t role.Election e.value)) is)
+      at (Some o) is = let found = found_at π (elections t) k o is in inr (found.0, record { object = o; stands = found.1; key = found.2 })
+
+  elections_records : HoldsRecords π t role.Election (election_records π t)
+  elections_records = record {
+    at_key = election_at_key;
+    beside = election_beside;
+    one = λ i j k h g. apart_elections i j h.object g.object h.stands g.stands (h.key ∙ sym g.key);
+    within = λ i o at. record { place = o.place; is = election_stands t (skeleton π t c.accepted) o (has_at (elections t) i o at) };
+    whole = λ i o at. whole_election t o c.whole (has_at (elections t) i o at);
+  }
+
+  -- the report is the only object with its role
+  the_report : (i : ℕ) (o : Placed) → slice_get (report_of t ∷ []) i ≡ Some o → (i ≡ 0) × (report_of t ≡ o)
+  the_report zero o at = (refl, cc)
+  the_report (suc i) o at = cc
+
+  report_beside : (k : Option Key) → (record_without_key (object_record π t role.Report t) k ≡ None) ⊎ ((i : ℕ) × HasKeyAt π t role.Report i k)
+  report_beside None = inr (0, record { object = report_of t; stands = refl; key = refl })
+  report_beside (Some k) = inl refl
+
+  report_record : HoldsRecords π t role.Report (record_without_key (object_record π t role.Report t))
+  report_record = record {
+    at_key = λ i o at. unheld (object_record π t role.Report t) ∙ ap (λ (x : Placed). option_map (record_in_election None) (object_record π t role.Report x.value)) (the_report i o at).1;
+    beside = report_beside;
+    one = λ i j k h g. (the_report i h.object h.stands).0 ∙ sym (the_report j g.object g.stands).0;
+    within = λ i o at. subst (λ (x : Placed). Within t (asked (Object role.Report) x.value)) (the_report i o at).1 (Within-root t);
+    whole = λ i o at. subst (λ (x : Placed). IsWholeTree x.value) (the_report i o at).1 c.whole;
+  }
+
+  pub records_at : (p : Part) → HoldsRecords π t (role_of_part p) (record_at (meaning π t) p)
+  records_at part.Report = report_record
+  records_at part.Unit = family_records π t c family.Unit refl
+  records_at part.Party = family_records π t c family.Party refl
+  records_at part.Person = family_records π t c family.Person refl
+  records_at part.Office = family_records π t c family.Office refl
+  records_at part.Header = family_records π t c family.Header refl
+  records_at part.Election = elections_records
+  records_at part.Candidate = family_records π t c family.Candidate refl
+  records_at part.Contest = family_records π t c family.Contest refl
+  records_at part.Style = family_records π t c family.Style refl
+
+-- ---- each object has a record
+
+-- the record of an object of this class
+abbrev made_with : Preference → Data → Data → Class → ObjectRecord
+made_with π t d c = record { class = c; members = member_of_class π t d c }
+
+own_record : (π : Preference) (t : Data) (c : IsComparable π t) (r : Role) (d : Data) → Within t (asked (Object r) d) → (a : ObjectRecord) × (object_record π t r d ≡ Some a) × HasNoElectionId a
+own_record π t c r d w =
+    let i : ObjectIn t r d = object_in t (no_shape_fault π t c.accepted) r d w in
+    let class : class_of_object r d ≡ Some i.class = ap (class_of_object r) i.is_object ∙ i.at.among in
+    (made_with π t d i.class, ap (option_map (made_with π t d)) class, no_election_id π t d i.class)
+
+module _ (π : Preference) (t : Data) (c : IsComparable π t) (p : Part) where
+  -- the record at the key of the object at a position
+  record_here : (k : Option Key) (i : ℕ) (h : HasKeyAt π t (role_of_part p) i k)
+      → (a : ObjectRecord) × (object_record π t (role_of_part p) h.object.value ≡ Some a) × HasNoElectionId a × (record_at (meaning π t) p k ≡ Some (record_in_election (holder_key_in π (role_of_part p) t i) a))
+  record_here k i h =
+      let holds = records_at π t c p in
+      let own = own_record π t c (role_of_part p) h.object.value (holds.within i h.object h.stands) in
+      (own.0, own.1, own.2, ap (record_at (meaning π t) p) (sym h.key) ∙ (holds.at_key i h.object h.stands ∙ ap (option_map (record_in_election (holder_key_in π (role_of_part p) t i))) own.1))
+
+  -- a key that an object has, has a record
+  pub some_record : (k : Option Key) (i : ℕ) → HasKeyAt π t (role_of_part p) i k → (a : ObjectRecord) × (record_at (meaning π t) p k ≡ Some a)
+  some_record k i h = let r = record_here k i h in (record_in_election (holder_key_in π (role_of_part p) t i) r.0, r.3)
+
+  -- a key has no record, unless it is among these, among which is each key of an object
+  pub none_beside : (ks : List (Option Key)) → ((i : ℕ) (k : Option Key) → HasKeyAt π t (role_of_part p) i k → In k ks) → (k : Option Key) → IsNoneBeside (record_at (meaning π t) p) ks k
+  none_beside ks all k = elim ((records_at π t c p).beside k) [
+    | inl none ↦ inl none
+    | inr found ↦ inr (all found.0 k found.1)
+  ]
+
+  -- the value that is found at a position is that of the object there
+  value_here : (k : Option Key) (i : ℕ) (d : Data) (h : HasKeyAt π t (role_of_part p) i k) → Some d ≡ option_map (λ o. o.value) (slice_get (objects_in (role_of_part p) t) i) → h.object.value ≡ d
+  value_here k i d h found = let same : Some d ≡ Some h.object.value = found ∙ ap (option_map (λ (o : Placed). o.value)) h.stands in cc
+
+  -- which is a whole tree
+  pub whole_here : (i : ℕ) (d : Data) → Some d ≡ option_map (λ o. o.value) (slice_get (objects_in (role_of_part p) t) i) → IsWholeTree d
+  whole_here i d found =
+      let o = option_map-Some (λ (o : Placed). o.value) (slice_get (objects_in (role_of_part p) t) i) d (sym found) in
+      subst IsWholeTree o.2 ((records_at π t c p).whole i o.0 o.1)
 
 -- ---- two reports
 
@@ -161,10 +268,20 @@ differ_left a b r e g = subst (λ x. Differ x b OnlyLeft) (sym e) (subst (λ x. 
 pub differ_right : (a b : Option ObjectRecord) (r : ObjectRecord) → a ≡ None → b ≡ Some r → Differ a b OnlyRight
 differ_right a b r e g = subst (λ x. Differ x b OnlyRight) (sym e) (subst (λ x. Differ None x OnlyRight) (sym g) refl)
 
--- what is told of the objects at two positions is told of their records at a key that both have
-pub records_here : (π ρ : Preference) (t u : Data) (c : IsComparable π t) (d : IsComparable ρ u) (f : Family) (keyed : has_keys f ≡ true) (i j : ℕ) (one other : Data)
-    → Some one ≡ option_map (λ o. o.value) (slice_get (objects f t) i) → Some other ≡ option_map (λ o. o.value) (slice_get (objects f u) j) → (how : Option How)
-    → TellsHow (object_record π t (role.OfFamily f) one) (object_record ρ u (role.OfFamily f) other) how → TellsAtPositions π ρ t u f i j how
-records_here π ρ t u c d f keyed i j one other left right how told k mine its =
-    subst (λ x. TellsHow x (records_of ρ u f k) how) (record_here π t c f keyed k i one mine left)
-    (subst (λ y. TellsHow (object_record π t (role.OfFamily f) one) y how) (record_here ρ u d f keyed k j other its right) told)
+tells_as : (a b x y : Option ObjectRecord) (how : Option How) → a ≡ x → b ≡ y → TellsHow x y how → TellsHow a b how
+tells_as a b x y how e g h = subst (λ z. TellsHow z b how) (sym e) (subst (λ z. TellsHow x z how) (sym g) h)
+
+-- what is told of the objects at two positions, and of the keys of their elections, is told of their records at a key that
+-- both have
+pub records_here : (π ρ : Preference) (t u : Data) (c : IsComparable π t) (d : IsComparable ρ u) (p : Part) (i j : ℕ) (one other : Data)
+    → Some one ≡ option_map (λ o. o.value) (slice_get (objects_in (role_of_part p) t) i) → Some other ≡ option_map (λ o. o.value) (slice_get (objects_in (role_of_part p) u) j) → (own : Option How)
+    → TellsHow (object_record π t (role_of_part p) one) (object_record ρ u (role_of_part p) other) own → (how : Option How)
+    → TellsHeld own (holder_key_in π (role_of_part p) t i) (holder_key_in ρ (role_of_part p) u j) how → TellsAtPositions π ρ t u p i j how
+records_here π ρ t u c d p i j one other left right own told how held k mine its =
+    let a = record_here π t c p k i mine in
+    let b = record_here ρ u d p k j its in
+    let first = ap (object_record π t (role_of_part p)) (sym (value_here π t c p k i one mine left)) ∙ a.1 in
+    let second = ap (object_record ρ u (role_of_part p)) (sym (value_here ρ u d p k j other its right)) ∙ b.1 in
+    tells_as (record_at (meaning π t) p k) (record_at (meaning ρ u) p k) (Some (record_in_election (holder_key_in π (role_of_part p) t i) a.0))
+    (Some (record_in_election (holder_key_in ρ (role_of_part p) u j) b.0)) how a.3 b.3
+    (held a.0 b.0 a.2 b.2 (tells_as (Some a.0) (Some b.0) (object_record π t (role_of_part p) one) (object_record ρ u (role_of_part p) other) own (sym first) (sym second) told))

@@ -81,7 +81,7 @@ after_equal x y o same less = ap (λ c. ordering_then c o) (nat_cmp_is x y Equal
 -- the difference at the next part is the first
 pub first_told : (m n : Meaning) (i : ℕ) (d : Difference) → i < 10 → AreEqualBelow m n i → DifferAtPart m n (part_at i) d → IsFirstDifference m n d
 first_told m n i d low below h = record {
-  differ = subst (λ p. Differ (record_at m p d.key) (record_at n p d.key) d.how) (sym h.its_part) h.differ;
+  differ = subst (λ p. Differ (record_at m p d.key) (record_at n p d.key) d.how) (sym h.its_part) h.at.differ;
   least = λ p k less. at p k less (which_first (part_number p) (part_number d.part));
 }
   where
@@ -91,7 +91,7 @@ first_told m n i d low below h = record {
     at : (p : Part) (k : Option Key) → part_cmp p k d.part d.key ≡ Less
         → (part_number p ≡ part_number d.part) ⊎ ((part_number p < part_number d.part) ⊎ (part_number d.part < part_number p)) → record_at m p k ≡ record_at n p k
     at p k less (inl same) =
-        subst (λ q. record_at m q k ≡ record_at n q k) (numbered p i (same ∙ number)) (h.least k (after_equal (part_number p) (part_number d.part) (option_cmp key_cmp k d.key) same less))
+        subst (λ q. record_at m q k ≡ record_at n q k) (numbered p i (same ∙ number)) (h.at.least k (after_equal (part_number p) (part_number d.part) (option_cmp key_cmp k d.key) same less))
     at p k less (inr (inl lower)) = below p k (subst (λ j. part_number p < j) number lower)
     at p k less (inr (inr higher)) = absurd (after_greater (part_number p) (part_number d.part) (option_cmp key_cmp k d.key) higher less)
 
@@ -110,7 +110,7 @@ equal_objects π ρ t u all family.Selection k = refl
 
 -- reports that mean the same at every part mean the same
 pub equal_meanings : (π ρ : Preference) (t u : Data) (i : ℕ) → 10 ≤ i → AreEqualBelow (meaning π t) (meaning ρ u) i → meaning π t ≡ meaning ρ u
-equal_meanings π ρ t u i all below = same_meaning π ρ t u (at part.Report None) (at part.Election None) (equal_objects π ρ t u at)
+equal_meanings π ρ t u i all below = same_meaning π ρ t u (at part.Report None) (at part.Election) (equal_objects π ρ t u at)
   where
     at : (p : Part) (k : Option Key) → record_at (meaning π t) p k ≡ record_at (meaning ρ u) p k
     at p k = below p k (omega (arith, number_low p))

@@ -1,5 +1,5 @@
--- The objects of a report that is a whole tree are whole trees.
-use Rattle.std.proofs.Common.{◌≡◌, ◌+◌, ℕ, List, [], ◌∷◌, ◌++◌, ◌∙◌, map, flat_map, codes, sym, subst}
+-- The elections and the objects of a report that is a whole tree are whole trees.
+use Rattle.std.proofs.Common.{◌+◌, ℕ, List, [], ◌∷◌, ◌++◌, flat_map, codes}
 use Rattle.std.specs.List.{AllByRecursion}
 use Rattle.serde_json.specs.Data.{Data}
 use Rattle.erd_tables.specs.declared.class.Family.{Family}
@@ -9,7 +9,6 @@ use Rattle.erd_tables.specs.declared.place.Step.TheVariants.{Name}
 use Rattle.erd_check.proofs.Rising.{Has, all-Has}
 use Rattle.erd_check.specs.Values.{entries_at}
 use Rattle.erd_meaning.specs.Objects.{Placed, contests, elections, objects, placed_entries, placed_from, report_of}
-use Rattle.erd_meaning.proofs.accepted.Skeleton.{values-placed_entries}
 use Rattle.erd_meaning.proofs.accepted.HeldObjects.{has-flat}
 use Rattle.erd_compare.specs.code.Comparing.{IsWholeTree}
 use Rattle.erd_compare.proofs.whole_trees.WholeTrees.{AreWholeTrees, whole_trees-entries_at}
@@ -31,11 +30,12 @@ whole_entries name parent o h among =
 whole_inside : (name : List ℕ) (parents : List Placed) (o : Placed) → ((p : Placed) → Has parents p → IsWholeTree p.value) → Has (flat_map (placed_entries name) parents) o → IsWholeTree o.value
 whole_inside name parents o h among = let p = has-flat (placed_entries name) parents o among in whole_entries name p.0 o (h p.0 p.1) p.2
 
-whole_among : (t : Data) (p : Placed) → IsWholeTree t → Has (elections t) p → IsWholeTree p.value
-whole_among t p h among = whole_entries (codes "Election") (report_of t) p h among
+-- each election
+pub whole_election : (t : Data) (p : Placed) → IsWholeTree t → Has (elections t) p → IsWholeTree p.value
+whole_election t p h among = whole_entries (codes "Election") (report_of t) p h among
 
 whole_contest : (t : Data) (p : Placed) → IsWholeTree t → Has (contests t) p → IsWholeTree p.value
-whole_contest t p h among = whole_inside (codes "Contest") (elections t) p (λ q. whole_among t q h) among
+whole_contest t p h among = whole_inside (codes "Contest") (elections t) p (λ q. whole_election t q h) among
 
 -- each object of a family
 pub whole_object : (t : Data) (f : Family) → IsWholeTree t → (o : Placed) → Has (objects f t) o → IsWholeTree o.value
@@ -44,12 +44,7 @@ whole_object t family.Party h o among = whole_entries (codes "Party") (report_of
 whole_object t family.Person h o among = whole_entries (codes "Person") (report_of t) o h among
 whole_object t family.Office h o among = whole_entries (codes "Office") (report_of t) o h among
 whole_object t family.Header h o among = whole_entries (codes "Header") (report_of t) o h among
-whole_object t family.Candidate h o among = whole_inside (codes "Candidate") (elections t) o (λ p. whole_among t p h) among
+whole_object t family.Candidate h o among = whole_inside (codes "Candidate") (elections t) o (λ p. whole_election t p h) among
 whole_object t family.Contest h o among = whole_contest t o h among
-whole_object t family.Style h o among = whole_inside (codes "BallotStyle") (elections t) o (λ p. whole_among t p h) among
+whole_object t family.Style h o among = whole_inside (codes "BallotStyle") (elections t) o (λ p. whole_election t p h) among
 whole_object t family.Selection h o among = whole_inside (codes "ContestSelection") (contests t) o (λ p. whole_contest t p h) among
-
--- the one election
-pub whole_election : (t d : Data) → IsWholeTree t → map (λ o. o.value) (elections t) ≡ d ∷ [] → IsWholeTree d
-whole_election t d h is =
-    let all : AreWholeTrees (d ∷ []) = subst AreWholeTrees (sym (values-placed_entries (codes "Election") (report_of t)) ∙ is) (whole_trees-entries_at (codes "Election") t h) in all.0

@@ -39,16 +39,19 @@ abbrev pub TellsHow : Option ObjectRecord → Option ObjectRecord → Option How
 TellsHow a b None = a ≡ b
 TellsHow a b (Some how) = Differ a b how
 
+-- A record for each key, or for none.
+abbrev pub RecordMap : Type 0
+RecordMap = Option Key → Option ObjectRecord
+
 -- The two maps differ in this way at the key, and they agree at every lesser key.
-pub record DifferAtKey (m n : Key → Option ObjectRecord) (key : Key) (how : How) : Type 0 where
+pub record DifferAtKey (m n : RecordMap) (key : Option Key) (how : How) : Type 0 where
   pub differ : Differ (m key) (n key) how
-  pub least : (k : Key) → key_cmp k key ≡ Less → m k ≡ n k
+  pub least : (k : Option Key) → (option_cmp key_cmp k key ≡ Less) → m k ≡ n k
 
 -- The difference is at this part. There the meanings differ in this way at its key, and they agree at every lesser key.
 pub record DifferAtPart (m n : Meaning) (part : Part) (d : Difference) : Type 0 where
   pub its_part : d.part ≡ part
-  pub differ : Differ (record_at m part d.key) (record_at n part d.key) d.how
-  pub least : (k : Option Key) → (option_cmp key_cmp k d.key ≡ Less) → record_at m part k ≡ record_at n part k
+  pub at : DifferAtKey (record_at m part) (record_at n part) d.key d.how
 
 -- The answer is the first difference at the part, or none if the meanings agree there at every key.
 abbrev pub TellsPart : Meaning → Meaning → Part → Option Difference → Type 0

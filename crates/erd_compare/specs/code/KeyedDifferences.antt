@@ -1,92 +1,94 @@
--- The least key at which two reports differ in a family.
-use Rattle.std.specs.Prelude.{◌≡◌, ℕ, List, map, Option, Some, None}
-use Rattle.std.specs.List.{AllByRecursion, Contains}
+-- The least key at which two reports differ in a part.
+use Rattle.std.specs.Prelude.{◌≡◌, ℕ, List, [], ◌∷◌, map, if◌then◌else◌, Option, Some, None, option_and_then}
+use Rattle.std.specs.List.{AllByRecursion, Contains, slice_get}
 use Rattle.std.specs.List.Sorted.{IsStrictlySortedBy}
+use Rattle.std.specs.Option.{option_cmp, option_copied}
 use Rattle.serde_json.specs.Data.{Data}
-use Rattle.erd_tables.specs.declared.class.Family.{Family}
 use Rattle.erd_tables.specs.declared.class.Family.TheVariants as family
+use Rattle.erd_tables.specs.declared.class.Role.{Role}
+use Rattle.erd_tables.specs.declared.class.Role.TheVariants as role
 use Rattle.erd_meaning.specs.Accepted.{IsAccepted}
-use Rattle.erd_meaning.specs.Keys.{Preference, key_cmp}
-use Rattle.erd_meaning.specs.Lookups.{key_in}
-use Rattle.erd_meaning.specs.Meaning.{ObjectRecord}
-use Rattle.erd_meaning.specs.Records.{records_of}
+use Rattle.erd_meaning.specs.Keys.{Preference, is_keyed_role, key_cmp, key_of}
+use Rattle.erd_meaning.specs.Lookups.{election_in, election_key_in, key_in}
+use Rattle.erd_meaning.specs.Objects.{Placed, elections, objects, report_of}
+use Rattle.erd_meaning.specs.Records.{meaning}
 use Rattle.erd_meaning.specs.declared.keys.key.Key.{Key}
-use Rattle.erd_compare.specs.code.Comparing.{DifferAtKey, IsWholeTree, TellsHow}
-use Rattle.erd_compare.specs.Differences.{Differ}
-use Rattle.erd_compare.specs.declared.difference.Difference.{Difference}
+use Rattle.erd_compare.specs.code.Comparing.{DifferAtKey, IsWholeTree, RecordMap, TellsHow}
+use Rattle.erd_compare.specs.Differences.{record_at}
 use Rattle.erd_compare.specs.declared.difference.How.{How}
 use Rattle.erd_compare.specs.declared.difference.Part.{Part}
 use Rattle.erd_compare.specs.declared.difference.Part.TheVariants as part
-use Rattle.erd_compare.specs.declared.first.families.KeyedDifference.{KeyedDifference}
+use Rattle.erd_compare.specs.declared.first.tables.KeyedDifference.{KeyedDifference}
 use denote.Ref.{Bor}
-
--- ---- reports
 
 -- The report is accepted, and it is a tree whose numbers are whole.
 pub record IsComparable (π : Preference) (t : Data) : Type 0 where
   pub accepted : IsAccepted π t
   pub whole : IsWholeTree t
 
--- The family whose objects the part holds, or none for the report and the election.
-abbrev pub family_of_part : Part → Option Family
-family_of_part part.Report = None
-family_of_part part.Unit = Some family.Unit
-family_of_part part.Party = Some family.Party
-family_of_part part.Person = Some family.Person
-family_of_part part.Office = Some family.Office
-family_of_part part.Header = Some family.Header
-family_of_part part.Election = None
-family_of_part part.Candidate = Some family.Candidate
-family_of_part part.Contest = Some family.Contest
-family_of_part part.Style = Some family.Style
+-- ---- objects by role and position
+
+-- The role of the objects in the part.
+abbrev pub role_of_part : Part → Role
+role_of_part part.Report = role.Report
+role_of_part part.Unit = role.OfFamily family.Unit
+role_of_part part.Party = role.OfFamily family.Party
+role_of_part part.Person = role.OfFamily family.Person
+role_of_part part.Office = role.OfFamily family.Office
+role_of_part part.Header = role.OfFamily family.Header
+role_of_part part.Election = role.Election
+role_of_part part.Candidate = role.OfFamily family.Candidate
+role_of_part part.Contest = role.OfFamily family.Contest
+role_of_part part.Style = role.OfFamily family.Style
+
+-- The objects with the role: those of a family, the elections, or for any other role the report itself.
+abbrev pub objects_in : Role → Data → List Placed
+objects_in (role.OfFamily f) t = objects f t
+objects_in role.Election t = elections t
+objects_in r t = report_of t ∷ []
+
+-- The key of an object with the role, or none if it has no identifier. The report has no key.
+abbrev pub key_with_role : Preference → Role → Data → Option Key
+key_with_role π r d = if is_keyed_role r then key_of π d else None
+
+-- The key of the object with the role at the position, or none if there is no such object or it has no key.
+abbrev pub key_in_role : Preference → Role → Data → ℕ → Option Key
+key_in_role π (role.OfFamily f) t i = key_in π f t i
+key_in_role π role.Election t i = election_key_in π t i
+key_in_role π r t i = None
+
+-- The key of the election that holds the object with the role at the position, or none if no election holds it or that
+-- election has no key.
+abbrev pub holder_key_in : Preference → Role → Data → ℕ → Option Key
+holder_key_in π (role.OfFamily f) t i = option_and_then (election_key_in π t) (election_in f t i)
+holder_key_in π r t i = None
+
+-- There is an object with the role at the position, and this is its key, if it has one.
+pub record HasKeyAt (π : Preference) (t : Data) (r : Role) (i : ℕ) (k : Option Key) : Type 0 where
+  pub object : Placed
+  pub stands : slice_get (objects_in r t) i ≡ Some object
+  pub key : key_with_role π r object.value ≡ k
 
 -- ---- tables of keys
 
--- Some object of the family has the key.
-abbrev pub HasKey : Preference → Data → Family → Key → Type 0
-HasKey π t f k = (i : ℕ) × (key_in π f t i ≡ Some k)
-
 -- The keys of a table.
-abbrev pub keys_of : List (Bor Key × ℕ) → List Key
-keys_of entries = map (λ e. e.0.now) entries
+abbrev pub keys_of : List (Option (Bor Key) × ℕ) → List (Option Key)
+keys_of entries = map (λ e. option_copied e.0) entries
 
--- The table has the keys of a family of the report in rising order, each with the position of its object.
-pub record IsKeyTable (π : Preference) (t : Data) (f : Family) (entries : List (Bor Key × ℕ)) : Type 0 where
-  pub rises : IsStrictlySortedBy key_cmp (keys_of entries)
-  pub stand : AllByRecursion (λ e. key_in π f t e.1 ≡ Some e.0.now) entries
-  pub all : (k : Key) → HasKey π t f k → Contains (keys_of entries) k
+-- The table has the keys of the objects with a role in rising order, each with the position of its object. At most one
+-- object has no key.
+pub record IsKeyTable (π : Preference) (t : Data) (r : Role) (entries : List (Option (Bor Key) × ℕ)) : Type 0 where
+  pub rises : IsStrictlySortedBy (option_cmp key_cmp) (keys_of entries)
+  pub stand : AllByRecursion (λ e. HasKeyAt π t r e.1 (option_copied e.0)) entries
+  pub all : (i : ℕ) (k : Option Key) → HasKeyAt π t r i k → Contains (keys_of entries) k
 
--- If the objects at the two positions have the same key, the answer is how their records differ, or none if they are equal.
-abbrev pub TellsAtPositions : Preference → Preference → Data → Data → Family → ℕ → ℕ → Option How → Type 0
-TellsAtPositions π ρ t u f i j how =
-    (k : Key) → key_in π f t i ≡ Some k → key_in ρ f u j ≡ Some k → TellsHow (records_of π t f k) (records_of ρ u f k) how
+-- If the objects of the part at the two positions have the same key, the answer is how their records differ, or none if
+-- they are equal.
+abbrev pub TellsAtPositions : Preference → Preference → Data → Data → Part → ℕ → ℕ → Option How → Type 0
+TellsAtPositions π ρ t u p i j how =
+    (k : Option Key) → HasKeyAt π t (role_of_part p) i k → HasKeyAt ρ u (role_of_part p) j k → TellsHow (record_at (meaning π t) p k) (record_at (meaning ρ u) p k) how
 
 -- The answer is the least key at which the two maps differ, or none if they agree at every key.
-abbrev pub TellsLeast : (Key → Option ObjectRecord) → (Key → Option ObjectRecord) → Option KeyedDifference → Type 0
-TellsLeast m n None = (k : Key) → m k ≡ n k
-TellsLeast m n (Some d) = DifferAtKey m n d.key.now d.how
-
--- ---- told by part
-
--- The difference has this part and no key, and says how the two records differ.
-pub record DifferKeyless (a b : Option ObjectRecord) (part : Part) (d : Difference) : Type 0 where
-  pub its_part : d.part ≡ part
-  pub keyless : d.key ≡ None
-  pub differ : Differ a b d.how
-
--- The answer is how two records differ at a part without keys, or none if they are equal.
-abbrev pub TellsKeyless : Option ObjectRecord → Option ObjectRecord → Part → Option Difference → Type 0
-TellsKeyless a b p None = a ≡ b
-TellsKeyless a b p (Some d) = DifferKeyless a b p d
-
--- The difference has this part and the least key at which the two maps differ.
-pub record DifferKeyed (m n : Key → Option ObjectRecord) (part : Part) (d : Difference) : Type 0 where
-  pub its_part : d.part ≡ part
-  pub key : Key
-  pub its_key : d.key ≡ Some key
-  pub at : DifferAtKey m n key d.how
-
--- The answer is how two maps differ at a part with keys, or none if they agree at every key.
-abbrev pub TellsKeyed : (Key → Option ObjectRecord) → (Key → Option ObjectRecord) → Part → Option Difference → Type 0
-TellsKeyed m n p None = (k : Key) → m k ≡ n k
-TellsKeyed m n p (Some d) = DifferKeyed m n p d
+abbrev pub TellsLeast : RecordMap → RecordMap → Option KeyedDifference → Type 0
+TellsLeast m n None = (k : Option Key) → m k ≡ n k
+TellsLeast m n (Some d) = DifferAtKey m n (option_copied d.key) d.how

@@ -1,0 +1,225 @@
+-- The first difference of reports of elections: a contest in another election, and an election that has lost its key.
+use Rattle.std.proofs.Common.{◌≡◌, ℕ, List, [], ◌∷◌, ◌++◌, codes, Bool, true, false, true≢false, Option, Some, None, find, map, refl, sym, ap, ◌∙◌, subst}
+use Rattle.std.specs.List.{slice_get}
+use Rattle.std.specs.Option.{option_cmp}
+use Rattle.std.specs.Ordering.{is_eq}
+use Rattle.std.specs.Prelude.{option_and_then, unwrap_or, ⊤}
+use Rattle.std.specs.Str.{bytes_eq}
+use Rattle.std.specs.declared.cmp.Ordering.TheVariants.{Less}
+use Rattle.serde_json.specs.Data.{Data, null}
+use Rattle.serde_json.proofs.OnLiterals.{serde_json_on_literals}
+use Rattle.erd_tables.specs.declared.class.Class.TheVariants as class
+use Rattle.erd_tables.specs.declared.class.Family.TheVariants as family
+use Rattle.erd_tables.specs.declared.class.Role.TheVariants as role
+use Rattle.erd_check.proofs.Reports.{tree_of, one_unit_report, one_unit, status, unit, election, identifier, other_election, party_contest, report_of_two}
+use Rattle.erd_meaning.specs.Keys.{key_cmp, key_of}
+use Rattle.erd_meaning.specs.Meaning.{ObjectRecord}
+use Rattle.erd_meaning.specs.Objects.{Placed, elections, report_of}
+use Rattle.erd_meaning.specs.Records.{member_of_class, object_record, record_in_election, records_of, meaning}
+use Rattle.erd_meaning.specs.declared.keys.key.Key.{Key}
+use Rattle.erd_meaning.proofs.examples.RecordExamples.{local_key}
+use Rattle.erd_meaning.proofs.meanings.ElectionIds.{no_election_id}
+use Rattle.erd_meaning.proofs.meanings.WholeMeanings.{HaveKeys, election_has_key, is_key_in, keys_of_family, no_record, nothing_at, same_at_every_key, same_at_key, same_object, value_with_key}
+use Rattle.erd_meaning.proofs.orders.EqualNames.{equal_keys}
+use Rattle.erd_compare.specs.DifferenceLine.{difference_line}
+use Rattle.erd_compare.specs.Differences.{record_at, part_cmp, DifferFirstAt, IsFirstDifference}
+use Rattle.erd_compare.specs.declared.difference.How.TheVariants.{OnlyLeft, OnlyRight, Member}
+use Rattle.erd_compare.specs.declared.difference.Part.{Part}
+use Rattle.erd_compare.specs.declared.difference.Part.TheVariants as part
+use Rattle.erd_compare.proofs.examples.FirstDifferenceExamples.{not_in}
+use Rattle.erd_compare.proofs.least_difference.HeldRecords.{told_at_election}
+
+-- ---- reports
+
+-- a report of the elections E2 and E1, with these contests
+abbrev two_elections : List ℕ → List ℕ → Data
+two_elections later earlier =
+    tree_of (report_of_two (election ++ codes "," ++ identifier (codes "E2") ++ codes ",\"Contest\":[" ++ later ++ codes "]")
+    (other_election ++ codes "," ++ identifier (codes "E1") ++ codes ",\"Contest\":[" ++ earlier ++ codes "]"))
+
+-- the contest C2 stands in the election E2, or was moved into E1
+abbrev left : Data
+left = two_elections (party_contest (codes "c2") (codes "C2")) (party_contest (codes "c3") (codes "C3") ++ codes "," ++ party_contest (codes "c1") (codes "C1"))
+
+abbrev moved : Data
+moved = two_elections [] (party_contest (codes "c3") (codes "C3") ++ codes "," ++ party_contest (codes "c1") (codes "C1") ++ codes "," ++ party_contest (codes "c2") (codes "C2"))
+
+-- ---- what is the same
+
+-- the elections in two lists have one key each, and mean the same
+abbrev AreSameElections : Data → Data → List Placed → List Placed → Type 0
+AreSameElections t u [] [] = ⊤
+AreSameElections t u (d ∷ ds) (e ∷ es) =
+    (key_of None d.value ≡ key_of None e.value) × (object_record None t role.Election d.value ≡ object_record None u role.Election e.value) × AreSameElections t u ds es
+AreSameElections t u ds es = ⊥
+
+abbrev found : Data → Option Key → List Placed → Option ObjectRecord
+found t k es = option_and_then (λ (e : Placed). object_record None t role.Election e.value) (find (election_has_key None k) es)
+
+same_elections : (t u : Data) (ds es : List Placed) → AreSameElections t u ds es → (k : Option Key) → found t k ds ≡ found u k es
+same_elections t u [] [] h k = refl
+same_elections t u (d ∷ ds) (e ∷ es) h k = at (election_has_key None k d) refl (ap (λ l. is_eq (option_cmp key_cmp l k)) (sym h.0)) (same_elections t u ds es h.2 k)
+  where
+    at : (b : Bool) → election_has_key None k d ≡ b → election_has_key None k e ≡ election_has_key None k d → found t k ds ≡ found u k es → found t k (d ∷ ds) ≡ found u k (e ∷ es)
+    at true is also rest = let other : election_has_key None k e ≡ true = also ∙ is in rw (is, other) h.1
+    at false is also rest = let other : election_has_key None k e ≡ false = also ∙ is in rw (is, other) rest
+same_elections t u [] (e ∷ es) h k = absurd h
+same_elections t u (d ∷ ds) [] h k = absurd h
+
+same_report : object_record None left role.Report left ≡ object_record None moved role.Report moved
+unfolding serde_json_on_literals
+same_report = same_object None left moved left moved role.Report class.ElectionReport refl refl refl
+
+same_unit : (k : Key) → records_of None left family.Unit k ≡ records_of None moved family.Unit k
+unfolding serde_json_on_literals
+same_unit =
+    same_at_every_key (records_of None left family.Unit) (records_of None moved family.Unit) (local_key (codes "U1") ∷ [])
+    (same_at_key None left moved family.Unit (local_key (codes "U1")) class.ReportingUnit refl (refl, refl, refl, refl, refl, refl), tt) (no_record None left family.Unit) (no_record None moved family.Unit)
+
+-- the election at a position
+abbrev election_at : Data → ℕ → Data
+election_at t i = (unwrap_or (slice_get (elections t) i) (report_of null)).value
+
+both_elections : AreSameElections left moved (elections left) (elections moved)
+unfolding serde_json_on_literals
+both_elections = (
+  refl,
+  same_object None left moved (election_at left 0) (election_at moved 0) role.Election class.Election refl refl refl,
+  (refl, same_object None left moved (election_at left 1) (election_at moved 1) role.Election class.Election refl refl refl, tt),
+)
+
+-- ---- the contest that was moved
+
+abbrev key : Key
+key = local_key (codes "C2")
+
+abbrev its_record : Data → ObjectRecord
+its_record t = record { class = class.PartyContest; members = member_of_class None t (value_with_key None t family.Contest key) class.PartyContest }
+
+same_contest : Some (its_record left) ≡ Some (its_record moved)
+unfolding serde_json_on_literals
+same_contest = same_object None left moved (value_with_key None left family.Contest key) (value_with_key None moved family.Contest key) (role.OfFamily family.Contest) class.PartyContest refl refl refl
+
+abbrev is_later : Option Key → Bool
+is_later None = false
+is_later (Some k) = bytes_eq k.value (codes "E2")
+
+apart : Some (local_key (codes "E2")) ≡ Some (local_key (codes "E1")) → ⊥
+apart e = true≢false (ap is_later e)
+
+-- its class and all its members are the same; only its election is another
+differs_in_election : DifferFirstAt (record_in_election (Some (local_key (codes "E2"))) (its_record left)) (record_in_election (Some (local_key (codes "E1"))) (its_record moved)) (codes "ElectionId")
+differs_in_election =
+    told_at_election None (Some (local_key (codes "E2"))) (Some (local_key (codes "E1"))) apart refl (its_record left) (its_record moved)
+    (no_election_id None left (value_with_key None left family.Contest key) class.PartyContest) (no_election_id None moved (value_with_key None moved family.Contest key) class.PartyContest) same_contest
+
+earlier_contest : records_of None left family.Contest (local_key (codes "C1")) ≡ records_of None moved family.Contest (local_key (codes "C1"))
+unfolding serde_json_on_literals
+earlier_contest = same_at_key None left moved family.Contest (local_key (codes "C1")) class.PartyContest refl (refl, refl, refl, refl, refl, refl)
+
+keys_left : HaveKeys None left family.Contest (key ∷ local_key (codes "C3") ∷ local_key (codes "C1") ∷ [])
+unfolding serde_json_on_literals
+keys_left = keys_of_family None left family.Contest (key ∷ local_key (codes "C3") ∷ local_key (codes "C1") ∷ []) refl
+
+keys_moved : HaveKeys None moved family.Contest (local_key (codes "C3") ∷ local_key (codes "C1") ∷ key ∷ [])
+unfolding serde_json_on_literals
+keys_moved = keys_of_family None moved family.Contest (local_key (codes "C3") ∷ local_key (codes "C1") ∷ key ∷ []) refl
+
+contests_below : (k : Key) → key_cmp k key ≡ Less → records_of None left family.Contest k ≡ records_of None moved family.Contest k
+contests_below k less = at (is_eq (key_cmp (local_key (codes "C1")) k)) refl
+  where
+    none : (l : Key) (b : Bool) → is_eq (key_cmp l k) ≡ b → is_key_in (l ∷ []) k ≡ false → b ≡ false
+    none l false is out = refl
+    none l true is out = let clash : is_key_in (l ∷ []) k ≡ true = rw is in absurd (true≢false (sym clash ∙ out))
+
+    second : is_eq (key_cmp key k) ≡ false
+    second = none key (is_eq (key_cmp key k)) refl (not_in key k key less refl)
+
+    third : is_eq (key_cmp (local_key (codes "C3")) k) ≡ false
+    third = none (local_key (codes "C3")) (is_eq (key_cmp (local_key (codes "C3")) k)) refl (not_in (local_key (codes "C3")) k key less refl)
+
+    at : (b : Bool) → is_eq (key_cmp (local_key (codes "C1")) k) ≡ b → records_of None left family.Contest k ≡ records_of None moved family.Contest k
+    at true is = subst (λ l. records_of None left family.Contest l ≡ records_of None moved family.Contest l) (equal_keys (local_key (codes "C1")) k is) earlier_contest
+    at false is =
+        nothing_at None left family.Contest (key ∷ local_key (codes "C3") ∷ local_key (codes "C1") ∷ []) k keys_left (rw (second, third, is) refl)
+        ∙ sym (nothing_at None moved family.Contest (local_key (codes "C3") ∷ local_key (codes "C1") ∷ key ∷ []) k keys_moved (rw (third, is, second) refl))
+
+before_contest : (p : Part) (k : Option Key) → part_cmp p k part.Contest (Some key) ≡ Less → record_at (meaning None left) p k ≡ record_at (meaning None moved) p k
+unfolding serde_json_on_literals
+before_contest part.Report None less = same_report
+before_contest part.Report (Some k) less = refl
+before_contest part.Unit None less = refl
+before_contest part.Unit (Some k) less = same_unit k
+before_contest part.Election k less = same_elections left moved (elections left) (elections moved) both_elections k
+before_contest part.Contest None less = refl
+before_contest part.Contest (Some k) less = contests_below k less
+before_contest part.Style None less = absurd (cc less)
+before_contest part.Style (Some k) less = absurd (cc less)
+before_contest p None less = refl
+before_contest p (Some k) less = refl
+
+first_is_election : IsFirstDifference (meaning None left) (meaning None moved) (record { part = part.Contest; key = Some key; how = Member (codes "ElectionId") })
+unfolding serde_json_on_literals
+first_is_election = record {
+  differ = differs_in_election;
+  least = before_contest;
+}
+
+-- ---- an election that has lost its key
+
+-- the one election has the identifier E1, or none
+abbrev with_key : Data
+with_key = tree_of (one_unit_report status unit (election ++ codes "," ++ identifier (codes "E1")))
+
+abbrev without_key : Data
+without_key = tree_of one_unit
+
+report_without : object_record None with_key role.Report with_key ≡ object_record None without_key role.Report without_key
+unfolding serde_json_on_literals
+report_without = same_object None with_key without_key with_key without_key role.Report class.ElectionReport refl refl refl
+
+unit_without : (k : Key) → records_of None with_key family.Unit k ≡ records_of None without_key family.Unit k
+unfolding serde_json_on_literals
+unit_without =
+    same_at_every_key (records_of None with_key family.Unit) (records_of None without_key family.Unit) (local_key (codes "U1") ∷ [])
+    (same_at_key None with_key without_key family.Unit (local_key (codes "U1")) class.ReportingUnit refl (refl, refl, refl, refl, refl, refl), tt) (no_record None with_key family.Unit) (no_record None without_key family.Unit)
+
+before_election : (p : Part) (k : Option Key) → part_cmp p k part.Election None ≡ Less → record_at (meaning None with_key) p k ≡ record_at (meaning None without_key) p k
+unfolding serde_json_on_literals
+before_election part.Report None less = report_without
+before_election part.Report (Some k) less = refl
+before_election part.Unit None less = refl
+before_election part.Unit (Some k) less = unit_without k
+before_election part.Election None less = absurd (cc less)
+before_election part.Election (Some k) less = absurd (cc less)
+before_election part.Candidate None less = absurd (cc less)
+before_election part.Candidate (Some k) less = absurd (cc less)
+before_election part.Contest None less = absurd (cc less)
+before_election part.Contest (Some k) less = absurd (cc less)
+before_election part.Style None less = absurd (cc less)
+before_election part.Style (Some k) less = absurd (cc less)
+before_election p None less = refl
+before_election p (Some k) less = refl
+
+-- no key comes before each key, so the election on the right is told
+first_is_without : IsFirstDifference (meaning None with_key) (meaning None without_key) (record { part = part.Election; key = None; how = OnlyRight })
+unfolding serde_json_on_literals
+first_is_without = record {
+  differ = refl;
+  least = before_election;
+}
+
+first_is_without_left : IsFirstDifference (meaning None without_key) (meaning None with_key) (record { part = part.Election; key = None; how = OnlyLeft })
+unfolding serde_json_on_literals
+first_is_without_left = record {
+  differ = refl;
+  least = λ p k less. sym (before_election p k less);
+}
+
+-- ---- lines
+
+lines : map difference_line (record { part = part.Contest; key = Some key; how = Member (codes "ElectionId") } ∷ record { part = part.Election; key = None; how = OnlyRight }
+    ∷ record { part = part.Election; key = Some (local_key (codes "E1")); how = OnlyLeft } ∷ [])
+    ≡ (codes "contest [\"local-level\",\"\",\"C2\"]: member \"ElectionId\"") ∷ (codes "election: only right") ∷ (codes "election [\"local-level\",\"\",\"E1\"]: only left") ∷ []
+unfolding serde_json_on_literals
+lines = refl

@@ -1,0 +1,138 @@
+-- How two records differ, with the keys of elections laid over them as the member `ElectionId`.
+use Rattle.std.proofs.Common.{◌≡◌, ◌≢◌, ℕ, List, Bool, true, false, true≢false, cond, codes, Option, Some, None, Ordering, Less, Equal, Greater, is_lt, refl, sym, ap, ◌∙◌, subst}
+use Rattle.std.specs.Str.{bytes_eq}
+use Rattle.std.proofs.lemmas.Cmp.{nat_list_cmp_total, tied_itself}
+use Rattle.std.proofs.lemmas.Map.Lookups.{exact_bytes}
+use Rattle.std.proofs.lemmas.Slice.Eq.{bytes_eq-Decides}
+use Rattle.erd_tables.specs.Texts.{text_cmp}
+use Rattle.erd_meaning.specs.Meaning.{MemberValue, ObjectRecord, a_key, a_plain}
+use Rattle.erd_meaning.specs.Records.{record_in_election, with_election_id}
+use Rattle.erd_meaning.specs.declared.keys.key.Key.{Key}
+use Rattle.erd_meaning.proofs.meanings.ElectionIds.{other_than_election}
+use Rattle.erd_compare.specs.code.Comparing.{TellsHow}
+use Rattle.erd_compare.specs.code.HeldDifferences.{HasNoElectionId, TellsHeld, is_before_election}
+use Rattle.erd_compare.specs.Differences.{DifferFirstAt}
+use Rattle.erd_compare.specs.declared.difference.How.{How}
+use Rattle.erd_compare.specs.declared.difference.How.TheVariants.{OnlyLeft, OnlyRight, OtherClass, Member}
+use Rattle.erd_compare.proofs.least_difference.StepWalks.{turned}
+
+abbrev Members : Type 0
+Members = List ℕ → Option MemberValue
+
+abbrev election_id : List ℕ
+election_id = codes "ElectionId"
+
+-- ---- names
+
+-- a lesser name is another
+less_other : (name one : List ℕ) → text_cmp name one ≡ Less → bytes_eq name one ≡ false
+less_other name one less = at (bytes_eq name one) refl
+  where
+    at : (b : Bool) → bytes_eq name one ≡ b → bytes_eq name one ≡ false
+    at false is = is
+    at true is =
+        let clash : Equal ≡ Less = sym (tied_itself nat_list_cmp_total one) ∙ subst (λ n. text_cmp n one ≡ Less) ((bytes_eq-Decides name one).0 is) less in absurd (cc clash)
+
+-- a name below one that is no greater than another is below the other
+below : (n one name : List ℕ) → text_cmp n one ≡ Less → is_lt (text_cmp name one) ≡ false → text_cmp n name ≡ Less
+below n one name less not_less = at (text_cmp name one) refl
+  where
+    at : (o : Ordering) → text_cmp name one ≡ o → text_cmp n name ≡ Less
+    at Less is = absurd (true≢false (sym (ap is_lt is) ∙ not_less))
+    at Equal is = subst (λ x. text_cmp n x ≡ Less) (sym (exact_bytes name one is)) less
+    at Greater is = nat_list_cmp_total.trans n one name less (turned nat_list_cmp_total name one is)
+
+-- ---- members
+
+-- at a name at which two objects mean the same, they do with one key
+same_held : (k : Option Key) (m n : Members) (name : List ℕ) → m name ≡ n name → with_election_id k m name ≡ with_election_id k n name
+same_held None m n name same = same
+same_held (Some k) m n name same = ap (λ v. cond (bytes_eq name election_id) (Some (a_plain (a_key (Some k)))) v) same
+
+-- at a name below that of the member they do with any keys
+same_below : (k l : Option Key) (m n : Members) (name : List ℕ) → text_cmp name election_id ≡ Less → m name ≡ n name → with_election_id k m name ≡ with_election_id l n name
+same_below k l m n name less same =
+    let other = less_other name election_id less in other_than_election k m name other ∙ (same ∙ sym (other_than_election l n name other))
+
+-- where two objects differ, they do with any keys, at any other name
+differ_held : (k l : Option Key) (m n : Members) (name : List ℕ) → bytes_eq name election_id ≡ false → m name ≢ n name → with_election_id k m name ≢ with_election_id l n name
+differ_held k l m n name other differ e = differ (sym (other_than_election k m name other) ∙ (e ∙ other_than_election l n name other))
+
+-- the keys apart
+keys_apart : (k l : Option Key) (m n : Members) → m election_id ≡ None → n election_id ≡ None → with_election_id k m election_id ≡ with_election_id l n election_id → k ≡ l
+keys_apart None None m n a b e = refl
+keys_apart None (Some l) m n a b e = cc
+keys_apart (Some k) None m n a b e = cc
+keys_apart (Some k) (Some l) m n a b e = cc
+
+-- ---- one key
+
+module _ (k : Option Key) (a b : ObjectRecord) (left : HasNoElectionId a) (right : HasNoElectionId b) where
+  -- objects do not differ by themselves at the name of the member
+  another : (name : List ℕ) → a.members name ≢ b.members name → bytes_eq name election_id ≡ false
+  another name differ = at (bytes_eq name election_id) refl
+    where
+      at : (c : Bool) → bytes_eq name election_id ≡ c → bytes_eq name election_id ≡ false
+      at false is = is
+      at true is = absurd (differ (subst (λ x. a.members x ≡ b.members x) (sym ((bytes_eq-Decides name election_id).0 is)) (left ∙ sym right)))
+
+  -- with one key they differ as they do by themselves
+  pub held_by_one : (own : Option How) → TellsHow (Some a) (Some b) own → TellsHow (Some (record_in_election k a)) (Some (record_in_election k b)) own
+  held_by_one None told = let same : a ≡ b = cc in ap (λ r. Some (record_in_election k r)) same
+  held_by_one (Some OnlyLeft) told = told
+  held_by_one (Some OnlyRight) told = told
+  held_by_one (Some OtherClass) told = told
+  held_by_one (Some (Member name)) told = record {
+    same_class = told.same_class;
+    differ = differ_held k k a.members b.members name (another name told.differ) told.differ;
+    least = λ n less. same_held k a.members b.members n (told.least n less);
+  }
+
+-- ---- any keys
+
+module _ (k l : Option Key) (a b : ObjectRecord) (left : HasNoElectionId a) (right : HasNoElectionId b) where
+  -- what comes before the member stays
+  pub held_before : (own : Option How) → is_before_election own ≡ true → TellsHow (Some a) (Some b) own → TellsHow (Some (record_in_election k a)) (Some (record_in_election l b)) own
+  held_before None first told = absurd (cc first)
+  held_before (Some OnlyLeft) first told = told
+  held_before (Some OnlyRight) first told = told
+  held_before (Some OtherClass) first told = told
+  held_before (Some (Member name)) first told = at (text_cmp name election_id) refl
+    where
+      at : (o : Ordering) → text_cmp name election_id ≡ o → DifferFirstAt (record_in_election k a) (record_in_election l b) name
+      at Less is = record {
+        same_class = told.same_class;
+        differ = differ_held k l a.members b.members name (less_other name election_id is) told.differ;
+        least = λ n less. same_below k l a.members b.members n (nat_list_cmp_total.trans n name election_id less is) (told.least n less);
+      }
+      at Equal is = absurd (true≢false (sym first ∙ ap is_lt is))
+      at Greater is = absurd (true≢false (sym first ∙ ap is_lt is))
+
+  -- otherwise the member is the first in which they differ, if the keys do
+  pub held_at_election : (own : Option How) → (k ≡ l → ⊥) → is_before_election own ≡ false → TellsHow (Some a) (Some b) own → TellsHow (Some (record_in_election k a)) (Some (record_in_election l b)) (Some (Member election_id))
+  held_at_election None apart later told =
+      let same : a ≡ b = cc in record {
+        same_class = ap (λ r. r.class) same;
+        differ = λ e. apart (keys_apart k l a.members b.members left right e);
+        least = λ n less. same_below k l a.members b.members n less (ap (λ r. r.members n) same);
+      }
+  held_at_election (Some OnlyLeft) apart later told = absurd told
+  held_at_election (Some OnlyRight) apart later told = absurd told
+  held_at_election (Some OtherClass) apart later told = absurd (cc later)
+  held_at_election (Some (Member name)) apart later told = record {
+    same_class = told.same_class;
+    differ = λ e. apart (keys_apart k l a.members b.members left right e);
+    least = λ n less. same_below k l a.members b.members n less (told.least n (below n election_id name less later));
+  }
+
+-- ---- what is told
+
+pub told_of_one : (own : Option How) (k l : Option Key) → k ≡ l → TellsHeld own k l own
+told_of_one own k l same a b left right told =
+    subst (λ x. TellsHow (Some (record_in_election k a)) (Some (record_in_election x b)) own) same (held_by_one k a b left right own told)
+
+pub told_before : (own : Option How) (k l : Option Key) → is_before_election own ≡ true → TellsHeld own k l own
+told_before own k l first a b left right told = held_before k l a b left right own first told
+
+pub told_at_election : (own : Option How) (k l : Option Key) → (k ≡ l → ⊥) → is_before_election own ≡ false → TellsHeld own k l (Some (Member election_id))
+told_at_election own k l apart later a b left right told = held_at_election k l a b left right own apart later told
