@@ -3,9 +3,9 @@
 
 usage: agree.py COUNT [SEED]
 
-Each report is an example with some random edits: renamed identifiers, shuffled arrays and members, and edits that change
-the meaning or make a fault. The right report of a pair is the left one with further edits. At a difference it prints the
-smallest input that it finds and both answers.
+Each report is an example with some random edits: renamed identifiers, shuffled arrays and members, further elections, and
+edits that change the meaning or make a fault. The right report of a pair is the left one with further edits. At a
+difference it prints the smallest input that it finds and both answers.
 """
 import copy
 import json
@@ -21,6 +21,7 @@ sys.dont_write_bytecode = True
 import erd_reference  # noqa: E402
 
 PREFIX = 'ElectionResults.'
+EXAMPLES = ['one-unit', 'small-ballot', 'small-ballot', 'small-ballot', 'two-elections.vendor-a', 'two-elections.vendor-b', 'county.vendor-a']
 TYPES = ['local-level', 'fips', 'other', 'zips']
 CLASSES = sorted(erd_reference.TABLE) + ['Device']
 NAMES = sorted({name for members in erd_reference.MEMBERS.values() for name in members}) + ['Foo', 'Id', 'PersonIds', 'Ids', '@id', '', '~/', 'a\nb', 'Notes']
@@ -159,8 +160,77 @@ def move(report, dice):
         target.append(copy.deepcopy(dice.choice(source)))
 
 
+# ---- edits of elections
+
+
+HELD = ['Candidate', 'Contest', 'BallotStyle']
+
+
+def elections_of(report):
+    """The elections of the report, as far as it still has such."""
+    elections = report.get('Election') if isinstance(report, dict) else None
+    return [entry for entry in elections if isinstance(entry, dict)] if isinstance(elections, list) else []
+
+
+def move_held(report, dice):
+    """A candidate, contest or style into another election."""
+    name = dice.choice(HELD)
+    sources = [election for election in elections_of(report) if isinstance(election.get(name), list) and election[name]]
+    if sources:
+        held = dice.choice(sources)[name]
+        target = dice.choice(elections_of(report)).setdefault(name, [])
+        if isinstance(target, list):
+            target.append(held.pop(dice.randrange(len(held))))
+
+
+def add_election(report, dice):
+    """One more election, which takes over some of what stands in another. Mostly each election has an identifier then."""
+    elections = elections_of(report)
+    if elections:
+        new = {name: copy.deepcopy(inner) for name, inner in dice.choice(elections).items() if name not in [*HELD, 'ExternalIdentifier']}
+        report['Election'].insert(dice.randrange(len(report['Election']) + 1), new)
+        for election in [new, *(elections if dice.random() < 0.95 else [])]:
+            if not election.get('ExternalIdentifier'):
+                election['ExternalIdentifier'] = [{'@type': PREFIX + 'ExternalIdentifier', 'Type': dice.choice(TYPES), 'Value': 'E' + str(dice.randrange(20))}]
+        for _ in range(dice.randrange(6)):
+            move_held(report, dice)
+
+
+def remove_election(report, dice):
+    """One election less; sometimes what stands in it goes to another."""
+    elections = elections_of(report)
+    if elections:
+        gone = dice.choice(elections)
+        report['Election'] = [election for election in report['Election'] if election is not gone]
+        if len(elections) > 1 and dice.random() < 0.7:
+            target = dice.choice(elections_of(report))
+            for name in HELD:
+                if isinstance(gone.get(name), list) and isinstance(target.setdefault(name, []), list):
+                    target[name].extend(gone[name])
+
+
+def drop_identifiers(report, dice):
+    """The identifiers of an election go."""
+    if elections_of(report):
+        election = dice.choice(elections_of(report))
+        election['ExternalIdentifier'] = []
+        if dice.random() < 0.5:
+            del election['ExternalIdentifier']
+
+
+def mix_identifiers(report, dice):
+    """The identifiers of two elections are exchanged, or one has those of the other too."""
+    if elections_of(report):
+        one, other = dice.choice(elections_of(report)), dice.choice(elections_of(report))
+        first, second = one.get('ExternalIdentifier'), other.get('ExternalIdentifier')
+        other['ExternalIdentifier'] = copy.deepcopy(first)
+        if dice.random() < 0.7:
+            one['ExternalIdentifier'] = second
+
+
 HARMLESS = [rename, shuffle_all]
 EDITS = [remove, double, replace, replace_text, replace_text, add_member, change_class, add_identifier, add_identifier, move]
+OF_ELECTIONS = [add_election, remove_election, drop_identifiers, mix_identifiers, move_held, move_held]
 
 
 def edited(report, dice, most):
@@ -170,7 +240,15 @@ def edited(report, dice, most):
         if dice.random() < 0.7:
             edit(report, dice)
     for _ in range(dice.randrange(most + 1)):
-        dice.choice(EDITS)(report, dice)
+        dice.choice(EDITS if dice.random() < 0.7 else OF_ELECTIONS)(report, dice)
+    return report
+
+
+def with_elections(report, dice):
+    """The report; sometimes with further elections."""
+    report = copy.deepcopy(report)
+    for _ in range(dice.choice([0, 0, 0, 1, 2, 5])):
+        add_election(report, dice)
     return report
 
 
@@ -261,7 +339,7 @@ def smallest(case, folder):
 def cases(bases, count, dice):
     for _ in range(count):
         command = dice.choice(['check', 'canon', 'compare', 'compare', 'filter'])
-        left = edited(dice.choice(bases), dice, 3)
+        left = edited(with_elections(dice.choice(bases), dice), dice, 3)
         reports = [left, edited(left, dice, 2)] if command == 'compare' else [left]
         prefer = None if command == 'filter' else dice.choice([None, None, *TYPES])
         yield Case(command, reports, prefer, dice.random())
@@ -271,7 +349,7 @@ def main():
     count = int(sys.argv[1])
     seed = int(sys.argv[2]) if len(sys.argv) > 2 else random.randrange(10**6)
     print(f'{count} random reports and pairs, seed {seed}')
-    bases = [json.loads((ROOT / 'examples' / f'{name}.json').read_text(encoding='utf-8')) for name in ['one-unit', 'small-ballot', 'small-ballot', 'small-ballot', 'county.vendor-a']]
+    bases = [json.loads((ROOT / 'examples' / f'{name}.json').read_text(encoding='utf-8')) for name in EXAMPLES]
     statuses = {}
     with tempfile.TemporaryDirectory() as folder:
         for case in cases(bases, count, random.Random(seed)):

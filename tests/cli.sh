@@ -42,6 +42,15 @@ expect 'the same county by another' 0 "$county" ''
 run "$county"
 expect 'the canonical county fed back' 0 "$county" ''
 
+# A primary and a referendum of one county in one report, by two vendors.
+two=examples/two-elections.canonical.json
+for vendor in a b; do
+    run "examples/two-elections.vendor-$vendor.json"
+    expect "two elections by vendor $vendor" 0 "$two" ''
+done
+run "$two"
+expect 'the canonical two elections fed back' 0 "$two" ''
+
 # One name on the ballots is another; the rest stands as it was.
 rename='s/Ingrith Sablewood/Ingrith Sablewode/'
 sed "$rename" "$county" > "$work/renamed_canonical"

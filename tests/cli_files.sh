@@ -1,4 +1,4 @@
-# For cli.sh: files of every kind, failing devices, and the two vendors of the county.
+# For cli.sh: files of every kind, failing devices, and the two vendors of the county and of two elections.
 
 # stopped NAME ERR WORD ..: the run ends early, with these words on standard error
 stopped() {
@@ -130,3 +130,27 @@ done
 call compare "$work/reordered" examples/county.vendor-b.json
 expect_text 'another order on the ballots of one style, compared' 1 \
     $'style ["local-level","","BS-4"]: member "OrderedContent"\n' ''
+
+# Two elections of two vendors, and edits of them.
+call compare examples/two-elections.vendor-{a,b}.json
+expect_text 'two elections by two vendors' 0 $'same\n' ''
+for vendor in a b; do
+    file=examples/two-elections.vendor-$vendor.json
+    call check "$file"
+    expect_text "two elections by vendor $vendor, checked" 0 $'accepted\n' ''
+    call canon "$file"
+    expect "two elections by vendor $vendor, in canonical form" 0 "$two" ''
+    call canon --prefer state-level "$file"
+    expect_other "two elections by vendor $vendor, in the order of another type of identifier" "$two"
+    cp "$work/out" "$work/preferred_$vendor"
+    sed 's/2026-REFERENDUM/2026-BONDS/' "$file" > "$work/renamed"
+    call compare "$two" "$work/renamed"
+    expect_text "an election by vendor $vendor with another identifier" 1 \
+        $'election ["local-level","","2026-BONDS"]: only right\n' ''
+    sed 's/2026-REFERENDUM/2026-PRIMARY/' "$file" > "$work/renamed"
+    call check "$work/renamed"
+    expect_text "two elections by vendor $vendor with one identifier" 1 $'/Election/1: identifier used twice\n' ''
+done
+why=''
+cmp -s "$work/preferred_a" "$work/preferred_b" || why='they differ'
+said 'two elections in that order: the same bytes for both vendors' "$why"

@@ -24,7 +24,6 @@ SOURCES = {
     'erd_check/Faults.is_array': 'RFC 8259, section 3',
     'erd_check/Faults.is_object': 'RFC 8259, section 3',
     'erd_check/Faults.is_empty_array': 'RFC 8259, section 3',
-    'erd_check/Faults.has_not_one_entry': 'RFC 8259, section 3',
     'erd_check/Faults.lacks': 'RFC 8259, section 3',
     'erd_check/Numbers': 'the reading of `serde_json`',
     'erd_check/Trees': 'RFC 8259',

@@ -1,7 +1,8 @@
 """Measures the built program on reports that are meant to be slow, each at two sizes four times apart.
 
 Prints for each shape and each command the processor time at the larger size, and the exponent of growth. SIZE is the number
-of entries at the smaller size, or a part of it where an entry is large. Words are the names of the shapes to try.
+of entries at the smaller size, or a part of it where an entry is large: at the larger size there are a thousand elections.
+Words are the names of the shapes to try.
 """
 import json
 import math
@@ -174,6 +175,44 @@ def empty_arrays(n):
     return report([unit("u%d" % i, "U%07d" % i, ComposingGpUnitIds=[]) for i in range(n)])
 
 
+def election_of_many(i, count):
+    """An election with four candidates, two contests and two styles. Its second contest names candidates of another election,
+    and its styles have a contest of that one."""
+    other = (i * 7919 + 1) % count
+    held = report(
+        ONE,
+        ExternalIdentifier=[identifier("E%07d" % i)],
+        Candidate=[named("Candidate", "k%d" % k, "K%07d" % (k * 7919 % (4 * count)), BallotName="Ann") for k in range(4 * i, 4 * i + 4)],
+        Contest=[contest_of_two(2 * i, 4 * i), contest_of_two(2 * i + 1, 4 * other + 2)],
+        BallotStyle=[style(s, [{"@type": CLASS + "OrderedContest", "ContestId": "c%d" % c} for c in (s, 2 * other)]) for s in (2 * i, 2 * i + 1)])
+    return held["Election"][0]
+
+
+def contest_of_two(number, candidate):
+    """A contest between a candidate and the next one."""
+    chosen = [selection(2 * number + j, "CandidateSelection", CandidateIds=["k%d" % (candidate + j)]) for j in range(2)]
+    return {**contest(chosen), "@id": "c%d" % number, "ExternalIdentifier": [identifier("C%07d" % number)]}
+
+
+def elections(n):
+    """An election for each twenty of n."""
+    count = max(n // 20, 1)
+    return {**report(ONE), "Election": [election_of_many(i, count) for i in range(count)]}
+
+
+def twin_elections(n):
+    made = elections(n)
+    for election in made["Election"]:
+        election["ExternalIdentifier"] = [identifier("E")]
+    return made
+
+
+def elections_moved(n):
+    right = elections(n)
+    right["Election"].reverse()
+    return elections(n), right
+
+
 def moved(n):
     right = units_rising(n)
     right["GpUnit"].reverse()
@@ -210,8 +249,8 @@ def selections_moved(n):
 
 SINGLE = [units_rising, units_falling, units_alike, candidate_selections, write_ins, measure_texts, ordered_selections, references,
           identifiers, translations, same_triples, unresolved, repeated, foreign, twins, same_ids, chain, styles, deep_headers,
-          long_key, empty_arrays]
-PAIRS = [moved, nothing_common, last_differs, every_second, long_references_moved, selections_moved]
+          long_key, empty_arrays, elections, twin_elections]
+PAIRS = [moved, nothing_common, last_differs, every_second, long_references_moved, selections_moved, elections_moved]
 
 
 def written(value, folder, name):

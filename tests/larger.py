@@ -39,7 +39,7 @@ def main():
     with open(name, encoding="utf-8") as file:
         report = json.load(file)
     ids = ids_in(report)
-    for holder in (report, report["Election"][0]):
+    for holder in (report, *report["Election"]):
         for family in KEYED:
             entries = holder.get(family, [])
             more = [copied(entry, ids, number) for number in range(1, copies) for entry in entries]

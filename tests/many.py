@@ -2,8 +2,8 @@
 
 usage: many.py FOLDER [MANY]
 
-There are MANY objects of a kind, or 2,000. For each NAME of a report FOLDER gets NAME.json and its canonical form NAME.canonical. For each pair it gets NAME.left,
-NAME.right and the answer NAME.answer.
+There are MANY objects of a kind, or 2,000, and a twentieth as many elections. For each NAME of a report FOLDER gets
+NAME.json and its canonical form NAME.canonical. For each pair it gets NAME.left, NAME.right and the answer NAME.answer.
 """
 import json
 import os
@@ -89,6 +89,26 @@ def many_identifiers():
     return report([given], "u7"), canonical([wanted], "gp1")
 
 
+def election(j, count, names):
+    """One of many elections: a candidate, and a contest that names the candidate of the next one. Keys of elections and
+    candidates fall, and those of contests are mixed; the numbers of both count the whole report."""
+    district, contest_name, selection_name, candidate_name = names
+    number, own, named = j * 7 % count + 1, count - j, count - (j + 1) % count
+    chosen = selection(selection_name % number, candidate_name % named)
+    held = {**contest(contest_name % number, district, [chosen]), "ExternalIdentifier": [identifier("C%d" % (1000 + number))]}
+    one = report([], district, Contest=[held], Candidate=[candidate(candidate_name % own, "K%d" % (1000 + own))])
+    return {**one["Election"][0], "ExternalIdentifier": [identifier("E%d" % (9999 - j))]}
+
+
+def many_elections():
+    count = max(MANY // 20, 2)
+    given = report([unit("u7", "U1")], "u7")
+    given["Election"] = [election(j, count, ("u7", "c%d", "s%d", "k%d")) for j in range(count)]
+    wanted = {**report([unit("gp1", "U1")], "gp1"), **ENVELOPE}
+    wanted["Election"] = [election(j, count, ("gp1", "co%d", "cs%d-1", "ca%d")) for j in reversed(range(count))]
+    return given, json.dumps(wanted, sort_keys=True, separators=(",", ":"))
+
+
 def pairs(units):
     """Pairs of reports with many units, and the first difference of each."""
     left = report(units, "u7")
@@ -118,6 +138,7 @@ def main():
         "many_selections": many_selections(),
         "many_references": many_references(),
         "many_identifiers": many_identifiers(),
+        "many_elections": many_elections(),
     }
     for name, (given, wanted) in reports.items():
         write(folder, name + ".json", given)

@@ -53,7 +53,7 @@ REFERENCES = {
     "OrderedHeader": "HeaderId",
 }
 # The arrays of the table that are no sets.
-LISTS = ["Election", "OrderedContent", "OrderedContestSelectionIds"]
+LISTS = ["OrderedContent", "OrderedContestSelectionIds"]
 
 # What names that no vendor gives are made of.
 ODD = [" ", "\t", "\n", "\0", "\x7f", '"', "\\", "/", "~", "%", "@id", "e\u0301", "\u00e9", "\u2028", "\uffff", "\U0001f5f3"]
@@ -163,7 +163,7 @@ def main():
     for kind in kinds:
         report = json.loads(text)
         # A style may have an @id too, which nothing names.
-        for number, style in enumerate(report["Election"][0]["BallotStyle"]):
+        for number, style in enumerate(style for election in report["Election"] for style in election["BallotStyle"]):
             style["@id"] = "style " + str(number)
         if kind in EDITS:
             EDITS[kind](list(objects(report)), dice)

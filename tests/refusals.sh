@@ -76,7 +76,7 @@ program 'a comparison' "$work/empty" 0 "$work/same" '' compare examples/one-unit
 program 'a comparison under a preference' "$work/empty" 0 "$work/same" '' \
     compare --prefer local-level examples/one-unit.json examples/one-unit.json
 mkdir "$work/many" && python3 tests/many.py "$work/many" 20 || exit 1
-for name in many_units many_units_turned_round many_selections many_references; do
+for name in many_units many_units_turned_round many_selections many_references many_elections; do
     program "$name, made small" "$work/many/$name.json" 0 "$work/many/$name.canonical" ''
 done
 program 'a comparison of many units, made small' "$work/empty" 0 "$work/same" '' \

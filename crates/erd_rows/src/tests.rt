@@ -10,6 +10,7 @@ mod difference_members;
 mod difference_places;
 mod differences;
 mod edits;
+mod elections;
 mod errors;
 mod failing_devices;
 mod forms;

@@ -73,14 +73,10 @@ fn status_and_election_count(rt: HostRuntime) -> Result<(), Fail> {
             "/Status: not pre-election\n",
         )],
     )?;
-    let (before, elections) = ONE_UNIT.split_once("\"Election\":[").ok_or("no election")?;
-    let election = elections.strip_suffix("]}").ok_or("no end")?;
+    let (before, _) = ONE_UNIT.split_once("\"Election\":[").ok_or("no election")?;
     let none = format!(in alloc; "{before}\"Election\":[]}}")?;
-    let two = format!(in alloc; "{before}\"Election\":[{election},{election}]}}")?;
-    for report in [none.as_str(), two.as_str()] {
-        let found = check_lines(alloc, report)?;
-        assert_eq!(rt; found.as_str(), "/Election: wrong number of elections\n");
-    }
+    let found = check_lines(alloc, none.as_str())?;
+    assert_eq!(rt; found.as_str(), "/Election: wrong number of elections\n");
     Ok(())
 }
 
