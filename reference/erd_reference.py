@@ -2,8 +2,10 @@
 """A reference program for `erd`, as a second opinion on the proved one.
 
 It was written from docs/PROFILE.md, README.md and the manual page erd.1 alone, without a look at the sources of
-`erd`. It does what they say the program does: the same lines, the same bytes and the same exit statuses. Of help
-and of usage faults only the status is meant to agree. It is written to be read, not to be fast.
+`erd`. The rules for several elections were added later, from the same pages; their author knew the formal
+definitions of these rules too, and had not seen the code. It does what the pages say the program does: the same
+lines, the same bytes and the same exit statuses. Of help and of usage faults only the status is meant to agree. It
+is written to be read, not to be fast.
 
 How to run it (Python 3, standard library only):
 
@@ -264,11 +266,6 @@ def members_with_values(value):
     return [(name, member_of(class_of(value), name), inner) for name, inner in value.items()]
 
 
-def entry_classes(member):
-    """The classes that the place of an entry allows."""
-    return FAMILIES[member.family] if member.kind == 'Keyed' else CLASSES_IN[member.kind]
-
-
 # ---------------------------------------------------------------------------------------------------------------
 # The first phase
 # ---------------------------------------------------------------------------------------------------------------
@@ -301,19 +298,14 @@ def judge_object(value, place, classes, faults):
 
 
 def judge_members(value, place, faults):
-    """'MissingMember: a required member is absent, one fault for each.'"""
+    """'MissingMember: a required member is absent, one fault for each.' 'NotPreElection: `Status` is a text other than
+    `pre-election`.'"""
     for name, member in MEMBERS[class_of(value)].items():
         if member.required and name not in value:
             faults.append(Fault(place, 2, name))
     for name, member, inner in members_with_values(value):
         judge_value(member, inner, place + (name,), faults)
-    if class_of(value) == 'ElectionReport':
-        judge_status(value, place, faults)
-
-
-def judge_status(report, place, faults):
-    """'NotPreElection: `Status` is a text other than `pre-election`.'"""
-    status = report.get('Status')
+    status = value.get('Status') if class_of(value) == 'ElectionReport' else None
     if isinstance(status, str) and status != 'pre-election':
         faults.append(Fault(place + ('Status',), 8, ''))
 
@@ -351,18 +343,18 @@ def is_of_plain_kind(kind, value):
 
 
 def judge_array(member, value, place, faults):
-    """'EmptyArray: an array that must not be empty is empty.' 'ElectionCount: `Election` has not exactly one entry.'
-    'Reason 9 stops nothing: each Election is judged inside.'"""
+    """'EmptyArray: an array that must not be empty is empty.' 'ElectionCount: `Election` is an empty array.'"""
     if not isinstance(value, list):
         faults.append(Fault(place, 1, ''))
         return
     if member.not_empty and not value:
         faults.append(Fault(place, 10, ''))
-    if member.kind == 'Elections' and len(value) != 1:
+    if member.kind == 'Elections' and not value:
         faults.append(Fault(place, 9, ''))
     for position, entry in enumerate(value):
         if member.kind not in ('Many', 'Ordered'):
-            judge_object(entry, place + (position,), entry_classes(member), faults)
+            classes = FAMILIES[member.family] if member.kind == 'Keyed' else CLASSES_IN[member.kind]
+            judge_object(entry, place + (position,), classes, faults)
         elif not isinstance(entry, str):
             faults.append(Fault(place + (position,), 1, ''))
     if member.kind in ('Identifiers', 'Languages'):
@@ -397,20 +389,19 @@ def judge_carried(value, place, faults):
 # Objects and keys; the second phase
 # ---------------------------------------------------------------------------------------------------------------
 
-# An object of the nine families, with its place in the report.
+# An object of the nine families, or an Election, with its place in the report.
 Object = namedtuple('Object', 'place family value')
 
 
 def objects_below(value, place):
-    """The objects of the nine families: they stand in the Keyed arrays of the report, of each Election and of each
-    contest."""
+    """The elections, and the objects of the nine families: these stand in the Keyed arrays of the report, of each
+    Election and of each contest. An Election is of no family; here its family is called 'election'."""
     objects = []
     for name, member, inner in members_with_values(value):
         if member.kind in ('Keyed', 'Elections'):
             for position, entry in enumerate(inner):
                 inside = place + (name, position)
-                if member.kind == 'Keyed':
-                    objects.append(Object(inside, member.family, entry))
+                objects.append(Object(inside, member.family or 'election', entry))
                 objects.extend(objects_below(entry, inside))
     return objects
 
@@ -423,10 +414,16 @@ def triple_of(identifier):
 
 def chosen_triple(value, preference):
     """'If some entry of the object has the preferred text as its `Type`, the key is the least triple of those
-    entries. Else, and always where the preference is none, the key is the least triple of all entries.'"""
+    entries. Otherwise, and always if the preference is none, the key is the least triple of all entries.' 'An Election
+    whose `ExternalIdentifier` is absent or empty has no key.'"""
     triples = [triple_of(identifier) for identifier in value.get('ExternalIdentifier', [])]
     preferred = [triple for triple in triples if preference is not None and triple[0] == preference]
     return min(preferred or triples, default=None)
+
+
+def no_key_first(key):
+    """'Where keys are ordered, no key comes before every key.'"""
+    return () if key is None else (key,)
 
 
 def second_phase(report, preference):
@@ -435,8 +432,10 @@ def second_phase(report, preference):
     keys = set()
     identities = set()
     for thing in sorted(objects_below(report, ()), key=lambda thing: thing.place):
-        if thing.family in KEYED_FAMILIES:
-            judge_key(thing, preference, keys, faults)
+        if thing.family == 'election':
+            judge_key(thing, preference, len(report['Election']) > 1, keys, faults)
+        elif thing.family in KEYED_FAMILIES:
+            judge_key(thing, preference, True, keys, faults)
         if '@id' in thing.value:
             if thing.value['@id'] in identities:
                 faults.append(Fault(thing.place + ('@id',), 14, ''))
@@ -444,13 +443,14 @@ def second_phase(report, preference):
     return faults
 
 
-def judge_key(thing, preference, keys, faults):
-    """'NoIdentifier: `ExternalIdentifier` absent or empty, in a keyed family.' 'TwinIdentifier: the key of an earlier
-    object of the family.' 'Objects of different families may have one key.'"""
+def judge_key(thing, preference, needs_key, keys, faults):
+    """'NoIdentifier: `ExternalIdentifier` absent or empty, in a keyed family, or in an Election of a report with two
+    elections or more.' 'TwinIdentifier: the key of an earlier object of the family in the report, or of an Election the
+    key of an earlier one.' 'Objects of different families may have the same key.'"""
     key = chosen_triple(thing.value, preference)
-    if key is None:
+    if key is None and needs_key:
         faults.append(Fault(thing.place, 12, ''))
-    elif (thing.family, key) in keys:
+    elif key is not None and (thing.family, key) in keys:
         faults.append(Fault(thing.place, 13, ''))
     keys.add((thing.family, key))
 
@@ -572,19 +572,14 @@ def fourth_phase(resolved):
 
 def judged(report, preference):
     """'A phase is judged only if no earlier phase has a fault. The list of faults has all faults of that phase and no
-    others.' Answers with the list of faults, and with what is resolved if the list is empty."""
+    others.' 'Faults are ordered by their places, then by the numbers of their reasons, then by the member names in reason
+    2. Names [are compared] by the bytes of the names themselves; positions by number; a place comes before the places that
+    continue it.' Answers with the list of faults, and with what is resolved if the list is empty."""
     faults = first_phase(report) or second_phase(report, preference)
     if faults:
-        return in_order(faults), None
+        return sorted(faults), None
     resolved = Resolved(report, preference)
-    return in_order(third_phase(resolved) or fourth_phase(resolved)), resolved
-
-
-def in_order(faults):
-    """'Faults stand in the order of their places, then of the numbers of their reasons, then of the member names in
-    reason 2. Names [are compared] by the bytes of the names themselves; positions by number; a place comes before the
-    places that continue it.'"""
-    return sorted(faults)
+    return sorted(third_phase(resolved) or fourth_phase(resolved)), resolved
 
 
 # ---------------------------------------------------------------------------------------------------------------
@@ -709,13 +704,13 @@ def canonical_value(resolved, identities, member, value, place):
 
 
 def order_of_entry(resolved, member, entry):
-    """'Keyed arrays of the keyed families rising by key; `ContestSelection` rising by selection name; Content as in
-    the input.' There is one Election."""
-    if member.kind != 'Keyed':
+    """'`Election` and the Keyed arrays of the keyed families rising by key; `ContestSelection` rising by selection name;
+    Content as in the input.'"""
+    if member.kind == 'Content':
         return ()
     if member.family == 'selection':
         return selection_name(resolved, entry)
-    return chosen_triple(entry, resolved.preference)
+    return no_key_first(chosen_triple(entry, resolved.preference))
 
 
 # ---------------------------------------------------------------------------------------------------------------
@@ -728,16 +723,26 @@ PARTS = ['report', 'unit', 'party', 'person', 'office', 'header', 'election', 'c
 
 
 def meaning_of(resolved):
-    """'An accepted report means: the record of the report, the record of the Election, and for each keyed family a
-    finite map from keys to records.' Here each part is such a map; the report and the election have the key None."""
+    """'The record of the report; a finite map from the keys of the elections to their records, in which an Election
+    without a key stands under no key; and, for each keyed family, a finite map from keys to records, for the objects of
+    all elections together.' Here each part is such a map, and no key is None, as that of the report."""
     meaning = {part: {} for part in PARTS}
     meaning['report'][None] = record_of(resolved, resolved.report)
-    for election in resolved.report['Election']:
-        meaning['election'][None] = record_of(resolved, election)
     for thing in resolved.objects:
-        if thing.family in KEYED_FAMILIES:
-            meaning[thing.family][resolved.key_of(thing)] = record_of(resolved, thing.value)
+        if thing.family in PARTS:
+            record = record_of(resolved, thing.value)
+            meaning[thing.family][resolved.key_of(thing)] = record
+            add_key_of_election(resolved, thing, record)
     return meaning
+
+
+def add_key_of_election(resolved, thing, record):
+    """'The record of a candidate, a contest or a style has one more member, `ElectionId`: the key of the Election that
+    the object stands in, if that has one; otherwise there is no such member.'"""
+    if thing.family in ('candidate', 'contest', 'style'):
+        key = chosen_triple(resolved.report['Election'][thing.place[1]], resolved.preference)
+        if key is not None:
+            record.members['ElectionId'] = key
 
 
 def record_of(resolved, value):
@@ -794,13 +799,12 @@ def node_of(resolved, value):
 
 
 def first_difference(left, right):
-    """'The first difference is told at the least part, then the least key, at which one report alone has a record or
-    the two records differ.' None if the reports mean the same."""
+    """'The first difference is at the least part, then the least key, at which only one report has a record or the two
+    records differ.' None if the reports mean the same."""
     left_meaning = meaning_of(left)
     right_meaning = meaning_of(right)
     for part in PARTS:
-        keys = left_meaning[part].keys() | right_meaning[part].keys()
-        for key in keys if keys == {None} else sorted(keys):
+        for key in sorted(left_meaning[part].keys() | right_meaning[part].keys(), key=no_key_first):
             difference = difference_of(left_meaning[part].get(key), right_meaning[part].get(key))
             if difference is not None:
                 return difference_line(part, key, difference)
@@ -872,8 +876,7 @@ def read_input(handle):
 
 
 def write_bytes(handle, data):
-    """'A write or a flush failed; a write that takes no byte has failed: `write failed`.'"""
-    # 'A write or a flush failed, of fault lines to standard error too.'
+    """'A write or a flush failed, of fault lines to standard error too; a write that takes no byte has failed.'"""
     while data:
         try:
             taken = os.write(handle, data)
