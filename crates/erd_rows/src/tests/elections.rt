@@ -190,8 +190,7 @@ fn keys_of_elections(rt: HostRuntime) -> Result<(), Fail> {
         alloc,
         &[TEST, OTHER, TEST],
         "/Election/2: identifier used twice\n",
-    )?;
-    told(alloc, &[], "/Election: wrong number of elections\n")
+    )
 }
 
 // A key of a candidate is used once in the whole report.
