@@ -3,6 +3,8 @@ pub mod Orders  -- the orders of keys, names and compact texts are total, and te
 pub mod ChosenKeys  -- the order in which the program chooses among identifiers
 pub mod TranslationOrder  -- the order of translations, as the program sorts them
 pub mod NameHashes  -- what a hasher is given of a key and of a name
+pub mod NumberedNames  -- names with numbers in place of keys
+pub mod NumberedOrders  -- their order is total, tells unequal ones apart, and keeps the order of names if the numbers keep that of keys
 pub mod ObjectWalk  -- the elections and the objects in the order in which the program meets them, with the faults of identity
 pub mod ElectionKeys  -- what the program keeps of the elections: their keys, and which holds an object
 pub mod Holding  -- the elections that hold the objects of a report

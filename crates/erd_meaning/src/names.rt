@@ -3,6 +3,7 @@
 pub(crate) mod held_name;
 mod label;
 pub(crate) mod naming;
+pub mod numbered_name;
 pub(crate) mod parts;
 pub mod selection_name;
 pub(crate) mod selection_walk;

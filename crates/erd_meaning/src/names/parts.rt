@@ -1,6 +1,7 @@
 ghost use Rattle.std.specs.Prelude.{◌≡◌, IfOk};
 ghost use Rattle.erd_meaning.specs.SelectionNames.{name_cmp};
 ghost use Rattle.erd_meaning.specs.code.NameHashes.{name_digest};
+ghost use Rattle.erd_meaning.specs.code.NumberedNames.{after_keys_cmp};
 
 use crate::keys::key::{Key, copied};
 use crate::keys::shared_key::SharedKey;
@@ -61,7 +62,15 @@ impl Parts {
         type_text(self.class)
             .cmp(type_text(other.class))
             .then(self.keys.cmp(&other.keys))
-            .then(self.write_in.cmp(&other.write_in))
+            .then(self.compare_after_keys(other))
+    }
+
+    /// Compares the parts after the keys with those of others.
+    pub(crate) fn compare_after_keys(&self, other: &Parts) -> Ordering
+        ensures { result ≡ after_keys_cmp self.now other.now }
+    {
+        self.write_in
+            .cmp(&other.write_in)
             .then(self.order.cmp(&other.order))
             .then(self.label.cmp(&other.label))
             .then(self.identifier.cmp(&other.identifier))

@@ -42,6 +42,13 @@ impl SelectionName {
         SelectionName { parts, digest }
     }
 
+    /// Returns the parts of the name.
+    pub(crate) fn parts(&self) -> &Parts
+        ensures { result.now ≡ self.now }
+    {
+        &self.parts
+    }
+
     /// Returns an equal name. The two names share the keys of candidates or parties; the other parts are copied.
     ///
     /// # Errors

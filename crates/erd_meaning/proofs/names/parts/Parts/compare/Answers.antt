@@ -4,5 +4,5 @@ use Rattle.erd_meaning.proofs.names.parts.Parts.compare.Goals as goal
 
 pub returns : goal.returns
 returns c =
-    rw (← c.self.view_is, ← c.other.view_is, c.then-5.ensures, c.then-4.ensures, c.then-3.ensures, c.then-2.ensures, c.then.ensures, c.cmp.ensures, c.cmp-2.ensures, c.cmp-3.ensures, c.cmp-4.ensures, c.cmp-5.ensures, c.cmp-6.ensures, c.type_text.ensures, c.type_text-2.ensures)
+    rw (c.then-2.ensures, c.then.ensures, c.compare_after_keys.ensures, ← c.self.view_is, ← c.other.view_is, c.cmp.ensures, c.cmp-2.ensures, c.type_text.ensures, c.type_text-2.ensures)
     (simp then_assoc refl)

@@ -1,0 +1,131 @@
+//! The name of a selection, with numbers in place of keys.
+ghost use Rattle.std.specs.Prelude.{◌≡◌};
+ghost use Rattle.erd_meaning.specs.code.NumberedNames.{numbered_name_cmp, numbered_parts};
+
+use crate::names::held_name::HeldName;
+use crate::names::selection_name::SelectionName;
+use erd_tables::type_text;
+use std::cmp::Ordering;
+use std::hash::{Hash, Hasher};
+use std::marker::Model;
+
+/// The name of a selection, with numbers in place of the keys of candidates or parties. The caller chooses the numbers.
+/// Contracts see the numbers and the name without its keys.
+///
+/// Such names are compared like names, with the numbers in place of the keys. So it takes no longer if keys are long.
+#[derive(Debug, Drop)]
+pub struct NumberedName<'a> {
+    name: HeldName<'a>,
+    numbers: Vec<usize>,
+}
+
+impl<'a> Model for NumberedName<'a> {
+    ghost use Rattle.erd_meaning.specs.code.NumberedNames.{NumberedParts, numbered_parts};
+
+    ghost Value = { NumberedParts };
+
+    ghost view = { λ n. numbered_parts n.name n.numbers.items };
+}
+
+impl<'a> NumberedName<'a> {
+    /// Returns a name that is owned, with these numbers in place of its keys.
+    pub fn own(name: SelectionName, numbers: Vec<usize>) -> NumberedName<'a>
+        ensures { result ≡ numbered_parts name numbers.items }
+    {
+        let name = HeldName::own(name);
+        NumberedName { name, numbers }
+    }
+
+    /// Returns a name that is borrowed, with these numbers in place of its keys.
+    pub fn lent(name: &'a SelectionName, numbers: Vec<usize>) -> NumberedName<'a>
+        ensures { result ≡ numbered_parts name.now numbers.items }
+    {
+        let name = HeldName::lent(name);
+        NumberedName { name, numbers }
+    }
+
+    /// Compares the name with another, one part after another.
+    fn compare(&self, other: &NumberedName<'a>) -> Ordering
+        ensures { result ≡ numbered_name_cmp self.now other.now }
+    {
+        let (one, two) = (self.name.name().parts(), other.name.name().parts());
+        type_text(one.class)
+            .cmp(type_text(two.class))
+            .then(self.numbers.cmp(&other.numbers))
+            .then(one.compare_after_keys(two))
+    }
+}
+
+impl<'a> PartialEq for NumberedName<'a> {
+    ghost use Rattle.std.specs.Cmp.{eq_by_cmp_equiv, partial_equiv_from_equiv};
+    ghost use Rattle.std.specs.Ordering.{eq_by_cmp};
+    ghost use Rattle.erd_meaning.specs.code.NumberedNames.{numbered_name_cmp};
+    ghost use Rattle.erd_meaning.specs.code.NumberedOrders.{numbered_name_cmp_total};
+
+    ghost eq = { eq_by_cmp numbered_name_cmp };
+
+    ghost laws = { partial_equiv_from_equiv (eq_by_cmp_equiv numbered_name_cmp_total) };
+
+    fn eq(&self, other: &NumberedName<'a>) -> bool {
+        self.compare(other).is_eq()
+    }
+}
+
+impl<'a> Eq for NumberedName<'a> {
+    ghost use Rattle.std.specs.Cmp.{eq_by_cmp_equiv};
+    ghost use Rattle.erd_meaning.specs.code.NumberedOrders.{numbered_name_cmp_total};
+
+    ghost laws = { eq_by_cmp_equiv numbered_name_cmp_total };
+}
+
+impl<'a> PartialOrd for NumberedName<'a> {
+    ghost use Rattle.std.specs.Cmp.{partial_order_from_total};
+    ghost use Rattle.std.specs.Ordering.{as_partial_cmp};
+    ghost use Rattle.erd_meaning.specs.code.NumberedNames.{numbered_name_cmp};
+    ghost use Rattle.erd_meaning.specs.code.NumberedOrders.{numbered_name_cmp_total};
+
+    ghost partial_cmp = { as_partial_cmp numbered_name_cmp };
+
+    ghost laws = { partial_order_from_total numbered_name_cmp_total };
+
+    fn partial_cmp(&self, other: &NumberedName<'a>) -> Option<Ordering> {
+        Some(self.compare(other))
+    }
+}
+
+impl<'a> Ord for NumberedName<'a> {
+    ghost use Rattle.std.proofs.Common.{refl};
+    ghost use Rattle.erd_meaning.specs.code.NumberedNames.{numbered_name_cmp};
+    ghost use Rattle.erd_meaning.specs.code.NumberedOrders.{numbered_name_cmp_total};
+
+    ghost cmp = { numbered_name_cmp };
+
+    ghost total = { numbered_name_cmp_total };
+
+    ghost matches_partial_cmp = { λ a b. refl };
+
+    ghost matches_eq = { λ a b. refl };
+
+    fn cmp(&self, other: &NumberedName<'a>) -> Ordering {
+        self.compare(other)
+    }
+}
+
+impl<'a> Hash for NumberedName<'a> {
+    ghost use Rattle.erd_meaning.specs.code.NumberedNames.{numbered_name_writes};
+    ghost use Rattle.erd_meaning.specs.code.NumberedOrders.{equal_numbered_alike};
+
+    ghost hash_input = { numbered_name_writes };
+
+    ghost respects_eq = { equal_numbered_alike numbered_name_writes };
+
+    fn hash<H: Hasher>(&self, state: &mut H) {
+        let parts = self.name.name().parts();
+        type_text(parts.class).hash(state);
+        self.numbers.hash(state);
+        parts.write_in.hash(state);
+        parts.order.hash(state);
+        parts.label.hash(state);
+        parts.identifier.hash(state);
+    }
+}
