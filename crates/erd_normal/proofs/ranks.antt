@@ -3,6 +3,8 @@ pub mod KeyPositions
 pub mod KeyPlaces
 pub mod Numbered
 pub mod RisingTables
+pub mod KeysInTurn
+pub mod ReferredNumbers
 pub mod FamilyNumbers
 pub mod PlacedEntries
 pub mod PartsFilled

@@ -56,7 +56,7 @@ class_of_name-own c = refl
 class_name_exact : (c d : Class) → class_name c ≡ class_name d → c ≡ d
 class_name_exact c d e = let h : Some c ≡ Some d = sym (class_of_name-own c) ∙ ap class_of_name e ∙ class_of_name-own d in cc
 
-classes_exact : CmpEqualImpliesEq class_cmp
+pub classes_exact : CmpEqualImpliesEq class_cmp
 classes_exact c d e = class_name_exact c d (exact_bytes (class_name c) (class_name d) e)
 
 pub name_cmp_total : IsTotalOrder name_cmp

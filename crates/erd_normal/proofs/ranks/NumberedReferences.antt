@@ -26,7 +26,7 @@ use Rattle.erd_normal.proofs.lists.RisingSets.{has_from_In, In-from_has}
 use Rattle.erd_normal.specs.code.Building.{AreNumbers, numbered_id}
 use Rattle.erd_normal.specs.Canonical.{id_prefix, rank_of}
 use Rattle.erd_normal.specs.code.ElectionParts.{objects_of_part, part_seen}
-use Rattle.erd_normal.specs.code.KeyRanks.{keyed_value, rising_in_contest}
+use Rattle.erd_normal.specs.code.KeyRanks.{named_value, rising_in_contest}
 use Rattle.erd_normal.specs.code.NormalTree.{normal_id, reference_cmp}
 use Rattle.erd_normal.specs.code.ObjectNumbers.{AreSelectionNumbers, AreObjectNumbers, number_in, number_named, numbers_of_family, parts_of_family}
 use Rattle.erd_normal.specs.declared.numbers.family_table.FamilyTable.{FamilyTable}
@@ -176,7 +176,7 @@ parts_by_family π t n u p e o h c k s family.Selection (suc i) = refl
 pub object_numbers_made : (π : Preference) (t : Data) (n : ObjectNumbers) → IsAccepted π t → has_float t ≡ false → IsTable π t family.Unit n.units → IsTable π t family.Party n.parties
     → IsTable π t family.Person n.persons → IsTable π t family.Office n.offices → IsTable π t family.Header n.headers → IsTable π t family.Candidate n.candidates
     → IsTable π t family.Contest n.contests → AreParts π t family.Style n.styles.items
-    → map (λ table. map (λ p. keyed_value p.0 p.1.0 (view p.1.1.now)) table.items) n.selections.rising.items ≡ map (λ o. rising_in_contest π t o.value) (contests t)
+    → map (λ table. map (λ p. named_value π t p.1.0 (view p.1.1.now)) table.items) n.selections.rising.items ≡ map (λ o. rising_in_contest π t o.value) (contests t)
     → AreSelectionNumbers π t n.selections.numbers.items → length (objects family.Selection t) < 2 ^ 64
     → AreObjectNumbers π t n
 object_numbers_made π t n accepted whole u p e o h c k s tables selections few = record {

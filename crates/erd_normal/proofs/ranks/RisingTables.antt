@@ -1,8 +1,9 @@
 -- A table of values in the order of their keys gives the order of the values and the places of their keys.
-use Rattle.std.proofs.Common.{◌≡◌, ℕ, suc, ◌+◌, inl, inr, List, [], ◌∷◌, map, length, replicate, Some, Ordering, slice_get, refl, sym, ap, ap₂, ◌∙◌, arith}
+use Rattle.std.proofs.Common.{◌≡◌, ℕ, suc, ◌+◌, inl, inr, List, [], ◌∷◌, map, length, replicate, Some, Ordering, slice_get, slice_set, refl, sym, ap, ap₂, ◌∙◌, arith}
+use Rattle.std.proofs.Math.Path.{fun_ext}
 use Rattle.std.proofs.lemmas.List.{length-map}
 use Rattle.std.specs.Cmp.{IsTotalOrder}
-use Rattle.std.specs.List.{AllByRecursion}
+use Rattle.std.specs.List.{AllByRecursion, enumerate_from}
 use Rattle.serde_json.specs.Data.{Data}
 use Rattle.erd_check.proofs.Order.{In}
 use Rattle.erd_meaning.proofs.orders.RisingLists.{rising_list_map}
@@ -100,3 +101,53 @@ module _ {K : Type 0} (cmp : K → K → Ordering) where
           ap (λ n. numbered 0 (map place_in rising) (replicate n 0)) (sym (length-map rising (place_in {V = V})))
           ∙ (ap places_by (map_after seen place_in rising ∙ ap (map place_in) is)
           ∙ places_in ds)
+
+-- ---- tables by one key and by another
+
+-- a value at a position with its key
+abbrev beside : {K : Type 0} → (Data → K) → ℕ × Data → K × (ℕ × Data)
+beside key p = (key p.1, p)
+
+keyed_in_turn : {K : Type 0} (key : Data → K) (i : ℕ) (ds : List Data) → keyed_from key i ds ≡ map (beside key) (enumerate_from i ds)
+keyed_in_turn key i [] = refl
+keyed_in_turn key i (d ∷ ds) = ap (λ ps. keyed_value (key d) i d ∷ ps) (keyed_in_turn key (i + 1) ds)
+
+module _ {K L : Type 0} (cmp : K → K → Ordering) (other : L → L → Ordering) (key : Data → K) (name : Data → L) where
+  -- the same entry under its other key
+  abbrev pub renamed : K × (ℕ × Data) → L × (ℕ × Data)
+  renamed p = keyed_value (name p.1.1) p.1.0 p.1.1
+
+  -- where the values compare alike by both, the tables have one order
+  pub tables_alike : ((d e : Data) → cmp (key d) (key e) ≡ other (name d) (name e)) → (ds : List Data) → map renamed (rising_table cmp key ds) ≡ rising_table other name ds
+  tables_alike alike ds =
+      let ps = enumerate_from 0 ds in
+      let order : (ℕ × Data → ℕ × Data → Ordering) = λ a b. cmp (key a.1) (key b.1) in
+      let same : order ≡ (λ a b. other (name a.1) (name b.1)) = fun_ext (λ a. fun_ext (λ b. alike a.1 b.1)) in
+      ap (λ es. map renamed (rising_list (by_first cmp) es)) (keyed_in_turn key 0 ds)
+      ∙ (ap (map renamed) (sym (rising_list_map (beside key) (by_first cmp) ps))
+      ∙ (sym (map_after (beside key) renamed (rising_list order ps))
+      ∙ (ap (λ c. map (beside name) (rising_list c ps)) same
+      ∙ (rising_list_map (beside name) (by_first other) ps
+      ∙ ap (rising_list (by_first other)) (sym (keyed_in_turn name 0 ds))))))
+
+-- numbers by position are the same under other keys
+numbered_alike : {A K L : Type 0} (k : A → K) (l : A → L) (position : A → ℕ) (r : ℕ) (xs : List A) (ns : List ℕ) → numbered r (map (λ x. (k x, position x)) xs) ns ≡ numbered r (map (λ x. (l x, position x)) xs) ns
+numbered_alike k l position r [] ns = refl
+numbered_alike k l position r (x ∷ xs) ns = numbered_alike k l position (r + 1) xs (slice_set ns (position x) (r + 1))
+
+-- the numbers that a table gives, seen under the keys of its values
+pub numbers_under : {K L V : Type 0} (cmp : K → K → Ordering) (key : Data → K) (value : V → Data) (rising : List (L × (ℕ × V))) (ds : List Data)
+    → map (λ p. keyed_value (key (value p.1.1)) p.1.0 (value p.1.1)) rising ≡ rising_table cmp key ds
+    → numbered 0 (map (λ p. (p.0, p.1.0)) rising) (replicate (length rising) 0) ≡ places_of cmp (map key ds)
+numbers_under {K} {L} {V} cmp key value rising ds is =
+    let under : L × (ℕ × V) → K × (ℕ × V) = λ p. (key (value p.1.1), p.1) in
+    numbered_alike (λ (p : L × (ℕ × V)). p.0) (λ (p : L × (ℕ × V)). key (value p.1.1)) (λ p. p.1.0) 0 rising (replicate (length rising) 0)
+    ∙ (ap₂ (λ ps n. numbered 0 ps (replicate n 0)) (map_after under place_in rising) (sym (length-map rising under))
+    ∙ numbers_of cmp key value (map under rising) ds (sym (map_after under (λ p. keyed_value p.0 p.1.0 (value p.1.1)) rising) ∙ is))
+
+-- the values that stand in such a table
+pub values_under : {K L V : Type 0} (cmp : K → K → Ordering) (key : Data → K) (value : V → Data) (rising : List (L × (ℕ × V))) (ds : List Data)
+    → map (λ p. keyed_value (key (value p.1.1)) p.1.0 (value p.1.1)) rising ≡ rising_table cmp key ds → map (λ p. value p.1.1) rising ≡ rising_list (λ a b. cmp (key a) (key b)) ds
+values_under {K} {L} {V} cmp key value rising ds is =
+    map_after (λ (p : L × (ℕ × V)). keyed_value (key (value p.1.1)) p.1.0 (value p.1.1)) (λ (p : K × (ℕ × Data)). p.1.1) rising
+    ∙ (ap (map (λ (p : K × (ℕ × Data)). p.1.1)) is ∙ values_in cmp key ds)

@@ -1,5 +1,5 @@
 -- The numbers of the selections of an accepted report, contest by contest, are their ranks, counted from 1.
-use Rattle.std.proofs.Common.{◌≡◌, ◌+◌, ◌++◌, ℕ, List, [], ◌∷◌, length, map, codes, replicate, Option, Some, option_map, slice_get, refl, sym, ap, ap₂, ◌∙◌, subst, arith}
+use Rattle.std.proofs.Common.{◌≡◌, ◌+◌, ◌++◌, ℕ, List, [], ◌∷◌, length, map, codes, replicate, Some, option_map, slice_get, refl, sym, ap, ap₂, ◌∙◌, subst, arith}
 use Rattle.std.proofs.lemmas.List.{length-map}
 use Rattle.std.proofs.lemmas.Option.{same_Some, slice_get-map}
 use Rattle.std.specs.Cmp.Lexicographic.{options_total}
@@ -14,19 +14,18 @@ use Rattle.erd_meaning.proofs.finding.OneObject.{in_at}
 use Rattle.erd_meaning.specs.Keys.{Preference}
 use Rattle.erd_meaning.specs.Accepted.{IsAccepted}
 use Rattle.erd_check.specs.Values.{entries_at}
-use Rattle.erd_meaning.specs.NameParts.{NameParts}
 use Rattle.erd_meaning.specs.Objects.{Placed, contests, objects, selections_of_contest}
 use Rattle.erd_meaning.specs.code.Orders.{name_cmp_total}
 use Rattle.erd_meaning.specs.SelectionNames.{name_cmp, name_of}
 use Rattle.erd_normal.proofs.lists.DistinctEntries.{distinct_map}
 use Rattle.erd_normal.proofs.canonical.DistinctObjects.{selection_values_distinct}
 use Rattle.erd_normal.proofs.ranks.KeyPlaces.{length_places, place_is}
-use Rattle.erd_normal.proofs.ranks.RisingTables.{numbers_of}
+use Rattle.erd_normal.proofs.ranks.RisingTables.{numbers_under}
 use Rattle.erd_normal.proofs.lists.NumberedParts.{in_part}
 use Rattle.erd_normal.proofs.lists.RisingRanks.{rank_map}
 use Rattle.erd_normal.proofs.lists.RisingSets.{has_from_In}
 use Rattle.erd_normal.specs.code.Building.{numbered}
-use Rattle.erd_normal.specs.code.KeyRanks.{keyed_value, numbers_in_contest, rising_in_contest}
+use Rattle.erd_normal.specs.code.KeyRanks.{named_value, numbers_in_contest, rising_in_contest}
 use Rattle.erd_normal.specs.code.NormalTree.{rank_of_name}
 use Rattle.erd_normal.specs.code.ObjectNumbers.{AreSelectionNumbers}
 use Rattle.erd_meaning.proofs.accepted.Skeleton.{values-placed_from}
@@ -37,17 +36,17 @@ module _ (π : Preference) (t : Data) where
   numbers_at contest = numbers_in_contest π t contest.value
 
   -- those that tables of the selections of contests give, contest by contest
-  pub numbers_gathered : {V T : Type 0} (value : V → Data) (items : T → List (Option NameParts × (ℕ × V))) (tables : List T) (os : List Placed)
-      → map (λ table. map (λ p. keyed_value p.0 p.1.0 (value p.1.1)) (items table)) tables ≡ map (λ o. rising_in_contest π t o.value) os
+  pub numbers_gathered : {K V T : Type 0} (value : V → Data) (items : T → List (K × (ℕ × V))) (tables : List T) (os : List Placed)
+      → map (λ table. map (λ p. named_value π t p.1.0 (value p.1.1)) (items table)) tables ≡ map (λ o. rising_in_contest π t o.value) os
       → flat_map (λ table. numbered 0 (map (λ p. (p.0, p.1.0)) (items table)) (replicate (length (items table)) 0)) tables ≡ flat_map numbers_at os
   numbers_gathered value items [] [] e = refl
   numbers_gathered value items [] (o ∷ os) e = cc
   numbers_gathered value items (table ∷ tables) [] e = cc
   numbers_gathered value items (table ∷ tables) (o ∷ os) e =
-      let first : map (λ p. keyed_value p.0 p.1.0 (value p.1.1)) (items table) ≡ rising_in_contest π t o.value = cc in
-      let rest : map (λ table. map (λ p. keyed_value p.0 p.1.0 (value p.1.1)) (items table)) tables ≡ map (λ o. rising_in_contest π t o.value) os = cc in
+      let first : map (λ p. named_value π t p.1.0 (value p.1.1)) (items table) ≡ rising_in_contest π t o.value = cc in
+      let rest : map (λ table. map (λ p. named_value π t p.1.0 (value p.1.1)) (items table)) tables ≡ map (λ o. rising_in_contest π t o.value) os = cc in
       ap₂ ◌++◌
-      (numbers_of (option_cmp name_cmp) (name_of π t) value (items table) (entries_at (codes "ContestSelection") o.value) first)
+      (numbers_under (option_cmp name_cmp) (name_of π t) value (items table) (entries_at (codes "ContestSelection") o.value) first)
       (numbers_gathered value items tables os rest)
 
   -- ---- one contest

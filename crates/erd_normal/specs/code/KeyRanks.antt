@@ -29,6 +29,10 @@ keyed_from key i (d ∷ ds) = keyed_value (key d) i d ∷ keyed_from key (i + 1)
 abbrev pub rising_table : {K : Type 0} → (K → K → Ordering) → (Data → K) → List Data → List (K × (ℕ × Data))
 rising_table cmp key ds = rising_list (λ p q. cmp p.0 q.0) (keyed_from key 0 ds)
 
+-- A selection with its name and its position.
+abbrev pub named_value : Preference → Data → ℕ → Data → Option NameParts × (ℕ × Data)
+named_value π t i d = keyed_value (name_of π t d) i d
+
 -- The values of the objects of a family, or no values if the family has no keys.
 abbrev pub keyed_values : Family → Data → List Data
 keyed_values f t = if has_keys f then map (λ o. o.value) (objects f t) else []

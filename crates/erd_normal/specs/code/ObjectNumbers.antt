@@ -16,7 +16,7 @@ use Rattle.erd_meaning.specs.SelectionNames.{key_named, name_of}
 use Rattle.erd_normal.specs.Canonical.{id_prefix, rank_of}
 use Rattle.erd_normal.specs.code.Building.{AreNumbers}
 use Rattle.erd_normal.specs.code.ElectionParts.{objects_of_part, part_seen}
-use Rattle.erd_normal.specs.code.KeyRanks.{keyed_value, rising_in_contest}
+use Rattle.erd_normal.specs.code.KeyRanks.{named_value, rising_in_contest}
 use Rattle.erd_normal.specs.code.NormalTree.{rank_of_name}
 use Rattle.erd_normal.specs.declared.numbers.object_numbers.ObjectNumbers.{ObjectNumbers}
 use denote.Ref.{Bor}
@@ -67,5 +67,5 @@ pub record AreObjectNumbers (π : Preference) (t : Data) (n : ObjectNumbers) : T
   pub whole : has_float t ≡ false
   pub parts : (f : Family) (i : ℕ) → part_seen (parts_of_family f n) i ≡ objects_of_part π t f i
   pub numbers : (f : Family) → is_some (id_prefix f) ≡ true → AreNumbers π t f (numbers_of_family f n)
-  pub contests : map (λ table. map (λ p. keyed_value p.0 p.1.0 (view p.1.1.now)) table.items) n.selections.rising.items ≡ map (λ o. rising_in_contest π t o.value) (contests t)
+  pub contests : map (λ table. map (λ p. named_value π t p.1.0 (view p.1.1.now)) table.items) n.selections.rising.items ≡ map (λ o. rising_in_contest π t o.value) (contests t)
   pub selections : AreSelectionNumbers π t n.selections.numbers.items

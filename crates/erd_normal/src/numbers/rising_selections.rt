@@ -1,29 +1,37 @@
 ghost use Rattle.std.specs.Prelude.{◌≡◌, ◌+◌, ◌<◌, ◌^◌, length, map, IfOk};
 ghost use Rattle.std.specs.Option.{option_cmp};
 ghost use Rattle.serde_json.specs.View.{view};
+ghost use Rattle.erd_tables.specs.declared.class.Family.TheVariants as family;
 ghost use Rattle.erd_meaning.specs.SelectionNames.{name_cmp, name_of};
-ghost use Rattle.erd_normal.specs.code.KeyRanks.{AreNamedFrom, keyed_from, keyed_value, rising_table};
+ghost use Rattle.erd_normal.specs.code.Building.{AreNumbers};
+ghost use Rattle.erd_normal.specs.code.KeyNumbers.{numbered_name_of};
+ghost use Rattle.erd_normal.specs.code.KeyRanks.{AreNamedFrom, keyed_from, keyed_value, named_value, rising_table};
 
-use crate::order::lent_name::LentName;
+use crate::numbers::chosen_numbers::{ChosenNumbers, chosen_numbers};
+use crate::order::ranked_name::RankedName;
 use crate::order::stable_sort::in_order;
 use erd_meaning::Report;
 use serde_json::Value;
 use std::alloc::{AllocError, Global};
 
 /// The selections of a contest, sorted by name, each with its name and its position in the contest. The first selection of
-/// the contest has the position `start` in the report.
+/// the contest has the position `start` in the report. The names are compared by the numbers of the candidates and parties,
+/// which are in the order of their keys.
 pub(crate) fn rising_selections<'a>(
     alloc: Global,
     report: &'a Report<'a>,
+    chosen: ChosenNumbers,
     start: usize,
     selections: &'a [Value],
-) -> Result<Vec<(LentName<'a>, (usize, &'a Value))>, AllocError>
+) -> Result<Vec<(RankedName<'a>, (usize, &'a Value))>, AllocError>
+    requires candidates { AreNumbers report.now.prefer (view report.now.tree) family.Candidate chosen.candidates.now }
+    requires parties { AreNumbers report.now.prefer (view report.now.tree) family.Party chosen.parties.now }
     requires named { AreNamedFrom report.now.prefer (view report.now.tree) start (map view selections.now) }
     requires few { start + length selections.now < 2 ^ 64 }
-    ensures { IfOk result (λ rising. map (λ p. keyed_value p.0 p.1.0 (view p.1.1.now)) rising.items
+    ensures { IfOk result (λ rising. map (λ p. named_value report.now.prefer (view report.now.tree) p.1.0 (view p.1.1.now)) rising.items
         ≡ rising_table (option_cmp name_cmp) (name_of report.now.prefer (view report.now.tree)) (map view selections.now)) }
 {
-    let named = named_selections(alloc, report, start, selections)?;
+    let named = named_selections(alloc, report, chosen, start, selections)?;
     in_order(alloc, named)
 }
 
@@ -31,17 +39,22 @@ pub(crate) fn rising_selections<'a>(
 fn named_selections<'a>(
     alloc: Global,
     report: &'a Report<'a>,
+    chosen: ChosenNumbers,
     start: usize,
     selections: &'a [Value],
-) -> Result<Vec<(LentName<'a>, (usize, &'a Value))>, AllocError>
+) -> Result<Vec<(RankedName<'a>, (usize, &'a Value))>, AllocError>
+    requires candidates { AreNumbers report.now.prefer (view report.now.tree) family.Candidate chosen.candidates.now }
+    requires parties { AreNumbers report.now.prefer (view report.now.tree) family.Party chosen.parties.now }
     requires named { AreNamedFrom report.now.prefer (view report.now.tree) start (map view selections.now) }
     requires few { start + length selections.now < 2 ^ 64 }
     ensures { IfOk result (λ named. map (λ p. keyed_value p.0 p.1.0 (view p.1.1.now)) named.items
-        ≡ keyed_from (name_of report.now.prefer (view report.now.tree)) 0 (map view selections.now)) }
+        ≡ keyed_from (numbered_name_of report.now.prefer (view report.now.tree)) 0 (map view selections.now)) }
 {
     let mut named = Vec::with_capacity(alloc, selections.len())?;
     for (index, selection) in selections.iter().enumerate() {
-        named.push((LentName::at(report, start + index), (index, selection)))?;
+        let numbers = chosen_numbers(alloc, report, chosen, selection)?;
+        let name = RankedName::at(report, start + index, numbers);
+        named.push((name, (index, selection)))?;
     }
     Ok(named)
 }

@@ -12,7 +12,7 @@ use Rattle.erd_normal.proofs.built.BuiltEntries.{one_more}
 use Rattle.erd_normal.proofs.lists.StableRising.{map_after}
 use Rattle.erd_normal.proofs.ranks.NamesInTurn.{starts_after}
 use Rattle.erd_normal.proofs.ranks.SelectionsInTurn.{contest_values, few_in_turn, named_in_turn, none_below_end, selections_of, value_there}
-use Rattle.erd_normal.specs.code.KeyRanks.{keyed_value, rising_in_contest, rising_table}
+use Rattle.erd_normal.specs.code.KeyRanks.{named_value, rising_in_contest, rising_table}
 use Rattle.erd_normal.proofs.numbers.selection_tables.contest_tables.Goals as goal
 use Rattle.erd_normal.proofs.numbers.selection_tables.contest_tables.Goals.{in-Some+in_ok-rising_selections-in-Some+in_ok-push-in-Some, in-None}
 
@@ -33,6 +33,8 @@ rising_selections-requires c =
     let low : i < length (contest_values t) = subst (λ n. i < n) (as_many t c.count-count.result c.count-count.ensures) c.loop-index-test.true in
     let here = value_there (contest_values t) i d at in
     record {
+      candidates = c.requires.candidates;
+      parties = c.requires.parties;
       named = named_in_turn t i c.loop-index.start d c.entries_at-selections.result.now low here c.loop-index.invariant.start c.entries_at-selections.ensures c.args.report.now.prefer;
       few = few_in_turn t i c.loop-index.start d c.entries_at-selections.result.now low here c.loop-index.invariant.start c.entries_at-selections.ensures
           (subst (λ v. IsBounded (view v)) c.tree-tree.ensures.tree c.tree-tree.ensures.bounded);
@@ -51,9 +53,9 @@ loop-index-preserved c =
           let at : slice_get ds i ≡ Some d = there t i c.object.result w.in-Some.contest c.object.ensures w.in-Some.is in
           let here = value_there ds i d at in
           record {
-            tables = ap (λ ts. map (λ table. map (λ p. keyed_value p.0 p.1.0 (view p.1.1.now)) table.items) ts.items) w.tables-is
-                ∙ (ap (map (λ table. map (λ p. keyed_value p.0 p.1.0 (view p.1.1.now)) table.items)) w.in_ok-push-in-Some.ensures.items
-                ∙ one_more (λ table. map (λ p. keyed_value p.0 p.1.0 (view p.1.1.now)) table.items) (rising_in_contest π t) c.loop-index.tables.items ds i d _ low here
+            tables = ap (λ ts. map (λ table. map (λ p. named_value π t p.1.0 (view p.1.1.now)) table.items) ts.items) w.tables-is
+                ∙ (ap (map (λ table. map (λ p. named_value π t p.1.0 (view p.1.1.now)) table.items)) w.in_ok-push-in-Some.ensures.items
+                ∙ one_more (λ table. map (λ p. named_value π t p.1.0 (view p.1.1.now)) table.items) (rising_in_contest π t) c.loop-index.tables.items ds i d _ low here
                 (w.in_ok-rising_selections-in-Some.ensures ∙ ap (rising_table (option_cmp name_cmp) (name_of π t)) w.entries_at-selections.ensures)
                 c.loop-index.invariant.tables);
             start = w.start-is

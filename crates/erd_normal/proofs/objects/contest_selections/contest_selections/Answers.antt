@@ -4,9 +4,10 @@ use Rattle.serde_json.specs.Data.{Data}
 use Rattle.serde_json.specs.View.{view}
 use Rattle.serde_json.specs.declared.value.Value.{Value}
 use Rattle.erd_meaning.specs.NameParts.{NameParts}
+use Rattle.erd_meaning.specs.code.NumberedNames.{NumberedParts}
 use Rattle.erd_normal.proofs.lists.StableRising.{map_after}
 use Rattle.erd_normal.proofs.ranks.PlacedEntries.{placed_more}
-use Rattle.erd_normal.specs.code.KeyRanks.{keyed_value}
+use Rattle.erd_normal.specs.code.KeyRanks.{named_value}
 use Rattle.erd_normal.specs.code.PlacedTree.{map_from, placed_selection}
 use Rattle.erd_normal.proofs.objects.contest_selections.contest_selections.Goals as goal
 
@@ -22,11 +23,13 @@ loop-index-preserved c =
 
 pub returns : goal.returns
 returns c =
+    let π = c.args.numbered.now.prefer in
+    let t = view c.args.numbered.now.tree in
     let rising = c.selections_of-rising.result.now in
-    let each = placed_selection c.args.numbered.now.prefer (view c.args.numbered.now.tree) c.args.contest in
+    let each = placed_selection π t c.args.contest in
     let end : c.loop-index.index ≡ length rising = omega arith in
     c.loop-index.invariant
     ∙ ap (map_from each 1)
     (ap (map (λ p. view p.1.1.now)) (ap (λ n. take n rising) end ∙ take-length rising)
-    ∙ (map_after (λ (p : Option NameParts × (ℕ × Bor Value)). keyed_value p.0 p.1.0 (view p.1.1.now)) (λ (p : Option NameParts × (ℕ × Data)). p.1.1) rising
+    ∙ (map_after (λ (p : Option NumberedParts × (ℕ × Bor Value)). named_value π t p.1.0 (view p.1.1.now)) (λ (p : Option NameParts × (ℕ × Data)). p.1.1) rising
     ∙ ap (map (λ p. p.1.1)) c.selections_of-rising.ensures.selections))
