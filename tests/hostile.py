@@ -171,6 +171,17 @@ def long_key(n):
     return report(ONE, Candidate=made, Contest=[contest(chosen)])
 
 
+def long_keys(n):
+    """Two candidates whose long keys differ only at the end. The selections name one or the other, in no order."""
+    made = candidates(2)
+    for i, candidate in enumerate(made):
+        candidate["ExternalIdentifier"][0]["Value"] = "K" * (n * 10) + str(i)
+    count = max(n // 10, 1)
+    chosen = [selection(i, "CandidateSelection", CandidateIds=["k%d" % (i * 7919 % 13 % 2)], SequenceOrder=i * 7919 % count)
+              for i in range(count)]
+    return report(ONE, Candidate=made, Contest=[contest(chosen)])
+
+
 def empty_arrays(n):
     return report([unit("u%d" % i, "U%07d" % i, ComposingGpUnitIds=[]) for i in range(n)])
 
@@ -249,7 +260,7 @@ def selections_moved(n):
 
 SINGLE = [units_rising, units_falling, units_alike, candidate_selections, write_ins, measure_texts, ordered_selections, references,
           identifiers, translations, same_triples, unresolved, repeated, foreign, twins, same_ids, chain, styles, deep_headers,
-          long_key, empty_arrays, elections, twin_elections]
+          long_key, long_keys, empty_arrays, elections, twin_elections]
 PAIRS = [moved, nothing_common, last_differs, every_second, long_references_moved, selections_moved, elections_moved]
 
 
