@@ -164,22 +164,33 @@ def deep_headers(n):
     return made
 
 
+def with_long_keys(n, count, chosen):
+    """So many candidates, whose long keys differ only at the end. The selections have these candidates and orders."""
+    made = candidates(count)
+    for i, candidate in enumerate(made):
+        candidate["ExternalIdentifier"][0]["Value"] = "K" * (n * 10) + str(i)
+    selections = [selection(i, "CandidateSelection", CandidateIds=ids, SequenceOrder=order) for i, (ids, order) in enumerate(chosen)]
+    return report(ONE, Candidate=made, Contest=[contest(selections)])
+
+
 def long_key(n):
-    made = candidates(1)
-    made[0]["ExternalIdentifier"][0]["Value"] = "K" * (n * 10)
-    chosen = [selection(i, "CandidateSelection", CandidateIds=["k0"], SequenceOrder=i) for i in range(max(n // 10, 1))]
-    return report(ONE, Candidate=made, Contest=[contest(chosen)])
+    return with_long_keys(n, 1, [(["k0"], i) for i in range(max(n // 10, 1))])
 
 
 def long_keys(n):
-    """Two candidates whose long keys differ only at the end. The selections name one or the other, in no order."""
-    made = candidates(2)
-    for i, candidate in enumerate(made):
-        candidate["ExternalIdentifier"][0]["Value"] = "K" * (n * 10) + str(i)
+    """Each selection names one of two candidates, in no order."""
     count = max(n // 10, 1)
-    chosen = [selection(i, "CandidateSelection", CandidateIds=["k%d" % (i * 7919 % 13 % 2)], SequenceOrder=i * 7919 % count)
-              for i in range(count)]
-    return report(ONE, Candidate=made, Contest=[contest(chosen)])
+    return with_long_keys(n, 2, [(["k%d" % (i * 7919 % 13 % 2)], i * 7919 % count) for i in range(count)])
+
+
+def long_tickets(n):
+    """Each selection names two candidates."""
+    return with_long_keys(n, 2, [(["k1", "k0"], i) for i in range(max(n // 10, 1))])
+
+
+def long_twins(n):
+    """Each selection has the same name."""
+    return with_long_keys(n, 1, [(["k0"], 1)] * max(n // 10, 1))
 
 
 def empty_arrays(n):
@@ -260,7 +271,7 @@ def selections_moved(n):
 
 SINGLE = [units_rising, units_falling, units_alike, candidate_selections, write_ins, measure_texts, ordered_selections, references,
           identifiers, translations, same_triples, unresolved, repeated, foreign, twins, same_ids, chain, styles, deep_headers,
-          long_key, long_keys, empty_arrays, elections, twin_elections]
+          long_key, long_keys, long_tickets, long_twins, empty_arrays, elections, twin_elections]
 PAIRS = [moved, nothing_common, last_differs, every_second, long_references_moved, selections_moved, elections_moved]
 
 
