@@ -3,7 +3,6 @@ pub mod ChosenMembers
 pub mod Labels
 pub mod ReferencedKeys
 pub mod ReferencedNames
-pub mod NamedKeySets
 pub mod EqualOptions
 pub mod KeyedKinds
 pub mod MeantValues

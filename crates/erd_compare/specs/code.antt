@@ -1,7 +1,6 @@
 pub mod Comparing  -- what an answer says of two meanings, and of which values it is asked; read this one first
 pub mod Choices  -- values: which members of an object are compared apart
 pub mod ContentParts  -- values: what stands inside a header
-pub mod KeySets  -- values: a set of keys, as it is kept to be compared
 pub mod PlainParts  -- objects: what a member means by itself
 pub mod SelectionMembers  -- objects: the selections of a contest, as a member of it
 pub mod SelectionsByName  -- objects: which selection has a name, and the selections of a contest by their names
@@ -9,3 +8,5 @@ pub mod NamesInStep  -- objects: the names that are left, as those of two object
 pub mod LeastNames  -- objects: the least name of a member at which two objects differ
 pub mod HeldDifferences  -- objects: how two objects differ with the keys of the elections that hold them
 pub mod KeyedDifferences  -- the first difference: the least key at which two reports differ in a part
+pub mod CommonNumbers  -- numbers: which number stands for a key, and the sorted keys of both reports
+pub mod NumberedSides  -- numbers: the numbers of objects on either side

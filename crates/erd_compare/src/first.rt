@@ -4,11 +4,11 @@ ghost use Rattle.erd_meaning.specs.Records.{meaning};
 ghost use Rattle.erd_compare.specs.Differences.{IsDifference};
 
 mod parts;
-mod role_objects;
 mod tables;
 
 use crate::difference::{Difference, Part};
 use crate::first::parts::part_difference;
+use crate::numbers::making::key_tables;
 use crate::sides::Sides;
 use erd_meaning::Report;
 use std::alloc::{AllocError, Global};
@@ -36,8 +36,9 @@ const PARTS: [Part; 10] = [
 /// ballot style with other contents at `OrderedContent`. A candidate, contest or style that is in an election with another
 /// key differs at `ElectionId`. docs/PROFILE.md lists the parts, the keys and what members mean.
 ///
-/// The code copies and builds no records. It compares members in place, and references by the keys of the objects that they
-/// name. In each part it sorts the keys of both reports, walks both lists in step, and stops at the first difference.
+/// The code copies and builds no records. It sorts the keys of both reports in each part, and looks up each key of the right
+/// report among those of the left one. From then on it compares references by the numbers that this gives to objects, and
+/// members in place. In each part it walks both lists of keys in step, and it stops at the first difference.
 ///
 /// # Errors
 ///
@@ -50,7 +51,12 @@ pub fn first_difference(
     requires one_preference { left.now.prefer ≡ right.now.prefer }
     ensures { IfOk result (IsDifference (meaning left.now.prefer (view left.now.tree)) (meaning right.now.prefer (view right.now.tree))) }
 {
-    let sides = Sides { left, right };
+    let tables = key_tables(alloc, left, right)?;
+    let sides = Sides {
+        left,
+        right,
+        tables: &tables,
+    };
     for part in PARTS {
         if let Some(difference) = part_difference(alloc, sides, part)? {
             return Ok(Some(difference));

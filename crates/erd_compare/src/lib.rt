@@ -3,6 +3,7 @@
 
 pub mod difference;
 mod first;
+mod numbers;
 mod objects;
 mod sides;
 mod values;

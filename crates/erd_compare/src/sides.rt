@@ -1,3 +1,7 @@
+ghost use Rattle.erd_compare.specs.code.CommonNumbers.{AreCommonNumbers, tables_of};
+ghost use Rattle.erd_compare.specs.declared.difference.Part.{Part};
+
+use crate::numbers::key_tables::KeyTables;
 use erd_meaning::Report;
 
 /// The two reports that are compared. Elsewhere, `one` and `ones` belong to the left report, and `other` and `others` to the
@@ -8,4 +12,7 @@ pub(crate) struct Sides<'a> {
     pub left: &'a Report<'a>,
     /// The right report.
     pub right: &'a Report<'a>,
+    /// The keys of both reports, and numbers in place of them.
+    pub tables: &'a KeyTables<'a>,
+    ghost numbered: { (p : Part) → AreCommonNumbers left.now right.now p (tables_of p tables.now).numbers.items },
 }

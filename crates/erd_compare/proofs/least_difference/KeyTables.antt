@@ -7,7 +7,8 @@ use Rattle.std.specs.List.Sorted.{IsPermutation, IsSortedBy}
 use Rattle.std.specs.Option.{option_cmp, option_copied}
 use Rattle.std.specs.Ordering.{eq_by_cmp, nat_cmp, ordering_then}
 use Rattle.std.proofs.lemmas.Cmp.{eq_by_cmp_equiv}
-use Rattle.std.proofs.lemmas.List.Sorted.{Contains-permutation, IsPermutation-map, IsPermutation-sym}
+use Rattle.std.proofs.lemmas.List.{length_push}
+use Rattle.std.proofs.lemmas.List.Sorted.{Contains-permutation, IsPermutation-map, IsPermutation-sym, length_permutation}
 use Rattle.std.proofs.lemmas.Map.Keys.{IsDistinct-IsPermutation}
 use Rattle.serde_json.specs.Data.{Data}
 use Rattle.erd_tables.specs.declared.class.Role.{Role}
@@ -48,10 +49,12 @@ pub record ListsKeys (π : Preference) (t : Data) (r : Role) (n : ℕ) (es : Lis
   pub apart : IsDistinct (eq_by_cmp by_key) (keys_of es)
   pub stand : AllByRecursion (IsEntryOf π t r n) es
   pub all : (i : ℕ) (k : Option Key) → i < n → HasKeyAt π t r i k → In k (keys_of es)
+  pub count : length es ≡ n
+  pub low : n ≤ length (objects_in r t)
 
 pub none_listed : (π : Preference) (t : Data) (r : Role) → ListsKeys π t r 0 []
 unfolding IsDistinct
-none_listed π t r = record { apart = tt; stand = tt; all = λ i k low e. absurd (omega arith) }
+none_listed π t r = record { apart = tt; stand = tt; all = λ i k low e. absurd (omega arith); count = refl; low = omega arith }
 
 which : (j n : ℕ) → j < n + 1 → (j < n) ⊎ (j ≡ n)
 which j n low = grind arith
@@ -102,6 +105,8 @@ one_more π t c p n es k h is = record {
   all = λ i l low has. subst (In l) (sym (map_more entry_key es (k, n))) (⊎_elim
       (λ less. In-append_left l (keys_of es) (option_copied k ∷ []) (h.all i l less has))
       (λ same. In-append_right l (keys_of es) (option_copied k ∷ []) (inl (one_at π t (role_of_part p) n (option_copied k) l is (subst (λ j. HasKeyAt π t (role_of_part p) j l) same has)))) (which i n low));
+  count = length_push es (k, n) ∙ ap (λ m. m + 1) h.count;
+  low = let here = low_at (objects_in (role_of_part p) t) n is.object is.stands in omega (arith, here);
 }
   where
     other : (l : Option Key) → In l (keys_of es) → l ≡ option_copied k → ⊥
@@ -152,6 +157,7 @@ table_sorted π t r n es new all h same sorted = record {
   stand = all_from_In (λ e. HasKeyAt π t r e.1 (entry_key e)) new (λ e inside.
       (In-all (IsEntryOf π t r n) e es h.stand (In-from_contains e es (Contains-permutation new es e back (contains_from_In e new inside)))).stands);
   all = λ i k has. Contains-permutation (keys_of es) (keys_of new) k keys (contains_from_In k (keys_of es) (h.all i k (omega (arith, all, low_at (objects_in r t) i has.object has.stands)) has));
+  count = length_permutation es new same ∙ (h.count ∙ omega (arith, all, h.low));
 }
   where
     keys : IsPermutation (keys_of es) (keys_of new)

@@ -1,5 +1,5 @@
 -- The least key at which two reports differ in a part.
-use Rattle.std.specs.Prelude.{◌≡◌, ℕ, List, [], ◌∷◌, map, if◌then◌else◌, Option, Some, None, option_and_then}
+use Rattle.std.specs.Prelude.{◌≡◌, ℕ, List, [], ◌∷◌, map, length, if◌then◌else◌, Option, Some, None, option_and_then}
 use Rattle.std.specs.List.{AllByRecursion, Contains, slice_get}
 use Rattle.std.specs.List.Sorted.{IsStrictlySortedBy}
 use Rattle.std.specs.Option.{option_cmp, option_copied}
@@ -57,6 +57,11 @@ key_in_role π (role.OfFamily f) t i = key_in π f t i
 key_in_role π role.Election t i = election_key_in π t i
 key_in_role π r t i = None
 
+-- The position of the election that holds the object with the role at the position, or none if no election holds it.
+abbrev pub holder_in : Role → Data → ℕ → Option ℕ
+holder_in (role.OfFamily f) t i = election_in f t i
+holder_in r t i = None
+
 -- The key of the election that holds the object with the role at the position, or none if no election holds it or that
 -- election has no key.
 abbrev pub holder_key_in : Preference → Role → Data → ℕ → Option Key
@@ -81,6 +86,7 @@ pub record IsKeyTable (π : Preference) (t : Data) (r : Role) (entries : List (O
   pub rises : IsStrictlySortedBy (option_cmp key_cmp) (keys_of entries)
   pub stand : AllByRecursion (λ e. HasKeyAt π t r e.1 (option_copied e.0)) entries
   pub all : (i : ℕ) (k : Option Key) → HasKeyAt π t r i k → Contains (keys_of entries) k
+  pub count : length entries ≡ length (objects_in r t)
 
 -- If the objects of the part at the two positions have the same key, the answer is how their records differ, or none if
 -- they are equal.

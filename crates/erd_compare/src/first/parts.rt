@@ -3,6 +3,7 @@ ghost use Rattle.std.specs.Option.{option_copied};
 ghost use Rattle.serde_json.specs.View.{view};
 ghost use Rattle.erd_meaning.specs.Records.{meaning};
 ghost use Rattle.erd_compare.specs.code.Comparing.{TellsPart};
+ghost use Rattle.erd_compare.specs.code.CommonNumbers.{AreKeyTables};
 
 use crate::difference::{Difference, Part};
 use crate::first::tables::{KeyedDifference, least_difference};
@@ -16,6 +17,7 @@ pub(crate) fn part_difference(
     sides: Sides,
     part: Part,
 ) -> Result<Option<Difference>, AllocError>
+    requires tables { AreKeyTables sides.left.now sides.right.now sides.tables.now }
     ensures { IfOk result (TellsPart (meaning sides.entry.left.now.prefer (view sides.entry.left.now.tree)) (meaning sides.entry.right.now.prefer (view sides.entry.right.now.tree)) part) }
 {
     // read for what the calls ensure: both trees are accepted, and their numbers are whole

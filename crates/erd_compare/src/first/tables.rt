@@ -3,15 +3,16 @@ ghost use Rattle.std.specs.Option.{option_copied};
 ghost use Rattle.serde_json.specs.View.{view};
 ghost use Rattle.erd_meaning.specs.Records.{meaning};
 ghost use Rattle.erd_compare.specs.Differences.{record_at};
-ghost use Rattle.erd_compare.specs.code.KeyedDifferences.{IsComparable, IsKeyTable, TellsAtPositions, TellsLeast, role_of_part};
+ghost use Rattle.erd_compare.specs.code.CommonNumbers.{ArePartTables, tables_of};
+ghost use Rattle.erd_compare.specs.code.KeyedDifferences.{IsComparable, TellsAtPositions, TellsLeast};
 ghost use Rattle.erd_compare.specs.declared.difference.How.TheVariants.{OnlyLeft, OnlyRight};
 
 use crate::difference::{How, Part};
-use crate::first::role_objects::{count, holder_key, key_at, object_at, role_of};
-use crate::objects::held::held_difference;
+use crate::numbers::role_objects::{object_at, role_of};
+use crate::objects::held::{held_difference, is_same_holder};
 use crate::objects::records::object_difference;
 use crate::sides::Sides;
-use erd_meaning::{Key, Report};
+use erd_meaning::Key;
 use std::alloc::{AllocError, Global};
 use std::cmp::Ordering;
 
@@ -51,12 +52,12 @@ pub(crate) fn least_difference<'a>(
 ) -> Result<Option<KeyedDifference<'a>>, AllocError>
     requires left { IsComparable sides.left.now.prefer (view sides.left.now.tree) }
     requires right { IsComparable sides.right.now.prefer (view sides.right.now.tree) }
+    requires tables { ArePartTables sides.left.now sides.right.now part (tables_of part sides.tables.now) }
     ensures { IfOk result (TellsLeast (record_at (meaning sides.entry.left.now.prefer (view sides.entry.left.now.tree)) part) (record_at (meaning sides.entry.right.now.prefer (view sides.entry.right.now.tree)) part)) }
 {
-    let ones = key_table(alloc, sides.left, part)?;
-    let others = key_table(alloc, sides.right, part)?;
-    let mut rest = others.iter();
-    for &(key, index) in &ones {
+    let tables = sides.tables.of(part);
+    let mut rest = tables.others.iter();
+    for &(key, index) in &tables.ones {
         let Some(&(other_key, other_index)) = rest.next() else {
             return Ok(Some(KeyedDifference::only_left(key)));
         };
@@ -74,24 +75,6 @@ pub(crate) fn least_difference<'a>(
         Some(&(key, _)) => Ok(Some(KeyedDifference::only_right(key))),
         None => Ok(None),
     }
-}
-
-/// The keys of the objects of a report in a part, rising, each with the position of its object.
-fn key_table<'a>(
-    alloc: Global,
-    report: &'a Report,
-    part: Part,
-) -> Result<Vec<(Option<&'a Key>, usize)>, AllocError>
-    requires comparable { IsComparable report.now.prefer (view report.now.tree) }
-    ensures { IfOk result (λ table. IsKeyTable report.now.prefer (view report.now.tree) (role_of_part part) table.items) }
-{
-    let role = role_of(part);
-    let mut table = Vec::with_capacity(alloc, count(report, role))?;
-    for index in 0..count(report, role) {
-        table.push((key_at(report, role, index), index))?;
-    }
-    table.sort_unstable();
-    Ok(table)
 }
 
 /// How the objects of the two reports at these positions of a part differ. Both have the same key, or none.
@@ -113,9 +96,7 @@ fn difference_at(
     ) {
         (Some(one), Some(other)) => {
             let own = object_difference(alloc, sides, role, one, other)?;
-            let holder = holder_key(sides.left, role, index);
-            let other_holder = holder_key(sides.right, role, other_index);
-            held_difference(alloc, own, holder, other_holder)
+            held_difference(alloc, own, is_same_holder(sides, part, index, other_index))
         }
         // a position in a table has an object
         _ => Ok(None),

@@ -1,23 +1,36 @@
-ghost use Rattle.std.specs.Prelude.{◌≡◌, IfOk};
-ghost use Rattle.std.specs.Option.{option_copied};
+ghost use Rattle.std.specs.Prelude.{◌≡◌, IfOk, Option};
+ghost use Rattle.serde_json.specs.View.{view};
+ghost use Rattle.erd_meaning.specs.declared.keys.key.Key.{Key as key};
+ghost use Rattle.erd_compare.specs.code.Comparing.{Decides};
 ghost use Rattle.erd_compare.specs.code.HeldDifferences.{TellsHeld, is_before_election};
+ghost use Rattle.erd_compare.specs.code.KeyedDifferences.{holder_key_in, role_of_part};
 
-use crate::difference::How;
-use erd_meaning::Key;
+use crate::difference::{How, Part};
+use crate::numbers::lookups::holder_number;
+use crate::numbers::side::Side;
+use crate::sides::Sides;
 use erd_tables::Text;
 use std::alloc::{AllocError, Global};
 
-/// How two objects differ whose elections have these keys, given how they differ by themselves. If the keys differ, the
-/// objects differ in a member `ElectionId`, which no object has of its own.
+/// Whether the objects at these positions of a part are in elections with the same key, or in none with a key.
+pub(crate) fn is_same_holder(sides: Sides, part: Part, index: usize, other_index: usize) -> bool
+    ensures { Decides result (holder_key_in sides.entry.left.now.prefer (role_of_part part) (view sides.entry.left.now.tree) index)
+        (holder_key_in sides.entry.right.now.prefer (role_of_part part) (view sides.entry.right.now.tree) other_index) }
+{
+    holder_number(sides, Side::Left, part, index)
+        == holder_number(sides, Side::Right, part, other_index)
+}
+
+/// How two objects differ, given how they differ by themselves, and whether the keys of their elections are the same. If the
+/// keys differ, the objects differ in a member `ElectionId`, which no object has of its own.
 pub(crate) fn held_difference(
     alloc: Global,
     own: Option<How>,
-    one: Option<&Key>,
-    other: Option<&Key>,
+    is_same_holder: bool,
 ) -> Result<Option<How>, AllocError>
-    ensures { IfOk result (TellsHeld own (option_copied one.entry) (option_copied other.entry)) }
+    ensures { IfOk result (λ how. (k l : Option key) → Decides is_same_holder k l → TellsHeld own k l how) }
 {
-    if one == other || is_before_election(&own) {
+    if is_same_holder || is_before_election(&own) {
         return Ok(own);
     }
     let name = String::from_str(alloc, "ElectionId")?;

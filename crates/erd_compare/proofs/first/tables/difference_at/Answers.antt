@@ -1,10 +1,10 @@
-use Rattle.std.proofs.Common.{ap, ◌∙◌, option_map, subst}
+use Rattle.std.proofs.Common.{Option, ap, ◌∙◌, option_map, subst}
 use Rattle.std.specs.List.{slice_get}
-use Rattle.std.specs.Option.{option_copied}
 use Rattle.std.proofs.lemmas.Result.{IfOk-weaker}
 use Rattle.serde_json.specs.View.{view}
 use Rattle.erd_meaning.specs.Records.{object_record}
-use Rattle.erd_compare.specs.code.Comparing.{TellsHow}
+use Rattle.erd_meaning.specs.declared.keys.key.Key.{Key}
+use Rattle.erd_compare.specs.code.Comparing.{Decides, TellsHow}
 use Rattle.erd_compare.specs.code.HeldDifferences.{TellsHeld}
 use Rattle.erd_compare.specs.code.KeyedDifferences.{TellsAtPositions, holder_key_in, objects_in, role_of_part}
 use Rattle.erd_compare.proofs.least_difference.KeyedRecords.{records_here, whole_here}
@@ -31,11 +31,11 @@ returns-in_ok-own-in-Some-Some c =
     let p = c.args.part in
     let own = c.in_ok-own-in-Some-Some.own in
     let role = c.role_of-role in
-    IfOk-weaker c.held_difference.result (TellsHeld own (option_copied c.holder_key-holder.result) (option_copied c.holder_key-other_holder.result)) (TellsAtPositions π ρ t u p c.args.index c.args.other_index)
+    let k = holder_key_in π (role_of_part p) t c.args.index in
+    let l = holder_key_in ρ (role_of_part p) u c.args.other_index in
+    IfOk-weaker c.held_difference.result (λ how. (k l : Option Key) → Decides c.is_same_holder.result k l → TellsHeld own k l how) (TellsAtPositions π ρ t u p c.args.index c.args.other_index)
     (λ how held. records_here π ρ t u c.requires.left c.requires.right p c.args.index c.args.other_index one other
     (c.in-Some-Some.ensures ∙ ap (λ r. option_map (λ o. o.value) (slice_get (objects_in r t) c.args.index)) role.ensures)
     (c.in-Some-Some.ensures' ∙ ap (λ r. option_map (λ o. o.value) (slice_get (objects_in r u) c.args.other_index)) role.ensures) own
-    (subst (λ r. TellsHow (object_record π t r one) (object_record ρ u r other) own) role.ensures c.in_ok-own-in-Some-Some.ensures) how
-    (subst (λ k. TellsHeld own k (holder_key_in ρ (role_of_part p) u c.args.other_index) how) (c.holder_key-holder.ensures ∙ ap (λ r. holder_key_in π r t c.args.index) role.ensures)
-    (subst (λ l. TellsHeld own (option_copied c.holder_key-holder.result) l how) (c.holder_key-other_holder.ensures ∙ ap (λ r. holder_key_in ρ r u c.args.other_index) role.ensures) held)))
+    (subst (λ r. TellsHow (object_record π t r one) (object_record ρ u r other) own) role.ensures c.in_ok-own-in-Some-Some.ensures) how (held k l c.is_same_holder.ensures))
     c.held_difference.ensures

@@ -1,8 +1,10 @@
-use Rattle.std.proofs.Common.{◌+◌, [], ◌∷◌, drop, sym, ◌∙◌, subst}
+use Rattle.std.proofs.Common.{◌+◌, [], ◌∷◌, drop, sym, ap, ◌∙◌, subst}
 use Rattle.std.specs.Slice.Iter.{iter_rest}
 use Rattle.serde_json.specs.View.{view}
+use Rattle.erd_compare.specs.code.CommonNumbers.{tables_of}
 use Rattle.erd_compare.specs.code.KeyedDifferences.{TellsAtPositions}
 use Rattle.erd_compare.specs.declared.difference.How.TheVariants.{OnlyLeft, OnlyRight}
+use Rattle.erd_compare.specs.declared.numbers.key_tables.PartTables.{PartTables}
 use Rattle.erd_compare.proofs.least_difference.KeyTables.{copied_cmp}
 use Rattle.erd_compare.proofs.least_difference.KeyWalks.{AreLeft, both_differ, both_heads, both_same, both_tables, ended, left_ended, left_head, left_less, left_more, none_left, right_less, right_more, told_as}
 use Rattle.erd_compare.proofs.first.tables.least_difference.Goals as goal
@@ -14,9 +16,10 @@ loop-key-init c =
     let t = view c.args.sides.left.now.tree in
     let u = view c.args.sides.right.now.tree in
     let p = c.args.part in
-    let tables = both_tables π ρ t u p c.requires.left c.requires.right c.in_ok-ones.ones.items c.in_ok-others.others.items c.in_ok-ones.ensures c.in_ok-others.ensures in
-    subst (λ es. AreLeft π ρ t u p es (iter_rest c.iter-rest.result)) (sym c.deref-key-items.ensures.value)
-    (subst (AreLeft π ρ t u p c.in_ok-ones.ones.items) (sym (c.iter-rest.ensures.rest ∙ c.deref.ensures.value)) tables)
+    let here = tables_of p c.args.sides.tables.now in
+    let tables = both_tables π ρ t u p c.requires.left c.requires.right here.ones.items here.others.items c.requires.tables.left c.requires.tables.right in
+    subst (λ es. AreLeft π ρ t u p es (iter_rest c.iter-rest.result)) (sym (c.deref-key-items.ensures.value ∙ ap (λ (x : PartTables). x.ones.items) c.of-tables.ensures))
+    (subst (AreLeft π ρ t u p here.ones.items) (sym (c.iter-rest.ensures.rest ∙ (c.deref.ensures.value ∙ ap (λ (x : PartTables). x.others.items) c.of-tables.ensures))) tables)
 
 pub returns-in_default : goal.returns-in_default
 returns-in_default c =
@@ -109,8 +112,8 @@ returns-in-Some-next c =
     (right_more π ρ t u p c.requires.left c.requires.right g new
     (left_ended π ρ t u p c.requires.left c.requires.right c.deref-key-items.result.now c.loop-key.key-index (iter_rest c.loop-key.rest) (g ∷ new) c.loop-key-test.false c.in-Some-next.ensures.steps c.loop-key.invariant))
 
-pub returns : goal.returns
-returns c =
+pub returns-in-None : goal.returns-in-None
+returns-in-None c =
     let π = c.args.sides.left.now.prefer in
     let ρ = c.args.sides.right.now.prefer in
     let t = view c.args.sides.left.now.tree in

@@ -1,7 +1,7 @@
 ghost use Rattle.std.specs.Prelude.{◌≡◌, length, option_map, slice_get};
 ghost use Rattle.std.specs.Option.{option_copied};
 ghost use Rattle.serde_json.specs.View.{view};
-ghost use Rattle.erd_compare.specs.code.KeyedDifferences.{holder_key_in, key_in_role, objects_in, role_of_part};
+ghost use Rattle.erd_compare.specs.code.KeyedDifferences.{holder_in, key_in_role, objects_in, role_of_part};
 
 use crate::difference::Part;
 use erd_meaning::{Key, Report};
@@ -60,13 +60,13 @@ pub(crate) fn object_at<'a>(report: &Report<'a>, role: Role, index: usize) -> Op
     }
 }
 
-/// The key of the election that holds the object with a role at a position, if there is such a key. Only candidates,
-/// contests and styles are held by elections.
-pub(crate) fn holder_key<'a>(report: &'a Report, role: Role, index: usize) -> Option<&'a Key>
-    ensures { option_copied result ≡ holder_key_in report.now.prefer role (view report.now.tree) index }
+/// The position of the election that holds the object with a role at a position, if there is one. Only candidates, contests
+/// and styles are held by elections.
+pub(crate) fn election_of(report: &Report, role: Role, index: usize) -> Option<usize>
+    ensures { result ≡ holder_in role (view report.now.tree) index }
 {
     match role {
-        Role::OfFamily(family) => report.election_key(report.election_of(family, index)?),
+        Role::OfFamily(family) => report.election_of(family, index),
         _ => None,
     }
 }

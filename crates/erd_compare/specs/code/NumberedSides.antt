@@ -1,0 +1,44 @@
+-- The numbers of objects on either side.
+use Rattle.std.specs.Prelude.{◌≡◌, ℕ, List, map, Bool, Option, Some, option_map}
+use Rattle.std.specs.BTreeSet.{BTreeSet}
+use Rattle.std.specs.List.{list_any}
+use Rattle.std.specs.List.Sorted.{IsStrictlySortedBy}
+use Rattle.std.specs.Ordering.{is_eq, nat_cmp}
+use Rattle.serde_json.specs.Data.{Data}
+use Rattle.serde_json.specs.View.{view}
+use Rattle.erd_tables.specs.declared.class.Family.{Family}
+use Rattle.erd_meaning.specs.Judged.{Judged}
+use Rattle.erd_meaning.specs.SelectionNames.{key_named, keys_named}
+use Rattle.erd_meaning.specs.declared.keys.key.Key.{Key}
+use Rattle.erd_compare.specs.code.CommonNumbers.{common_number, number_of_key, part_of_family}
+use Rattle.erd_compare.specs.code.KeyedDifferences.{HasKeyAt, role_of_part}
+use Rattle.erd_compare.specs.declared.difference.Part.{Part}
+use Rattle.erd_compare.specs.declared.numbers.side.Side.{Side}
+use Rattle.erd_compare.specs.declared.numbers.side.Side.TheVariants.{Left, Right}
+
+-- The report on the side.
+abbrev pub on_side : Side → Judged → Judged → Judged
+on_side Left a b = a
+on_side Right a b = b
+
+-- If there is an object at the position, then the answer is the number of its key.
+abbrev pub IsNumberAt : Judged → Judged → Side → Part → ℕ → Option ℕ → Type 0
+IsNumberAt a b side p i n =
+    (k : Option Key) → HasKeyAt (on_side side a b).prefer (view (on_side side a b).tree) (role_of_part p) i k → n ≡ Some (common_number a b p k)
+
+-- The number of the key of the object of the family that the reference names, or none if there is no such object or key.
+abbrev pub named_number : Judged → Judged → Side → Family → List ℕ → Option ℕ
+named_number a b side f id = option_map (number_of_key a b (part_of_family f)) (key_named (on_side side a b).prefer (view (on_side side a b).tree) f id)
+
+-- The numbers of the keys of the objects of the family that the references in a list name.
+abbrev pub numbers_named : Judged → Judged → Side → Family → List Data → List ℕ
+numbers_named a b side f references = map (number_of_key a b (part_of_family f)) (keys_named (on_side side a b).prefer (view (on_side side a b).tree) f references)
+
+-- The set of the numbers in the list.
+abbrev pub number_set : List ℕ → ℕ → Bool
+number_set ns n = list_any (λ m. is_eq (nat_cmp m n)) ns
+
+-- The set has the numbers of the list, each of them once and in rising order.
+pub record IsNumberSet (ns : List ℕ) (s : BTreeSet ℕ) : Type 0 where
+  pub rises : IsStrictlySortedBy nat_cmp s.keys
+  pub same : (n : ℕ) → number_set s.keys n ≡ number_set ns n
