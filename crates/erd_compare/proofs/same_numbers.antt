@@ -3,3 +3,5 @@ pub mod KeySearches
 pub mod KeyNumbers
 pub mod NamedNumbers
 pub mod NumberSets
+pub mod RisingNumbers
+pub mod NumberedSelections

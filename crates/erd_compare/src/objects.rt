@@ -2,6 +2,7 @@
 
 pub(crate) mod held;
 mod member_names;
+mod numbered_names;
 mod plain_members;
 pub(crate) mod records;
 mod selections;

@@ -1,6 +1,6 @@
 -- The numbers of the keys that references name are put into a set one after another, and two such sets are equal if and
 -- only if the sets of the keys are.
-use Rattle.std.proofs.Common.{◌≡◌, ◌==◌, ◌<◌, ◌+◌, ℕ, List, [], ◌∷◌, map, drop, length, get_or, Bool, true, false, ◌||◌, Ordering, Less, Equal, Greater, is_eq, inl, inr, Option, Some, None, option_and_then, option_map, refl, sym, ap, ap₂, ◌∙◌, subst}
+use Rattle.std.proofs.Common.{◌≡◌, ◌==◌, ◌<◌, ◌+◌, ℕ, List, [], ◌∷◌, ◌++◌, map, drop, length, get_or, Bool, true, false, ◌||◌, Ordering, Less, Equal, Greater, is_eq, inl, inr, Option, Some, None, option_and_then, option_map, refl, sym, ap, ap₂, ◌∙◌, subst}
 use Rattle.std.proofs.Math.Path.{fun_ext}
 use Rattle.std.proofs.lemmas.Bool.{and_from, and_parts}
 use Rattle.std.proofs.lemmas.Bool.Decides.{Decides-eqb}
@@ -77,6 +77,10 @@ third true false c = refl
 third false true c = refl
 third false false c = refl
 
+pushed : (xs : List ℕ) (y : ℕ) (zs : List ℕ) → (xs ++ y ∷ []) ++ zs ≡ xs ++ y ∷ zs
+pushed [] y zs = refl
+pushed (x ∷ xs) y zs = ap (λ ws. x ∷ ws) (pushed xs y zs)
+
 module _ (a b : Judged) (side : Side) (f : Family) (vs : List Value) where
   -- the numbers of the references from a place on
   abbrev pub numbers_left : ℕ → List ℕ
@@ -99,7 +103,7 @@ module _ (a b : Judged) (side : Side) (f : Family) (vs : List Value) where
   more (Some k) ks = refl
 
   -- the references from a place on, of which the first has this number or none
-  named_left : (i : ℕ) (v : Value) (o : Option ℕ) → i < length vs → v ≡ get_or vs i v → o ≡ option_and_then (named_number a b side f) (as_str (view v)) → numbers_left i ≡ cons_option o (numbers_left (i + 1))
+  pub named_left : (i : ℕ) (v : Value) (o : Option ℕ) → i < length vs → v ≡ get_or vs i v → o ≡ option_and_then (named_number a b side f) (as_str (view v)) → numbers_left i ≡ cons_option o (numbers_left (i + 1))
   named_left i v o low is named =
       ap (λ ws. numbers_named a b side f (map view ws)) (drop_more vs i v low ∙ ap (λ w. w ∷ drop (i + 1) vs) (sym is))
       ∙ (more (option_and_then (key_named (on_side side a b).prefer (view (on_side side a b).tree) f) (as_str (view v))) (keys_named (on_side side a b).prefer (view (on_side side a b).tree) f (map view (drop (i + 1) vs)))
@@ -119,6 +123,16 @@ module _ (a b : Judged) (side : Side) (f : Family) (vs : List Value) where
         ∙ (third (number_set s.keys k) (is_eq (nat_cmp m k)) (number_set (numbers_left (i + 1)) k)
         ∙ (ap (λ ks. number_set s.keys k || number_set ks k) (sym (named_left i v (Some m) low is named)) ∙ h.same k)));
   }
+
+  -- ---- the numbers of references are put into a list one after another
+
+  pub one_listed : (ns : List ℕ) (i : ℕ) (v : Value) (m : ℕ) → i < length vs → v ≡ get_or vs i v → Some m ≡ option_and_then (named_number a b side f) (as_str (view v)) → ns ++ numbers_left i ≡ all_numbers
+      → (ns ++ m ∷ []) ++ numbers_left (i + 1) ≡ all_numbers
+  one_listed ns i v m low is named h = pushed ns m (numbers_left (i + 1)) ∙ (ap (λ xs. ns ++ xs) (sym (named_left i v (Some m) low is named)) ∙ h)
+
+  pub none_listed : (ns : List ℕ) (i : ℕ) (v : Value) → i < length vs → v ≡ get_or vs i v → None ≡ option_and_then (named_number a b side f) (as_str (view v)) → ns ++ numbers_left i ≡ all_numbers
+      → ns ++ numbers_left (i + 1) ≡ all_numbers
+  none_listed ns i v low is named h = ap (λ xs. ns ++ xs) (sym (named_left i v None low is named)) ∙ h
 
 -- ---- what is in a list
 
@@ -145,7 +159,7 @@ module _ {K : Type 0} (cmp : K → K → Ordering) (total : IsTotalOrder cmp) (e
       at Equal is h rest = inl (exact l k is)
       at Greater is h rest = inr (rest h)
 
-both_ways : (p q : Bool) → (p ≡ true → q ≡ true) → (q ≡ true → p ≡ true) → p ≡ q
+pub both_ways : (p q : Bool) → (p ≡ true → q ≡ true) → (q ≡ true → p ≡ true) → p ≡ q
 both_ways true q to back = sym (to refl)
 both_ways false true to back = back refl
 both_ways false false to back = refl

@@ -11,15 +11,19 @@ use Rattle.serde_json.specs.declared.value.Value.{Value}
 use Rattle.erd_check.specs.Wants.{class_of_object}
 use Rattle.erd_check.proofs.Rising.{all-Has}
 use Rattle.erd_meaning.proofs.accepted.References.{find-Some}
+use Rattle.erd_meaning.specs.Judged.{Judged}
 use Rattle.erd_meaning.specs.Keys.{Preference}
 use Rattle.erd_meaning.specs.Meaning.{SelectionRecord}
-use Rattle.erd_meaning.specs.NameParts.{NameParts}
-use Rattle.erd_meaning.specs.Records.{plain_member, selection_map, selection_record}
-use Rattle.erd_meaning.specs.SelectionNames.{name_cmp, name_in_class, selection_role}
-use Rattle.erd_meaning.specs.code.Orders.{name_cmp_total}
+use Rattle.erd_meaning.specs.code.NumberedNames.{NumberedParts, numbered_name_cmp, numbered_parts}
+use Rattle.erd_meaning.specs.code.NumberedOrders.{numbered_name_cmp_total}
+use Rattle.erd_meaning.specs.Records.{plain_member, selection_record}
+use Rattle.erd_meaning.specs.SelectionNames.{name_in_class, selection_role}
 use Rattle.erd_tables.specs.declared.class.Class.{Class}
 use Rattle.erd_compare.specs.code.Comparing.{Decides, IsWholeTree}
-use Rattle.erd_compare.specs.code.SelectionsByName.{IsByName, has_name, name_eq}
+use Rattle.erd_compare.specs.code.SelectionsByName.{IsByName, has_name, name_eq, numbered_map, rising_numbers}
+use Rattle.erd_compare.specs.code.NumberedSides.{on_side}
+use Rattle.erd_compare.specs.declared.numbers.side.Side.{Side}
+use Rattle.erd_compare.specs.declared.numbers.side.Side.TheVariants.{Left, Right}
 use Rattle.erd_compare.proofs.same_selections.NameMaps.{one_name}
 use Rattle.erd_compare.proofs.whole_trees.WholeTrees.{AreWholeTrees}
 
@@ -27,18 +31,18 @@ use Rattle.erd_compare.proofs.whole_trees.WholeTrees.{AreWholeTrees}
 
 -- a selection with its name
 abbrev pub Entry : Type 0
-Entry = NameParts × Bor Value
+Entry = NumberedParts × Bor Value
 
 -- the value of the selection with the name, if there is one
-abbrev pub seen_at : NameParts → List Entry → Option Data
+abbrev pub seen_at : NumberedParts → List Entry → Option Data
 seen_at q es = option_map (λ (v : Bor Value). view v.now) (lookup (name_eq q) es)
 
 -- a name is itself
-own_name : (k : NameParts) → name_eq k k ≡ true
-own_name k = ap is_eq (tied_itself name_cmp_total k)
+own_name : (k : NumberedParts) → name_eq k k ≡ true
+own_name k = ap is_eq (tied_itself numbered_name_cmp_total k)
 
 -- and names apart are so either way
-apart_either : (k q : NameParts) → name_eq k q ≡ false → name_eq q k ≡ false
+apart_either : (k q : NumberedParts) → name_eq k q ≡ false → name_eq q k ≡ false
 apart_either k q apart = at (name_eq q k) refl
   where
     at : (b : Bool) → name_eq q k ≡ b → b ≡ false
@@ -50,11 +54,11 @@ found_first : (e : Entry) (es : List Entry) → lookup (name_eq e.0) (e ∷ es) 
 found_first e es = rw (own_name e.0) refl
 
 -- and elsewhere what the others have
-found_later : (e : Entry) (es : List Entry) (q : NameParts) → name_eq e.0 q ≡ false → lookup (name_eq q) (e ∷ es) ≡ lookup (name_eq q) es
+found_later : (e : Entry) (es : List Entry) (q : NumberedParts) → name_eq e.0 q ≡ false → lookup (name_eq q) (e ∷ es) ≡ lookup (name_eq q) es
 found_later e es q apart = rw (apart_either e.0 q apart) refl
 
 -- a name that differs from all finds nothing
-found_none : (k : NameParts) (es : List Entry) → AllByRecursion (λ l. name_eq k l ≡ false) (keys_of es) → lookup (name_eq k) es ≡ None
+found_none : (k : NumberedParts) (es : List Entry) → AllByRecursion (λ l. name_eq k l ≡ false) (keys_of es) → lookup (name_eq k) es ≡ None
 found_none k [] h = refl
 found_none k (e ∷ es) h = rw h.0 (found_none k es h.1)
 
@@ -64,56 +68,62 @@ found_none k (e ∷ es) h = rw h.0 (found_none k es h.1)
 abbrev in_class : Preference → Data → Data → Class → SelectionRecord
 in_class π t d c = record { class = c; members = plain_member π t d c }
 
-module _ (π : Preference) (t : Data) (ds : List Data) where
+module _ (a b : Judged) (side : Side) (ds : List Data) where
+  abbrev π : Preference
+  π = (on_side side a b).prefer
+
+  abbrev t : Data
+  t = view (on_side side a b).tree
+
   -- a selection with a name has a class, and so it means something
-  means_something : (name : NameParts) (d : Data) → has_name π t name d ≡ true → selection_record π t d ≡ None → ⊥
+  means_something : (name : NumberedParts) (d : Data) → has_name a b side name d ≡ true → selection_record π t d ≡ None → ⊥
   means_something name d named = at (class_of_object selection_role d) named
     where
-      at : (o : Option Class) → is_eq (option_cmp name_cmp (option_map (λ c. name_in_class π t c d) o) (Some name)) ≡ true → option_map (in_class π t d) o ≡ None → ⊥
+      at : (o : Option Class) → is_eq (option_cmp numbered_name_cmp (option_map (λ n. numbered_parts n (rising_numbers a b side d)) (option_map (λ c. name_in_class π t c d) o)) (Some name)) ≡ true → option_map (in_class π t d) o ≡ None → ⊥
       at None h nothing = cc
       at (Some c) h nothing = cc
 
   -- what the map of the selections has at a name that one of them has, and that it has something there
-  record_at : (name : NameParts) (d : Data) → find (has_name π t name) ds ≡ Some d → selection_map π t ds name ≡ selection_record π t d
+  record_at : (name : NumberedParts) (d : Data) → find (has_name a b side name) ds ≡ Some d → numbered_map a b side ds name ≡ selection_record π t d
   record_at name d h = ap (option_and_then (selection_record π t)) h
 
-  something_at : (name : NameParts) (d : Data) → find (has_name π t name) ds ≡ Some d → selection_map π t ds name ≡ None → ⊥
-  something_at name d h nothing = means_something name d (find-Some (has_name π t name) ds d h).1 (sym (record_at name d h) ∙ nothing)
+  something_at : (name : NumberedParts) (d : Data) → find (has_name a b side name) ds ≡ Some d → numbered_map a b side ds name ≡ None → ⊥
+  something_at name d h nothing = means_something name d (find-Some (has_name a b side name) ds d h).1 (sym (record_at name d h) ∙ nothing)
 
   -- and nothing at others
-  nothing_at : (name : NameParts) → None ≡ find (has_name π t name) ds → selection_map π t ds name ≡ None
+  nothing_at : (name : NumberedParts) → None ≡ find (has_name a b side name) ds → numbered_map a b side ds name ≡ None
   nothing_at name h = ap (option_and_then (selection_record π t)) (sym h)
 
-  pub whole_at : AreWholeTrees ds → (name : NameParts) (d : Data) → find (has_name π t name) ds ≡ Some d → IsWholeTree d
-  whole_at whole name d h = all-Has IsWholeTree ds d whole (find-Some (has_name π t name) ds d h).0
+  pub whole_at : AreWholeTrees ds → (name : NumberedParts) (d : Data) → find (has_name a b side name) ds ≡ Some d → IsWholeTree d
+  whole_at whole name d h = all-Has IsWholeTree ds d whole (find-Some (has_name a b side name) ds d h).0
 
 -- ---- two contests
 
-module _ (π ρ : Preference) (t u : Data) (ds es : List Data) where
+module _ (a b : Judged) (ds es : List Data) where
   -- the maps of both
-  abbrev ones : NameParts → Option SelectionRecord
-  ones = selection_map π t ds
+  abbrev ones : NumberedParts → Option SelectionRecord
+  ones = numbered_map a b Left ds
 
-  abbrev others : NameParts → Option SelectionRecord
-  others = selection_map ρ u es
+  abbrev others : NumberedParts → Option SelectionRecord
+  others = numbered_map a b Right es
 
   -- a name that was passed: neither has it any more, and both mean the same there
-  record IsPassed (ls rs : List Entry) (q : NameParts) : Type 0 where
+  record IsPassed (ls rs : List Entry) (q : NumberedParts) : Type 0 where
     left : lookup (name_eq q) ls ≡ None
     right : lookup (name_eq q) rs ≡ None
     same : ones q ≡ others q
 
   -- a name that is left: each has the first selection with it
-  record IsLeft (ls rs : List Entry) (q : NameParts) : Type 0 where
-    left : seen_at q ls ≡ find (has_name π t q) ds
-    right : seen_at q rs ≡ find (has_name ρ u q) es
+  record IsLeft (ls rs : List Entry) (q : NumberedParts) : Type 0 where
+    left : seen_at q ls ≡ find (has_name a b Left q) ds
+    right : seen_at q rs ≡ find (has_name a b Right q) es
 
   -- what is left of the entries of both
   pub record AreSelectionsLeft (ls rs : List Entry) : Type 0 where
     distinct : IsDistinct name_eq (keys_of ls)
-    each : (q : NameParts) → IsPassed ls rs q ⊎ IsLeft ls rs q
+    each : (q : NumberedParts) → IsPassed ls rs q ⊎ IsLeft ls rs q
 
-  pub both_maps : (ls rs : List Entry) → IsDistinct name_eq (keys_of ls) → IsByName π t ds ls → IsByName ρ u es rs → AreSelectionsLeft ls rs
+  pub both_maps : (ls rs : List Entry) → IsDistinct name_eq (keys_of ls) → IsByName a b Left ds ls → IsByName a b Right es rs → AreSelectionsLeft ls rs
   both_maps ls rs distinct mine its = record { distinct = distinct; each = λ q. inr (record { left = mine q; right = its q }) }
 
   -- what the selections have at the name of the next entry
@@ -124,28 +134,28 @@ module _ (π ρ : Preference) (t u : Data) (ds es : List Data) where
       at (inl passed) = let clash : Some e.1 ≡ None = sym (found_first e ls) ∙ passed.left in cc
       at (inr left) = left
 
-  pub own_left : (e : Entry) (ls rs : List Entry) → AreSelectionsLeft (e ∷ ls) rs → find (has_name π t e.0) ds ≡ Some (view e.1.now)
+  pub own_left : (e : Entry) (ls rs : List Entry) → AreSelectionsLeft (e ∷ ls) rs → find (has_name a b Left e.0) ds ≡ Some (view e.1.now)
   own_left e ls rs h = sym (next_left e ls rs h).left ∙ ap (option_map (λ (v : Bor Value). view v.now)) (found_first e ls)
 
-  pub own_right : (e : Entry) (w : Bor Value) (ls rs : List Entry) → AreSelectionsLeft (e ∷ ls) rs → Some w ≡ lookup (name_eq e.0) rs → find (has_name ρ u e.0) es ≡ Some (view w.now)
+  pub own_right : (e : Entry) (w : Bor Value) (ls rs : List Entry) → AreSelectionsLeft (e ∷ ls) rs → Some w ≡ lookup (name_eq e.0) rs → find (has_name a b Right e.0) es ≡ Some (view w.now)
   own_right e w ls rs h taken = sym (next_left e ls rs h).right ∙ ap (option_map (λ (v : Bor Value). view v.now)) (sym taken)
 
   -- an entry of the left alone
   pub left_alone : (e : Entry) (ls rs : List Entry) → AreSelectionsLeft (e ∷ ls) rs → None ≡ lookup (name_eq e.0) rs → ones ≡ others → ⊥
   left_alone e ls rs h none same =
-      something_at π t ds e.0 (view e.1.now) (own_left e ls rs h)
-      (ap (λ m. m e.0) same ∙ nothing_at ρ u es e.0 (ap (option_map (λ (v : Bor Value). view v.now)) none ∙ (next_left e ls rs h).right))
+      something_at a b Left ds e.0 (view e.1.now) (own_left e ls rs h)
+      (ap (λ m. m e.0) same ∙ nothing_at a b Right es e.0 (ap (option_map (λ (v : Bor Value). view v.now)) none ∙ (next_left e ls rs h).right))
 
   -- entries of one name, which mean different things
   pub differ : (e : Entry) (w : Bor Value) (ls rs : List Entry) → AreSelectionsLeft (e ∷ ls) rs → Some w ≡ lookup (name_eq e.0) rs
-      → (selection_record π t (view e.1.now) ≡ selection_record ρ u (view w.now) → ⊥) → ones ≡ others → ⊥
+      → (selection_record a.prefer (view a.tree) (view e.1.now) ≡ selection_record b.prefer (view b.tree) (view w.now) → ⊥) → ones ≡ others → ⊥
   differ e w ls rs h taken unequal same =
-      unequal (sym (record_at π t ds e.0 (view e.1.now) (own_left e ls rs h)) ∙ (ap (λ m. m e.0) same ∙ record_at ρ u es e.0 (view w.now) (own_right e w ls rs h taken)))
+      unequal (sym (record_at a b Left ds e.0 (view e.1.now) (own_left e ls rs h)) ∙ (ap (λ m. m e.0) same ∙ record_at a b Right es e.0 (view w.now) (own_right e w ls rs h taken)))
 
   -- entries of one name, which mean the same
   pub both_passed : (e : Entry) (w : Bor Value) (ls rs rs' : List Entry) → AreSelectionsLeft (e ∷ ls) rs → Some w ≡ lookup (name_eq e.0) rs
-      → ((q : NameParts) → lookup (name_eq q) rs' ≡ cond (name_eq e.0 q) None (lookup (name_eq q) rs))
-      → selection_record π t (view e.1.now) ≡ selection_record ρ u (view w.now) → AreSelectionsLeft ls rs'
+      → ((q : NumberedParts) → lookup (name_eq q) rs' ≡ cond (name_eq e.0 q) None (lookup (name_eq q) rs))
+      → selection_record a.prefer (view a.tree) (view e.1.now) ≡ selection_record b.prefer (view b.tree) (view w.now) → AreSelectionsLeft ls rs'
   unfolding IsDistinct
   both_passed e w ls rs rs' h taken updates equal = record { distinct = h.distinct.1; each = λ q. at q (name_eq e.0 q) refl }
     where
@@ -153,13 +163,13 @@ module _ (π ρ : Preference) (t u : Data) (ds es : List Data) where
       here = record {
         left = found_none e.0 ls h.distinct.0;
         right = updates e.0 ∙ ap (λ b. cond b None (lookup (name_eq e.0) rs)) (own_name e.0);
-        same = record_at π t ds e.0 (view e.1.now) (own_left e ls rs h) ∙ (equal ∙ sym (record_at ρ u es e.0 (view w.now) (own_right e w ls rs h taken)));
+        same = record_at a b Left ds e.0 (view e.1.now) (own_left e ls rs h) ∙ (equal ∙ sym (record_at a b Right es e.0 (view w.now) (own_right e w ls rs h taken)));
       }
 
-      elsewhere : (q : NameParts) → name_eq e.0 q ≡ false → lookup (name_eq q) rs' ≡ lookup (name_eq q) rs
+      elsewhere : (q : NumberedParts) → name_eq e.0 q ≡ false → lookup (name_eq q) rs' ≡ lookup (name_eq q) rs
       elsewhere q apart = updates q ∙ ap (λ b. cond b None (lookup (name_eq q) rs)) apart
 
-      at : (q : NameParts) (b : Bool) → name_eq e.0 q ≡ b → IsPassed ls rs' q ⊎ IsLeft ls rs' q
+      at : (q : NumberedParts) (b : Bool) → name_eq e.0 q ≡ b → IsPassed ls rs' q ⊎ IsLeft ls rs' q
       at q true e' = inl (subst (IsPassed ls rs') (one_name e.0 q e') here)
       at q false e' = by (h.each q)
         where
@@ -174,9 +184,9 @@ module _ (π ρ : Preference) (t u : Data) (ds es : List Data) where
   all_passed : AreSelectionsLeft [] [] → ones ≡ others
   all_passed h = fun_ext (λ q. at q (h.each q))
     where
-      at : (q : NameParts) → IsPassed [] [] q ⊎ IsLeft [] [] q → ones q ≡ others q
+      at : (q : NumberedParts) → IsPassed [] [] q ⊎ IsLeft [] [] q → ones q ≡ others q
       at q (inl passed) = passed.same
-      at q (inr left) = nothing_at π t ds q left.left ∙ sym (nothing_at ρ u es q left.right)
+      at q (inr left) = nothing_at a b Left ds q left.left ∙ sym (nothing_at a b Right es q left.right)
 
   -- an entry of the right alone
   right_alone : (g : Entry) (rs : List Entry) → AreSelectionsLeft [] (g ∷ rs) → ones ≡ others → ⊥
@@ -185,8 +195,8 @@ module _ (π ρ : Preference) (t u : Data) (ds es : List Data) where
       at : IsPassed [] (g ∷ rs) g.0 ⊎ IsLeft [] (g ∷ rs) g.0 → ⊥
       at (inl passed) = let clash : Some g.1 ≡ None = sym (found_first g rs) ∙ passed.right in cc
       at (inr left) =
-          something_at ρ u es g.0 (view g.1.now) (sym left.right ∙ ap (option_map (λ (v : Bor Value). view v.now)) (found_first g rs))
-          (sym (ap (λ m. m g.0) same) ∙ nothing_at π t ds g.0 left.left)
+          something_at a b Right es g.0 (view g.1.now) (sym left.right ∙ ap (option_map (λ (v : Bor Value). view v.now)) (found_first g rs))
+          (sym (ap (λ m. m g.0) same) ∙ nothing_at a b Left ds g.0 left.left)
 
   -- at the end nothing is left of the right exactly if both mean the same
   pub ended : (answer : Bool) (rs : List Entry) → AreSelectionsLeft [] rs → ((answer ≡ true) ↔ (length rs ≡ 0)) → Decides answer ones others

@@ -8,11 +8,13 @@ ghost use Rattle.erd_compare.specs.code.LeastNames.{IsObject};
 ghost use Rattle.erd_compare.specs.code.SelectionMembers.{if_filled, selections_meant};
 ghost use Rattle.erd_compare.specs.code.SelectionsByName.{IsByName};
 
+use crate::numbers::side::Side;
 use crate::objects::member_names::{NamesLeft, lesser_name};
+use crate::objects::numbered_names::numbered_name;
 use crate::objects::plain_members::is_same_plain_member;
 use crate::sides::Sides;
 use erd_check::values::{class_of_object, entries_of, is_empty_array};
-use erd_meaning::{Report, SelectionName};
+use erd_meaning::NumberedName;
 use erd_tables::{Class, Family, Role};
 use indexmap::IndexMap;
 use serde_json::Value;
@@ -64,8 +66,8 @@ fn is_same_selection_map(
     ensures { IfOk result (λ answer. Decides answer (selection_map sides.entry.left.now.prefer (view sides.entry.left.now.tree) (map view ones.now))
         (selection_map sides.entry.right.now.prefer (view sides.entry.right.now.tree) (map view others.now))) }
 {
-    let ones = by_name(alloc, sides.left, ones)?;
-    let mut others = by_name(alloc, sides.right, others)?;
+    let ones = by_name(alloc, sides, Side::Left, ones)?;
+    let mut others = by_name(alloc, sides, Side::Right, others)?;
     for (name, one) in &ones {
         let Some(other) = others.swap_remove(name) else {
             return Ok(false);
@@ -77,18 +79,19 @@ fn is_same_selection_map(
     Ok(others.is_empty())
 }
 
-/// The selections of a contest of the report by name. If several have the same name, the first one counts.
+/// The selections of a contest by name, with numbers in place of keys. If several have the same name, the first one counts.
 fn by_name<'a>(
     alloc: Global,
-    report: &Report,
+    sides: Sides,
+    side: Side,
     selections: &'a [Value],
-) -> Result<IndexMap<SelectionName, &'a Value>, AllocError>
+) -> Result<IndexMap<NumberedName<'a>, &'a Value>, AllocError>
     requires { AllByRecursion (λ v. IsWholeTree (view v)) selections.now }
-    ensures { IfOk result (λ named. IsByName report.now.prefer (view report.now.tree) (map view selections.now) named.entries) }
+    ensures { IfOk result (λ named. IsByName sides.entry.left.now sides.entry.right.now side (map view selections.now) named.entries) }
 {
     let mut named = IndexMap::new(alloc);
     for selection in selections {
-        if let Some(name) = report.name_of(alloc, selection)? {
+        if let Some(name) = numbered_name(alloc, sides, side, selection)? {
             if !named.contains_key(&name) {
                 named.insert(name, selection)?;
             }

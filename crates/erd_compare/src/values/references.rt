@@ -112,3 +112,23 @@ fn named_numbers(
     }
     Ok(numbers)
 }
+
+/// The numbers of the objects of a family that the references name, in the order of the references.
+pub(crate) fn list_of_numbers(
+    alloc: Global,
+    sides: Sides,
+    side: Side,
+    family: Family,
+    values: &[Value],
+) -> Result<Vec<usize>, AllocError>
+    requires keyed { has_keys family ≡ true }
+    ensures { IfOk result (λ numbers. numbers.items ≡ numbers_named sides.entry.left.now sides.entry.right.now side family (map view values.now)) }
+{
+    let mut numbers = Vec::new(alloc);
+    for value in values {
+        if let Some(number) = number_named(sides, side, family, value) {
+            numbers.push(number)?;
+        }
+    }
+    Ok(numbers)
+}

@@ -1,95 +1,83 @@
-use Rattle.std.proofs.Common.{map, true≢false, sym, ◌∙◌, subst}
+use Rattle.std.proofs.Common.{map, false, true≢false, sym, ◌∙◌, subst}
 use Rattle.serde_json.specs.View.{view}
-use Rattle.erd_meaning.specs.Records.{selection_map}
+use Rattle.erd_compare.specs.code.SelectionsByName.{numbered_map}
+use Rattle.erd_compare.specs.declared.numbers.side.Side.TheVariants.{Left, Right}
+use Rattle.erd_compare.proofs.same_numbers.NumberedSelections.{maps_decide}
 use Rattle.erd_compare.proofs.same_selections.SelectionWalks.{AreSelectionsLeft, Entry, both_maps, both_passed, decided_not, differ, ended, left_alone, own_left, own_right, whole_at}
 use Rattle.erd_compare.proofs.whole_trees.WholeTrees.{whole_trees-views}
 use Rattle.erd_compare.proofs.objects.selections.is_same_selection_map.Goals as goal
 
 pub loop-name-init : goal.loop-name-init
 loop-name-init c =
-    let π = c.args.sides.left.now.prefer in
-    let ρ = c.args.sides.right.now.prefer in
-    let t = view c.args.sides.left.now.tree in
-    let u = view c.args.sides.right.now.tree in
+    let a = c.args.sides.left.now in
+    let b = c.args.sides.right.now in
     let ds = map view c.args.ones.now in
     let es = map view c.args.others.now in
     let gives = c.into_iter-name-iterator.ensures.into_iter_gives in
-    subst (λ ls. AreSelectionsLeft π ρ t u ds es ls c.in_ok-others.others.entries) (sym gives.0)
-    (both_maps π ρ t u ds es c.in_ok-ones.ones.entries c.in_ok-others.others.entries gives.4 c.in_ok-ones.ensures c.in_ok-others.ensures)
+    subst (λ ls. AreSelectionsLeft a b ds es ls c.in_ok-others.others.entries) (sym gives.0)
+    (both_maps a b ds es c.in_ok-ones.ones.entries c.in_ok-others.others.entries gives.4 c.in_ok-ones.ensures c.in_ok-others.ensures)
 
 pub returns-in_default : goal.returns-in_default
 returns-in_default c =
-    let π = c.args.sides.left.now.prefer in
-    let ρ = c.args.sides.right.now.prefer in
-    let t = view c.args.sides.left.now.tree in
-    let u = view c.args.sides.right.now.tree in
+    let a = c.args.sides.left.now in
+    let b = c.args.sides.right.now in
     let ds = map view c.args.ones.now in
     let es = map view c.args.others.now in
     let e : Entry = (c.in-Some.name.now, c.in-Some.one.now) in
-    let h = subst (λ ls. AreSelectionsLeft π ρ t u ds es ls c.loop-name.others.entries) c.in-Some.ensures.steps c.loop-name.invariant in
-    decided_not (selection_map π t ds) (selection_map ρ u es) (left_alone π ρ t u ds es e c.next.new.self c.loop-name.others.entries h c.in_default.ensures.value)
+    let h = subst (λ ls. AreSelectionsLeft a b ds es ls c.loop-name.others.entries) c.in-Some.ensures.steps c.loop-name.invariant in
+    maps_decide a b ds es false (decided_not (numbered_map a b Left ds) (numbered_map a b Right es) (left_alone a b ds es e c.next.new.self c.loop-name.others.entries h c.in_default.ensures.value))
 
 pub is_same_selection-requires-clause-one : goal.is_same_selection-requires-clause-one
 is_same_selection-requires-clause-one c =
-    let π = c.args.sides.left.now.prefer in
-    let ρ = c.args.sides.right.now.prefer in
-    let t = view c.args.sides.left.now.tree in
-    let u = view c.args.sides.right.now.tree in
+    let a = c.args.sides.left.now in
+    let b = c.args.sides.right.now in
     let ds = map view c.args.ones.now in
     let es = map view c.args.others.now in
     let e : Entry = (c.in-Some.name.now, c.in-Some.one.now) in
-    let h = subst (λ ls. AreSelectionsLeft π ρ t u ds es ls c.loop-name.others.entries) c.in-Some.ensures.steps c.loop-name.invariant in
-    whole_at π t ds (whole_trees-views c.args.ones.now c.requires.ones) e.0 (view e.1.now) (own_left π ρ t u ds es e c.next.new.self c.loop-name.others.entries h)
+    let h = subst (λ ls. AreSelectionsLeft a b ds es ls c.loop-name.others.entries) c.in-Some.ensures.steps c.loop-name.invariant in
+    whole_at a b Left ds (whole_trees-views c.args.ones.now c.requires.ones) e.0 (view e.1.now) (own_left a b ds es e c.next.new.self c.loop-name.others.entries h)
 
 pub is_same_selection-requires-clause-other : goal.is_same_selection-requires-clause-other
 is_same_selection-requires-clause-other c =
-    let π = c.args.sides.left.now.prefer in
-    let ρ = c.args.sides.right.now.prefer in
-    let t = view c.args.sides.left.now.tree in
-    let u = view c.args.sides.right.now.tree in
+    let a = c.args.sides.left.now in
+    let b = c.args.sides.right.now in
     let ds = map view c.args.ones.now in
     let es = map view c.args.others.now in
     let e : Entry = (c.in-Some.name.now, c.in-Some.one.now) in
     let w = c.in-Some-swap_remove.other in
-    let h = subst (λ ls. AreSelectionsLeft π ρ t u ds es ls c.loop-name.others.entries) c.in-Some.ensures.steps c.loop-name.invariant in
-    whole_at ρ u es (whole_trees-views c.args.others.now c.requires.others) e.0 (view w.now) (own_right π ρ t u ds es e w c.next.new.self c.loop-name.others.entries h c.in-Some-swap_remove.ensures.value)
+    let h = subst (λ ls. AreSelectionsLeft a b ds es ls c.loop-name.others.entries) c.in-Some.ensures.steps c.loop-name.invariant in
+    whole_at a b Right es (whole_trees-views c.args.others.now c.requires.others) e.0 (view w.now) (own_right a b ds es e w c.next.new.self c.loop-name.others.entries h c.in-Some-swap_remove.ensures.value)
 
 pub returns-then-not-branch : goal.returns-then-not-branch
 returns-then-not-branch c =
-    let π = c.args.sides.left.now.prefer in
-    let ρ = c.args.sides.right.now.prefer in
-    let t = view c.args.sides.left.now.tree in
-    let u = view c.args.sides.right.now.tree in
+    let a = c.args.sides.left.now in
+    let b = c.args.sides.right.now in
     let ds = map view c.args.ones.now in
     let es = map view c.args.others.now in
     let e : Entry = (c.in-Some.name.now, c.in-Some.one.now) in
     let w = c.in-Some-swap_remove.other in
-    let h = subst (λ ls. AreSelectionsLeft π ρ t u ds es ls c.loop-name.others.entries) c.in-Some.ensures.steps c.loop-name.invariant in
-    decided_not (selection_map π t ds) (selection_map ρ u es)
-    (differ π ρ t u ds es e w c.next.new.self c.loop-name.others.entries h c.in-Some-swap_remove.ensures.value
-    (λ same. absurd (true≢false (sym (c.in_ok-is_same_selection.ensures.1 same) ∙ c.if-not-branch.true))))
+    let h = subst (λ ls. AreSelectionsLeft a b ds es ls c.loop-name.others.entries) c.in-Some.ensures.steps c.loop-name.invariant in
+    maps_decide a b ds es false (decided_not (numbered_map a b Left ds) (numbered_map a b Right es)
+    (differ a b ds es e w c.next.new.self c.loop-name.others.entries h c.in-Some-swap_remove.ensures.value
+    (λ same. absurd (true≢false (sym (c.in_ok-is_same_selection.ensures.1 same) ∙ c.if-not-branch.true)))))
 
 pub loop-name-preserved : goal.loop-name-preserved
 loop-name-preserved c =
-    let π = c.args.sides.left.now.prefer in
-    let ρ = c.args.sides.right.now.prefer in
-    let t = view c.args.sides.left.now.tree in
-    let u = view c.args.sides.right.now.tree in
+    let a = c.args.sides.left.now in
+    let b = c.args.sides.right.now in
     let ds = map view c.args.ones.now in
     let es = map view c.args.others.now in
     let e : Entry = (c.in-Some.name.now, c.in-Some.one.now) in
     let w = c.in-Some-swap_remove.other in
-    let h = subst (λ ls. AreSelectionsLeft π ρ t u ds es ls c.loop-name.others.entries) c.in-Some.ensures.steps c.loop-name.invariant in
-    both_passed π ρ t u ds es e w c.next.new.self c.loop-name.others.entries c.swap_remove.new.self.entries h c.in-Some-swap_remove.ensures.value
+    let h = subst (λ ls. AreSelectionsLeft a b ds es ls c.loop-name.others.entries) c.in-Some.ensures.steps c.loop-name.invariant in
+    both_passed a b ds es e w c.next.new.self c.loop-name.others.entries c.swap_remove.new.self.entries h c.in-Some-swap_remove.ensures.value
     c.in-Some-swap_remove.ensures.updates.0 (c.in_ok-is_same_selection.ensures.0 c.if-not-branch.false)
 
 pub returns : goal.returns
 returns c =
-    let π = c.args.sides.left.now.prefer in
-    let ρ = c.args.sides.right.now.prefer in
-    let t = view c.args.sides.left.now.tree in
-    let u = view c.args.sides.right.now.tree in
+    let a = c.args.sides.left.now in
+    let b = c.args.sides.right.now in
     let ds = map view c.args.ones.now in
     let es = map view c.args.others.now in
-    let h = subst (λ ls. AreSelectionsLeft π ρ t u ds es ls c.loop-name.others.entries) c.in-None.ensures.steps.0 c.loop-name.invariant in
-    ended π ρ t u ds es c.is_empty.result c.loop-name.others.entries h c.is_empty.ensures
+    let h = subst (λ ls. AreSelectionsLeft a b ds es ls c.loop-name.others.entries) c.in-None.ensures.steps.0 c.loop-name.invariant in
+    maps_decide a b ds es c.is_empty.result (ended a b ds es c.is_empty.result c.loop-name.others.entries h c.is_empty.ensures)

@@ -5,4 +5,4 @@ use Rattle.erd_compare.proofs.objects.selections.is_same_selection_map.Given as 
 
 abbrev pub invariant-loop-name : goal.invariant-loop-name
 invariant-loop-name l =
-    AreSelectionsLeft l.sides.left.now.prefer l.sides.right.now.prefer (view l.sides.left.now.tree) (view l.sides.right.now.tree) (map view l.fn.ones) (map view l.fn.others) l.name-iterator l.others.entries
+    AreSelectionsLeft l.sides.left.now l.sides.right.now (map view l.fn.ones) (map view l.fn.others) l.name-iterator l.others.entries
