@@ -8,7 +8,7 @@ mod tables;
 
 use crate::difference::{Difference, Part};
 use crate::first::parts::part_difference;
-use crate::numbers::making::key_tables;
+use crate::numbers::making::tables_of_both;
 use crate::sides::Sides;
 use erd_meaning::Report;
 use std::alloc::{AllocError, Global};
@@ -51,7 +51,7 @@ pub fn first_difference(
     requires one_preference { left.now.prefer ≡ right.now.prefer }
     ensures { IfOk result (IsDifference (meaning left.now.prefer (view left.now.tree)) (meaning right.now.prefer (view right.now.tree))) }
 {
-    let tables = key_tables(alloc, left, right)?;
+    let tables = tables_of_both(alloc, left, right)?;
     let sides = Sides {
         left,
         right,

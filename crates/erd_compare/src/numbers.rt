@@ -1,7 +1,7 @@
 //! Numbers in place of keys. The keys of both reports are sorted once, and each key of the right report is looked up once
 //! among those of the left report. From then on numbers are compared.
 
-pub(crate) mod key_tables;
+pub(crate) mod kept_tables;
 pub(crate) mod lookups;
 pub(crate) mod making;
 pub(crate) mod role_objects;

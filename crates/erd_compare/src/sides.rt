@@ -1,7 +1,7 @@
 ghost use Rattle.erd_compare.specs.code.CommonNumbers.{AreCommonNumbers, tables_of};
 ghost use Rattle.erd_compare.specs.declared.difference.Part.{Part};
 
-use crate::numbers::key_tables::KeyTables;
+use crate::numbers::kept_tables::KeyTables;
 use erd_meaning::Report;
 
 /// The two reports that are compared. Elsewhere, `one` and `ones` belong to the left report, and `other` and `others` to the

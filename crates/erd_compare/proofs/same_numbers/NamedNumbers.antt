@@ -20,7 +20,7 @@ use Rattle.erd_meaning.proofs.accepted.References.{find-Some, option_map-Some}
 use Rattle.erd_meaning.proofs.finding.OwnedObjects.{position_of}
 use Rattle.erd_compare.specs.code.CommonNumbers.{number_of_key, part_of_family}
 use Rattle.erd_compare.specs.code.KeyedDifferences.{HasKeyAt, holder_in, holder_key_in, key_in_role, key_with_role, role_of_part}
-use Rattle.erd_compare.specs.code.NumberedSides.{IsNumberAt, named_number, on_side}
+use Rattle.erd_compare.specs.code.NumberedSides.{IsNumberAt, number_with_id, on_side}
 use Rattle.erd_compare.specs.declared.difference.Part.{Part}
 use Rattle.erd_compare.specs.declared.difference.Part.TheVariants as part
 use Rattle.erd_compare.specs.declared.numbers.side.Side.{Side}
@@ -83,13 +83,13 @@ module _ (a b : Judged) (side : Side) (f : Family) (keyed : has_keys f ≡ true)
   numbers o = option_map (number_of_key a b (part_of_family f)) o
 
   pub named_here : (g : Family) (i : ℕ) → FindsId t' id (Some (g, i)) → (family_number g == family_number f) ≡ true
-      → numbers (key_in_role π' (role_of_part (part_of_family f)) t' i) ≡ named_number a b side f id
+      → numbers (key_in_role π' (role_of_part (part_of_family f)) t' i) ≡ number_with_id a b side f id
   named_here g i finds same = ap (λ r. numbers (key_in_role π' r t' i)) (its_role f keyed) ∙ ap numbers (key_here π' t' f id g i keyed finds same)
 
-  pub named_elsewhere : (g : Family) (i : ℕ) → FindsId t' id (Some (g, i)) → (family_number g == family_number f) ≡ false → None ≡ named_number a b side f id
+  pub named_elsewhere : (g : Family) (i : ℕ) → FindsId t' id (Some (g, i)) → (family_number g == family_number f) ≡ false → None ≡ number_with_id a b side f id
   named_elsewhere g i finds other = ap numbers (key_elsewhere π' t' f id g i finds other)
 
-  pub named_nowhere : FindsId t' id None → None ≡ named_number a b side f id
+  pub named_nowhere : FindsId t' id None → None ≡ number_with_id a b side f id
   named_nowhere finds = ap numbers (key_nowhere π' t' f id finds)
 
 -- ---- which keys have numbers
@@ -129,12 +129,12 @@ module _ (a b : Judged) (side : Side) where
 
 -- a value names the number of the key that it names
 pub value_named : (a b : Judged) (side : Side) (f : Family) (text : Option (List ℕ))
-    → option_and_then (named_number a b side f) text ≡ option_map (number_of_key a b (part_of_family f)) (option_and_then (key_named (on_side side a b).prefer (view (on_side side a b).tree) f) text)
+    → option_and_then (number_with_id a b side f) text ≡ option_map (number_of_key a b (part_of_family f)) (option_and_then (key_named (on_side side a b).prefer (view (on_side side a b).tree) f) text)
 value_named a b side f None = refl
 value_named a b side f (Some id) = refl
 
 -- the numbers of what two references name tell whether it has one key
-pub values_decide : (a b : Judged) (f : Family) → has_keys f ≡ true → (one other : Option (List ℕ)) (m n : Option ℕ) (answer : Bool) → m ≡ option_and_then (named_number a b Left f) one → n ≡ option_and_then (named_number a b Right f) other
+pub values_decide : (a b : Judged) (f : Family) → has_keys f ≡ true → (one other : Option (List ℕ)) (m n : Option ℕ) (answer : Bool) → m ≡ option_and_then (number_with_id a b Left f) one → n ≡ option_and_then (number_with_id a b Right f) other
     → answer ≡ option_eq ◌==◌ m n → Decides answer (option_and_then (key_named a.prefer (view a.tree) f) one) (option_and_then (key_named b.prefer (view b.tree) f) other)
 values_decide a b f keyed one other m n answer mine its is =
     decides_as (is ∙ ap₂ (option_eq ◌==◌) (mine ∙ value_named a b Left f one) (its ∙ value_named a b Right f other)) refl refl

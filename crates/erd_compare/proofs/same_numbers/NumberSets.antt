@@ -29,7 +29,7 @@ use Rattle.erd_meaning.specs.declared.keys.key.Key.{Key}
 use Rattle.erd_meaning.specs.Meaning.{KeySet}
 use Rattle.erd_compare.specs.code.Comparing.{Decides}
 use Rattle.erd_compare.specs.code.CommonNumbers.{number_of_key, part_of_family}
-use Rattle.erd_compare.specs.code.NumberedSides.{IsNumberSet, named_number, number_set, numbers_named, on_side}
+use Rattle.erd_compare.specs.code.NumberedSides.{IsNumberSet, number_with_id, number_set, list_of_numbers, on_side}
 use Rattle.erd_compare.specs.declared.difference.Part.{Part}
 use Rattle.erd_compare.specs.declared.numbers.side.Side.{Side}
 use Rattle.erd_compare.proofs.same_numbers.KeyNumbers.{both_keys, one_number}
@@ -84,10 +84,10 @@ pushed (x ∷ xs) y zs = ap (λ ws. x ∷ ws) (pushed xs y zs)
 module _ (a b : Judged) (side : Side) (f : Family) (vs : List Value) where
   -- the numbers of the references from a place on
   abbrev pub numbers_left : ℕ → List ℕ
-  numbers_left i = numbers_named a b side f (map view (drop i vs))
+  numbers_left i = list_of_numbers a b side f (map view (drop i vs))
 
   abbrev pub all_numbers : List ℕ
-  all_numbers = numbers_named a b side f (map view vs)
+  all_numbers = list_of_numbers a b side f (map view vs)
 
   pub none_put : (s : BTreeSet ℕ) → s.keys ≡ [] → IsStrictlySortedBy nat_cmp s.keys → IsCollecting all_numbers (numbers_left 0) s
   none_put s none rises = record { rises = rises; same = λ n. rw none refl }
@@ -95,7 +95,7 @@ module _ (a b : Judged) (side : Side) (f : Family) (vs : List Value) where
   pub all_put : (s : BTreeSet ℕ) (i : ℕ) → drop i vs ≡ [] → IsCollecting all_numbers (numbers_left i) s → IsNumberSet all_numbers s
   all_put s i none h = record {
     rises = h.rises;
-    same = λ n. sym (nothing_more (number_set s.keys n)) ∙ (ap (λ ws. number_set s.keys n || number_set (numbers_named a b side f (map view ws)) n) (sym none) ∙ h.same n);
+    same = λ n. sym (nothing_more (number_set s.keys n)) ∙ (ap (λ ws. number_set s.keys n || number_set (list_of_numbers a b side f (map view ws)) n) (sym none) ∙ h.same n);
   }
 
   more : (o : Option Key) (ks : List Key) → map (number_of_key a b (part_of_family f)) (cons_option o ks) ≡ cons_option (option_map (number_of_key a b (part_of_family f)) o) (map (number_of_key a b (part_of_family f)) ks)
@@ -103,17 +103,17 @@ module _ (a b : Judged) (side : Side) (f : Family) (vs : List Value) where
   more (Some k) ks = refl
 
   -- the references from a place on, of which the first has this number or none
-  pub named_left : (i : ℕ) (v : Value) (o : Option ℕ) → i < length vs → v ≡ get_or vs i v → o ≡ option_and_then (named_number a b side f) (as_str (view v)) → numbers_left i ≡ cons_option o (numbers_left (i + 1))
+  pub named_left : (i : ℕ) (v : Value) (o : Option ℕ) → i < length vs → v ≡ get_or vs i v → o ≡ option_and_then (number_with_id a b side f) (as_str (view v)) → numbers_left i ≡ cons_option o (numbers_left (i + 1))
   named_left i v o low is named =
-      ap (λ ws. numbers_named a b side f (map view ws)) (drop_more vs i v low ∙ ap (λ w. w ∷ drop (i + 1) vs) (sym is))
+      ap (λ ws. list_of_numbers a b side f (map view ws)) (drop_more vs i v low ∙ ap (λ w. w ∷ drop (i + 1) vs) (sym is))
       ∙ (more (option_and_then (key_named (on_side side a b).prefer (view (on_side side a b).tree) f) (as_str (view v))) (keys_named (on_side side a b).prefer (view (on_side side a b).tree) f (map view (drop (i + 1) vs)))
       ∙ ap (λ x. cons_option x (numbers_left (i + 1))) (sym (named ∙ value_named a b side f (as_str (view v)))))
 
-  pub unnamed : (s : BTreeSet ℕ) (i : ℕ) (v : Value) → i < length vs → v ≡ get_or vs i v → None ≡ option_and_then (named_number a b side f) (as_str (view v)) → IsCollecting all_numbers (numbers_left i) s
+  pub unnamed : (s : BTreeSet ℕ) (i : ℕ) (v : Value) → i < length vs → v ≡ get_or vs i v → None ≡ option_and_then (number_with_id a b side f) (as_str (view v)) → IsCollecting all_numbers (numbers_left i) s
       → IsCollecting all_numbers (numbers_left (i + 1)) s
   unnamed s i v low is named h = subst (λ ns. IsCollecting all_numbers ns s) (named_left i v None low is named) h
 
-  pub one_put : (s n : BTreeSet ℕ) (i : ℕ) (v : Value) (m : ℕ) → i < length vs → v ≡ get_or vs i v → Some m ≡ option_and_then (named_number a b side f) (as_str (view v)) → n.keys ≡ insert_key nat_cmp s.keys m
+  pub one_put : (s n : BTreeSet ℕ) (i : ℕ) (v : Value) (m : ℕ) → i < length vs → v ≡ get_or vs i v → Some m ≡ option_and_then (number_with_id a b side f) (as_str (view v)) → n.keys ≡ insert_key nat_cmp s.keys m
       → IsStrictlySortedBy nat_cmp n.keys → IsCollecting all_numbers (numbers_left i) s → IsCollecting all_numbers (numbers_left (i + 1)) n
   one_put s n i v m low is named keys rises h = record {
     rises = rises;
@@ -126,11 +126,11 @@ module _ (a b : Judged) (side : Side) (f : Family) (vs : List Value) where
 
   -- ---- the numbers of references are put into a list one after another
 
-  pub one_listed : (ns : List ℕ) (i : ℕ) (v : Value) (m : ℕ) → i < length vs → v ≡ get_or vs i v → Some m ≡ option_and_then (named_number a b side f) (as_str (view v)) → ns ++ numbers_left i ≡ all_numbers
+  pub one_listed : (ns : List ℕ) (i : ℕ) (v : Value) (m : ℕ) → i < length vs → v ≡ get_or vs i v → Some m ≡ option_and_then (number_with_id a b side f) (as_str (view v)) → ns ++ numbers_left i ≡ all_numbers
       → (ns ++ m ∷ []) ++ numbers_left (i + 1) ≡ all_numbers
   one_listed ns i v m low is named h = pushed ns m (numbers_left (i + 1)) ∙ (ap (λ xs. ns ++ xs) (sym (named_left i v (Some m) low is named)) ∙ h)
 
-  pub none_listed : (ns : List ℕ) (i : ℕ) (v : Value) → i < length vs → v ≡ get_or vs i v → None ≡ option_and_then (named_number a b side f) (as_str (view v)) → ns ++ numbers_left i ≡ all_numbers
+  pub none_listed : (ns : List ℕ) (i : ℕ) (v : Value) → i < length vs → v ≡ get_or vs i v → None ≡ option_and_then (number_with_id a b side f) (as_str (view v)) → ns ++ numbers_left i ≡ all_numbers
       → ns ++ numbers_left (i + 1) ≡ all_numbers
   none_listed ns i v low is named h = ap (λ xs. ns ++ xs) (sym (named_left i v None low is named)) ∙ h
 

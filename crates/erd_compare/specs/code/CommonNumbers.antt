@@ -12,8 +12,8 @@ use Rattle.erd_tables.specs.declared.class.Family.TheVariants as family
 use Rattle.erd_compare.specs.code.KeyedDifferences.{HasKeyAt, IsKeyTable, key_with_role, objects_in, role_of_part}
 use Rattle.erd_compare.specs.declared.difference.Part.{Part}
 use Rattle.erd_compare.specs.declared.difference.Part.TheVariants as part
-use Rattle.erd_compare.specs.declared.numbers.key_tables.KeyTables.{KeyTables}
-use Rattle.erd_compare.specs.declared.numbers.key_tables.PartTables.{PartTables}
+use Rattle.erd_compare.specs.declared.numbers.kept_tables.KeyTables.{KeyTables}
+use Rattle.erd_compare.specs.declared.numbers.kept_tables.PartTables.{PartTables}
 
 -- ---- numbers
 

@@ -27,12 +27,12 @@ IsNumberAt a b side p i n =
     (k : Option Key) → HasKeyAt (on_side side a b).prefer (view (on_side side a b).tree) (role_of_part p) i k → n ≡ Some (common_number a b p k)
 
 -- The number of the key of the object of the family that the reference names, or none if there is no such object or key.
-abbrev pub named_number : Judged → Judged → Side → Family → List ℕ → Option ℕ
-named_number a b side f id = option_map (number_of_key a b (part_of_family f)) (key_named (on_side side a b).prefer (view (on_side side a b).tree) f id)
+abbrev pub number_with_id : Judged → Judged → Side → Family → List ℕ → Option ℕ
+number_with_id a b side f id = option_map (number_of_key a b (part_of_family f)) (key_named (on_side side a b).prefer (view (on_side side a b).tree) f id)
 
 -- The numbers of the keys of the objects of the family that the references in a list name.
-abbrev pub numbers_named : Judged → Judged → Side → Family → List Data → List ℕ
-numbers_named a b side f references = map (number_of_key a b (part_of_family f)) (keys_named (on_side side a b).prefer (view (on_side side a b).tree) f references)
+abbrev pub list_of_numbers : Judged → Judged → Side → Family → List Data → List ℕ
+list_of_numbers a b side f references = map (number_of_key a b (part_of_family f)) (keys_named (on_side side a b).prefer (view (on_side side a b).tree) f references)
 
 -- The set of the numbers in the list.
 abbrev pub number_set : List ℕ → ℕ → Bool

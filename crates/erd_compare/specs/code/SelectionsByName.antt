@@ -16,14 +16,14 @@ use Rattle.erd_meaning.specs.Meaning.{SelectionRecord}
 use Rattle.erd_meaning.specs.Records.{selection_record}
 use Rattle.erd_meaning.specs.SelectionNames.{name_of, rising_list, selection_role}
 use Rattle.erd_meaning.specs.code.NumberedNames.{NumberedParts, numbered_name_cmp, numbered_parts}
-use Rattle.erd_compare.specs.code.NumberedSides.{numbers_named, on_side}
+use Rattle.erd_compare.specs.code.NumberedSides.{list_of_numbers, on_side}
 use Rattle.erd_compare.specs.declared.numbers.side.Side.{Side}
 use denote.Ref.{Bor}
 
 -- The numbers of the keys of a selection of this class: those of its candidates or parties, and none for any other class.
 abbrev pub selection_numbers : Judged → Judged → Side → Option Class → Data → List ℕ
-selection_numbers a b side (Some class.CandidateSelection) d = numbers_named a b side family.Candidate (entries_at (codes "CandidateIds") d)
-selection_numbers a b side (Some class.PartySelection) d = numbers_named a b side family.Party (entries_at (codes "PartyIds") d)
+selection_numbers a b side (Some class.CandidateSelection) d = list_of_numbers a b side family.Candidate (entries_at (codes "CandidateIds") d)
+selection_numbers a b side (Some class.PartySelection) d = list_of_numbers a b side family.Party (entries_at (codes "PartyIds") d)
 selection_numbers a b side c d = []
 
 -- The numbers of the keys of a selection, in rising order.

@@ -5,13 +5,13 @@ ghost use Rattle.erd_compare.specs.code.CommonNumbers.{AreCommonNumbers, AreKeyT
 ghost use Rattle.erd_compare.specs.code.KeyedDifferences.{IsComparable, IsKeyTable, role_of_part};
 
 use crate::difference::Part;
-use crate::numbers::key_tables::{KeyTables, PartTables};
+use crate::numbers::kept_tables::{KeyTables, PartTables};
 use crate::numbers::role_objects::{count, key_at, role_of};
 use erd_meaning::{Key, Report};
 use std::alloc::{AllocError, Global};
 
 /// The keys of two reports in each part, and the numbers of the objects of the right one.
-pub(crate) fn key_tables<'a>(
+pub(crate) fn tables_of_both<'a>(
     alloc: Global,
     left: &'a Report,
     right: &'a Report,
@@ -22,21 +22,21 @@ pub(crate) fn key_tables<'a>(
     let _one = left.tree();
     let _other = right.tree();
     Ok(KeyTables {
-        report: part_tables(alloc, left, right, Part::Report)?,
-        units: part_tables(alloc, left, right, Part::Unit)?,
-        parties: part_tables(alloc, left, right, Part::Party)?,
-        persons: part_tables(alloc, left, right, Part::Person)?,
-        offices: part_tables(alloc, left, right, Part::Office)?,
-        headers: part_tables(alloc, left, right, Part::Header)?,
-        elections: part_tables(alloc, left, right, Part::Election)?,
-        candidates: part_tables(alloc, left, right, Part::Candidate)?,
-        contests: part_tables(alloc, left, right, Part::Contest)?,
-        styles: part_tables(alloc, left, right, Part::Style)?,
+        report: tables_of_part(alloc, left, right, Part::Report)?,
+        units: tables_of_part(alloc, left, right, Part::Unit)?,
+        parties: tables_of_part(alloc, left, right, Part::Party)?,
+        persons: tables_of_part(alloc, left, right, Part::Person)?,
+        offices: tables_of_part(alloc, left, right, Part::Office)?,
+        headers: tables_of_part(alloc, left, right, Part::Header)?,
+        elections: tables_of_part(alloc, left, right, Part::Election)?,
+        candidates: tables_of_part(alloc, left, right, Part::Candidate)?,
+        contests: tables_of_part(alloc, left, right, Part::Contest)?,
+        styles: tables_of_part(alloc, left, right, Part::Style)?,
     })
 }
 
 /// The keys of two reports in a part, and the numbers of the objects of the right one.
-fn part_tables<'a>(
+fn tables_of_part<'a>(
     alloc: Global,
     left: &'a Report,
     right: &'a Report,
@@ -46,8 +46,8 @@ fn part_tables<'a>(
     requires right { IsComparable right.now.prefer (view right.now.tree) }
     ensures { IfOk result (ArePartTables left.now right.now part) }
 {
-    let ones = key_table(alloc, left, part)?;
-    let others = key_table(alloc, right, part)?;
+    let ones = rising_keys(alloc, left, part)?;
+    let others = rising_keys(alloc, right, part)?;
     let numbers = common_numbers(alloc, left, right, part, &ones)?;
     Ok(PartTables {
         ones,
@@ -57,7 +57,7 @@ fn part_tables<'a>(
 }
 
 /// The keys of the objects of a report in a part, rising, each with the position of its object.
-fn key_table<'a>(
+fn rising_keys<'a>(
     alloc: Global,
     report: &'a Report,
     part: Part,

@@ -7,7 +7,7 @@ ghost use Rattle.erd_meaning.specs.Lookups.{selection_in};
 ghost use Rattle.erd_meaning.specs.Records.{key_set};
 ghost use Rattle.erd_meaning.specs.SelectionNames.{key_named, keys_named, name_named};
 ghost use Rattle.erd_compare.specs.code.Comparing.{Decides};
-ghost use Rattle.erd_compare.specs.code.NumberedSides.{IsNumberSet, named_number, numbers_named};
+ghost use Rattle.erd_compare.specs.code.NumberedSides.{IsNumberSet, number_with_id, list_of_numbers};
 
 use crate::numbers::lookups::{number_of, part_of, report_on};
 use crate::numbers::side::Side;
@@ -49,7 +49,7 @@ fn is_same_family(found: Family, family: Family) -> bool
 /// The number of the object of a family that a reference names, if there is one.
 pub(crate) fn number_named(sides: Sides, side: Side, family: Family, value: &Value) -> Option<usize>
     requires keyed { has_keys family ≡ true }
-    ensures { result ≡ option_and_then (named_number sides.entry.left.now sides.entry.right.now side family) (as_str (view value.now)) }
+    ensures { result ≡ option_and_then (number_with_id sides.entry.left.now sides.entry.right.now side family) (as_str (view value.now)) }
 {
     number_with_id(sides, side, family, value.as_str()?)
 }
@@ -57,7 +57,7 @@ pub(crate) fn number_named(sides: Sides, side: Side, family: Family, value: &Val
 /// The number of the object of a family with this `@id`, if there is one.
 pub(crate) fn number_with_id(sides: Sides, side: Side, family: Family, id: &str) -> Option<usize>
     requires keyed { has_keys family ≡ true }
-    ensures { result ≡ named_number sides.entry.left.now sides.entry.right.now side family id.now }
+    ensures { result ≡ number_with_id sides.entry.left.now sides.entry.right.now side family id.now }
 {
     let (found, index) = report_on(sides, side).target(id)?;
     if is_same_family(found, family) {
@@ -88,13 +88,13 @@ pub(crate) fn is_same_key_set(
     ensures { IfOk result (λ answer. Decides answer (key_set (keys_named sides.entry.left.now.prefer (view sides.entry.left.now.tree) family (map view ones.now)))
         (key_set (keys_named sides.entry.right.now.prefer (view sides.entry.right.now.tree) family (map view others.now)))) }
 {
-    let ones = named_numbers(alloc, sides, Side::Left, family, ones)?;
-    let others = named_numbers(alloc, sides, Side::Right, family, others)?;
+    let ones = set_of_numbers(alloc, sides, Side::Left, family, ones)?;
+    let others = set_of_numbers(alloc, sides, Side::Right, family, others)?;
     Ok(ones == others)
 }
 
 /// The numbers of the objects of a family that the references name, sorted, each once.
-fn named_numbers(
+fn set_of_numbers(
     alloc: Global,
     sides: Sides,
     side: Side,
@@ -102,7 +102,7 @@ fn named_numbers(
     values: &[Value],
 ) -> Result<BTreeSet<usize>, AllocError>
     requires keyed { has_keys family ≡ true }
-    ensures { IfOk result (IsNumberSet (numbers_named sides.entry.left.now sides.entry.right.now side family (map view values.now))) }
+    ensures { IfOk result (IsNumberSet (list_of_numbers sides.entry.left.now sides.entry.right.now side family (map view values.now))) }
 {
     let mut numbers = BTreeSet::new(alloc);
     for value in values {
@@ -122,7 +122,7 @@ pub(crate) fn list_of_numbers(
     values: &[Value],
 ) -> Result<Vec<usize>, AllocError>
     requires keyed { has_keys family ≡ true }
-    ensures { IfOk result (λ numbers. numbers.items ≡ numbers_named sides.entry.left.now sides.entry.right.now side family (map view values.now)) }
+    ensures { IfOk result (λ numbers. numbers.items ≡ list_of_numbers sides.entry.left.now sides.entry.right.now side family (map view values.now)) }
 {
     let mut numbers = Vec::new(alloc);
     for value in values {

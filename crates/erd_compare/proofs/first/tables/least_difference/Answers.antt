@@ -4,7 +4,7 @@ use Rattle.serde_json.specs.View.{view}
 use Rattle.erd_compare.specs.code.CommonNumbers.{tables_of}
 use Rattle.erd_compare.specs.code.KeyedDifferences.{TellsAtPositions}
 use Rattle.erd_compare.specs.declared.difference.How.TheVariants.{OnlyLeft, OnlyRight}
-use Rattle.erd_compare.specs.declared.numbers.key_tables.PartTables.{PartTables}
+use Rattle.erd_compare.specs.declared.numbers.kept_tables.PartTables.{PartTables}
 use Rattle.erd_compare.proofs.least_difference.KeyTables.{copied_cmp}
 use Rattle.erd_compare.proofs.least_difference.KeyWalks.{AreLeft, both_differ, both_heads, both_same, both_tables, ended, left_ended, left_head, left_less, left_more, none_left, right_less, right_more, told_as}
 use Rattle.erd_compare.proofs.first.tables.least_difference.Goals as goal

@@ -4,7 +4,7 @@ use Rattle.serde_json.specs.View.{view}
 use Rattle.erd_compare.specs.code.CommonNumbers.{tables_of}
 use Rattle.erd_compare.specs.code.KeyedDifferences.{IsComparable}
 use Rattle.erd_compare.specs.code.NumberedSides.{IsNumberAt}
-use Rattle.erd_compare.specs.declared.numbers.key_tables.PartTables.{PartTables}
+use Rattle.erd_compare.specs.declared.numbers.kept_tables.PartTables.{PartTables}
 use Rattle.erd_compare.proofs.same_numbers.KeyNumbers.{left_number, number_here}
 use Rattle.erd_compare.proofs.numbers.lookups.number_at.Goals as goal
 

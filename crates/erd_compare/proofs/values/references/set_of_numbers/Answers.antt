@@ -1,8 +1,8 @@
 use Rattle.std.proofs.Common.{◌+◌, sym, subst}
 use Rattle.std.proofs.lemmas.List.{drop_all}
 use Rattle.erd_compare.proofs.same_numbers.NumberSets.{IsCollecting, all_numbers, all_put, numbers_left, none_put, one_put, unnamed}
-use Rattle.erd_compare.proofs.values.references.named_numbers.Goals as goal
-use Rattle.erd_compare.proofs.values.references.named_numbers.Goals.{in-Some+in_ok-insert, in_default}
+use Rattle.erd_compare.proofs.values.references.set_of_numbers.Goals as goal
+use Rattle.erd_compare.proofs.values.references.set_of_numbers.Goals.{in-Some+in_ok-insert, in_default}
 
 pub loop-value-init : goal.loop-value-init
 loop-value-init c =

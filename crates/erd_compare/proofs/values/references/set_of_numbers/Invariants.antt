@@ -1,5 +1,5 @@
 use Rattle.erd_compare.proofs.same_numbers.NumberSets.{IsCollecting, all_numbers, numbers_left}
-use Rattle.erd_compare.proofs.values.references.named_numbers.Given as goal
+use Rattle.erd_compare.proofs.values.references.set_of_numbers.Given as goal
 
 abbrev pub invariant-loop-value : goal.invariant-loop-value
 invariant-loop-value l =
