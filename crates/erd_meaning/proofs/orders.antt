@@ -2,5 +2,6 @@
 pub mod ChoiceOrder
 pub mod ComparisonChains
 pub mod EqualNames
+pub mod InsertedValues
 pub mod RisingLists
 pub mod Sets

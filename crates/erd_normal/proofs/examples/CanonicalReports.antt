@@ -31,7 +31,7 @@ use Rattle.erd_normal.proofs.examples.BallotMeaningExamples.{canonical_ballot_me
 use Rattle.erd_normal.proofs.examples.CanonicalExamples.{canonical_envelope}
 use Rattle.erd_normal.proofs.examples.CanonicalPartExamples.{envelope_of_one_unit, ids_of_one_unit, ids_of_small_ballot}
 use Rattle.erd_normal.proofs.examples.MeaningExamples.{one_unit_canonical, canonical_means_the_same}
-use Rattle.erd_normal.proofs.lists.RisingOrders.{is_less}
+use Rattle.erd_meaning.proofs.orders.InsertedValues.{is_less}
 
 -- ---- tests
 

@@ -3,7 +3,7 @@ use Rattle.std.proofs.Common.{◌≡◌, ◌<◌, ◌≤◌, ℕ, suc, List, [],
 use Rattle.std.specs.Cmp.{IsTotalOrder}
 use Rattle.std.proofs.lemmas.Cmp.{tied_itself}
 use Rattle.erd_check.proofs.Rising.{Has, Has-cases}
-use Rattle.erd_normal.proofs.lists.RisingOrders.{greater_turned, is_less}
+use Rattle.erd_meaning.proofs.orders.InsertedValues.{greater_turned, is_less}
 use Rattle.erd_normal.proofs.lists.RisingRanks.{fails_first, passes_first}
 
 -- how many entries have keys below this one

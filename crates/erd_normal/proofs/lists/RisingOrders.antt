@@ -4,18 +4,14 @@ use Rattle.std.specs.Cmp.{IsTotalOrder}
 use Rattle.std.specs.Prelude.{⊤}
 use Rattle.std.specs.List.{AllByRecursion, IsDistinct}
 use Rattle.std.specs.List.Sorted.{IsStrictlySortedBy}
-use Rattle.std.specs.Ordering.{eq_by_cmp, ordering_reverse}
+use Rattle.std.specs.Ordering.{eq_by_cmp}
 use Rattle.std.proofs.lemmas.Cmp.{tied_back, upto}
 use Rattle.erd_check.proofs.Order.{In, In-all, all_from_In}
+use Rattle.erd_meaning.proofs.orders.InsertedValues.{greater_turned}
 use Rattle.erd_meaning.specs.SelectionNames.{rising_list, with_inserted}
 use Rattle.erd_normal.proofs.lists.RisingSets.{In-inserted, In-rising}
 
 -- ---- answers of a comparison
-
-pub is_less : (o : Ordering) → is_lt o ≡ true → o ≡ Less
-is_less Less e = refl
-is_less Equal e = cc
-is_less Greater e = cc
 
 level : (o : Ordering) → is_eq o ≡ false → o ≡ Equal → ⊥
 level o e is = let h : true ≡ false = ap is_eq (sym is) ∙ e in cc
@@ -26,12 +22,6 @@ NeverFalls cmp [] = ⊤
 NeverFalls cmp (x ∷ xs) = AllByRecursion (λ y. is_gt (cmp x y) ≡ false) xs × NeverFalls cmp xs
 
 module _ {A : Type 0} {cmp : A → A → Ordering} (order : IsTotalOrder cmp) where
-  pub greater_turned : (x y : A) → cmp x y ≡ Greater → cmp y x ≡ Less
-  greater_turned x y e = order.antisymm y x ∙ ap ordering_reverse e
-
-  pub less_turned : (x y : A) → cmp x y ≡ Less → cmp y x ≡ Greater
-  less_turned x y e = order.antisymm y x ∙ ap ordering_reverse e
-
   -- ---- lists that rise strictly
 
   inserted_strictly_at : (x y : A) (ys : List A) (o : Ordering) → cmp y x ≡ o → IsStrictlySortedBy cmp (y ∷ ys) → AllByRecursion (λ z. eq_by_cmp cmp x z ≡ false) (y ∷ ys)
@@ -42,7 +32,7 @@ module _ {A : Type 0} {cmp : A → A → Ordering} (order : IsTotalOrder cmp) wh
       (all_from_In (λ z. cmp y z ≡ Less) (with_inserted cmp x ys) below, more)
   inserted_strictly_at x y ys Equal is rise apart more = absurd (level (cmp x y) apart.0 (tied_back order y x is))
   inserted_strictly_at x y ys Greater is rise apart more =
-      let first : cmp x y ≡ Less = greater_turned y x is in
+      let first : cmp x y ≡ Less = greater_turned order y x is in
       let below : (z : A) → In z ys → cmp x z ≡ Less = λ z i. order.trans x y z first (In-all (λ w. cmp y w ≡ Less) z ys rise.0 i) in
       ((first, all_from_In (λ z. cmp x z ≡ Less) ys below), rise)
 
@@ -73,7 +63,7 @@ module _ {A : Type 0} {cmp : A → A → Ordering} (order : IsTotalOrder cmp) wh
       let first : is_gt (cmp x y) ≡ false = ap is_gt (tied_back order y x is) in
       ((first, all_from_In (λ z. is_gt (cmp x z) ≡ false) ys (λ z i. upto order x y z first (In-all (λ w. is_gt (cmp y w) ≡ false) z ys rise.0 i))), rise)
   inserted_no_fall_at x y ys Greater is rise more =
-      let first : is_gt (cmp x y) ≡ false = ap is_gt (greater_turned y x is) in
+      let first : is_gt (cmp x y) ≡ false = ap is_gt (greater_turned order y x is) in
       ((first, all_from_In (λ z. is_gt (cmp x z) ≡ false) ys (λ z i. upto order x y z first (In-all (λ w. is_gt (cmp y w) ≡ false) z ys rise.0 i))), rise)
 
   inserted_no_fall : (x : A) (ys : List A) → NeverFalls cmp ys → NeverFalls cmp (with_inserted cmp x ys)

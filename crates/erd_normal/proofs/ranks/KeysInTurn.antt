@@ -17,6 +17,7 @@ use Rattle.erd_check.proofs.Steps.{at_less}
 use Rattle.erd_check.specs.Values.{entries_at}
 use Rattle.erd_check.specs.Wants.{class_of_object}
 use Rattle.erd_meaning.proofs.accepted.Standing.{owned_by}
+use Rattle.erd_meaning.proofs.orders.InsertedValues.{is_less}
 use Rattle.erd_meaning.specs.Keys.{Preference, key_cmp, key_of}
 use Rattle.erd_meaning.specs.NameParts.{NameParts}
 use Rattle.erd_meaning.specs.Objects.{Placed, objects, owner}
@@ -75,11 +76,6 @@ module _ (π : Preference) (t : Data) (f : Family) where
   below_later : (k l : Key) → key_cmp k l ≡ Less → (o : Placed) → below k o ≡ true → below l o ≡ true
   below_later k l less o h = at (key_of π o.value) h
     where
-      is_less : (c : Ordering) → is_lt c ≡ true → c ≡ Less
-      is_less Less e = refl
-      is_less Equal e = cc
-      is_less Greater e = cc
-
       at : (key : Option Key) → is_lt (option_cmp key_cmp key (Some k)) ≡ true → is_lt (option_cmp key_cmp key (Some l)) ≡ true
       at None e = refl
       at (Some j) e = ap is_lt (key_cmp_total.trans j k l (is_less (key_cmp j k) e) less)

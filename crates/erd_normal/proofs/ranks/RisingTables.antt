@@ -91,10 +91,6 @@ module _ {K : Type 0} (cmp : K → K → Ordering) where
       abbrev seen : K × (ℕ × V) → K × (ℕ × Data)
       seen p = keyed_value p.0 p.1.0 (value p.1.1)
 
-      -- the values that stand in what is seen as the table
-      pub values_of : map (λ p. value p.1.1) rising ≡ rising_list (λ a b. cmp (key a) (key b)) ds
-      values_of = map_after seen (λ (p : K × (ℕ × Data)). p.1.1) rising ∙ (ap (map (λ (p : K × (ℕ × Data)). p.1.1)) is ∙ values_in ds)
-
       -- the numbers that it gives
       pub numbers_of : numbered 0 (map (λ p. (p.0, p.1.0)) rising) (replicate (length rising) 0) ≡ places_of cmp (map key ds)
       numbers_of =
