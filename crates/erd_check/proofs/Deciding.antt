@@ -89,7 +89,7 @@ pub before_later : (k l : List ℕ) (ms : Members) → text_cmp k l ≡ Less →
 before_later k l no_members e h = tt
 before_later k l (member m d ms) e h = nat_list_cmp_total.trans k l m e h
 
-before_all : (k : List ℕ) (ms : Members) → IsBeforeFirst k ms → AreMembers ms → AllByRecursion (λ n. text_cmp k n ≡ Less) (names ms)
+pub before_all : (k : List ℕ) (ms : Members) → IsBeforeFirst k ms → AreMembers ms → AllByRecursion (λ n. text_cmp k n ≡ Less) (names ms)
 before_all k no_members h trees = tt
 before_all k (member l d ms) h trees = (h, before_all k ms (before_later k l ms h trees.0) trees.2)
 

@@ -14,7 +14,7 @@ before_put_at Equal j k l v d ms rest first below = below
 before_put_at Greater j k l v d ms rest first below = below
 
 -- a name before all of the names, and before that of the value, is before the first name then
-before_put : (j k : List ℕ) (v : Data) (ms : Members) → text_cmp j k ≡ Less → IsBeforeFirst j ms → IsBeforeFirst j (put k v ms)
+pub before_put : (j k : List ℕ) (v : Data) (ms : Members) → text_cmp j k ≡ Less → IsBeforeFirst j ms → IsBeforeFirst j (put k v ms)
 before_put j k v no_members first below = first
 before_put j k v (member l d ms) first below = before_put_at (text_cmp k l) j k l v d ms (put k v ms) first below
 

@@ -24,7 +24,7 @@ use Rattle.erd_tables.specs.declared.place.Step.TheVariants.{Name, At}
 use Rattle.erd_check.specs.Faults.{NoneOf, ShapeFault}
 use Rattle.erd_check.specs.Numbers.{HasFittingNumbers, ItemsHaveFittingNumbers, MembersHaveFittingNumbers}
 use Rattle.erd_check.specs.Shapes.{IsShaped}
-use Rattle.erd_check.specs.Trees.{AreMembers, AreTrees, IsBeforeFirst, IsTree}
+use Rattle.erd_check.specs.Trees.{IsShallow, AreMembers, AreTrees, IsBeforeFirst, IsTree}
 use Rattle.erd_check.specs.Values.{names}
 use Rattle.erd_check.specs.Wants.{asked, class_of_object, entry_want, is_compared_set, is_repeated, scope_inside, want_of_name}
 use Rattle.erd_check.specs.code.Walk.{asked_with, AreItemsInOrder, AreItemsKnown, AreMembersInOrder, AreMembersKnown, IsAskedInRange, IsInOrder, IsKnown}
@@ -175,8 +175,8 @@ module _ (t : Data) (clean : NoneOf (ShapeFault t)) where
   pub no_fraction : IsInOrder (Object Report) t → has_float t ≡ false
   no_fraction order = (report_sound order).whole
 
-pub shaped_by : (v : Value) (faults : List Fault) → ListsAll (ShapeFault (view v)) faults → IsInOrder (Object Report) (view v) → IsKnown IsAskedInRange (Object Report) (view v) → length faults ≡ 0 → IsShaped v
-shaped_by v faults all order range empty =
+pub shaped_by : (v : Value) (faults : List Fault) → ListsAll (ShapeFault (view v)) faults → IsInOrder (Object Report) (view v) → IsKnown IsAskedInRange (Object Report) (view v) → IsShallow (view v) → length faults ≡ 0 → IsShaped v
+shaped_by v faults all order range shallow empty =
     let none = no_fault_from_empty (view v) faults all empty in
     let sound = report_sound (view v) none order in
-    record { faultless = none; is_tree = sound.tree (has_numbers v); whole = sound.whole; fits = sound.fits range }
+    record { faultless = none; shallow = shallow; is_tree = sound.tree (has_numbers v); whole = sound.whole; fits = sound.fits range }

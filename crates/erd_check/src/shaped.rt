@@ -35,11 +35,12 @@ impl<'a> Model for Shaped<'a> {
 }
 
 impl<'a> Shaped<'a> {
-    /// Returns the report. Its shape has no fault. The names of the members of each object in it strictly rise, and
-    /// each number in it is whole and fits 64 bits.
+    /// Returns the report. Its shape has no fault, and it is nested at most 127 deep. The names of the members of each
+    /// object in it strictly rise, and each number in it is whole and fits 64 bits.
     pub fn tree(&self) -> &'a Value
         ensures tree { result.now ≡ self.now }
         ensures faultless { IsFaultless result.now }
+        ensures nests { IsShallow (view result.now) }
         ensures is_tree { IsTree (view result.now) }
         ensures whole { has_float (view result.now) ≡ false }
         ensures fits { HasFittingNumbers (view result.now) }

@@ -3,7 +3,7 @@ ghost use Rattle.std.specs.Option.{option_copied};
 ghost use Rattle.serde_json.specs.View.{view};
 ghost use Rattle.serde_json.specs.Written.{has_float};
 ghost use Rattle.erd_check.specs.Numbers.{HasFittingNumbers};
-ghost use Rattle.erd_check.specs.Trees.{IsTree};
+ghost use Rattle.erd_check.specs.Trees.{IsShallow, IsTree};
 ghost use Rattle.erd_meaning.specs.Accepted.{IsAccepted};
 ghost use Rattle.erd_meaning.specs.Lookups.{FindsId, FindsKey, FindsSelection, election_in, election_key_in, key_in, selection_in};
 ghost use Rattle.erd_meaning.specs.Objects.{IsBounded, elections, objects};
@@ -112,12 +112,13 @@ impl<'a> Report<'a> {
         &self.indexes[0].elections
     }
 
-    /// Returns the JSON value of the report. It is accepted under the preference. The names of the members of each
-    /// object in it strictly rise, each number in it is whole and fits 64 bits, and each family has fewer than 2^64
-    /// objects.
+    /// Returns the JSON value of the report. It is accepted under the preference, and nested at most 127 deep. The names
+    /// of the members of each object in it strictly rise, each number in it is whole and fits 64 bits, and each family
+    /// has fewer than 2^64 objects.
     pub fn tree(&self) -> &'a Value
         ensures tree { result.now ≡ self.now.tree }
         ensures accepted { IsAccepted self.now.prefer (view result.now) }
+        ensures nests { IsShallow (view result.now) }
         ensures is_tree { IsTree (view result.now) }
         ensures whole { has_float (view result.now) ≡ false }
         ensures fits { HasFittingNumbers (view result.now) }

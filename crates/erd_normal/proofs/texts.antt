@@ -4,3 +4,9 @@ pub mod CompactTexts
 pub mod FittingNumbers
 pub mod WholeEntries
 pub mod WholeObjects
+pub mod WrittenTokens
+pub mod DueTokens
+pub mod PutObjects
+pub mod FittingBuilt
+pub mod ReadForms
+pub mod FormTexts

@@ -7,3 +7,5 @@ pub mod KeyRanks  -- the places of keys among the sorted ones, and so the number
 pub mod KeyNumbers  -- names of selections with numbers in place of keys
 pub mod KeyOrders  -- equal in the order of keys that may be absent is equal
 pub mod NameOrders  -- equal in the order of names that may be absent is equal
+pub mod Tokens
+pub mod DueMembers

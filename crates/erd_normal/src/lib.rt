@@ -6,6 +6,7 @@ mod numbers;
 mod objects;
 mod order;
 mod report;
+mod text;
 mod values;
 
 pub use laws::{
@@ -15,4 +16,4 @@ pub use laws::{
 pub use order::compact_text::CompactText;
 pub use order::set_order::SetOrder;
 pub use order::stable_sort::in_order;
-pub use report::canonical_form::normal_tree;
+pub use report::canonical_form::{normal_text, normal_tree};

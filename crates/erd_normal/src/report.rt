@@ -2,5 +2,5 @@
 
 pub(crate) mod canonical_form;
 pub(crate) mod election;
-pub(crate) mod report_tree;
+pub(crate) mod report_text;
 pub(crate) mod rising_elections;

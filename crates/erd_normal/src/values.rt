@@ -4,5 +4,5 @@ pub(crate) mod content;
 pub(crate) mod label;
 pub(crate) mod reference;
 pub(crate) mod reference_set;
-pub(crate) mod sorted_copies;
+pub(crate) mod rising_values;
 pub(crate) mod value_of_kind;

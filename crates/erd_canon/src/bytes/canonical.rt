@@ -6,7 +6,7 @@ ghost use Rattle.erd_canon.specs.Refused.{RefusedAs};
 
 use crate::bytes::acceptance::{accepted, tree_of};
 use crate::bytes::refusal::Refusal;
-use erd_normal::normal_tree;
+use erd_normal::normal_text;
 use std::alloc::Global;
 
 /// Returns the canonical bytes of an accepted report, with no preferred type of identifier. `canonical_with` takes a
@@ -47,7 +47,6 @@ pub fn canonical_with(alloc: Global, bytes: &[u8], prefer: Option<&str>) -> Resu
 {
     let tree = tree_of(alloc, bytes)?;
     let report = accepted(alloc, &tree, prefer)?;
-    let form = normal_tree(alloc, &report)?;
-    let text = form.to_vec(alloc)?;
+    let text = normal_text(alloc, &report)?;
     Ok(text)
 }

@@ -8,7 +8,7 @@ use Rattle.serde_json.specs.declared.value.Value.{Value}
 use Rattle.erd_check.specs.Faults.{NoneOf}
 use Rattle.erd_check.specs.Numbers.{HasFittingNumbers}
 use Rattle.erd_check.specs.Shapes.{IsFaultless}
-use Rattle.erd_check.specs.Trees.{IsTree}
+use Rattle.erd_check.specs.Trees.{IsShallow, IsTree}
 use Rattle.erd_meaning.specs.Keys.{Preference}
 use Rattle.erd_meaning.specs.LaterFaults.{IdentityFault, ReferenceFault, SelectionFault}
 use Rattle.erd_meaning.specs.Lookups.{selection_in}
@@ -37,6 +37,7 @@ AreNames π t names = (i : ℕ) → slice_get names i ≡ selection_in π t i
 -- The report is accepted, and these are its objects and the names of its selections, in the order of their places.
 pub record IsResolved (π : Preference) (tree : Value) (objects : List Object) (names : List NumberedName) : Type 0 where
   pub faultless : IsFaultless tree
+  pub shallow : IsShallow (view tree)
   pub is_tree : IsTree (view tree)
   pub whole : has_float (view tree) ≡ false
   pub fits : HasFittingNumbers (view tree)

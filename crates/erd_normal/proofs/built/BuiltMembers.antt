@@ -41,7 +41,7 @@ put_each value no_members built = built
 put_each value (member k d ms) built = put_each value ms (put_if k (value k d) built)
 
 -- members, and then others
-abbrev joined : Members → Members → Members
+abbrev pub joined : Members → Members → Members
 joined no_members ns = ns
 joined (member k d ms) ns = member k d (joined ms ns)
 
@@ -51,20 +51,20 @@ IsBelow no_members l = ⊤
 IsBelow (member k d ms) l = (text_cmp k l ≡ Less) × IsBelow ms l
 
 -- the names of the members are all below those of others
-abbrev AreBelow : Members → Members → Type 0
+abbrev pub AreBelow : Members → Members → Type 0
 AreBelow ms no_members = ⊤
 AreBelow ms (member k d ns) = IsBelow ms k × AreBelow ms ns
 
-joined_none : (ms : Members) → joined ms no_members ≡ ms
+pub joined_none : (ms : Members) → joined ms no_members ≡ ms
 joined_none no_members = refl
 joined_none (member k d ms) = ap (member k d) (joined_none ms)
 
-joined_one : (ms : Members) (k : List ℕ) (d : Data) (ns : Members) → joined (joined ms (member k d no_members)) ns ≡ joined ms (member k d ns)
+pub joined_one : (ms : Members) (k : List ℕ) (d : Data) (ns : Members) → joined (joined ms (member k d no_members)) ns ≡ joined ms (member k d ns)
 joined_one no_members k d ns = refl
 joined_one (member l e ms) k d ns = ap (member l e) (joined_one ms k d ns)
 
 -- a name above all goes last
-put_above : (k : List ℕ) (d : Data) (ms : Members) → IsBelow ms k → put k d ms ≡ joined ms (member k d no_members)
+pub put_above : (k : List ℕ) (d : Data) (ms : Members) → IsBelow ms k → put k d ms ≡ joined ms (member k d no_members)
 put_above k d no_members h = refl
 put_above k d (member l e ms) h =
     let turned = nat_list_cmp_total.antisymm k l ∙ ap ordering_reverse h.0 in
@@ -74,11 +74,11 @@ below_one : (ms : Members) (k : List ℕ) (d : Data) (l : List ℕ) → IsBelow 
 below_one no_members k d l h e = (e, tt)
 below_one (member j v ms) k d l h e = (h.0, below_one ms k d l h.1 e)
 
-are_below_one : (ms : Members) (k : List ℕ) (d : Data) (ns : Members) → AreBelow ms ns → AllByRecursion (λ l. text_cmp k l ≡ Less) (names ns) → AreBelow (joined ms (member k d no_members)) ns
+pub are_below_one : (ms : Members) (k : List ℕ) (d : Data) (ns : Members) → AreBelow ms ns → AllByRecursion (λ l. text_cmp k l ≡ Less) (names ns) → AreBelow (joined ms (member k d no_members)) ns
 are_below_one ms k d no_members h e = tt
 are_below_one ms k d (member l v ns) h e = (below_one ms k d l h.0 e.0, are_below_one ms k d ns h.1 e.1)
 
-none_below : (ns : Members) → AreBelow no_members ns
+pub none_below : (ns : Members) → AreBelow no_members ns
 none_below no_members = tt
 none_below (member k d ns) = (tt, none_below ns)
 

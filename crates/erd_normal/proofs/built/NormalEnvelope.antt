@@ -1,15 +1,16 @@
 -- The members with the canonical envelope: what stands at each name.
-use Rattle.std.proofs.Common.{◌≡◌, ◌≤◌, ℕ, List, [], ◌∷◌, Option, Some, Bool, true, false, if◌then◌else◌, true≢false, codes, refl, sym, ap, ◌∙◌, arith}
+use Rattle.std.proofs.Common.{◌≡◌, ◌≤◌, ℕ, List, [], ◌∷◌, Option, Some, Bool, true, false, if◌then◌else◌, true≢false, refl, sym, ap, ◌∙◌, arith}
 use Rattle.std.specs.List.{list_all, AllByRecursion}
 use Rattle.std.specs.Str.{bytes_eq}
-use Rattle.serde_json.specs.Data.{Data, string, number, unsigned, Members, put, depth, members_depth}
+use Rattle.serde_json.specs.Data.{Data, Members, put, depth, members_depth}
 use Rattle.serde_json.specs.Find.{get_member}
 use Rattle.serde_json.proofs.Views.{get_member-put}
 use Rattle.erd_tables.specs.Table.{is_envelope_name}
 use Rattle.erd_check.specs.Trees.{IsTree, AreMembers}
 use Rattle.erd_check.proofs.Exact.{both_true, text_exact}
 use Rattle.erd_check.proofs.PutTrees.{put-trees}
-use Rattle.erd_normal.specs.code.NormalTree.{with_envelope}
+use Rattle.erd_normal.specs.code.Building.{put_all}
+use Rattle.erd_normal.specs.code.NormalTree.{envelope_values, with_envelope}
 use Rattle.erd_normal.proofs.built.PutMembers.{put_elsewhere, put-depth}
 
 -- ---- several values put at their names
@@ -17,24 +18,19 @@ use Rattle.erd_normal.proofs.built.PutMembers.{put_elsewhere, put-depth}
 abbrev Named : Type 0
 Named = List ℕ × Data
 
--- the members with each value at its name
-abbrev put_each : List Named → Members → Members
-put_each [] ms = ms
-put_each (p ∷ ps) ms = put p.0 p.1 (put_each ps ms)
-
 -- what stands at a name then, where o stood before
 abbrev pub put_value : List Named → List ℕ → Option Data → Option Data
 put_value [] name o = o
 put_value (p ∷ ps) name o = if bytes_eq name p.0 then Some p.1 else put_value ps name o
 
-get_put_each : (ps : List Named) (name : List ℕ) (ms : Members) → get_member name (put_each ps ms) ≡ put_value ps name (get_member name ms)
-get_put_each [] name ms = refl
-get_put_each (p ∷ ps) name ms = at (bytes_eq name p.0) refl (get_put_each ps name ms)
+get_put_all : (ps : List Named) (name : List ℕ) (ms : Members) → get_member name (put_all ps ms) ≡ put_value ps name (get_member name ms)
+get_put_all [] name ms = refl
+get_put_all (p ∷ ps) name ms = at (bytes_eq name p.0) refl (get_put_all ps name ms)
   where
-    at : (b : Bool) → bytes_eq name p.0 ≡ b → get_member name (put_each ps ms) ≡ put_value ps name (get_member name ms)
-        → get_member name (put_each (p ∷ ps) ms) ≡ (if b then Some p.1 else put_value ps name (get_member name ms))
-    at true is h = ap (λ x. get_member x (put p.0 p.1 (put_each ps ms))) (text_exact name p.0 is) ∙ get_member-put p.0 p.1 (put_each ps ms)
-    at false is h = put_elsewhere name p.0 p.1 (put_each ps ms) is ∙ h
+    at : (b : Bool) → bytes_eq name p.0 ≡ b → get_member name (put_all ps ms) ≡ put_value ps name (get_member name ms)
+        → get_member name (put_all (p ∷ ps) ms) ≡ (if b then Some p.1 else put_value ps name (get_member name ms))
+    at true is h = ap (λ x. get_member x (put p.0 p.1 (put_all ps ms))) (text_exact name p.0 is) ∙ get_member-put p.0 p.1 (put_all ps ms)
+    at false is h = put_elsewhere name p.0 p.1 (put_all ps ms) is ∙ h
 
 put_value-other : (ps : List Named) (name : List ℕ) (o : Option Data) → list_all (λ p. is_envelope_name p.0) ps ≡ true → is_envelope_name name ≡ false → put_value ps name o ≡ o
 put_value-other [] name o names other = refl
@@ -47,35 +43,27 @@ put_value-other (p ∷ ps) name o names other = at (bytes_eq name p.0) refl (put
     at true is h = absurd (true≢false (sym both.0 ∙ ap is_envelope_name (sym (text_exact name p.0 is)) ∙ other))
     at false is h = h
 
-put_each-trees : (ps : List Named) (ms : Members) → AllByRecursion (λ p. IsTree p.1) ps → AreMembers ms → AreMembers (put_each ps ms)
-put_each-trees [] ms trees rise = rise
-put_each-trees (p ∷ ps) ms trees rise = put-trees p.0 p.1 (put_each ps ms) (put_each-trees ps ms trees.1 rise) trees.0
+put_all-trees : (ps : List Named) (ms : Members) → AllByRecursion (λ p. IsTree p.1) ps → AreMembers ms → AreMembers (put_all ps ms)
+put_all-trees [] ms trees rise = rise
+put_all-trees (p ∷ ps) ms trees rise = put-trees p.0 p.1 (put_all ps ms) (put_all-trees ps ms trees.1 rise) trees.0
 
-put_each-depth : (n : ℕ) (ps : List Named) (ms : Members) → AllByRecursion (λ p. depth p.1 ≤ n) ps → members_depth ms ≤ n → members_depth (put_each ps ms) ≤ n
-put_each-depth n [] ms low inside = inside
-put_each-depth n (p ∷ ps) ms low inside = put-depth p.0 p.1 (put_each ps ms) n low.0 (put_each-depth n ps ms low.1 inside)
+put_all-depth : (n : ℕ) (ps : List Named) (ms : Members) → AllByRecursion (λ p. depth p.1 ≤ n) ps → members_depth ms ≤ n → members_depth (put_all ps ms) ≤ n
+put_all-depth n [] ms low inside = inside
+put_all-depth n (p ∷ ps) ms low inside = put-depth p.0 p.1 (put_all ps ms) n low.0 (put_all-depth n ps ms low.1 inside)
 
 -- ---- the envelope
 
--- the names and values of the canonical envelope
-abbrev pub envelope_values : List Named
-envelope_values =
-    (codes "Format", string (codes "summary-contest")) ∷ (codes "GeneratedDate", string (codes "2000-01-01T00:00:00Z"))
-    ∷ (codes "Issuer", string (codes "canonical")) ∷ (codes "IssuerAbbreviation", string (codes "canonical"))
-    ∷ (codes "VendorApplicationId", string (codes "canonical")) ∷ (codes "SequenceStart", number (unsigned 1))
-    ∷ (codes "SequenceEnd", number (unsigned 1)) ∷ []
-
 -- what stands at a name; it computes at a literal
 pub get_with_envelope : (name : List ℕ) (ms : Members) → get_member name (with_envelope ms) ≡ put_value envelope_values name (get_member name ms)
-get_with_envelope name ms = get_put_each envelope_values name ms
+get_with_envelope name ms = get_put_all envelope_values name ms
 
 pub get_with_envelope-other : (name : List ℕ) (ms : Members) → is_envelope_name name ≡ false → get_member name (with_envelope ms) ≡ get_member name ms
 get_with_envelope-other name ms other = get_with_envelope name ms ∙ put_value-other envelope_values name (get_member name ms) refl other
 
 pub with_envelope-trees : (ms : Members) → AreMembers ms → AreMembers (with_envelope ms)
-with_envelope-trees ms rise = put_each-trees envelope_values ms (tt, (tt, (tt, (tt, (tt, (tt, (tt, tt))))))) rise
+with_envelope-trees ms rise = put_all-trees envelope_values ms (tt, (tt, (tt, (tt, (tt, (tt, (tt, tt))))))) rise
 
 pub with_envelope-depth : (ms : Members) → members_depth (with_envelope ms) ≤ members_depth ms
 with_envelope-depth ms =
     let low : 0 ≤ members_depth ms = omega arith in
-    put_each-depth (members_depth ms) envelope_values ms (low, (low, (low, (low, (low, (low, (low, tt))))))) (omega arith)
+    put_all-depth (members_depth ms) envelope_values ms (low, (low, (low, (low, (low, (low, (low, tt))))))) (omega arith)

@@ -11,8 +11,8 @@ use Rattle.erd_check.specs.Trees.{IsTree}
 use Rattle.erd_check.specs.Wants.{class_of_object}
 use Rattle.erd_meaning.proofs.accepted.Skeleton.{Skeleton, skeleton_of_shape}
 use Rattle.erd_normal.specs.Canonical.{HasCanonicalEnvelope}
-use Rattle.erd_normal.specs.code.NormalTree.{in_envelope, normal_members, normal_object_with, normal_report_value, normal_tree, with_envelope}
-use Rattle.erd_normal.proofs.built.NormalEnvelope.{envelope_values, get_with_envelope, get_with_envelope-other, put_value}
+use Rattle.erd_normal.specs.code.NormalTree.{envelope_values, in_envelope, normal_members, normal_object_with, normal_report_value, normal_tree, with_envelope}
+use Rattle.erd_normal.proofs.built.NormalEnvelope.{get_with_envelope, get_with_envelope-other, put_value}
 use Rattle.erd_normal.proofs.built.NormalGets.{no_value, same_value}
 use Rattle.erd_normal.proofs.built.NormalMembers.{get_normal}
 use Rattle.erd_meaning.specs.Keys.{Preference}

@@ -14,7 +14,7 @@ use Rattle.erd_normal.proofs.texts.WrittenStrings.{string_exact}
 -- ---- the texts of numbers
 
 -- the text of a number reads as it
-number_read : (n : Num) → IsFittingNumber n → number_of (number_text n) ≡ Some n
+pub number_read : (n : Num) → IsFittingNumber n → number_of (number_text n) ≡ Some n
 number_read (unsigned n) h = number_of-decimal n h
 number_read (negative (pos n)) h = absurd h
 number_read (negative (negsuc n)) h = number_of-negative n h

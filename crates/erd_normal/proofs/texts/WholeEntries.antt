@@ -1,5 +1,5 @@
 -- The entries of an array that has no fraction have none.
-use Rattle.std.proofs.Common.{◌≡◌, ℕ, List, [], ◌∷◌, Bool, true, false, ◌||◌, map, Option, Some, None, refl, ap, ◌∙◌}
+use Rattle.std.proofs.Common.{◌≡◌, ℕ, Ordering, List, [], ◌∷◌, Bool, true, false, ◌||◌, map, Option, Some, None, refl, ap, ◌∙◌}
 use Rattle.std.specs.List.{AllByRecursion}
 use Rattle.std.specs.Option.{option_map_or}
 use Rattle.serde_json.specs.Data.{Data, array, Items, no_items, item}
@@ -8,7 +8,9 @@ use Rattle.serde_json.specs.View.{items_of, items_view, view}
 use Rattle.serde_json.specs.Written.{has_float, items_have_float}
 use Rattle.serde_json.specs.declared.value.Value.{Value}
 use Rattle.erd_check.specs.Values.{entries_of, list_of_items, entries_at}
+use Rattle.erd_meaning.specs.SelectionNames.{rising_list}
 use Rattle.erd_meaning.proofs.selections.WholeParts.{whole_get}
+use Rattle.erd_normal.proofs.lists.BuiltLists.{all_rising}
 
 pub listed_items : (ds : Items) → items_of (list_of_items ds) ≡ ds
 listed_items no_items = refl
@@ -41,3 +43,12 @@ whole_entries_at name d h = at (get name d) refl
 -- the entries of an array that is a member
 pub whole_list_at : (name : List ℕ) (d : Data) (vs : List Value) → has_float d ≡ false → map view vs ≡ entries_at name d → items_have_float (items_view vs) ≡ false
 whole_list_at name d vs h is = ap (λ ds. items_have_float (items_of ds)) is ∙ whole_entries_at name d h
+
+-- one by one, and back
+from_all_whole : (ds : List Data) → AllByRecursion (λ d. has_float d ≡ false) ds → items_have_float (items_of ds) ≡ false
+from_all_whole [] h = refl
+from_all_whole (d ∷ ds) h = rw (h.0, from_all_whole ds h.1) refl
+
+-- in rising order
+pub whole_rising : (cmp : Data → Data → Ordering) (ds : List Data) → items_have_float (items_of ds) ≡ false → items_have_float (items_of (rising_list cmp ds)) ≡ false
+whole_rising cmp ds h = from_all_whole (rising_list cmp ds) (all_rising (λ d. has_float d ≡ false) cmp ds (all_whole ds h))

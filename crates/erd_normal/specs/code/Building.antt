@@ -2,7 +2,7 @@
 use Rattle.std.specs.Prelude.{◌≡◌, ℕ, ◌+◌, List, [], ◌∷◌, ◌++◌, Option, Some, None, decimal, slice_set}
 use Rattle.std.specs.List.{slice_get}
 use Rattle.std.specs.Option.{option_map_or}
-use Rattle.serde_json.specs.Data.{Data, Members, put}
+use Rattle.serde_json.specs.Data.{Data, object, Members, member, put}
 use Rattle.serde_json.specs.Written.{compact_text}
 use Rattle.erd_tables.specs.declared.class.Family.{Family}
 use Rattle.erd_meaning.specs.Keys.{Preference, key_of}
@@ -13,6 +13,20 @@ use Rattle.erd_normal.specs.Canonical.{id_prefix, rank_of}
 abbrev pub put_if : List ℕ → Option Data → Members → Members
 put_if k None ms = ms
 put_if k (Some v) ms = put k v ms
+
+-- The members with a first one of this name, if there is a value for it.
+abbrev pub first_if : List ℕ → Option Data → Members → Members
+first_if k v ms = option_map_or (λ d. member k d ms) v ms
+
+-- The members with each of these values under its name.
+abbrev pub put_all : List (List ℕ × Data) → Members → Members
+put_all [] ms = ms
+put_all (p ∷ ps) ms = put p.0 p.1 (put_all ps ms)
+
+-- The object with each of these values under its name. Any other value stays.
+abbrev pub put_in : List (List ℕ × Data) → Data → Data
+put_in ps (object ms) = object (put_all ps ms)
+put_in ps d = d
 
 -- A text and a value, as a pair.
 abbrev pub beside : List ℕ → Data → List ℕ × Data

@@ -1,5 +1,5 @@
 -- The tree that is built for a report, part by part. It does not define the profile: `IsCanonicalFormOf` does.
-use Rattle.std.specs.Prelude.{ℕ, List, [], true, false, if◌then◌else◌, Option, Some, None, option_map, unwrap_or, map, filter, find, length, codes}
+use Rattle.std.specs.Prelude.{ℕ, List, [], ◌∷◌, true, false, if◌then◌else◌, Option, Some, None, option_map, unwrap_or, map, filter, find, length, codes}
 use Rattle.std.specs.Option.{option_cmp, option_map_or}
 use Rattle.std.specs.Ordering.{is_lt}
 use Rattle.std.specs.declared.cmp.Ordering.{Ordering}
@@ -21,6 +21,7 @@ use Rattle.erd_meaning.specs.Objects.{has_id, contests, selections_of_contest, P
 use Rattle.erd_meaning.specs.Records.{class_of_node}
 use Rattle.erd_meaning.specs.SelectionNames.{compact_cmp, key_named, name_cmp, name_of, rising_list, selection_role, with_rising_text}
 use Rattle.erd_meaning.specs.declared.keys.key.Key.{Key}
+use Rattle.erd_normal.specs.code.Building.{put_all}
 use Rattle.erd_normal.specs.Canonical.{canonical_id, canonical_selection_id, rank_of}
 
 -- ---- ranks and references
@@ -185,16 +186,17 @@ normal_report_value π t name (kind.Keyed f) d = unless_no_entry d (normal_objec
 normal_report_value π t name kind.Elections d = Some (array_of (map (normal_election π t) (rising_list (by_key π) (entries_of d))))
 normal_report_value π t name k d = if is_envelope_name name then None else normal_value π t k d
 
+-- The names and values of the canonical envelope, in the order of the names.
+abbrev pub envelope_values : List (List ℕ × Data)
+envelope_values =
+    (codes "Format", string (codes "summary-contest")) ∷ (codes "GeneratedDate", string (codes "2000-01-01T00:00:00Z"))
+    ∷ (codes "Issuer", string (codes "canonical")) ∷ (codes "IssuerAbbreviation", string (codes "canonical"))
+    ∷ (codes "SequenceEnd", number (unsigned 1)) ∷ (codes "SequenceStart", number (unsigned 1))
+    ∷ (codes "VendorApplicationId", string (codes "canonical")) ∷ []
+
 -- The members with those of the canonical envelope.
 abbrev pub with_envelope : Members → Members
-with_envelope ms =
-    put (codes "Format") (string (codes "summary-contest"))
-    (put (codes "GeneratedDate") (string (codes "2000-01-01T00:00:00Z"))
-    (put (codes "Issuer") (string (codes "canonical"))
-    (put (codes "IssuerAbbreviation") (string (codes "canonical"))
-    (put (codes "VendorApplicationId") (string (codes "canonical"))
-    (put (codes "SequenceStart") (number (unsigned 1))
-    (put (codes "SequenceEnd") (number (unsigned 1)) ms))))))
+with_envelope ms = put_all envelope_values ms
 
 -- The object with the canonical envelope.
 abbrev pub in_envelope : Data → Data

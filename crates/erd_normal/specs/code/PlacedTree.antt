@@ -1,6 +1,6 @@
 -- The tree that is built for a report, with objects and selections numbered by their places among the sorted ones. It does
 -- not define the profile: `PlacedTrees` proves that it is the tree of `NormalTree` for an accepted report.
-use Rattle.std.specs.Prelude.{ℕ, ◌+◌, List, [], ◌∷◌, ◌++◌, if◌then◌else◌, Option, Some, None, option_map, map, codes, decimal}
+use Rattle.std.specs.Prelude.{ℕ, ◌+◌, List, [], ◌∷◌, ◌++◌, Bool, true, false, if◌then◌else◌, Option, Some, None, option_map, map, codes, decimal}
 use Rattle.serde_json.specs.Data.{Data}
 use Rattle.erd_tables.specs.Table.{is_envelope_name}
 use Rattle.erd_tables.specs.declared.class.Family.{Family}
@@ -41,6 +41,12 @@ placed_selection π t n m d =
 -- The selections of contest n, which stands at position i, in the order of their names.
 abbrev pub placed_selections : Preference → Data → ℕ → ℕ → List Data
 placed_selections π t n i = map_from (placed_selection π t n) 1 (map (λ p. p.1.1) (rising_at π t i))
+
+-- True for the members of an object that hold its content or its selections.
+abbrev pub holds_parts : MemberKind → Bool
+holds_parts kind.Content = true
+holds_parts (kind.Keyed family.Selection) = true
+holds_parts k = false
 
 -- A member of object n of a family, which stands at position i. In a contest, this includes the selections.
 abbrev pub placed_object_value : Preference → Data → ℕ → ℕ → MemberKind → Data → Option Data

@@ -1,12 +1,16 @@
-ghost use Rattle.std.specs.Prelude.{◌≡◌, ℕ, List, Option, false, option_map, IfOk};
+ghost use Rattle.std.specs.Prelude.{◌≡◌, ◌++◌, ℕ, List, Option, Some, false, is_some, drop, IfOk};
 ghost use Rattle.std.specs.Result.{OnOk};
-ghost use Rattle.serde_json.specs.Data.{Data};
+ghost use Rattle.serde_json.specs.Data.{Data, Members, object};
 ghost use Rattle.serde_json.specs.View.{view, members_view};
 ghost use Rattle.serde_json.specs.Written.{has_float, members_have_float};
 ghost use Rattle.erd_tables.specs.declared.member.MemberKind.{MemberKind as Asked};
-ghost use Rattle.erd_normal.specs.code.Building.{put_if};
+ghost use Rattle.erd_normal.specs.code.Building.{first_if, put_all};
+ghost use Rattle.erd_normal.specs.code.DueMembers.{AreDue, due_list};
 ghost use Rattle.erd_normal.specs.code.NormalTree.{normal_members};
+ghost use Rattle.erd_normal.specs.code.Tokens.{members_tokens, value_tokens};
 
+use crate::text::due_members::{DueMember, write_rest, write_through};
+use crate::text::output::Output;
 use erd_tables::{Class, MemberKind, member_kind};
 use serde_json::{Map, Value};
 use std::alloc::{AllocError, Global};
@@ -16,49 +20,84 @@ pub(crate) trait MemberRule {
     // The canonical value of a member, by its name and kind, if the member is kept.
     ghost value_of: { Self → List ℕ → Asked → Data → Option Data };
 
-    /// The canonical value of the member, or `None` if the member is left out.
-    fn value(
+    /// Whether the member is kept.
+    fn keeps(&self, name: &str, kind: MemberKind, member: &Value) -> bool
+        ensures { result ≡ is_some (value_of self.now name.now kind (view member.now)) };
+
+    /// Writes the canonical value of a member that is kept.
+    fn write(
         &self,
         alloc: Global,
-        name: &str,
         kind: MemberKind,
         member: &Value,
-    ) -> Result<Option<Value>, AllocError>
-        requires whole { has_float (view member.now) ≡ false }
-        ensures { IfOk result (λ value. option_map view value ≡ value_of self.now name.now kind (view member.now)) };
+        out: &mut Output,
+    ) -> Result<(), AllocError>
+        ensures { OnOk result (has_float (view member.now) ≡ false → (name : List ℕ) (d : Data) → value_of self.now name kind (view member.now) ≡ Some d → out.new ≡ out.old ++ value_tokens d) };
 }
 
-/// The members built from those of an object of the class, each from the member with the same name.
-pub(crate) fn members_by<R: MemberRule>(
+/// Writes an object of the class with the members that the rule gives, each from the member with the same name, and with
+/// those that are put in.
+pub(crate) fn write_members<R: MemberRule>(
     alloc: Global,
     rule: &R,
     class: Class,
+    due: &[DueMember],
     members: &Map<String, Value>,
-) -> Result<Map<String, Value>, AllocError>
-    requires whole { members_have_float (members_view members.now.entries) ≡ false }
-    ensures { IfOk result (λ built. members_view built.entries ≡ normal_members (R.value_of rule.now) class (members_view members.now.entries)) }
+    out: &mut Output,
+) -> Result<(), AllocError>
+    ensures { OnOk result (AreDue due.now → members_have_float (members_view members.now.entries) ≡ false
+        → out.new ≡ out.old ++ value_tokens (object (put_all (due_list due.now) (normal_members (R.value_of rule.now) class (members_view members.now.entries))))) }
 {
-    let mut built = Map::new(alloc);
+    out.begin_object()?;
+    let mut at = 0;
     for (name, member) in members.iter() {
         let name = name.as_str();
-        let value = rule.value(alloc, name, member_kind(class, name), member)?;
-        put_built(alloc, &mut built, name, value)?;
+        let member = (name, member_kind(class, name), member);
+        at = write_member(alloc, rule, due, at, member, out)?;
     }
-    Ok(built)
+    write_rest(alloc, due, at, out)?;
+    out.end_object()
 }
 
-/// Adds the value to the members, if there is one.
-pub(crate) fn put_built(
+/// Writes a member if it is kept, after those that are put in before it. Returns the position of the first that is left.
+fn write_member<R: MemberRule>(
     alloc: Global,
-    members: &mut Map<String, Value>,
-    name: &str,
-    value: Option<Value>,
-) -> Result<(), AllocError>
-    ensures { OnOk result (members_view members.new.entries
-        ≡ put_if name.now (option_map view value) (members_view members.old.entries)) }
+    rule: &R,
+    due: &[DueMember],
+    at: usize,
+    member: (&str, MemberKind, &Value),
+    out: &mut Output,
+) -> Result<usize, AllocError>
+    ensures { IfOk result (λ left. AreDue due.now → has_float (view member.entry.2.now) ≡ false → (ms : Members)
+        → out.old ++ members_tokens (put_all (due_list (drop at due.now)) (first_if member.entry.0.now (R.value_of rule.now member.entry.0.now member.entry.1 (view member.entry.2.now)) ms))
+        ≡ out.new ++ members_tokens (put_all (due_list (drop left due.now)) ms)) }
 {
-    match value {
-        Some(value) => serde_json::put(members, alloc, name, value),
-        None => Ok(()),
+    let (name, kind, value) = member;
+    if rule.keeps(name, kind, value) {
+        write_kept(alloc, rule, due, at, member, out)
+    } else {
+        Ok(at)
     }
+}
+
+/// Writes a member that is kept, or the one that is put in its place, after those that are put in before it. Returns the
+/// position of the first that is left.
+fn write_kept<R: MemberRule>(
+    alloc: Global,
+    rule: &R,
+    due: &[DueMember],
+    at: usize,
+    member: (&str, MemberKind, &Value),
+    out: &mut Output,
+) -> Result<usize, AllocError>
+    ensures { IfOk result (λ left. AreDue due.now → has_float (view member.entry.2.now) ≡ false → (d : Data) (ms : Members) → R.value_of rule.now member.entry.0.now member.entry.1 (view member.entry.2.now) ≡ Some d
+        → out.old ++ members_tokens (put_all (due_list (drop at due.now)) (first_if member.entry.0.now (Some d) ms)) ≡ out.new ++ members_tokens (put_all (due_list (drop left due.now)) ms)) }
+{
+    let (name, kind, value) = member;
+    let (is_replaced, left) = write_through(alloc, due, at, name, out)?;
+    if !is_replaced {
+        out.key(name)?;
+        rule.write(alloc, kind, value, out)?;
+    }
+    Ok(left)
 }

@@ -4,20 +4,39 @@ ghost use Rattle.serde_json.specs.View.{view};
 ghost use Rattle.serde_json.specs.Written.{has_float};
 ghost use Rattle.erd_check.specs.Trees.{IsNoDeeper, IsTree};
 ghost use Rattle.erd_normal.specs.Canonical.{IsCanonicalFormOf};
+ghost use Rattle.erd_normal.specs.CanonicalText.{IsCanonicalText};
 
 use crate::numbers::numbered_report::NumberedReport;
 use crate::numbers::numbering::numbers_of;
-use crate::report::report_tree::report_tree;
+use crate::report::report_text::write_report;
+use crate::text::output::Output;
 use erd_meaning::Report;
 use serde_json::Value;
 use std::alloc::{AllocError, Global};
 
-/// Returns the canonical form of a report: the only canonical tree that means what the report means, under the preference
-/// that the report was resolved under. Its numbers are whole, and it is nested no deeper than the report.
+/// Returns the text of the canonical form of a report: the compact text of the only canonical tree that means what the report
+/// means, under the preference that the report was resolved under.
 ///
 /// First, the objects of each family are sorted by key, and the selections of each contest by name. This gives their numbers
-/// and the order in which they are written. Then one pass builds the tree and sorts the entries of each set. Each text is
-/// copied into the tree once.
+/// and the order in which they are written. Then one pass over the report writes the text, and sorts the entries of each set.
+/// It builds no tree.
+///
+/// # Errors
+///
+/// `AllocError` if out of memory.
+pub fn normal_text(alloc: Global, report: &Report) -> Result<Vec<u8>, AllocError>
+    ensures { IfOk result (λ text. IsCanonicalText report.now.prefer (view report.now.tree) text.items) }
+{
+    let _accepted = report.tree();
+    let numbers = numbers_of(alloc, report)?;
+    let mut out = Output::new(alloc);
+    write_report(alloc, &NumberedReport::of(report, &numbers), &mut out)?;
+    Ok(out.into_text())
+}
+
+/// Returns the canonical form of a report: the only canonical tree that means what the report means, under the preference
+/// that the report was resolved under. Its numbers are whole, and it is nested no deeper than the report. The tree is read
+/// from the text that `normal_text` returns.
 ///
 /// # Errors
 ///
@@ -29,7 +48,12 @@ pub fn normal_tree(alloc: Global, report: &Report) -> Result<Value, AllocError>
     ensures is_tree { IfOk result (λ tree. IsTree (view tree)) }
     ensures whole { IfOk result (λ tree. has_float (view tree) ≡ false) }
 {
-    let _accepted = report.tree();
-    let numbers = numbers_of(alloc, report)?;
-    report_tree(alloc, &NumberedReport::of(report, &numbers))
+    // read for `nests`: the text is read back
+    let _tree = report.tree();
+    let text = normal_text(alloc, report)?;
+    match Value::from_slice(alloc, &text) {
+        Ok(tree) => Ok(tree),
+        // the text is JSON, so memory ran out
+        Err(_) => Err(AllocError),
+    }
 }

@@ -1,116 +1,173 @@
-ghost use Rattle.std.specs.Prelude.{◌≡◌, false, Some, map, option_map, IfOk};
+ghost use Rattle.std.specs.Prelude.{◌≡◌, ◌++◌, Some, false, option_map, is_some};
+ghost use Rattle.std.specs.Result.{OnOk};
+ghost use Rattle.serde_json.specs.Data.{Data};
 ghost use Rattle.serde_json.specs.View.{view, items_view, members_view};
 ghost use Rattle.serde_json.specs.Written.{has_float, items_have_float, members_have_float};
 ghost use Rattle.erd_tables.specs.Table.{kind_of_member};
-ghost use Rattle.erd_normal.specs.code.NormalTree.{normal_content, normal_node, normal_node_members, normal_node_value};
+ghost use Rattle.erd_meaning.specs.Keys.{Preference};
+ghost use Rattle.erd_normal.specs.code.NormalTree.{normal_content, normal_node, normal_node_members, normal_node_value, normal_nodes};
+ghost use Rattle.erd_normal.specs.code.Tokens.{items_tokens, member_tokens, members_tokens, value_tokens};
 
 use crate::numbers::numbered_report::NumberedReport;
-use crate::objects::members::put_built;
-use crate::values::value_of_kind::value_of_kind;
+use crate::text::output::Output;
+use crate::text::value::write_value;
+use crate::values::value_of_kind::{is_kept, write_of_kind};
 use erd_check::values::{class_of_object, is_empty_array};
 use erd_tables::{Class, MemberKind, Role, member_kind};
 use serde_json::{Map, Value};
 use std::alloc::{AllocError, Global};
 
-/// The canonical list for a list of contests and headers, at every depth of headers.
+/// Writes the canonical list for a list of contests and headers, at every depth of headers.
 #[cycle(content)]
-pub(crate) fn content(
+pub(crate) fn write_content(
     alloc: Global,
     numbered: &NumberedReport,
     value: &Value,
-) -> Result<Value, AllocError>
-    ensures { IfOk result (λ built. has_float (view value.now) ≡ false → view built ≡ normal_content numbered.now.prefer (view numbered.now.tree) (view value.now)) }
+    out: &mut Output,
+) -> Result<(), AllocError>
+    ensures { OnOk result (has_float (view value.now) ≡ false → out.new ≡ out.old ++ value_tokens (normal_content numbered.now.prefer (view numbered.now.tree) (view value.now))) }
 {
     match value {
-        Value::Array(items) => Ok(Value::Array(nodes(alloc, numbered, items)?)),
-        other => other.clone(),
+        Value::Array(items) => {
+            out.begin_array()?;
+            write_nodes(alloc, numbered, items, out)
+        }
+        other => write_value(other, out),
     }
 }
 
+/// Writes the canonical contests and headers of an array, and its end.
 #[cycle(content)]
-fn nodes(
+fn write_nodes(
     alloc: Global,
     numbered: &NumberedReport,
     items: &Vec<Value>,
-) -> Result<Vec<Value>, AllocError>
-    ensures { IfOk result (λ built. items_have_float (items_view items.now.items) ≡ false → map view built.items
-        ≡ map (λ v. normal_node numbered.now.prefer (view numbered.now.tree) (view v)) items.now.items) }
+    out: &mut Output,
+) -> Result<(), AllocError>
+    ensures { OnOk result (items_have_float (items_view items.now.items) ≡ false
+        → out.new ≡ out.old ++ items_tokens (normal_nodes numbered.now.prefer (view numbered.now.tree) (items_view items.now.items))) }
 {
-    let mut built = Vec::with_capacity(alloc, items.len())?;
     for item in items {
-        built.push(node(alloc, numbered, item)?)?;
+        write_node(alloc, numbered, item, out)?;
     }
-    Ok(built)
+    out.end_array()
 }
 
-/// The canonical node for a contest or a header.
+/// Writes the canonical node for a contest or a header.
 #[cycle(content)]
-fn node(alloc: Global, numbered: &NumberedReport, value: &Value) -> Result<Value, AllocError>
-    ensures { IfOk result (λ built. has_float (view value.now) ≡ false → view built ≡ normal_node numbered.now.prefer (view numbered.now.tree) (view value.now)) }
+fn write_node(
+    alloc: Global,
+    numbered: &NumberedReport,
+    value: &Value,
+    out: &mut Output,
+) -> Result<(), AllocError>
+    ensures { OnOk result (has_float (view value.now) ≡ false → out.new ≡ out.old ++ value_tokens (normal_node numbered.now.prefer (view numbered.now.tree) (view value.now))) }
 {
     match value {
         Value::Object(members) => {
             let class = class_of_object(Role::Content, value);
-            Ok(Value::Object(node_members(alloc, numbered, class, members)?))
+            out.begin_object()?;
+            write_node_members(alloc, numbered, class, members, out)
         }
-        other => other.clone(),
+        other => write_value(other, out),
     }
 }
 
+/// Writes the canonical members of a contest or a header, and its end.
 #[cycle(content)]
-fn node_members(
+fn write_node_members(
     alloc: Global,
     numbered: &NumberedReport,
     class: Option<Class>,
     members: &Map<String, Value>,
-) -> Result<Map<String, Value>, AllocError>
-    ensures { IfOk result (λ built. members_have_float (members_view members.now.entries) ≡ false → members_view built.entries
-        ≡ normal_node_members numbered.now.prefer (view numbered.now.tree) class (members_view members.now.entries)) }
+    out: &mut Output,
+) -> Result<(), AllocError>
+    ensures { OnOk result (members_have_float (members_view members.now.entries) ≡ false
+        → out.new ≡ out.old ++ members_tokens (normal_node_members numbered.now.prefer (view numbered.now.tree) class (members_view members.now.entries))) }
 {
-    let mut built = Map::new(alloc);
     for (name, member) in members.iter() {
         let name = name.as_str();
-        let value = node_value(alloc, numbered, kind_in(class, name), member)?;
-        put_built(alloc, &mut built, name, value)?;
+        write_node_member(alloc, numbered, kind_in(class, name), name, member, out)?;
     }
-    Ok(built)
+    out.end_object()
 }
 
-/// The canonical value of a member of a contest or a header, or `None` if the member is left out.
+/// Writes a member of a contest or a header, if it is kept.
 #[cycle(content)]
-fn node_value(
+fn write_node_member(
     alloc: Global,
     numbered: &NumberedReport,
     kind: Option<MemberKind>,
-    member: &Value,
-) -> Result<Option<Value>, AllocError>
-    ensures { IfOk result (λ built. has_float (view member.now) ≡ false → option_map view built
-        ≡ normal_node_value numbered.now.prefer (view numbered.now.tree) kind (view member.now) (normal_content numbered.now.prefer (view numbered.now.tree) (view member.now))) }
+    name: &str,
+    value: &Value,
+    out: &mut Output,
+) -> Result<(), AllocError>
+    ensures { OnOk result (has_float (view value.now) ≡ false → out.new ≡ out.old ++ member_tokens name.now
+        (normal_node_value numbered.now.prefer (view numbered.now.tree) kind (view value.now) (normal_content numbered.now.prefer (view numbered.now.tree) (view value.now)))) }
 {
-    match kind {
-        Some(kind) => value_in_node(alloc, numbered, kind, member),
-        None => Ok(Some(member.clone()?)),
+    if is_kept_in_node(kind, value) {
+        out.key(name)?;
+        write_node_value(alloc, numbered, kind, value, out)
+    } else {
+        Ok(())
     }
 }
 
+/// Writes the canonical value of a member of a contest or a header that is kept.
 #[cycle(content)]
-fn value_in_node(
+fn write_node_value(
+    alloc: Global,
+    numbered: &NumberedReport,
+    kind: Option<MemberKind>,
+    value: &Value,
+    out: &mut Output,
+) -> Result<(), AllocError>
+    ensures { OnOk result (has_float (view value.now) ≡ false → (d : Data)
+        → normal_node_value numbered.now.prefer (view numbered.now.tree) kind (view value.now) (normal_content numbered.now.prefer (view numbered.now.tree) (view value.now)) ≡ Some d
+        → out.new ≡ out.old ++ value_tokens d) }
+{
+    match kind {
+        Some(kind) => write_listed(alloc, numbered, kind, value, out),
+        None => write_value(value, out),
+    }
+}
+
+/// Writes the canonical value of a member of this kind of a contest or a header. The member is kept.
+#[cycle(content)]
+fn write_listed(
     alloc: Global,
     numbered: &NumberedReport,
     kind: MemberKind,
-    member: &Value,
-) -> Result<Option<Value>, AllocError>
-    ensures { IfOk result (λ built. has_float (view member.now) ≡ false → option_map view built
-        ≡ normal_node_value numbered.now.prefer (view numbered.now.tree) (Some kind) (view member.now) (normal_content numbered.now.prefer (view numbered.now.tree) (view member.now))) }
+    value: &Value,
+    out: &mut Output,
+) -> Result<(), AllocError>
+    ensures { OnOk result (has_float (view value.now) ≡ false → (d : Data)
+        → normal_node_value numbered.now.prefer (view numbered.now.tree) (Some kind) (view value.now) (normal_content numbered.now.prefer (view numbered.now.tree) (view value.now)) ≡ Some d
+        → out.new ≡ out.old ++ value_tokens d) }
 {
     match kind {
-        MemberKind::Content => {
-            if is_empty_array(member) {
-                return Ok(None);
-            }
-            Ok(Some(content(alloc, numbered, member)?))
-        }
-        _ => value_of_kind(alloc, numbered, kind, member),
+        MemberKind::Content => write_content(alloc, numbered, value, out),
+        _ => write_of_kind(alloc, numbered, kind, value, out),
+    }
+}
+
+/// Whether a member of a contest or a header is kept. `kind` is what the table gives it.
+fn is_kept_in_node(kind: Option<MemberKind>, value: &Value) -> bool
+    ensures { (π : Preference) (t inside : Data) → result ≡ is_some (normal_node_value π t kind (view value.now) inside) }
+{
+    match kind {
+        Some(kind) => is_listed_kept(kind, value),
+        None => true,
+    }
+}
+
+/// Whether a member of this kind of a contest or a header is kept.
+fn is_listed_kept(kind: MemberKind, value: &Value) -> bool
+    ensures { (π : Preference) (t inside : Data) → result ≡ is_some (normal_node_value π t (Some kind) (view value.now) inside) }
+{
+    match kind {
+        MemberKind::Content => !is_empty_array(value),
+        _ => is_kept(kind, value),
     }
 }
 

@@ -1,44 +1,24 @@
-ghost use Rattle.std.specs.Prelude.{◌≡◌, false, codes, IfOk};
-ghost use Rattle.serde_json.specs.Data.{Data, put};
-ghost use Rattle.serde_json.specs.View.{view, members_view};
+ghost use Rattle.std.specs.Prelude.{◌≡◌, ◌++◌, false};
+ghost use Rattle.std.specs.Result.{OnOk};
+ghost use Rattle.serde_json.specs.View.{view};
 ghost use Rattle.serde_json.specs.Written.{has_float};
 ghost use Rattle.erd_meaning.specs.SelectionNames.{with_rising_text};
+ghost use Rattle.erd_normal.specs.code.Tokens.{value_tokens};
 
-use crate::values::sorted_copies::rising_values;
+use crate::objects::copied_members::write_with;
+use crate::text::due_members::{DueMember, DueValue};
+use crate::text::output::Output;
 use erd_check::values::entries_at;
-use serde_json::{Map, Value};
+use serde_json::Value;
 use std::alloc::{AllocError, Global};
 
-/// A copy of a label, with its translations sorted by their compact texts.
-pub(crate) fn with_rising_text(alloc: Global, label: &Value) -> Result<Value, AllocError>
-    ensures { IfOk result (λ copy. has_float (view label.now) ≡ false → view copy ≡ with_rising_text (view label.now)) }
+/// Writes a label, with its translations sorted by their compact texts.
+pub(crate) fn write_label(alloc: Global, label: &Value, out: &mut Output) -> Result<(), AllocError>
+    ensures { OnOk result (has_float (view label.now) ≡ false → out.new ≡ out.old ++ value_tokens (with_rising_text (view label.now))) }
 {
-    match label {
-        Value::Object(members) => {
-            let translations = rising_values(alloc, entries_at(label, "Text"))?;
-            let mut copy = beside_text(alloc, members)?;
-            serde_json::put(&mut copy, alloc, "Text", Value::Array(translations))?;
-            Ok(Value::Object(copy))
-        }
-        other => other.clone(),
-    }
-}
-
-/// Copies the members of a label other than its translations. With any translations put among them, they are the members of
-/// the label with these translations.
-fn beside_text(
-    alloc: Global,
-    members: &Map<String, Value>,
-) -> Result<Map<String, Value>, AllocError>
-    ensures { IfOk result (λ copy. (texts : Data) → put (codes "Text") texts (members_view copy.entries)
-        ≡ put (codes "Text") texts (members_view members.now.entries)) }
-{
-    let mut copy = Map::new(alloc);
-    for (name, member) in members.iter() {
-        let name = name.as_str();
-        if name != "Text" {
-            serde_json::put(&mut copy, alloc, name, member.clone()?)?;
-        }
-    }
-    Ok(copy)
+    let translations = DueMember {
+        name: "Text",
+        value: DueValue::Rising(entries_at(label, "Text")),
+    };
+    write_with(alloc, &[translations], label, out)
 }

@@ -1,47 +1,55 @@
-ghost use Rattle.std.specs.Prelude.{◌≡◌, IfOk};
+ghost use Rattle.std.specs.Prelude.{◌≡◌, ◌++◌};
+ghost use Rattle.std.specs.Result.{OnOk};
 ghost use Rattle.serde_json.specs.Data.{string};
 ghost use Rattle.serde_json.specs.View.{view};
 ghost use Rattle.erd_normal.specs.code.Building.{numbered_id};
 ghost use Rattle.erd_normal.specs.code.NormalTree.{normal_reference, normal_selection_reference};
+ghost use Rattle.erd_normal.specs.code.Tokens.{value_tokens};
 
 use crate::numbers::id_texts::id_text;
 use crate::numbers::numbered_report::NumberedReport;
+use crate::text::output::Output;
 use erd_check::values::text_of;
 use erd_tables::Family;
 use serde_json::Value;
 use std::alloc::{AllocError, Global};
 
-/// The canonical reference for a reference to an object of a family.
-pub(crate) fn reference(
+/// Writes the canonical reference for a reference to an object of a family.
+pub(crate) fn write_reference(
     alloc: Global,
     numbered: &NumberedReport,
     family: Family,
     value: &Value,
-) -> Result<Value, AllocError>
-    ensures { IfOk result (λ built. view built ≡ normal_reference numbered.now.prefer (view numbered.now.tree) family (view value.now)) }
+    out: &mut Output,
+) -> Result<(), AllocError>
+    ensures { OnOk result (out.new ≡ out.old ++ value_tokens (normal_reference numbered.now.prefer (view numbered.now.tree) family (view value.now))) }
 {
     let number = numbered.number_of(family, text_of(value));
-    reference_to(alloc, family, number)
+    write_reference_to(alloc, family, number, out)
 }
 
-/// The canonical reference to the object of a family that has this number.
-pub(crate) fn reference_to(
+/// Writes the canonical reference to the object of a family that has this number.
+pub(crate) fn write_reference_to(
     alloc: Global,
     family: Family,
     number: usize,
-) -> Result<Value, AllocError>
-    ensures { IfOk result (λ built. view built ≡ string (numbered_id family number)) }
+    out: &mut Output,
+) -> Result<(), AllocError>
+    ensures { OnOk result (out.new ≡ out.old ++ value_tokens (string (numbered_id family number))) }
 {
-    Ok(Value::String(id_text(alloc, family, number)?))
+    let id = id_text(alloc, family, number)?;
+    out.string(id.as_str())
 }
 
-/// The canonical reference for a reference to a selection.
-pub(crate) fn selection_reference(
+/// Writes the canonical reference for a reference to a selection.
+pub(crate) fn write_selection_reference(
     alloc: Global,
     numbered: &NumberedReport,
     value: &Value,
-) -> Result<Value, AllocError>
-    ensures { IfOk result (λ built. view built ≡ normal_selection_reference numbered.now.prefer (view numbered.now.tree) (view value.now)) }
+    out: &mut Output,
+) -> Result<(), AllocError>
+    ensures { OnOk result (out.new ≡ out.old ++ value_tokens (normal_selection_reference numbered.now.prefer (view numbered.now.tree) (view value.now))) }
 {
-    Ok(Value::String(numbered.selection_id(alloc, text_of(value))?))
+    let id = numbered.selection_id(alloc, text_of(value))?;
+    out.string(id.as_str())
 }

@@ -8,7 +8,7 @@ use crate::vectors::{EVERY_MEMBER, ONE_UNIT, OTHER_VENDOR, SMALL_BALLOT, SMALL_B
 use erd_canon::{Outcome, ReadFrom, WriteTo, check_bytes, run_canon};
 use erd_check::shape;
 use erd_meaning::{Key, Report, key_of, resolve};
-use erd_normal::{CompactText, SetOrder, in_order, normal_tree};
+use erd_normal::{CompactText, SetOrder, in_order, normal_text, normal_tree};
 use erd_tables::Family;
 use serde_json::Value;
 use std::alloc::Global;
@@ -158,7 +158,7 @@ fn optional_keys_in_order(rt: HostRuntime) -> Result<(), Fail> {
     Ok(())
 }
 
-// The canonical tree has the canonical bytes, and the report is unchanged.
+// The canonical text and the canonical tree have the canonical bytes, and the report is unchanged.
 #[test]
 fn canonical_trees(rt: HostRuntime) -> Result<(), Fail> {
     let alloc = rt.alloc();
@@ -173,6 +173,7 @@ fn canonical_trees(rt: HostRuntime) -> Result<(), Fail> {
             let found = normal.to_string(alloc)?;
             assert_eq!(rt; found.as_str(), wanted.as_str());
         }
+        assert!(rt; normal_text(alloc, &report)?.as_slice() == wanted.as_bytes());
         let after = tree.to_string(alloc)?;
         assert_eq!(rt; after.as_str(), before.as_str());
     }

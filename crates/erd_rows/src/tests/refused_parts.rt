@@ -9,7 +9,7 @@ use crate::vectors::{
 use erd_check::path::{Path, push_fault};
 use erd_check::{ValueSet, faults};
 use erd_meaning::{Key, Report, key_of};
-use erd_normal::{CompactText, in_order, normal_tree};
+use erd_normal::{CompactText, in_order, normal_text, normal_tree};
 use erd_tables::{Place, Reason, Step, Text, pointer};
 use serde_json::Value;
 use std::alloc::{AllocError, Global};
@@ -132,13 +132,23 @@ fn normal_form(alloc: Global, report: &Report) -> Answer {
     }
 }
 
-// The canonical tree of one report, and copies of the names of its selections.
+// Whether the canonical text is right.
+fn normal_bytes(alloc: Global, report: &Report) -> Answer {
+    match normal_text(alloc, report) {
+        Ok(text) if text.as_slice() == SMALL_BALLOT_CANONICAL.as_bytes() => Answer::Right,
+        Ok(_) => Answer::Wrong,
+        Err(_) => Answer::WantsMemory,
+    }
+}
+
+// The canonical tree and text of one report, and copies of the names of its selections.
 #[test]
 fn refused_normal_tree(rt: HostRuntime) -> Result<(), Fail> {
     let alloc = rt.alloc();
     let tree = Value::from_str(alloc, OTHER_VENDOR)?;
     let report = accepted(alloc, &tree)?;
     each_refused(alloc, |alloc| normal_form(alloc, &report))?;
+    each_refused(alloc, |alloc| normal_bytes(alloc, &report))?;
     each_refused(alloc, |alloc| copies(alloc, &report))
 }
 

@@ -3,7 +3,7 @@ use Rattle.std.proofs.Common.{ap, subst}
 use Rattle.std.proofs.lemmas.Result.{err_from_is_err_and}
 use Rattle.serde_json.specs.View.{view}
 use Rattle.erd_meaning.specs.Keys.{Preference}
-use Rattle.erd_normal.specs.Canonical.{IsCanonicalFormOf}
+use Rattle.erd_normal.specs.CanonicalText.{IsCanonicalText}
 use Rattle.erd_canon.proofs.forms.CanonicalTexts.{canonical_text}
 use Rattle.erd_canon.proofs.forms.FormLaws.{same_form_when_rearranged, one_form_for_one_meaning, is_its_own_form}
 use Rattle.erd_canon.proofs.forms.Refusing.{refused_tree}
@@ -22,10 +22,9 @@ returns-in_err-report-clause-refused c =
 
 pub returns-clause-ok : goal.returns-clause-ok
 returns-clause-ok c =
-    canonical_text (option_copied c.args.prefer) c.args.bytes.now (view c.in_ok-tree.tree) (view c.in_ok-report.report.tree) (view c.in_ok-form.form) c.in_ok-text.text.items
+    canonical_text (option_copied c.args.prefer) c.args.bytes.now (view c.in_ok-tree.tree) (view c.in_ok-report.report.tree) c.in_ok-text.text.items
     c.in_ok-tree.ensures.read c.in_ok-report.ensures.accepted c.in_ok-tree.ensures.nests (ap view c.in_ok-report.ensures.tree)
-    (subst (λ (π : Preference). IsCanonicalFormOf π (view c.in_ok-report.report.tree) (view c.in_ok-form.form)) c.in_ok-report.ensures.prefer c.in_ok-form.ensures.canonical) c.in_ok-form.ensures.depth c.in_ok-form.ensures.whole
-    c.in_ok-text.ensures.text c.in_ok-text.ensures.utf8 c.in_ok-text.ensures.reads_back
+    (subst (λ (π : Preference). IsCanonicalText π (view c.in_ok-report.report.tree) c.in_ok-text.text.items) c.in_ok-report.ensures.prefer c.in_ok-text.ensures)
 
 pub returns-clause-unique : goal.returns-clause-unique
 returns-clause-unique c = one_form_for_one_meaning (option_copied c.args.prefer) c.args.bytes.now c.in_ok-text.text.items (returns-clause-ok c)
@@ -35,11 +34,6 @@ returns-clause-own c = is_its_own_form (option_copied c.args.prefer) c.args.byte
 
 pub returns-clause-rearranged : goal.returns-clause-rearranged
 returns-clause-rearranged c = same_form_when_rearranged (option_copied c.args.prefer) c.args.bytes.now c.in_ok-text.text.items (returns-clause-ok c)
-
-pub returns-in_err-form-clause-refused : goal.returns-in_err-form-clause-refused
-returns-in_err-form-clause-refused c =
-    let p = err_from_is_err_and c.from_residual-in_err-form.result c.from_residual-in_err-form.ensures.1 in
-    rw (p.1, p.2) tt
 
 pub returns-in_err-text-clause-refused : goal.returns-in_err-text-clause-refused
 returns-in_err-text-clause-refused c =

@@ -1,62 +1,67 @@
-use Rattle.std.proofs.Common.{◌≡◌, false, IfOk, Option, map, option_map, ap, sym, subst, ◌∙◌}
-use Rattle.serde_json.specs.Data.{Data}
-use Rattle.serde_json.specs.View.{members_view, view}
-use Rattle.serde_json.specs.Written.{has_float}
-use Rattle.serde_json.proofs.Views.{Entry, view-Array}
-use Rattle.erd_tables.specs.Table.{kind_of_member}
-use Rattle.erd_normal.specs.code.NormalTree.{normal_content, normal_node, normal_node_value}
-use Rattle.erd_normal.proofs.built.BuiltEntries.{one_more}
-use Rattle.erd_normal.proofs.built.BuiltMembers.{put_each, put_all_of, put_one, whole_first, whole_rest}
-use Rattle.erd_normal.proofs.built.ContentParts.{content_from_map, other_node_value, whole_item}
-use Rattle.erd_normal.proofs.built.NormalMembers.{node_value, normal_node_members_each}
+use Rattle.std.proofs.Common.{◌≡◌, ◌++◌, ◌+◌, drop, Option, ap, sym, ◌∙◌}
+use Rattle.std.proofs.lemmas.Bool.{or_parts}
+use Rattle.std.proofs.lemmas.Result.{on_ok_weaker}
+use Rattle.std.specs.Option.{option_map_or}
+use Rattle.serde_json.specs.Data.{member as member_of}
+use Rattle.serde_json.specs.View.{items_view, members_view, view}
+use Rattle.serde_json.specs.Written.{has_float, items_have_float}
+use Rattle.serde_json.proofs.Views.{Entry}
+use Rattle.erd_tables.specs.declared.member.MemberKind.{MemberKind}
+use Rattle.erd_normal.proofs.built.BuiltMembers.{whole_first, whole_rest}
+use Rattle.erd_normal.proofs.built.NormalMembers.{node_value}
+use Rattle.erd_normal.proofs.texts.WrittenTokens.{entries_from, kept_member, member_or_none, then_rest}
+use Rattle.erd_normal.specs.code.NormalTree.{normal_content, normal_node, normal_node_members, normal_node_value, normal_nodes}
+use Rattle.erd_normal.specs.code.Tokens.{items_tokens, member_tokens, members_tokens, value_tokens}
 use Rattle.erd_normal.proofs.values.content.+content.Goals as goal
 
-pub content-returns-in_ok-nodes-in-Array : goal.content-returns-in_ok-nodes-in-Array
-content-returns-in_ok-nodes-in-Array t c whole =
+pub write_node_member-returns-in_ok-key : goal.write_node_member-returns-in_ok-key
+write_node_member-returns-in_ok-key t c =
+    let π = c.args.numbered.now.prefer in
     let report = view c.args.numbered.now.tree in
-    let seen = ap view c.in-Array.is ∙ view-Array c.in-Array.items in
-    view-Array c.in_ok-nodes-in-Array.field-0
-    ∙ (content_from_map c.args.numbered.now.prefer report c.in_ok-nodes-in-Array.field-0.items c.in-Array.items.items (c.in_ok-nodes-in-Array.ensures (ap has_float (sym seen) ∙ whole))
-    ∙ sym (ap (normal_content c.args.numbered.now.prefer report) seen))
+    let inside = normal_content π report (view c.args.value.now) in
+    let value = normal_node_value π report c.args.kind (view c.args.value.now) inside in
+    on_ok_weaker c.write_node_value.result
+    (λ written whole.
+    kept_member c.args.name.now value c.args.out.now c.key.new.self c.write_node_value.new.out
+    (sym (c.is_kept_in_node.ensures π report inside) ∙ c.if-is_kept_in_node.true)
+    c.in_ok-key.ensures
+    (written whole))
+    c.write_node_value.ensures
 
-pub nodes-loop-item-preserved : goal.nodes-loop-item-preserved
-nodes-loop-item-preserved t c whole =
-    ap (map view) c.in_ok-push.ensures.items
-    ∙ one_more view (λ v. normal_node c.args.numbered.now.prefer (view c.args.numbered.now.tree) (view v)) c.loop-item.built.items c.deref-item-items.result.now c.loop-item.item-index c.item-item.result c.in_ok-node.field-0
-    c.loop-item-test.true
-    c.item-item.is
-    (c.in_ok-node.ensures (whole_item c.deref-item-items.result.now c.loop-item.item-index c.item-item.result whole c.loop-item-test.true c.item-item.is))
-    (c.loop-item.invariant whole)
-
-pub value_in_node-returns-in_default : goal.value_in_node-returns-in_default
-value_in_node-returns-in_default t c =
-    let report = view c.args.numbered.now.tree in
-    let member = view c.args.member.now in
-    subst (λ (r : Option Data). IfOk c.value_of_kind.result (λ built. has_float member ≡ false → option_map view built ≡ r))
-    (sym (other_node_value c.args.numbered.now.prefer report c.args.kind member (normal_content c.args.numbered.now.prefer report member) c.in_default.not-Content))
-    c.value_of_kind.ensures
-
-pub node_members-returns : goal.node_members-returns
-node_members-returns t c whole =
-    let value = node_value c.args.numbered.now.prefer (view c.args.numbered.now.tree) c.args.class in
-    put_all_of value c.args.members.now.entries (members_view c.loop-name.built.entries) c.iter-name-items.ensures.ordered
-    (ap (λ es. put_each value (members_view es) (members_view c.loop-name.built.entries)) (sym c.in-None.ensures.steps.0) ∙ c.loop-name.invariant.built whole)
-    ∙ sym (normal_node_members_each c.args.numbered.now.prefer (view c.args.numbered.now.tree) c.args.class (members_view c.args.members.now.entries))
-
-pub node_members-loop-name-preserved : goal.node_members-loop-name-preserved
-node_members-loop-name-preserved t c =
+pub write_node_members-loop-name-preserved : goal.write_node_members-loop-name-preserved
+write_node_members-loop-name-preserved t c whole =
+    let π = c.args.numbered.now.prefer in
     let report = view c.args.numbered.now.tree in
     let entry : Entry = (c.in-Some.name.now, c.in-Some.member.now) in
-    let name = c.as_str-name.ensures.value in
-    record {
-      built = λ whole. put_one (node_value c.args.numbered.now.prefer report c.args.class) (members_view c.args.members.now.entries) c.loop-name.name-iterator c.next.new.self entry
-          c.as_str-name.result.now (members_view c.loop-name.built.entries) (option_map view c.in_ok-value.value) (members_view c.put_built.new.members.entries)
-          c.in-Some.ensures.steps
-          name
-          (c.in_ok-value.ensures (whole_first c.loop-name.name-iterator c.next.new.self entry c.in-Some.ensures.steps (c.loop-name.invariant.whole whole))
-          ∙ ap (λ k. normal_node_value c.args.numbered.now.prefer report k (view c.in-Some.member.now) (normal_content c.args.numbered.now.prefer report (view c.in-Some.member.now)))
-          (c.kind_in.ensures ∙ ap (λ n. option_map (λ c. kind_of_member c n) c.args.class) name))
-          c.in_ok-put_built.ensures
-          (c.loop-name.invariant.built whole);
-      whole = λ whole. whole_rest c.loop-name.name-iterator c.next.new.self entry c.in-Some.ensures.steps (c.loop-name.invariant.whole whole);
-    }
+    let before = c.loop-name.invariant whole in
+    let left = c.loop-name.name-iterator in
+    let rest = c.next.new.self in
+    let value = node_value π report c.args.class in
+    let name = c.as_str-name.result.now in
+    let member = view c.in-Some.member.now in
+    let first = whole_first left rest entry c.in-Some.ensures.steps before.0 in
+    let written : c.write_node_member.new.out ≡ c.loop-name.out ++ member_tokens name (value name member) =
+    c.in_ok-write_node_member.ensures first
+    ∙ ap (λ (k : Option MemberKind). c.loop-name.out ++ member_tokens name (normal_node_value π report k member (normal_content π report member))) c.kind_in.ensures in (
+      whole_rest left rest entry c.in-Some.ensures.steps before.0,
+      member_or_none name (value name member) (normal_node_members π report c.args.class (members_view rest)) c.loop-name.out c.write_node_member.new.out _ written
+          (ap (λ n. c.loop-name.out ++ members_tokens (option_map_or (λ v. member_of n v (normal_node_members π report c.args.class (members_view rest))) (value n member) (normal_node_members π report c.args.class (members_view rest)))) c.as_str-name.ensures.value
+          ∙ (ap (λ es. c.loop-name.out ++ members_tokens (normal_node_members π report c.args.class (members_view es))) (sym c.in-Some.ensures.steps)
+          ∙ before.1)),
+    )
+
+pub write_nodes-loop-item-preserved : goal.write_nodes-loop-item-preserved
+write_nodes-loop-item-preserved t c whole =
+    let π = c.args.numbered.now.prefer in
+    let report = view c.args.numbered.now.tree in
+    let vs = c.deref-item-items.result.now in
+    let i = c.loop-item.item-index in
+    let v = c.item-item.result in
+    let before = c.loop-item.invariant whole in
+    let left = entries_from vs i v c.loop-item-test.true c.item-item.is in
+    let parts = or_parts (has_float (view v)) (items_have_float (items_view (drop (i + 1) vs))) (ap items_have_float (sym left) ∙ before.0) in (
+      parts.1,
+      then_rest c.loop-item.out (value_tokens (normal_node π report (view v))) c.write_node.new.out (items_tokens (normal_nodes π report (items_view (drop (i + 1) vs)))) _
+          (c.in_ok-write_node.ensures parts.0)
+          (ap (λ ds. c.loop-item.out ++ items_tokens (normal_nodes π report ds)) (sym left) ∙ before.1),
+    )

@@ -1,0 +1,11 @@
+use Rattle.std.proofs.Common.{ap, sym, ◌∙◌}
+use Rattle.std.specs.Option.{is_some}
+use Rattle.serde_json.specs.View.{view}
+use Rattle.erd_normal.proofs.texts.PutObjects.{other_election_value}
+use Rattle.erd_normal.proofs.report.election.ElectionMembersMemberRule.keeps.Goals as goal
+
+pub returns-in_default : goal.returns-in_default
+returns-in_default c =
+    let π = c.args.self.now.numbered.now.prefer in
+    let t = view c.args.self.now.numbered.now.tree in
+    c.is_kept.ensures π t ∙ ap is_some (sym (other_election_value π t c.args.self.now.part c.args.kind (view c.args.member.now) c.in_default.not-Keyed))

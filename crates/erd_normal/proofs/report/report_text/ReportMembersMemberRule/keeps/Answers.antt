@@ -1,0 +1,13 @@
+use Rattle.std.proofs.Common.{ap, sym, ◌∙◌}
+use Rattle.std.specs.Option.{is_some}
+use Rattle.serde_json.specs.View.{view}
+use Rattle.erd_normal.proofs.texts.PutObjects.{other_report_value}
+use Rattle.erd_normal.proofs.report.report_text.ReportMembersMemberRule.keeps.Goals as goal
+
+pub returns-then-not-is_envelope : goal.returns-then-not-is_envelope
+returns-then-not-is_envelope c =
+    let π = c.args.self.now.numbered.now.prefer in
+    let t = view c.args.self.now.numbered.now.tree in
+    c.is_kept.ensures π t
+    ∙ ap is_some
+    (sym (other_report_value π t c.args.name.now c.args.kind (view c.args.member.now) c.in_default.not-Keyed c.in_default.not-Elections (sym c.is_envelope.ensures ∙ c.if-not-is_envelope.true)))

@@ -1,0 +1,15 @@
+use Rattle.std.proofs.lemmas.Result.{on_ok_weaker}
+use Rattle.erd_normal.proofs.texts.DueTokens.{rest_at, whole_at}
+use Rattle.erd_normal.proofs.text.due_members.+write_rest.Goals as goal
+
+pub returns : goal.returns
+returns t c =
+    on_ok_weaker c.write_rest.result
+    (λ rest rise whole.
+    let first = c.in-Some.first.now in
+    let low = c.in-Some.ensures.lookup.3.0 in
+    let is = c.in-Some.ensures.lookup.1 in
+    rest_at c.args.due.now c.args.at first low is rise c.args.out.now c.write_due.new.out c.write_rest.new.out
+    (c.in_ok-write_due.ensures (whole_at c.args.due.now c.args.at first low is rise whole))
+    (rest rise whole))
+    c.write_rest.ensures

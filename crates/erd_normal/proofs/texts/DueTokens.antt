@@ -1,0 +1,134 @@
+-- Members that are put into an object, written in the order of their names.
+use Rattle.std.proofs.Common.{◌≡◌, ◌+◌, ◌<◌, ◌≤◌, ℕ, zero, suc, List, [], ◌∷◌, ◌++◌, length, get_or, drop, Bool, true, false, Less, Equal, Greater, refl, sym, ap, ◌∙◌, subst}
+use Rattle.std.proofs.lemmas.List.{drop_all, drop_more}
+use Rattle.std.proofs.lemmas.Cmp.{nat_list_cmp_total}
+use Rattle.std.proofs.lemmas.Map.Lookups.{exact_bytes}
+use Rattle.std.specs.Ordering.{ordering_reverse}
+use Rattle.json.specs.Token.{Token, key}
+use Rattle.serde_json.specs.Data.{Data, Members, no_members, member, put}
+use Rattle.erd_tables.specs.Texts.{text_cmp}
+use Rattle.std.proofs.lemmas.Option.{slice_get_read}
+use Rattle.erd_check.specs.Trees.{IsBeforeFirst}
+use Rattle.erd_check.proofs.Positions.{all_at}
+use Rattle.erd_check.proofs.PutTrees.{before_put}
+use Rattle.erd_normal.specs.code.Building.{put_all}
+use Rattle.erd_normal.specs.code.DueMembers.{AreWholeDue, IsBeforeAll, IsWholeDue, NamesRise, WritesThrough, due_list, due_value}
+use Rattle.erd_normal.specs.code.Tokens.{members_tokens, value_tokens}
+use Rattle.erd_normal.specs.declared.text.due_members.DueMember.{DueMember}
+use Rattle.erd_normal.proofs.texts.WrittenTokens.{then_rest}
+
+-- a name before the first goes first
+put_before : (k : List ℕ) (v : Data) (ms : Members) → IsBeforeFirst k ms → put k v ms ≡ member k v ms
+put_before k v no_members below = refl
+put_before k v (member l d ms) below = rw below refl
+
+-- a name before all that are put, and before the first, is before the first then
+before_all : (k : List ℕ) (ps : List (List ℕ × Data)) (ms : Members) → IsBeforeAll k ps → IsBeforeFirst k ms → IsBeforeFirst k (put_all ps ms)
+before_all k [] ms low below = below
+before_all k (p ∷ ps) ms low below = before_put k p.0 p.1 (put_all ps ms) low.0 (before_all k ps ms low.1 below)
+
+-- a member before all that are put stays first
+stays_first : (k : List ℕ) (v : Data) (ps : List (List ℕ × Data)) (ms : Members) → IsBeforeAll k ps → put_all ps (member k v ms) ≡ member k v (put_all ps ms)
+stays_first k v [] ms low = refl
+stays_first k v (p ∷ ps) ms low =
+    let turned : text_cmp p.0 k ≡ Greater = nat_list_cmp_total.antisymm p.0 k ∙ ap ordering_reverse low.0 in
+    ap (put p.0 p.1) (stays_first k v ps ms low.1) ∙ rw turned refl
+
+-- what comes before a name comes before those that it comes before
+before_too : (k l : List ℕ) (ps : List (List ℕ × Data)) → text_cmp k l ≡ Less → IsBeforeAll l ps → IsBeforeAll k ps
+before_too k l [] e low = tt
+before_too k l (p ∷ ps) e low = (nat_list_cmp_total.trans k l p.0 e low.0, before_too k l ps e low.1)
+
+-- ---- up to a name
+
+-- all names that are put come after the name
+pub none_through : (ps : List (List ℕ × Data)) (name : List ℕ) (out : List Token) → IsBeforeAll name ps → WritesThrough ps ps name false out out
+none_through ps name out low = record {
+  kept = λ e v ms. ap (λ x. out ++ members_tokens x) (stays_first name v ps ms low);
+  replaced = λ e. cc;
+}
+
+pub greater_through : (p : List ℕ × Data) (ps : List (List ℕ × Data)) (name : List ℕ) (out : List Token) → text_cmp p.0 name ≡ Greater → NamesRise (p ∷ ps) → WritesThrough (p ∷ ps) (p ∷ ps) name false out out
+greater_through p ps name out e rise =
+    let below : text_cmp name p.0 ≡ Less = nat_list_cmp_total.antisymm name p.0 ∙ ap ordering_reverse e in
+    none_through (p ∷ ps) name out (below, before_too name p.0 ps below rise.0)
+
+-- the first that is put has the name
+pub equal_through : (p : List ℕ × Data) (ps : List (List ℕ × Data)) (name : List ℕ) (was now : List Token) → text_cmp p.0 name ≡ Equal → NamesRise (p ∷ ps)
+    → now ≡ was ++ key p.0 ∷ value_tokens p.1 → WritesThrough (p ∷ ps) ps name true was now
+equal_through p ps name was now e rise written = record {
+  kept = λ f. cc;
+  replaced = λ f v ms.
+      let same : p.0 ≡ name = exact_bytes p.0 name e in
+      let itself : text_cmp p.0 p.0 ≡ Equal = ap (text_cmp p.0) same ∙ e in
+      let there : put_all (p ∷ ps) (member p.0 v ms) ≡ member p.0 p.1 (put_all ps ms) = ap (put p.0 p.1) (stays_first p.0 v ps ms rise.0) ∙ rw itself refl in
+      ap (λ n. was ++ members_tokens (put_all (p ∷ ps) (member n v ms))) (sym same)
+      ∙ sym (then_rest was (key p.0 ∷ value_tokens p.1) now (members_tokens (put_all ps ms)) _ written (ap (λ x. was ++ members_tokens x) (sym there)));
+}
+
+-- the first that is put comes before the name
+pub less_through : (p : List ℕ × Data) (ps left : List (List ℕ × Data)) (name : List ℕ) (taken : Bool) (was mid now : List Token) → text_cmp p.0 name ≡ Less → NamesRise (p ∷ ps)
+    → mid ≡ was ++ key p.0 ∷ value_tokens p.1 → WritesThrough ps left name taken mid now → WritesThrough (p ∷ ps) left name taken was now
+less_through p ps left name taken was mid now e rise written rest =
+    let first : (v : Data) (ms : Members) → was ++ members_tokens (put_all (p ∷ ps) (member name v ms)) ≡ mid ++ members_tokens (put_all ps (member name v ms)) =
+    λ v ms.
+    sym (then_rest was (key p.0 ∷ value_tokens p.1) mid (members_tokens (put_all ps (member name v ms))) _ written
+    (ap (λ x. was ++ members_tokens x) (sym (put_before p.0 p.1 (put_all ps (member name v ms)) (before_all p.0 ps (member name v ms) rise.0 e))))) in
+    record {
+      kept = λ f v ms. first v ms ∙ rest.kept f v ms;
+      replaced = λ f v ms. first v ms ∙ rest.replaced f v ms;
+    }
+
+-- ---- to the end
+
+pub first_of_all : (p : List ℕ × Data) (ps : List (List ℕ × Data)) (was mid now : List Token) → NamesRise (p ∷ ps) → mid ≡ was ++ key p.0 ∷ value_tokens p.1
+    → mid ++ members_tokens (put_all ps no_members) ≡ now ++ members_tokens no_members → was ++ members_tokens (put_all (p ∷ ps) no_members) ≡ now ++ members_tokens no_members
+first_of_all p ps was mid now rise written rest =
+    sym (then_rest was (key p.0 ∷ value_tokens p.1) mid (members_tokens (put_all ps no_members)) _ written
+    (ap (λ x. was ++ members_tokens x) (sym (put_before p.0 p.1 (put_all ps no_members) (before_all p.0 ps no_members rise.0 tt)))))
+    ∙ rest
+
+-- ---- of a list that is taken apart
+
+-- the names from a position on rise too
+pub rise_from : (n : ℕ) (ms : List DueMember) → NamesRise (due_list ms) → NamesRise (due_list (drop n ms))
+rise_from zero ms rise = rise
+rise_from (suc n) [] rise = tt
+rise_from (suc n) (m ∷ ms) rise = rise_from n ms rise.1
+
+module _ (ms : List DueMember) (at : ℕ) (m : DueMember) (low : at < length ms) (is : m ≡ get_or ms at m) (rise : NamesRise (due_list ms)) where
+  -- the member at the position, and those after it
+  apart : due_list (drop at ms) ≡ (m.name.now, due_value m.value) ∷ due_list (drop (at + 1) ms)
+  apart = ap due_list (drop_more ms at m low) ∙ ap (λ (x : DueMember). (x.name.now, due_value x.value) ∷ due_list (drop (at + 1) ms)) (sym is)
+
+  rises : NamesRise ((m.name.now, due_value m.value) ∷ due_list (drop (at + 1) ms))
+  rises = subst NamesRise apart (rise_from at ms rise)
+
+  pub whole_at : AreWholeDue ms → IsWholeDue m.value
+  whole_at whole = all_at (λ (x : DueMember). IsWholeDue x.value) ms at m whole (slice_get_read ms (length ms) at m refl low is)
+
+  pub greater_at : (name : List ℕ) (out : List Token) → text_cmp m.name.now name ≡ Greater → WritesThrough (due_list (drop at ms)) (due_list (drop at ms)) name false out out
+  greater_at name out e = rw apart (greater_through (m.name.now, due_value m.value) (due_list (drop (at + 1) ms)) name out e rises)
+
+  pub equal_at : (name : List ℕ) (was now : List Token) → text_cmp m.name.now name ≡ Equal → now ≡ was ++ key m.name.now ∷ value_tokens (due_value m.value)
+      → WritesThrough (due_list (drop at ms)) (due_list (drop (at + 1) ms)) name true was now
+  equal_at name was now e written =
+      subst (λ ps. WritesThrough ps (due_list (drop (at + 1) ms)) name true was now) (sym apart)
+      (equal_through (m.name.now, due_value m.value) (due_list (drop (at + 1) ms)) name was now e rises written)
+
+  pub less_at : (left : List (List ℕ × Data)) (name : List ℕ) (taken : Bool) (was mid now : List Token) → text_cmp m.name.now name ≡ Less → mid ≡ was ++ key m.name.now ∷ value_tokens (due_value m.value)
+      → WritesThrough (due_list (drop (at + 1) ms)) left name taken mid now → WritesThrough (due_list (drop at ms)) left name taken was now
+  less_at left name taken was mid now e written rest =
+      subst (λ ps. WritesThrough ps left name taken was now) (sym apart)
+      (less_through (m.name.now, due_value m.value) (due_list (drop (at + 1) ms)) left name taken was mid now e rises written rest)
+
+  pub rest_at : (was mid now : List Token) → mid ≡ was ++ key m.name.now ∷ value_tokens (due_value m.value)
+      → mid ++ members_tokens (put_all (due_list (drop (at + 1) ms)) no_members) ≡ now ++ members_tokens no_members
+      → was ++ members_tokens (put_all (due_list (drop at ms)) no_members) ≡ now ++ members_tokens no_members
+  rest_at was mid now written rest =
+      ap (λ ps. was ++ members_tokens (put_all ps no_members)) apart
+      ∙ first_of_all (m.name.now, due_value m.value) (due_list (drop (at + 1) ms)) was mid now rises written rest
+
+-- past the end none is left
+pub none_at : (ms : List DueMember) (at : ℕ) → length ms ≤ at → due_list (drop at ms) ≡ []
+none_at ms at high = ap due_list (drop_all at ms high)

@@ -1,0 +1,94 @@
+-- Objects with members put in.
+use Rattle.std.proofs.Common.{◌≡◌, ℕ, List, [], ◌∷◌, Bool, true, false, not, if◌then◌else◌, Option, Some, None, codes, refl, ap}
+use Rattle.serde_json.specs.Data.{Data, null, boolean, number, string, array, object, Members, no_members, member}
+use Rattle.erd_tables.specs.declared.class.Class.{Class}
+use Rattle.erd_tables.specs.Table.{is_envelope_name}
+use Rattle.erd_tables.specs.declared.class.Family.{Family}
+use Rattle.erd_tables.specs.declared.class.Family.TheVariants as family
+use Rattle.erd_tables.specs.declared.member.MemberKind.{MemberKind}
+use Rattle.erd_tables.specs.declared.member.MemberKind.TheVariants as kind
+use Rattle.erd_meaning.specs.Keys.{Preference}
+use Rattle.erd_meaning.specs.SelectionNames.{compact_cmp, rising_list, with_rising_text}
+use Rattle.std.specs.Option.{is_some}
+use Rattle.erd_check.specs.Faults.{is_empty_array}
+use Rattle.erd_check.specs.Values.{entries_at}
+use Rattle.erd_normal.specs.code.Building.{put_in}
+use Rattle.erd_normal.specs.code.NormalTree.{array_of, envelope_values, in_envelope, normal_members, normal_object_with, normal_value, unless_no_entry, with_id}
+use Rattle.erd_normal.specs.code.PlacedTree.{holds_parts, placed_election_value, placed_object_value, placed_report_value}
+
+-- members that are kept as they are
+pub copied : (c : Class) (ms : Members) → normal_members (λ name k d. Some d) c ms ≡ ms
+copied c no_members = refl
+copied c (member k d ms) = ap (member k d) (copied c ms)
+
+-- nothing is put in
+pub put_none : (d : Data) → put_in [] d ≡ d
+put_none null = refl
+put_none (boolean b) = refl
+put_none (number n) = refl
+put_none (string s) = refl
+put_none (array ds) = refl
+put_none (object ms) = refl
+
+-- an `@id` is put in
+pub put_id : (id : List ℕ) (d : Data) → put_in ((codes "@id", string id) ∷ []) d ≡ with_id (Some id) d
+put_id id null = refl
+put_id id (boolean b) = refl
+put_id id (number n) = refl
+put_id id (string s) = refl
+put_id id (array ds) = refl
+put_id id (object ms) = refl
+
+-- the translations of a label are put in
+pub put_text : (d : Data) → put_in ((codes "Text", array_of (rising_list compact_cmp (entries_at (codes "Text") d))) ∷ []) d ≡ with_rising_text d
+put_text null = refl
+put_text (boolean b) = refl
+put_text (number n) = refl
+put_text (string s) = refl
+put_text (array ds) = refl
+put_text (object ms) = refl
+
+-- the envelope is put in
+pub put_envelope : (d : Data) → put_in envelope_values d ≡ in_envelope d
+put_envelope null = refl
+put_envelope (boolean b) = refl
+put_envelope (number n) = refl
+put_envelope (string s) = refl
+put_envelope (array ds) = refl
+put_envelope (object ms) = refl
+
+-- what has no class stays
+pub unclassed : (value : List ℕ → MemberKind → Data → Option Data) (d : Data) → normal_object_with value None d ≡ d
+unclassed value null = refl
+unclassed value (boolean b) = refl
+unclassed value (number n) = refl
+unclassed value (string s) = refl
+unclassed value (array ds) = refl
+unclassed value (object ms) = refl
+
+-- a member of an election that holds no objects
+pub other_election_value : (π : Preference) (t : Data) (part : ℕ) (k : MemberKind) (d : Data) → ((f : Family) → k ≡ kind.Keyed f → ⊥) → placed_election_value π t part k d ≡ normal_value π t k d
+other_election_value π t part (kind.Keyed f) d other = absurd (other f refl)
+other_election_value π t part k d other = refl
+
+-- a member of a report that holds no objects and is not in its envelope
+pub other_report_value : (π : Preference) (t : Data) (name : List ℕ) (k : MemberKind) (d : Data) → ((f : Family) → k ≡ kind.Keyed f → ⊥) → (k ≡ kind.Elections → ⊥) → is_envelope_name name ≡ false
+    → placed_report_value π t name k d ≡ normal_value π t k d
+other_report_value π t name (kind.Keyed f) d keyed elections other = absurd (keyed f refl)
+other_report_value π t name kind.Elections d keyed elections other = absurd (elections refl)
+other_report_value π t name k d keyed elections other = rw other refl
+
+-- a value is kept unless it is an empty array
+pub kept_unless_empty : (d v : Data) → is_some (unless_no_entry d v) ≡ not (is_empty_array d)
+kept_unless_empty d v = at (is_empty_array d)
+  where
+    at : (b : Bool) → is_some (if b then None else Some v) ≡ not b
+    at true = refl
+    at false = refl
+
+-- a member of an object is kept: its content or its selections unless empty, and others by their kind
+pub kept_in_object : (π : Preference) (t : Data) (n i : ℕ) (k : MemberKind) (d : Data) → is_some (placed_object_value π t n i k d) ≡ (if holds_parts k then not (is_empty_array d) else is_some (normal_value π t k d))
+kept_in_object π t n i kind.Content d = kept_unless_empty d _
+kept_in_object π t n i (kind.Keyed family.Selection) d = kept_unless_empty d _
+kept_in_object π t n i (kind.Keyed f) d = cc
+kept_in_object π t n i k d = refl

@@ -1,0 +1,10 @@
+use Rattle.std.proofs.Common.{◌≡◌, ◌++◌, map, drop}
+use Rattle.serde_json.specs.View.{items_of, view}
+use Rattle.erd_normal.specs.code.NormalTree.{normal_selection_reference}
+use Rattle.erd_normal.specs.code.Tokens.{items_tokens}
+use Rattle.erd_normal.proofs.values.reference_set.write_selection_references.Given as goal
+
+abbrev pub invariant-loop-value : goal.invariant-loop-value
+invariant-loop-value l =
+    l.out ++ items_tokens (items_of (map (λ v. normal_selection_reference l.numbered.prefer (view l.numbered.tree) (view v)) (drop l.value-index l.values)))
+    ≡ l.initial.out ++ items_tokens (items_of (map (λ v. normal_selection_reference l.numbered.prefer (view l.numbered.tree) (view v)) l.values))

@@ -1,0 +1,10 @@
+use Rattle.std.proofs.Common.{◌≡◌, false, map, take}
+use Rattle.serde_json.specs.View.{items_view, view}
+use Rattle.serde_json.specs.Written.{items_have_float}
+use Rattle.erd_normal.specs.code.Building.{beside, beside_compact_text}
+use Rattle.erd_normal.proofs.values.rising_values.with_texts.Given as goal
+
+abbrev pub invariant-loop-value : goal.invariant-loop-value
+invariant-loop-value l =
+    items_have_float (items_view l.values) ≡ false
+    → map (λ p. beside p.0 (view p.1.now)) l.pairs.items ≡ map (λ v. beside_compact_text (view v)) (take l.value-index l.values)

@@ -1,0 +1,11 @@
+use Rattle.std.proofs.Common.{◌≡◌, ◌++◌, false, map, drop}
+use Rattle.serde_json.specs.View.{items_of, view}
+use Rattle.serde_json.specs.Written.{items_have_float}
+use Rattle.erd_normal.specs.code.Tokens.{items_tokens}
+use Rattle.erd_normal.proofs.values.rising_values.write_each.Given as goal
+
+abbrev pub invariant-loop-pair : goal.invariant-loop-pair
+invariant-loop-pair l =
+    items_have_float (items_of (map (λ p. view p.1.now) l.pairs)) ≡ false
+    → (items_have_float (items_of (map (λ p. view p.1.now) (drop l.pair-index l.pairs))) ≡ false)
+    × (l.out ++ items_tokens (items_of (map (λ p. view p.1.now) (drop l.pair-index l.pairs))) ≡ l.initial.out ++ items_tokens (items_of (map (λ p. view p.1.now) l.pairs)))

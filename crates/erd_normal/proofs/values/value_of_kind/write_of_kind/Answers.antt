@@ -1,0 +1,46 @@
+use Rattle.std.proofs.Common.{◌≡◌, ◌++◌, List, inl, inr, map, ap, sym, ◌∙◌}
+use Rattle.std.proofs.lemmas.Result.{on_ok_weaker}
+use Rattle.serde_json.specs.Data.{Data}
+use Rattle.serde_json.specs.View.{view}
+use Rattle.erd_check.specs.Values.{entries_of}
+use Rattle.erd_meaning.specs.SelectionNames.{compact_cmp, rising_list}
+use Rattle.erd_normal.proofs.lists.StableRising.{map_after}
+use Rattle.erd_normal.proofs.texts.WholeEntries.{whole_list}
+use Rattle.erd_normal.proofs.texts.WrittenTokens.{kept_value}
+use Rattle.erd_normal.specs.code.NormalTree.{array_of, normal_selection_reference, normal_value, unless_no_entry}
+use Rattle.erd_normal.specs.code.Tokens.{value_tokens}
+use Rattle.erd_normal.proofs.values.value_of_kind.write_of_kind.Goals as goal
+
+pub returns-in-Identifiers : goal.returns-in-Identifiers
+returns-in-Identifiers c =
+    let π = c.args.numbered.now.prefer in
+    let t = view c.args.numbered.now.tree in
+    let d = view c.args.value.now in
+    let entries = c.entries_of-in-Identifiers.ensures in
+    let built : Data = array_of (rising_list compact_cmp (entries_of d)) in
+    let value : normal_value π t c.args.kind d ≡ unless_no_entry d built =
+    elim c.in-Identifiers.is [
+      | inl e ↦ ap (λ k. normal_value π t k d) e
+      | inr e ↦ ap (λ k. normal_value π t k d) e
+    ] in
+    on_ok_weaker c.write_rising_values.result
+    (λ written whole v given.
+    written (whole_list d c.entries_of-in-Identifiers.result.now whole entries)
+    ∙ ap (λ d. c.args.out.now ++ value_tokens d) (ap (λ (ds : List Data). array_of (rising_list compact_cmp ds)) entries ∙ kept_value d built v (sym value ∙ given)))
+    c.write_rising_values.ensures
+
+pub returns-in-Ordered : goal.returns-in-Ordered
+returns-in-Ordered c =
+    let π = c.args.numbered.now.prefer in
+    let t = view c.args.numbered.now.tree in
+    let d = view c.args.value.now in
+    let entries = c.entries_of-in-Ordered.ensures in
+    let built : Data = array_of (map (normal_selection_reference π t) (entries_of d)) in
+    let value : normal_value π t c.args.kind d ≡ unless_no_entry d built = ap (λ k. normal_value π t k d) c.in-Ordered.is in
+    on_ok_weaker c.write_selection_references.result
+    (λ written whole v given.
+    written
+    ∙ ap (λ d. c.args.out.now ++ value_tokens d)
+    (ap array_of (map_after view (normal_selection_reference π t) c.entries_of-in-Ordered.result.now ∙ ap (map (normal_selection_reference π t)) entries)
+    ∙ kept_value d built v (sym value ∙ given)))
+    c.write_selection_references.ensures

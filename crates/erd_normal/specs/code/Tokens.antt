@@ -1,0 +1,23 @@
+-- The tokens that are written for a value, part by part.
+use Rattle.std.specs.Prelude.{ℕ, List, [], ◌∷◌, Option, Some, None}
+use Rattle.json.specs.Token.{Token, key}
+use Rattle.json.specs.Tree as tree
+use Rattle.serde_json.specs.Data.{Data, Items, Members}
+use Rattle.serde_json.specs.Written.{outline, items_outline, members_outline}
+
+-- The tokens of a value without floats.
+abbrev pub value_tokens : Data → List Token
+value_tokens d = tree.json_tokens (outline d)
+
+-- The tokens of the entries of an array, with its end.
+abbrev pub items_tokens : Items → List Token
+items_tokens ds = tree.items_tokens (items_outline ds)
+
+-- The tokens of the members of an object, with its end.
+abbrev pub members_tokens : Members → List Token
+members_tokens ms = tree.members_tokens (members_outline ms)
+
+-- The tokens of a member with this value. If there is no value, there are none.
+abbrev pub member_tokens : List ℕ → Option Data → List Token
+member_tokens k None = []
+member_tokens k (Some d) = key k ∷ value_tokens d

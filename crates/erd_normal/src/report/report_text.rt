@@ -1,0 +1,98 @@
+ghost use Rattle.std.specs.Prelude.{◌≡◌, ◌++◌};
+ghost use Rattle.std.specs.Result.{OnOk};
+ghost use Rattle.serde_json.specs.View.{view};
+ghost use Rattle.erd_normal.specs.code.NormalTree.{normal_tree};
+ghost use Rattle.erd_normal.specs.code.Tokens.{value_tokens};
+
+use crate::numbers::numbered_report::NumberedReport;
+use crate::objects::family_objects::write_family;
+use crate::objects::members::MemberRule;
+use crate::objects::written_object::write_object;
+use crate::report::election::write_elections;
+use crate::text::due_members::{DueMember, DueValue};
+use crate::text::output::Output;
+use crate::values::value_of_kind::{is_kept, write_of_kind};
+use erd_check::values::is_empty_array;
+use erd_tables::{MemberKind, Role, is_envelope};
+use serde_json::Value;
+use std::alloc::{AllocError, Global};
+
+/// The rule for the members of a report.
+#[derive(Drop)]
+struct ReportMembers<'a> {
+    numbered: &'a NumberedReport<'a>,
+}
+
+impl<'a> MemberRule for ReportMembers<'a> {
+    ghost use Rattle.serde_json.specs.View.{view};
+    ghost use Rattle.erd_normal.specs.code.PlacedTree.{placed_report_value};
+
+    ghost value_of = { λ rule name kind d. placed_report_value rule.numbered.now.prefer (view rule.numbered.now.tree) name kind d };
+
+    fn keeps(&self, name: &str, kind: MemberKind, member: &Value) -> bool {
+        match kind {
+            MemberKind::Keyed(_) => !is_empty_array(member),
+            MemberKind::Elections => true,
+            _ => !is_envelope(name) && is_kept(kind, member),
+        }
+    }
+
+    fn write(
+        &self,
+        alloc: Global,
+        kind: MemberKind,
+        member: &Value,
+        out: &mut Output,
+    ) -> Result<(), AllocError> {
+        match kind {
+            MemberKind::Keyed(family) => write_family(alloc, self.numbered, family, 0, out),
+            MemberKind::Elections => write_elections(alloc, self.numbered, out),
+            _ => write_of_kind(alloc, self.numbered, kind, member, out),
+        }
+    }
+}
+
+/// The members of the canonical envelope, in the order of their names.
+const ENVELOPE: [DueMember<'static>; 7] = [
+    DueMember {
+        name: "Format",
+        value: DueValue::Text("summary-contest"),
+    },
+    DueMember {
+        name: "GeneratedDate",
+        value: DueValue::Text("2000-01-01T00:00:00Z"),
+    },
+    DueMember {
+        name: "Issuer",
+        value: DueValue::Text("canonical"),
+    },
+    DueMember {
+        name: "IssuerAbbreviation",
+        value: DueValue::Text("canonical"),
+    },
+    DueMember {
+        name: "SequenceEnd",
+        value: DueValue::One,
+    },
+    DueMember {
+        name: "SequenceStart",
+        value: DueValue::One,
+    },
+    DueMember {
+        name: "VendorApplicationId",
+        value: DueValue::Text("canonical"),
+    },
+];
+
+/// Writes the canonical form of a report, from the numbers of its objects.
+pub(crate) fn write_report(
+    alloc: Global,
+    numbered: &NumberedReport,
+    out: &mut Output,
+) -> Result<(), AllocError>
+    ensures { OnOk result (out.new ≡ out.old ++ value_tokens (normal_tree numbered.now.prefer (view numbered.now.tree))) }
+{
+    let root = numbered.report().tree();
+    let rule = ReportMembers { numbered };
+    write_object(alloc, &rule, Role::Report, &ENVELOPE, root, out)
+}
