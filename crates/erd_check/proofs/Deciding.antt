@@ -98,7 +98,7 @@ unfolding IsStrictlySortedBy
 names_rise no_members trees = tt
 names_rise (member k d ms) trees = (before_all k ms trees.0 trees.2, names_rise ms trees.2)
 
-if_some : {A : Type 0} (P : A → Type 0) (o : Option A) → ((a : A) → P a) → IfSome o P
+pub if_some : {A : Type 0} (P : A → Type 0) (o : Option A) → ((a : A) → P a) → IfSome o P
 if_some P None h = tt
 if_some P (Some a) h = h a
 

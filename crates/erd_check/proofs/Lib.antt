@@ -8,6 +8,8 @@ pub mod AskedInside
 pub mod FaultsAsked
 pub mod Walks
 pub mod ShapeWalks
+pub mod TableKinds
+pub mod SilentWalks
 pub mod Deciding
 pub mod Reports
 pub mod Members
@@ -18,7 +20,6 @@ pub mod ValueSets
 pub mod Entries
 pub mod Shapes
 pub mod ObjectsAt
-pub mod TableKinds
 pub mod Whole
 pub mod Clean
 pub mod Sought

@@ -21,11 +21,19 @@ use std::alloc::{AllocError, Global};
 pub(crate) struct ShapeJudge;
 
 impl Visitor for ShapeJudge {
+    ghost use Rattle.std.specs.Prelude.{true};
     ghost use Rattle.erd_check.specs.code.Walk.{IsAskedInRange, reasons};
 
     ghost tells = { λ _ outer. reasons };
 
     ghost Known = { λ _. IsAskedInRange };
+
+    ghost is_thorough = { λ _. true };
+
+    /// The shape is judged at each value.
+    fn enters(&self, want: Want) -> bool {
+        true
+    }
 
     fn visit(
         &self,

@@ -1,5 +1,5 @@
 //! What a walk over a report does at each value.
-ghost use Rattle.std.specs.Prelude.{◌≡◌, ◌++◌, List, Bool, map, IfOk};
+ghost use Rattle.std.specs.Prelude.{◌≡◌, ◌++◌, List, Bool, false, map, IfOk, IsTrue};
 ghost use Rattle.std.specs.List.{list_any};
 ghost use Rattle.serde_json.specs.Data.{Data};
 ghost use Rattle.serde_json.specs.View.{view};
@@ -7,7 +7,7 @@ ghost use Rattle.erd_tables.specs.declared.fault.Reason.{Reason};
 ghost use Rattle.erd_check.specs.Trees.{is_same_json};
 ghost use Rattle.erd_check.specs.Wants.{scope_inside};
 ghost use Rattle.erd_check.specs.code.Paths.{steps_of};
-ghost use Rattle.erd_check.specs.code.Walk.{faults_of};
+ghost use Rattle.erd_check.specs.code.Walk.{faults_of, IsKnownOfAll, IsSilent};
 ghost use Rattle.erd_check.specs.declared.want.Want.{Want as Asked};
 
 use crate::path::Path;
@@ -47,6 +47,16 @@ pub trait Visitor {
 
     // What is known of a value after the visit. It depends on what is asked of the value.
     ghost Known: { Self → Asked → Data → Type 0 };
+
+    // True for a visitor that the walk takes to each value of which the table asks something.
+    ghost is_thorough: { Self → Bool };
+
+    /// Returns whether the walk goes to the members of which this is asked. If not, the visitor has nothing to tell of such
+    /// a member, nor of a value inside it.
+    fn enters(&self, want: Want) -> bool
+        ensures thorough { IsTrue (is_thorough self.now) → IsTrue result }
+        ensures silent { result ≡ false → IsSilent (tells self.now) want }
+        ensures known { result ≡ false → IsKnownOfAll (Known self.now) want };
 
     /// Adds the faults of the value to the end of the list, but not those of the values inside it. `scope` is that
     /// of the members of the value, as `scope_of` returns it.

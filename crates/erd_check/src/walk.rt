@@ -1,5 +1,5 @@
 //! The walk over a report.
-ghost use Rattle.std.specs.Prelude.{◌≡◌, ◌++◌, ◌≤◌, ◌&&◌, [], map, take, length, IfOk, IfSome};
+ghost use Rattle.std.specs.Prelude.{◌≡◌, ◌++◌, ◌≤◌, ◌&&◌, [], map, take, length, IfOk, IfSome, IsTrue};
 ghost use Rattle.std.specs.List.{list_any};
 ghost use Rattle.std.specs.List.Sorted.{IsStrictlySortedBy};
 ghost use Rattle.std.specs.Option.{option_map_or};
@@ -23,7 +23,8 @@ use serde_json::{Map, Value};
 use std::alloc::{AllocError, Global};
 
 /// Walks a report, and returns the faults that the visitor finds. The walk visits the report and each value in it of which
-/// the member table asks something. It goes in the order of places: members by name, entries by position.
+/// the member table asks something, except for the members that the visitor does not enter, and what is inside them. It goes
+/// in the order of places: members by name, entries by position.
 ///
 /// # Errors
 ///
@@ -35,7 +36,7 @@ pub fn walk_report<V: Visitor>(
 ) -> Result<Vec<Fault>, AllocError>
     ensures told { IfOk result (λ faults. faults.items ≡ told_of_report (V.tells visitor.now) (view report.now)) }
     ensures known { IfOk result (λ _. IsKnown (V.Known visitor.now) (Object Report) (view report.now)) }
-    ensures in_order { IfOk result (λ _. IsInOrder (Object Report) (view report.now)) }
+    ensures in_order { IfOk result (λ _. IsTrue (V.is_thorough visitor.now) → IsInOrder (Object Report) (view report.now)) }
 {
     let mut faults = Vec::new(alloc);
     let visit = Visit {
@@ -65,7 +66,7 @@ fn walk<'a, V: Visitor>(
         (steps_of visit.entry.position.path.now) visit.entry.want
         (list_any (is_same_json (view value.now)) (map view visit.entry.earlier.now)) (view value.now)) }
     ensures known { IfOk result (λ _. IsKnown (V.Known visitor.now) visit.entry.want (view value.now)) }
-    ensures in_order { IfOk result (λ _. IsInOrder visit.entry.want (view value.now)) }
+    ensures in_order { IfOk result (λ _. IsTrue (V.is_thorough visitor.now) → IsInOrder visit.entry.want (view value.now)) }
 {
     let Visit { want, position, .. } = visit;
     let scope = scope_of(want, value);
@@ -96,7 +97,7 @@ fn walk_items<'a, V: Visitor>(
         ++ option_map_or (λ v. told_of_items (V.tells visitor.now) (view inside.entry.outer.now) (view inside.entry.owner.now)
         (steps_of inside.entry.path.now) v (is_compared_set want) [] (items_view items.now.items)) (entry_want want) []) }
     ensures known { IfOk result (λ _. IfSome (entry_want want) (λ v. AreItemsKnown (V.Known visitor.now) v (items_view items.now.items))) }
-    ensures in_order { IfOk result (λ _. IfSome (entry_want want) (λ v. AreItemsInOrder v (items_view items.now.items))) }
+    ensures in_order { IfOk result (λ _. IsTrue (V.is_thorough visitor.now) → IfSome (entry_want want) (λ v. AreItemsInOrder v (items_view items.now.items))) }
 {
     let Some(entry) = want_of_entry(want) else {
         return Ok(());
@@ -133,11 +134,14 @@ fn walk_members<'a, V: Visitor>(
         ++ told_of_members (V.tells visitor.now) (view inside.entry.outer.now) (view inside.entry.owner.now)
         (steps_of inside.entry.path.now) scope (members_view members.now.entries)) }
     ensures known { IfOk result (λ _. AreMembersKnown (V.Known visitor.now) scope (members_view members.now.entries)) }
-    ensures in_order { IfOk result (λ _. AreMembersInOrder scope (members_view members.now.entries)) }
+    ensures in_order { IfOk result (λ _. IsTrue (V.is_thorough visitor.now) → AreMembersInOrder scope (members_view members.now.entries)) }
     ensures sorted { IfOk result (λ _. IsStrictlySortedBy text_cmp (names (members_view members.now.entries))) }
 {
     for (name, member) in members.iter() {
-        if let Some(want) = want_in(scope, name.as_str()) {
+        let Some(want) = want_in(scope, name.as_str()) else {
+            continue;
+        };
+        if visitor.enters(want) {
             let path = Path::Member(&*inside.path, name.as_str());
             let visit = Visit {
                 want,

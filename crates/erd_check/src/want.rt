@@ -1,7 +1,7 @@
 //! What the member table (docs/PROFILE.md) asks of a value.
 ghost use Rattle.std.specs.Prelude.{◌≡◌};
 ghost use Rattle.serde_json.specs.View.{view};
-ghost use Rattle.erd_check.specs.Wants.{scope_inside, want_of_name, member_want, carried_want, entry_want, is_compared_set};
+ghost use Rattle.erd_check.specs.Wants.{scope_inside, want_of_name, member_want, carried_want, entry_want, is_compared_set, leads_to_references};
 
 use crate::values::class_of_object;
 use erd_tables::class::{Class, Family, Role};
@@ -132,4 +132,24 @@ pub fn is_set_wanted(want: Want) -> bool
             _
         )
     )
+}
+
+/// Returns `true` if the table asks for a reference, or for a value that may have references inside. No identifier, no text
+/// and no carried value has any.
+pub fn may_have_references(want: Want) -> bool
+    ensures { result ≡ leads_to_references want }
+{
+    match want {
+        Want::Object(role) => !matches!(role, Role::Identifier | Role::Label | Role::Language),
+        Want::Reference(_) => true,
+        Want::Member(kind, _) => matches!(
+            kind,
+            MemberKind::Many(_)
+                | MemberKind::Keyed(_)
+                | MemberKind::Elections
+                | MemberKind::Content
+                | MemberKind::Ordered
+        ),
+        Want::ClassText(_) | Want::Status | Want::Carried => false,
+    }
 }

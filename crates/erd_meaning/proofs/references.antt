@@ -3,4 +3,5 @@ pub mod ReferenceFaultLists
 pub mod SelectionEntries
 pub mod ReferenceLookups
 pub mod SelectionsElsewhere
+pub mod ReasonsFound
 pub mod ReferenceWalks

@@ -1,6 +1,6 @@
 -- What a walk over a report reports, in the order in which it visits the values. `Walks` proves that these are all faults of
 -- a kind.
-use Rattle.std.specs.Prelude.{List, [], ◌∷◌, ◌++◌, Bool, false, ◌&&◌, map, filter, length, IfSome, IsTrue, ⊤}
+use Rattle.std.specs.Prelude.{◌≡◌, List, [], ◌∷◌, ◌++◌, Bool, false, ◌&&◌, map, filter, length, IfSome, IsTrue, ⊤}
 use Rattle.std.specs.List.{list_any}
 use Rattle.std.specs.List.Sorted.{IsStrictlySortedBy}
 use Rattle.std.specs.Option.{option_map_or}
@@ -119,3 +119,11 @@ abbrev mutual
 -- If a whole number is asked for and the value is one, it fits 64 bits.
 abbrev pub IsAskedInRange : Want → Data → Type 0
 IsAskedInRange w d = IsTrue (wants_whole w) → IsInRange d
+
+-- Nothing is told of any value of which this is asked, nor of the values inside it.
+abbrev pub IsSilent : Telling → Want → Type 0
+IsSilent tells w = (outer owner : Data) (p : List Step) (repeated : Bool) (d : Data) → told_at tells outer owner p w repeated d ≡ []
+
+-- `Known` holds of any value of which this is asked, and of the values inside it.
+abbrev pub IsKnownOfAll : (Want → Data → Type 0) → Want → Type 0
+IsKnownOfAll Known w = (d : Data) → IsKnown Known w d

@@ -1,5 +1,5 @@
 -- The object that an index of `@id` texts leads to is the first object with the `@id`, if it is of the family.
-use Rattle.std.proofs.Common.{◌≡◌, ◌==◌, ◌+◌, ℕ, List, [], ◌∷◌, ◌++◌, length, cond, find, Bool, true, false, Option, Some, None, option_and_then, option_map, refl, sym, ap, ◌∙◌, subst}
+use Rattle.std.proofs.Common.{◌≡◌, ◌==◌, ◌+◌, ℕ, List, [], ◌∷◌, ◌++◌, length, cond, find, Bool, true, false, not, Option, Some, None, option_and_then, option_map, refl, sym, ap, ◌∙◌, subst}
 use Rattle.std.specs.List.{position, position_from, slice_get}
 use Rattle.std.proofs.Math.Seq.{append_snoc}
 use Rattle.std.proofs.lemmas.Iterator.Adapters.{position_from-zero}
@@ -30,6 +30,16 @@ find_after {X} p ys (x ∷ xs) = at (p x)
 
 find_at : {X : Type 0} (p : X → Bool) (xs : List X) → find p xs ≡ option_and_then (slice_get xs) (position p xs)
 find_at p xs = find_after p [] xs ∙ ap (option_and_then (slice_get xs)) (sym (position_from-zero p xs))
+
+-- ---- tests
+
+pub not_true : (b : Bool) → true ≡ not b → b ≡ false
+not_true true e = cc
+not_true false e = refl
+
+pub not_false : (b : Bool) → false ≡ not b → b ≡ true
+not_false true e = refl
+not_false false e = cc
 
 -- ---- objects
 
@@ -88,3 +98,8 @@ pub with_id_of_family : (ks : List Kept) (f g : Family) (id : List ℕ) (i : ℕ
 with_id_of_family ks f g id i e same =
     let h = first ks id g i e in
     ap (λ (j : Family). slice_get (those_of j ks) i) (sym (family_exact g f same)) ∙ h.place ∙ sym (among_one ks f g id i h true same)
+
+pub with_id_some : (ks : List Kept) (f g : Family) (id : List ℕ) (i : ℕ) → number_of_id ks id ≡ Some (g, i) → (family_number g == family_number f) ≡ true → (k : Kept) × (object_among ks f id ≡ Some k)
+with_id_some ks f g id i e same =
+    let h = first ks id g i e in
+    (h.one, among_one ks f g id i h true same)

@@ -35,11 +35,14 @@ abbrev pub is_selection_family : Family → Bool
 is_selection_family family.Selection = true
 is_selection_family f = false
 
+-- True if the object names a contest, and the selection at this position is not in that contest.
+abbrev pub is_selection_elsewhere : List Kept → Data → ℕ → Bool
+is_selection_elsewhere ks d selection =
+    option_map_or (λ contest. not (is_in_contest ks contest selection)) (number_among ks family.Contest (text_at (codes "ContestId") d)) false
+
 -- True if a selection has this `@id`, the object names a contest, and the selection is not in that contest.
 abbrev pub is_elsewhere : List Kept → Data → List ℕ → Bool
-is_elsewhere ks d id =
-    option_map_or (λ selection. option_map_or (λ contest. not (is_in_contest ks contest selection)) (number_among ks family.Contest (text_at (codes "ContestId") d)) false)
-    (number_among ks family.Selection id) false
+is_elsewhere ks d id = option_map_or (is_selection_elsewhere ks d) (number_among ks family.Selection id) false
 
 -- ---- at one place
 

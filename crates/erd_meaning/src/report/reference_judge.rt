@@ -1,24 +1,25 @@
-ghost use Rattle.std.specs.Prelude.{◌≡◌, ◌++◌, map, IfOk};
+ghost use Rattle.std.specs.Prelude.{◌≡◌, ◌++◌, ◌&&◌, map, IfOk};
+ghost use Rattle.std.specs.Option.{option_to_list};
 ghost use Rattle.serde_json.specs.View.{view};
 ghost use Rattle.erd_tables.specs.Faults.{ListsAll};
+ghost use Rattle.erd_check.specs.Trees.{IsTree};
 ghost use Rattle.erd_check.specs.code.Paths.{steps_of};
 ghost use Rattle.erd_check.specs.code.Walk.{faults_of};
 ghost use Rattle.erd_meaning.specs.LaterFaults.{ReferenceFault};
 ghost use Rattle.erd_meaning.specs.code.ObjectIndexes.{number_among};
 ghost use Rattle.erd_meaning.specs.code.ObjectWalk.{kept_objects};
 ghost use Rattle.erd_meaning.specs.code.Resolved.{IsIdentified};
-ghost use Rattle.erd_meaning.specs.code.ReferenceReasons.{id_reasons, is_elsewhere, is_of_others, reason_if};
+ghost use Rattle.erd_meaning.specs.code.ReferenceReasons.{id_reasons, is_selection_elsewhere, is_selection_family};
 ghost use Rattle.erd_meaning.specs.code.Shown.{shown};
 
 use crate::keys::key_rule::KeyRule;
-use crate::objects::lookup::owner_of;
 use crate::objects::table::ObjectTable;
 use erd_check::is_among;
 use erd_check::path::{Path, push_fault};
 use erd_check::values::text_at;
 use erd_check::visitor::{Position, Visit, Visitor};
 use erd_check::walk::walk_report;
-use erd_check::want::{Scope, Want};
+use erd_check::want::{Scope, Want, may_have_references};
 use erd_tables::{Family, Fault, FaultList, Reason};
 use serde_json::Value;
 use std::alloc::{AllocError, Global};
@@ -26,12 +27,14 @@ use std::alloc::{AllocError, Global};
 /// Returns all faults of references in a report (reasons 15 to 17, and reason 11 for references), each once, by place
 /// and then by reason. Each reference is looked up in `objects`, which are those of the report.
 ///
-/// Only faults and sets of more than 16 entries take memory.
+/// The walk passes over identifiers, texts and carried values, in which no reference stands. Only faults and sets of more
+/// than 16 entries take memory.
 pub(crate) fn reference_faults(
     keys: &KeyRule,
     tree: &Value,
     objects: &ObjectTable,
 ) -> Result<FaultList, AllocError>
+    requires is_tree { IsTree (view tree.now) }
     requires kept { map shown objects.now ≡ kept_objects keys.now (view tree.now) }
     requires identified { IsIdentified keys.now tree.now }
     ensures { IfOk result (ListsAll (ReferenceFault (view tree.now))) }
@@ -47,13 +50,19 @@ struct ReferenceJudge<'b, 'a> {
 }
 
 impl<'b, 'a> Visitor for ReferenceJudge<'b, 'a> {
-    ghost use Rattle.std.specs.Prelude.{map, ⊤};
+    ghost use Rattle.std.specs.Prelude.{false, map, ⊤};
     ghost use Rattle.erd_meaning.specs.code.ReferenceReasons.{reference_reasons_told};
     ghost use Rattle.erd_meaning.specs.code.Shown.{shown};
 
     ghost tells = { λ j. reference_reasons_told (map shown j.objects.now) };
 
     ghost Known = { λ _ _ _. ⊤ };
+
+    ghost is_thorough = { λ _. false };
+
+    fn enters(&self, want: Want) -> bool {
+        may_have_references(want)
+    }
 
     fn visit(
         &self,
@@ -67,73 +76,63 @@ impl<'b, 'a> Visitor for ReferenceJudge<'b, 'a> {
             return Ok(());
         };
         let position = visit.position;
-        let is_repeated = is_among(value, visit.earlier);
-        push_if(alloc, is_repeated, position.path, Reason::Repeated, faults)?;
+        if is_among(value, visit.earlier) {
+            push_fault(alloc, position.path, Reason::Repeated, faults)?;
+        }
         match value.as_str() {
-            Some(id) => self.push_id_faults(alloc, family, id, position, faults),
+            Some(id) => push_any(
+                alloc,
+                self.id_reason(family, id, position.outer),
+                position.path,
+                faults,
+            ),
             None => Ok(()),
         }
     }
 }
 
 impl<'b, 'a> ReferenceJudge<'b, 'a> {
-    /// Adds the faults of a reference with this text, except that it is repeated. If the reference is an entry of a
-    /// list, the outer value of its position is the object that has the list.
-    fn push_id_faults(
-        &self,
-        alloc: Global,
-        family: Family,
-        id: &str,
-        position: Position,
-        faults: &mut Vec<Fault>,
-    ) -> Result<(), AllocError>
-        ensures { IfOk result (λ _. faults.new.items ≡ faults.old.items ++ faults_of (steps_of position.entry.path.now)
-            (id_reasons (map shown self.now.objects.now) (view position.entry.outer.now) family id.now)) }
+    /// Returns the reason for which a reference with this text is refused, if there is one, except that it is repeated. If
+    /// the reference is an entry of a list, `object` is the object that has the list.
+    fn id_reason(&self, family: Family, id: &str, object: &Value) -> Option<Reason>
+        ensures { option_to_list result ≡ id_reasons (map shown self.now.objects.now) (view object.now) family id.now }
     {
-        let Position { path, outer, .. } = position;
-        let is_missing = !self.objects.has_id(id);
-        push_if(alloc, is_missing, path, Reason::Unresolved, faults)?;
-        let is_astray = is_of_others(self.objects, family, id);
-        push_if(alloc, is_astray, path, Reason::WrongFamily, faults)?;
-        let is_other = family == Family::Selection && is_elsewhere(self.objects, outer, id);
-        let reason = Reason::SelectionOfOtherContest;
-        push_if(alloc, is_other, path, reason, faults)
+        let Some((own, index)) = self.objects.position_of_id(id) else {
+            return Some(Reason::Unresolved);
+        };
+        if own != family {
+            return Some(Reason::WrongFamily);
+        }
+        let is_other = is_elsewhere(self.objects, family, index, object);
+        is_other.then_some(Reason::SelectionOfOtherContest)
     }
 }
 
-fn push_if(
+/// Adds a fault for the reason, if there is one.
+fn push_any(
     alloc: Global,
-    is_fault: bool,
+    reason: Option<Reason>,
     path: &Path,
-    reason: Reason,
     faults: &mut Vec<Fault>,
 ) -> Result<(), AllocError>
-    ensures { IfOk result (λ _. faults.new.items
-        ≡ faults.old.items ++ faults_of (steps_of path.now) (reason_if is_fault reason)) }
+    ensures { IfOk result (λ _. faults.new.items ≡ faults.old.items ++ faults_of (steps_of path.now) (option_to_list reason)) }
 {
-    if is_fault {
+    if let Some(reason) = reason {
         push_fault(alloc, path, reason, faults)?;
     }
     Ok(())
 }
 
-/// Returns whether the `@id` is that of an object of another family.
-fn is_of_others(objects: &ObjectTable, family: Family, id: &str) -> bool
-    ensures { result ≡ is_of_others (map shown objects.now) family id.now }
+/// Returns whether the object at this position of the family is a selection of another contest than the one that
+/// `ContestId` of the other object names. If this names no contest, returns `false`.
+fn is_elsewhere(objects: &ObjectTable, family: Family, index: usize, object: &Value) -> bool
+    ensures { result ≡ (is_selection_family family && is_selection_elsewhere (map shown objects.now) (view object.now) index) }
 {
-    owner_of(objects, family, id).is_none() && objects.has_id(id)
-}
-
-/// Returns whether the `@id` is that of a selection of another contest than the one that `ContestId` of the object names. If
-/// this names no contest, returns `false`.
-fn is_elsewhere(objects: &ObjectTable, object: &Value, id: &str) -> bool
-    ensures { result ≡ is_elsewhere (map shown objects.now) (view object.now) id.now }
-{
-    let Some(selection) = position_of(objects, Family::Selection, id) else {
+    if family != Family::Selection {
         return false;
-    };
+    }
     match position_of(objects, Family::Contest, text_at(object, "ContestId")) {
-        Some(contest) => !objects.is_in_contest(contest, selection),
+        Some(contest) => !objects.is_in_contest(contest, index),
         None => false,
     }
 }

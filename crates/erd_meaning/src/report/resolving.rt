@@ -5,6 +5,7 @@ ghost use Rattle.serde_json.specs.Written.{has_float};
 ghost use Rattle.erd_check.specs.Faults.{NoneOf};
 ghost use Rattle.erd_check.specs.Refusals.{RefusedFor};
 ghost use Rattle.erd_check.specs.Shapes.{IsFaultless};
+ghost use Rattle.erd_check.specs.Trees.{IsTree};
 ghost use Rattle.erd_meaning.specs.Accepted.{IsAccepted, IsFault};
 ghost use Rattle.erd_meaning.specs.LaterFaults.{IdentityFault, ReferenceFault, SelectionFault};
 ghost use Rattle.erd_meaning.specs.code.ObjectWalk.{election_keys, kept_objects};
@@ -139,6 +140,7 @@ fn objects_told_apart<'a>(
 
 /// Checks that a report has no faults of references.
 fn check_references(keys: &KeyRule, tree: &Value, objects: &ObjectTable) -> Result<(), CheckError>
+    requires is_tree { IsTree (view tree.now) }
     requires kept { map shown objects.now ≡ kept_objects keys.now (view tree.now) }
     requires identified { IsIdentified keys.now tree.now }
     ensures referred { IfOk result (λ _. IsReferred tree.now) }

@@ -1,4 +1,4 @@
-use Rattle.std.proofs.Common.{◌∙◌, subst, sym}
+use Rattle.std.proofs.Common.{◌∙◌, refl, subst, sym}
 use Rattle.serde_json.specs.View.{view}
 use Rattle.erd_tables.specs.Faults.{ListsAll}
 use Rattle.erd_check.specs.Faults.{ShapeFault}
@@ -7,4 +7,4 @@ use Rattle.erd_check.proofs.shape_faults.walked_faults.Goals as goal
 
 pub returns-clause-all : goal.returns-clause-all
 returns-clause-all c =
-    subst (ListsAll (ShapeFault (view c.args.tree.now))) (sym (c.of.ensures ∙ c.in_ok-found.ensures.told)) (shape_walk_lists (view c.args.tree.now) c.in_ok-found.ensures.in_order)
+    subst (ListsAll (ShapeFault (view c.args.tree.now))) (sym (c.of.ensures ∙ c.in_ok-found.ensures.told)) (shape_walk_lists (view c.args.tree.now) (c.in_ok-found.ensures.in_order refl))

@@ -1,7 +1,10 @@
 use Rattle.std.proofs.Common.{◌∙◌, subst, sym, ap, List}
 use Rattle.serde_json.specs.View.{view}
 use Rattle.erd_tables.specs.Faults.{ListsAll}
+use Rattle.erd_tables.specs.declared.class.Role.TheVariants.{Report}
 use Rattle.erd_check.specs.code.Walk.{told_of_report}
+use Rattle.erd_check.specs.declared.want.Want.TheVariants.{Object}
+use Rattle.erd_check.proofs.Deciding.{tree_in_order}
 use Rattle.erd_meaning.specs.LaterFaults.{ReferenceFault}
 use Rattle.erd_meaning.specs.code.ObjectWalk.{Kept}
 use Rattle.erd_meaning.specs.code.ReferenceReasons.{reference_reasons_told}
@@ -12,4 +15,4 @@ pub returns : goal.returns
 returns c =
     let t = view c.args.tree.now in
     let kept = ap (λ (ks : List Kept). told_of_report (reference_reasons_told ks) t) c.requires.kept in
-    subst (ListsAll (ReferenceFault t)) (sym (c.of.ensures ∙ c.in_ok-found.ensures.told ∙ kept)) (references_all c.args.keys.now t c.requires.identified c.in_ok-found.ensures.in_order)
+    subst (ListsAll (ReferenceFault t)) (sym (c.of.ensures ∙ c.in_ok-found.ensures.told ∙ kept)) (references_all c.args.keys.now t c.requires.identified (tree_in_order (Object Report) t c.requires.is_tree))

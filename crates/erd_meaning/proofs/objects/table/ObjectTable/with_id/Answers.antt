@@ -1,16 +1,8 @@
-use Rattle.std.proofs.Common.{Bool, true, false, not, refl, ◌≡◌, ap, option_map, map, sym, ◌∙◌}
+use Rattle.std.proofs.Common.{ap, option_map, map, sym, ◌∙◌}
 use Rattle.erd_meaning.specs.code.Shown.{shown}
-use Rattle.erd_meaning.proofs.finding.FoundWithId.{with_id_none, with_id_of_family, with_id_of_other}
+use Rattle.erd_meaning.proofs.finding.FoundWithId.{not_false, not_true, with_id_none, with_id_of_family, with_id_of_other}
 use Rattle.erd_meaning.proofs.finding.OwnedKeys.{families_same}
 use Rattle.erd_meaning.proofs.objects.table.ObjectTable.with_id.Goals as goal
-
-not_true : (b : Bool) → true ≡ not b → b ≡ false
-not_true true e = cc
-not_true false e = refl
-
-not_false : (b : Bool) → false ≡ not b → b ≡ true
-not_false true e = refl
-not_false false e = cc
 
 pub returns-in_err-own : goal.returns-in_err-own
 returns-in_err-own c =

@@ -1,0 +1,26 @@
+use Rattle.std.proofs.Common.{ap, map, sym, ◌∙◌}
+use Rattle.std.specs.Option.{option_to_list}
+use Rattle.serde_json.specs.View.{view}
+use Rattle.erd_tables.specs.declared.fault.Reason.TheVariants.{SelectionOfOtherContest}
+use Rattle.erd_meaning.specs.code.ReferenceReasons.{reason_if}
+use Rattle.erd_meaning.specs.code.Shown.{shown}
+use Rattle.erd_meaning.proofs.finding.FoundWithId.{not_false, not_true}
+use Rattle.erd_meaning.proofs.finding.OwnedKeys.{families_same}
+use Rattle.erd_meaning.proofs.references.ReasonsFound.{reasons_of_family, reasons_of_other, reasons_of_unknown, told_if}
+use Rattle.erd_meaning.proofs.report.reference_judge.ReferenceJudge.id_reason.Goals as goal
+
+pub returns-in_default : goal.returns-in_default
+returns-in_default c =
+    sym (reasons_of_unknown (map shown c.args.self.now.objects.now) (view c.args.object.now) c.args.family c.args.id.now (sym c.position_of_id.ensures ∙ c.in_default.is))
+
+pub returns-then-ne : goal.returns-then-ne
+returns-then-ne c =
+    let ks = map shown c.args.self.now.objects.now in
+    sym (reasons_of_other ks (view c.args.object.now) c.args.family c.in-Some.own c.args.id.now c.in-Some.index (sym c.position_of_id.ensures ∙ c.in-Some.is) (sym (families_same c.in-Some.own c.args.family) ∙ not_true _ c.if-ne.ensures))
+
+pub returns : goal.returns
+returns c =
+    let ks = map shown c.args.self.now.objects.now in
+    ap option_to_list c.then_some.ensures ∙ told_if c.is_elsewhere-is_other.result SelectionOfOtherContest
+    ∙ ap (λ b. reason_if b SelectionOfOtherContest) c.is_elsewhere-is_other.ensures
+    ∙ sym (reasons_of_family ks (view c.args.object.now) c.args.family c.in-Some.own c.args.id.now c.in-Some.index (sym c.position_of_id.ensures ∙ c.in-Some.is) (sym (families_same c.in-Some.own c.args.family) ∙ not_false _ c.if-ne.ensures))

@@ -1,0 +1,15 @@
+use Rattle.std.proofs.Common.{map, sym, ◌∙◌}
+use Rattle.std.specs.Prelude.{⊤}
+use Rattle.erd_check.proofs.SilentWalks.{is_known_of_all, is_silent}
+use Rattle.erd_meaning.specs.code.ReferenceReasons.{reference_reasons_told}
+use Rattle.erd_meaning.specs.code.Shown.{shown}
+use Rattle.erd_meaning.proofs.references.ReasonsFound.{of_references}
+use Rattle.erd_meaning.proofs.report.reference_judge.ReferenceJudgeVisitor.enters.Goals as goal
+
+pub returns-clause-silent : goal.returns-clause-silent
+returns-clause-silent c h =
+    let ks = map shown c.args.self.now.objects.now in
+    is_silent (reference_reasons_told ks) (of_references ks) c.args.want (sym c.may_have_references.ensures ∙ h)
+
+pub returns-clause-known : goal.returns-clause-known
+returns-clause-known c h = is_known_of_all (λ w d. ⊤) (λ w d. tt) c.args.want
