@@ -21,6 +21,12 @@ get_member-before k (member l d (member m e ms)) rise below =
 pub get_member-first : (k : List ℕ) (d : Data) (ms : Members) → get_member k (member k d ms) ≡ Some d
 get_member-first k d ms = rw same_as_itself
 
+-- and a name after the first one, where it stands among the others
+pub get_member-later : (n k : List ℕ) (d e : Data) (ms : Members) → text_cmp k n ≡ Less → get_member n ms ≡ Some e → get_member n (member k d ms) ≡ Some e
+get_member-later n k d e ms less h =
+    let down : text_cmp n k ≡ Greater = nat_list_cmp_total.antisymm n k ∙ ap ordering_reverse less in
+    rw down h
+
 -- the rest of two lists of members have the same under each name
 get_member-rest_at : (o : Ordering) (q k : List ℕ) (d : Data) (ms ns : Members) → text_cmp q k ≡ o → AreMembers ms → AreMembers ns → IsBeforeFirst k ms → IsBeforeFirst k ns
     → match_ordering o (get_member q ms) (Some d) (get_member q ms) ≡ match_ordering o (get_member q ns) (Some d) (get_member q ns) → get_member q ms ≡ get_member q ns

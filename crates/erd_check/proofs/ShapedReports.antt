@@ -35,6 +35,7 @@ use Rattle.erd_check.specs.declared.want.Want.TheVariants.{Carried, Member, Obje
 use Rattle.erd_check.proofs.FaultLists.{no_fault_from_empty}
 use Rattle.erd_check.proofs.Numbers.{has_numbers, HasNumbers, HaveNumbers, MembersHaveNumbers}
 use Rattle.erd_check.proofs.Shapes.{classed, faultless, of_label, of_role, unrepeated, AsksObject, Within, Within-root, Within-step}
+use Rattle.erd_check.proofs.Members.{get_member-first, get_member-later}
 use Rattle.erd_check.proofs.Sought.{array_empty, fitting_number, is_sought, number_whole, sought_carried, sought_entry, sought_named, IsRight, Sought}
 use Rattle.erd_check.proofs.Steps.{found_all, same_text}
 
@@ -72,14 +73,6 @@ record MembersSound (s : Scope) (ms : Members) : Type 0 where
 
 nowhere_float : (a b : Bool) → a ≡ false → b ≡ false → a || b ≡ false
 nowhere_float a b h k = rw (h, k)
-
-get_later : (n k : List ℕ) (d e : Data) (ms : Members) → slice_cmp nat_cmp k n ≡ Less → get_member n ms ≡ Some e → get_member n (member k d ms) ≡ Some e
-get_later n k d e ms less h =
-    let down : slice_cmp nat_cmp n k ≡ Greater = nat_list_cmp_total.antisymm n k ∙ ap ordering_reverse less in
-    rw down h
-
-get_first : (k : List ℕ) (d : Data) (ms : Members) → get_member k (member k d ms) ≡ Some d
-get_first k d ms = rw (same_text k)
 
 names_above : (k : List ℕ) (ms : Members) → IsStrictlySortedBy text_cmp (k ∷ names ms) → AllByRecursion (λ n. slice_cmp nat_cmp k n ≡ Less) (names ms)
 unfolding IsStrictlySortedBy
@@ -160,9 +153,9 @@ module _ (t : Data) (clean : NoneOf (ShapeFault t)) where
     members_sound s no_members all rising order each = record { whole = refl; trees = λ k. tt; fits = λ k. tt }
     members_sound s (member k d ms) all rising order each =
         let sought = all.each k in
-        let first = sound_at sought.want false d sought.sought (subst (λ o. IfSome o (λ v. IsInOrder v d)) sought.is order.0) (each k sought.want d sought.is (get_first k d ms)) in
+        let first = sound_at sought.want false d sought.sought (subst (λ o. IfSome o (λ v. IsInOrder v d)) sought.is order.0) (each k sought.want d sought.is (get_member-first k d ms)) in
         let rest = members_sound s ms all (names_after k ms rising) order.1
-        (λ n v e h there. each n v e h (get_later n k d e ms (found_all (λ n. slice_cmp nat_cmp k n ≡ Less) n e ms there (names_above k ms rising)) there)) in
+        (λ n v e h there. each n v e h (get_member-later n k d e ms (found_all (λ n. slice_cmp nat_cmp k n ≡ Less) n e ms there (names_above k ms rising)) there)) in
         record {
           whole = nowhere_float (has_float d) (members_have_float ms) first.whole rest.whole;
           trees = λ h. (before_first k ms rising, first.tree h.0, rest.trees h.1);

@@ -1,6 +1,7 @@
 pub mod StepWalks
 pub mod RisingTables
 pub mod NameWalks
+pub mod MemberWalks
 pub mod HeldRecords
 pub mod KeyedRecords
 pub mod KeyTables

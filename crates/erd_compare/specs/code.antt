@@ -4,7 +4,7 @@ pub mod ContentParts  -- values: what stands inside a header
 pub mod PlainParts  -- objects: what a member means by itself
 pub mod SelectionMembers  -- objects: the selections of a contest, as a member of it
 pub mod SelectionsByName  -- objects: which selection has a name, and the selections of a contest by their names
-pub mod NamesInStep  -- objects: the names that are left, as those of two objects are walked in step
+pub mod NamesInStep  -- objects: the members that are left, as those of two objects are walked in step by their names
 pub mod LeastNames  -- objects: the least name of a member at which two objects differ
 pub mod HeldDifferences  -- objects: how two objects differ with the keys of the elections that hold them
 pub mod KeyedDifferences  -- the first difference: the least key at which two reports differ in a part

@@ -1,7 +1,7 @@
 //! How two objects differ, and whether their members mean the same.
 
 pub(crate) mod held;
-mod member_names;
+mod members_left;
 mod numbered_names;
 mod plain_members;
 pub(crate) mod records;

@@ -1,5 +1,5 @@
 -- The names of the members of two objects, walked in step: the first name at which the objects differ is the least.
-use Rattle.std.proofs.Common.{◌≡◌, ◌<◌, ◌+◌, ℕ, inl, inr, List, [], ◌∷◌, length, Bor, Bool, true, false, cond, String, Global, Option, Some, None, option_map, Ordering, Less, Equal, Greater, refl, sym, ap, ap₂, ◌∙◌, subst, arith}
+use Rattle.std.proofs.Common.{◌≡◌, ◌<◌, ◌+◌, ℕ, inl, inr, List, [], ◌∷◌, length, Bor, Bool, true, false, cond, Option, Some, None, option_map, Ordering, Less, Equal, Greater, refl, sym, ap, ap₂, ◌∙◌, subst, arith}
 use Rattle.std.specs.List.{AllByRecursion}
 use Rattle.std.specs.List.Sorted.{IsStrictlySortedBy}
 use Rattle.std.specs.Str.{bytes_eq}
@@ -9,7 +9,6 @@ use Rattle.std.proofs.lemmas.Cmp.{nat_list_cmp_total, tied_itself}
 use Rattle.std.proofs.lemmas.Map.Lookups.{exact_bytes}
 use Rattle.serde_json.specs.Data.{Data, null, boolean, number, string, array, object, Members, no_members, member}
 use Rattle.serde_json.specs.Find.{as_object, get, get_member}
-use Rattle.serde_json.specs.declared.value.Value.{Value}
 use Rattle.erd_tables.specs.Texts.{text_cmp}
 use Rattle.erd_tables.specs.declared.class.Class.{Class}
 use Rattle.erd_check.specs.Trees.{AreMembers, IsBeforeFirst, IsTree}
@@ -19,22 +18,14 @@ use Rattle.erd_meaning.specs.Keys.{Preference}
 use Rattle.erd_meaning.specs.Records.{member_of_class}
 use Rattle.erd_compare.specs.Differences.{DifferFirstAt}
 use Rattle.erd_compare.specs.code.LeastNames.{DifferAtName, lesser_name, record_of_class}
-use Rattle.erd_compare.specs.code.NamesInStep.{names_from, names_past}
+use Rattle.erd_compare.specs.code.NamesInStep.{first_of, names_past}
 use Rattle.erd_compare.proofs.least_difference.StepWalks.{IsInStep, IsNoneBeside, NoneLess, all_left, below_head, equal_all, none_less-before, none_less-empty, none_less-head, pass_both, pass_left, pass_right, turned}
 
 -- ---- the first name that is left
 
-abbrev pub first_of : List (List ℕ) → Option (List ℕ)
-first_of [] = None
-first_of (k ∷ ks) = Some k
-
-first_left : (first : Option (Bor (List ℕ))) (rest : List (String Global × Value)) → option_map (λ s. s.now) first ≡ first_of (names_from first rest)
-first_left None rest = refl
-first_left (Some name) rest = refl
-
-pub firsts_left : (f g : Option (Bor (List ℕ))) (r s : List (String Global × Value)) (o : Option (List ℕ)) → o ≡ lesser_name (option_map (λ k. k.now) f) (option_map (λ k. k.now) g)
-    → lesser_name (first_of (names_from f r)) (first_of (names_from g s)) ≡ o
-firsts_left f g r s o e = ap₂ lesser_name (sym (first_left f r)) (sym (first_left g s)) ∙ sym e
+pub firsts_left : (f g : Option (Bor (List ℕ))) (ls rs : List (List ℕ)) (o : Option (List ℕ)) → option_map (λ k. k.now) f ≡ first_of ls → option_map (λ k. k.now) g ≡ first_of rs
+    → o ≡ lesser_name (option_map (λ k. k.now) f) (option_map (λ k. k.now) g) → lesser_name (first_of ls) (first_of rs) ≡ o
+firsts_left f g ls rs o left right e = ap₂ lesser_name (sym left) (sym right) ∙ sym e
 
 -- ---- a name is passed by
 

@@ -1,7 +1,9 @@
 -- What members mean: the selections of a contest, and all others, which mean what they do by themselves.
-use Rattle.std.proofs.Common.{◌≡◌, List, ℕ, Bool, false, Option, Some, None, Result, Ok, Err, IfOk, option_map, refl, sym, ap, ◌∙◌, subst}
+use Rattle.std.proofs.Common.{◌≡◌, Bor, List, Bool, false, Option, Some, None, Result, Ok, Err, IfOk, option_map, refl, sym, ap, ◌∙◌, subst}
+use Rattle.std.specs.Prelude.{IfSome}
 use Rattle.serde_json.specs.Data.{Data, null, boolean, number, string, array, object, no_items, item}
-use Rattle.serde_json.specs.Find.{get}
+use Rattle.serde_json.specs.View.{view}
+use Rattle.serde_json.specs.declared.value.Value.{Value}
 use Rattle.erd_check.specs.Values.{entries_of}
 use Rattle.erd_tables.specs.declared.class.Family.TheVariants as family
 use Rattle.erd_tables.specs.declared.member.MemberKind.{MemberKind}
@@ -12,7 +14,6 @@ use Rattle.erd_meaning.specs.NameParts.{NameParts}
 use Rattle.erd_meaning.specs.Records.{member_value, selection_map}
 use Rattle.erd_compare.specs.code.Comparing.{Decides, IsWholeTree}
 use Rattle.erd_compare.specs.code.SelectionMembers.{if_filled, is_selections, selections_meant}
-use Rattle.erd_compare.proofs.whole_trees.WholeTrees.{whole_tree-get}
 
 -- ---- selections
 
@@ -32,9 +33,13 @@ filled-there (Some (array no_items)) v e = cc
 filled-there (Some (array (item d ds))) v e = e
 filled-there (Some (object ms)) v e = e
 
--- a member that is no empty array is a whole tree, where it stands in one
-pub whole_tree-filled : (name : List ℕ) (d v : Data) → IsWholeTree d → if_filled (get name d) ≡ Some v → IsWholeTree v
-whole_tree-filled name d v whole e = whole_tree-get name d v whole (filled-there (get name d) v e)
+-- a value that is no empty array is the one that was found, and a whole tree if that is one
+pub whole_filled : (o : Option (Bor Value)) (v : Data) → IfSome o (λ w. IsWholeTree (view w.now)) → if_filled (option_map (λ w. view w.now) o) ≡ Some v → IsWholeTree v
+whole_filled None v whole e = cc
+whole_filled (Some w) v whole e =
+    let same : Some (view w.now) ≡ Some v = filled-there (Some (view w.now)) v e in
+    let is : view w.now ≡ v = cc in
+    subst IsWholeTree is whole
 
 -- the selections of a member that is no empty array
 selections_meant-filled : (π : Preference) (t : Data) (found : Option Data) (v : Data) → if_filled found ≡ Some v → selections_meant π t found ≡ Some (a_selection_map (selection_map π t (entries_of v)))

@@ -1,8 +1,9 @@
 -- Whole trees: their members and entries are whole trees, and equality as JSON decides equality on them.
-use Rattle.std.proofs.Common.{◌≡◌, ◌<◌, ℕ, zero, suc, pos, List, [], ◌∷◌, Bool, true, false, ◌&&◌, Option, Some, None, map, length, get_or, refl, sym, subst, arith}
+use Rattle.std.proofs.Common.{◌≡◌, ◌<◌, ℕ, zero, suc, pos, List, [], ◌∷◌, Bool, true, false, ◌&&◌, Option, Some, None, option_map, Bor, map, length, get_or, refl, sym, subst, arith}
 use Rattle.std.proofs.lemmas.Bool.{and_from, or_parts}
 use Rattle.std.proofs.lemmas.Bool.Decides.{Decides-int_eq}
 use Rattle.std.specs.List.{AllByRecursion}
+use Rattle.std.specs.Prelude.{IfSome}
 use Rattle.std.specs.Option.{option_map_or}
 use Rattle.serde_json.specs.Data.{Num, unsigned, negative, float, Data, null, boolean, number, string, array, object, Items, no_items, item, Members, no_members, member}
 use Rattle.serde_json.specs.Find.{get, is_float}
@@ -34,6 +35,11 @@ get-tree name (object ms) v h e = get_member-tree name v ms h e
 -- a member of a whole tree is one
 pub whole_tree-get : (name : List ℕ) (d v : Data) → IsWholeTree d → get name d ≡ Some v → IsWholeTree v
 whole_tree-get name d v h e = record { is_tree = get-tree name d v h.is_tree e; whole = whole_get name d v h.whole e }
+
+-- and so is a value that was found in one
+pub whole_found : (name : List ℕ) (d : Data) (o : Option (Bor Value)) → IsWholeTree d → option_map (λ v. view v.now) o ≡ get name d → IfSome o (λ v. IsWholeTree (view v.now))
+whole_found name d None h e = tt
+whole_found name d (Some v) h e = whole_tree-get name d (view v.now) h (sym e)
 
 -- ---- entries
 

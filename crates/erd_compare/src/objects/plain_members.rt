@@ -1,9 +1,9 @@
-ghost use Rattle.std.specs.Prelude.{◌≡◌, IfOk};
+ghost use Rattle.std.specs.Prelude.{◌≡◌, option_map, IfOk, IfSome};
 ghost use Rattle.serde_json.specs.View.{view};
 ghost use Rattle.erd_check.specs.Values.{entries_of};
-ghost use Rattle.erd_meaning.specs.Records.{is_in_envelope, json_set, plain_member, plain_value};
+ghost use Rattle.erd_meaning.specs.Records.{is_in_envelope, json_set, plain_value};
 ghost use Rattle.erd_compare.specs.code.Comparing.{Decides, IsWholeTree, NamesKeys};
-ghost use Rattle.erd_compare.specs.code.PlainParts.{means_nothing, meant_value};
+ghost use Rattle.erd_compare.specs.code.PlainParts.{means_nothing, meant_value, plain_found};
 
 use crate::sides::Sides;
 use crate::values::content::is_same_content;
@@ -16,24 +16,25 @@ use serde_json::Value;
 use std::alloc::{AllocError, Global};
 
 /// Whether the members with this name, of two objects of the same class, mean the same, apart from the objects inside them.
+/// Each object has the value that is given, or lacks the member.
 pub(crate) fn is_same_plain_member(
     alloc: Global,
     sides: Sides,
     class: Class,
     name: &str,
-    one: &Value,
-    other: &Value,
+    one: Option<&Value>,
+    other: Option<&Value>,
 ) -> Result<bool, AllocError>
-    requires one { IsWholeTree (view one.now) }
-    requires other { IsWholeTree (view other.now) }
-    ensures { IfOk result (λ answer. Decides answer (plain_member sides.entry.left.now.prefer (view sides.entry.left.now.tree) (view one.now) class name.now)
-        (plain_member sides.entry.right.now.prefer (view sides.entry.right.now.tree) (view other.now) class name.now)) }
+    requires one { IfSome one (λ v. IsWholeTree (view v.now)) }
+    requires other { IfSome other (λ v. IsWholeTree (view v.now)) }
+    ensures { IfOk result (λ answer. Decides answer (plain_found sides.entry.left.now.prefer (view sides.entry.left.now.tree) class name.now (option_map (λ v. view v.now) one.entry))
+        (plain_found sides.entry.right.now.prefer (view sides.entry.right.now.tree) class name.now (option_map (λ v. view v.now) other.entry))) }
 {
     if is_in_envelope(class, name) {
         return Ok(true);
     }
     let kind = member_kind(class, name);
-    match (one.get(name), other.get(name)) {
+    match (one, other) {
         (Some(one), Some(other)) => is_same_plain(alloc, sides, kind, one, other),
         (Some(one), None) => Ok(means_nothing(kind, one)),
         (None, Some(other)) => Ok(means_nothing(kind, other)),

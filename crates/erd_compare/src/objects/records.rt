@@ -1,12 +1,13 @@
-ghost use Rattle.std.specs.Prelude.{◌≡◌, option_map, IfOk, Some};
+ghost use Rattle.std.specs.Prelude.{◌≡◌, option_map, IfOk, IfSome, Some};
 ghost use Rattle.serde_json.specs.View.{view};
 ghost use Rattle.erd_meaning.specs.Records.{member_of_class, object_record};
 ghost use Rattle.erd_compare.specs.code.Comparing.{IsWholeTree, TellsHow, Decides};
 ghost use Rattle.erd_compare.specs.code.LeastNames.{IsObject, TellsLeastName, record_of_class};
+ghost use Rattle.erd_compare.specs.code.PlainParts.{member_found};
 ghost use Rattle.erd_compare.specs.code.SelectionMembers.{is_selections};
 
 use crate::difference::How;
-use crate::objects::member_names::{NamesLeft, lesser_name};
+use crate::objects::members_left::{MembersLeft, lesser_name};
 use crate::objects::plain_members::is_same_plain_member;
 use crate::objects::selections::is_same_selections;
 use crate::sides::Sides;
@@ -65,7 +66,7 @@ fn member_difference(
     }
 }
 
-/// The least name at which the members of two objects of the same class differ. The names of both are walked in step.
+/// The least name at which the members of two objects of the same class differ. The members of both are walked in step.
 fn least_differing_name<'a>(
     alloc: Global,
     sides: Sides,
@@ -84,10 +85,12 @@ fn least_differing_name<'a>(
     let (Some(ones), Some(others)) = (one.as_object(), other.as_object()) else {
         return Ok(None);
     };
-    let mut ones = NamesLeft::of(ones);
-    let mut others = NamesLeft::of(others);
-    while let Some(name) = lesser_name(ones.first, others.first) {
-        if !is_same_member(alloc, sides, class, name, one, other)? {
+    let mut ones = MembersLeft::of(ones);
+    let mut others = MembersLeft::of(others);
+    while let Some(name) = lesser_name(ones.first_name(), others.first_name()) {
+        let mine = ones.value_in(one, name);
+        let its = others.value_in(other, name);
+        if !is_same_member(alloc, sides, class, name, mine, its)? {
             return Ok(Some(name));
         }
         ones.pass(name);
@@ -96,22 +99,23 @@ fn least_differing_name<'a>(
     Ok(None)
 }
 
-/// Whether the members with this name, of two objects of the same class, mean the same.
+/// Whether the members with this name, of two objects of the same class, mean the same. Each object has the value that is
+/// given, or lacks the member.
 fn is_same_member(
     alloc: Global,
     sides: Sides,
     class: Class,
     name: &str,
-    one: &Value,
-    other: &Value,
+    one: Option<&Value>,
+    other: Option<&Value>,
 ) -> Result<bool, AllocError>
-    requires one { IsWholeTree (view one.now) }
-    requires other { IsWholeTree (view other.now) }
-    ensures { IfOk result (λ answer. Decides answer (member_of_class sides.entry.left.now.prefer (view sides.entry.left.now.tree) (view one.now) class name.now)
-        (member_of_class sides.entry.right.now.prefer (view sides.entry.right.now.tree) (view other.now) class name.now)) }
+    requires one { IfSome one (λ v. IsWholeTree (view v.now)) }
+    requires other { IfSome other (λ v. IsWholeTree (view v.now)) }
+    ensures { IfOk result (λ answer. Decides answer (member_found sides.entry.left.now.prefer (view sides.entry.left.now.tree) class name.now (option_map (λ v. view v.now) one.entry))
+        (member_found sides.entry.right.now.prefer (view sides.entry.right.now.tree) class name.now (option_map (λ v. view v.now) other.entry))) }
 {
     if is_selections(member_kind(class, name)) {
-        is_same_selections(alloc, sides, name, one, other)
+        is_same_selections(alloc, sides, one, other)
     } else {
         is_same_plain_member(alloc, sides, class, name, one, other)
     }

@@ -1,6 +1,5 @@
-ghost use Rattle.std.specs.Prelude.{◌≡◌, map, option_map, IfOk};
+ghost use Rattle.std.specs.Prelude.{◌≡◌, map, option_map, IfOk, IfSome};
 ghost use Rattle.std.specs.List.{AllByRecursion};
-ghost use Rattle.serde_json.specs.Find.{get};
 ghost use Rattle.serde_json.specs.View.{view};
 ghost use Rattle.erd_meaning.specs.Records.{plain_member, selection_map, selection_record};
 ghost use Rattle.erd_compare.specs.code.Comparing.{Decides, IsWholeTree};
@@ -9,7 +8,7 @@ ghost use Rattle.erd_compare.specs.code.SelectionMembers.{if_filled, selections_
 ghost use Rattle.erd_compare.specs.code.SelectionsByName.{IsByName};
 
 use crate::numbers::side::Side;
-use crate::objects::member_names::{NamesLeft, lesser_name};
+use crate::objects::members_left::{MembersLeft, lesser_name};
 use crate::objects::numbered_names::numbered_name;
 use crate::objects::plain_members::is_same_plain_member;
 use crate::sides::Sides;
@@ -24,16 +23,15 @@ use std::alloc::{AllocError, Global};
 pub(crate) fn is_same_selections(
     alloc: Global,
     sides: Sides,
-    name: &str,
-    one: &Value,
-    other: &Value,
+    one: Option<&Value>,
+    other: Option<&Value>,
 ) -> Result<bool, AllocError>
-    requires one { IsWholeTree (view one.now) }
-    requires other { IsWholeTree (view other.now) }
-    ensures { IfOk result (λ answer. Decides answer (selections_meant sides.entry.left.now.prefer (view sides.entry.left.now.tree) (get name.now (view one.now)))
-        (selections_meant sides.entry.right.now.prefer (view sides.entry.right.now.tree) (get name.now (view other.now)))) }
+    requires one { IfSome one (λ v. IsWholeTree (view v.now)) }
+    requires other { IfSome other (λ v. IsWholeTree (view v.now)) }
+    ensures { IfOk result (λ answer. Decides answer (selections_meant sides.entry.left.now.prefer (view sides.entry.left.now.tree) (option_map (λ v. view v.now) one.entry))
+        (selections_meant sides.entry.right.now.prefer (view sides.entry.right.now.tree) (option_map (λ v. view v.now) other.entry))) }
 {
-    match (filled(one, name), filled(other, name)) {
+    match (filled(one), filled(other)) {
         (Some(ones), Some(others)) => {
             let (ones, others) = (entries_of(ones), entries_of(others));
             is_same_selection_map(alloc, sides, ones, others)
@@ -43,12 +41,12 @@ pub(crate) fn is_same_selections(
     }
 }
 
-/// The member with this name, unless it is an empty array.
-fn filled<'a>(value: &'a Value, name: &str) -> Option<&'a Value>
-    ensures { option_map (λ v. view v.now) result ≡ if_filled (get name.now (view value.now)) }
+/// The value, unless it is an empty array.
+fn filled(found: Option<&Value>) -> Option<&Value>
+    ensures { option_map (λ v. view v.now) result ≡ if_filled (option_map (λ v. view v.now) found.entry) }
 {
-    match value.get(name) {
-        Some(member) if !is_empty_array(member) => Some(member),
+    match found {
+        Some(value) if !is_empty_array(value) => found,
         _ => None,
     }
 }
@@ -125,7 +123,7 @@ fn is_same_selection(
     }
 }
 
-/// Whether the members of two selections of the same class mean the same. The names of both are walked in step.
+/// Whether the members of two selections of the same class mean the same. The members of both are walked in step.
 fn is_same_by_members(
     alloc: Global,
     sides: Sides,
@@ -143,10 +141,12 @@ fn is_same_by_members(
     let (Some(ones), Some(others)) = (one.as_object(), other.as_object()) else {
         return Ok(true);
     };
-    let mut ones = NamesLeft::of(ones);
-    let mut others = NamesLeft::of(others);
-    while let Some(name) = lesser_name(ones.first, others.first) {
-        if !is_same_plain_member(alloc, sides, class, name, one, other)? {
+    let mut ones = MembersLeft::of(ones);
+    let mut others = MembersLeft::of(others);
+    while let Some(name) = lesser_name(ones.first_name(), others.first_name()) {
+        let mine = ones.value_in(one, name);
+        let its = others.value_in(other, name);
+        if !is_same_plain_member(alloc, sides, class, name, mine, its)? {
             return Ok(false);
         }
         ones.pass(name);

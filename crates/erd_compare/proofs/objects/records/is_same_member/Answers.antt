@@ -1,11 +1,12 @@
 -- Members that are no selections mean what they do by themselves.
-use Rattle.std.proofs.Common.{sym, ap, ◌∙◌}
+use Rattle.std.proofs.Common.{Bor, option_map, sym, ap, ◌∙◌}
 use Rattle.std.proofs.lemmas.Result.{IfOk-weaker}
-use Rattle.serde_json.specs.Find.{get}
 use Rattle.serde_json.specs.View.{view}
+use Rattle.serde_json.specs.declared.value.Value.{Value}
 use Rattle.erd_tables.specs.Table.{kind_of_member}
-use Rattle.erd_meaning.specs.Records.{member_value, plain_member}
+use Rattle.erd_meaning.specs.Records.{member_value}
 use Rattle.erd_compare.specs.code.Comparing.{Decides}
+use Rattle.erd_compare.specs.code.PlainParts.{plain_found}
 use Rattle.erd_compare.specs.code.SelectionMembers.{is_selections}
 use Rattle.erd_compare.proofs.same_selections.MemberValues.{other_kind-Decides}
 use Rattle.erd_compare.proofs.objects.records.is_same_member.Goals as goal
@@ -18,10 +19,10 @@ returns-else-is_selections c =
     let u = view c.args.sides.right.now.tree in
     let k = kind_of_member c.args.class c.args.name.now in
     let name = c.args.name.now in
-    let found = get name (view c.args.one.now) in
-    let other = get name (view c.args.other.now) in
-    let p = plain_member π t (view c.args.one.now) c.args.class name in
-    let q = plain_member ρ u (view c.args.other.now) c.args.class name in
+    let found = option_map (λ (v : Bor Value). view v.now) c.args.one in
+    let other = option_map (λ (v : Bor Value). view v.now) c.args.other in
+    let p = plain_found π t c.args.class name found in
+    let q = plain_found ρ u c.args.class name other in
     IfOk-weaker c.is_same_plain_member.result (λ answer. Decides answer p q) (λ answer. Decides answer (member_value π t k found p) (member_value ρ u k other q))
     (λ answer h. other_kind-Decides π ρ answer t u k found other p q (ap is_selections (sym c.member_kind.ensures) ∙ sym c.is_selections.ensures ∙ c.if-is_selections.false) h)
     c.is_same_plain_member.ensures

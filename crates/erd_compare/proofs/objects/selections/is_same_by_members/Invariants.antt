@@ -2,14 +2,17 @@ use Rattle.std.proofs.Common.{◌+◌, length}
 use Rattle.serde_json.specs.View.{view}
 use Rattle.erd_tables.specs.Texts.{text_cmp}
 use Rattle.erd_meaning.specs.Records.{plain_member}
-use Rattle.erd_compare.specs.code.NamesInStep.{names_left}
+use Rattle.erd_compare.specs.code.NamesInStep.{AreMembersOf, members_left, names_left}
 use Rattle.erd_compare.proofs.least_difference.StepWalks.{IsInStep}
 use Rattle.erd_compare.proofs.objects.selections.is_same_by_members.Given as goal
 
 abbrev pub invariant-loop-name : goal.invariant-loop-name
-invariant-loop-name l =
-    IsInStep text_cmp (plain_member l.sides.left.now.prefer (view l.sides.left.now.tree) (view l.one) l.class) (plain_member l.sides.right.now.prefer (view l.sides.right.now.tree) (view l.other) l.class)
-    (names_left l.ones) (names_left l.others)
+invariant-loop-name l = record {
+  in_step : IsInStep text_cmp (plain_member l.sides.left.now.prefer (view l.sides.left.now.tree) (view l.one) l.class) (plain_member l.sides.right.now.prefer (view l.sides.right.now.tree) (view l.other) l.class)
+      (names_left l.ones) (names_left l.others);
+  ones : AreMembersOf (view l.one) (members_left l.ones);
+  others : AreMembersOf (view l.other) (members_left l.others);
+}
 
 abbrev pub decreases-loop-name : goal.decreases-loop-name
 decreases-loop-name l = length (names_left l.ones) + length (names_left l.others)
