@@ -3,6 +3,8 @@ pub mod MetSelections
 pub mod NamesTold
 pub mod NumberedSelections
 pub mod NumberedObjects  -- the contests that stand before each selection
+pub mod ListParts
+pub mod ContestSelections  -- the selections of a contest among all
 pub mod SelectionFaults
 pub mod SelectionsMet
 pub mod WalkedNames

@@ -5,7 +5,7 @@ use Rattle.serde_json.specs.Data.{Data}
 use Rattle.erd_tables.specs.declared.class.Family.{Family}
 use Rattle.erd_tables.specs.declared.class.Family.TheVariants as family
 use Rattle.erd_meaning.specs.NameParts.{NameParts}
-use Rattle.erd_meaning.specs.Objects.{Placed, election_of_place, elections, id_of, numbered_selections, objects}
+use Rattle.erd_meaning.specs.Objects.{Placed, contests, election_of_place, elections, id_of, numbered_selections, objects, selections_of_contest}
 use Rattle.erd_meaning.specs.Keys.{Preference, key_of, key_of_family_object}
 use Rattle.erd_meaning.specs.SelectionNames.{name_of}
 use Rattle.erd_meaning.specs.declared.keys.key.Key.{Key}
@@ -35,6 +35,10 @@ election_in f t i = option_and_then (λ o. election_of_place o.place) (slice_get
 -- The position of the contest of the selection at this position, and the name of the selection, or none.
 abbrev pub selection_in : Preference → Data → ℕ → Option (ℕ × NameParts)
 selection_in π t i = option_and_then (λ s. option_map (λ n. (s.0, n)) (name_of π t s.1.value)) (slice_get (numbered_selections t) i)
+
+-- The name of the selection at this position of the contest at the other, or none.
+abbrev pub name_in_contest : Preference → Data → ℕ → ℕ → Option NameParts
+name_in_contest π t c i = option_and_then (λ o. option_and_then (λ s. name_of π t s.value) (slice_get (selections_of_contest o) i)) (slice_get (contests t) c)
 
 -- The answer is a position if and only if the object of the family at that position has the key. So at most one has it.
 abbrev pub FindsKey : Preference → Data → Family → Key → Option ℕ → Type 0

@@ -5,7 +5,7 @@ ghost use Rattle.serde_json.specs.Written.{has_float};
 ghost use Rattle.erd_check.specs.Numbers.{HasFittingNumbers};
 ghost use Rattle.erd_check.specs.Trees.{IsShallow, IsTree};
 ghost use Rattle.erd_meaning.specs.Accepted.{IsAccepted};
-ghost use Rattle.erd_meaning.specs.Lookups.{FindsId, FindsKey, FindsSelection, election_in, election_key_in, key_in, selection_in};
+ghost use Rattle.erd_meaning.specs.Lookups.{FindsId, FindsKey, FindsSelection, election_in, election_key_in, key_in, name_in_contest, selection_in};
 ghost use Rattle.erd_meaning.specs.Objects.{IsBounded, elections, objects};
 ghost use Rattle.erd_meaning.specs.code.Resolved.{IsResolved};
 ghost use Rattle.erd_meaning.specs.code.ResolvedElections.{AreElections};
@@ -228,6 +228,18 @@ impl<'a> Report<'a> {
     {
         let (contest, name) = self.indexes().names.get_index(index)?;
         Some((*contest, name.name()))
+    }
+
+    /// Returns the name of the selection at the position `index` of the contest at the position `contest`, or `None` if there
+    /// is no such selection.
+    pub fn name_in_contest(&self, contest: usize, index: usize) -> Option<&SelectionName>
+        ensures { option_copied result ≡ name_in_contest self.now.prefer (view self.now.tree) contest index }
+    {
+        // read for its bound: a word counts the selections
+        let _count = self.count(Family::Selection);
+        let start = self.indexes().objects.first_selection(contest);
+        let (own, name) = self.selection_at(start.checked_add(index)?)?;
+        if own == contest { Some(name) } else { None }
     }
 
     /// Returns the position of the selection that has the name and is in the contest at the position `contest`, or `None` if

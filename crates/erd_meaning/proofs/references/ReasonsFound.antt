@@ -15,8 +15,8 @@ use Rattle.erd_check.proofs.SilentWalks.{TellsOfReferences}
 use Rattle.erd_meaning.specs.code.ObjectIndexes.{number_among, number_of_id}
 use Rattle.erd_meaning.specs.code.ObjectLookups.{object_among}
 use Rattle.erd_meaning.specs.code.ObjectWalk.{Kept}
-use Rattle.erd_meaning.specs.code.ReferenceReasons.{id_reasons, is_elsewhere, is_known, is_of_others, is_selection_elsewhere, is_selection_family, owner_among, reason_if, reference_reasons_told}
-use Rattle.erd_meaning.proofs.finding.FoundWithId.{with_id_none, with_id_of_family, with_id_of_other, with_id_some}
+use Rattle.erd_meaning.specs.code.ReferenceReasons.{id_reasons, is_elsewhere, is_known, is_of_others, is_selection_elsewhere, is_selection_family, reason_if, reference_reasons_told}
+use Rattle.erd_meaning.proofs.finding.FoundWithId.{with_id_none, with_id_of_other, with_id_some}
 use Rattle.erd_meaning.proofs.finding.Known.{id_known}
 
 -- the reasons by what is known of the text

@@ -1,6 +1,8 @@
 -- The indexes that the program keeps of the objects of a report. They do not define the profile.
-use Rattle.std.specs.Prelude.{◌==◌, ◌<◌, ◌+◌, ◌-◌, ℕ, List, [], ◌∷◌, ◌++◌, length, take, Bool, false, Option, Some, None, option_and_then, option_map, if◌then◌else◌}
+use Rattle.std.specs.Prelude.{◌≡◌, ◌==◌, ◌<◌, ◌≤◌, ◌+◌, ◌-◌, ℕ, List, [], ◌∷◌, ◌++◌, length, take, Bool, true, false, Option, Some, None, option_and_then, option_map, if◌then◌else◌}
 use Rattle.std.specs.List.{position, slice_get}
+use Rattle.std.specs.List.Sorted.{IsPartitionPoint}
+use Rattle.std.proofs.Math.Dec.{leb}
 use Rattle.std.specs.Option.{option_map_or}
 use Rattle.std.specs.Prelude.{vec_len, vec_capacity}
 use Rattle.erd_tables.specs.Classes.{family_number}
@@ -62,6 +64,10 @@ contests_before n (k ∷ ks) = contests_noted k.family n ++ contests_before (if 
 -- True if the selection at one position is in the contest at the other, which is then the last contest before it.
 abbrev pub is_in_contest : List Kept → ℕ → ℕ → Bool
 is_in_contest ks contest selection = option_map_or (λ n. n == contest + 1) (slice_get (contests_before 0 ks) selection) false
+
+-- The selection at this position is the first that does not have at most k contests before it.
+abbrev pub IsStart : List ℕ → ℕ → ℕ → Type 0
+IsStart before k r = (r ≤ length before) × IsPartitionPoint (λ n. leb n k ≡ true) (λ n. leb n k ≡ false) before r
 
 -- The position in the family of the first object with this `@id`, or none if that object is of another family.
 abbrev pub number_among : List Kept → Family → List ℕ → Option ℕ

@@ -2,7 +2,7 @@ ghost use Rattle.std.specs.Prelude.{◌≡◌, ◌==◌, ◌<◌, ◌+◌, ◌++
 ghost use Rattle.std.specs.Option.{option_map_or, option_or};
 ghost use Rattle.std.specs.Str.{bytes_eq};
 ghost use Rattle.indexmap.specs.IndexMap.{get_by, spare};
-ghost use Rattle.erd_meaning.specs.code.ObjectIndexes.{contests_noted, is_in_contest, number_of_id, number_of_key};
+ghost use Rattle.erd_meaning.specs.code.ObjectIndexes.{IsStart, contests_before, contests_noted, is_in_contest, number_of_id, number_of_key};
 ghost use Rattle.erd_tables.specs.declared.class.Family.{Family};
 ghost use Rattle.erd_meaning.specs.code.Indexed.{same_owned};
 ghost use Rattle.std.specs.List.{list_any};
@@ -131,6 +131,14 @@ impl<'a> ObjectTable<'a> {
             Some(before) => is_next(contest, *before),
             None => false,
         }
+    }
+
+    /// Returns the position of the first selection that is in the contest at the position, or in a later one.
+    pub(crate) fn first_selection(&self, contest: usize) -> usize
+        ensures { IsStart (contests_before 0 (map shown self.now)) contest result }
+    {
+        self.contests_before
+            .partition_point(|before| *before <= contest)
     }
 
     /// Returns the object of the family at the position, if there is one.

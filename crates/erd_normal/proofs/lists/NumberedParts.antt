@@ -3,25 +3,7 @@ use Rattle.std.proofs.Common.{◌≡◌, ◌<◌, ◌⊎◌, ℕ, zero, suc, ◌
 use Rattle.std.proofs.lemmas.List.{length-map}
 use Rattle.std.proofs.lemmas.Option.{same_Some, slice_get-map}
 use Rattle.std.specs.List.{enumerate_from, flat_map}
-
--- the positions of the first of two lists
-pub get_first : {A : Type 0} (xs ys : List A) (i : ℕ) → i < length xs → slice_get (xs ++ ys) i ≡ slice_get xs i
-get_first [] ys i low = absurd (omega arith)
-get_first (x ∷ xs) ys zero low = refl
-get_first (x ∷ xs) ys (suc i) low = get_first xs ys i (omega arith)
-
--- the positions of the second
-pub get_later : {A : Type 0} (xs ys : List A) (i m : ℕ) → i ≡ length xs + m → slice_get (xs ++ ys) i ≡ slice_get ys m
-get_later [] ys i m e = let same : i ≡ m = omega arith in ap (slice_get ys) same
-get_later (x ∷ xs) ys zero m e = absurd (omega arith)
-get_later (x ∷ xs) ys (suc i) m e = get_later xs ys i m (omega arith)
-
--- a position in a list of this length, or so far after it
-within_or_after : (n i : ℕ) → (i < n) ⊎ ((m : ℕ) × (i ≡ n + m))
-within_or_after zero i = let same : i ≡ 0 + i = omega arith in inr (i, same)
-within_or_after (suc n) zero = inl (omega arith)
-within_or_after (suc n) (suc i) =
-    ⊎_elim (λ (low : i < n). inl (omega arith)) (λ (r : (m : ℕ) × (i ≡ n + m)). let e : i ≡ n + r.0 = r.1 in let later : suc i ≡ suc n + r.0 = omega arith in inr (r.0, later)) (within_or_after n i)
+use Rattle.erd_meaning.proofs.selections.ListParts.{get_first, get_later, within_or_after}
 
 -- what is found in a list of numbered elements
 pair_from : {C : Type 0} (k n : ℕ) (x : Option C) (o : C) → option_map {U = ℕ × C} (λ o. (k, o)) x ≡ Some (n, o) → (x ≡ Some o) × (k ≡ n)

@@ -9,12 +9,12 @@ use Rattle.serde_json.specs.Data.{Data}
 use Rattle.erd_tables.specs.declared.class.Family.TheVariants as family
 use Rattle.erd_check.specs.Values.{entries_at}
 use Rattle.erd_meaning.proofs.accepted.References.{option_map-Some}
+use Rattle.erd_meaning.proofs.selections.ListParts.{get_first, get_later}
 use Rattle.erd_meaning.proofs.selections.NamesTold.{Numbered}
 use Rattle.erd_meaning.specs.Keys.{Preference}
 use Rattle.erd_meaning.specs.NameParts.{NameParts}
 use Rattle.erd_meaning.specs.Objects.{Placed, objects}
 use Rattle.erd_meaning.specs.SelectionNames.{name_of}
-use Rattle.erd_normal.proofs.lists.NumberedParts.{get_first, get_later}
 use Rattle.erd_normal.proofs.ranks.SelectionReferences.{numbered_at}
 use Rattle.erd_normal.specs.code.KeyRanks.{AreNamedFrom, name_in}
 

@@ -1,0 +1,290 @@
+-- The selections of a contest stand one after another among those of the report. They begin after the last selection up to
+-- which no more contests stand than before the contest.
+use Rattle.std.proofs.Common.{◌≡◌, ◌==◌, ◌<◌, ◌≤◌, ◌+◌, ◌-◌, ◌⊎◌, ⊎_elim, inl, inr, ℕ, zero, suc, List, [], ◌∷◌, ◌++◌, length, map, cond, Bool, true, false, true≢false, Option, Some, None, option_and_then, option_map, refl, sym, ap, ◌∙◌, subst, append_assoc, append-nil, length-append, arith}
+use Rattle.std.proofs.Math.Dec.{leb}
+use Rattle.std.proofs.lemmas.Bool.{le-leb}
+use Rattle.std.proofs.lemmas.Bool.Decides.{Decides-eqb, leb_tells}
+use Rattle.std.proofs.lemmas.List.{get_or_append_left, get_or-append-add, length-map, map-append}
+use Rattle.std.specs.Prelude.{⊤}
+use Rattle.std.specs.List.{AllByRecursion, slice_get, slice_index_or}
+use Rattle.std.specs.List.Sorted.{IsNonDecreasingBy}
+use Rattle.serde_json.specs.Data.{Data}
+use Rattle.erd_tables.specs.Classes.{family_number}
+use Rattle.erd_tables.specs.declared.class.Family.TheVariants as family
+use Rattle.erd_meaning.specs.Keys.{Preference}
+use Rattle.erd_meaning.specs.Lookups.{name_in_contest, selection_in}
+use Rattle.erd_meaning.specs.NameParts.{NameParts}
+use Rattle.erd_meaning.specs.Objects.{Placed, contests, numbered_selections, numbered_selections_of, objects, selections_of_contest}
+use Rattle.erd_meaning.specs.SelectionNames.{name_of}
+use Rattle.erd_meaning.specs.code.ObjectIndexes.{IsStart, contests_before}
+use Rattle.erd_meaning.specs.code.ObjectLookups.{is_of_family}
+use Rattle.erd_meaning.specs.code.ObjectWalk.{Kept}
+use Rattle.erd_meaning.specs.code.SelectionWalk.{numbered_from}
+use Rattle.erd_meaning.proofs.identity.ObjectFamilies.{itself}
+use Rattle.erd_meaning.proofs.selections.ListParts.{get_first, get_later, within_or_after}
+use Rattle.erd_meaning.proofs.selections.NamesTold.{Numbered}
+use Rattle.erd_meaning.proofs.selections.NumberedObjects.{counts_of}
+use Rattle.erd_meaning.proofs.selections.NumberedSelections.{numbered_at}
+
+-- ---- the numbers of contests rise
+
+Rises : ℕ → List ℕ → Type 0
+Rises n [] = ⊤
+Rises n (x ∷ xs) = (n ≤ x) × Rises x xs
+
+from_less : (m n : ℕ) (xs : List ℕ) → m ≤ n → Rises n xs → Rises m xs
+unfolding Rises
+from_less m n [] low h = tt
+from_less m n (x ∷ xs) low h = let first : n ≤ x = h.0 in (omega arith, h.1)
+
+before_rises : (n : ℕ) (ks : List Kept) → Rises n (contests_before n ks)
+unfolding Rises
+before_rises n [] = tt
+before_rises n (k ∷ ks) = at (family_number k.family == family_number family.Selection) (is_of_family family.Contest k) (before_rises n ks) (before_rises (n + 1) ks)
+  where
+    next : (b : Bool) → Rises n (contests_before n ks) → Rises (n + 1) (contests_before (n + 1) ks) → Rises n (contests_before (cond b (n + 1) n) ks)
+    next true same more = from_less n (n + 1) (contests_before (n + 1) ks) (omega arith) more
+    next false same more = same
+
+    at : (a b : Bool) → Rises n (contests_before n ks) → Rises (n + 1) (contests_before (n + 1) ks) → Rises n (cond a (n ∷ []) [] ++ contests_before (cond b (n + 1) n) ks)
+    at true b same more = (omega arith, next b same more)
+    at false b same more = next b same more
+
+above_first : (n : ℕ) (xs : List ℕ) (j d : ℕ) → Rises n xs → j < length xs → n ≤ slice_index_or xs j d
+unfolding Rises
+above_first n [] j d h low = absurd (omega arith)
+above_first n (x ∷ xs) zero d h low = h.0
+above_first n (x ∷ xs) (suc j) d h low =
+    let first : n ≤ x = h.0 in
+    let later : x ≤ slice_index_or xs j d = above_first x xs j d h.1 (omega arith) in
+    omega arith
+
+rising : (n : ℕ) (xs : List ℕ) → Rises n xs → IsNonDecreasingBy (λ y. y) xs
+unfolding Rises
+rising n [] h i j d low high = absurd (omega arith)
+rising n (x ∷ xs) h zero zero d low high = omega arith
+rising n (x ∷ xs) h zero (suc j) d low high = above_first x xs j d h.1 (omega arith)
+rising n (x ∷ xs) h (suc i) zero d low high = absurd (omega arith)
+rising n (x ∷ xs) h (suc i) (suc j) d low high = rising x xs h.1 i j d (omega arith) (omega arith)
+
+-- the numbers of the contests of selections rise
+pub before_rising : (ks : List Kept) → IsNonDecreasingBy (λ y. y) (contests_before 0 ks)
+before_rising ks = rising 0 (contests_before 0 ks) (before_rises 0 ks)
+
+-- ---- the selections of one contest among all
+
+all_both : {A : Type 0} (P : A → Type 0) (xs ys : List A) → AllByRecursion P xs → AllByRecursion P ys → AllByRecursion P (xs ++ ys)
+all_both P [] ys h k = k
+all_both P (x ∷ xs) ys h k = (h.0, all_both P xs ys h.1 k)
+
+of_number : (P : Numbered → Type 0) (n : ℕ) (os : List Placed) → ((o : Placed) → P (n, o)) → AllByRecursion P (map {B = Numbered} (λ o. (n, o)) os)
+of_number P n [] each = tt
+of_number P n (o ∷ os) each = (each o, of_number P n os each)
+
+all_later : (m n : ℕ) (cs : List Placed) → m < n → AllByRecursion {X = Numbered} (λ s. m < s.0) (numbered_from n cs)
+all_later m n [] low = tt
+all_later m n (c ∷ cs) low =
+    all_both {A = Numbered} (λ s. m < s.0) (numbered_selections_of (n, c)) (numbered_from (n + 1) cs) (of_number (λ s. m < s.0) n (selections_of_contest c) (λ o. low)) (all_later m (n + 1) cs (omega arith))
+
+-- the selections before those of a contest and after them
+record Split (ss : List Numbered) (k : ℕ) (o : Placed) : Type 0 where
+  before : List Numbered
+  after : List Numbered
+  whole : ss ≡ before ++ (numbered_selections_of (k, o) ++ after)
+  low : AllByRecursion {X = Numbered} (λ s. s.0 < k) before
+  high : AllByRecursion {X = Numbered} (λ s. k < s.0) after
+
+split : (n : ℕ) (cs : List Placed) (k : ℕ) (o : Placed) → slice_get cs k ≡ Some o → Split (numbered_from n cs) (n + k) o
+split n [] k o at = cc
+split n (c ∷ cs) zero o at =
+    let same : c ≡ o = cc in
+    let sum : n ≡ n + 0 = omega arith in
+    subst (λ m. Split (numbered_from n (c ∷ cs)) m o) sum (record {
+      before = [];
+      after = numbered_from (n + 1) cs;
+      whole = ap (λ (p : Placed). numbered_selections_of (n, p) ++ numbered_from (n + 1) cs) same;
+      low = tt;
+      high = all_later n (n + 1) cs (omega arith);
+    })
+split n (c ∷ cs) (suc k) o at =
+    let h = split (n + 1) cs k o at in
+    let sum : n + 1 + k ≡ n + suc k = omega arith in
+    subst (λ m. Split (numbered_from n (c ∷ cs)) m o) sum (record {
+      before = numbered_selections_of (n, c) ++ h.before;
+      after = h.after;
+      whole = ap (λ (ss : List Numbered). numbered_selections_of (n, c) ++ ss) h.whole ∙ sym (append_assoc {A = Numbered} (numbered_selections_of (n, c)) h.before (numbered_selections_of (n + 1 + k, o) ++ h.after));
+      low = all_both {A = Numbered} (λ s. s.0 < n + 1 + k) (numbered_selections_of (n, c)) h.before (of_number (λ s. s.0 < n + 1 + k) n (selections_of_contest c) (λ p. omega arith)) h.low;
+      high = h.high;
+    })
+
+all_below : (n : ℕ) (cs : List Placed) (k : ℕ) → slice_get cs k ≡ None → AllByRecursion {X = Numbered} (λ s. s.0 < n + k) (numbered_from n cs)
+all_below n [] k at = tt
+all_below n (c ∷ cs) zero at = cc
+all_below n (c ∷ cs) (suc k) at =
+    let sum : n + 1 + k ≡ n + suc k = omega arith in
+    subst (λ m. AllByRecursion {X = Numbered} (λ s. s.0 < m) (numbered_from n (c ∷ cs))) sum
+    (all_both {A = Numbered} (λ s. s.0 < n + 1 + k) (numbered_selections_of (n, c)) (numbered_from (n + 1) cs) (of_number (λ s. s.0 < n + 1 + k) n (selections_of_contest c) (λ p. omega arith)) (all_below (n + 1) cs k at))
+
+-- ---- where they begin
+
+not_leb : (a b : ℕ) → b < a → leb a b ≡ false
+not_leb a b high = ⊎_elim (λ (h : (leb a b ≡ true) × (a ≤ b)). let low : a ≤ b = h.1 in absurd (omega arith)) (λ (h : (leb a b ≡ false) × (b < a)). h.0) (leb_tells a b)
+
+counts_low : (k : ℕ) (ss : List Numbered) (j d : ℕ) → AllByRecursion {X = Numbered} (λ s. s.0 < k) ss → j < length (counts_of ss) → leb (slice_index_or (counts_of ss) j d) k ≡ true
+counts_low k [] j d h low = absurd (omega arith)
+counts_low k (s ∷ ss) zero d h low = let less : s.0 < k = h.0 in le-leb (s.0 + 1) k (omega arith)
+counts_low k (s ∷ ss) (suc j) d h low = counts_low k ss j d h.1 (omega arith)
+
+counts_high : (k : ℕ) (ss : List Numbered) (j d : ℕ) → AllByRecursion {X = Numbered} (λ s. k ≤ s.0) ss → j < length (counts_of ss) → leb (slice_index_or (counts_of ss) j d) k ≡ false
+counts_high k [] j d h low = absurd (omega arith)
+counts_high k (s ∷ ss) zero d h low = let more : k ≤ s.0 = h.0 in not_leb (s.0 + 1) k (omega arith)
+counts_high k (s ∷ ss) (suc j) d h low = counts_high k ss j d h.1 (omega arith)
+
+many : (ss : List Numbered) → length (counts_of ss) ≡ length ss
+many ss = length-map {A = Numbered} ss (λ s. s.0 + 1)
+
+module _ (k r : ℕ) (ss rs : List Numbered) (start : IsStart (counts_of ss ++ counts_of rs) k r) (low : AllByRecursion {X = Numbered} (λ s. s.0 < k) ss) (high : AllByRecursion {X = Numbered} (λ s. k ≤ s.0) rs) where
+  abbrev ms : List ℕ
+  ms = counts_of ss
+
+  abbrev ns : List ℕ
+  ns = counts_of rs
+
+  long : length (ms ++ ns) ≡ length ms + length ns
+  long = length-append ms ns
+
+  too_low : r < length ss → ⊥
+  too_low less =
+      let inside : r < length ms = omega (arith, many ss) in
+      let told : leb (slice_index_or (ms ++ ns) r 0) k ≡ false = start.1.1 r 0 (omega arith) (omega (arith, long)) in
+      let same : slice_index_or (ms ++ ns) r 0 ≡ slice_index_or ms r 0 = get_or_append_left ms ns 0 r inside in
+      true≢false (sym (counts_low k ss r 0 low inside) ∙ ap (λ n. leb n k) (sym same) ∙ told)
+
+  too_high : length ss < r → ⊥
+  too_high more =
+      let bound : r ≤ length (ms ++ ns) = start.0 in
+      let inside : 0 < length ns = omega (arith, many ss, long, bound) in
+      let place : length ms + 0 < r = omega (arith, many ss) in
+      let told : leb (slice_index_or (ms ++ ns) (length ms + 0) 0) k ≡ true = start.1.0 (length ms + 0) 0 (omega arith) place in
+      let same : slice_index_or (ms ++ ns) (length ms + 0) 0 ≡ slice_index_or ns 0 0 = get_or-append-add ms ns 0 0 in
+      true≢false (sym told ∙ ap (λ n. leb n k) same ∙ counts_high k rs 0 0 high inside)
+
+  -- the place after those of lesser numbers is the only one
+  one_start : r ≡ length ss
+  one_start = at (within_or_after (length ss) r)
+    where
+      by : (m : ℕ) → r ≡ length ss + m → r ≡ length ss
+      by zero e = omega arith
+      by (suc m) e = absurd (too_high (omega arith))
+
+      at : (r < length ss) ⊎ ((m : ℕ) × (r ≡ length ss + m)) → r ≡ length ss
+      at (inl less) = absurd (too_low less)
+      at (inr after) = by after.0 after.1
+
+-- ---- what stands there
+
+-- the selection, if it is of contest k
+abbrev of_contest : ℕ → Numbered → Option Placed
+of_contest k s = cond (s.0 == k) (Some s.1) None
+
+not_same : (m n : ℕ) → n < m → (m == n) ≡ false
+not_same m n less = at (m == n) refl
+  where
+    at : (b : Bool) → (m == n) ≡ b → b ≡ false
+    at true e = let same : m ≡ n = (Decides-eqb m n).0 e in absurd (omega arith)
+    at false e = refl
+
+none_of_later : (k : ℕ) (ss : List Numbered) (i : ℕ) → AllByRecursion {X = Numbered} (λ s. k < s.0) ss → option_and_then (of_contest k) (slice_get ss i) ≡ None
+none_of_later k [] i h = refl
+none_of_later k (s ∷ ss) zero h = ap (λ b. cond b (Some s.1) None) (not_same s.0 k h.0)
+none_of_later k (s ∷ ss) (suc i) h = none_of_later k ss i h.1
+
+own_selections : (k : ℕ) (os : List Placed) (i : ℕ) → option_and_then (of_contest k) (slice_get (map {B = Numbered} (λ o. (k, o)) os) i) ≡ slice_get os i
+own_selections k [] i = refl
+own_selections k (o ∷ os) zero = ap (λ b. cond b (Some o) None) (itself k)
+own_selections k (o ∷ os) (suc i) = own_selections k os i
+
+past_end : {A : Type 0} (xs : List A) (i m : ℕ) → i ≡ length xs + m → slice_get xs i ≡ None
+past_end [] i m e = refl
+past_end (x ∷ xs) zero m e = absurd (omega arith)
+past_end (x ∷ xs) (suc i) m e = past_end xs i m (omega arith)
+
+from_contest : (k i : ℕ) (o : Placed) (after : List Numbered) → AllByRecursion {X = Numbered} (λ s. k < s.0) after
+    → option_and_then (of_contest k) (slice_get (numbered_selections_of (k, o) ++ after) i) ≡ slice_get (selections_of_contest o) i
+from_contest k i o after high = at (within_or_after (length own) i)
+  where
+    own : List Numbered
+    own = numbered_selections_of (k, o)
+
+    at : (i < length own) ⊎ ((m : ℕ) × (i ≡ length own + m)) → option_and_then (of_contest k) (slice_get (own ++ after) i) ≡ slice_get (selections_of_contest o) i
+    at (inl low) = ap (option_and_then (of_contest k)) (get_first own after i low) ∙ own_selections k (selections_of_contest o) i
+    at (inr past) =
+        let same : length own ≡ length (selections_of_contest o) = length-map {B = Numbered} (selections_of_contest o) (λ p. (k, p)) in
+        ap (option_and_then (of_contest k)) (get_later own after i past.0 past.1) ∙ none_of_later k after past.0 high
+        ∙ sym (past_end (selections_of_contest o) i past.0 (past.1 ∙ ap (λ n. n + past.0) same))
+
+all_high : (k : ℕ) (os : List Placed) (after : List Numbered) → AllByRecursion {X = Numbered} (λ s. k < s.0) after → AllByRecursion {X = Numbered} (λ s. k ≤ s.0) (map {B = Numbered} (λ o. (k, o)) os ++ after)
+all_high k [] [] h = tt
+all_high k [] (s ∷ ss) h = let less : k < s.0 = h.0 in (omega arith, all_high k [] ss h.1)
+all_high k (o ∷ os) after h = (omega arith, all_high k os after h)
+
+counts-append : (ss rs : List Numbered) → counts_of (ss ++ rs) ≡ counts_of ss ++ counts_of rs
+counts-append ss rs = map-append {A = Numbered} (λ s. s.0 + 1) ss rs
+
+-- the selections that stand at and after the start
+found_at : (cs : List Placed) (k r i : ℕ) → IsStart (counts_of (numbered_from 0 cs)) k r
+    → option_and_then (of_contest k) (slice_get (numbered_from 0 cs) (r + i)) ≡ option_and_then (λ o. slice_get (selections_of_contest o) i) (slice_get cs k)
+found_at cs k r i start = at (slice_get cs k) refl
+  where
+    zero_more : 0 + k ≡ k
+    zero_more = omega arith
+
+    at : (o : Option Placed) → slice_get cs k ≡ o → option_and_then (of_contest k) (slice_get (numbered_from 0 cs) (r + i)) ≡ option_and_then (λ o. slice_get (selections_of_contest o) i) o
+    at None e =
+        let low : AllByRecursion {X = Numbered} (λ s. s.0 < k) (numbered_from 0 cs) = subst (λ m. AllByRecursion {X = Numbered} (λ s. s.0 < m) (numbered_from 0 cs)) zero_more (all_below 0 cs k e) in
+        let whole = sym (counts-append (numbered_from 0 cs) []) ∙ ap counts_of (append-nil (numbered_from 0 cs)) in
+        let place = one_start k r (numbered_from 0 cs) [] (subst (λ ns. IsStart ns k r) (sym whole) start) low tt in
+        ap (option_and_then (of_contest k)) (past_end (numbered_from 0 cs) (r + i) i (ap (λ n. n + i) place))
+    at (Some o) e =
+        let h : Split (numbered_from 0 cs) k o = subst (λ m. Split (numbered_from 0 cs) m o) zero_more (split 0 cs k o e) in
+        let rest = numbered_selections_of (k, o) ++ h.after in
+        let whole = ap counts_of h.whole ∙ counts-append h.before rest in
+        let place = one_start k r h.before rest (subst (λ ns. IsStart ns k r) whole start) h.low (all_high k (selections_of_contest o) h.after h.high) in
+        ap (λ (ss : List Numbered). option_and_then (of_contest k) (slice_get ss (r + i))) h.whole
+        ∙ ap (option_and_then (of_contest k)) (get_later h.before rest (r + i) i (ap (λ n. n + i) place)) ∙ from_contest k i o h.after h.high
+
+-- ---- their names
+
+-- what stands so far after the start is the name of that selection of the contest
+pub name_is : (π : Preference) (t : Data) (k r i : ℕ) → IsStart (counts_of (numbered_selections t)) k r
+    → option_and_then (λ (s : ℕ × NameParts). cond (s.0 == k) (Some s.1) None) (selection_in π t (r + i)) ≡ name_in_contest π t k i
+name_is π t k r i start = at (slice_get (numbered_selections t) (r + i)) ∙ ap (option_and_then (λ o. name_of π t o.value)) (found_at (contests t) k r i start) ∙ by (slice_get (contests t) k)
+  where
+    both_none : (b : Bool) → let none : Option NameParts = None in none ≡ cond b none none
+    both_none true = refl
+    both_none false = refl
+
+    named : (s : Numbered) (o : Option NameParts) → option_and_then (λ (s : ℕ × NameParts). cond (s.0 == k) (Some s.1) None) (option_map (λ n. (s.0, n)) o) ≡ cond (s.0 == k) o None
+    named s None = both_none (s.0 == k)
+    named s (Some n) = refl
+
+    chosen : (s : Numbered) (b : Bool) → cond b (name_of π t s.1.value) None ≡ option_and_then (λ (o : Placed). name_of π t o.value) (cond b (Some s.1) None)
+    chosen s true = refl
+    chosen s false = refl
+
+    at : (o : Option Numbered) → option_and_then (λ (s : ℕ × NameParts). cond (s.0 == k) (Some s.1) None) (option_and_then (λ s. option_map (λ n. (s.0, n)) (name_of π t s.1.value)) o)
+        ≡ option_and_then (λ (o : Placed). name_of π t o.value) (option_and_then (of_contest k) o)
+    at None = refl
+    at (Some s) = named s (name_of π t s.1.value) ∙ chosen s (s.0 == k)
+
+    by : (o : Option Placed) → option_and_then (λ (o : Placed). name_of π t o.value) (option_and_then (λ o. slice_get (selections_of_contest o) i) o) ≡ option_and_then (λ o. option_and_then (λ (s : Placed). name_of π t s.value) (slice_get (selections_of_contest o) i)) o
+    by None = refl
+    by (Some o) = refl
+
+-- past the last selection stands none
+pub no_selection : (π : Preference) (t : Data) (i : ℕ) → length (objects family.Selection t) ≤ i → selection_in π t i ≡ None
+no_selection π t i past = at (slice_get (numbered_selections t) i) (numbered_at t i ∙ past_end (objects family.Selection t) i (i - length (objects family.Selection t)) (omega arith))
+  where
+    at : (o : Option Numbered) → option_map (λ (s : Numbered). s.1) o ≡ None → option_and_then {U = ℕ × NameParts} (λ s. option_map (λ n. (s.0, n)) (name_of π t s.1.value)) o ≡ None
+    at None e = refl
+    at (Some s) e = cc
