@@ -3,3 +3,4 @@ pub mod HeldValues  -- the objects of a family, without their places
 pub mod WholeRecords
 pub mod WholeMeanings
 pub mod ElectionIds
+pub mod SelectionKinds  -- which members hold selections

@@ -25,6 +25,7 @@ use Rattle.erd_check.proofs.Exact.{both_true, text_exact}
 use Rattle.erd_check.proofs.ObjectsAt.{ObjectAt}
 use Rattle.erd_check.proofs.Shapes.{AsksObject, Classed, Within, Within-step, classed, lacks_none, member_within, of_label, of_role, wanted_within}
 use Rattle.erd_check.proofs.TableKinds.{want_unless_status}
+use Rattle.erd_meaning.proofs.meanings.SelectionKinds.{kind_of_type}
 
 -- ---- members
 
@@ -38,11 +39,6 @@ asked_as_kind : (t : Data) (k : MemberKind) (r : Bool) (d : Data) → Within t (
 asked_as_kind t kind.ClassText r d w = tt
 asked_as_kind t kind.Word r d w = tt
 asked_as_kind t k r d w = (r, w)
-
--- `@type` is in no class's rows
-pub kind_of_type : (c : Class) → kind_of_member c (codes "@type") ≡ kind.ClassText
-kind_of_type class.ElectionReport = refl
-kind_of_type c = refl
 
 pub status_kind : (c : Class) → is_report_class c ≡ true → kind_of_member c (codes "Status") ≡ kind.Word
 status_kind class.ElectionReport e = refl

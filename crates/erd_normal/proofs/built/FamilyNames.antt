@@ -21,7 +21,7 @@ use Rattle.erd_check.proofs.Rising.{Has}
 use Rattle.erd_check.proofs.TableKinds.{kind_of_id, kind_of_name}
 use Rattle.erd_meaning.proofs.accepted.Skeleton.{Skeleton, values_in_elections}
 use Rattle.erd_meaning.specs.Objects.{elections, objects, placed_entries}
-use Rattle.erd_normal.proofs.built.AskedMembers.{kind_of_type}
+use Rattle.erd_meaning.proofs.meanings.SelectionKinds.{kind_of_type}
 use Rattle.erd_normal.proofs.lists.ListParts.{IsPart, part_flat, part_self}
 use Rattle.erd_normal.proofs.unique.FamilyArrays.{values_in_report}
 

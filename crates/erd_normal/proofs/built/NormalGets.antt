@@ -24,7 +24,7 @@ use Rattle.erd_meaning.specs.Objects.{id_of}
 use Rattle.erd_meaning.specs.Records.{class_of_node}
 use Rattle.erd_meaning.specs.SelectionNames.{compact_cmp, rising_list, selection_role, with_rising_text}
 use Rattle.erd_normal.specs.code.NormalTree.{array_of, id_of_key, id_of_selection, normal_content, normal_election, normal_election_value, normal_node, normal_node_value, normal_object, normal_object_value, normal_object_with, normal_selection, normal_value, with_id}
-use Rattle.erd_normal.proofs.built.AskedMembers.{kind_of_type}
+use Rattle.erd_meaning.proofs.meanings.SelectionKinds.{kind_of_type}
 use Rattle.erd_normal.proofs.built.NormalMembers.{get_normal, get_normal_node, node_value}
 use Rattle.erd_normal.proofs.built.PutMembers.{put_elsewhere}
 

@@ -43,7 +43,8 @@ use Rattle.erd_normal.specs.code.NormalTree.{array_of, by_name, normal_object, n
 use Rattle.erd_normal.proofs.built.AskedMembers.{AskedAs, asked_as, entries_asked}
 use Rattle.erd_normal.proofs.lists.FoundBuilt.{AreApart, IsKept, apart_untied, found_in_order}
 use Rattle.erd_normal.proofs.meaning.MeantContents.{content_value_meant}
-use Rattle.erd_normal.proofs.meaning.MeantKinds.{is_selections, kind_is_flat, kind_refers_well, selection_class_flat, selections_family, selections_kind, selections_name}
+use Rattle.erd_meaning.proofs.meanings.SelectionKinds.{is_selections, selections_family, selections_kind, selections_name}
+use Rattle.erd_normal.proofs.meaning.MeantKinds.{kind_is_flat, kind_refers_well, selection_class_flat}
 use Rattle.erd_normal.proofs.meaning.MeantValues.{arranged_meant, nothing_of, refers_well, value_meant}
 use Rattle.erd_normal.proofs.built.NormalGets.{class_of_built, class_of_built_selection, get_object, get_selection, kind_of_family_id}
 use Rattle.erd_normal.proofs.unique.Records.{record_with-Some}

@@ -37,7 +37,8 @@ use Rattle.erd_normal.specs.code.NormalTree.{by_name}
 use Rattle.erd_normal.proofs.canonical.DistinctObjects.{selection_values_distinct}
 use Rattle.erd_normal.proofs.lists.Matched.{AtMostOne, Both, both, neither, Matched, apart_distinct, matched_find, matched_within, one_if_apart, said_same}
 use Rattle.erd_normal.proofs.meaning.MatchedMeanings.{HeldAlike, MeanOne, held_matched, matched_meaning}
-use Rattle.erd_normal.proofs.meaning.MeantKinds.{flat_no_selections, is_flat_class, is_selections, kind_is_flat, selections_family, selections_kind, selections_name}
+use Rattle.erd_meaning.proofs.meanings.SelectionKinds.{is_selections, selections_family, selections_kind, selections_name}
+use Rattle.erd_normal.proofs.meaning.MeantKinds.{flat_no_selections, is_flat_class, kind_is_flat}
 use Rattle.erd_normal.proofs.meaning.MeantObjects.{is_named, named_tied, plain_members, record_alike}
 use Rattle.erd_normal.proofs.rearranged.Alike.{Alike}
 use Rattle.erd_normal.proofs.rearranged.RelatedMembers.{Related}

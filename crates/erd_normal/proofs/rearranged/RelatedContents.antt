@@ -37,7 +37,7 @@ use Rattle.erd_meaning.specs.Meaning.{Content, first_node, a_contest, a_header}
 use Rattle.erd_meaning.specs.Records.{carried_members, class_of_node, contest_node, content_inside, content_of, header_node, if_carried, is_header_class, node_of, nodes_of}
 use Rattle.erd_meaning.specs.SelectionNames.{key_named, name_named, name_of}
 use Rattle.erd_meaning.proofs.accepted.Phases.{no_shape_fault}
-use Rattle.erd_normal.proofs.built.AskedMembers.{kind_of_type}
+use Rattle.erd_meaning.proofs.meanings.SelectionKinds.{kind_of_type}
 use Rattle.erd_normal.proofs.unique.Contents.{content_class}
 use Rattle.erd_normal.proofs.canonical.ChosenEntries.{list_name}
 use Rattle.erd_normal.proofs.lists.Matched.{Both, both, paired_map}

@@ -27,7 +27,7 @@ use Rattle.erd_meaning.specs.Meaning.{a_content, a_json, a_json_set, a_key, a_ke
 use Rattle.erd_meaning.specs.Records.{json_set, plain_member, plain_value, selection_record, unless_empty}
 use Rattle.erd_meaning.specs.SelectionNames.{selection_role}
 use Rattle.erd_meaning.proofs.accepted.Phases.{no_shape_fault}
-use Rattle.erd_normal.proofs.built.AskedMembers.{kind_of_type}
+use Rattle.erd_meaning.proofs.meanings.SelectionKinds.{kind_of_type}
 use Rattle.erd_normal.proofs.lists.Matched.{Both, both, neither, matched_equal}
 use Rattle.erd_normal.proofs.meaning.MeantObjects.{member_alike, record_alike}
 use Rattle.erd_normal.proofs.meaning.MeantValues.{nothing_of}
