@@ -1,3 +1,4 @@
 pub mod MemberValues
 pub mod NameMaps
 pub mod SelectionWalks
+pub mod PlacedSelections

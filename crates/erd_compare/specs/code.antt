@@ -10,3 +10,4 @@ pub mod HeldDifferences  -- objects: how two objects differ with the keys of the
 pub mod KeyedDifferences  -- the first difference: the least key at which two reports differ in a part
 pub mod CommonNumbers  -- numbers: which number stands for a key, and the sorted keys of both reports
 pub mod NumberedSides  -- numbers: the numbers of objects on either side
+pub mod PlacedObjects  -- objects: where they stand in their reports

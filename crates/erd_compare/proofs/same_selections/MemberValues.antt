@@ -23,7 +23,7 @@ map_in (Some (a_selection_map m)) = m
 map_in found = λ name. None
 
 -- a member that is no empty array is there
-filled-there : (found : Option Data) (v : Data) → if_filled found ≡ Some v → found ≡ Some v
+pub filled-there : (found : Option Data) (v : Data) → if_filled found ≡ Some v → found ≡ Some v
 filled-there None v e = e
 filled-there (Some null) v e = e
 filled-there (Some (boolean b)) v e = e

@@ -10,6 +10,7 @@ ghost use Rattle.erd_compare.specs.declared.difference.How.TheVariants.{OnlyLeft
 use crate::difference::{How, Part};
 use crate::numbers::role_objects::{object_at, role_of};
 use crate::objects::held::{held_difference, is_same_holder};
+use crate::objects::placed::Placed;
 use crate::objects::records::object_difference;
 use crate::sides::Sides;
 use erd_meaning::Key;
@@ -78,9 +79,9 @@ pub(crate) fn least_difference<'a>(
 }
 
 /// How the objects of the two reports at these positions of a part differ. Both have the same key, or none.
-fn difference_at(
+fn difference_at<'a>(
     alloc: Global,
-    sides: Sides,
+    sides: Sides<'a>,
     part: Part,
     index: usize,
     other_index: usize,
@@ -94,7 +95,12 @@ fn difference_at(
         object_at(sides.left, role, index),
         object_at(sides.right, role, other_index),
     ) {
-        (Some(one), Some(other)) => {
+        (Some(value), Some(other_value)) => {
+            let one = Placed { value, index };
+            let other = Placed {
+                value: other_value,
+                index: other_index,
+            };
             let own = object_difference(alloc, sides, role, one, other)?;
             held_difference(alloc, own, is_same_holder(sides, part, index, other_index))
         }

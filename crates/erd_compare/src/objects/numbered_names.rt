@@ -1,9 +1,10 @@
-ghost use Rattle.std.specs.Prelude.{◌≡◌, false, map, IfOk};
+ghost use Rattle.std.specs.Prelude.{◌≡◌, map, IfOk};
 ghost use Rattle.std.specs.Ordering.{nat_cmp};
 ghost use Rattle.serde_json.specs.View.{view};
-ghost use Rattle.serde_json.specs.Written.{has_float};
 ghost use Rattle.erd_check.specs.Wants.{class_of_object};
-ghost use Rattle.erd_meaning.specs.SelectionNames.{rising_list, selection_role};
+ghost use Rattle.erd_meaning.specs.Lookups.{name_in_contest};
+ghost use Rattle.erd_meaning.specs.SelectionNames.{name_of, rising_list, selection_role};
+ghost use Rattle.erd_compare.specs.code.NumberedSides.{on_side};
 ghost use Rattle.erd_compare.specs.code.SelectionsByName.{numbered_name_of, rising_numbers, selection_numbers};
 
 use crate::numbers::lookups::report_on;
@@ -16,20 +17,24 @@ use erd_tables::{Class, Family, Role};
 use serde_json::Value;
 use std::alloc::{AllocError, Global};
 
-/// The name of a selection, with numbers in place of keys, if its class is one of the selection classes.
+/// The name of a selection, with numbers in place of keys, if its class is one of the selection classes. The selection stands
+/// at this place: the position of its contest, and its own position there. Its name is the one that the report has there.
 pub(crate) fn numbered_name<'a>(
     alloc: Global,
-    sides: Sides,
+    sides: Sides<'a>,
     side: Side,
+    place: (usize, usize),
     selection: &Value,
 ) -> Result<Option<NumberedName<'a>>, AllocError>
-    requires whole { has_float (view selection.now) ≡ false }
+    requires named { name_in_contest (on_side side sides.left.now sides.right.now).prefer (view (on_side side sides.left.now sides.right.now).tree) place.0 place.1
+        ≡ name_of (on_side side sides.left.now sides.right.now).prefer (view (on_side side sides.left.now sides.right.now).tree) (view selection.now) }
     ensures { IfOk result (λ name. name ≡ numbered_name_of sides.entry.left.now sides.entry.right.now side (view selection.now)) }
 {
-    match report_on(sides, side).name_of(alloc, selection)? {
+    let (contest, index) = place;
+    match report_on(sides, side).name_in_contest(contest, index) {
         Some(name) => {
             let numbers = rising_numbers(alloc, sides, side, selection)?;
-            Ok(Some(NumberedName::own(name, numbers)))
+            Ok(Some(NumberedName::lent(name, numbers)))
         }
         None => Ok(None),
     }

@@ -4,12 +4,15 @@ ghost use Rattle.serde_json.specs.View.{view};
 ghost use Rattle.erd_meaning.specs.Records.{plain_member, selection_map, selection_record};
 ghost use Rattle.erd_compare.specs.code.Comparing.{Decides, IsWholeTree};
 ghost use Rattle.erd_compare.specs.code.LeastNames.{IsObject};
+ghost use Rattle.erd_compare.specs.code.NumberedSides.{on_side};
+ghost use Rattle.erd_compare.specs.code.PlacedObjects.{AreNamedIn, AreSelectionsAt};
 ghost use Rattle.erd_compare.specs.code.SelectionMembers.{if_filled, selections_meant};
 ghost use Rattle.erd_compare.specs.code.SelectionsByName.{IsByName};
 
 use crate::numbers::side::Side;
 use crate::objects::members_left::{MembersLeft, lesser_name};
 use crate::objects::numbered_names::numbered_name;
+use crate::objects::placed::{Found, Selections};
 use crate::objects::plain_members::is_same_plain_member;
 use crate::sides::Sides;
 use erd_check::values::{class_of_object, entries_of, is_empty_array};
@@ -20,20 +23,29 @@ use serde_json::Value;
 use std::alloc::{AllocError, Global};
 
 /// Whether the selections of two contests mean the same. An empty array of selections means the same as no array.
-pub(crate) fn is_same_selections(
+pub(crate) fn is_same_selections<'a>(
     alloc: Global,
-    sides: Sides,
-    one: Option<&Value>,
-    other: Option<&Value>,
+    sides: Sides<'a>,
+    one: Found<'a>,
+    other: Found<'a>,
 ) -> Result<bool, AllocError>
-    requires one { IfSome one (λ v. IsWholeTree (view v.now)) }
-    requires other { IfSome other (λ v. IsWholeTree (view v.now)) }
-    ensures { IfOk result (λ answer. Decides answer (selections_meant sides.entry.left.now.prefer (view sides.entry.left.now.tree) (option_map (λ v. view v.now) one.entry))
-        (selections_meant sides.entry.right.now.prefer (view sides.entry.right.now.tree) (option_map (λ v. view v.now) other.entry))) }
+    requires one { IfSome one.value (λ v. IsWholeTree (view v.now)) }
+    requires other { IfSome other.value (λ v. IsWholeTree (view v.now)) }
+    requires one_placed { AreSelectionsAt sides.left.now one.index (option_map (λ v. view v.now) one.value) }
+    requires other_placed { AreSelectionsAt sides.right.now other.index (option_map (λ v. view v.now) other.value) }
+    ensures { IfOk result (λ answer. Decides answer (selections_meant sides.entry.left.now.prefer (view sides.entry.left.now.tree) (option_map (λ v. view v.now) one.entry.value))
+        (selections_meant sides.entry.right.now.prefer (view sides.entry.right.now.tree) (option_map (λ v. view v.now) other.entry.value))) }
 {
-    match (filled(one), filled(other)) {
+    match (filled(one.value), filled(other.value)) {
         (Some(ones), Some(others)) => {
-            let (ones, others) = (entries_of(ones), entries_of(others));
+            let ones = Selections {
+                values: entries_of(ones),
+                contest: one.index,
+            };
+            let others = Selections {
+                values: entries_of(others),
+                contest: other.index,
+            };
             is_same_selection_map(alloc, sides, ones, others)
         }
         (None, None) => Ok(true),
@@ -53,16 +65,18 @@ fn filled(found: Option<&Value>) -> Option<&Value>
 
 /// Whether the selections of two contests mean the same, name by name. Each selection on the left removes the one with the
 /// same name on the right. None may remain on the right.
-fn is_same_selection_map(
+fn is_same_selection_map<'a>(
     alloc: Global,
-    sides: Sides,
-    ones: &[Value],
-    others: &[Value],
+    sides: Sides<'a>,
+    ones: Selections<'a>,
+    others: Selections<'a>,
 ) -> Result<bool, AllocError>
-    requires ones { AllByRecursion (λ v. IsWholeTree (view v)) ones.now }
-    requires others { AllByRecursion (λ v. IsWholeTree (view v)) others.now }
-    ensures { IfOk result (λ answer. Decides answer (selection_map sides.entry.left.now.prefer (view sides.entry.left.now.tree) (map view ones.now))
-        (selection_map sides.entry.right.now.prefer (view sides.entry.right.now.tree) (map view others.now))) }
+    requires ones { AllByRecursion (λ v. IsWholeTree (view v)) ones.values.now }
+    requires others { AllByRecursion (λ v. IsWholeTree (view v)) others.values.now }
+    requires ones_named { AreNamedIn sides.left.now ones.contest (map view ones.values.now) }
+    requires others_named { AreNamedIn sides.right.now others.contest (map view others.values.now) }
+    ensures { IfOk result (λ answer. Decides answer (selection_map sides.entry.left.now.prefer (view sides.entry.left.now.tree) (map view ones.entry.values.now))
+        (selection_map sides.entry.right.now.prefer (view sides.entry.right.now.tree) (map view others.entry.values.now))) }
 {
     let ones = by_name(alloc, sides, Side::Left, ones)?;
     let mut others = by_name(alloc, sides, Side::Right, others)?;
@@ -80,16 +94,18 @@ fn is_same_selection_map(
 /// The selections of a contest by name, with numbers in place of keys. If several have the same name, the first one counts.
 fn by_name<'a>(
     alloc: Global,
-    sides: Sides,
+    sides: Sides<'a>,
     side: Side,
-    selections: &'a [Value],
+    selections: Selections<'a>,
 ) -> Result<IndexMap<NumberedName<'a>, &'a Value>, AllocError>
-    requires { AllByRecursion (λ v. IsWholeTree (view v)) selections.now }
-    ensures { IfOk result (λ named. IsByName sides.entry.left.now sides.entry.right.now side (map view selections.now) named.entries) }
+    requires { AreNamedIn (on_side side sides.left.now sides.right.now) selections.contest (map view selections.values.now) }
+    ensures { IfOk result (λ named. IsByName sides.entry.left.now sides.entry.right.now side (map view selections.entry.values.now) named.entries) }
 {
+    let Selections { values, contest } = selections;
     let mut named = IndexMap::new(alloc);
-    for selection in selections {
-        if let Some(name) = numbered_name(alloc, sides, side, selection)? {
+    for (index, selection) in values.iter().enumerate() {
+        let place = (contest, index);
+        if let Some(name) = numbered_name(alloc, sides, side, place, selection)? {
             if !named.contains_key(&name) {
                 named.insert(name, selection)?;
             }

@@ -1,4 +1,4 @@
-use Rattle.std.proofs.Common.{Option, ap, ◌∙◌, option_map, subst}
+use Rattle.std.proofs.Common.{Option, sym, ap, ◌∙◌, option_map, subst}
 use Rattle.std.specs.List.{slice_get}
 use Rattle.std.proofs.lemmas.Result.{IfOk-weaker}
 use Rattle.serde_json.specs.View.{view}
@@ -12,13 +12,19 @@ use Rattle.erd_compare.proofs.first.tables.difference_at.Goals as goal
 
 pub object_difference-requires-clause-one : goal.object_difference-requires-clause-one
 object_difference-requires-clause-one c =
-    whole_here c.args.sides.left.now.prefer (view c.args.sides.left.now.tree) c.requires.left c.args.part c.args.index (view c.in-Some-Some.one.now)
+    whole_here c.args.sides.left.now.prefer (view c.args.sides.left.now.tree) c.requires.left c.args.part c.args.index (view c.in-Some-Some.value.now)
     (c.in-Some-Some.ensures ∙ ap (λ r. option_map (λ o. o.value) (slice_get (objects_in r (view c.args.sides.left.now.tree)) c.args.index)) c.role_of-role.ensures)
 
 pub object_difference-requires-clause-other : goal.object_difference-requires-clause-other
 object_difference-requires-clause-other c =
-    whole_here c.args.sides.right.now.prefer (view c.args.sides.right.now.tree) c.requires.right c.args.part c.args.other_index (view c.in-Some-Some.other.now)
+    whole_here c.args.sides.right.now.prefer (view c.args.sides.right.now.tree) c.requires.right c.args.part c.args.other_index (view c.in-Some-Some.other_value.now)
     (c.in-Some-Some.ensures' ∙ ap (λ r. option_map (λ o. o.value) (slice_get (objects_in r (view c.args.sides.right.now.tree)) c.args.other_index)) c.role_of-role.ensures)
+
+pub object_difference-requires-clause-one_placed : goal.object_difference-requires-clause-one_placed
+object_difference-requires-clause-one_placed c = sym c.in-Some-Some.ensures
+
+pub object_difference-requires-clause-other_placed : goal.object_difference-requires-clause-other_placed
+object_difference-requires-clause-other_placed c = sym c.in-Some-Some.ensures'
 
 pub returns-in_ok-own-in-Some-Some : goal.returns-in_ok-own-in-Some-Some
 returns-in_ok-own-in-Some-Some c =
@@ -26,8 +32,8 @@ returns-in_ok-own-in-Some-Some c =
     let ρ = c.args.sides.right.now.prefer in
     let t = view c.args.sides.left.now.tree in
     let u = view c.args.sides.right.now.tree in
-    let one = view c.in-Some-Some.one.now in
-    let other = view c.in-Some-Some.other.now in
+    let one = view c.in-Some-Some.value.now in
+    let other = view c.in-Some-Some.other_value.now in
     let p = c.args.part in
     let own = c.in_ok-own-in-Some-Some.own in
     let role = c.role_of-role in

@@ -19,10 +19,16 @@ returns-else-is_selections c =
     let u = view c.args.sides.right.now.tree in
     let k = kind_of_member c.args.class c.args.name.now in
     let name = c.args.name.now in
-    let found = option_map (λ (v : Bor Value). view v.now) c.args.one in
-    let other = option_map (λ (v : Bor Value). view v.now) c.args.other in
+    let found = option_map (λ (v : Bor Value). view v.now) c.args.one.value in
+    let other = option_map (λ (v : Bor Value). view v.now) c.args.other.value in
     let p = plain_found π t c.args.class name found in
     let q = plain_found ρ u c.args.class name other in
     IfOk-weaker c.is_same_plain_member.result (λ answer. Decides answer p q) (λ answer. Decides answer (member_value π t k found p) (member_value ρ u k other q))
     (λ answer h. other_kind-Decides π ρ answer t u k found other p q (ap is_selections (sym c.member_kind.ensures) ∙ sym c.is_selections.ensures ∙ c.if-is_selections.false) h)
     c.is_same_plain_member.ensures
+
+pub is_same_selections-requires-clause-one_placed : goal.is_same_selections-requires-clause-one_placed
+is_same_selections-requires-clause-one_placed c = c.requires.one_placed (ap is_selections (sym c.member_kind.ensures) ∙ sym c.is_selections.ensures ∙ c.if-is_selections.true)
+
+pub is_same_selections-requires-clause-other_placed : goal.is_same_selections-requires-clause-other_placed
+is_same_selections-requires-clause-other_placed c = c.requires.other_placed (ap is_selections (sym c.member_kind.ensures) ∙ sym c.is_selections.ensures ∙ c.if-is_selections.true)

@@ -15,6 +15,7 @@ use Rattle.erd_compare.proofs.least_difference.MemberWalks.{all_members, found-D
 use Rattle.erd_compare.proofs.least_difference.NameWalks.{both_objects, firsts_left, next_name, none_left}
 use Rattle.erd_compare.proofs.least_difference.StepWalks.{IsInStep, equal_below}
 use Rattle.erd_compare.proofs.whole_trees.WholeTrees.{whole_found}
+use Rattle.erd_compare.proofs.same_selections.PlacedSelections.{placed_selections}
 use Rattle.erd_compare.proofs.objects.records.least_differing_name.Goals as goal
 
 -- a value that was found, as its data
@@ -27,8 +28,8 @@ loop-name-init c =
     let ρ = c.args.sides.right.now.prefer in
     let t = view c.args.sides.left.now.tree in
     let u = view c.args.sides.right.now.tree in
-    let d = view c.args.one.now in
-    let e = view c.args.other.now in
+    let d = view c.args.one.value.now in
+    let e = view c.args.other.value.now in
     let m : MemberMap = member_of_class π t d c.args.class in
     let n : MemberMap = member_of_class ρ u e c.args.class in
     let ms = members_view c.in-Some-Some.ones.now.entries in
@@ -43,10 +44,18 @@ loop-name-init c =
     }
 
 pub is_same_member-requires-clause-one : goal.is_same_member-requires-clause-one
-is_same_member-requires-clause-one c = whole_found c.in-Some.name.now (view c.args.one.now) c.value_in-mine.result c.requires.one c.value_in-mine.ensures
+is_same_member-requires-clause-one c = whole_found c.in-Some.name.now (view c.args.one.value.now) c.value_in.result c.requires.one c.value_in.ensures
 
 pub is_same_member-requires-clause-other : goal.is_same_member-requires-clause-other
-is_same_member-requires-clause-other c = whole_found c.in-Some.name.now (view c.args.other.now) c.value_in-its.result c.requires.other c.value_in-its.ensures
+is_same_member-requires-clause-other c = whole_found c.in-Some.name.now (view c.args.other.value.now) c.value_in-in-Some.result c.requires.other c.value_in-in-Some.ensures
+
+pub is_same_member-requires-clause-one_placed : goal.is_same_member-requires-clause-one_placed
+is_same_member-requires-clause-one_placed c holds =
+    placed_selections c.args.sides.left.now c.args.class c.in-Some.name.now c.args.one.index (view c.args.one.value.now) (seen c.value_in.result) c.requires.one_placed c.value_in.ensures holds
+
+pub is_same_member-requires-clause-other_placed : goal.is_same_member-requires-clause-other_placed
+is_same_member-requires-clause-other_placed c holds =
+    placed_selections c.args.sides.right.now c.args.class c.in-Some.name.now c.args.other.index (view c.args.other.value.now) (seen c.value_in-in-Some.result) c.requires.other_placed c.value_in-in-Some.ensures holds
 
 pub returns-then-not-branch : goal.returns-then-not-branch
 returns-then-not-branch c =
@@ -54,15 +63,15 @@ returns-then-not-branch c =
     let ρ = c.args.sides.right.now.prefer in
     let t = view c.args.sides.left.now.tree in
     let u = view c.args.sides.right.now.tree in
-    let d = view c.args.one.now in
-    let e = view c.args.other.now in
+    let d = view c.args.one.value.now in
+    let e = view c.args.other.value.now in
     let m : MemberMap = member_of_class π t d c.args.class in
     let n : MemberMap = member_of_class ρ u e c.args.class in
     let ls = names_left c.loop-name.ones in
     let rs = names_left c.loop-name.others in
     let k = c.in-Some.name.now in
     let next = next_name m n ls rs k c.loop-name.invariant.in_step (firsts_left c.first_name.result c.first_name-in-loop-name.result ls rs (Some k) c.first_name.ensures c.first_name-in-loop-name.ensures c.in-Some.ensures) in
-    let decides = found-Decides (member_found π t c.args.class k) (member_found ρ u c.args.class k) _ (seen c.value_in-mine.result) (seen c.value_in-its.result) (get k d) (get k e) c.value_in-mine.ensures c.value_in-its.ensures c.in_ok-is_same_member.ensures in
+    let decides = found-Decides (member_found π t c.args.class k) (member_found ρ u c.args.class k) _ (seen c.value_in.result) (seen c.value_in-in-Some.result) (get k d) (get k e) c.value_in.ensures c.value_in-in-Some.ensures c.in_ok-is_same_member.ensures in
     record {
       differ = λ same. absurd (true≢false (sym (decides.1 same) ∙ c.if-not-branch.true));
       least = equal_below nat_list_cmp_total m n ls rs c.loop-name.invariant.in_step k next.left next.right;
@@ -74,8 +83,8 @@ loop-name-smaller c =
     let ρ = c.args.sides.right.now.prefer in
     let t = view c.args.sides.left.now.tree in
     let u = view c.args.sides.right.now.tree in
-    let d = view c.args.one.now in
-    let e = view c.args.other.now in
+    let d = view c.args.one.value.now in
+    let e = view c.args.other.value.now in
     let m : MemberMap = member_of_class π t d c.args.class in
     let n : MemberMap = member_of_class ρ u e c.args.class in
     let ls = names_left c.loop-name.ones in
@@ -91,15 +100,15 @@ loop-name-preserved c =
     let ρ = c.args.sides.right.now.prefer in
     let t = view c.args.sides.left.now.tree in
     let u = view c.args.sides.right.now.tree in
-    let d = view c.args.one.now in
-    let e = view c.args.other.now in
+    let d = view c.args.one.value.now in
+    let e = view c.args.other.value.now in
     let m : MemberMap = member_of_class π t d c.args.class in
     let n : MemberMap = member_of_class ρ u e c.args.class in
     let ls = names_left c.loop-name.ones in
     let rs = names_left c.loop-name.others in
     let k = c.in-Some.name.now in
     let next = next_name m n ls rs k c.loop-name.invariant.in_step (firsts_left c.first_name.result c.first_name-in-loop-name.result ls rs (Some k) c.first_name.ensures c.first_name-in-loop-name.ensures c.in-Some.ensures) in
-    let decides = found-Decides (member_found π t c.args.class k) (member_found ρ u c.args.class k) _ (seen c.value_in-mine.result) (seen c.value_in-its.result) (get k d) (get k e) c.value_in-mine.ensures c.value_in-its.ensures c.in_ok-is_same_member.ensures in
+    let decides = found-Decides (member_found π t c.args.class k) (member_found ρ u c.args.class k) _ (seen c.value_in.result) (seen c.value_in-in-Some.result) (get k d) (get k e) c.value_in.ensures c.value_in-in-Some.ensures c.in_ok-is_same_member.ensures in
     record {
       in_step = subst (λ xs. IsInStep text_cmp m n xs (names_left c.pass-in-Some.new.self)) (sym c.pass.ensures.names)
           (subst (IsInStep text_cmp m n (names_past k ls)) (sym c.pass-in-Some.ensures.names) (next.pass (decides.0 c.if-not-branch.false)));
@@ -113,8 +122,8 @@ returns c =
     let ρ = c.args.sides.right.now.prefer in
     let t = view c.args.sides.left.now.tree in
     let u = view c.args.sides.right.now.tree in
-    let d = view c.args.one.now in
-    let e = view c.args.other.now in
+    let d = view c.args.one.value.now in
+    let e = view c.args.other.value.now in
     let m : MemberMap = member_of_class π t d c.args.class in
     let n : MemberMap = member_of_class ρ u e c.args.class in
     let ls = names_left c.loop-name.ones in

@@ -1,17 +1,20 @@
 use Rattle.std.proofs.Common.{◌≡◌, Some, option_map, sym, ap, ◌∙◌, subst, rules}
 use Rattle.std.proofs.lemmas.Result.{IfOk-weaker}
 use Rattle.serde_json.specs.View.{view}
+use Rattle.erd_tables.specs.Classes.{role_of_class}
+use Rattle.erd_meaning.proofs.meanings.SelectionKinds.{class_role}
 use Rattle.erd_meaning.specs.Records.{object_record}
 use Rattle.erd_compare.specs.code.Comparing.{TellsHow}
 use Rattle.erd_compare.specs.code.LeastNames.{record_of_class}
+use Rattle.erd_compare.specs.code.PlacedObjects.{IsPlaced}
 use Rattle.erd_compare.proofs.objects.records.object_difference.Goals as goal
 
 pub returns-then-eq : goal.returns-then-eq
 returns-then-eq c =
     let a = c.args.sides.left.now in
     let b = c.args.sides.right.now in
-    let one = view c.args.one.now in
-    let other = view c.args.other.now in
+    let one = view c.args.one.value.now in
+    let other = view c.args.other.value.now in
     let class = c.in-Some-Some.class in
     let same : class ≡ c.in-Some-Some.other_class = search rules in
     let left : object_record a.prefer (view a.tree) c.args.role one ≡ Some (record_of_class a.prefer (view a.tree) class one) =
@@ -23,3 +26,14 @@ returns-then-eq c =
     (λ how told. subst (λ x. TellsHow x (object_record b.prefer (view b.tree) c.args.role other) how) (sym left)
     (subst (λ y. TellsHow (Some (record_of_class a.prefer (view a.tree) class one)) y how) (sym right) told))
     c.member_difference.ensures
+
+pub member_difference-requires-clause-one_placed : goal.member_difference-requires-clause-one_placed
+member_difference-requires-clause-one_placed c =
+    let role : role_of_class c.in-Some-Some.class ≡ c.args.role = class_role c.args.role (view c.args.one.value.now) c.in-Some-Some.class (sym c.class_of_object.ensures ∙ c.in-Some-Some.is-0) in
+    subst (λ r. IsPlaced c.args.sides.left.now r c.args.one.index (view c.args.one.value.now)) (sym role) c.requires.one_placed
+
+pub member_difference-requires-clause-other_placed : goal.member_difference-requires-clause-other_placed
+member_difference-requires-clause-other_placed c =
+    let same : c.in-Some-Some.class ≡ c.in-Some-Some.other_class = search rules in
+    let role : role_of_class c.in-Some-Some.other_class ≡ c.args.role = class_role c.args.role (view c.args.other.value.now) c.in-Some-Some.other_class (sym c.class_of_object-2.ensures ∙ c.in-Some-Some.is-1) in
+    subst (λ r. IsPlaced c.args.sides.right.now r c.args.other.index (view c.args.other.value.now)) (sym (ap role_of_class same ∙ role)) c.requires.other_placed

@@ -11,8 +11,8 @@ pub loop-name-init : goal.loop-name-init
 loop-name-init c =
     let a = c.args.sides.left.now in
     let b = c.args.sides.right.now in
-    let ds = map view c.args.ones.now in
-    let es = map view c.args.others.now in
+    let ds = map view c.args.ones.values.now in
+    let es = map view c.args.others.values.now in
     let gives = c.into_iter-name-iterator.ensures.into_iter_gives in
     subst (λ ls. AreSelectionsLeft a b ds es ls c.in_ok-others.others.entries) (sym gives.0)
     (both_maps a b ds es c.in_ok-ones.ones.entries c.in_ok-others.others.entries gives.4 c.in_ok-ones.ensures c.in_ok-others.ensures)
@@ -21,8 +21,8 @@ pub returns-in_default : goal.returns-in_default
 returns-in_default c =
     let a = c.args.sides.left.now in
     let b = c.args.sides.right.now in
-    let ds = map view c.args.ones.now in
-    let es = map view c.args.others.now in
+    let ds = map view c.args.ones.values.now in
+    let es = map view c.args.others.values.now in
     let e : Entry = (c.in-Some.name.now, c.in-Some.one.now) in
     let h = subst (λ ls. AreSelectionsLeft a b ds es ls c.loop-name.others.entries) c.in-Some.ensures.steps c.loop-name.invariant in
     maps_decide a b ds es false (decided_not (numbered_map a b Left ds) (numbered_map a b Right es) (left_alone a b ds es e c.next.new.self c.loop-name.others.entries h c.in_default.ensures.value))
@@ -31,29 +31,29 @@ pub is_same_selection-requires-clause-one : goal.is_same_selection-requires-clau
 is_same_selection-requires-clause-one c =
     let a = c.args.sides.left.now in
     let b = c.args.sides.right.now in
-    let ds = map view c.args.ones.now in
-    let es = map view c.args.others.now in
+    let ds = map view c.args.ones.values.now in
+    let es = map view c.args.others.values.now in
     let e : Entry = (c.in-Some.name.now, c.in-Some.one.now) in
     let h = subst (λ ls. AreSelectionsLeft a b ds es ls c.loop-name.others.entries) c.in-Some.ensures.steps c.loop-name.invariant in
-    whole_at a b Left ds (whole_trees-views c.args.ones.now c.requires.ones) e.0 (view e.1.now) (own_left a b ds es e c.next.new.self c.loop-name.others.entries h)
+    whole_at a b Left ds (whole_trees-views c.args.ones.values.now c.requires.ones) e.0 (view e.1.now) (own_left a b ds es e c.next.new.self c.loop-name.others.entries h)
 
 pub is_same_selection-requires-clause-other : goal.is_same_selection-requires-clause-other
 is_same_selection-requires-clause-other c =
     let a = c.args.sides.left.now in
     let b = c.args.sides.right.now in
-    let ds = map view c.args.ones.now in
-    let es = map view c.args.others.now in
+    let ds = map view c.args.ones.values.now in
+    let es = map view c.args.others.values.now in
     let e : Entry = (c.in-Some.name.now, c.in-Some.one.now) in
     let w = c.in-Some-swap_remove.other in
     let h = subst (λ ls. AreSelectionsLeft a b ds es ls c.loop-name.others.entries) c.in-Some.ensures.steps c.loop-name.invariant in
-    whole_at a b Right es (whole_trees-views c.args.others.now c.requires.others) e.0 (view w.now) (own_right a b ds es e w c.next.new.self c.loop-name.others.entries h c.in-Some-swap_remove.ensures.value)
+    whole_at a b Right es (whole_trees-views c.args.others.values.now c.requires.others) e.0 (view w.now) (own_right a b ds es e w c.next.new.self c.loop-name.others.entries h c.in-Some-swap_remove.ensures.value)
 
 pub returns-then-not-branch : goal.returns-then-not-branch
 returns-then-not-branch c =
     let a = c.args.sides.left.now in
     let b = c.args.sides.right.now in
-    let ds = map view c.args.ones.now in
-    let es = map view c.args.others.now in
+    let ds = map view c.args.ones.values.now in
+    let es = map view c.args.others.values.now in
     let e : Entry = (c.in-Some.name.now, c.in-Some.one.now) in
     let w = c.in-Some-swap_remove.other in
     let h = subst (λ ls. AreSelectionsLeft a b ds es ls c.loop-name.others.entries) c.in-Some.ensures.steps c.loop-name.invariant in
@@ -65,8 +65,8 @@ pub loop-name-preserved : goal.loop-name-preserved
 loop-name-preserved c =
     let a = c.args.sides.left.now in
     let b = c.args.sides.right.now in
-    let ds = map view c.args.ones.now in
-    let es = map view c.args.others.now in
+    let ds = map view c.args.ones.values.now in
+    let es = map view c.args.others.values.now in
     let e : Entry = (c.in-Some.name.now, c.in-Some.one.now) in
     let w = c.in-Some-swap_remove.other in
     let h = subst (λ ls. AreSelectionsLeft a b ds es ls c.loop-name.others.entries) c.in-Some.ensures.steps c.loop-name.invariant in
@@ -77,7 +77,7 @@ pub returns : goal.returns
 returns c =
     let a = c.args.sides.left.now in
     let b = c.args.sides.right.now in
-    let ds = map view c.args.ones.now in
-    let es = map view c.args.others.now in
+    let ds = map view c.args.ones.values.now in
+    let es = map view c.args.others.values.now in
     let h = subst (λ ls. AreSelectionsLeft a b ds es ls c.loop-name.others.entries) c.in-None.ensures.steps.0 c.loop-name.invariant in
     maps_decide a b ds es c.is_empty.result (ended a b ds es c.is_empty.result c.loop-name.others.entries h c.is_empty.ensures)

@@ -5,4 +5,4 @@ use Rattle.erd_compare.proofs.objects.selections.is_same_selection_map.Given as 
 
 abbrev pub invariant-loop-name : goal.invariant-loop-name
 invariant-loop-name l =
-    AreSelectionsLeft l.sides.left.now l.sides.right.now (map view l.fn.ones) (map view l.fn.others) l.name-iterator l.others.entries
+    AreSelectionsLeft l.sides.left.now l.sides.right.now (map view l.fn.ones.values.now) (map view l.fn.others.values.now) l.name-iterator l.others.entries

@@ -3,7 +3,8 @@ use Rattle.std.proofs.Common.{Option, sym, ap, ◌∙◌, option_map, Bor}
 use Rattle.serde_json.specs.Data.{Data}
 use Rattle.serde_json.specs.View.{view}
 use Rattle.serde_json.specs.declared.value.Value.{Value}
-use Rattle.erd_compare.proofs.same_selections.MemberValues.{selections-Decide, whole_filled}
+use Rattle.erd_compare.proofs.same_selections.MemberValues.{filled-there, selections-Decide, whole_filled}
+use Rattle.erd_compare.proofs.same_selections.PlacedSelections.{named_in}
 use Rattle.erd_compare.proofs.whole_trees.WholeTrees.{whole_values-entries_of}
 use Rattle.erd_compare.proofs.objects.selections.is_same_selections.Goals as goal
 
@@ -13,15 +14,25 @@ seen found = option_map (λ v. view v.now) found
 
 pub is_same_selection_map-requires-clause-ones : goal.is_same_selection_map-requires-clause-ones
 is_same_selection_map-requires-clause-ones c =
-    whole_values-entries_of (view c.in-Some-Some.ones.now) c.entries_of-ones.result.now
-    (whole_filled c.args.one (view c.in-Some-Some.ones.now) c.requires.one (sym c.filled.ensures ∙ ap seen c.in-Some-Some.is-0)) c.entries_of-ones.ensures
+    whole_values-entries_of (view c.in-Some-Some.ones.now) c.entries_of.result.now
+    (whole_filled c.args.one.value (view c.in-Some-Some.ones.now) c.requires.one (sym c.filled.ensures ∙ ap seen c.in-Some-Some.is-0)) c.entries_of.ensures
 
 pub is_same_selection_map-requires-clause-others : goal.is_same_selection_map-requires-clause-others
 is_same_selection_map-requires-clause-others c =
-    whole_values-entries_of (view c.in-Some-Some.others.now) c.entries_of-others.result.now
-    (whole_filled c.args.other (view c.in-Some-Some.others.now) c.requires.other (sym c.filled-2.ensures ∙ ap seen c.in-Some-Some.is-1)) c.entries_of-others.ensures
+    whole_values-entries_of (view c.in-Some-Some.others.now) c.entries_of-in-Some-Some.result.now
+    (whole_filled c.args.other.value (view c.in-Some-Some.others.now) c.requires.other (sym c.filled-2.ensures ∙ ap seen c.in-Some-Some.is-1)) c.entries_of-in-Some-Some.ensures
 
 pub returns-in-Some-Some : goal.returns-in-Some-Some
 returns-in-Some-Some c =
     selections-Decide c.args.sides.left.now.prefer c.args.sides.right.now.prefer c.is_same_selection_map.result (view c.args.sides.left.now.tree) (view c.args.sides.right.now.tree) (view c.in-Some-Some.ones.now) (view c.in-Some-Some.others.now) _ _ _ _
-    (sym c.filled.ensures ∙ ap seen c.in-Some-Some.is-0) (sym c.filled-2.ensures ∙ ap seen c.in-Some-Some.is-1) c.entries_of-ones.ensures c.entries_of-others.ensures c.is_same_selection_map.ensures
+    (sym c.filled.ensures ∙ ap seen c.in-Some-Some.is-0) (sym c.filled-2.ensures ∙ ap seen c.in-Some-Some.is-1) c.entries_of.ensures c.entries_of-in-Some-Some.ensures c.is_same_selection_map.ensures
+
+pub is_same_selection_map-requires-clause-ones_named : goal.is_same_selection_map-requires-clause-ones_named
+is_same_selection_map-requires-clause-ones_named c =
+    named_in c.args.sides.left.now c.args.one.index (seen c.args.one.value) (view c.in-Some-Some.ones.now) _ c.requires.one_placed
+    (filled-there (seen c.args.one.value) (view c.in-Some-Some.ones.now) (sym c.filled.ensures ∙ ap seen c.in-Some-Some.is-0)) c.entries_of.ensures
+
+pub is_same_selection_map-requires-clause-others_named : goal.is_same_selection_map-requires-clause-others_named
+is_same_selection_map-requires-clause-others_named c =
+    named_in c.args.sides.right.now c.args.other.index (seen c.args.other.value) (view c.in-Some-Some.others.now) _ c.requires.other_placed
+    (filled-there (seen c.args.other.value) (view c.in-Some-Some.others.now) (sym c.filled-2.ensures ∙ ap seen c.in-Some-Some.is-1)) c.entries_of-in-Some-Some.ensures
