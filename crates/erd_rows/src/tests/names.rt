@@ -33,6 +33,12 @@ pub fn names_are(alloc: Global, report: &str, ranked: Ranked) -> Result<(), Fail
     if report.selection_at(ranked.len()).is_some() {
         return Err(Fail::from("one selection more"));
     }
+    for contest in 0..report.count(Family::Contest).saturating_add(1) {
+        let count = ranked.iter().filter(|it| it.0 == contest).count();
+        if report.name_in_contest(contest, count).is_some() {
+            return Err(Fail::from("a name past the last one of a contest"));
+        }
+    }
     for (index, (contest, rank)) in ranked.iter().enumerate() {
         let Some((found, name)) = report.selection_at(index) else {
             return Err(Fail::from("no selection"));
@@ -43,6 +49,14 @@ pub fn names_are(alloc: Global, report: &str, ranked: Ranked) -> Result<(), Fail
         let copy = name.try_clone(alloc)?;
         if copy != *name {
             return Err(Fail::from("an unequal copy"));
+        }
+        let place = ranked
+            .iter()
+            .take(index)
+            .filter(|it| it.0 == *contest)
+            .count();
+        if report.name_in_contest(*contest, place) != Some(name) {
+            return Err(Fail::from("another name at that position of the contest"));
         }
         is_ordered(alloc, &report, &copy, *rank, ranked)?;
         is_found(alloc, &report, &copy, *rank, ranked)?;
