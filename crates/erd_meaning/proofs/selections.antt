@@ -10,4 +10,5 @@ pub mod SelectionsMet
 pub mod WalkedNames
 pub mod AmongNames
 pub mod WholeParts
+pub mod WrittenLabels
 pub mod NameTests  -- the test by which an index of names is asked

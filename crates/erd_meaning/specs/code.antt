@@ -1,7 +1,8 @@
 -- What private functions answer, step by step, and laws that the code cites; that it agrees with the definitions is proved.
 pub mod Orders  -- the orders of keys, names and compact texts are total, and tell unequal ones apart
 pub mod ChosenKeys  -- the order in which the program chooses among identifiers
-pub mod TranslationOrder  -- the order of translations, as the program sorts them
+pub mod LabelTexts  -- the text of a label, with its translations as texts
+pub mod ShownLabels  -- what clauses see of a label that is written member by member
 pub mod NameHashes  -- what a hasher is given of a key and of a name
 pub mod NumberedNames  -- names with numbers in place of keys
 pub mod NumberedOrders  -- their order is total, tells unequal ones apart, and keeps the order of names if the numbers keep that of keys

@@ -2,9 +2,9 @@
 
 pub(crate) mod held_name;
 mod label;
+mod label_output;
 pub(crate) mod naming;
 pub mod numbered_name;
 pub(crate) mod parts;
 pub mod selection_name;
 pub(crate) mod selection_walk;
-mod translation;

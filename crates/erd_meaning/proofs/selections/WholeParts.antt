@@ -1,16 +1,15 @@
--- The parts of a value that has no fraction have none, and a label keeps it so with its translations in rising order.
-use Rattle.std.proofs.Common.{◌≡◌, ℕ, zero, suc, ◌<◌, length, get_or, List, [], ◌∷◌, map, cond, Bool, true, false, ◌||◌, Option, Some, None, codes, Ordering, Less, Equal, Greater, refl, sym, subst, arith}
+-- The parts of a value that has no fraction have none.
+use Rattle.std.proofs.Common.{◌≡◌, ℕ, zero, suc, ◌<◌, length, get_or, List, [], ◌∷◌, map, Bool, true, false, ◌||◌, Option, Some, None, Ordering, Less, Equal, Greater, refl, sym, subst, arith}
 use Rattle.std.specs.Cmp.Lexicographic.{slice_cmp}
 use Rattle.std.specs.List.{AllByRecursion}
 use Rattle.std.specs.Option.{option_map_or}
-use Rattle.std.specs.Ordering.{is_lt, match_ordering, nat_cmp}
-use Rattle.serde_json.specs.Data.{Data, null, boolean, number, string, array, object, Items, no_items, item, Members, no_members, member, put}
+use Rattle.std.specs.Ordering.{match_ordering, nat_cmp}
+use Rattle.serde_json.specs.Data.{Data, null, boolean, number, string, array, object, Items, no_items, item, Members, no_members, member}
 use Rattle.serde_json.specs.Find.{get, get_member}
-use Rattle.serde_json.specs.View.{items_of, view}
+use Rattle.serde_json.specs.View.{view}
 use Rattle.serde_json.specs.Written.{has_float, items_have_float, members_have_float}
 use Rattle.serde_json.specs.declared.value.Value.{Value}
 use Rattle.erd_check.specs.Values.{entries_of, list_of_items, entries_at}
-use Rattle.erd_meaning.specs.SelectionNames.{compact_cmp, rising_list, with_inserted, with_rising_text}
 
 -- values that have no fraction
 abbrev AreWhole : List Data → Type 0
@@ -74,41 +73,3 @@ whole_at (w ∷ vs) (suc i) v h low e = whole_at vs i v h.1 (omega arith) e
 -- an entry of the array of a member
 pub whole_entry : (name : List ℕ) (d : Data) (vs : List Value) (i : ℕ) (v : Value) → has_float d ≡ false → map view vs ≡ entries_at name d → i < length vs → v ≡ get_or vs i v → has_float (view v) ≡ false
 whole_entry name d vs i v h is low e = whole_at vs i v (subst AreWhole (sym is) (whole_entries name d h)) low e
-
--- ---- a label with its translations in rising order
-
-whole_inserted : (x : Data) (ds : List Data) → has_float x ≡ false → AreWhole ds → AreWhole (with_inserted compact_cmp x ds)
-whole_inserted x [] e h = (e, tt)
-whole_inserted x (d ∷ ds) e h = at (is_lt (compact_cmp d x)) (whole_inserted x ds e h.1)
-  where
-    at : (b : Bool) → AreWhole (with_inserted compact_cmp x ds) → AreWhole (cond b (d ∷ with_inserted compact_cmp x ds) (x ∷ (d ∷ ds)))
-    at true k = (h.0, k)
-    at false k = (e, h)
-
-whole_rising : (ds : List Data) → AreWhole ds → AreWhole (rising_list compact_cmp ds)
-whole_rising [] h = tt
-whole_rising (d ∷ ds) h = whole_inserted d (rising_list compact_cmp ds) h.0 (whole_rising ds h.1)
-
-whole_items_of : (ds : List Data) → AreWhole ds → items_have_float (items_of ds) ≡ false
-whole_items_of [] h = refl
-whole_items_of (d ∷ ds) h = both_false (has_float d) (items_have_float (items_of ds)) h.0 (whole_items_of ds h.1)
-
-whole_put : (name : List ℕ) (d : Data) (ms : Members) → has_float d ≡ false → members_have_float ms ≡ false → members_have_float (put name d ms) ≡ false
-whole_put name d no_members e h = both_false (has_float d) false e refl
-whole_put name d (member l v ms) e h = at (slice_cmp nat_cmp name l) (whole_put name d ms e (second_false (has_float v) (members_have_float ms) h))
-  where
-    at : (o : Ordering) → members_have_float (put name d ms) ≡ false → members_have_float (match_ordering o (member name d (member l v ms)) (member l d ms) (member l v (put name d ms))) ≡ false
-    at Less k = both_false (has_float d) (members_have_float (member l v ms)) e h
-    at Equal k = both_false (has_float d) (members_have_float ms) e (second_false (has_float v) (members_have_float ms) h)
-    at Greater k = both_false (has_float v) (members_have_float (put name d ms)) (first_false (has_float v) (members_have_float ms) h) k
-
-pub whole_label : (d : Data) → has_float d ≡ false → has_float (with_rising_text d) ≡ false
-whole_label null h = h
-whole_label (boolean b) h = h
-whole_label (number n) h = h
-whole_label (string s) h = h
-whole_label (array ds) h = h
-whole_label (object ms) h =
-    whole_put (codes "Text") (array (items_of (rising_list compact_cmp (entries_at (codes "Text") (object ms))))) ms
-    (whole_items_of (rising_list compact_cmp (entries_at (codes "Text") (object ms))) (whole_rising (entries_at (codes "Text") (object ms)) (whole_entries (codes "Text") (object ms) h)))
-    h

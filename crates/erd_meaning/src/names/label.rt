@@ -1,11 +1,11 @@
-ghost use Rattle.std.specs.Prelude.{◌≡◌, false, map, codes, IfOk};
-ghost use Rattle.serde_json.specs.Data.{array, put};
-ghost use Rattle.serde_json.specs.View.{view, items_of, members_view};
-ghost use Rattle.serde_json.specs.Written.{compact_text, has_float};
+ghost use Rattle.std.specs.Prelude.{◌≡◌, ◌∷◌, false, true, map, codes, string_bytes, IfOk};
+ghost use Rattle.serde_json.specs.View.{members_view, view};
+ghost use Rattle.serde_json.specs.Written.{compact_text, has_float, members_have_float};
 ghost use Rattle.erd_check.specs.Values.{entries_at};
 ghost use Rattle.erd_meaning.specs.SelectionNames.{compact_cmp, rising_list, with_rising_text};
+ghost use Rattle.erd_meaning.specs.code.LabelTexts.{rest_text};
 
-use crate::names::translation::Translation;
+use crate::names::label_output::LabelOutput;
 use erd_check::values::entries_at;
 use erd_tables::Text;
 use serde_json::{Map, Value};
@@ -16,73 +16,53 @@ pub(crate) fn label_text(alloc: Global, label: &Value) -> Result<Text, AllocErro
     requires whole { has_float (view label.now) ≡ false }
     ensures { IfOk result (λ text. text ≡ compact_text (with_rising_text (view label.now))) }
 {
-    let rising = with_rising_text(alloc, label)?;
-    Ok(Text::of(rising.to_string(alloc)?))
-}
-
-/// Returns a copy of a label, with its translations in rising order.
-fn with_rising_text(alloc: Global, label: &Value) -> Result<Value, AllocError>
-    requires whole { has_float (view label.now) ≡ false }
-    ensures { IfOk result (λ copy. view copy ≡ with_rising_text (view label.now)) }
-{
-    let translations = rising_translations(alloc, label)?;
-    match label.clone()? {
-        Value::Object(members) => {
-            let members = with_text(alloc, members, translations)?;
-            Ok(Value::Object(members))
+    match label.as_object() {
+        Some(members) => {
+            let translations = rising_translations(alloc, label)?;
+            Ok(Text::of(object_text(alloc, members, &translations)?))
         }
-        other => Ok(other),
+        None => Ok(Text::of(label.to_string(alloc)?)),
     }
 }
 
-/// Returns the members of a label with these translations as `Text`.
-fn with_text(
+/// Returns the text of an object with these members, with the array of the translations as its `Text`.
+fn object_text(
     alloc: Global,
-    mut members: Map<String, Value>,
-    translations: Vec<Value>,
-) -> Result<Map<String, Value>, AllocError>
-    ensures { IfOk result (λ changed. members_view changed.entries
-        ≡ put (codes "Text") (array (items_of (map view translations.items))) (members_view members.entries)) }
+    members: &Map<String, Value>,
+    translations: &[Text],
+) -> Result<String, AllocError>
+    requires whole { members_have_float (members_view members.now.entries) ≡ false }
+    ensures { IfOk result (λ text. string_bytes text
+        ≡ 123 ∷ rest_text false true translations.now (members_view members.now.entries)) }
 {
-    let name = String::from_str(alloc, "Text")?;
-    drop(members.insert(name, Value::Array(translations))?);
-    Ok(members)
+    let mut output = LabelOutput::new(alloc)?;
+    for (name, member) in members.iter() {
+        output.push_member(name.as_str(), member, translations)?;
+    }
+    output.into_text(translations)
 }
 
-/// Returns copies of the translations of a label, in rising order.
-fn rising_translations(alloc: Global, label: &Value) -> Result<Vec<Value>, AllocError>
+/// Returns the compact texts of the translations of a label, in rising order.
+fn rising_translations(alloc: Global, label: &Value) -> Result<Vec<Text>, AllocError>
     requires whole { has_float (view label.now) ≡ false }
-    ensures { IfOk result (λ copies. map view copies.items
-        ≡ rising_list compact_cmp (entries_at (codes "Text") (view label.now))) }
+    ensures { IfOk result (λ texts. texts.items
+        ≡ map compact_text (rising_list compact_cmp (entries_at (codes "Text") (view label.now)))) }
 {
-    let mut translations = translations_of(alloc, label)?;
-    translations.sort()?;
-    copied_translations(alloc, &translations)
+    let mut texts = translation_texts(alloc, label)?;
+    texts.sort()?;
+    Ok(texts)
 }
 
-/// Returns the translations of a label, with their compact texts.
-fn translations_of<'a>(alloc: Global, label: &'a Value) -> Result<Vec<Translation<'a>>, AllocError>
+/// Returns the compact texts of the translations of a label.
+fn translation_texts(alloc: Global, label: &Value) -> Result<Vec<Text>, AllocError>
     requires whole { has_float (view label.now) ≡ false }
-    ensures { IfOk result (λ translations. map view translations.items
-        ≡ entries_at (codes "Text") (view label.now)) }
+    ensures { IfOk result (λ texts. texts.items
+        ≡ map compact_text (entries_at (codes "Text") (view label.now))) }
 {
     let values = entries_at(label, "Text");
-    let mut translations = Vec::with_capacity(alloc, values.len())?;
+    let mut texts = Vec::with_capacity(alloc, values.len())?;
     for value in values {
-        translations.push(Translation::of(alloc, value)?)?;
+        texts.push(Text::of(value.to_string(alloc)?))?;
     }
-    Ok(translations)
-}
-
-fn copied_translations(
-    alloc: Global,
-    translations: &[Translation],
-) -> Result<Vec<Value>, AllocError>
-    ensures { IfOk result (λ copies. map view copies.items ≡ map view translations.now) }
-{
-    let mut copies = Vec::with_capacity(alloc, translations.len())?;
-    for translation in translations {
-        copies.push(translation.value().clone()?)?;
-    }
-    Ok(copies)
+    Ok(texts)
 }

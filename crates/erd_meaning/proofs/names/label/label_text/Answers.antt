@@ -1,10 +1,9 @@
-use Rattle.std.proofs.Common.{ap, ◌∙◌}
-use Rattle.serde_json.specs.View.{view}
-use Rattle.serde_json.specs.Written.{compact_text, has_float}
-use Rattle.erd_meaning.proofs.selections.WholeParts.{whole_label}
+use Rattle.std.proofs.Common.{◌∙◌}
+use Rattle.serde_json.specs.View.{members_view, view}
+use Rattle.erd_meaning.proofs.selections.WrittenLabels.{object_written}
 use Rattle.erd_meaning.proofs.names.label.label_text.Goals as goal
 
-pub returns : goal.returns
-returns c =
-    let rising = c.in_ok-rising.ensures in
-    c.of.ensures ∙ c.in_ok-to_string.ensures.text (ap has_float rising ∙ whole_label (view c.args.label.now) c.requires.whole) ∙ ap compact_text rising
+pub returns-in_ok-object_text-in-Some : goal.returns-in_ok-object_text-in-Some
+returns-in_ok-object_text-in-Some c =
+    c.of.ensures ∙ (c.in_ok-object_text-in-Some.ensures
+    ∙ object_written (view c.args.label.now) (members_view c.in-Some.members.now.entries) c.deref.result.now c.in-Some.ensures (c.deref.ensures.value ∙ c.in_ok-translations-in-Some.ensures))
