@@ -12,3 +12,5 @@ pub mod AmongNames
 pub mod WholeParts
 pub mod WrittenLabels
 pub mod NameTests  -- the test by which an index of names is asked
+pub mod RankedKeys  -- the ranks of keys are in the order of the keys
+pub mod RankedTests  -- the test by which an index of names with ranks is asked

@@ -15,7 +15,8 @@ pub mod Indexed  -- when these indexes are those of the objects
 pub mod ReferenceReasons  -- the reasons of a reference, as the program tells them
 pub mod NamesAmong  -- the names of selections by these look-ups
 pub mod SelectionWalk  -- the names of selections in the order in which the program meets them, with the faults of selections
-pub mod Held  -- what clauses see of a name that is held or lent
+pub mod RankedNames  -- names with the ranks of their keys, which an index compares
+pub mod RankedOrders  -- their order is total, and equal ones are hashed alike
 pub mod Shown  -- what the program's own structs stand for
 pub mod ShownWalks  -- what clauses see of the walks
 pub mod Resolved  -- what holds of a report after each phase, and of an accepted one

@@ -1,10 +1,11 @@
 //! Names of selections. A name identifies a selection in its contest, independently of the vendor.
 
-pub(crate) mod held_name;
 mod label;
 mod label_output;
 pub(crate) mod naming;
 pub mod numbered_name;
 pub(crate) mod parts;
+pub(crate) mod ranked_name;
 pub mod selection_name;
 pub(crate) mod selection_walk;
+pub(crate) mod sought_name;

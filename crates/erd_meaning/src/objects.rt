@@ -2,8 +2,9 @@
 
 pub(crate) mod election_table;
 pub(crate) mod holders;
-pub(crate) mod lookup;
+mod key_ranks;
 pub(crate) mod object;
 pub(crate) mod object_walk;
 pub(crate) mod places;
+pub(crate) mod ranked_objects;
 pub(crate) mod table;

@@ -1,4 +1,4 @@
-ghost use Rattle.std.specs.Prelude.{◌≡◌, false, Some, length, option_map, slice_get, IfOk};
+ghost use Rattle.std.specs.Prelude.{◌≡◌, false, List, Some, length, map, option_map, slice_get, IfOk};
 ghost use Rattle.std.specs.Option.{option_copied};
 ghost use Rattle.serde_json.specs.View.{view};
 ghost use Rattle.serde_json.specs.Written.{has_float};
@@ -7,20 +7,25 @@ ghost use Rattle.erd_check.specs.Trees.{IsShallow, IsTree};
 ghost use Rattle.erd_meaning.specs.Accepted.{IsAccepted};
 ghost use Rattle.erd_meaning.specs.Lookups.{FindsId, FindsKey, FindsSelection, election_in, election_key_in, key_in, name_in_contest, selection_in};
 ghost use Rattle.erd_meaning.specs.Objects.{IsBounded, elections, objects};
+ghost use Rattle.erd_meaning.specs.code.RankedNames.{AllAreRanked, names_of};
 ghost use Rattle.erd_meaning.specs.code.Resolved.{IsResolved};
 ghost use Rattle.erd_meaning.specs.code.ResolvedElections.{AreElections};
+ghost use Rattle.erd_meaning.specs.code.SelectionWalk.{NumberedName};
 ghost use Rattle.erd_meaning.specs.SelectionNames.{name_of};
+ghost use Rattle.erd_meaning.specs.code.Shown.{shown};
 
 pub(crate) mod reference_judge;
 pub(crate) mod resolving;
 
 use crate::keys::key::Key;
 use crate::keys::key_rule::KeyRule;
-use crate::names::held_name::HeldName;
 use crate::names::naming::name_of_selection;
+use crate::names::ranked_name::RankedName;
 use crate::names::selection_name::SelectionName;
+use crate::names::sought_name::SoughtName;
 use crate::objects::election_table::ElectionTable;
 use crate::objects::holders::Holders;
+use crate::objects::ranked_objects::RankedObjects;
 use crate::objects::table::ObjectTable;
 use erd_check::values::entries_at;
 use erd_tables::{Family, Text};
@@ -48,8 +53,8 @@ pub struct Report<'a> {
 /// the position of its contest with it.
 #[derive(Debug, Drop)]
 pub(crate) struct Indexes<'a> {
-    pub(crate) objects: ObjectTable<'a>,
-    pub(crate) names: IndexSet<(usize, HeldName<'a>)>,
+    pub(crate) objects: RankedObjects<'a>,
+    pub(crate) names: IndexSet<(usize, RankedName)>,
     pub(crate) elections: Elections<'a>,
 }
 
@@ -86,7 +91,8 @@ impl<'a> Report<'a> {
         prefer: Option<Text>,
         indexes: Indexes<'a>,
     ) -> Result<Report<'a>, AllocError>
-        requires resolved { IsResolved prefer tree.now indexes.objects indexes.names.keys }
+        requires resolved { IsResolved prefer tree.now indexes.objects (names_of indexes.names.keys) }
+        requires ranked { AllAreRanked (map shown indexes.objects) indexes.names.keys }
         requires elections { AreElections prefer tree.now indexes.elections }
         ensures tree { IfOk result (λ r. r.tree ≡ tree.now) }
         ensures prefer { IfOk result (λ r. r.prefer ≡ prefer) }
@@ -101,9 +107,16 @@ impl<'a> Report<'a> {
     }
 
     fn indexes(&self) -> &Indexes<'a>
-        ensures { IsResolved self.now.prefer self.now.tree result.now.objects result.now.names.keys }
+        ensures resolved { IsResolved self.now.prefer self.now.tree result.now.objects (names_of result.now.names.keys) }
+        ensures ranked { AllAreRanked (map shown result.now.objects) result.now.names.keys }
     {
         &self.indexes[0]
+    }
+
+    fn objects(&self) -> &ObjectTable<'a>
+        ensures { (names : List NumberedName) × IsResolved self.now.prefer self.now.tree result.now names }
+    {
+        self.indexes().objects.table()
     }
 
     fn elections(&self) -> &Elections<'a>
@@ -125,7 +138,7 @@ impl<'a> Report<'a> {
         ensures bounded { IsBounded (view result.now) }
     {
         // read for `bounded`: the list of all objects has a length
-        let _count = self.indexes().objects.len();
+        let _count = self.objects().len();
         self.tree
     }
 
@@ -181,14 +194,14 @@ impl<'a> Report<'a> {
     pub fn count(&self, family: Family) -> usize
         ensures { result ≡ length (objects family (view self.now.tree)) }
     {
-        self.indexes().objects.count(family)
+        self.objects().count(family)
     }
 
     /// Returns the object of the family at the position, or `None` if there is none.
     pub fn object(&self, family: Family, index: usize) -> Option<&'a Value>
         ensures { option_map (λ v. view v.now) result ≡ option_map (λ o. o.value) (slice_get (objects family (view self.now.tree)) index) }
     {
-        match self.indexes().objects.get(family, index) {
+        match self.objects().get(family, index) {
             Some(object) => Some(object.value),
             None => None,
         }
@@ -199,10 +212,7 @@ impl<'a> Report<'a> {
     pub fn key_at(&self, family: Family, index: usize) -> Option<&Key>
         ensures { option_copied result ≡ key_in self.now.prefer family (view self.now.tree) index }
     {
-        match self.indexes().objects.get(family, index) {
-            Some(object) => object.shown_key(),
-            None => None,
-        }
+        self.objects().key_at(family, index)
     }
 
     /// Returns the position of the object of the family with the key, or `None` if there is none. No two objects of a family
@@ -210,7 +220,7 @@ impl<'a> Report<'a> {
     pub fn find(&self, family: Family, key: &Key) -> Option<usize>
         ensures { FindsKey self.now.prefer (view self.now.tree) family key.now result }
     {
-        self.indexes().objects.position_of_key(family, key)
+        self.objects().position_of_key(family, key)
     }
 
     /// Returns the family and position of the object with the `@id`, or `None` if there is none. No two objects have
@@ -218,7 +228,7 @@ impl<'a> Report<'a> {
     pub fn target(&self, id: &str) -> Option<(Family, usize)>
         ensures { FindsId (view self.now.tree) id.now result }
     {
-        self.indexes().objects.position_of_id(id)
+        self.objects().position_of_id(id)
     }
 
     /// Returns the position of the contest of the selection at the position, and the name of the selection. Returns
@@ -237,7 +247,7 @@ impl<'a> Report<'a> {
     {
         // read for its bound: a word counts the selections
         let _count = self.count(Family::Selection);
-        let start = self.indexes().objects.first_selection(contest);
+        let start = self.objects().first_selection(contest);
         let (own, name) = self.selection_at(start.checked_add(index)?)?;
         if own == contest { Some(name) } else { None }
     }
@@ -247,9 +257,13 @@ impl<'a> Report<'a> {
     pub fn find_selection(&self, contest: usize, name: &SelectionName) -> Option<usize>
         ensures { FindsSelection self.now.prefer (view self.now.tree) contest name.now result }
     {
-        self.indexes()
-            .names
-            .get_index_of(&(contest, HeldName::lent(name)))
+        let indexes = self.indexes();
+        let sought = SoughtName {
+            objects: &indexes.objects,
+            contest,
+            name,
+        };
+        indexes.names.get_index_of(&sought)
     }
 
     /// Returns the name of a selection, or `None` if its class is not one of the selection classes. The candidates or
@@ -270,7 +284,10 @@ impl<'a> Report<'a> {
             alloc,
             prefer: self.preference(),
         };
-        name_of_selection(&keys, &self.indexes().objects, selection)
+        match name_of_selection(&keys, &self.indexes().objects, selection)? {
+            Some(name) => Ok(Some(name.into_name())),
+            None => Ok(None),
+        }
     }
 }
 

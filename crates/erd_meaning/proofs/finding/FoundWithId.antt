@@ -7,7 +7,7 @@ use Rattle.std.proofs.lemmas.List.{length_push}
 use Rattle.std.proofs.lemmas.Option.{some_pair_parts}
 use Rattle.erd_tables.specs.Classes.{family_number}
 use Rattle.erd_tables.specs.declared.class.Family.{Family}
-use Rattle.erd_meaning.specs.code.ObjectIndexes.{number_at, number_of_id, rank}
+use Rattle.erd_meaning.specs.code.ObjectIndexes.{number_among, number_at, number_of_id, rank}
 use Rattle.erd_meaning.specs.code.ObjectLookups.{is_of_family, keeps_id, object_among, those_of}
 use Rattle.erd_meaning.specs.code.ObjectWalk.{Kept}
 use Rattle.erd_meaning.proofs.finding.Lookups.{ranked}
@@ -103,3 +103,17 @@ pub with_id_some : (ks : List Kept) (f g : Family) (id : List ℕ) (i : ℕ) →
 with_id_some ks f g id i e same =
     let h = first ks id g i e in
     (h.one, among_one ks f g id i h true same)
+
+-- the object with an `@id` stands at the position that is found by it
+pub object_numbered : (ks : List Kept) (f : Family) (id : List ℕ) → option_and_then (slice_get (those_of f ks)) (number_among ks f id) ≡ object_among ks f id
+object_numbered ks f id = at (number_of_id ks id) refl
+  where
+    of : (g : Family) (i : ℕ) (b : Bool) → number_of_id ks id ≡ Some (g, i) → (family_number g == family_number f) ≡ b
+        → option_and_then (slice_get (those_of f ks)) (cond b (Some i) None) ≡ object_among ks f id
+    of g i true is same = with_id_of_family ks f g id i is same
+    of g i false is other = sym (with_id_of_other ks f g id i is other)
+
+    at : (o : Option (Family × ℕ)) → number_of_id ks id ≡ o
+        → option_and_then (slice_get (those_of f ks)) (option_and_then (λ n. cond (family_number n.0 == family_number f) (Some n.1) None) o) ≡ object_among ks f id
+    at None is = sym (with_id_none ks f id is)
+    at (Some n) is = of n.0 n.1 (family_number n.0 == family_number f) is refl

@@ -11,6 +11,7 @@ use Rattle.erd_meaning.specs.NameParts.{NameParts}
 use Rattle.erd_meaning.specs.code.NamesAmong.{name_among}
 use Rattle.erd_meaning.specs.Objects.{numbered_selections}
 use Rattle.erd_meaning.specs.code.ObjectWalk.{Kept, kept_objects}
+use Rattle.erd_meaning.specs.code.RankedNames.{names_of}
 use Rattle.erd_meaning.specs.code.Resolved.{AreNames}
 use Rattle.erd_meaning.specs.SelectionNames.{name_of}
 use Rattle.erd_meaning.specs.code.SelectionWalk.{NamesMet, NumberedName, is_taken, named_all}
@@ -37,23 +38,23 @@ met_by_name π w v ks t h =
 walked_faults : (π : Preference) (w v : SelectionWalk) (ks : List Kept) (t : Data) → NamesWalked π w v ks t → v.faults.items ≡ selections_told π t
 walked_faults π w v ks t h =
     ap (λ (m : NamesMet). m.faults) (met_by_name π w v ks t h)
-    ∙ all_faults (name_of π t) (names_met w) [] (numbered_selections t) (λ c n. ap (λ (ns : List NumberedName). is_taken ns c n) h.no_name)
+    ∙ all_faults (name_of π t) (names_met w) [] (numbered_selections t) (λ c n. ap (λ (ns : List NumberedName). is_taken ns c n) (ap names_of h.no_name))
     ∙ ap (λ (fs : List Fault). fs ++ names_told (name_of π t) [] (numbered_selections t)) h.no_fault
 
 walked_names : (π : Preference) (w v : SelectionWalk) (ks : List Kept) (t : Data) → NamesWalked π w v ks t → v.faults.items ≡ []
-    → v.names.keys ≡ flat_map (name_list (name_of π t)) (numbered_selections t)
+    → names_of v.names.keys ≡ flat_map (name_list (name_of π t)) (numbered_selections t)
 walked_names π w v ks t h none =
     let told : names_told (name_of π t) (names_met w).names (numbered_selections t) ≡ [] =
-    ap (λ (ns : List NumberedName). names_told (name_of π t) ns (numbered_selections t)) h.no_name ∙ sym (walked_faults π w v ks t h) ∙ none in
+    ap (λ (ns : List NumberedName). names_told (name_of π t) ns (numbered_selections t)) (ap names_of h.no_name) ∙ sym (walked_faults π w v ks t h) ∙ none in
     ap (λ (m : NamesMet). m.names) (met_by_name π w v ks t h) ∙ all_names (name_of π t) (names_met w) (numbered_selections t) told
-    ∙ ap (λ (ns : List NumberedName). ns ++ flat_map (name_list (name_of π t)) (numbered_selections t)) h.no_name
+    ∙ ap (λ (ns : List NumberedName). ns ++ flat_map (name_list (name_of π t)) (numbered_selections t)) (ap names_of h.no_name)
 
 no_entries : (fs : List Fault) → length fs ≡ 0 → fs ≡ []
 no_entries [] e = refl
 no_entries (f ∷ fs) e = cc
 
 pub names_left : (π : Preference) (w v : SelectionWalk) (ks : List Kept) (t : Data) → NamesWalked π w v ks t → NoneOf (ShapeFault t)
-    → (fs : List Fault) → fs ≡ v.faults.items → length fs ≡ 0 → AreNames π t v.names.keys
+    → (fs : List Fault) → fs ≡ v.faults.items → length fs ≡ 0 → AreNames π t (names_of v.names.keys)
 names_left π w v ks t h none fs e empty = subst (AreNames π t) (sym (walked_names π w v ks t h (sym e ∙ no_entries fs empty))) (names_listed π t none)
 
 pub twins_left : (π : Preference) (w v : SelectionWalk) (ks : List Kept) (t : Data) → NamesWalked π w v ks t → (fs : List Fault) → fs ≡ v.faults.items → ListsAll (SelectionFault π t) fs

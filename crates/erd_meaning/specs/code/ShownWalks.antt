@@ -1,6 +1,7 @@
 -- What clauses see of the walks over objects and over selections: how far each has come.
 use Rattle.std.specs.Prelude.{map}
 use Rattle.erd_meaning.specs.code.ObjectWalk.{ObjectsMet}
+use Rattle.erd_meaning.specs.code.RankedNames.{names_of}
 use Rattle.erd_meaning.specs.code.SelectionWalk.{NamesMet}
 use Rattle.erd_meaning.specs.code.Shown.{shown}
 use Rattle.erd_meaning.specs.declared.objects.object_walk.ObjectWalk.{ObjectWalk}
@@ -12,4 +13,4 @@ met_of w = record { objects = map shown w.objects; elections = w.elections; faul
 
 -- What clauses see of the walk over the selections: how far it has come.
 abbrev pub names_met : SelectionWalk → NamesMet
-names_met w = record { names = w.names.keys; faults = w.faults.items }
+names_met w = record { names = names_of w.names.keys; faults = w.faults.items }

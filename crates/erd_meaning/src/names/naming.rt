@@ -1,8 +1,11 @@
-ghost use Rattle.std.specs.Prelude.{◌≡◌, false, map, IfOk};
+ghost use Rattle.std.specs.Prelude.{◌≡◌, false, List, map, IfOk};
+ghost use Rattle.std.specs.Ordering.{nat_cmp};
 ghost use Rattle.serde_json.specs.View.{view};
 ghost use Rattle.serde_json.specs.Written.{has_float};
 ghost use Rattle.erd_meaning.specs.Keys.{key_cmp};
-ghost use Rattle.erd_meaning.specs.code.NamesAmong.{keys_among, name_among, selection_keys_among};
+ghost use Rattle.erd_meaning.specs.code.NamesAmong.{keys_among, selection_keys_among};
+ghost use Rattle.erd_meaning.specs.code.ObjectWalk.{Kept};
+ghost use Rattle.erd_meaning.specs.code.RankedNames.{family_chosen, ranked_key, ranked_name_among};
 ghost use Rattle.erd_meaning.specs.SelectionNames.{is_write_in, label_of_selection, order_of_selection, rising_list};
 ghost use Rattle.erd_meaning.specs.code.Shown.{shown};
 
@@ -10,100 +13,117 @@ use crate::keys::key_rule::KeyRule;
 use crate::keys::shared_key::SharedKey;
 use crate::names::label::label_text;
 use crate::names::parts::Parts;
+use crate::names::ranked_name::RankedName;
 use crate::names::selection_name::SelectionName;
-use crate::objects::lookup::key_referred;
-use crate::objects::table::ObjectTable;
+use crate::objects::ranked_objects::RankedObjects;
 use erd_check::values::{class_of_object, entries_at};
 use erd_tables::{Class, Family, Role, Text};
 use serde_json::{Number, Value};
 use std::alloc::{AllocError, Global};
 
-/// Returns the name of a selection, or `None` if its class is not one of the selection classes. The objects that its
-/// references name are looked up in `objects`.
+/// Returns the name of a selection with the ranks of its keys, or `None` if its class is not one of the selection classes. The
+/// objects that its references name are looked up in `objects`.
 pub(crate) fn name_of_selection(
     keys: &KeyRule,
-    objects: &ObjectTable,
+    objects: &RankedObjects,
     selection: &Value,
-) -> Result<Option<SelectionName>, AllocError>
+) -> Result<Option<RankedName>, AllocError>
     requires whole { has_float (view selection.now) ≡ false }
-    ensures { IfOk result (λ name. name ≡ name_among keys.now (map shown objects.now) (view selection.now)) }
+    ensures { IfOk result (λ name. name ≡ ranked_name_among keys.now (map shown objects.now) (view selection.now)) }
 {
     let Some(class) = class_of_object(Role::OfFamily(Family::Selection), selection) else {
         return Ok(None);
     };
-    let named = selection_keys(keys.alloc, objects, class, selection)?;
+    let chosen = chosen_keys(keys.alloc, objects, class, selection)?;
+    let ranks = ranks_of(keys.alloc, &chosen)?;
+    let named = keys_of(keys.alloc, &chosen)?;
     let label = selection_label(keys.alloc, class, selection)?;
     let identifier = keys.key_of(selection)?;
-    Ok(Some(SelectionName::of(Parts {
+    let name = SelectionName::of(Parts {
         class,
         keys: named,
         write_in: is_write_in(class, selection),
         order: sequence_order(selection),
         label,
         identifier,
-    })))
+    });
+    Ok(Some(RankedName::of(name, ranks)))
 }
 
-/// Returns the keys of the candidates or parties that a selection is for, in rising order.
-fn selection_keys(
+/// Returns the keys of the candidates or parties that a selection is for, with their ranks, in rising order.
+fn chosen_keys(
     alloc: Global,
-    objects: &ObjectTable,
+    objects: &RankedObjects,
     class: Class,
     selection: &Value,
-) -> Result<Vec<SharedKey>, AllocError>
-    ensures { IfOk result (λ keys. keys.items
-        ≡ rising_list key_cmp (selection_keys_among (map shown objects.now) class (view selection.now))) }
+) -> Result<Vec<(usize, SharedKey)>, AllocError>
+    ensures { IfOk result (λ chosen. chosen.items ≡ map (ranked_key (map shown objects.now) (family_chosen class))
+        (rising_list key_cmp (selection_keys_among (map shown objects.now) class (view selection.now)))) }
 {
-    let keys = named_keys(alloc, objects, class, selection)?;
-    in_rising_order(keys)
+    let references = references_chosen(class, selection);
+    let chosen = keys_in_turn(alloc, objects, class, references)?;
+    in_rising_order(chosen)
 }
 
-/// Returns the same keys in rising order, each as often as before.
-fn in_rising_order(mut keys: Vec<SharedKey>) -> Result<Vec<SharedKey>, AllocError>
-    ensures { IfOk result (λ rising. rising.items ≡ rising_list key_cmp keys.items) }
+/// Returns the same keys in the rising order of their ranks, each as often as before.
+fn in_rising_order(
+    mut chosen: Vec<(usize, SharedKey)>,
+) -> Result<Vec<(usize, SharedKey)>, AllocError>
+    ensures { IfOk result (λ rising. rising.items ≡ rising_list (λ a b. nat_cmp a.0 b.0) chosen.items) }
 {
-    keys.sort()?;
-    Ok(keys)
+    chosen.sort_by_key(|one| one.0)?;
+    Ok(chosen)
 }
 
-/// Returns the keys of the candidates or parties that a selection is for, in the order of its references.
-fn named_keys(
-    alloc: Global,
-    objects: &ObjectTable,
-    class: Class,
-    selection: &Value,
-) -> Result<Vec<SharedKey>, AllocError>
-    ensures { IfOk result (λ keys. keys.items
-        ≡ selection_keys_among (map shown objects.now) class (view selection.now)) }
+/// Returns the references of a selection to the candidates or parties that it is for.
+fn references_chosen(class: Class, selection: &Value) -> &[Value]
+    ensures { (ks : List Kept) → keys_among ks (family_chosen class) (map view result.now) ≡ selection_keys_among ks class (view selection.now) }
 {
     match class {
-        Class::CandidateSelection => {
-            let references = entries_at(selection, "CandidateIds");
-            keys_among(alloc, objects, Family::Candidate, references)
-        }
-        Class::PartySelection => {
-            let references = entries_at(selection, "PartyIds");
-            keys_among(alloc, objects, Family::Party, references)
-        }
-        _ => Ok(Vec::new(alloc)),
+        Class::CandidateSelection => entries_at(selection, "CandidateIds"),
+        Class::PartySelection => entries_at(selection, "PartyIds"),
+        _ => &[],
     }
 }
 
-/// Returns the keys of the objects of the family that the references name.
-fn keys_among(
+/// Returns the keys of the objects that the references of a selection name, with their ranks, in the order of the
+/// references.
+fn keys_in_turn(
     alloc: Global,
-    objects: &ObjectTable,
-    family: Family,
+    objects: &RankedObjects,
+    class: Class,
     references: &[Value],
-) -> Result<Vec<SharedKey>, AllocError>
-    ensures { IfOk result (λ keys. keys.items
-        ≡ keys_among (map shown objects.now) family (map view references.now)) }
+) -> Result<Vec<(usize, SharedKey)>, AllocError>
+    ensures { IfOk result (λ chosen. chosen.items ≡ map (ranked_key (map shown objects.now) (family_chosen class))
+        (keys_among (map shown objects.now) (family_chosen class) (map view references.now))) }
 {
-    let mut keys = Vec::new(alloc);
+    let mut chosen = Vec::with_capacity(alloc, references.len())?;
     for reference in references {
-        if let Some(key) = key_referred(objects, family, reference) {
-            keys.push(key.try_clone()?)?;
+        if let Some((rank, key)) = objects.key_referred(class, reference) {
+            chosen.push((rank, key.try_clone()?))?;
         }
+    }
+    Ok(chosen)
+}
+
+/// Returns the ranks of the keys, in the same order.
+fn ranks_of(alloc: Global, chosen: &[(usize, SharedKey)]) -> Result<Vec<usize>, AllocError>
+    ensures { IfOk result (λ ranks. ranks.items ≡ map (λ c. c.0) chosen.now) }
+{
+    let mut ranks = Vec::with_capacity(alloc, chosen.len())?;
+    for one in chosen {
+        ranks.push(one.0)?;
+    }
+    Ok(ranks)
+}
+
+/// Returns the keys without their ranks, in the same order. Each then has one more owner.
+fn keys_of(alloc: Global, chosen: &[(usize, SharedKey)]) -> Result<Vec<SharedKey>, AllocError>
+    ensures { IfOk result (λ keys. keys.items ≡ map (λ c. c.1) chosen.now) }
+{
+    let mut keys = Vec::with_capacity(alloc, chosen.len())?;
+    for one in chosen {
+        keys.push(one.1.try_clone()?)?;
     }
     Ok(keys)
 }

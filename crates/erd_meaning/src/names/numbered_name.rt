@@ -2,7 +2,7 @@
 ghost use Rattle.std.specs.Prelude.{◌≡◌};
 ghost use Rattle.erd_meaning.specs.code.NumberedNames.{numbered_name_cmp, numbered_parts};
 
-use crate::names::held_name::HeldName;
+use crate::names::parts::compare_numbered;
 use crate::names::selection_name::SelectionName;
 use erd_tables::type_text;
 use std::cmp::Ordering;
@@ -15,7 +15,7 @@ use std::marker::Model;
 /// Such names are compared like names, with the numbers in place of the keys. So it takes no longer if keys are long.
 #[derive(Debug, Drop)]
 pub struct NumberedName<'a> {
-    name: HeldName<'a>,
+    name: &'a SelectionName,
     numbers: Vec<usize>,
 }
 
@@ -24,23 +24,14 @@ impl<'a> Model for NumberedName<'a> {
 
     ghost Value = { NumberedParts };
 
-    ghost view = { λ n. numbered_parts n.name n.numbers.items };
+    ghost view = { λ n. numbered_parts n.name.now n.numbers.items };
 }
 
 impl<'a> NumberedName<'a> {
-    /// Returns a name that is owned, with these numbers in place of its keys.
-    pub fn own(name: SelectionName, numbers: Vec<usize>) -> NumberedName<'a>
-        ensures { result ≡ numbered_parts name numbers.items }
-    {
-        let name = HeldName::own(name);
-        NumberedName { name, numbers }
-    }
-
-    /// Returns a name that is borrowed, with these numbers in place of its keys.
+    /// Returns the name, which is borrowed, with these numbers in place of its keys.
     pub fn lent(name: &'a SelectionName, numbers: Vec<usize>) -> NumberedName<'a>
         ensures { result ≡ numbered_parts name.now numbers.items }
     {
-        let name = HeldName::lent(name);
         NumberedName { name, numbers }
     }
 
@@ -48,11 +39,12 @@ impl<'a> NumberedName<'a> {
     fn compare(&self, other: &NumberedName<'a>) -> Ordering
         ensures { result ≡ numbered_name_cmp self.now other.now }
     {
-        let (one, two) = (self.name.name().parts(), other.name.name().parts());
-        type_text(one.class)
-            .cmp(type_text(two.class))
-            .then(self.numbers.cmp(&other.numbers))
-            .then(one.compare_after_keys(two))
+        compare_numbered(
+            self.name.parts(),
+            &self.numbers,
+            other.name.parts(),
+            &other.numbers,
+        )
     }
 }
 
@@ -120,7 +112,7 @@ impl<'a> Hash for NumberedName<'a> {
     ghost respects_eq = { equal_numbered_alike numbered_name_writes };
 
     fn hash<H: Hasher>(&self, state: &mut H) {
-        let parts = self.name.name().parts();
+        let parts = self.name.parts();
         type_text(parts.class).hash(state);
         self.numbers.hash(state);
         parts.write_in.hash(state);

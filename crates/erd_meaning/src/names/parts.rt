@@ -1,7 +1,7 @@
 ghost use Rattle.std.specs.Prelude.{◌≡◌, IfOk};
 ghost use Rattle.erd_meaning.specs.SelectionNames.{name_cmp};
 ghost use Rattle.erd_meaning.specs.code.NameHashes.{name_digest};
-ghost use Rattle.erd_meaning.specs.code.NumberedNames.{after_keys_cmp};
+ghost use Rattle.erd_meaning.specs.code.NumberedNames.{after_keys_cmp, numbered_name_cmp, numbered_parts};
 
 use crate::keys::key::{Key, copied};
 use crate::keys::shared_key::SharedKey;
@@ -89,6 +89,21 @@ impl Parts {
         self.identifier.hash(&mut hasher);
         hasher.finish()
     }
+}
+
+/// Compares two names, one part after another, with numbers in place of their keys.
+pub(crate) fn compare_numbered(
+    one: &Parts,
+    numbers: &[usize],
+    other: &Parts,
+    others: &[usize],
+) -> Ordering
+    ensures { result ≡ numbered_name_cmp (numbered_parts one.now numbers.now) (numbered_parts other.now others.now) }
+{
+    type_text(one.class)
+        .cmp(type_text(other.class))
+        .then(numbers.cmp(others))
+        .then(one.compare_after_keys(other))
 }
 
 fn copied_keys(alloc: Global, keys: &[SharedKey]) -> Result<Vec<SharedKey>, AllocError>

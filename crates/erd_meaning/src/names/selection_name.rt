@@ -1,5 +1,6 @@
 //! The name of a selection.
 ghost use Rattle.std.specs.Prelude.{◌≡◌, IfOk};
+ghost use Rattle.erd_meaning.specs.code.NameHashes.{name_digest};
 
 use crate::names::parts::Parts;
 use std::alloc::{AllocError, Global};
@@ -47,6 +48,13 @@ impl SelectionName {
         ensures { result.now ≡ self.now }
     {
         &self.parts
+    }
+
+    /// Returns the number by which the name is hashed.
+    pub(crate) fn digest(&self) -> u64
+        ensures { result ≡ name_digest self.now }
+    {
+        self.digest
     }
 
     /// Returns an equal name. The two names share the keys of candidates or parties; the other parts are copied.

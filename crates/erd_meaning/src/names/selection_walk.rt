@@ -1,19 +1,19 @@
-ghost use Rattle.std.specs.Prelude.{◌≡◌, ◌+◌, ◌<◌, ◌^◌, codes, false, length, map, IfOk};
+ghost use Rattle.std.specs.Prelude.{◌≡◌, ◌+◌, ◌<◌, ◌^◌, codes, false, length, map, List, IfOk};
 ghost use Rattle.serde_json.specs.View.{view};
 ghost use Rattle.serde_json.specs.Written.{has_float};
 ghost use Rattle.erd_check.specs.code.Paths.{steps_of};
 ghost use Rattle.erd_meaning.specs.code.NamesAmong.{name_among};
 ghost use Rattle.erd_meaning.specs.Objects.{numbered_selections, numbered_selections_of, placed_entries};
-ghost use Rattle.erd_meaning.specs.code.ObjectWalk.{kept_objects};
+ghost use Rattle.erd_meaning.specs.code.ObjectWalk.{Kept, kept_objects};
+ghost use Rattle.erd_meaning.specs.code.RankedNames.{AllAreRanked, IsRanked};
 ghost use Rattle.erd_meaning.specs.code.SelectionWalk.{named_all, named_one, numbered_from, with_name};
 ghost use Rattle.erd_meaning.specs.code.Shown.{placed_at, shown};
 ghost use Rattle.erd_meaning.specs.code.ShownWalks.{names_met};
 
 use crate::keys::key_rule::KeyRule;
-use crate::names::held_name::HeldName;
 use crate::names::naming::name_of_selection;
-use crate::names::selection_name::SelectionName;
-use crate::objects::table::ObjectTable;
+use crate::names::ranked_name::RankedName;
+use crate::objects::ranked_objects::RankedObjects;
 use erd_check::path::{Path, push_fault};
 use erd_check::values::entries_at;
 use erd_tables::{Family, Fault, Reason};
@@ -24,8 +24,8 @@ use std::alloc::{AllocError, Global};
 /// The names of the selections that the walk has met, each with the position of its contest, in the order of their
 /// places; and the faults of selections. If several selections of a contest have the same name, the first is kept.
 #[derive(Drop)]
-pub(crate) struct SelectionWalk<'a> {
-    pub(crate) names: IndexSet<(usize, HeldName<'a>)>,
+pub(crate) struct SelectionWalk {
+    pub(crate) names: IndexSet<(usize, RankedName)>,
     pub(crate) faults: Vec<Fault>,
 }
 
@@ -34,16 +34,18 @@ pub(crate) struct SelectionWalk<'a> {
 pub(crate) fn meet_selections(
     keys: &KeyRule,
     report: &Value,
-    objects: &ObjectTable,
-    walk: &mut SelectionWalk<'_>,
+    objects: &RankedObjects,
+    walk: &mut SelectionWalk,
 ) -> Result<(), AllocError>
     requires kept { map shown objects.now ≡ kept_objects keys.now (view report.now) }
     requires whole { has_float (view report.now) ≡ false }
-    ensures { IfOk result (λ _. names_met walk.new
+    requires ranked { AllAreRanked (map shown objects.now) walk.old.names.keys }
+    ensures met { IfOk result (λ _. names_met walk.new
         ≡ named_all (name_among keys.now (map shown objects.now)) (names_met walk.old) (numbered_selections (view report.now))) }
+    ensures ranked { IfOk result (λ _. AllAreRanked (map shown objects.now) walk.new.names.keys) }
 {
     // read for its bound: a word counts the contests
-    let _count = objects.count(Family::Contest);
+    let _count = objects.table().count(Family::Contest);
     let elections = Path::Member(&Path::Root, "Election");
     let mut number = 0;
     for (index, election) in entries_at(report, "Election").iter().enumerate() {
@@ -57,17 +59,19 @@ pub(crate) fn meet_selections(
 /// that of the last contest.
 fn meet_contests(
     keys: &KeyRule,
-    objects: &ObjectTable,
+    objects: &RankedObjects,
     first: usize,
     election: &Value,
     path: &Path,
-    walk: &mut SelectionWalk<'_>,
+    walk: &mut SelectionWalk,
 ) -> Result<usize, AllocError>
     requires few { first + length (placed_entries (codes "Contest") (placed_at path.now election.now)) < 2 ^ 64 }
     requires whole { has_float (view election.now) ≡ false }
+    requires ranked { AllAreRanked (map shown objects.now) walk.old.names.keys }
     ensures next { IfOk result (λ next. next ≡ first + length (placed_entries (codes "Contest") (placed_at path.now election.now))) }
     ensures met { IfOk result (λ _. names_met walk.new ≡ named_all (name_among keys.now (map shown objects.now)) (names_met walk.old)
         (numbered_from first (placed_entries (codes "Contest") (placed_at path.now election.now)))) }
+    ensures ranked { IfOk result (λ _. AllAreRanked (map shown objects.now) walk.new.names.keys) }
 {
     let contests = Path::Member(&*path, "Contest");
     let entries = entries_at(election, "Contest");
@@ -81,15 +85,17 @@ fn meet_contests(
 /// Meets the selections of the contest with this number.
 fn meet_contest(
     keys: &KeyRule,
-    objects: &ObjectTable,
+    objects: &RankedObjects,
     number: usize,
     contest: &Value,
     path: &Path,
-    walk: &mut SelectionWalk<'_>,
+    walk: &mut SelectionWalk,
 ) -> Result<(), AllocError>
     requires whole { has_float (view contest.now) ≡ false }
-    ensures { IfOk result (λ _. names_met walk.new
+    requires ranked { AllAreRanked (map shown objects.now) walk.old.names.keys }
+    ensures met { IfOk result (λ _. names_met walk.new
         ≡ named_all (name_among keys.now (map shown objects.now)) (names_met walk.old) (numbered_selections_of (number, placed_at path.now contest.now))) }
+    ensures ranked { IfOk result (λ _. AllAreRanked (map shown objects.now) walk.new.names.keys) }
 {
     let array = Path::Member(&*path, "ContestSelection");
     for (index, selection) in entries_at(contest, "ContestSelection").iter().enumerate() {
@@ -102,15 +108,17 @@ fn meet_contest(
 /// Meets a selection. If its class is not one of the selection classes, it has no name and is skipped.
 fn meet_selection(
     keys: &KeyRule,
-    objects: &ObjectTable,
+    objects: &RankedObjects,
     contest: usize,
     selection: &Value,
     path: &Path,
-    walk: &mut SelectionWalk<'_>,
+    walk: &mut SelectionWalk,
 ) -> Result<(), AllocError>
     requires whole { has_float (view selection.now) ≡ false }
-    ensures { IfOk result (λ _. names_met walk.new
+    requires ranked { AllAreRanked (map shown objects.now) walk.old.names.keys }
+    ensures met { IfOk result (λ _. names_met walk.new
         ≡ named_one (name_among keys.now (map shown objects.now)) (names_met walk.old) (contest, placed_at path.now selection.now)) }
+    ensures ranked { IfOk result (λ _. AllAreRanked (map shown objects.now) walk.new.names.keys) }
 {
     match name_of_selection(keys, objects, selection)? {
         Some(name) => meet_name(keys.alloc, contest, name, path, walk),
@@ -118,16 +126,21 @@ fn meet_selection(
     }
 }
 
+/// Adds a name, or a fault if the contest already has a selection of this name. All names have the ranks of their keys among
+/// the same objects.
 fn meet_name(
     alloc: Global,
     contest: usize,
-    name: SelectionName,
+    name: RankedName,
     path: &Path,
-    walk: &mut SelectionWalk<'_>,
+    walk: &mut SelectionWalk,
 ) -> Result<(), AllocError>
-    ensures { IfOk result (λ _. names_met walk.new ≡ with_name (names_met walk.old) (steps_of path.now) contest name) }
+    ensures met { IfOk result (λ _. (ks : List Kept) → AllAreRanked ks walk.old.names.keys → IsRanked ks name
+        → names_met walk.new ≡ with_name (names_met walk.old) (steps_of path.now) contest name.name) }
+    ensures ranked { IfOk result (λ _. (ks : List Kept) → AllAreRanked ks walk.old.names.keys → IsRanked ks name
+        → AllAreRanked ks walk.new.names.keys) }
 {
-    if !walk.names.insert((contest, HeldName::own(name)))? {
+    if !walk.names.insert((contest, name))? {
         push_fault(alloc, path, Reason::TwinSelection, &mut walk.faults)?;
     }
     Ok(())

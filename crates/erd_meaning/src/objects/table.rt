@@ -1,18 +1,19 @@
-ghost use Rattle.std.specs.Prelude.{◌≡◌, ◌==◌, ◌<◌, ◌+◌, ◌++◌, ◌∷◌, ℕ, List, [], length, map, option_map, slice_get, is_some, false, OnOk, OnErr, IfOk, if◌then◌else◌, Some, None, vec_len, vec_capacity};
-ghost use Rattle.std.specs.Option.{option_map_or, option_or};
+ghost use Rattle.std.specs.Prelude.{◌≡◌, ◌==◌, ◌<◌, ◌+◌, ◌++◌, ◌∷◌, ℕ, List, [], length, map, option_and_then, option_map, slice_get, is_some, false, OnOk, OnErr, IfOk, if◌then◌else◌, Some, None, vec_len, vec_capacity};
+ghost use Rattle.std.specs.Option.{option_copied, option_map_or, option_or};
 ghost use Rattle.std.specs.Str.{bytes_eq};
 ghost use Rattle.indexmap.specs.IndexMap.{get_by, spare};
-ghost use Rattle.erd_meaning.specs.code.ObjectIndexes.{IsStart, contests_before, contests_noted, is_in_contest, number_of_id, number_of_key};
+ghost use Rattle.erd_meaning.specs.code.ObjectIndexes.{IsStart, contests_before, contests_noted, is_in_contest, number_among, number_of_id, number_of_key};
 ghost use Rattle.erd_tables.specs.declared.class.Family.{Family};
 ghost use Rattle.erd_meaning.specs.code.Indexed.{same_owned};
 ghost use Rattle.std.specs.List.{list_any};
-ghost use Rattle.erd_meaning.specs.code.ObjectLookups.{object_among, those_of};
+ghost use Rattle.erd_meaning.specs.code.ObjectLookups.{those_of};
 ghost use Rattle.erd_meaning.specs.code.ReferenceReasons.{is_known};
 ghost use Rattle.erd_meaning.specs.code.ObjectWalk.{has_same_id, has_same_key, same_id};
 ghost use Rattle.erd_meaning.specs.code.Shown.{shown};
 ghost use Rattle.erd_meaning.specs.declared.keys.key.Key.{Key};
 
 use crate::keys::key::Key;
+use crate::keys::shared_key::SharedKey;
 use crate::keys::triple::Triple;
 use crate::objects::object::Object;
 use crate::objects::places::FamilyPlaces;
@@ -157,15 +158,32 @@ impl<'a> ObjectTable<'a> {
         self.ids.contains_key(id)
     }
 
-    /// Returns the object with the `@id`, if it is of the family.
-    pub(crate) fn with_id(&self, family: Family, id: &str) -> Option<&Object<'a>>
-        ensures { option_map (λ o. shown o.now) result ≡ object_among (map shown self.now) family id.now }
+    /// Returns the key of the object of the family at the position, if there is such an object and it has a key.
+    pub(crate) fn key_at(&self, family: Family, index: usize) -> Option<&Key>
+        ensures { option_copied result ≡ option_and_then (λ k. k.key) (slice_get (those_of family (map shown self.now)) index) }
+    {
+        match self.shared_key_at(family, index) {
+            Some(shared) => Some(shared.key()),
+            None => None,
+        }
+    }
+
+    /// Returns the key of the object, as `key_at` does, in the form in which it can have more owners.
+    pub(crate) fn shared_key_at(&self, family: Family, index: usize) -> Option<&SharedKey>
+        ensures { option_copied result ≡ option_and_then (λ k. k.key) (slice_get (those_of family (map shown self.now)) index) }
+    {
+        match self.get(family, index) {
+            Some(object) => object.key.as_ref(),
+            None => None,
+        }
+    }
+
+    /// Returns the position in the family of the object with the `@id`, if there is such an object and it is of the family.
+    pub(crate) fn position_in(&self, family: Family, id: &str) -> Option<usize>
+        ensures { result ≡ number_among (map shown self.now) family id.now }
     {
         let (own, index) = self.position_of_id(id)?;
-        if own != family {
-            return None;
-        }
-        self.get(family, index)
+        if own == family { Some(index) } else { None }
     }
 
     /// Returns the position of the object of the family with the key, if there is one.

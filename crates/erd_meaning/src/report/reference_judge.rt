@@ -6,7 +6,6 @@ ghost use Rattle.erd_check.specs.Trees.{IsTree};
 ghost use Rattle.erd_check.specs.code.Paths.{steps_of};
 ghost use Rattle.erd_check.specs.code.Walk.{faults_of};
 ghost use Rattle.erd_meaning.specs.LaterFaults.{ReferenceFault};
-ghost use Rattle.erd_meaning.specs.code.ObjectIndexes.{number_among};
 ghost use Rattle.erd_meaning.specs.code.ObjectWalk.{kept_objects};
 ghost use Rattle.erd_meaning.specs.code.Resolved.{IsIdentified};
 ghost use Rattle.erd_meaning.specs.code.ReferenceReasons.{id_reasons, is_selection_elsewhere, is_selection_family};
@@ -131,16 +130,8 @@ fn is_elsewhere(objects: &ObjectTable, family: Family, index: usize, object: &Va
     if family != Family::Selection {
         return false;
     }
-    match position_of(objects, Family::Contest, text_at(object, "ContestId")) {
+    match objects.position_in(Family::Contest, text_at(object, "ContestId")) {
         Some(contest) => !objects.is_in_contest(contest, index),
         None => false,
     }
-}
-
-/// Returns the position in the family of the object with the `@id`, if the object is of the family.
-fn position_of(objects: &ObjectTable, family: Family, id: &str) -> Option<usize>
-    ensures { result ≡ number_among (map shown objects.now) family id.now }
-{
-    let (own, index) = objects.position_of_id(id)?;
-    if own == family { Some(index) } else { None }
 }

@@ -9,15 +9,17 @@ ghost use Rattle.erd_check.specs.Trees.{IsTree};
 ghost use Rattle.erd_meaning.specs.Accepted.{IsAccepted, IsFault};
 ghost use Rattle.erd_meaning.specs.LaterFaults.{IdentityFault, ReferenceFault, SelectionFault};
 ghost use Rattle.erd_meaning.specs.code.ObjectWalk.{election_keys, kept_objects};
+ghost use Rattle.erd_meaning.specs.code.RankedNames.{AllAreRanked, names_of};
 ghost use Rattle.erd_meaning.specs.code.Resolved.{AreNames, IsIdentified, IsReferred, IsResolved, IsToldApart};
 ghost use Rattle.erd_meaning.specs.code.Shown.{shown};
 
 use crate::keys::key_rule::KeyRule;
-use crate::names::held_name::HeldName;
+use crate::names::ranked_name::RankedName;
 use crate::names::selection_walk::{SelectionWalk, meet_selections};
 use crate::objects::election_table::ElectionTable;
 use crate::objects::holders::Holders;
 use crate::objects::object_walk::{ObjectWalk, meet_report};
+use crate::objects::ranked_objects::RankedObjects;
 use crate::objects::table::ObjectTable;
 use crate::report::reference_judge::reference_faults;
 use crate::report::{Elections, Indexes, Report};
@@ -68,6 +70,7 @@ pub fn resolve_with<'a>(
     let keys = KeyRule { alloc, prefer };
     let (objects, elections) = objects_told_apart(&keys, tree)?;
     check_references(&keys, tree, &objects)?;
+    let objects = RankedObjects::of(alloc, objects)?;
     let names = names_told_apart(&keys, tree, &objects)?;
     Ok(indexed(&keys, tree, objects, names, elections)?)
 }
@@ -76,11 +79,12 @@ pub fn resolve_with<'a>(
 fn indexed<'a>(
     keys: &KeyRule,
     tree: &'a Value,
-    objects: ObjectTable<'a>,
-    names: IndexSet<(usize, HeldName<'a>)>,
+    objects: RankedObjects<'a>,
+    names: IndexSet<(usize, RankedName)>,
     elections: ElectionTable<'a>,
 ) -> Result<Report<'a>, AllocError>
-    requires resolved { IsResolved keys.now tree.now objects names.keys }
+    requires resolved { IsResolved keys.now tree.now objects (names_of names.keys) }
+    requires ranked { AllAreRanked (map shown objects) names.keys }
     requires elections { elections ≡ election_keys keys.now (view tree.now) }
     ensures tree { IfOk result (λ r. r.tree ≡ tree.now) }
     ensures prefer { IfOk result (λ r. r.prefer ≡ keys.now) }
@@ -155,17 +159,18 @@ fn check_references(keys: &KeyRule, tree: &Value, objects: &ObjectTable) -> Resu
 }
 
 /// Returns the names of the selections of a report, or its faults of selections.
-fn names_told_apart<'a>(
+fn names_told_apart(
     keys: &KeyRule,
     tree: &Value,
-    objects: &ObjectTable,
-) -> Result<IndexSet<(usize, HeldName<'a>)>, CheckError>
+    objects: &RankedObjects,
+) -> Result<IndexSet<(usize, RankedName)>, CheckError>
     requires kept { map shown objects.now ≡ kept_objects keys.now (view tree.now) }
     requires identified { IsIdentified keys.now tree.now }
     requires faultless { IsFaultless tree.now }
     requires whole { has_float (view tree.now) ≡ false }
     ensures told_apart { IfOk result (λ _. IsToldApart keys.now tree.now) }
-    ensures named { IfOk result (λ names. AreNames keys.now (view tree.now) names.keys) }
+    ensures named { IfOk result (λ names. AreNames keys.now (view tree.now) (names_of names.keys)) }
+    ensures ranked { IfOk result (λ names. AllAreRanked (map shown objects.now) names.keys) }
     ensures refused { IfErr result (RefusedFor (SelectionFault keys.now (view tree.now))) }
 {
     let mut walk = SelectionWalk {

@@ -8,7 +8,8 @@ use Rattle.std.proofs.lemmas.Cmp.{on_total, tied_itself}
 use Rattle.erd_check.proofs.Order.{In, In-all, all_from_In}
 use Rattle.erd_meaning.proofs.finding.OneObject.{in_at}
 use Rattle.erd_meaning.specs.SelectionNames.{rising_list}
-use Rattle.erd_normal.proofs.lists.RisingSets.{count-rising, count_map, rising-In}
+use Rattle.erd_normal.proofs.lists.RisingSets.{rising-In}
+use Rattle.erd_meaning.proofs.orders.Counted.{count-rising, count_map}
 use Rattle.erd_meaning.proofs.orders.InsertedValues.{less_turned}
 use Rattle.erd_normal.proofs.lists.RisingOrders.{rising_strictly}
 

@@ -19,19 +19,6 @@ any_filter_map-rising cmp f test xs = sym (any_filter_map-reordered f test (reor
 pub length-rising : {A : Type 0} (cmp : A → A → Ordering) (xs : List A) → length (rising_list cmp xs) ≡ length xs
 length-rising cmp xs = sym (length-reordered (reordered_rising cmp xs))
 
--- how many entries pass a test
-pub count-rising : {A : Type 0} (cmp : A → A → Ordering) (test : A → Bool) (xs : List A) → length (filter test (rising_list cmp xs)) ≡ length (filter test xs)
-count-rising cmp test xs = sym (count-reordered test (reordered_rising cmp xs))
-
-count_map_at : {A B : Type 0} (f : A → B) (x : A) (xs : List A) (ys : List B) (b : Bool) → length ys ≡ length xs → length (cond b (f x ∷ ys) ys) ≡ length (cond b (x ∷ xs) xs)
-count_map_at f x xs ys true h = ap suc h
-count_map_at f x xs ys false h = h
-
--- how many values of a map pass a test
-pub count_map : {A B : Type 0} (f : A → B) (test : B → Bool) (xs : List A) → length (filter test (map f xs)) ≡ length (filter (λ x. test (f x)) xs)
-count_map f test [] = refl
-count_map f test (x ∷ xs) = count_map_at f x (filter (λ x. test (f x)) xs) (filter test (map f xs)) (test (f x)) (count_map f test xs)
-
 -- ---- what stands in the list
 
 in_inserted : {A : Type 0} (cmp : A → A → Ordering) (x y : A) (ys : List A) (z : A) (b : Bool) → (In z (with_inserted cmp x ys) → (x ≡ z) ⊎ In z ys)

@@ -17,6 +17,7 @@ use Rattle.erd_check.proofs.Steps.{at_less}
 use Rattle.erd_check.specs.Values.{entries_at}
 use Rattle.erd_check.specs.Wants.{class_of_object}
 use Rattle.erd_meaning.proofs.accepted.Standing.{owned_by}
+use Rattle.erd_meaning.proofs.orders.Counted.{more_pass}
 use Rattle.erd_meaning.proofs.orders.InsertedValues.{is_less}
 use Rattle.erd_meaning.specs.Keys.{Preference, key_cmp, key_of}
 use Rattle.erd_meaning.specs.NameParts.{NameParts}
@@ -24,39 +25,15 @@ use Rattle.erd_meaning.specs.Objects.{Placed, objects, owner}
 use Rattle.erd_meaning.specs.SelectionNames.{class_cmp, key_named, keys_named, keys_of_selection, name_cmp, name_in_class, name_of, rising_list, selection_role}
 use Rattle.erd_meaning.specs.code.NumberedNames.{numbered_name_cmp, numbered_parts}
 use Rattle.erd_meaning.specs.code.NumberedOrders.{numbered_as_named, numbers_as_keys}
+use Rattle.erd_meaning.specs.code.RankedNames.{family_chosen}
 use Rattle.erd_meaning.specs.code.Orders.{classes_exact, key_cmp_exact, key_cmp_total}
 use Rattle.erd_meaning.specs.declared.keys.key.Key.{Key}
 use Rattle.erd_normal.proofs.lists.NumbersInOrder.{numbers_in_order, ranks_climb}
 use Rattle.erd_normal.proofs.lists.RisingSets.{In-from_has, In-rising}
 use Rattle.erd_normal.specs.Canonical.{rank_of}
-use Rattle.erd_normal.specs.code.KeyNumbers.{family_chosen, key_number, number_referred, numbered_name, numbered_name_of, numbers_chosen, numbers_in_name}
+use Rattle.erd_normal.specs.code.KeyNumbers.{key_number, number_referred, numbered_name, numbered_name_of, numbers_chosen, numbers_in_name}
 
 -- ---- ranks
-
-module _ {A : Type 0} (test more : A → Bool) (too : (y : A) → test y ≡ true → more y ≡ true) where
-  no_fewer : (xs : List A) → length (filter test xs) ≤ length (filter more xs)
-  no_fewer [] = omega arith
-  no_fewer (x ∷ xs) = at (test x) (more x) refl refl (no_fewer xs)
-    where
-      at : (a b : Bool) → test x ≡ a → more x ≡ b → length (filter test xs) ≤ length (filter more xs) → length (cond a (x ∷ filter test xs) (filter test xs)) ≤ length (cond b (x ∷ filter more xs) (filter more xs))
-      at true true p q low = omega arith
-      at true false p q low = let clash : false ≡ true = sym q ∙ too x p in cc
-      at false true p q low = omega arith
-      at false false p q low = low
-
-  -- more pass a test that one entry passes which fails the other
-  more_pass : (x : A) (xs : List A) → test x ≡ false → more x ≡ true → In x xs → length (filter test xs) < length (filter more xs)
-  more_pass x [] fails passes h = absurd h
-  more_pass x (y ∷ ys) fails passes h = at (test y) (more y) refl refl h (no_fewer ys) (more_pass x ys fails passes)
-    where
-      at : (a b : Bool) → test y ≡ a → more y ≡ b → In x (y ∷ ys) → length (filter test ys) ≤ length (filter more ys) → (In x ys → length (filter test ys) < length (filter more ys))
-          → length (cond a (y ∷ filter test ys) (filter test ys)) < length (cond b (y ∷ filter more ys) (filter more ys))
-      at true true p q (inl e) low rest = let clash : true ≡ false = sym p ∙ (ap test e ∙ fails) in cc
-      at true true p q (inr i) low rest = let h = rest i in omega (arith, h)
-      at true false p q i low rest = let clash : false ≡ true = sym q ∙ too y p in cc
-      at false true p q i low rest = omega (arith, low)
-      at false false p q (inl e) low rest = let clash : false ≡ true = sym q ∙ (ap more e ∙ passes) in cc
-      at false false p q (inr i) low rest = rest i
 
 in_front : {A : Type 0} (o : Option A) (xs : List A) (x : A) → In x (cons_option o xs) → (o ≡ Some x) ⊎ In x xs
 in_front None xs x h = inr h

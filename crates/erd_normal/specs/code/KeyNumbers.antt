@@ -3,14 +3,12 @@ use Rattle.std.specs.Prelude.{ℕ, ◌+◌, List, [], Option, Some, option_and_t
 use Rattle.std.specs.Option.{option_map_or}
 use Rattle.serde_json.specs.Data.{Data}
 use Rattle.serde_json.specs.Find.{as_str}
-use Rattle.erd_tables.specs.declared.class.Class.{Class}
-use Rattle.erd_tables.specs.declared.class.Class.TheVariants as class
 use Rattle.erd_tables.specs.declared.class.Family.{Family}
-use Rattle.erd_tables.specs.declared.class.Family.TheVariants as family
 use Rattle.erd_meaning.specs.Keys.{Preference}
 use Rattle.erd_meaning.specs.NameParts.{NameParts}
 use Rattle.erd_meaning.specs.SelectionNames.{key_named, name_of}
 use Rattle.erd_meaning.specs.code.NumberedNames.{NumberedParts, numbered_parts}
+use Rattle.erd_meaning.specs.code.RankedNames.{family_chosen}
 use Rattle.erd_meaning.specs.declared.keys.key.Key.{Key}
 use Rattle.erd_normal.specs.Canonical.{rank_of}
 
@@ -21,11 +19,6 @@ key_number π t f k = rank_of π t f (Some k) + 1
 -- The number of the object of the family that the reference names, or none if it names none.
 abbrev pub number_referred : Preference → Data → Family → Data → Option ℕ
 number_referred π t f r = option_map (key_number π t f) (option_and_then (key_named π t f) (as_str r))
-
--- The family of the objects that a selection of the class is for. Only candidates and parties have selections.
-abbrev pub family_chosen : Class → Family
-family_chosen class.PartySelection = family.Party
-family_chosen c = family.Candidate
 
 -- The numbers of the keys in a name.
 abbrev pub numbers_in_name : Preference → Data → NameParts → List ℕ

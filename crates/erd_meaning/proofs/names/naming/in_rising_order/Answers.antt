@@ -1,7 +1,11 @@
-use Rattle.erd_meaning.specs.Keys.{key_cmp}
-use Rattle.erd_meaning.specs.code.Orders.{key_cmp_total}
+use Rattle.std.proofs.Common.{nat_cmp, rules}
+use Rattle.std.proofs.lemmas.Cmp.{nat_cmp_total, on_total}
+use Rattle.std.proofs.lemmas.List.Sorted.{answers_always}
 use Rattle.erd_meaning.proofs.orders.RisingLists.{rising_from_sort}
 use Rattle.erd_meaning.proofs.names.naming.in_rising_order.Goals as goal
 
 pub returns : goal.returns
-returns c = rising_from_sort key_cmp key_cmp_total c.args.keys.items c.sort.new.self.items c.in_ok-sort.ensures.sorted c.in_ok-sort.ensures.stable
+returns c =
+    rising_from_sort (λ a b. nat_cmp a.0 b.0) (on_total (λ a. a.0) nat_cmp_total) c.args.chosen.items c.sort_by_key.new.self.items
+    (c.in_ok-sort_by_key.ensures.sorted (λ a. a.0) (answers_always _ _ _ (λ f a r g called. search rules)))
+    (c.in_ok-sort_by_key.ensures.stable (λ a. a.0) (answers_always _ _ _ (λ f a r g called. search rules)))

@@ -22,12 +22,15 @@ pub meet_contest-requires : goal.meet_contest-requires
 meet_contest-requires c = record {
   whole = whole_entry (codes "Contest") (view c.args.election.now) c.entries_at-entries.result.now c.loop-index.index c.index-entries-index.result c.requires.whole
       c.entries_at-entries.ensures c.loop-index-test.true c.index-entries-index.is;
+  ranked = c.loop-index.invariant.1;
 }
 
 pub loop-index-preserved : goal.loop-index-preserved
-loop-index-preserved c =
-    named_inside (name_among c.args.keys.now (map shown c.args.objects.now)) c.args.first (steps_of c.args.path.now ++ Name (codes "Contest") ∷ []) c.entries_at-entries.result.now c.loop-index.index
-    c.index-entries-index.result (names_met c.loop-index.walk) (names_met c.meet_contest.new.walk) _ c.loop-index-test.true c.index-entries-index.is c.loop-index.invariant c.in_ok-meet_contest.ensures
+loop-index-preserved c = (
+  named_inside (name_among c.args.keys.now (map shown c.args.objects.now)) c.args.first (steps_of c.args.path.now ++ Name (codes "Contest") ∷ []) c.entries_at-entries.result.now c.loop-index.index
+      c.index-entries-index.result (names_met c.loop-index.walk) (names_met c.meet_contest.new.walk) _ c.loop-index-test.true c.index-entries-index.is c.loop-index.invariant.0 c.in_ok-meet_contest.ensures.met,
+  c.in_ok-meet_contest.ensures.ranked,
+)
 
 pub overflow_add-result : goal.overflow_add-result
 overflow_add-result c =
@@ -45,6 +48,6 @@ returns-clause-met c =
     let name = name_among c.args.keys.now (map shown c.args.objects.now) in
     let place = steps_of c.args.path.now ++ Name (codes "Contest") ∷ [] in
     let none : c.args.first + 0 ≡ c.args.first = omega arith in
-    all_named name c.args.first place c.entries_at-entries.result.now c.loop-index.index (names_met c.loop-index.walk) _ c.loop-index-test.false c.loop-index.invariant
+    all_named name c.args.first place c.entries_at-entries.result.now c.loop-index.index (names_met c.loop-index.walk) _ c.loop-index-test.false c.loop-index.invariant.0
     ∙ ap (λ k. named_all name (names_met c.args.walk.now) (numbered_from k (placed_from place 0 (map view c.entries_at-entries.result.now)))) none
     ∙ ap (λ ds. named_all name (names_met c.args.walk.now) (numbered_from c.args.first (placed_from place 0 ds))) c.entries_at-entries.ensures

@@ -1,6 +1,7 @@
 use Rattle.std.proofs.Common.{◌≡◌, drop, map}
 use Rattle.erd_check.specs.code.Paths.{steps_of}
 use Rattle.erd_meaning.specs.code.NamesAmong.{name_among}
+use Rattle.erd_meaning.specs.code.RankedNames.{AllAreRanked}
 use Rattle.erd_meaning.specs.code.SelectionWalk.{named_all}
 use Rattle.erd_meaning.specs.code.Shown.{shown}
 use Rattle.erd_meaning.specs.code.ShownWalks.{names_met}
@@ -9,5 +10,6 @@ use Rattle.erd_meaning.proofs.names.selection_walk.meet_contests.Given as goal
 
 abbrev pub invariant-loop-index : goal.invariant-loop-index
 invariant-loop-index l =
-    named_all (name_among l.keys (map shown l.objects)) (names_met l.walk) (of_contests_from l.first (steps_of l.contests) l.index (drop l.index l.entries))
-    ≡ named_all (name_among l.keys (map shown l.objects)) (names_met l.initial.walk) (of_contests_from l.first (steps_of l.contests) 0 l.entries)
+    (named_all (name_among l.keys (map shown l.objects)) (names_met l.walk) (of_contests_from l.first (steps_of l.contests) l.index (drop l.index l.entries))
+    ≡ named_all (name_among l.keys (map shown l.objects)) (names_met l.initial.walk) (of_contests_from l.first (steps_of l.contests) 0 l.entries))
+    × AllAreRanked (map shown l.objects) l.walk.names.keys

@@ -1,10 +1,10 @@
-use Rattle.std.proofs.Common.{◌≡◌, ◌++◌, Bool, true, false, not, sym, ap, ◌∙◌, append-nil, refl}
-use Rattle.std.specs.List.{list_any}
+use Rattle.std.proofs.Common.{◌≡◌, ◌++◌, Bool, true, false, not, sym, ap, ◌∙◌, append-nil, refl, subst, List}
 use Rattle.erd_tables.specs.declared.fault.Reason.TheVariants.{TwinSelection}
 use Rattle.erd_check.specs.code.Paths.{fault_at, steps_of}
 use Rattle.erd_meaning.specs.code.ObjectWalk.{fault_if}
-use Rattle.erd_meaning.specs.code.SelectionWalk.{NumberedName, added_name, is_taken}
-use Rattle.erd_meaning.proofs.selections.NameTests.{inserted_name, name_test}
+use Rattle.erd_meaning.specs.code.RankedNames.{AllAreRanked, PlacedName, names_of}
+use Rattle.erd_meaning.specs.code.SelectionWalk.{is_taken}
+use Rattle.erd_meaning.proofs.selections.RankedTests.{any_ranked, inserted_names, inserted_ranked}
 use Rattle.erd_meaning.proofs.names.selection_walk.meet_name.Goals as goal
 
 was_there : (b : Bool) → not b ≡ false → b ≡ true
@@ -15,24 +15,28 @@ was_new : (b : Bool) → not b ≡ true → b ≡ false
 was_new true e = cc
 was_new false e = refl
 
-pub returns-in_ok-push_fault : goal.returns-in_ok-push_fault
-returns-in_ok-push_fault c =
+pub returns-in_ok-push_fault-clause-met : goal.returns-in_ok-push_fault-clause-met
+returns-in_ok-push_fault-clause-met c ks all is =
     let before = c.args.walk.now.names.keys in
-    let name = c.own.result in
-    let keys = c.in_ok-insert.ensures.keys ∙ inserted_name before c.args.contest name ∙ ap (added_name before c.args.contest) c.own.ensures in
-    let taken : is_taken before c.args.contest c.args.name ≡ true =
-    ap (is_taken before c.args.contest) (sym c.own.ensures) ∙ sym (ap (λ (test : NumberedName → Bool). list_any test before) (name_test c.args.contest name))
-    ∙ was_there _ (sym c.in_ok-insert.ensures.added ∙ c.if-not-branch.true) in
+    let names = ap names_of c.in_ok-insert.ensures.keys ∙ inserted_names ks c.args.contest c.args.name before is all in
+    let taken : is_taken (names_of before) c.args.contest c.args.name.name ≡ true =
+    sym (any_ranked ks c.args.contest c.args.name before is all) ∙ was_there _ (sym c.in_ok-insert.ensures.added ∙ c.if-not-branch.true) in
     let told = c.in_ok-push_fault.ensures ∙ ap (λ b. c.args.walk.now.faults.items ++ fault_if b (fault_at (steps_of c.args.path.now) TwinSelection)) (sym taken) in
-    λ i. record { names = keys i; faults = told i }
+    λ i. record { names = names i; faults = told i }
 
-pub returns-else-not-branch : goal.returns-else-not-branch
-returns-else-not-branch c =
+pub returns-in_ok-push_fault-clause-ranked : goal.returns-in_ok-push_fault-clause-ranked
+returns-in_ok-push_fault-clause-ranked c ks all is =
+    subst (λ (names : List PlacedName). AllAreRanked ks names) (sym c.in_ok-insert.ensures.keys) (inserted_ranked ks c.args.contest c.args.name c.args.walk.now.names.keys is all)
+
+pub returns-else-not-branch-clause-met : goal.returns-else-not-branch-clause-met
+returns-else-not-branch-clause-met c ks all is =
     let before = c.args.walk.now.names.keys in
-    let name = c.own.result in
-    let keys = c.in_ok-insert.ensures.keys ∙ inserted_name before c.args.contest name ∙ ap (added_name before c.args.contest) c.own.ensures in
-    let taken : is_taken before c.args.contest c.args.name ≡ false =
-    ap (is_taken before c.args.contest) (sym c.own.ensures) ∙ sym (ap (λ (test : NumberedName → Bool). list_any test before) (name_test c.args.contest name))
-    ∙ was_new _ (sym c.in_ok-insert.ensures.added ∙ c.if-not-branch.false) in
+    let names = ap names_of c.in_ok-insert.ensures.keys ∙ inserted_names ks c.args.contest c.args.name before is all in
+    let taken : is_taken (names_of before) c.args.contest c.args.name.name ≡ false =
+    sym (any_ranked ks c.args.contest c.args.name before is all) ∙ was_new _ (sym c.in_ok-insert.ensures.added ∙ c.if-not-branch.false) in
     let told = sym (append-nil c.args.walk.now.faults.items) ∙ ap (λ b. c.args.walk.now.faults.items ++ fault_if b (fault_at (steps_of c.args.path.now) TwinSelection)) (sym taken) in
-    λ i. record { names = keys i; faults = told i }
+    λ i. record { names = names i; faults = told i }
+
+pub returns-else-not-branch-clause-ranked : goal.returns-else-not-branch-clause-ranked
+returns-else-not-branch-clause-ranked c ks all is =
+    subst (λ (names : List PlacedName). AllAreRanked ks names) (sym c.in_ok-insert.ensures.keys) (inserted_ranked ks c.args.contest c.args.name c.args.walk.now.names.keys is all)

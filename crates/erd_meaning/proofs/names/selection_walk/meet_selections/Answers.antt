@@ -18,31 +18,35 @@ abbrev elections : List Step
 elections = Name (codes "Election") ∷ []
 
 pub loop-index-init : goal.loop-index-init
-loop-index-init c = all_left (name_among c.args.keys.now (map shown c.args.objects.now)) elections c.entries_at-election-items.result.now (names_met c.args.walk.now)
+loop-index-init c = (all_left (name_among c.args.keys.now (map shown c.args.objects.now)) elections c.entries_at-election-items.result.now (names_met c.args.walk.now), c.requires.ranked)
 
 pub meet_contests-requires : goal.meet_contests-requires
 meet_contests-requires c =
     let report = view c.args.report.now in
     let all : length (contests_from elections 0 c.entries_at-election-items.result.now) ≡ length (contests report) = ap length (contests_are report c.entries_at-election-items.result.now c.entries_at-election-items.ensures) in
-    let word : c.count-count.result ≡ length (contests report) = c.count-count.ensures ∙ counted_kept c.args.keys.now report (map shown c.args.objects.now) Contest c.requires.kept in
+    let word : c.count-count.result ≡ length (contests report) =
+    c.count-count.ensures ∙ counted_kept c.args.keys.now report (map shown c.table.result.now) Contest (ap (map shown) c.table.ensures ∙ c.requires.kept) in
     let within = within_all (name_among c.args.keys.now (map shown c.args.objects.now)) elections c.entries_at-election-items.result.now (names_met c.args.walk.now) (names_met c.loop-index.walk)
-    c.loop-index.index c.loop-index.number c.election-item.result c.loop-index-test.true c.election-item.is c.loop-index.invariant in
+    c.loop-index.index c.loop-index.number c.election-item.result c.loop-index-test.true c.election-item.is c.loop-index.invariant.0 in
     record {
       few = omega (arith, all, word, within, c.count-count.auto);
       whole = whole_entry (codes "Election") report c.entries_at-election-items.result.now c.loop-index.index c.election-item.result c.requires.whole
           c.entries_at-election-items.ensures c.loop-index-test.true c.election-item.is;
+      ranked = c.loop-index.invariant.1;
     }
 
 pub loop-index-preserved : goal.loop-index-preserved
-loop-index-preserved c =
-    election_left (name_among c.args.keys.now (map shown c.args.objects.now)) elections c.entries_at-election-items.result.now (names_met c.args.walk.now) (names_met c.loop-index.walk)
-    (names_met c.meet_contests.new.walk) c.loop-index.index c.loop-index.number c.in_ok-number.number c.election-item.result c.loop-index-test.true c.election-item.is c.loop-index.invariant
-    c.in_ok-number.ensures.next c.in_ok-number.ensures.met
+loop-index-preserved c = (
+  election_left (name_among c.args.keys.now (map shown c.args.objects.now)) elections c.entries_at-election-items.result.now (names_met c.args.walk.now) (names_met c.loop-index.walk)
+      (names_met c.meet_contests.new.walk) c.loop-index.index c.loop-index.number c.in_ok-number.number c.election-item.result c.loop-index-test.true c.election-item.is c.loop-index.invariant.0
+      c.in_ok-number.ensures.next c.in_ok-number.ensures.met,
+  c.in_ok-number.ensures.ranked,
+)
 
-pub returns : goal.returns
-returns c =
+pub returns-clause-met : goal.returns-clause-met
+returns-clause-met c =
     let report = view c.args.report.now in
     let name = name_among c.args.keys.now (map shown c.args.objects.now) in
     none_left name elections c.entries_at-election-items.result.now (names_met c.args.walk.now) (names_met c.loop-index.walk) c.loop-index.index c.loop-index.number
-    c.loop-index-test.false c.loop-index.invariant
+    c.loop-index-test.false c.loop-index.invariant.0
     ∙ ap (λ cs. named_all name (names_met c.args.walk.now) (numbered_from 0 cs)) (contests_are report c.entries_at-election-items.result.now c.entries_at-election-items.ensures)

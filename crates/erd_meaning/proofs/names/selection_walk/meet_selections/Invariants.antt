@@ -1,6 +1,7 @@
 use Rattle.std.proofs.Common.{map}
 use Rattle.erd_check.specs.code.Paths.{steps_of}
 use Rattle.erd_meaning.specs.code.NamesAmong.{name_among}
+use Rattle.erd_meaning.specs.code.RankedNames.{AllAreRanked}
 use Rattle.erd_meaning.specs.code.Shown.{shown}
 use Rattle.erd_meaning.specs.code.ShownWalks.{names_met}
 use Rattle.erd_meaning.proofs.selections.MetSelections.{ElectionsLeft}
@@ -9,3 +10,4 @@ use Rattle.erd_meaning.proofs.names.selection_walk.meet_selections.Given as goal
 abbrev pub invariant-loop-index : goal.invariant-loop-index
 invariant-loop-index l =
     ElectionsLeft (name_among l.keys (map shown l.objects)) (steps_of l.elections) l.election-items (names_met l.initial.walk) (names_met l.walk) l.index l.number
+    × AllAreRanked (map shown l.objects) l.walk.names.keys

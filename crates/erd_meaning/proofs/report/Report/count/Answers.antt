@@ -4,4 +4,4 @@ use Rattle.erd_meaning.proofs.report.Report.count.Goals as goal
 
 pub returns : goal.returns
 returns c =
-    c.count.ensures ∙ counted c.args.self.now.prefer c.args.self.now.tree c.indexes.result.now.objects c.indexes.result.now.names.keys c.args.family c.indexes.ensures
+    c.count.ensures ∙ counted c.args.self.now.prefer c.args.self.now.tree c.objects.result.now c.objects.ensures.0 c.args.family c.objects.ensures.1

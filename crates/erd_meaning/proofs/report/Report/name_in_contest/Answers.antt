@@ -33,7 +33,7 @@ returns-in_err-checked_add c =
     let k = c.args.contest in
     let i = c.args.index in
     let r = c.first_selection-start.result in
-    let start : IsStart (counts_of (numbered_selections t)) k r = subst (λ ns. IsStart ns k r) (ap (contests_before 0) c.indexes.ensures.kept ∙ contests_counted_in π t) c.first_selection-start.ensures in
+    let start : IsStart (counts_of (numbered_selections t)) k r = subst (λ ns. IsStart ns k r) (ap (contests_before 0) c.objects.ensures.1.kept ∙ contests_counted_in π t) c.first_selection-start.ensures in
     let bound : c.count-count.result < 2 ^ 64 = c.count-count.type_inv in
     let few : length (objects family.Selection t) < 2 ^ 64 = subst (λ n. n < 2 ^ 64) c.count-count.ensures bound in
     let past : length (objects family.Selection t) ≤ r + i = omega (arith, few, c.in_err-checked_add.ensures) in
@@ -46,7 +46,7 @@ returns-in_err-own c =
     let k = c.args.contest in
     let i = c.args.index in
     let r = c.first_selection-start.result in
-    let start : IsStart (counts_of (numbered_selections t)) k r = subst (λ ns. IsStart ns k r) (ap (contests_before 0) c.indexes.ensures.kept ∙ contests_counted_in π t) c.first_selection-start.ensures in
+    let start : IsStart (counts_of (numbered_selections t)) k r = subst (λ ns. IsStart ns k r) (ap (contests_before 0) c.objects.ensures.1.kept ∙ contests_counted_in π t) c.first_selection-start.ensures in
     let place : c.in_ok-checked_add.field-0 ≡ r + i = c.in_ok-checked_add.ensures.1 in
     let none : selection_in π t (r + i) ≡ None = ap (selection_in π t) (sym place) ∙ sym c.selection_at.ensures ∙ ap (option_map (λ s. (s.0, s.1.now))) c.in_err-own.was in
     ap option_copied c.from_residual-in_err-own.ensures ∙ sym (ap (option_and_then (own_name k)) none) ∙ name_is π t k r i start
@@ -58,7 +58,7 @@ returns-then-own-contest c =
     let k = c.args.contest in
     let i = c.args.index in
     let r = c.first_selection-start.result in
-    let start : IsStart (counts_of (numbered_selections t)) k r = subst (λ ns. IsStart ns k r) (ap (contests_before 0) c.indexes.ensures.kept ∙ contests_counted_in π t) c.first_selection-start.ensures in
+    let start : IsStart (counts_of (numbered_selections t)) k r = subst (λ ns. IsStart ns k r) (ap (contests_before 0) c.objects.ensures.1.kept ∙ contests_counted_in π t) c.first_selection-start.ensures in
     let place : c.in_ok-checked_add.field-0 ≡ r + i = c.in_ok-checked_add.ensures.1 in
     let one : selection_in π t (r + i) ≡ Some (c.in_ok-own.own, c.in_ok-own.name.now) = ap (selection_in π t) (sym place) ∙ sym c.selection_at.ensures ∙ ap (option_map (λ s. (s.0, s.1.now))) c.in_ok-own.was in
     sym (ap (λ b. cond b (Some c.in_ok-own.name.now) None) (same_number c.in_ok-own.own k c.if-own-contest.true)) ∙ sym (ap (option_and_then (own_name k)) one) ∙ name_is π t k r i start
@@ -70,7 +70,7 @@ returns-else-own-contest c =
     let k = c.args.contest in
     let i = c.args.index in
     let r = c.first_selection-start.result in
-    let start : IsStart (counts_of (numbered_selections t)) k r = subst (λ ns. IsStart ns k r) (ap (contests_before 0) c.indexes.ensures.kept ∙ contests_counted_in π t) c.first_selection-start.ensures in
+    let start : IsStart (counts_of (numbered_selections t)) k r = subst (λ ns. IsStart ns k r) (ap (contests_before 0) c.objects.ensures.1.kept ∙ contests_counted_in π t) c.first_selection-start.ensures in
     let place : c.in_ok-checked_add.field-0 ≡ r + i = c.in_ok-checked_add.ensures.1 in
     let one : selection_in π t (r + i) ≡ Some (c.in_ok-own.own, c.in_ok-own.name.now) = ap (selection_in π t) (sym place) ∙ sym c.selection_at.ensures ∙ ap (option_map (λ s. (s.0, s.1.now))) c.in_ok-own.was in
     sym (ap (λ b. cond b (Some c.in_ok-own.name.now) None) (other_number c.in_ok-own.own k c.if-own-contest.false)) ∙ sym (ap (option_and_then (own_name k)) one) ∙ name_is π t k r i start

@@ -7,4 +7,4 @@ use Rattle.erd_meaning.proofs.report.Report.target.Goals as goal
 pub returns : goal.returns
 returns c =
     subst (FindsId (view c.args.self.now.tree) c.args.id.now) (sym c.position_of_id.ensures)
-    (finds_id c.args.self.now.prefer c.args.self.now.tree c.indexes.result.now.objects c.indexes.result.now.names.keys c.args.id.now c.indexes.ensures)
+    (finds_id c.args.self.now.prefer c.args.self.now.tree c.objects.result.now c.objects.ensures.0 c.args.id.now c.objects.ensures.1)

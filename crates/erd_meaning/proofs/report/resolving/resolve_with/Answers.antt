@@ -4,7 +4,8 @@ use Rattle.std.proofs.lemmas.Result.{err_from_is_err_and}
 use Rattle.serde_json.specs.View.{view}
 use Rattle.serde_json.specs.declared.value.Value.{Value}
 use Rattle.erd_check.specs.Refusals.{RefusedFor}
-use Rattle.erd_meaning.specs.Accepted.{IsFault}
+use Rattle.erd_meaning.specs.Accepted.{IsAccepted, IsFault}
+use Rattle.erd_meaning.proofs.accepted.Phases.{accepted_by_phases}
 use Rattle.erd_meaning.proofs.refused.Refused.{refused_for_identity, refused_for_references, refused_for_selections}
 use Rattle.erd_meaning.proofs.report.resolving.resolve_with.Goals as goal
 
@@ -33,3 +34,9 @@ returns-in_err-names-clause-refused c =
     refused_for_selections (option_copied c.args.prefer) (view t) e c.tree-tree.ensures.faultless c.in_ok-objects.ensures.identified c.in_ok-check_references.ensures.referred c.in_err-names.ensures.refused in
     let p = err_from_is_err_and c.from_residual-in_err-names.result c.from_residual-in_err-names.ensures.1 in
     rw (p.1, p.2) (subst (λ (v : Value). RefusedFor (IsFault (option_copied c.args.prefer) (view v)) e) c.tree-tree.ensures.tree refused)
+
+pub returns-clause-accepted : goal.returns-clause-accepted
+returns-clause-accepted c =
+    subst (λ (v : Value). IsAccepted (option_copied c.args.prefer) (view v)) c.tree-tree.ensures.tree
+    (accepted_by_phases (option_copied c.args.prefer) (view c.tree-tree.result.now) c.tree-tree.ensures.faultless c.in_ok-objects.ensures.identified c.in_ok-check_references.ensures.referred
+    c.in_ok-names.ensures.told_apart)

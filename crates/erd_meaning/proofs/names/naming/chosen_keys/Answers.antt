@@ -1,0 +1,19 @@
+use Rattle.std.proofs.Common.{◌≡◌, IfOk, ℕ, List, map, nat_cmp, ap, ◌∙◌, subst}
+use Rattle.serde_json.specs.View.{view}
+use Rattle.erd_meaning.specs.SelectionNames.{rising_list}
+use Rattle.erd_meaning.specs.code.NamesAmong.{selection_keys_among}
+use Rattle.erd_meaning.specs.code.RankedNames.{family_chosen, ranked_key}
+use Rattle.erd_meaning.specs.code.Shown.{shown}
+use Rattle.erd_meaning.specs.declared.keys.key.Key.{Key}
+use Rattle.erd_meaning.proofs.selections.RankedKeys.{chosen_known, ranked_in_order}
+use Rattle.erd_meaning.proofs.names.naming.chosen_keys.Goals as goal
+
+pub returns : goal.returns
+returns c =
+    let ks = map shown c.args.objects.now in
+    let f = family_chosen c.args.class in
+    let keys = selection_keys_among ks c.args.class (view c.args.selection.now) in
+    subst (λ (found : List (ℕ × Key)). IfOk c.in_rising_order.result (λ rising. rising.items ≡ found))
+    (ap (rising_list (λ a b. nat_cmp a.0 b.0)) (c.in_ok-chosen.ensures ∙ ap (map (ranked_key ks f)) (c.references_chosen-references.ensures ks))
+    ∙ ranked_in_order ks f keys (chosen_known ks c.args.class (view c.args.selection.now)))
+    c.in_rising_order.ensures

@@ -1,0 +1,27 @@
+use Rattle.std.proofs.Common.{Option, map, sym, ap, ◌∙◌}
+use Rattle.std.proofs.lemmas.Result.{IfOk-weaker}
+use Rattle.std.specs.Option.{option_map_or}
+use Rattle.serde_json.specs.View.{view}
+use Rattle.erd_check.specs.code.Paths.{steps_of}
+use Rattle.erd_meaning.specs.NameParts.{NameParts}
+use Rattle.erd_meaning.specs.code.SelectionWalk.{with_name}
+use Rattle.erd_meaning.specs.code.Shown.{shown}
+use Rattle.erd_meaning.specs.code.ShownWalks.{names_met}
+use Rattle.erd_meaning.proofs.selections.RankedKeys.{ranked_name_is}
+use Rattle.erd_meaning.proofs.names.selection_walk.meet_selection.Goals as goal
+
+pub returns-in-Some-clause-met : goal.returns-in-Some-clause-met
+returns-in-Some-clause-met c =
+    let ks = map shown c.args.objects.now in
+    let name = c.in-Some.name in
+    let is = ranked_name_is ks c.args.keys.now (view c.args.selection.now) name (sym c.in_ok-name.ensures ∙ c.in-Some.is) in
+    let before = names_met c.args.walk.now in
+    IfOk-weaker c.meet_name.result _ _
+    (λ _ met. met ks c.requires.ranked is.0 ∙ sym (ap (λ (o : Option NameParts). option_map_or (with_name before (steps_of c.args.path.now) c.args.contest) o before) is.1))
+    c.meet_name.ensures.met
+
+pub returns-in-Some-clause-ranked : goal.returns-in-Some-clause-ranked
+returns-in-Some-clause-ranked c =
+    let ks = map shown c.args.objects.now in
+    let is = ranked_name_is ks c.args.keys.now (view c.args.selection.now) c.in-Some.name (sym c.in_ok-name.ensures ∙ c.in-Some.is) in
+    IfOk-weaker c.meet_name.result _ _ (λ _ all. all ks c.requires.ranked is.0) c.meet_name.ensures.ranked

@@ -1,0 +1,269 @@
+-- The ranks of keys are in the order of the keys, wherever objects of the family have the keys. The keys in the name of a
+-- selection are those of objects.
+use Rattle.std.proofs.Common.{◌≡◌, ◌<◌, ℕ, inl, inr, List, [], ◌∷◌, map, filter, length, find, Bool, true, false, cond, Option, Some, None, is_some, option_and_then, option_map, codes, Ordering, Less, Equal, Greater, nat_cmp, is_lt, is_eq, refl, sym, ap, ap₂, ◌∙◌, subst}
+use Rattle.std.proofs.lemmas.Option.{slice_get-map}
+use Rattle.std.proofs.lemmas.Simd.{map-map}
+use Rattle.std.proofs.lemmas.Cmp.{nat_cmp_total, on_total, tied_itself}
+use Rattle.std.specs.Cmp.{IsTotalOrder}
+use Rattle.std.specs.Cmp.Lexicographic.{options_total}
+use Rattle.std.specs.List.{AllByRecursion, cons_option, list_all, position, slice_get}
+use Rattle.std.specs.Option.{option_cmp, option_copied}
+use Rattle.std.specs.Ordering.{ordering_reverse}
+use Rattle.serde_json.specs.Data.{Data}
+use Rattle.serde_json.specs.Find.{as_str}
+use Rattle.erd_tables.specs.declared.class.Class.{Class}
+use Rattle.erd_tables.specs.declared.class.Class.TheVariants as class
+use Rattle.erd_tables.specs.declared.class.Family.{Family}
+use Rattle.erd_tables.specs.declared.class.Family.TheVariants as family
+use Rattle.erd_check.proofs.Order.{In}
+use Rattle.erd_check.proofs.Reasons.{and_true, both_true}
+use Rattle.erd_check.proofs.Steps.{at_less}
+use Rattle.erd_check.specs.Values.{entries_at}
+use Rattle.erd_check.specs.Wants.{class_of_object}
+use Rattle.erd_meaning.specs.Keys.{Preference, key_cmp, key_of}
+use Rattle.erd_meaning.specs.NameParts.{NameParts}
+use Rattle.erd_meaning.specs.SelectionNames.{is_write_in, label_of_selection, order_of_selection, rising_list, selection_role}
+use Rattle.erd_meaning.specs.code.NamesAmong.{class_name_among, key_among, keys_among, name_among, selection_keys_among}
+use Rattle.erd_meaning.specs.code.ObjectIndexes.{number_of_key, rank}
+use Rattle.erd_meaning.specs.code.ObjectLookups.{is_keyed, is_of_family, keeps_id, those_of}
+use Rattle.erd_meaning.specs.code.ObjectWalk.{Kept, same_key}
+use Rattle.erd_meaning.specs.code.Orders.{key_cmp_exact, key_cmp_total}
+use Rattle.erd_meaning.specs.code.RankedNames.{AreRanks, IsRanked, RankedParts, family_chosen, has_keys_among, is_key_among, lent_key_cmp, rank_among, ranked_key, ranked_name_among, ranked_parts}
+use Rattle.erd_meaning.specs.declared.keys.key.Key.{Key}
+use denote.Ref.{Bor}
+use Rattle.erd_meaning.proofs.finding.Lookups.{ranked}
+use Rattle.erd_meaning.proofs.finding.OneObject.{hit, in_at, missed}
+use Rattle.erd_meaning.proofs.identity.KeyTests.{same_key_from}
+use Rattle.erd_meaning.proofs.orders.Counted.{count-rising, count_map, more_pass}
+use Rattle.erd_meaning.proofs.orders.InsertedValues.{is_less}
+use Rattle.erd_meaning.proofs.orders.RisingAlike.{all_rising, rising_alike}
+use Rattle.erd_meaning.proofs.orders.RisingLists.{rising_list_map}
+
+-- the order of borrowed keys
+pub lent_key_cmp_total : IsTotalOrder lent_key_cmp
+lent_key_cmp_total = options_total (on_total (λ k. k.now) key_cmp_total)
+
+copied_cmp : (k l : Option (Bor Key)) → lent_key_cmp k l ≡ option_cmp key_cmp (option_copied k) (option_copied l)
+copied_cmp None None = refl
+copied_cmp None (Some l) = refl
+copied_cmp (Some k) None = refl
+copied_cmp (Some k) (Some l) = refl
+
+-- what holds of each entry, as a test
+pub all_pass : {A : Type 0} (test : A → Bool) (xs : List A) → AllByRecursion (λ x. test x ≡ true) xs → list_all test xs ≡ true
+all_pass test [] h = refl
+all_pass test (x ∷ xs) h = both_true (test x) (list_all test xs) h.0 (all_pass test xs h.1)
+
+pub each_passes : {A : Type 0} (test : A → Bool) (xs : List A) → list_all test xs ≡ true → AllByRecursion (λ x. test x ≡ true) xs
+each_passes test [] h = tt
+each_passes test (x ∷ xs) h = let both = and_true (test x) (list_all test xs) h in (both.0, each_passes test xs both.1)
+
+found_in : {A : Type 0} (test : A → Bool) (xs : List A) (x : A) → find test xs ≡ Some x → In x xs
+found_in test [] x e = cc
+found_in {A} test (y ∷ ys) x e = at (test y) e (found_in test ys x)
+  where
+    at : (b : Bool) → cond b (Some y) (find test ys) ≡ Some x → (find test ys ≡ Some x → In x ys) → In x (y ∷ ys)
+    at true h more = let same : y ≡ x = cc in inl same
+    at false h more = inr (more h)
+
+module _ (ks : List Kept) (f : Family) where
+  -- ---- keys of objects
+
+  -- an object of the family has the key, and stands at this position
+  pub record IsKeyAt (key : Key) (i : ℕ) : Type 0 where
+    pub owner : Kept
+    pub place : slice_get (those_of f ks) i ≡ Some owner
+    pub keyed : owner.key ≡ Some key
+
+  -- the key is that of an object
+  abbrev pub IsKeyAmong : Key → Type 0
+  IsKeyAmong key = is_key_among ks f key ≡ true
+
+  pub key_at_number : (key : Key) (i : ℕ) → number_of_key ks f key ≡ Some i → IsKeyAt key i
+  key_at_number key i e = at (position (is_keyed f key) ks) refl e
+    where
+      at : (o : Option ℕ) → position (is_keyed f key) ks ≡ o → option_map (rank f ks) o ≡ Some i → IsKeyAt key i
+      at None is h = cc
+      at (Some n) is h =
+          let there = hit (is_keyed f key) ks n is in
+          let both = and_true (is_of_family f there.one) (same_key there.one.key (Some key)) there.passes in
+          let same = same_key_from there.one.key (Some key) both.1 in
+          let number : rank f ks n ≡ i = cc in
+          record { owner = there.one; place = ap (slice_get (those_of f ks)) (sym number) ∙ ranked f ks n there.one there.at both.0; keyed = same.1 ∙ sym same.2 }
+
+  key_at : (key : Key) → IsKeyAmong key → (i : ℕ) × IsKeyAt key i
+  key_at key h = at (number_of_key ks f key) refl h
+    where
+      at : (o : Option ℕ) → number_of_key ks f key ≡ o → is_some o ≡ true → (i : ℕ) × IsKeyAt key i
+      at None is e = cc
+      at (Some i) is e = (i, key_at_number key i is)
+
+  -- ---- ranks
+
+  abbrev below : Key → Kept → Bool
+  below key k = is_lt (option_cmp key_cmp k.key (Some key))
+
+  below_later : (k l : Key) → key_cmp k l ≡ Less → (o : Kept) → below k o ≡ true → below l o ≡ true
+  below_later k l less o h = at o.key h
+    where
+      at : (key : Option Key) → is_lt (option_cmp key_cmp key (Some k)) ≡ true → is_lt (option_cmp key_cmp key (Some l)) ≡ true
+      at None e = refl
+      at (Some j) e = ap is_lt (key_cmp_total.trans j k l (is_less (key_cmp j k) e) less)
+
+  rank_grows : (k l : Key) → IsKeyAmong k → key_cmp k l ≡ Less → rank_among ks f (Some k) < rank_among ks f (Some l)
+  rank_grows k l has less =
+      let at = (key_at k has).1 in
+      let i = (key_at k has).0 in
+      more_pass (below k) (below l) (below_later k l less) at.owner (those_of f ks)
+      (ap (λ key. is_lt (option_cmp key_cmp key (Some k))) at.keyed ∙ ap is_lt (tied_itself key_cmp_total k))
+      (ap (λ key. is_lt (option_cmp key_cmp key (Some l))) at.keyed ∙ ap is_lt less)
+      (in_at (those_of f ks) i at.owner at.place)
+
+  -- ranks compare as the keys do
+  pub rank_as_key : (k l : Key) → IsKeyAmong k → IsKeyAmong l → nat_cmp (rank_among ks f (Some k)) (rank_among ks f (Some l)) ≡ key_cmp k l
+  rank_as_key k l has other = at (key_cmp k l) refl
+    where
+      at : (o : Ordering) → key_cmp k l ≡ o → nat_cmp (rank_among ks f (Some k)) (rank_among ks f (Some l)) ≡ o
+      at Less is = at_less (rank_among ks f (Some k)) (rank_among ks f (Some l)) (rank_grows k l has is)
+      at Equal is = ap (λ x. nat_cmp (rank_among ks f (Some k)) (rank_among ks f (Some x))) (sym (key_cmp_exact k l is)) ∙ tied_itself nat_cmp_total (rank_among ks f (Some k))
+      at Greater is =
+          let turned : nat_cmp (rank_among ks f (Some l)) (rank_among ks f (Some k)) ≡ Less =
+          at_less (rank_among ks f (Some l)) (rank_among ks f (Some k)) (rank_grows l k other (key_cmp_total.antisymm l k ∙ ap ordering_reverse is)) in
+          nat_cmp_total.antisymm (rank_among ks f (Some k)) (rank_among ks f (Some l)) ∙ ap ordering_reverse turned
+
+  -- keys with their ranks, sorted by these
+  pub ranked_in_order : (keys : List Key) → AllByRecursion IsKeyAmong keys → rising_list (λ a b. nat_cmp a.0 b.0) (map (ranked_key ks f) keys) ≡ map (ranked_key ks f) (rising_list key_cmp keys)
+  ranked_in_order keys known =
+      sym (rising_list_map (ranked_key ks f) (λ a b. nat_cmp a.0 b.0) keys)
+      ∙ ap (map (ranked_key ks f)) (rising_alike IsKeyAmong (λ k l. nat_cmp (rank_among ks f (Some k)) (rank_among ks f (Some l))) key_cmp rank_as_key keys known)
+
+  -- the rank at the position of an object with a key
+  pub rank_there : (key : Key) (i : ℕ) (ranks : List ℕ) → AreRanks ks f ranks → option_and_then (λ k. k.key) (slice_get (those_of f ks) i) ≡ Some key
+      → slice_get ranks i ≡ Some (rank_among ks f (Some key))
+  rank_there key i ranks are keyed =
+      ap (λ ns. slice_get ns i) are ∙ slice_get-map (λ (k : Kept). rank_among ks f k.key) (those_of f ks) i ∙ at (slice_get (those_of f ks) i) keyed
+    where
+      at : (o : Option Kept) → option_and_then (λ (k : Kept). k.key) o ≡ Some key → option_map (λ (k : Kept). rank_among ks f k.key) o ≡ Some (rank_among ks f (Some key))
+      at None e = cc
+      at (Some k) e = ap (λ o. Some (rank_among ks f o)) e
+
+  -- and at that which is found by a key
+  pub rank_found : (key : Key) (i : ℕ) (ranks : List ℕ) → AreRanks ks f ranks → number_of_key ks f key ≡ Some i
+      → slice_get ranks i ≡ cond (is_key_among ks f key) (Some (rank_among ks f (Some key))) None
+  rank_found key i ranks are e =
+      let at = key_at_number key i e in
+      rank_there key i ranks are (ap (option_and_then (λ (k : Kept). k.key)) at.place ∙ at.keyed)
+      ∙ sym (ap (λ o. cond (is_some o) (Some (rank_among ks f (Some key))) None) e)
+
+  -- the ranks that are counted among the sorted keys
+  pub ranks_counted : (keys copies rising : List (Option (Bor Key))) (ranks : List ℕ) → map option_copied keys ≡ map (λ k. k.key) (those_of f ks)
+      → map option_copied copies ≡ map (λ k. k.key) (those_of f ks) → rising ≡ rising_list lent_key_cmp copies
+      → ranks ≡ map (λ key. length (filter (λ k. is_lt (lent_key_cmp k key)) rising)) keys → AreRanks ks f ranks
+  ranks_counted keys copies rising ranks are copied sorted counted =
+      counted ∙ each keys
+      ∙ sym (map-map (λ key. rank_among ks f key) option_copied keys)
+      ∙ ap (map (λ key. rank_among ks f key)) are
+      ∙ map-map (λ key. rank_among ks f key) (λ (k : Kept). k.key) (those_of f ks)
+    where
+      one : (key : Option (Bor Key)) → length (filter (λ k. is_lt (lent_key_cmp k key)) rising) ≡ rank_among ks f (option_copied key)
+      one key =
+          ap (λ xs. length (filter (λ k. is_lt (lent_key_cmp k key)) xs)) sorted
+          ∙ count-rising lent_key_cmp (λ k. is_lt (lent_key_cmp k key)) copies
+          ∙ ap (λ (test : Option (Bor Key) → Bool). length (filter test copies)) (λ i k. is_lt (copied_cmp k key i))
+          ∙ sym (count_map option_copied (λ k. is_lt (option_cmp key_cmp k (option_copied key))) copies)
+          ∙ ap (λ xs. length (filter (λ k. is_lt (option_cmp key_cmp k (option_copied key))) xs)) copied
+          ∙ count_map (λ (k : Kept). k.key) (λ k. is_lt (option_cmp key_cmp k (option_copied key))) (those_of f ks)
+
+      each : (ls : List (Option (Bor Key))) → map (λ key. length (filter (λ k. is_lt (lent_key_cmp k key)) rising)) ls ≡ map (λ key. rank_among ks f (option_copied key)) ls
+      each [] = refl
+      each (l ∷ ls) = ap₂ (λ n ns. n ∷ ns) (one l) (each ls)
+
+  -- ---- keys that references name
+
+  key_there : (key : Key) (k : Kept) → In k ks → is_of_family f k ≡ true → k.key ≡ Some key → IsKeyAmong key
+  key_there key k there of_family keyed = at (position (is_keyed f key) ks) refl
+    where
+      same : same_key k.key (Some key) ≡ true
+      same = ap (λ o. same_key o (Some key)) keyed ∙ ap is_eq (tied_itself key_cmp_total key)
+
+      at : (o : Option ℕ) → position (is_keyed f key) ks ≡ o → is_some (option_map (rank f ks) o) ≡ true
+      at None is = absurd (missed (is_keyed f key) ks k is there (both_true (is_of_family f k) (same_key k.key (Some key)) of_family same))
+      at (Some n) is = refl
+
+  referred_known : (id : List ℕ) (key : Key) → key_among ks f id ≡ Some key → IsKeyAmong key
+  referred_known id key e = at (find (keeps_id id) ks) refl e
+    where
+      of : (k : Kept) (b : Bool) → In k ks → is_of_family f k ≡ b → option_and_then (λ (k : Kept). k.key) (cond b (Some k) None) ≡ Some key → IsKeyAmong key
+      of k true there is h = key_there key k there is h
+      of k false there is h = cc
+
+      at : (o : Option Kept) → find (keeps_id id) ks ≡ o → option_and_then (λ (k : Kept). k.key) (option_and_then (λ k. cond (is_of_family f k) (Some k) None) o) ≡ Some key → IsKeyAmong key
+      at None is h = cc
+      at (Some k) is h = of k (is_of_family f k) (found_in (keeps_id id) ks k is) refl h
+
+  by_reference : (id : Option (List ℕ)) (key : Key) → option_and_then (key_among ks f) id ≡ Some key → IsKeyAmong key
+  by_reference None key e = cc
+  by_reference (Some id) key e = referred_known id key e
+
+  pub referred_all : (rs : List Data) → AllByRecursion IsKeyAmong (keys_among ks f rs)
+  referred_all [] = tt
+  referred_all (r ∷ rs) = at (option_and_then (key_among ks f) (as_str r)) refl (referred_all rs)
+    where
+      at : (o : Option Key) → option_and_then (key_among ks f) (as_str r) ≡ o → AllByRecursion IsKeyAmong (keys_among ks f rs) → AllByRecursion IsKeyAmong (cons_option o (keys_among ks f rs))
+      at None is h = h
+      at (Some key) is h = (by_reference (as_str r) key is, h)
+
+-- ---- names
+
+-- the name of a selection of this class with these keys
+abbrev pub name_with : Preference → Class → Data → List Key → NameParts
+name_with π c d keys = record { class = c; keys = keys; write_in = is_write_in c d; order = order_of_selection d; label = label_of_selection c d; identifier = key_of π d }
+
+module _ (ks : List Kept) where
+  pub chosen_known : (c : Class) (d : Data) → AllByRecursion (IsKeyAmong ks (family_chosen c)) (selection_keys_among ks c d)
+  chosen_known class.CandidateSelection d = referred_all ks family.Candidate (entries_at (codes "CandidateIds") d)
+  chosen_known class.PartySelection d = referred_all ks family.Party (entries_at (codes "PartyIds") d)
+  chosen_known c d = tt
+
+  -- a name that is made with the ranks of its keys
+  pub made_ranked : (π : Preference) (d : Data) (n : NameParts) → name_among π ks d ≡ Some n → IsRanked ks (ranked_parts ks n)
+  made_ranked π d n e = at (class_of_object selection_role d) e
+    where
+      at : (o : Option Class) → option_map (λ c. class_name_among π ks c d) o ≡ Some n → IsRanked ks (ranked_parts ks n)
+      at None h = cc
+      at (Some c) h =
+          let same : class_name_among π ks c d ≡ n = cc in
+          let known : has_keys_among ks (class_name_among π ks c d) ≡ true =
+          all_pass (is_key_among ks (family_chosen c)) (rising_list key_cmp (selection_keys_among ks c d))
+          (all_rising (IsKeyAmong ks (family_chosen c)) key_cmp (selection_keys_among ks c d) (chosen_known c d)) in
+          record { ranks = refl; known = sym (ap (has_keys_among ks) same) ∙ known }
+
+  -- the name that is made of a selection, with the ranks of its keys
+  pub ranked_selection : (π : Preference) (d : Data) (c : Class) (chosen : List (ℕ × Key)) (r : RankedParts) → class_of_object selection_role d ≡ Some c
+      → chosen ≡ map (ranked_key ks (family_chosen c)) (rising_list key_cmp (selection_keys_among ks c d)) → r.name ≡ name_with π c d (map (λ x. x.1) chosen) → r.ranks ≡ map (λ x. x.0) chosen
+      → Some r ≡ ranked_name_among π ks d
+  ranked_selection π d c chosen r is are name ranks =
+      let keys = rising_list key_cmp (selection_keys_among ks c d) in
+      let f = family_chosen c in
+      let named : r.name ≡ class_name_among π ks c d = name ∙ ap (name_with π c d) (ap (map (λ x. x.1)) are ∙ keys_only f keys) in
+      let numbered : r.ranks ≡ map (λ key. rank_among ks f (Some key)) keys = ranks ∙ ap (map (λ x. x.0)) are ∙ ranks_only f keys in
+      let whole : r ≡ ranked_parts ks (class_name_among π ks c d) = λ i. record { name = named i; ranks = numbered i } in
+      ap Some whole ∙ sym (ap (λ o. option_map (ranked_parts ks) (option_map (λ b. class_name_among π ks b d) o)) is)
+    where
+      keys_only : (f : Family) (keys : List Key) → map (λ x. x.1) (map (ranked_key ks f) keys) ≡ keys
+      keys_only f [] = refl
+      keys_only f (k ∷ keys) = ap (λ xs. k ∷ xs) (keys_only f keys)
+
+      ranks_only : (f : Family) (keys : List Key) → map (λ x. x.0) (map (ranked_key ks f) keys) ≡ map (λ key. rank_among ks f (Some key)) keys
+      ranks_only f [] = refl
+      ranks_only f (k ∷ keys) = ap (λ xs. rank_among ks f (Some k) ∷ xs) (ranks_only f keys)
+
+  -- a name that is found with ranks
+  pub ranked_name_is : (π : Preference) (d : Data) (r : RankedParts) → ranked_name_among π ks d ≡ Some r → IsRanked ks r × (name_among π ks d ≡ Some r.name)
+  ranked_name_is π d r e = at (name_among π ks d) refl e
+    where
+      at : (o : Option NameParts) → name_among π ks d ≡ o → option_map (ranked_parts ks) o ≡ Some r → IsRanked ks r × (name_among π ks d ≡ Some r.name)
+      at None is h = cc
+      at (Some n) is h =
+          let same : ranked_parts ks n ≡ r = cc in
+          (subst (IsRanked ks) same (made_ranked π d n is), is ∙ ap (λ (q : RankedParts). Some q.name) same)

@@ -1,0 +1,260 @@
+-- The tests by which an index of names with ranks is asked are those of the names.
+use Rattle.std.proofs.Common.{◌≡◌, ◌<◌, ◌≤◌, ◌==◌, ◌&&◌, ◌||◌, ◌+◌, ℕ, suc, drop, get_or, length, arith, List, [], ◌∷◌, ◌++◌, map, Bool, true, false, cond, Some, Ordering, Less, Equal, Greater, nat_cmp, is_eq, refl, sym, ap, ap₂, ◌∙◌, subst}
+use Rattle.std.proofs.lemmas.Bool.Decides.{Decides-eqb}
+use Rattle.std.proofs.lemmas.Cmp.{lists_total, nat_cmp_total, tied_itself}
+use Rattle.std.proofs.lemmas.List.{at_drop_all, at_drop_more}
+use Rattle.std.proofs.lemmas.Map.Lookups.{exact_unsigned}
+use Rattle.std.proofs.lemmas.Iterator.Adapters.{position_from-zero}
+use Rattle.std.specs.Cmp.{Equal-is}
+use Rattle.std.specs.Cmp.Lexicographic.{slice_cmp}
+use Rattle.std.specs.List.{list_all, list_any, position, position_from}
+use Rattle.std.specs.Ordering.{eq_by_cmp, ordering_then}
+use Rattle.erd_check.proofs.Order.{In, In-all}
+use Rattle.erd_meaning.specs.Keys.{key_cmp}
+use Rattle.erd_meaning.specs.NameParts.{NameParts}
+use Rattle.erd_meaning.specs.SelectionNames.{class_cmp, name_cmp}
+use Rattle.erd_meaning.specs.code.NameHashes.{name_digest}
+use Rattle.erd_meaning.specs.code.NumberedNames.{numbered_name_cmp, numbered_parts, without_keys}
+use Rattle.erd_meaning.specs.code.NumberedOrders.{numbered_as_named, numbers_as_keys}
+use Rattle.erd_meaning.specs.code.ObjectWalk.{Kept}
+use Rattle.erd_meaning.specs.code.Orders.{classes_exact, name_cmp_exact}
+use Rattle.erd_meaning.specs.code.RankedNames.{AllAreRanked, IsRanked, PlacedName, RankedParts, are_ranks_of, family_chosen, has_keys_among, is_key_among, is_sought, names_of, rank_among, ranked_name_cmp, ranked_parts}
+use Rattle.erd_meaning.specs.code.SelectionWalk.{NumberedName, added_name, is_selection_named, is_taken}
+use Rattle.erd_meaning.specs.declared.keys.key.Key.{Key}
+use Rattle.erd_tables.specs.declared.class.Class.{Class}
+use Rattle.erd_tables.specs.declared.class.Family.{Family}
+use Rattle.erd_meaning.proofs.references.ReferenceLookups.{both_tests}
+use Rattle.erd_meaning.proofs.selections.NameTests.{name_test}
+use Rattle.erd_meaning.proofs.selections.NamesTold.{is_named_from}
+use Rattle.erd_meaning.proofs.selections.RankedKeys.{each_passes, rank_as_key}
+
+-- ---- one name and another
+
+-- the keys of a name are those of objects
+keys_known : (ks : List Kept) (c : Class) (keys : List Key) (k : Key) → list_all (is_key_among ks (family_chosen c)) keys ≡ true → In k keys → is_key_among ks (family_chosen c) k ≡ true
+keys_known ks c keys k all i = In-all (λ k. is_key_among ks (family_chosen c) k ≡ true) k keys (each_passes (is_key_among ks (family_chosen c)) keys all) i
+
+abbrev ranks_in : List Kept → Class → List Key → List ℕ
+ranks_in ks c keys = map (λ k. rank_among ks (family_chosen c) (Some k)) keys
+
+-- ranks compare as the keys in names of one class
+ranks_as_keys : (ks : List Kept) (m n : NameParts) → has_keys_among ks m ≡ true → has_keys_among ks n ≡ true → class_cmp m.class n.class ≡ Equal
+    → slice_cmp nat_cmp (ranked_parts ks m).ranks (ranked_parts ks n).ranks ≡ slice_cmp key_cmp m.keys n.keys
+ranks_as_keys ks m n a b same = with_class n.class (sym (classes_exact m.class n.class same)) b
+  where
+    with_class : (c : Class) → c ≡ m.class → list_all (is_key_among ks (family_chosen c)) n.keys ≡ true
+        → slice_cmp nat_cmp (ranks_in ks m.class m.keys) (ranks_in ks c n.keys) ≡ slice_cmp key_cmp m.keys n.keys
+    with_class c e known =
+        let known_too : list_all (is_key_among ks (family_chosen m.class)) n.keys ≡ true = subst (λ d. list_all (is_key_among ks (family_chosen d)) n.keys ≡ true) e known in
+        ap (λ d. slice_cmp nat_cmp (ranks_in ks m.class m.keys) (ranks_in ks d n.keys)) e
+        ∙ numbers_as_keys (λ k. rank_among ks (family_chosen m.class) (Some k)) m.keys n.keys
+        (λ k l i j. rank_as_key ks (family_chosen m.class) k l (keys_known ks m.class m.keys k a i) (keys_known ks m.class n.keys l known_too j))
+
+then_equal : (a b : Ordering) → (b ≡ Equal → a ≡ Equal) → is_eq (ordering_then a b) ≡ is_eq b
+then_equal Less Less h = refl
+then_equal Less Equal h = let clash : Less ≡ Equal = h refl in cc
+then_equal Less Greater h = refl
+then_equal Equal b h = refl
+then_equal Greater Less h = refl
+then_equal Greater Equal h = let clash : Greater ≡ Equal = h refl in cc
+then_equal Greater Greater h = refl
+
+-- names with the ranks of their keys are equal as the names are
+ranked_made : (ks : List Kept) (m n : NameParts) → has_keys_among ks m ≡ true → has_keys_among ks n ≡ true
+    → eq_by_cmp ranked_name_cmp (ranked_parts ks m) (ranked_parts ks n) ≡ is_eq (name_cmp m n)
+ranked_made ks m n a b =
+    let compared = numbered_as_named m n (ranked_parts ks m).ranks (ranked_parts ks n).ranks (ranks_as_keys ks m n a b) in
+    ap (λ o. is_eq (ordering_then (nat_cmp (name_digest m) (name_digest n)) o)) compared
+    ∙ then_equal (nat_cmp (name_digest m) (name_digest n)) (name_cmp m n)
+    (λ e. ap (λ x. nat_cmp (name_digest m) (name_digest x)) (sym (name_cmp_exact m n e)) ∙ tied_itself nat_cmp_total (name_digest m))
+
+pub ranked_equal : (ks : List Kept) (r q : RankedParts) → IsRanked ks r → IsRanked ks q → eq_by_cmp ranked_name_cmp r q ≡ is_eq (name_cmp r.name q.name)
+ranked_equal ks r q a b = ap₂ (eq_by_cmp ranked_name_cmp) a.ranks b.ranks ∙ ranked_made ks r.name q.name a.known b.known
+
+-- ---- the test of an index
+
+-- the same contest and the same name, as the index compares them
+abbrev pub equals_ranked : ℕ → RankedParts → PlacedName → Bool
+equals_ranked c r s = (c == s.0) && eq_by_cmp ranked_name_cmp r s.1
+
+-- a name of the index without its ranks
+abbrev plain : PlacedName → NumberedName
+plain s = (s.0, s.1.name)
+
+ranked_test : (ks : List Kept) (c : ℕ) (r : RankedParts) (s : PlacedName) → IsRanked ks r → IsRanked ks s.1 → equals_ranked c r s ≡ is_selection_named c r.name (plain s)
+ranked_test ks c r s a b = ap (λ t. (c == s.0) && t) (ranked_equal ks r s.1 a b) ∙ ap (λ (test : NumberedName → Bool). test (plain s)) (name_test c r.name)
+
+-- ---- the names that were met
+
+pub any_ranked : (ks : List Kept) (c : ℕ) (r : RankedParts) (names : List PlacedName) → IsRanked ks r → AllAreRanked ks names
+    → list_any (equals_ranked c r) names ≡ is_taken (names_of names) c r.name
+any_ranked ks c r [] a all = refl
+any_ranked ks c r (s ∷ names) a all = ap₂ (λ x y. x || y) (ranked_test ks c r s a all.0) (any_ranked ks c r names a all.1)
+
+names_after : (names : List PlacedName) (s : PlacedName) → names_of (names ++ s ∷ []) ≡ names_of names ++ plain s ∷ []
+names_after [] s = refl
+names_after (x ∷ names) s = ap (λ ns. plain x ∷ ns) (names_after names s)
+
+all_after : (ks : List Kept) (names : List PlacedName) (s : PlacedName) → AllAreRanked ks names → IsRanked ks s.1 → AllAreRanked ks (names ++ s ∷ [])
+all_after ks [] s all a = (a, tt)
+all_after ks (x ∷ names) s all a = (all.0, all_after ks names s all.1 a)
+
+-- the index after one more name
+abbrev pub inserted : ℕ → RankedParts → List PlacedName → List PlacedName
+inserted c r names = cond (list_any (equals_ranked c r) names) names (names ++ (c, r) ∷ [])
+
+pub inserted_names : (ks : List Kept) (c : ℕ) (r : RankedParts) (names : List PlacedName) → IsRanked ks r → AllAreRanked ks names → names_of (inserted c r names) ≡ added_name (names_of names) c r.name
+inserted_names ks c r names a all = at (list_any (equals_ranked c r) names) ∙ ap (λ b. cond b (names_of names) (names_of names ++ (c, r.name) ∷ [])) (any_ranked ks c r names a all)
+  where
+    at : (b : Bool) → names_of (cond b names (names ++ (c, r) ∷ [])) ≡ cond b (names_of names) (names_of names ++ (c, r.name) ∷ [])
+    at true = refl
+    at false = names_after names (c, r)
+
+pub inserted_ranked : (ks : List Kept) (c : ℕ) (r : RankedParts) (names : List PlacedName) → IsRanked ks r → AllAreRanked ks names → AllAreRanked ks (inserted c r names)
+inserted_ranked ks c r names a all = at (list_any (equals_ranked c r) names)
+  where
+    at : (b : Bool) → AllAreRanked ks (cond b names (names ++ (c, r) ∷ []))
+    at true = all
+    at false = all_after ks names (c, r) all a
+
+-- ---- the name that is looked up
+
+sought_test : (ks : List Kept) (c : ℕ) (n : NameParts) (s : PlacedName) → IsRanked ks s.1 → is_sought ks c n s ≡ is_selection_named c n (plain s)
+sought_test ks c n s b = at (has_keys_among ks n) refl
+  where
+    unknown : has_keys_among ks n ≡ false → (t : Bool) → is_selection_named c n (plain s) ≡ t → false ≡ t
+    unknown h true e =
+        let same = is_named_from (plain s) c n e in
+        let name : s.1.name ≡ n = ap (λ (x : NumberedName). x.1) same in
+        let clash : false ≡ true = sym h ∙ (sym (ap (has_keys_among ks) name) ∙ b.known) in
+        cc
+    unknown h false e = refl
+
+    at : (h : Bool) → has_keys_among ks n ≡ h → (h && equals_ranked c (ranked_parts ks n) s) ≡ is_selection_named c n (plain s)
+    at true h = ranked_test ks c (ranked_parts ks n) s (record { ranks = refl; known = h }) b
+    at false h = unknown h (is_selection_named c n (plain s)) refl
+
+position_alike : (ks : List Kept) (c : ℕ) (n : NameParts) (i : ℕ) (names : List PlacedName) → AllAreRanked ks names
+    → position_from (is_sought ks c n) i names ≡ position_from (is_selection_named c n) i (names_of names)
+position_alike ks c n i [] all = refl
+position_alike ks c n i (s ∷ names) all =
+    ap₂ (λ b o. cond b (Some i) o) (sought_test ks c n s all.0) (position_alike ks c n (i + 1) names all.1)
+
+pub position_sought : (ks : List Kept) (c : ℕ) (n : NameParts) (names : List PlacedName) → AllAreRanked ks names → position (is_sought ks c n) names ≡ position (is_selection_named c n) (names_of names)
+position_sought ks c n names all =
+    position_from-zero (is_sought ks c n) names ∙ position_alike ks c n 0 names all ∙ sym (position_from-zero (is_selection_named c n) (names_of names))
+
+-- ---- the ranks of the keys that are looked up
+
+module _ (ks : List Kept) (f : Family) where
+  abbrev has_rank : Key → ℕ → Bool
+  has_rank key rank = is_key_among ks f key && (rank_among ks f (Some key) == rank)
+
+  and_false : (b : Bool) → false ≡ (b && false)
+  and_false true = refl
+  and_false false = refl
+
+  pub lengths_differ : (keys : List Key) (ranks : List ℕ) → (length keys ≡ length ranks → ⊥) → false ≡ are_ranks_of ks f keys ranks
+  lengths_differ [] [] differ = absurd (differ refl)
+  lengths_differ [] (r ∷ ranks) differ = refl
+  lengths_differ (k ∷ keys) [] differ = refl
+  lengths_differ (k ∷ keys) (r ∷ ranks) differ =
+      and_false (has_rank k r) ∙ ap (λ b. has_rank k r && b) (lengths_differ keys ranks (λ e. differ (ap suc e)))
+
+  module _ (keys : List Key) (ranks : List ℕ) (many : length keys ≡ length ranks) where
+    -- the keys and ranks from a position on
+    abbrev pub left_at : ℕ → Bool
+    left_at i = are_ranks_of ks f (drop i keys) (drop i ranks)
+
+    one_left : (i : ℕ) (k : Key) → i < length keys → k ≡ get_or keys i k → left_at i ≡ (has_rank k (get_or ranks i 0) && left_at (i + 1))
+    one_left i k low is =
+        at_drop_more (λ (ws : List Key). are_ranks_of ks f ws (drop i ranks)) keys i k low
+        ∙ at_drop_more (λ (ws : List ℕ). are_ranks_of ks f (get_or keys i k ∷ drop (i + 1) keys) ws) ranks i 0 (omega (arith, low, many))
+        ∙ ap (λ w. has_rank w (get_or ranks i 0) && left_at (i + 1)) (sym is)
+
+    pub next_left : (i : ℕ) (k : Key) (whole : Bool) → i < length keys → k ≡ get_or keys i k → has_rank k (get_or ranks i 0) ≡ true → left_at i ≡ whole → left_at (i + 1) ≡ whole
+    next_left i k whole low is passes before = sym (one_left i k low is ∙ ap (λ b. b && left_at (i + 1)) passes) ∙ before
+
+    pub one_fails : (i : ℕ) (k : Key) (whole : Bool) → i < length keys → k ≡ get_or keys i k → has_rank k (get_or ranks i 0) ≡ false → left_at i ≡ whole → false ≡ whole
+    one_fails i k whole low is fails before = sym (one_left i k low is ∙ ap (λ b. b && left_at (i + 1)) fails) ∙ before
+
+    pub all_pass_at : (i : ℕ) (whole : Bool) → length keys ≤ i → left_at i ≡ whole → true ≡ whole
+    all_pass_at i whole over before =
+        sym (at_drop_all (λ (ws : List Key). are_ranks_of ks f ws (drop i ranks)) keys i over ∙ at_drop_all (λ (ws : List ℕ). are_ranks_of ks f [] ws) ranks i (omega (arith, over, many))) ∙ before
+
+-- ---- the test of a name that is looked up
+
+equal_numbers : (m n : ℕ) → (m == n) ≡ is_eq (nat_cmp m n)
+equal_numbers m n = both_tests (m == n) (is_eq (nat_cmp m n)) (λ e. ap (λ k. is_eq (nat_cmp m k)) (sym ((Decides-eqb m n).0 e)) ∙ ap is_eq (tied_itself nat_cmp_total m))
+    (λ e. (Decides-eqb m n).1 (exact_unsigned m n ((Equal-is (nat_cmp m n)).0 e)))
+
+is_eq_then : (p o : Ordering) → is_eq (ordering_then p o) ≡ (is_eq p && is_eq o)
+is_eq_then Less o = refl
+is_eq_then Equal o = refl
+is_eq_then Greater o = refl
+
+one_each : (a b d e : Bool) → ((a && b) && (d && e)) ≡ ((a && d) && (b && e))
+one_each true true d e = refl
+one_each true false true e = refl
+one_each true false false e = refl
+one_each false b d e = refl
+
+-- the ranks of the keys, as lists are compared
+ranks_told : (ks : List Kept) (f : Family) (keys : List Key) (ranks : List ℕ)
+    → are_ranks_of ks f keys ranks ≡ (list_all (is_key_among ks f) keys && is_eq (slice_cmp nat_cmp (map (λ key. rank_among ks f (Some key)) keys) ranks))
+ranks_told ks f [] [] = refl
+ranks_told ks f [] (r ∷ ranks) = refl
+ranks_told ks f (k ∷ keys) [] = and_false ks f (is_key_among ks f k && list_all (is_key_among ks f) keys)
+ranks_told ks f (k ∷ keys) (r ∷ ranks) =
+    ap₂ (λ a b. (is_key_among ks f k && a) && b) (equal_numbers (rank_among ks f (Some k)) r) (ranks_told ks f keys ranks)
+    ∙ one_each (is_key_among ks f k) (is_eq (nat_cmp (rank_among ks f (Some k)) r)) (list_all (is_key_among ks f) keys) (is_eq (slice_cmp nat_cmp (map (λ key. rank_among ks f (Some key)) keys) ranks))
+    ∙ ap (λ b. (is_key_among ks f k && list_all (is_key_among ks f) keys) && b)
+    (sym (is_eq_then (nat_cmp (rank_among ks f (Some k)) r) (slice_cmp nat_cmp (map (λ key. rank_among ks f (Some key)) keys) ranks)))
+
+-- the parts of two names with numbers for keys
+parts_told : (m n : NameParts) (ks ls : List ℕ)
+    → is_eq (numbered_name_cmp (numbered_parts m ks) (numbered_parts n ls)) ≡ (is_eq (class_cmp m.class n.class) && (is_eq (slice_cmp nat_cmp ks ls) && is_eq (name_cmp (without_keys m) (without_keys n))))
+parts_told m n ks ls =
+    is_eq_then (class_cmp m.class n.class) (ordering_then (slice_cmp nat_cmp ks ls) (name_cmp (without_keys m) (without_keys n)))
+    ∙ ap (λ b. is_eq (class_cmp m.class n.class) && b) (is_eq_then (slice_cmp nat_cmp ks ls) (name_cmp (without_keys m) (without_keys n)))
+
+in_turn : (d h e c r : Bool) → (d && ((h && e) && (c && (true && r)))) ≡ (h && (d && (c && (e && r))))
+in_turn true true true c r = refl
+in_turn true true false true r = refl
+in_turn true true false false r = refl
+in_turn true false e c r = refl
+in_turn false true e c r = refl
+in_turn false false e c r = refl
+
+-- the index has the name that is looked up if it is hashed alike, if these are the ranks of its keys, and if the other parts are equal
+pub sought_told : (ks : List Kept) (n : NameParts) (s : RankedParts)
+    → ((name_digest n == name_digest s.name) && (are_ranks_of ks (family_chosen n.class) n.keys s.ranks && is_eq (numbered_name_cmp (numbered_parts n s.ranks) (numbered_parts s.name s.ranks))))
+    ≡ (has_keys_among ks n && eq_by_cmp ranked_name_cmp (ranked_parts ks n) s)
+sought_told ks n s =
+    let d = is_eq (nat_cmp (name_digest n) (name_digest s.name)) in
+    let e = is_eq (slice_cmp nat_cmp (ranked_parts ks n).ranks s.ranks) in
+    let c = is_eq (class_cmp n.class s.name.class) in
+    let r = is_eq (name_cmp (without_keys n) (without_keys s.name)) in
+    let own : is_eq (slice_cmp nat_cmp s.ranks s.ranks) ≡ true = ap is_eq (tied_itself (lists_total nat_cmp_total) s.ranks) in
+    ap₂ (λ x y. x && (y && is_eq (numbered_name_cmp (numbered_parts n s.ranks) (numbered_parts s.name s.ranks)))) (equal_numbers (name_digest n) (name_digest s.name)) (ranks_told ks (family_chosen n.class) n.keys s.ranks)
+    ∙ ap (λ x. d && ((has_keys_among ks n && e) && x)) (parts_told n s.name s.ranks s.ranks ∙ ap (λ x. c && (x && r)) own)
+    ∙ in_turn d (has_keys_among ks n) e c r
+    ∙ ap (λ x. has_keys_among ks n && x)
+    (ap (λ x. d && x) (sym (parts_told n s.name (ranked_parts ks n).ranks s.ranks))
+    ∙ sym (is_eq_then (nat_cmp (name_digest n) (name_digest s.name)) (numbered_name_cmp (numbered_parts n (ranked_parts ks n).ranks) (numbered_parts s.name s.ranks))))
+
+pub sought_misses : (ks : List Kept) (n : NameParts) (s : RankedParts) → are_ranks_of ks (family_chosen n.class) n.keys s.ranks ≡ false → false ≡ (has_keys_among ks n && eq_by_cmp ranked_name_cmp (ranked_parts ks n) s)
+sought_misses ks n s none_has =
+    let d = name_digest n == name_digest s.name in
+    let x = is_eq (numbered_name_cmp (numbered_parts n s.ranks) (numbered_parts s.name s.ranks)) in
+    none d ∙ ap (λ b. d && (b && x)) (sym none_has) ∙ sought_told ks n s
+  where
+    none : (b : Bool) → false ≡ (b && false)
+    none true = refl
+    none false = refl
+
+pub sought_hits : (ks : List Kept) (n : NameParts) (s : RankedParts) → name_digest n ≡ name_digest s.name → are_ranks_of ks (family_chosen n.class) n.keys s.ranks ≡ true
+    → is_eq (numbered_name_cmp (numbered_parts n s.ranks) (numbered_parts s.name s.ranks)) ≡ (has_keys_among ks n && eq_by_cmp ranked_name_cmp (ranked_parts ks n) s)
+sought_hits ks n s hashed are =
+    let x = is_eq (numbered_name_cmp (numbered_parts n s.ranks) (numbered_parts s.name s.ranks)) in
+    ap₂ (λ a b. a && (b && x)) (sym ((Decides-eqb (name_digest n) (name_digest s.name)).1 hashed)) (sym are) ∙ sought_told ks n s

@@ -1,0 +1,116 @@
+-- Names of selections with the ranks of their keys. An index compares the ranks, so it takes no longer if keys are long. They
+-- do not define the profile: `RankedKeys` proves that equal ranks mean equal keys.
+use Rattle.std.specs.Prelude.{◌≡◌, ℕ, List, [], ◌∷◌, ◌++◌, Bool, true, false, ◌&&◌, ◌==◌, Option, Some, is_some, filter, length, map, option_map}
+use Rattle.std.specs.Hash.{HashWrites, usize}
+use Rattle.std.specs.List.{AllByRecursion, list_all}
+use Rattle.std.specs.Option.{option_cmp}
+use Rattle.std.specs.Ordering.{eq_by_cmp, is_lt, nat_cmp, ordering_then}
+use Rattle.std.specs.declared.cmp.Ordering.{Ordering}
+use Rattle.serde_json.specs.Data.{Data}
+use Rattle.erd_tables.specs.declared.class.Class.{Class}
+use Rattle.erd_tables.specs.declared.class.Class.TheVariants as class
+use Rattle.erd_tables.specs.declared.class.Family.{Family}
+use Rattle.erd_tables.specs.declared.class.Family.TheVariants as family
+use Rattle.erd_meaning.specs.Keys.{Preference, key_cmp}
+use Rattle.erd_meaning.specs.NameParts.{NameParts}
+use Rattle.erd_meaning.specs.SelectionNames.{name_cmp}
+use Rattle.erd_meaning.specs.code.NameHashes.{name_digest, name_writes}
+use Rattle.erd_meaning.specs.code.NamesAmong.{name_among}
+use Rattle.erd_meaning.specs.code.NumberedNames.{numbered_name_cmp, numbered_parts}
+use Rattle.erd_meaning.specs.code.ObjectIndexes.{number_of_key}
+use Rattle.erd_meaning.specs.code.ObjectLookups.{those_of}
+use Rattle.erd_meaning.specs.code.ObjectWalk.{Kept}
+use Rattle.erd_meaning.specs.code.SelectionWalk.{NumberedName}
+use Rattle.erd_meaning.specs.declared.keys.key.Key.{Key}
+use denote.Ref.{Bor}
+
+-- ---- ranks
+
+-- The number of objects of the family whose keys are less than this one.
+abbrev pub rank_among : List Kept → Family → Option Key → ℕ
+rank_among ks f key = length (filter (λ k. is_lt (option_cmp key_cmp k.key key)) (those_of f ks))
+
+-- These are the ranks of the objects of the family, in the order of the report.
+abbrev pub AreRanks : List Kept → Family → List ℕ → Type 0
+AreRanks ks f ranks = ranks ≡ map (λ k. rank_among ks f k.key) (those_of f ks)
+
+-- Borrowed keys are compared by what they point to. None is less than any.
+abbrev pub lent_key_cmp : Option (Bor Key) → Option (Bor Key) → Ordering
+lent_key_cmp = option_cmp (λ k l. key_cmp k.now l.now)
+
+-- A key with its rank.
+abbrev pub ranked_key : List Kept → Family → Key → ℕ × Key
+ranked_key ks f key = (rank_among ks f (Some key), key)
+
+-- True if an object of the family has the key.
+abbrev pub is_key_among : List Kept → Family → Key → Bool
+is_key_among ks f key = is_some (number_of_key ks f key)
+
+-- ---- names
+
+-- The family of the objects that a selection of the class is for. Only candidates and parties have selections.
+abbrev pub family_chosen : Class → Family
+family_chosen class.PartySelection = family.Party
+family_chosen c = family.Candidate
+
+-- A name with numbers for its keys.
+pub record RankedParts : Type 0 where
+  pub name : NameParts
+  pub ranks : List ℕ
+
+-- The name with the ranks of its keys.
+abbrev pub ranked_parts : List Kept → NameParts → RankedParts
+ranked_parts ks n = record { name = n; ranks = map (λ key. rank_among ks (family_chosen n.class) (Some key)) n.keys }
+
+-- The name of a selection with the ranks of its keys, or none if its `@type` is not that of a selection class.
+abbrev pub ranked_name_among : Preference → List Kept → Data → Option RankedParts
+ranked_name_among π ks d = option_map (ranked_parts ks) (name_among π ks d)
+
+-- True if each key in the name is that of an object.
+abbrev pub has_keys_among : List Kept → NameParts → Bool
+has_keys_among ks n = list_all (is_key_among ks (family_chosen n.class)) n.keys
+
+-- The ranks are those of the keys in the name, and each of these is the key of an object.
+pub record IsRanked (ks : List Kept) (r : RankedParts) : Type 0 where
+  pub ranks : r ≡ ranked_parts ks r.name
+  pub known : has_keys_among ks r.name ≡ true
+
+-- ---- the names in an index
+
+-- These are compared by the numbers by which the names are hashed, then by the names with ranks in place of keys.
+abbrev pub ranked_name_cmp : RankedParts → RankedParts → Ordering
+ranked_name_cmp a b = ordering_then (nat_cmp (name_digest a.name) (name_digest b.name)) (numbered_name_cmp (numbered_parts a.name a.ranks) (numbered_parts b.name b.ranks))
+
+-- What the hasher is given of such a name.
+abbrev pub ranked_name_writes : RankedParts → HashWrites
+ranked_name_writes r = name_writes r.name
+
+-- The position of a contest, and the name of one of its selections with its ranks.
+abbrev pub PlacedName : Type 0
+PlacedName = ℕ × RankedParts
+
+-- The names without their ranks.
+abbrev pub names_of : List PlacedName → List NumberedName
+names_of names = map (λ s. (s.0, s.1.name)) names
+
+-- True if each of the keys is that of an object of the family, and these are their ranks.
+abbrev pub are_ranks_of : List Kept → Family → List Key → List ℕ → Bool
+are_ranks_of ks f [] [] = true
+are_ranks_of ks f (key ∷ keys) (rank ∷ ranks) = (is_key_among ks f key && (rank_among ks f (Some key) == rank)) && are_ranks_of ks f keys ranks
+are_ranks_of ks f keys ranks = false
+
+-- True if this is the selection of contest c with name n, in an index of names whose ranks are those among the objects.
+abbrev pub is_sought : List Kept → ℕ → NameParts → PlacedName → Bool
+is_sought ks c n s = has_keys_among ks n && ((c == s.0) && eq_by_cmp ranked_name_cmp (ranked_parts ks n) s.1)
+
+-- Selections that are looked up are compared by contest, then by name.
+abbrev pub sought_cmp : NumberedName → NumberedName → Ordering
+sought_cmp a b = ordering_then (nat_cmp a.0 b.0) (name_cmp a.1 b.1)
+
+-- What the hasher is given of such a selection.
+abbrev pub sought_writes : NumberedName → HashWrites
+sought_writes s = usize s.0 ++ name_writes s.1
+
+-- Each name has the ranks of its keys.
+abbrev pub AllAreRanked : List Kept → List PlacedName → Type 0
+AllAreRanked ks names = AllByRecursion (λ s. IsRanked ks s.1) names

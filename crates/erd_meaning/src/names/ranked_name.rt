@@ -1,0 +1,106 @@
+ghost use Rattle.std.specs.Prelude.{◌≡◌};
+ghost use Rattle.erd_meaning.specs.code.NumberedNames.{numbered_name_cmp, numbered_parts};
+
+use crate::names::parts::compare_numbered;
+use crate::names::selection_name::SelectionName;
+use std::cmp::Ordering;
+use std::hash::{Hash, Hasher};
+use std::marker::Model;
+
+/// The name of a selection, with the ranks of its keys among those of its report. Contracts see the name and the ranks.
+///
+/// Such names are equal if their ranks and the parts after the keys are equal. So it takes no longer to compare them if keys
+/// are long.
+#[derive(Debug, Drop)]
+pub(crate) struct RankedName {
+    name: SelectionName,
+    ranks: Vec<usize>,
+}
+
+impl Model for RankedName {
+    ghost use Rattle.erd_meaning.specs.code.RankedNames.{RankedParts};
+
+    ghost Value = { RankedParts };
+
+    ghost view = { λ r. record {
+      name = r.name;
+      ranks = r.ranks.items;
+    } };
+}
+
+impl RankedName {
+    /// Returns the name with these ranks.
+    pub(crate) fn of(name: SelectionName, ranks: Vec<usize>) -> RankedName
+        ensures name { result.name ≡ name }
+        ensures ranks { result.ranks ≡ ranks.items }
+    {
+        RankedName { name, ranks }
+    }
+
+    /// Returns the name.
+    pub(crate) fn name(&self) -> &SelectionName
+        ensures { result.now ≡ self.now.name }
+    {
+        &self.name
+    }
+
+    /// Returns the name without its ranks.
+    pub(crate) fn into_name(self) -> SelectionName
+        ensures { result ≡ self.name }
+    {
+        self.name
+    }
+
+    /// Returns the ranks.
+    pub(crate) fn ranks(&self) -> &[usize]
+        ensures { result.now ≡ self.now.ranks }
+    {
+        &self.ranks
+    }
+
+    fn compare(&self, other: &RankedName) -> Ordering
+        ensures { result ≡ numbered_name_cmp (numbered_parts self.now.name self.now.ranks) (numbered_parts other.now.name other.now.ranks) }
+    {
+        compare_numbered(
+            self.name.parts(),
+            &self.ranks,
+            other.name.parts(),
+            &other.ranks,
+        )
+    }
+}
+
+impl PartialEq for RankedName {
+    ghost use Rattle.std.specs.Cmp.{eq_by_cmp_equiv, partial_equiv_from_equiv};
+    ghost use Rattle.std.specs.Ordering.{eq_by_cmp};
+    ghost use Rattle.erd_meaning.specs.code.RankedNames.{ranked_name_cmp};
+    ghost use Rattle.erd_meaning.specs.code.RankedOrders.{ranked_name_cmp_total};
+
+    ghost eq = { eq_by_cmp ranked_name_cmp };
+
+    ghost laws = { partial_equiv_from_equiv (eq_by_cmp_equiv ranked_name_cmp_total) };
+
+    fn eq(&self, other: &RankedName) -> bool {
+        self.name.digest() == other.name.digest() && self.compare(other).is_eq()
+    }
+}
+
+impl Eq for RankedName {
+    ghost use Rattle.std.specs.Cmp.{eq_by_cmp_equiv};
+    ghost use Rattle.erd_meaning.specs.code.RankedOrders.{ranked_name_cmp_total};
+
+    ghost laws = { eq_by_cmp_equiv ranked_name_cmp_total };
+}
+
+impl Hash for RankedName {
+    ghost use Rattle.erd_meaning.specs.code.RankedNames.{ranked_name_writes};
+    ghost use Rattle.erd_meaning.specs.code.RankedOrders.{equal_ranked_alike};
+
+    ghost hash_input = { ranked_name_writes };
+
+    ghost respects_eq = { equal_ranked_alike };
+
+    fn hash<H: Hasher>(&self, state: &mut H) {
+        self.name.hash(state);
+    }
+}
