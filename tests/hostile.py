@@ -193,6 +193,14 @@ def long_twins(n):
     return with_long_keys(n, 1, [(["k0"], 1)] * max(n // 10, 1))
 
 
+def long_contents(n):
+    """The contents of a ballot list selections that name one candidate."""
+    made = long_key(n)
+    listed = {"@type": CLASS + "OrderedContest", "ContestId": "c", "OrderedContestSelectionIds": ["s%d" % i for i in range(max(n // 10, 1))]}
+    made["Election"][0]["BallotStyle"] = [style(0, [listed])]
+    return made
+
+
 def empty_arrays(n):
     return report([unit("u%d" % i, "U%07d" % i, ComposingGpUnitIds=[]) for i in range(n)])
 
@@ -271,7 +279,7 @@ def selections_moved(n):
 
 SINGLE = [units_rising, units_falling, units_alike, candidate_selections, write_ins, measure_texts, ordered_selections, references,
           identifiers, translations, same_triples, unresolved, repeated, foreign, twins, same_ids, chain, styles, deep_headers,
-          long_key, long_keys, long_tickets, long_twins, empty_arrays, elections, twin_elections]
+          long_key, long_keys, long_tickets, long_twins, long_contents, empty_arrays, elections, twin_elections]
 PAIRS = [moved, nothing_common, last_differs, every_second, long_references_moved, selections_moved, elections_moved]
 
 

@@ -3,5 +3,6 @@ pub mod KeySearches
 pub mod KeyNumbers
 pub mod NamedNumbers
 pub mod NumberSets
-pub mod RisingNumbers
+pub mod KeysByRank
+pub mod NamesOnSides
 pub mod NumberedSelections

@@ -4,5 +4,6 @@
 pub(crate) mod kept_tables;
 pub(crate) mod lookups;
 pub(crate) mod making;
+pub(crate) mod name_numbers;
 pub(crate) mod role_objects;
 pub(crate) mod side;

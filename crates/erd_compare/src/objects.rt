@@ -2,7 +2,6 @@
 
 pub(crate) mod held;
 mod members_left;
-mod numbered_names;
 pub(crate) mod placed;
 mod plain_members;
 pub(crate) mod records;

@@ -1,4 +1,5 @@
 ghost use Rattle.erd_compare.specs.code.CommonNumbers.{AreCommonNumbers, tables_of};
+ghost use Rattle.erd_compare.specs.code.NumberedSides.{AreNumbersAtRanks};
 ghost use Rattle.erd_compare.specs.declared.difference.Part.{Part};
 
 use crate::numbers::kept_tables::KeyTables;
@@ -15,4 +16,5 @@ pub(crate) struct Sides<'a> {
     /// The keys of both reports, and numbers in place of them.
     pub tables: &'a KeyTables<'a>,
     ghost numbered: { (p : Part) → AreCommonNumbers left.now right.now p (tables_of p tables.now).numbers.items },
+    ghost ranked: { AreNumbersAtRanks left.now right.now tables.now },
 }

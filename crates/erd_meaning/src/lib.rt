@@ -9,6 +9,7 @@ mod report;
 pub use keys::key::Key;
 pub use keys::key_of::key_of;
 pub use names::numbered_name::NumberedName;
+pub use names::ranked_name::RankedName;
 pub use names::selection_name::SelectionName;
 pub use report::Report;
 pub use report::resolving::{resolve, resolve_with};

@@ -5,7 +5,7 @@ mod label_output;
 pub(crate) mod naming;
 pub mod numbered_name;
 pub(crate) mod parts;
-pub(crate) mod ranked_name;
+pub mod ranked_name;
 pub mod selection_name;
 pub(crate) mod selection_walk;
 pub(crate) mod sought_name;

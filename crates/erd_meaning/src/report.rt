@@ -7,7 +7,7 @@ ghost use Rattle.erd_check.specs.Trees.{IsShallow, IsTree};
 ghost use Rattle.erd_meaning.specs.Accepted.{IsAccepted};
 ghost use Rattle.erd_meaning.specs.Lookups.{FindsId, FindsKey, FindsSelection, election_in, election_key_in, key_in, name_in_contest, selection_in};
 ghost use Rattle.erd_meaning.specs.Objects.{IsBounded, elections, objects};
-ghost use Rattle.erd_meaning.specs.code.RankedNames.{AllAreRanked, names_of};
+ghost use Rattle.erd_meaning.specs.code.RankedNames.{AllAreRanked, names_of, ranked_name, ranked_selection_in};
 ghost use Rattle.erd_meaning.specs.code.Resolved.{IsResolved};
 ghost use Rattle.erd_meaning.specs.code.ResolvedElections.{AreElections};
 ghost use Rattle.erd_meaning.specs.code.SelectionWalk.{NumberedName};
@@ -236,8 +236,17 @@ impl<'a> Report<'a> {
     pub fn selection_at(&self, index: usize) -> Option<(usize, &SelectionName)>
         ensures { option_map (λ s. (s.0, s.1.now)) result ≡ selection_in self.now.prefer (view self.now.tree) index }
     {
+        let (contest, name) = self.ranked_name_at(index)?;
+        Some((contest, name.name()))
+    }
+
+    /// Returns the position of the contest of the selection at the position, and the name of the selection with the ranks of
+    /// its keys. Returns `None` if there is no such selection.
+    pub fn ranked_name_at(&self, index: usize) -> Option<(usize, &RankedName)>
+        ensures { option_map (λ s. (s.0, s.1.now)) result ≡ ranked_selection_in self.now.prefer (view self.now.tree) index }
+    {
         let (contest, name) = self.indexes().names.get_index(index)?;
-        Some((*contest, name.name()))
+        Some((*contest, name))
     }
 
     /// Returns the name of the selection at the position `index` of the contest at the position `contest`, or `None` if there
@@ -245,10 +254,20 @@ impl<'a> Report<'a> {
     pub fn name_in_contest(&self, contest: usize, index: usize) -> Option<&SelectionName>
         ensures { option_copied result ≡ name_in_contest self.now.prefer (view self.now.tree) contest index }
     {
+        let name = self.ranked_name_in_contest(contest, index)?;
+        Some(name.name())
+    }
+
+    /// Returns the name of the selection at the position `index` of the contest at the position `contest`, with the ranks of
+    /// its keys, or `None` if there is no such selection.
+    pub fn ranked_name_in_contest(&self, contest: usize, index: usize) -> Option<&RankedName>
+        ensures { option_copied result
+            ≡ option_map (ranked_name self.now.prefer (view self.now.tree)) (name_in_contest self.now.prefer (view self.now.tree) contest index) }
+    {
         // read for its bound: a word counts the selections
         let _count = self.count(Family::Selection);
         let start = self.objects().first_selection(contest);
-        let (own, name) = self.selection_at(start.checked_add(index)?)?;
+        let (own, name) = self.ranked_name_at(start.checked_add(index)?)?;
         if own == contest { Some(name) } else { None }
     }
 

@@ -4,7 +4,6 @@ pub mod KeyPlaces
 pub mod Numbered
 pub mod RisingTables
 pub mod KeysInTurn
-pub mod ReferredNumbers
 pub mod FamilyNumbers
 pub mod PlacedEntries
 pub mod PartsFilled

@@ -1,8 +1,7 @@
 -- The canonical form of a report, as a predicate on trees. All of this is the profile's own.
-use Rattle.std.specs.Prelude.{ℕ, ◌≡◌, ◌+◌, List, ◌++◌, false, IsTrue, Option, Some, None, option_and_then, option_map, codes, decimal, slice_get, map, filter, length, ⊤}
+use Rattle.std.specs.Prelude.{ℕ, ◌≡◌, ◌+◌, List, ◌++◌, false, IsTrue, Option, Some, None, option_and_then, option_map, codes, decimal, slice_get, map, ⊤}
 use Rattle.std.specs.List.Sorted.{IsStrictlySortedBy}
 use Rattle.std.specs.Option.{option_cmp}
-use Rattle.std.specs.Ordering.{is_lt}
 use Rattle.serde_json.specs.Data.{Data, string, number, unsigned}
 use Rattle.serde_json.specs.Find.{get, as_str}
 use Rattle.erd_tables.specs.declared.class.Family.{Family}
@@ -17,6 +16,7 @@ use Rattle.erd_check.specs.declared.want.Want.{Want}
 use Rattle.erd_check.specs.declared.want.Want.TheVariants.{Member}
 use Rattle.erd_meaning.specs.Accepted.{IsAccepted}
 use Rattle.erd_meaning.specs.Keys.{Preference, has_keys, key_cmp, key_of}
+use Rattle.erd_meaning.specs.Lookups.{rank_of}
 use Rattle.erd_meaning.specs.Objects.{IsObject, Placed, objects, id_of, selections_of_contest}
 use Rattle.erd_meaning.specs.Records.{meaning}
 use Rattle.erd_meaning.specs.SelectionNames.{compact_cmp, name_cmp, name_of, key_named}
@@ -94,10 +94,6 @@ id_prefix family.Candidate = Some (codes "ca")
 id_prefix family.Contest = Some (codes "co")
 id_prefix family.Style = None
 id_prefix family.Selection = None
-
--- The number of objects of the family in the report whose keys are less than this one.
-abbrev pub rank_of : Preference → Data → Family → Option Key → ℕ
-rank_of π t f k = length (filter (λ o. is_lt (option_cmp key_cmp (key_of π o.value) k)) (objects f t))
 
 -- The canonical `@id` of the object with rank i in its family: the letters of the family, then i + 1. A style has none.
 abbrev pub canonical_id : Family → ℕ → Option (List ℕ)

@@ -4,7 +4,7 @@ pub mod ObjectNumbers  -- the numbers of all objects of a report, by family and 
 pub mod ElectionParts  -- the objects of a family in order with their numbers, election by election
 pub mod Building  -- what is built one after another: members put, values beside what they are sorted by, numbers by position
 pub mod KeyRanks  -- the places of keys among the sorted ones, and so the numbers of selections
-pub mod KeyNumbers  -- names of selections with numbers in place of keys
+pub mod NamesByRank  -- names of selections with ranks in place of keys
 pub mod KeyOrders  -- equal in the order of keys that may be absent is equal
 pub mod NameOrders  -- equal in the order of names that may be absent is equal
 pub mod Tokens

@@ -1,6 +1,5 @@
 //! The objects of a report sorted by key, their numbers, and the canonical `@id` texts made from the numbers.
 
-pub(crate) mod chosen_numbers;
 pub(crate) mod election_parts;
 pub(crate) mod family_table;
 pub(crate) mod id_texts;

@@ -2,6 +2,6 @@
 
 pub(crate) mod compact_text;
 pub(crate) mod lent_key;
-pub(crate) mod ranked_name;
+pub(crate) mod lent_name;
 pub(crate) mod set_order;
 pub(crate) mod stable_sort;

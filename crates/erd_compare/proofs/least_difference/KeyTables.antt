@@ -1,5 +1,5 @@
 -- The table of the keys of a report's objects in a part, as it is listed and then sorted.
-use Rattle.std.proofs.Common.{◌≡◌, ℕ, zero, suc, ◌+◌, ◌<◌, ◌≤◌, ◌⊎◌, inl, inr, ⊎_elim, List, [], ◌∷◌, ◌++◌, map, length, Bor, Bool, true, false, Option, Some, None, option_and_then, Ordering, Less, is_lt, refl, sym, ap, ◌∙◌, subst, arith}
+use Rattle.std.proofs.Common.{◌≡◌, ℕ, zero, suc, ◌+◌, ◌<◌, ◌≤◌, ◌⊎◌, inl, inr, ⊎_elim, List, [], ◌∷◌, ◌++◌, map, take, length, Bor, Bool, true, false, Option, Some, None, option_and_then, option_map, Ordering, Less, is_lt, refl, sym, ap, ◌∙◌, subst, arith}
 use Rattle.std.specs.Cmp.{IsTotalOrder}
 use Rattle.std.specs.Cmp.Lexicographic.{options_total}
 use Rattle.std.specs.List.{AllByRecursion, IsDistinct, slice_get}
@@ -7,7 +7,8 @@ use Rattle.std.specs.List.Sorted.{IsPermutation, IsSortedBy}
 use Rattle.std.specs.Option.{option_cmp, option_copied}
 use Rattle.std.specs.Ordering.{eq_by_cmp, nat_cmp, ordering_then}
 use Rattle.std.proofs.lemmas.Cmp.{eq_by_cmp_equiv}
-use Rattle.std.proofs.lemmas.List.{length_push}
+use Rattle.std.proofs.lemmas.List.{length-map, length_push, take_all, take_more}
+use Rattle.std.proofs.lemmas.Option.{get_or_from_slice_get, slice_get-map, slice_get_within}
 use Rattle.std.proofs.lemmas.List.Sorted.{Contains-permutation, IsPermutation-map, IsPermutation-sym, length_permutation}
 use Rattle.std.proofs.lemmas.Map.Keys.{IsDistinct-IsPermutation}
 use Rattle.serde_json.specs.Data.{Data}
@@ -18,8 +19,9 @@ use Rattle.erd_meaning.specs.Keys.{Preference, key_cmp}
 use Rattle.erd_meaning.specs.Objects.{Placed}
 use Rattle.erd_meaning.specs.code.Orders.{key_cmp_total}
 use Rattle.erd_meaning.specs.declared.keys.key.Key.{Key}
+use Rattle.erd_meaning.proofs.finding.OneObject.{at_low}
 use Rattle.erd_meaning.proofs.orders.EqualNames.{equal_keys, options_exact}
-use Rattle.erd_compare.specs.code.KeyedDifferences.{HasKeyAt, IsComparable, IsKeyTable, key_in_role, key_with_role, keys_of, objects_in, role_of_part}
+use Rattle.erd_compare.specs.code.KeyedDifferences.{HasKeyAt, IsComparable, IsKeyTable, key_in_role, key_with_role, keys_in_role, keys_of, objects_in, role_of_part}
 use Rattle.erd_compare.specs.declared.difference.Part.{Part}
 use Rattle.erd_compare.proofs.least_difference.KeyedRecords.{low_at, records_at}
 use Rattle.erd_compare.proofs.least_difference.RisingTables.{keys_rise}
@@ -47,6 +49,7 @@ pub record IsEntryOf (π : Preference) (t : Data) (r : Role) (n : ℕ) (e : Entr
 -- the keys of the first n objects, each once
 pub record ListsKeys (π : Preference) (t : Data) (r : Role) (n : ℕ) (es : List Entry) : Type 0 where
   pub apart : IsDistinct (eq_by_cmp by_key) (keys_of es)
+  pub listed : keys_of es ≡ take n (keys_in_role π t r)
   pub stand : AllByRecursion (IsEntryOf π t r n) es
   pub all : (i : ℕ) (k : Option Key) → i < n → HasKeyAt π t r i k → In k (keys_of es)
   pub count : length es ≡ n
@@ -54,7 +57,7 @@ pub record ListsKeys (π : Preference) (t : Data) (r : Role) (n : ℕ) (es : Lis
 
 pub none_listed : (π : Preference) (t : Data) (r : Role) → ListsKeys π t r 0 []
 unfolding IsDistinct
-none_listed π t r = record { apart = tt; stand = tt; all = λ i k low e. absurd (omega arith); count = refl; low = omega arith }
+none_listed π t r = record { apart = tt; listed = refl; stand = tt; all = λ i k low e. absurd (omega arith); count = refl; low = omega arith }
 
 which : (j n : ℕ) → j < n + 1 → (j < n) ⊎ (j ≡ n)
 which j n low = grind arith
@@ -97,10 +100,20 @@ same_object e = cc
 one_at : (π : Preference) (t : Data) (r : Role) (i : ℕ) (k l : Option Key) → HasKeyAt π t r i k → HasKeyAt π t r i l → k ≡ l
 one_at π t r i k l h g = sym h.key ∙ (ap (λ (o : Placed). key_with_role π r o.value) (same_object (sym h.stands ∙ g.stands)) ∙ g.key)
 
+-- the key of the object at a position is that in the list of keys
+pub key_listed : (π : Preference) (t : Data) (r : Role) (i : ℕ) (k : Option Key) → HasKeyAt π t r i k → slice_get (keys_in_role π t r) i ≡ Some k
+key_listed π t r i k h = slice_get-map (λ (o : Placed). key_with_role π r o.value) (objects_in r t) i ∙ (ap (option_map (λ (o : Placed). key_with_role π r o.value)) h.stands ∙ ap Some h.key)
+
+next_listed : (ks : List (Option Key)) (n : ℕ) (k : Option Key) → slice_get ks n ≡ Some k → take (n + 1) ks ≡ take n ks ++ k ∷ []
+next_listed ks n k here = take_more ks n k (slice_get_within ks n k here) ∙ ap (λ x. take n ks ++ x ∷ []) (get_or_from_slice_get ks n k k here)
+
 pub one_more : (π : Preference) (t : Data) (c : IsComparable π t) (p : Part) (n : ℕ) (es : List Entry) (k : Option (Bor Key)) → ListsKeys π t (role_of_part p) n es → HasKeyAt π t (role_of_part p) n (option_copied k)
     → ListsKeys π t (role_of_part p) (n + 1) (es ++ (k, n) ∷ [])
 one_more π t c p n es k h is = record {
   apart = subst (IsDistinct (eq_by_cmp by_key)) (sym (map_more entry_key es (k, n))) (apart_more (keys_of es) (option_copied k) h.apart other);
+  listed = map_more entry_key es (k, n)
+      ∙ (ap (λ xs. xs ++ option_copied k ∷ []) h.listed
+      ∙ sym (next_listed (keys_in_role π t (role_of_part p)) n (option_copied k) (key_listed π t (role_of_part p) n (option_copied k) is)));
   stand = all_more (IsEntryOf π t (role_of_part p) (n + 1)) es (k, n) (more π t (role_of_part p) n es h.stand) (record { stands = is; low = omega arith });
   all = λ i l low has. subst (In l) (sym (map_more entry_key es (k, n))) (⊎_elim
       (λ less. In-append_left l (keys_of es) (option_copied k ∷ []) (h.all i l less has))
@@ -118,11 +131,6 @@ one_more π t c p n es k h is = record {
         omega (arith, entry.low, place)
 
 -- ---- the key of the next object
-
-at_low : {A : Type 0} (xs : List A) (i : ℕ) → i < length xs → (x : A) × (slice_get xs i ≡ Some x)
-at_low [] i low = absurd (omega arith)
-at_low (y ∷ xs) zero low = (y, refl)
-at_low (y ∷ xs) (suc i) low = at_low xs i (omega arith)
 
 -- the key that is found at a position is that of the object there
 key_of_object : (π : Preference) (t : Data) (r : Role) (i : ℕ) (o : Placed) → slice_get (objects_in r t) i ≡ Some o → key_in_role π r t i ≡ key_with_role π r o.value
@@ -154,12 +162,16 @@ pub table_sorted : (π : Preference) (t : Data) (r : Role) (n : ℕ) (es new : L
 table_sorted π t r n es new all h same sorted = record {
   rises = keys_rise by_key by_key_total entry_key (λ a b. is_lt (entry_cmp a b)) less_entry new sorted
       (IsDistinct-IsPermutation (eq_by_cmp by_key) (eq_by_cmp_equiv by_key_total).symm (keys_of es) (keys_of new) keys h.apart);
+  same = subst (λ ks. IsPermutation ks (keys_of new)) (h.listed ∙ take_all n (keys_in_role π t r) (subst (λ m. m ≤ n) (sym counted) all)) keys;
   stand = all_from_In (λ e. HasKeyAt π t r e.1 (entry_key e)) new (λ e inside.
       (In-all (IsEntryOf π t r n) e es h.stand (In-from_contains e es (Contains-permutation new es e back (contains_from_In e new inside)))).stands);
   all = λ i k has. Contains-permutation (keys_of es) (keys_of new) k keys (contains_from_In k (keys_of es) (h.all i k (omega (arith, all, low_at (objects_in r t) i has.object has.stands)) has));
   count = length_permutation es new same ∙ (h.count ∙ omega (arith, all, h.low));
 }
   where
+    counted : length (keys_in_role π t r) ≡ length (objects_in r t)
+    counted = length-map (objects_in r t) (λ (o : Placed). key_with_role π r o.value)
+
     keys : IsPermutation (keys_of es) (keys_of new)
     keys = IsPermutation-map entry_key es new same
 

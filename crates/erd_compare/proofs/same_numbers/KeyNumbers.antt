@@ -17,7 +17,7 @@ use Rattle.erd_compare.specs.code.CommonNumbers.{AreCommonNumbers, IsPositionOr,
 use Rattle.erd_compare.specs.code.KeyedDifferences.{HasKeyAt, IsComparable, IsKeyTable, key_with_role, objects_in, role_of_part}
 use Rattle.erd_compare.specs.declared.difference.Part.{Part}
 use Rattle.erd_compare.proofs.least_difference.KeyedRecords.{records_at}
-use Rattle.erd_compare.proofs.least_difference.KeyTables.{Entry}
+use Rattle.erd_compare.proofs.least_difference.KeyTables.{Entry, key_listed}
 use Rattle.erd_compare.proofs.same_numbers.KeyPlaces.{Stands, StandsNowhere, one_place, place_first, place_second, place_stands, stands_first, stands_or_not, stands_second}
 
 -- ---- keys by position
@@ -27,7 +27,7 @@ module _ (π : Preference) (t : Data) (p : Part) where
   key o = key_with_role π (role_of_part p) o.value
 
   pub key_at : (i : ℕ) (k : Option Key) → HasKeyAt π t (role_of_part p) i k → slice_get (keys_in_part π t p) i ≡ Some k
-  key_at i k h = slice_get-map key (objects_in (role_of_part p) t) i ∙ (ap (option_map key) h.stands ∙ ap Some h.key)
+  key_at i k h = key_listed π t (role_of_part p) i k h
 
   pub at_key : (i : ℕ) (k : Option Key) → slice_get (keys_in_part π t p) i ≡ Some k → HasKeyAt π t (role_of_part p) i k
   at_key i k e =

@@ -94,7 +94,7 @@ module _ (a b : Judged) (side : Side) (f : Family) (keyed : has_keys f ≡ true)
 
 -- ---- which keys have numbers
 
-kept : (π : Preference) (f : Family) (d : Data) → has_keys f ≡ true → key_with_role π (role.OfFamily f) d ≡ key_of π d
+pub kept : (π : Preference) (f : Family) (d : Data) → has_keys f ≡ true → key_with_role π (role.OfFamily f) d ≡ key_of π d
 kept π f d keyed = rw keyed refl
 
 -- the object of a key that a reference names stands in its family

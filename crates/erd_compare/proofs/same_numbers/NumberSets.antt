@@ -77,10 +77,6 @@ third true false c = refl
 third false true c = refl
 third false false c = refl
 
-pushed : (xs : List ℕ) (y : ℕ) (zs : List ℕ) → (xs ++ y ∷ []) ++ zs ≡ xs ++ y ∷ zs
-pushed [] y zs = refl
-pushed (x ∷ xs) y zs = ap (λ ws. x ∷ ws) (pushed xs y zs)
-
 module _ (a b : Judged) (side : Side) (f : Family) (vs : List Value) where
   -- the numbers of the references from a place on
   abbrev pub numbers_left : ℕ → List ℕ
@@ -123,16 +119,6 @@ module _ (a b : Judged) (side : Side) (f : Family) (vs : List Value) where
         ∙ (third (number_set s.keys k) (is_eq (nat_cmp m k)) (number_set (numbers_left (i + 1)) k)
         ∙ (ap (λ ks. number_set s.keys k || number_set ks k) (sym (named_left i v (Some m) low is named)) ∙ h.same k)));
   }
-
-  -- ---- the numbers of references are put into a list one after another
-
-  pub one_listed : (ns : List ℕ) (i : ℕ) (v : Value) (m : ℕ) → i < length vs → v ≡ get_or vs i v → Some m ≡ option_and_then (number_with_id a b side f) (as_str (view v)) → ns ++ numbers_left i ≡ all_numbers
-      → (ns ++ m ∷ []) ++ numbers_left (i + 1) ≡ all_numbers
-  one_listed ns i v m low is named h = pushed ns m (numbers_left (i + 1)) ∙ (ap (λ xs. ns ++ xs) (sym (named_left i v (Some m) low is named)) ∙ h)
-
-  pub none_listed : (ns : List ℕ) (i : ℕ) (v : Value) → i < length vs → v ≡ get_or vs i v → None ≡ option_and_then (number_with_id a b side f) (as_str (view v)) → ns ++ numbers_left i ≡ all_numbers
-      → ns ++ numbers_left (i + 1) ≡ all_numbers
-  none_listed ns i v low is named h = ap (λ xs. ns ++ xs) (sym (named_left i v None low is named)) ∙ h
 
 -- ---- what is in a list
 

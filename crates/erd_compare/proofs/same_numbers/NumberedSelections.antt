@@ -1,6 +1,6 @@
 -- The names of selections with numbers in place of keys: they are equal if and only if the names are. So two contests mean
 -- the same by the ones if and only if they do by the others.
-use Rattle.std.proofs.Common.{◌≡◌, List, [], ◌∷◌, Bool, true, cond, Option, Some, None, option_and_then, option_map, find, is_eq, codes, refl, sym, ap, ◌∙◌, subst}
+use Rattle.std.proofs.Common.{◌≡◌, List, [], ◌∷◌, Bool, true, cond, Option, Some, None, option_and_then, option_map, find, is_eq, refl, sym, ap, ◌∙◌, subst}
 use Rattle.std.proofs.Math.Path.{fun_ext}
 use Rattle.std.proofs.lemmas.Cmp.{tied_itself}
 use Rattle.std.proofs.lemmas.Map.Lookups.{CmpEqualImpliesEq}
@@ -9,44 +9,24 @@ use Rattle.std.specs.Option.{option_cmp}
 use Rattle.std.specs.declared.cmp.Ordering.{Ordering}
 use Rattle.serde_json.specs.Data.{Data}
 use Rattle.serde_json.specs.View.{view}
-use Rattle.erd_tables.specs.declared.class.Class.{Class}
-use Rattle.erd_tables.specs.declared.class.Class.TheVariants as class
-use Rattle.erd_tables.specs.declared.class.Family.TheVariants as family
-use Rattle.erd_check.specs.Values.{entries_at}
-use Rattle.erd_check.specs.Wants.{class_of_object}
 use Rattle.erd_meaning.specs.Judged.{Judged}
-use Rattle.erd_meaning.specs.Keys.{key_cmp}
 use Rattle.erd_meaning.specs.Meaning.{SelectionRecord}
 use Rattle.erd_meaning.specs.NameParts.{NameParts}
 use Rattle.erd_meaning.specs.Records.{selection_map, selection_record}
-use Rattle.erd_meaning.specs.SelectionNames.{keys_of_selection, name_cmp, name_in_class, name_of, rising_list, selection_role}
-use Rattle.erd_meaning.specs.code.NumberedNames.{NumberedParts, numbered_name_cmp, numbered_parts, without_keys}
+use Rattle.erd_meaning.specs.SelectionNames.{name_cmp, name_of}
+use Rattle.erd_meaning.specs.code.NumberedNames.{NumberedParts, numbered_name_cmp}
 use Rattle.erd_meaning.specs.code.NumberedOrders.{numbered_name_cmp_exact, numbered_name_cmp_total}
+use Rattle.erd_meaning.specs.code.RankedNames.{HasKeysIn}
+use Rattle.erd_meaning.proofs.selections.KeysInNames.{known_name}
 use Rattle.erd_meaning.specs.code.Orders.{name_cmp_exact, name_cmp_total}
-use Rattle.erd_meaning.specs.declared.keys.key.Key.{Key}
 use Rattle.erd_meaning.proofs.accepted.References.{find-Some}
 use Rattle.erd_compare.specs.code.Comparing.{Decides}
 use Rattle.erd_compare.specs.code.NumberedSides.{on_side}
-use Rattle.erd_compare.specs.code.SelectionsByName.{has_name, numbered_map, numbered_name_of, rising_numbers, selection_numbers}
-use Rattle.erd_compare.specs.declared.difference.Part.TheVariants as part
+use Rattle.erd_compare.specs.code.SelectionsByName.{has_name, numbered_map, numbered_name, numbered_name_of}
 use Rattle.erd_compare.specs.declared.numbers.side.Side.{Side}
 use Rattle.erd_compare.specs.declared.numbers.side.Side.TheVariants.{Left, Right}
-use Rattle.erd_compare.proofs.same_numbers.NumberSets.{both_ways, named_numbered}
-use Rattle.erd_compare.proofs.same_numbers.RisingNumbers.{keys_from_numbers, numbers_from_keys}
-use Rattle.std.specs.Ordering.{nat_cmp}
-
--- ---- one name
-
--- names that differ in their keys alone
-one_name : (m n : NameParts) → without_keys m ≡ without_keys n → m.keys ≡ n.keys → m ≡ n
-one_name m n rest keys i = record {
-  class = (rest i).class;
-  keys = keys i;
-  write_in = (rest i).write_in;
-  order = (rest i).order;
-  label = (rest i).label;
-  identifier = (rest i).identifier;
-}
+use Rattle.erd_compare.proofs.same_numbers.NamesOnSides.{from_numbered}
+use Rattle.erd_compare.proofs.same_numbers.NumberSets.{both_ways}
 
 -- a tested name is the name
 module _ {K : Type 0} (cmp : K → K → Ordering) (total : IsTotalOrder cmp) (exact : CmpEqualImpliesEq cmp) where
@@ -65,86 +45,24 @@ module _ (a b : Judged) where
   abbrev name_on : Side → Data → Option NameParts
   name_on side d = name_of (on_side side a b).prefer (view (on_side side a b).tree) d
 
-  abbrev keys_on : Side → Class → Data → List Key
-  keys_on side c d = keys_of_selection (on_side side a b).prefer (view (on_side side a b).tree) c d
-
-  -- ---- keys and numbers of one class
-
-  keys_of_one : (s r : Side) (c : Class) (d e : Data) → rising_list nat_cmp (selection_numbers a b s (Some c) d) ≡ rising_list nat_cmp (selection_numbers a b r (Some c) e)
-      → rising_list key_cmp (keys_on s c d) ≡ rising_list key_cmp (keys_on r c e)
-  keys_of_one s r class.CandidateSelection d e same =
-      keys_from_numbers a b part.Candidate (keys_on s class.CandidateSelection d) (keys_on r class.CandidateSelection e) (named_numbered a b s family.Candidate refl (entries_at (codes "CandidateIds") d))
-      (named_numbered a b r family.Candidate refl (entries_at (codes "CandidateIds") e)) same
-  keys_of_one s r class.PartySelection d e same =
-      keys_from_numbers a b part.Party (keys_on s class.PartySelection d) (keys_on r class.PartySelection e) (named_numbered a b s family.Party refl (entries_at (codes "PartyIds") d))
-      (named_numbered a b r family.Party refl (entries_at (codes "PartyIds") e)) same
-  keys_of_one s r c d e same = refl
-
-  numbers_of_one : (s r : Side) (c : Class) (d e : Data) → rising_list key_cmp (keys_on s c d) ≡ rising_list key_cmp (keys_on r c e)
-      → rising_list nat_cmp (selection_numbers a b s (Some c) d) ≡ rising_list nat_cmp (selection_numbers a b r (Some c) e)
-  numbers_of_one s r class.CandidateSelection d e same = numbers_from_keys a b part.Candidate (keys_on s class.CandidateSelection d) (keys_on r class.CandidateSelection e) same
-  numbers_of_one s r class.PartySelection d e same = numbers_from_keys a b part.Party (keys_on s class.PartySelection d) (keys_on r class.PartySelection e) same
-  numbers_of_one s r c d e same = refl
-
-  -- ---- names of two selections
-
-  abbrev made : Side → Class → Data → NameParts
-  made side c d = name_in_class (on_side side a b).prefer (view (on_side side a b).tree) c d
-
-  abbrev numbered : Side → Class → Data → NumberedParts
-  numbered side c d = numbered_parts (made side c d) (rising_list nat_cmp (selection_numbers a b side (Some c) d))
-
-  some_equal : {A : Type 0} {x y : A} → Some x ≡ Some y → x ≡ y
-  some_equal e = cc
-
-  from_numbered : (s r : Side) (c k : Class) (d e : Data) → numbered s c d ≡ numbered r k e → made s c d ≡ made r k e
-  from_numbered s r c k d e same =
-      let rest : without_keys (made s c d) ≡ without_keys (made r k e) = ap (λ (n : NumberedParts). n.name) same in
-      let class : c ≡ k = ap (λ (n : NameParts). n.class) rest in
-      let numbers : rising_list nat_cmp (selection_numbers a b s (Some c) d) ≡ rising_list nat_cmp (selection_numbers a b r (Some k) e) = ap (λ (n : NumberedParts). n.numbers) same in
-      one_name (made s c d) (made r k e) rest
-      (keys_of_one s r c d e (numbers ∙ ap (λ x. rising_list nat_cmp (selection_numbers a b r (Some x) e)) (sym class)) ∙ ap (λ x. rising_list key_cmp (keys_on r x e)) class)
-
-  to_numbered : (s r : Side) (c k : Class) (d e : Data) → made s c d ≡ made r k e → numbered s c d ≡ numbered r k e
-  to_numbered s r c k d e same =
-      let class : c ≡ k = ap (λ (n : NameParts). n.class) same in
-      let keys : rising_list key_cmp (keys_on s c d) ≡ rising_list key_cmp (keys_on r k e) = ap (λ (n : NameParts). n.keys) same in
-      let numbers : rising_list nat_cmp (selection_numbers a b s (Some c) d) ≡ rising_list nat_cmp (selection_numbers a b r (Some k) e) =
-      numbers_of_one s r c d e (keys ∙ ap (λ x. rising_list key_cmp (keys_on r x e)) (sym class)) ∙ ap (λ x. rising_list nat_cmp (selection_numbers a b r (Some x) e)) class in
-      λ i. record { numbers = numbers i; name = without_keys (same i) }
-
-  -- the name with numbers, by the class
-  as_made : (s : Side) (d : Data) (o : Option Class) → class_of_object selection_role d ≡ o → numbered_name_of a b s d ≡ option_map (λ c. numbered s c d) o
-  as_made s d o is = ap (λ x. option_map (λ n. numbered_parts n (rising_list nat_cmp (selection_numbers a b s x d))) (option_map (λ c. made s c d) x)) is ∙ by_class o
-    where
-      by_class : (o : Option Class) → option_map (λ n. numbered_parts n (rising_list nat_cmp (selection_numbers a b s o d))) (option_map (λ c. made s c d) o) ≡ option_map (λ c. numbered s c d) o
-      by_class None = refl
-      by_class (Some c) = refl
-
-  as_named : (s : Side) (d : Data) (o : Option Class) → class_of_object selection_role d ≡ o → name_on s d ≡ option_map (λ c. made s c d) o
-  as_named s d o is = ap (option_map (λ c. made s c d)) is
-
   -- two selections have one name with numbers if and only if they have one name
-  one_from_numbered : (s r : Side) (d e : Data) (o p : Option Class) → option_map (λ c. numbered s c d) o ≡ option_map (λ c. numbered r c e) p → option_map (λ c. made s c d) o ≡ option_map (λ c. made r c e) p
-  one_from_numbered s r d e None None same = refl
-  one_from_numbered s r d e None (Some k) same = cc
-  one_from_numbered s r d e (Some c) None same = cc
-  one_from_numbered s r d e (Some c) (Some k) same = ap Some (from_numbered s r c k d e (some_equal same))
-
-  one_to_numbered : (s r : Side) (d e : Data) (o p : Option Class) → option_map (λ c. made s c d) o ≡ option_map (λ c. made r c e) p → option_map (λ c. numbered s c d) o ≡ option_map (λ c. numbered r c e) p
-  one_to_numbered s r d e None None same = refl
-  one_to_numbered s r d e None (Some k) same = cc
-  one_to_numbered s r d e (Some c) None same = cc
-  one_to_numbered s r d e (Some c) (Some k) same = ap Some (to_numbered s r c k d e (some_equal same))
-
-  abbrev class_on : Data → Option Class
-  class_on d = class_of_object selection_role d
-
   names_from_numbered : (s r : Side) (d e : Data) → numbered_name_of a b s d ≡ numbered_name_of a b r e → name_on s d ≡ name_on r e
-  names_from_numbered s r d e same = one_from_numbered s r d e (class_on d) (class_on e) (sym (as_made s d (class_on d) refl) ∙ (same ∙ as_made r e (class_on e) refl))
+  names_from_numbered s r d e same = at (name_on s d) refl (name_on r e) refl same
+    where
+      some_equal : {A : Type 0} {x y : A} → Some x ≡ Some y → x ≡ y
+      some_equal h = cc
+
+      known : (side : Side) (x : Data) (n : NameParts) → name_on side x ≡ Some n → HasKeysIn (on_side side a b).prefer (view (on_side side a b).tree) n
+      known side x n is = known_name (on_side side a b).prefer (view (on_side side a b).tree) x n is
+
+      at : (o : Option NameParts) → name_on s d ≡ o → (p : Option NameParts) → name_on r e ≡ p → option_map (numbered_name a b) o ≡ option_map (numbered_name a b) p → name_on s d ≡ name_on r e
+      at None is None other h = is ∙ sym other
+      at None is (Some n) other h = cc
+      at (Some m) is None other h = cc
+      at (Some m) is (Some n) other h = is ∙ (ap Some (from_numbered a b s r m n (known s d m is) (known r e n other) (some_equal h)) ∙ sym other)
 
   numbered_from_names : (s r : Side) (d e : Data) → name_on s d ≡ name_on r e → numbered_name_of a b s d ≡ numbered_name_of a b r e
-  numbered_from_names s r d e same = as_made s d (class_on d) refl ∙ (one_to_numbered s r d e (class_on d) (class_on e) same ∙ sym (as_made r e (class_on e) refl))
+  numbered_from_names s r d e same = ap (option_map (numbered_name a b)) same
 
   -- ---- selections by name
 
@@ -169,17 +87,17 @@ module _ (a b : Judged) where
   same_maps : (s r : Side) (ds : List Data) (e : Data) (k : NameParts) (q : NumberedParts) → name_on r e ≡ Some k → numbered_name_of a b r e ≡ Some q → map_on s ds k ≡ numbered_map a b s ds q
   same_maps s r ds e k q named numbers = ap (option_and_then (record_on s)) (same_find (is_named s k) (has_name a b s q) ds (same_tests s r e k q named numbers))
 
-  has_numbers : (r : Side) (e : Data) (k : NameParts) → name_on r e ≡ Some k → numbered_name_of a b r e ≡ Some (numbered_parts k (rising_numbers a b r e))
-  has_numbers r e k named = ap (option_map (λ n. numbered_parts n (rising_numbers a b r e))) named
+  has_numbers : (r : Side) (e : Data) (k : NameParts) → name_on r e ≡ Some k → numbered_name_of a b r e ≡ Some (numbered_name a b k)
+  has_numbers r e k named = ap (option_map (numbered_name a b)) named
 
-  has_its_name : (r : Side) (e : Data) (q : NumberedParts) (o : Option NameParts) → name_on r e ≡ o → option_map (λ n. numbered_parts n (rising_numbers a b r e)) o ≡ Some q → (k : NameParts) × (name_on r e ≡ Some k)
+  has_its_name : (r : Side) (e : Data) (q : NumberedParts) (o : Option NameParts) → name_on r e ≡ o → option_map (numbered_name a b) o ≡ Some q → (k : NameParts) × (name_on r e ≡ Some k)
   has_its_name r e q None is h = cc
   has_its_name r e q (Some k) is h = (k, is)
 
   module _ (ds es : List Data) where
     named_by_one : ((q : NumberedParts) → numbered_map a b Left ds q ≡ numbered_map a b Right es q) → (r : Side) (e : Data) (k : NameParts) → name_on r e ≡ Some k → map_on Left ds k ≡ map_on Right es k
     named_by_one same r e k named =
-        let q = numbered_parts k (rising_numbers a b r e) in
+        let q = numbered_name a b k in
         let numbers = has_numbers r e k named in
         same_maps Left r ds e k q named numbers ∙ (same q ∙ sym (same_maps Right r es e k q named numbers))
 

@@ -14,13 +14,13 @@ use Rattle.erd_meaning.proofs.accepted.References.{find-Some}
 use Rattle.erd_meaning.specs.Judged.{Judged}
 use Rattle.erd_meaning.specs.Keys.{Preference}
 use Rattle.erd_meaning.specs.Meaning.{SelectionRecord}
-use Rattle.erd_meaning.specs.code.NumberedNames.{NumberedParts, numbered_name_cmp, numbered_parts}
+use Rattle.erd_meaning.specs.code.NumberedNames.{NumberedParts, numbered_name_cmp}
 use Rattle.erd_meaning.specs.code.NumberedOrders.{numbered_name_cmp_total}
 use Rattle.erd_meaning.specs.Records.{plain_member, selection_record}
 use Rattle.erd_meaning.specs.SelectionNames.{name_in_class, selection_role}
 use Rattle.erd_tables.specs.declared.class.Class.{Class}
 use Rattle.erd_compare.specs.code.Comparing.{Decides, IsWholeTree}
-use Rattle.erd_compare.specs.code.SelectionsByName.{IsByName, has_name, name_eq, numbered_map, rising_numbers}
+use Rattle.erd_compare.specs.code.SelectionsByName.{IsByName, has_name, name_eq, numbered_map, numbered_name}
 use Rattle.erd_compare.specs.code.NumberedSides.{on_side}
 use Rattle.erd_compare.specs.declared.numbers.side.Side.{Side}
 use Rattle.erd_compare.specs.declared.numbers.side.Side.TheVariants.{Left, Right}
@@ -79,7 +79,7 @@ module _ (a b : Judged) (side : Side) (ds : List Data) where
   means_something : (name : NumberedParts) (d : Data) → has_name a b side name d ≡ true → selection_record π t d ≡ None → ⊥
   means_something name d named = at (class_of_object selection_role d) named
     where
-      at : (o : Option Class) → is_eq (option_cmp numbered_name_cmp (option_map (λ n. numbered_parts n (rising_numbers a b side d)) (option_map (λ c. name_in_class π t c d) o)) (Some name)) ≡ true → option_map (in_class π t d) o ≡ None → ⊥
+      at : (o : Option Class) → is_eq (option_cmp numbered_name_cmp (option_map (numbered_name a b) (option_map (λ c. name_in_class π t c d) o)) (Some name)) ≡ true → option_map (in_class π t d) o ≡ None → ⊥
       at None h nothing = cc
       at (Some c) h nothing = cc
 

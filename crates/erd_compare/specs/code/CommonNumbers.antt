@@ -9,7 +9,7 @@ use Rattle.erd_meaning.specs.Keys.{Preference, key_cmp}
 use Rattle.erd_meaning.specs.declared.keys.key.Key.{Key}
 use Rattle.erd_tables.specs.declared.class.Family.{Family}
 use Rattle.erd_tables.specs.declared.class.Family.TheVariants as family
-use Rattle.erd_compare.specs.code.KeyedDifferences.{HasKeyAt, IsKeyTable, key_with_role, objects_in, role_of_part}
+use Rattle.erd_compare.specs.code.KeyedDifferences.{HasKeyAt, IsComparable, IsKeyTable, keys_in_role, role_of_part}
 use Rattle.erd_compare.specs.declared.difference.Part.{Part}
 use Rattle.erd_compare.specs.declared.difference.Part.TheVariants as part
 use Rattle.erd_compare.specs.declared.numbers.kept_tables.KeyTables.{KeyTables}
@@ -24,7 +24,7 @@ place_of k (l ∷ ls) = if is_eq (option_cmp key_cmp k l) then 0 else suc (place
 
 -- The keys of the objects in the part, in the order of the report.
 abbrev pub keys_in_part : Preference → Data → Part → List (Option Key)
-keys_in_part π t p = map (λ o. key_with_role π (role_of_part p) o.value) (objects_in (role_of_part p) t)
+keys_in_part π t p = keys_in_role π t (role_of_part p)
 
 -- The number of a key: its first position among the keys of both reports in the part.
 abbrev pub common_number : Judged → Judged → Part → Option Key → ℕ
@@ -70,8 +70,10 @@ tables_of part.Candidate n = n.candidates
 tables_of part.Contest n = n.contests
 tables_of part.Style n = n.styles
 
--- These are the keys of the two reports in the part, and the numbers.
+-- These are the keys of the two reports in the part, and the numbers. The left report is comparable, so no two of its objects
+-- have the same key.
 pub record ArePartTables (a b : Judged) (p : Part) (n : PartTables) : Type 0 where
+  pub comparable : IsComparable a.prefer (view a.tree)
   pub left : IsKeyTable a.prefer (view a.tree) (role_of_part p) n.ones.items
   pub right : IsKeyTable b.prefer (view b.tree) (role_of_part p) n.others.items
   pub numbers : AreCommonNumbers a b p n.numbers.items

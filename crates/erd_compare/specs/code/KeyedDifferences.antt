@@ -1,7 +1,7 @@
 -- The least key at which two reports differ in a part.
 use Rattle.std.specs.Prelude.{◌≡◌, ℕ, List, [], ◌∷◌, map, length, if◌then◌else◌, Option, Some, None, option_and_then}
 use Rattle.std.specs.List.{AllByRecursion, Contains, slice_get}
-use Rattle.std.specs.List.Sorted.{IsStrictlySortedBy}
+use Rattle.std.specs.List.Sorted.{IsPermutation, IsStrictlySortedBy}
 use Rattle.std.specs.Option.{option_cmp, option_copied}
 use Rattle.serde_json.specs.Data.{Data}
 use Rattle.erd_tables.specs.declared.class.Family.TheVariants as family
@@ -51,6 +51,10 @@ objects_in r t = report_of t ∷ []
 abbrev pub key_with_role : Preference → Role → Data → Option Key
 key_with_role π r d = if is_keyed_role r then key_of π d else None
 
+-- The keys of the objects with the role, in the order of the report.
+abbrev pub keys_in_role : Preference → Data → Role → List (Option Key)
+keys_in_role π t r = map (λ o. key_with_role π r o.value) (objects_in r t)
+
 -- The key of the object with the role at the position, or none if there is no such object or it has no key.
 abbrev pub key_in_role : Preference → Role → Data → ℕ → Option Key
 key_in_role π (role.OfFamily f) t i = key_in π f t i
@@ -84,6 +88,7 @@ keys_of entries = map (λ e. option_copied e.0) entries
 -- object has no key.
 pub record IsKeyTable (π : Preference) (t : Data) (r : Role) (entries : List (Option (Bor Key) × ℕ)) : Type 0 where
   pub rises : IsStrictlySortedBy (option_cmp key_cmp) (keys_of entries)
+  pub same : IsPermutation (keys_in_role π t r) (keys_of entries)
   pub stand : AllByRecursion (λ e. HasKeyAt π t r e.1 (option_copied e.0)) entries
   pub all : (i : ℕ) (k : Option Key) → HasKeyAt π t r i k → Contains (keys_of entries) k
   pub count : length entries ≡ length (objects_in r t)

@@ -1,18 +1,22 @@
 -- The numbers of objects on either side.
-use Rattle.std.specs.Prelude.{◌≡◌, ℕ, List, map, Bool, Option, Some, option_map}
+use Rattle.std.specs.Prelude.{◌≡◌, ℕ, List, map, Bool, true, Option, Some, option_and_then, option_map}
 use Rattle.std.specs.BTreeSet.{BTreeSet}
-use Rattle.std.specs.List.{list_any}
+use Rattle.std.specs.List.{list_any, slice_get}
 use Rattle.std.specs.List.Sorted.{IsStrictlySortedBy}
 use Rattle.std.specs.Ordering.{is_eq, nat_cmp}
 use Rattle.serde_json.specs.Data.{Data}
 use Rattle.serde_json.specs.View.{view}
 use Rattle.erd_tables.specs.declared.class.Family.{Family}
 use Rattle.erd_meaning.specs.Judged.{Judged}
+use Rattle.erd_meaning.specs.Keys.{has_keys}
+use Rattle.erd_meaning.specs.Lookups.{rank_of}
 use Rattle.erd_meaning.specs.SelectionNames.{key_named, keys_named}
+use Rattle.erd_meaning.specs.code.RankedNames.{IsKeyIn}
 use Rattle.erd_meaning.specs.declared.keys.key.Key.{Key}
-use Rattle.erd_compare.specs.code.CommonNumbers.{common_number, number_of_key, part_of_family}
+use Rattle.erd_compare.specs.code.CommonNumbers.{common_number, number_of_key, part_of_family, tables_of}
 use Rattle.erd_compare.specs.code.KeyedDifferences.{HasKeyAt, role_of_part}
 use Rattle.erd_compare.specs.declared.difference.Part.{Part}
+use Rattle.erd_compare.specs.declared.numbers.kept_tables.KeyTables.{KeyTables}
 use Rattle.erd_compare.specs.declared.numbers.side.Side.{Side}
 use Rattle.erd_compare.specs.declared.numbers.side.Side.TheVariants.{Left, Right}
 
@@ -42,3 +46,15 @@ number_set ns n = list_any (λ m. is_eq (nat_cmp m n)) ns
 pub record IsNumberSet (ns : List ℕ) (s : BTreeSet ℕ) : Type 0 where
   pub rises : IsStrictlySortedBy nat_cmp s.keys
   pub same : (n : ℕ) → number_set s.keys n ≡ number_set ns n
+
+-- The number of the object of the part whose key has this rank, or none if there is none. On the left it is the position of
+-- the object.
+abbrev pub number_at_rank : KeyTables → Side → Part → ℕ → Option ℕ
+number_at_rank tables Left p rank = option_map (λ e. e.1) (slice_get (tables_of p tables).ones.items rank)
+number_at_rank tables Right p rank = option_and_then (λ e. slice_get (tables_of p tables).numbers.items e.1) (slice_get (tables_of p tables).others.items rank)
+
+-- The number at the rank of each key of an object is that of the key.
+abbrev pub AreNumbersAtRanks : Judged → Judged → KeyTables → Type 0
+AreNumbersAtRanks a b tables =
+    (side : Side) (f : Family) → has_keys f ≡ true → (key : Key) → IsKeyIn (on_side side a b).prefer (view (on_side side a b).tree) f key
+    → number_at_rank tables side (part_of_family f) (rank_of (on_side side a b).prefer (view (on_side side a b).tree) f (Some key)) ≡ Some (number_of_key a b (part_of_family f) key)

@@ -3,13 +3,13 @@ ghost use Rattle.serde_json.specs.View.{view};
 ghost use Rattle.erd_compare.specs.code.CommonNumbers.{number_of_key, part_of_family};
 ghost use Rattle.erd_compare.specs.declared.difference.Part.TheVariants.{Election};
 ghost use Rattle.erd_compare.specs.code.KeyedDifferences.{holder_key_in, key_in_role, role_of_part};
-ghost use Rattle.erd_compare.specs.code.NumberedSides.{IsNumberAt, on_side};
+ghost use Rattle.erd_compare.specs.code.NumberedSides.{IsNumberAt, number_at_rank, on_side};
 
 use crate::difference::Part;
 use crate::numbers::role_objects::{election_of, key_at, role_of};
 use crate::numbers::side::Side;
 use crate::sides::Sides;
-use erd_meaning::Report;
+use erd_meaning::{Key, Report};
 use erd_tables::Family;
 
 /// The report on a side.
@@ -68,6 +68,27 @@ fn number_in(numbers: &[usize], index: usize) -> Option<usize>
 {
     match numbers.get(index) {
         Some(number) => Some(*number),
+        None => None,
+    }
+}
+
+/// The number of the object of a part whose key has this rank, if there is one.
+pub(crate) fn number_at_rank(sides: Sides, side: Side, part: Part, rank: usize) -> Option<usize>
+    ensures { result ≡ number_at_rank sides.entry.tables.now side part rank }
+{
+    let tables = sides.tables.of(part);
+    match side {
+        Side::Left => position_in(&tables.ones, rank),
+        Side::Right => number_in(&tables.numbers, position_in(&tables.others, rank)?),
+    }
+}
+
+/// The position at a rank of a table of keys, if there is one.
+fn position_in(table: &[(Option<&Key>, usize)], rank: usize) -> Option<usize>
+    ensures { result ≡ option_map (λ e. e.1) (slice_get table.now rank) }
+{
+    match table.get(rank) {
+        Some((_, position)) => Some(*position),
         None => None,
     }
 }

@@ -9,9 +9,9 @@ ghost use Rattle.erd_compare.specs.code.PlacedObjects.{AreNamedIn, AreSelections
 ghost use Rattle.erd_compare.specs.code.SelectionMembers.{if_filled, selections_meant};
 ghost use Rattle.erd_compare.specs.code.SelectionsByName.{IsByName};
 
+use crate::numbers::name_numbers::numbered_name;
 use crate::numbers::side::Side;
 use crate::objects::members_left::{MembersLeft, lesser_name};
-use crate::objects::numbered_names::numbered_name;
 use crate::objects::placed::{Found, Selections};
 use crate::objects::plain_members::is_same_plain_member;
 use crate::sides::Sides;
@@ -105,7 +105,7 @@ fn by_name<'a>(
     let mut named = IndexMap::new(alloc);
     for (index, selection) in values.iter().enumerate() {
         let place = (contest, index);
-        if let Some(name) = numbered_name(alloc, sides, side, place, selection)? {
+        if let Some(name) = numbered_name(alloc, sides, side, place)? {
             if !named.contains_key(&name) {
                 named.insert(name, selection)?;
             }

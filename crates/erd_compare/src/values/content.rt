@@ -10,6 +10,7 @@ ghost use Rattle.erd_meaning.specs.SelectionNames.{key_named, name_named};
 ghost use Rattle.erd_compare.specs.code.Comparing.{Decides, IsWholeTree};
 ghost use Rattle.erd_compare.specs.code.ContentParts.{content_within};
 
+use crate::numbers::name_numbers::are_equal_names;
 use crate::numbers::side::Side;
 use crate::sides::Sides;
 use crate::values::chosen_members::is_same_carried;
@@ -146,7 +147,12 @@ fn is_same_name(sides: Sides, one: &Value, other: &Value) -> bool
     ensures { Decides result (option_and_then (name_named sides.entry.left.now.prefer (view sides.entry.left.now.tree)) (as_str (view one.now)))
         (option_and_then (name_named sides.entry.right.now.prefer (view sides.entry.right.now.tree)) (as_str (view other.now))) }
 {
-    name_named(sides.left, one) == name_named(sides.right, other)
+    match (name_named(sides.left, one), name_named(sides.right, other)) {
+        (Some(one), Some(other)) => are_equal_names(sides, one, other),
+        (Some(_), None) => false,
+        (None, Some(_)) => false,
+        (None, None) => true,
+    }
 }
 
 /// Whether the members with this name refer to objects of the family with the same key.

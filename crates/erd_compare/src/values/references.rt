@@ -3,24 +3,25 @@ ghost use Rattle.serde_json.specs.Find.{as_str};
 ghost use Rattle.serde_json.specs.View.{view};
 ghost use Rattle.erd_meaning.specs.Keys.{has_keys};
 ghost use Rattle.erd_tables.specs.Classes.{family_number};
-ghost use Rattle.erd_meaning.specs.Lookups.{selection_in};
 ghost use Rattle.erd_meaning.specs.Records.{key_set};
 ghost use Rattle.erd_meaning.specs.SelectionNames.{key_named, keys_named, name_named};
+ghost use Rattle.erd_meaning.specs.code.RankedNames.{ranked_name, ranked_selection_in};
 ghost use Rattle.erd_compare.specs.code.Comparing.{Decides};
 ghost use Rattle.erd_compare.specs.code.NumberedSides.{IsNumberSet, number_with_id, list_of_numbers};
 
 use crate::numbers::lookups::{number_of, part_of, report_on};
 use crate::numbers::side::Side;
 use crate::sides::Sides;
-use erd_meaning::{Report, SelectionName};
+use erd_meaning::{RankedName, Report};
 use erd_tables::Family;
 use serde_json::Value;
 use std::alloc::{AllocError, Global};
 use std::collections::BTreeSet;
 
-/// The name of the selection that a reference names, if there is one.
-pub(crate) fn name_named<'a>(report: &'a Report, value: &Value) -> Option<&'a SelectionName>
-    ensures { option_map (λ name. name.now) result ≡ option_and_then (name_named report.now.prefer (view report.now.tree)) (as_str (view value.now)) }
+/// The name of the selection that a reference names, with the ranks of its keys, if there is one.
+pub(crate) fn name_named<'a>(report: &'a Report, value: &Value) -> Option<&'a RankedName>
+    ensures { option_map (λ name. name.now) result ≡ option_map (ranked_name report.now.prefer (view report.now.tree))
+        (option_and_then (name_named report.now.prefer (view report.now.tree)) (as_str (view value.now))) }
 {
     let id = value.as_str()?;
     let (found, index) = report.target(id)?;
@@ -31,11 +32,11 @@ pub(crate) fn name_named<'a>(report: &'a Report, value: &Value) -> Option<&'a Se
     }
 }
 
-/// The name of the selection at a position, if there is one.
-fn selection_name<'a>(report: &'a Report, index: usize) -> Option<&'a SelectionName>
-    ensures { option_map (λ name. name.now) result ≡ option_map (λ s. s.1) (selection_in report.now.prefer (view report.now.tree) index) }
+/// The name of the selection at a position, with the ranks of its keys, if there is one.
+fn selection_name<'a>(report: &'a Report, index: usize) -> Option<&'a RankedName>
+    ensures { option_map (λ name. name.now) result ≡ option_map (λ s. s.1) (ranked_selection_in report.now.prefer (view report.now.tree) index) }
 {
-    let (_, name) = report.selection_at(index)?;
+    let (_, name) = report.ranked_name_at(index)?;
     Some(name)
 }
 
@@ -108,26 +109,6 @@ fn set_of_numbers(
     for value in values {
         if let Some(number) = number_named(sides, side, family, value) {
             numbers.insert(number)?;
-        }
-    }
-    Ok(numbers)
-}
-
-/// The numbers of the objects of a family that the references name, in the order of the references.
-pub(crate) fn list_of_numbers(
-    alloc: Global,
-    sides: Sides,
-    side: Side,
-    family: Family,
-    values: &[Value],
-) -> Result<Vec<usize>, AllocError>
-    requires keyed { has_keys family ≡ true }
-    ensures { IfOk result (λ numbers. numbers.items ≡ list_of_numbers sides.entry.left.now sides.entry.right.now side family (map view values.now)) }
-{
-    let mut numbers = Vec::new(alloc);
-    for value in values {
-        if let Some(number) = number_named(sides, side, family, value) {
-            numbers.push(number)?;
         }
     }
     Ok(numbers)

@@ -1,5 +1,5 @@
 -- What names an object names one object: by its key in its family, by its `@id` in the report.
-use Rattle.std.proofs.Common.{◌≡◌, ◌<◌, ◌+◌, ℕ, zero, suc, ◌⊎◌, inl, inr, List, [], ◌∷◌, Bool, true, false, cond, Less, Ordering, Option, Some, None, option_and_then, option_map, refl, sym, ap, ◌∙◌, subst, arith}
+use Rattle.std.proofs.Common.{◌≡◌, ◌<◌, ◌+◌, ℕ, zero, suc, ◌⊎◌, inl, inr, List, [], ◌∷◌, length, Bool, true, false, cond, Less, Ordering, Option, Some, None, option_and_then, option_map, refl, sym, ap, ◌∙◌, subst, arith}
 use Rattle.std.specs.List.{position, position_from, slice_get}
 use Rattle.std.specs.List.Sorted.{IsStrictlySortedBy}
 use Rattle.std.proofs.lemmas.Iterator.Adapters.{position_from-zero}
@@ -29,6 +29,12 @@ pub in_at : {A : Type 0} (xs : List A) (i : ℕ) (x : A) → slice_get xs i ≡ 
 in_at [] i x e = cc
 in_at (y ∷ xs) zero x e = let same : y ≡ x = cc in inl same
 in_at (y ∷ xs) (suc i) x e = inr (in_at xs i x e)
+
+-- what stands at a position of a list
+pub at_low : {A : Type 0} (xs : List A) (i : ℕ) → i < length xs → (x : A) × (slice_get xs i ≡ Some x)
+at_low [] i low = absurd (omega arith)
+at_low (y ∷ xs) zero low = (y, refl)
+at_low (y ∷ xs) (suc i) low = at_low xs i (omega arith)
 
 pub sorted_at : {A : Type 0} (cmp : A → A → Ordering) (xs : List A) (i j : ℕ) (x y : A) → IsStrictlySortedBy cmp xs → i < j
     → slice_get xs i ≡ Some x → slice_get xs j ≡ Some y → cmp x y ≡ Less

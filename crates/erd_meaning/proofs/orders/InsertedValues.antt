@@ -56,17 +56,3 @@ module _ {A : Type 0} {cmp : A → A → Ordering} (order : IsTotalOrder cmp) wh
 
     pub inserted_exchange : (x y : A) (zs : List A) → with_inserted cmp x (with_inserted cmp y zs) ≡ with_inserted cmp y (with_inserted cmp x zs)
     inserted_exchange x y zs = exchanged_at x y zs (cmp x y) refl
-
-    -- a list that is put in another order first
-    inserted_again : {B : Type 0} (f : B → A) (other : B → B → Ordering) (x : B) (ys : List B) → rising_list cmp (map f (with_inserted other x ys)) ≡ with_inserted cmp (f x) (rising_list cmp (map f ys))
-    inserted_again f other x [] = refl
-    inserted_again {B} f other x (y ∷ ys) = at (is_lt (other y x)) (inserted_again f other x ys)
-      where
-        at : (b : Bool) → rising_list cmp (map f (with_inserted other x ys)) ≡ with_inserted cmp (f x) (rising_list cmp (map f ys))
-            → rising_list cmp (map f (cond b (y ∷ with_inserted other x ys) (x ∷ (y ∷ ys)))) ≡ with_inserted cmp (f x) (rising_list cmp (map f (y ∷ ys)))
-        at false more = refl
-        at true more = ap (with_inserted cmp (f y)) more ∙ inserted_exchange (f y) (f x) (rising_list cmp (map f ys))
-
-    pub rising_again : {B : Type 0} (f : B → A) (other : B → B → Ordering) (xs : List B) → rising_list cmp (map f (rising_list other xs)) ≡ rising_list cmp (map f xs)
-    rising_again f other [] = refl
-    rising_again f other (x ∷ xs) = inserted_again f other x (rising_list other xs) ∙ ap (with_inserted cmp (f x)) (rising_again f other xs)

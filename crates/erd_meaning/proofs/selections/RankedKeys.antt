@@ -34,8 +34,8 @@ use denote.Ref.{Bor}
 use Rattle.erd_meaning.proofs.finding.Lookups.{ranked}
 use Rattle.erd_meaning.proofs.finding.OneObject.{hit, in_at, missed}
 use Rattle.erd_meaning.proofs.identity.KeyTests.{same_key_from}
-use Rattle.erd_meaning.proofs.orders.Counted.{count-rising, count_map, more_pass}
-use Rattle.erd_meaning.proofs.orders.InsertedValues.{is_less}
+use Rattle.erd_meaning.proofs.orders.Counted.{count-rising, count_map}
+use Rattle.erd_meaning.proofs.orders.CountedKeys.{IsKeyOf, counted_as_key}
 use Rattle.erd_meaning.proofs.orders.RisingAlike.{all_rising, rising_alike}
 use Rattle.erd_meaning.proofs.orders.RisingLists.{rising_list_map}
 
@@ -100,36 +100,14 @@ module _ (ks : List Kept) (f : Family) where
 
   -- ---- ranks
 
-  abbrev below : Key → Kept → Bool
-  below key k = is_lt (option_cmp key_cmp k.key (Some key))
-
-  below_later : (k l : Key) → key_cmp k l ≡ Less → (o : Kept) → below k o ≡ true → below l o ≡ true
-  below_later k l less o h = at o.key h
-    where
-      at : (key : Option Key) → is_lt (option_cmp key_cmp key (Some k)) ≡ true → is_lt (option_cmp key_cmp key (Some l)) ≡ true
-      at None e = refl
-      at (Some j) e = ap is_lt (key_cmp_total.trans j k l (is_less (key_cmp j k) e) less)
-
-  rank_grows : (k l : Key) → IsKeyAmong k → key_cmp k l ≡ Less → rank_among ks f (Some k) < rank_among ks f (Some l)
-  rank_grows k l has less =
-      let at = (key_at k has).1 in
-      let i = (key_at k has).0 in
-      more_pass (below k) (below l) (below_later k l less) at.owner (those_of f ks)
-      (ap (λ key. is_lt (option_cmp key_cmp key (Some k))) at.keyed ∙ ap is_lt (tied_itself key_cmp_total k))
-      (ap (λ key. is_lt (option_cmp key_cmp key (Some l))) at.keyed ∙ ap is_lt less)
-      (in_at (those_of f ks) i at.owner at.place)
+  its_key : (k : Key) → IsKeyAmong k → IsKeyOf (λ (o : Kept). o.key) (those_of f ks) k
+  its_key k has =
+      let x = key_at k has in
+      record { owner = x.1.owner; stands = in_at (those_of f ks) x.0 x.1.owner x.1.place; keyed = x.1.keyed }
 
   -- ranks compare as the keys do
   pub rank_as_key : (k l : Key) → IsKeyAmong k → IsKeyAmong l → nat_cmp (rank_among ks f (Some k)) (rank_among ks f (Some l)) ≡ key_cmp k l
-  rank_as_key k l has other = at (key_cmp k l) refl
-    where
-      at : (o : Ordering) → key_cmp k l ≡ o → nat_cmp (rank_among ks f (Some k)) (rank_among ks f (Some l)) ≡ o
-      at Less is = at_less (rank_among ks f (Some k)) (rank_among ks f (Some l)) (rank_grows k l has is)
-      at Equal is = ap (λ x. nat_cmp (rank_among ks f (Some k)) (rank_among ks f (Some x))) (sym (key_cmp_exact k l is)) ∙ tied_itself nat_cmp_total (rank_among ks f (Some k))
-      at Greater is =
-          let turned : nat_cmp (rank_among ks f (Some l)) (rank_among ks f (Some k)) ≡ Less =
-          at_less (rank_among ks f (Some l)) (rank_among ks f (Some k)) (rank_grows l k other (key_cmp_total.antisymm l k ∙ ap ordering_reverse is)) in
-          nat_cmp_total.antisymm (rank_among ks f (Some k)) (rank_among ks f (Some l)) ∙ ap ordering_reverse turned
+  rank_as_key k l has other = counted_as_key (λ (o : Kept). o.key) (those_of f ks) k l (its_key k has) (its_key l other)
 
   -- keys with their ranks, sorted by these
   pub ranked_in_order : (keys : List Key) → AllByRecursion IsKeyAmong keys → rising_list (λ a b. nat_cmp a.0 b.0) (map (ranked_key ks f) keys) ≡ map (ranked_key ks f) (rising_list key_cmp keys)

@@ -11,8 +11,10 @@ use Rattle.erd_tables.specs.declared.class.Class.{Class}
 use Rattle.erd_tables.specs.declared.class.Class.TheVariants as class
 use Rattle.erd_tables.specs.declared.class.Family.{Family}
 use Rattle.erd_tables.specs.declared.class.Family.TheVariants as family
-use Rattle.erd_meaning.specs.Keys.{Preference, key_cmp}
+use Rattle.erd_meaning.specs.Keys.{Preference, key_cmp, key_of}
+use Rattle.erd_meaning.specs.Lookups.{rank_of, selection_in}
 use Rattle.erd_meaning.specs.NameParts.{NameParts}
+use Rattle.erd_meaning.specs.Objects.{IsObject, Placed}
 use Rattle.erd_meaning.specs.SelectionNames.{name_cmp}
 use Rattle.erd_meaning.specs.code.NameHashes.{name_digest, name_writes}
 use Rattle.erd_meaning.specs.code.NamesAmong.{name_among}
@@ -66,6 +68,20 @@ ranked_parts ks n = record { name = n; ranks = map (λ key. rank_among ks (famil
 abbrev pub ranked_name_among : Preference → List Kept → Data → Option RankedParts
 ranked_name_among π ks d = option_map (ranked_parts ks) (name_among π ks d)
 
+-- The name of a selection of a report with the ranks of its keys in the report.
+abbrev pub ranked_name : Preference → Data → NameParts → RankedParts
+ranked_name π t n = record { name = n; ranks = map (λ key. rank_of π t (family_chosen n.class) (Some key)) n.keys }
+
+-- An object of the family in the report has the key.
+pub record IsKeyIn (π : Preference) (t : Data) (f : Family) (key : Key) : Type 0 where
+  pub owner : Placed
+  pub stands : IsObject t f owner
+  pub keyed : key_of π owner.value ≡ Some key
+
+-- Each key in the name is that of an object of the report.
+abbrev pub HasKeysIn : Preference → Data → NameParts → Type 0
+HasKeysIn π t n = AllByRecursion (IsKeyIn π t (family_chosen n.class)) n.keys
+
 -- True if each key in the name is that of an object.
 abbrev pub has_keys_among : List Kept → NameParts → Bool
 has_keys_among ks n = list_all (is_key_among ks (family_chosen n.class)) n.keys
@@ -88,6 +104,10 @@ ranked_name_writes r = name_writes r.name
 -- The position of a contest, and the name of one of its selections with its ranks.
 abbrev pub PlacedName : Type 0
 PlacedName = ℕ × RankedParts
+
+-- The selection at this position of a report: the position of its contest, and its name with the ranks of its keys.
+abbrev pub ranked_selection_in : Preference → Data → ℕ → Option PlacedName
+ranked_selection_in π t i = option_map (λ s. (s.0, ranked_name π t s.1)) (selection_in π t i)
 
 -- The names without their ranks.
 abbrev pub names_of : List PlacedName → List NumberedName

@@ -1,7 +1,7 @@
 ghost use Rattle.std.specs.Prelude.{◌≡◌, IfOk};
 ghost use Rattle.erd_meaning.specs.SelectionNames.{name_cmp};
 ghost use Rattle.erd_meaning.specs.code.NameHashes.{name_digest};
-ghost use Rattle.erd_meaning.specs.code.NumberedNames.{after_keys_cmp, numbered_name_cmp, numbered_parts};
+ghost use Rattle.erd_meaning.specs.code.NumberedNames.{after_keys_cmp, numbered_name_cmp, numbered_parts, without_keys};
 
 use crate::keys::key::{Key, copied};
 use crate::keys::shared_key::SharedKey;
@@ -62,6 +62,15 @@ impl Parts {
         type_text(self.class)
             .cmp(type_text(other.class))
             .then(self.keys.cmp(&other.keys))
+            .then(self.compare_after_keys(other))
+    }
+
+    /// Compares the parts with others, apart from the keys.
+    pub(crate) fn compare_but_keys(&self, other: &Parts) -> Ordering
+        ensures { result ≡ name_cmp (without_keys self.now) (without_keys other.now) }
+    {
+        type_text(self.class)
+            .cmp(type_text(other.class))
             .then(self.compare_after_keys(other))
     }
 

@@ -1,18 +1,21 @@
 ghost use Rattle.std.specs.Prelude.{◌≡◌};
 ghost use Rattle.erd_meaning.specs.code.NumberedNames.{numbered_name_cmp, numbered_parts};
+ghost use Rattle.erd_meaning.specs.code.RankedNames.{family_chosen};
 
 use crate::names::parts::compare_numbered;
 use crate::names::selection_name::SelectionName;
+use crate::objects::ranked_objects::family_chosen;
+use erd_tables::Family;
 use std::cmp::Ordering;
 use std::hash::{Hash, Hasher};
 use std::marker::Model;
 
-/// The name of a selection, with the ranks of its keys among those of its report. Contracts see the name and the ranks.
+/// The name of a selection of a report, with the ranks of its keys in the report. The rank of a key is the number of objects
+/// of its family with lesser keys: of candidates or of parties. Contracts see the name and the ranks.
 ///
-/// Such names are equal if their ranks and the parts after the keys are equal. So it takes no longer to compare them if keys
-/// are long.
+/// Names of one report are compared by their ranks and by the parts after the keys. So it takes no longer if keys are long.
 #[derive(Debug, Drop)]
-pub(crate) struct RankedName {
+pub struct RankedName {
     name: SelectionName,
     ranks: Vec<usize>,
 }
@@ -38,10 +41,17 @@ impl RankedName {
     }
 
     /// Returns the name.
-    pub(crate) fn name(&self) -> &SelectionName
+    pub fn name(&self) -> &SelectionName
         ensures { result.now ≡ self.now.name }
     {
         &self.name
+    }
+
+    /// Returns the family of the objects whose keys are in the name.
+    pub fn family(&self) -> Family
+        ensures { result ≡ family_chosen self.now.name.class }
+    {
+        family_chosen(self.name.parts().class)
     }
 
     /// Returns the name without its ranks.
@@ -51,14 +61,16 @@ impl RankedName {
         self.name
     }
 
-    /// Returns the ranks.
-    pub(crate) fn ranks(&self) -> &[usize]
+    /// Returns the ranks of the keys, in the order of the keys.
+    pub fn ranks(&self) -> &[usize]
         ensures { result.now ≡ self.now.ranks }
     {
         &self.ranks
     }
 
-    fn compare(&self, other: &RankedName) -> Ordering
+    /// Compares the name with another, with the ranks in place of the keys. For two names of one report, this is the order
+    /// of the names.
+    pub fn compare(&self, other: &RankedName) -> Ordering
         ensures { result ≡ numbered_name_cmp (numbered_parts self.now.name self.now.ranks) (numbered_parts other.now.name other.now.ranks) }
     {
         compare_numbered(

@@ -1,6 +1,9 @@
 //! The name of a selection.
 ghost use Rattle.std.specs.Prelude.{◌≡◌, IfOk};
+ghost use Rattle.std.specs.Ordering.{eq_by_cmp};
+ghost use Rattle.erd_meaning.specs.SelectionNames.{name_cmp};
 ghost use Rattle.erd_meaning.specs.code.NameHashes.{name_digest};
+ghost use Rattle.erd_meaning.specs.code.NumberedNames.{without_keys};
 
 use crate::names::parts::Parts;
 use std::alloc::{AllocError, Global};
@@ -55,6 +58,13 @@ impl SelectionName {
         ensures { result ≡ name_digest self.now }
     {
         self.digest
+    }
+
+    /// Returns whether the name is equal to another, apart from the keys of candidates or parties.
+    pub fn is_same_but_keys(&self, other: &SelectionName) -> bool
+        ensures { result ≡ eq_by_cmp name_cmp (without_keys self.now) (without_keys other.now) }
+    {
+        self.parts.compare_but_keys(&other.parts).is_eq()
     }
 
     /// Returns an equal name. The two names share the keys of candidates or parties; the other parts are copied.

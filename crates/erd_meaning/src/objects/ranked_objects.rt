@@ -118,7 +118,7 @@ fn rank_at(ranks: &[usize], index: usize) -> Option<usize>
 }
 
 /// Returns the family of the objects that a selection of the class is for. Only candidates and parties have selections.
-fn family_chosen(class: Class) -> Family
+pub(crate) fn family_chosen(class: Class) -> Family
     ensures { result ≡ family_chosen class }
 {
     match class {

@@ -21,7 +21,7 @@ use Rattle.erd_meaning.specs.declared.keys.key.Key.{Key}
 use Rattle.erd_meaning.proofs.accepted.HeldObjects.{has-flat}
 use Rattle.erd_meaning.proofs.accepted.Phases.{no_shape_fault}
 use Rattle.erd_meaning.proofs.accepted.Skeleton.{election_entries, skeleton_of_shape, values-placed_entries}
-use Rattle.erd_normal.specs.Canonical.{rank_of}
+use Rattle.erd_meaning.specs.Lookups.{rank_of}
 use Rattle.erd_normal.specs.code.NormalTree.{normal_tree}
 use Rattle.erd_normal.proofs.canonical.CanonicalIds.{canonical_id_exact, selection_id_apart}
 use Rattle.erd_normal.proofs.built.LeastKeys.{key_of_election, key_of_object}

@@ -23,7 +23,8 @@ use Rattle.erd_meaning.specs.code.Orders.{key_cmp_total}
 use Rattle.erd_meaning.specs.declared.keys.key.Key.{Key}
 use Rattle.erd_meaning.proofs.accepted.Phases.{no_shape_fault}
 use Rattle.erd_meaning.proofs.accepted.Standing.{stands}
-use Rattle.erd_normal.specs.Canonical.{canonical_id, rank_of}
+use Rattle.erd_normal.specs.Canonical.{canonical_id}
+use Rattle.erd_meaning.specs.Lookups.{rank_of}
 use Rattle.erd_normal.specs.code.NormalTree.{by_key, normal_object, normal_tree}
 use Rattle.erd_normal.proofs.lists.BuiltLists.{all_map}
 use Rattle.erd_normal.proofs.lists.DistinctEntries.{distinct_one}

@@ -11,7 +11,8 @@ use Rattle.erd_meaning.specs.SelectionNames.{key_named}
 use Rattle.erd_meaning.proofs.accepted.References.{find-any}
 use Rattle.erd_meaning.proofs.orders.Sets.{any-has}
 use Rattle.erd_meaning.proofs.accepted.Standing.{has_id-Some, has_id-from, owned_by}
-use Rattle.erd_normal.specs.Canonical.{id_prefix, rank_of}
+use Rattle.erd_normal.specs.Canonical.{id_prefix}
+use Rattle.erd_meaning.specs.Lookups.{rank_of}
 use Rattle.erd_normal.specs.code.NormalTree.{id_of_key, normal_id, normal_object, normal_tree}
 use Rattle.erd_normal.proofs.canonical.CanonicalIds.{canonical_id_exact}
 use Rattle.erd_normal.proofs.built.LeastKeys.{key_of_object}

@@ -24,7 +24,8 @@ use Rattle.erd_meaning.specs.Keys.{Preference, has_keys, key_cmp, key_of}
 use Rattle.erd_meaning.specs.Objects.{Placed, objects}
 use Rattle.erd_meaning.specs.code.Orders.{compact_cmp_total, key_cmp_total, name_cmp_total}
 use Rattle.erd_meaning.specs.SelectionNames.{compact_cmp, key_named, name_cmp, name_of, rising_list}
-use Rattle.erd_normal.specs.Canonical.{canonical_id, canonical_selection_id, rank_of}
+use Rattle.erd_normal.specs.Canonical.{canonical_id, canonical_selection_id}
+use Rattle.erd_meaning.specs.Lookups.{rank_of}
 use Rattle.erd_normal.specs.code.NormalTree.{by_key, by_name, id_of_key, id_of_selection, rank_of_name, reference_cmp}
 use Rattle.erd_normal.proofs.texts.CompactTexts.{compact_exact}
 use Rattle.erd_normal.proofs.canonical.DistinctObjects.{elections_distinct, selection_values_distinct, values_distinct}

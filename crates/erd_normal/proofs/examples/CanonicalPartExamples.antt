@@ -16,7 +16,8 @@ use Rattle.erd_meaning.specs.Keys.{has_keys, key_of}
 use Rattle.erd_meaning.specs.Objects.{IsObject, Placed, objects, selections_of_contest, id_of, report_of}
 use Rattle.erd_normal.proofs.lists.Lists.{passed, is_family, all_from, passed_at}
 use Rattle.erd_normal.proofs.examples.MeaningExamples.{one_unit_canonical}
-use Rattle.erd_normal.specs.Canonical.{HasCanonicalEnvelope, HasCanonicalIds, canonical_id, canonical_selection_id, rank_of}
+use Rattle.erd_normal.specs.Canonical.{HasCanonicalEnvelope, HasCanonicalIds, canonical_id, canonical_selection_id}
+use Rattle.erd_meaning.specs.Lookups.{rank_of}
 
 -- ---- a test of `@id` texts
 

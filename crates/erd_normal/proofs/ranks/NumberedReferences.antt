@@ -15,7 +15,7 @@ use Rattle.erd_meaning.proofs.accepted.Standing.{owned_by, owner_is}
 use Rattle.erd_meaning.specs.Accepted.{IsAccepted}
 use Rattle.erd_meaning.specs.Keys.{Preference, key_cmp, key_of}
 use Rattle.erd_check.specs.Values.{text_of}
-use Rattle.erd_meaning.specs.Lookups.{FindsId, id_in}
+use Rattle.erd_meaning.specs.Lookups.{FindsId, id_in, rank_of}
 use Rattle.erd_meaning.specs.Objects.{contests, id_of, objects, owner, Placed}
 use Rattle.erd_meaning.specs.SelectionNames.{key_named}
 use Rattle.erd_meaning.specs.code.Orders.{key_cmp_total}
@@ -24,7 +24,7 @@ use Rattle.erd_normal.proofs.lists.DistinctEntries.{place_of}
 use Rattle.erd_normal.proofs.lists.NumbersInOrder.{ranks_climb}
 use Rattle.erd_normal.proofs.lists.RisingSets.{has_from_In, In-from_has}
 use Rattle.erd_normal.specs.code.Building.{AreNumbers, numbered_id}
-use Rattle.erd_normal.specs.Canonical.{id_prefix, rank_of}
+use Rattle.erd_normal.specs.Canonical.{id_prefix}
 use Rattle.erd_normal.specs.code.ElectionParts.{objects_of_part, part_seen}
 use Rattle.erd_normal.specs.code.KeyRanks.{named_value, rising_in_contest}
 use Rattle.erd_normal.specs.code.NormalTree.{normal_id, reference_cmp}

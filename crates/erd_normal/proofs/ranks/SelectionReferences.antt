@@ -18,7 +18,7 @@ use Rattle.erd_meaning.proofs.accepted.Standing.{flat-has, has_id-Some, one_obje
 use Rattle.erd_meaning.specs.Accepted.{IsAccepted}
 use Rattle.erd_meaning.specs.Keys.{Preference, key_of}
 use Rattle.erd_check.specs.Values.{entries_at}
-use Rattle.erd_meaning.specs.Lookups.{FindsId, id_in, selection_in}
+use Rattle.erd_meaning.specs.Lookups.{FindsId, id_in, rank_of, selection_in}
 use Rattle.erd_meaning.specs.NameParts.{NameParts}
 use Rattle.erd_meaning.specs.Objects.{Placed, contests, has_id, id_of, numbered_selections, numbered_selections_of, objects, selections_of_contest}
 use Rattle.erd_meaning.specs.SelectionNames.{name_of}
@@ -27,7 +27,6 @@ use Rattle.erd_normal.proofs.lists.DistinctEntries.{place_of}
 use Rattle.erd_normal.proofs.lists.FoundInParts.{FoundSelection, owner_found}
 use Rattle.erd_normal.proofs.lists.RisingSets.{has_from_In, In-from_has}
 use Rattle.erd_normal.proofs.unique.Selections.{has_name}
-use Rattle.erd_normal.specs.Canonical.{rank_of}
 use Rattle.erd_normal.specs.code.NormalTree.{contest_with, id_of_selection, normal_selection_reference, rank_of_name, selection_with}
 use Rattle.erd_normal.specs.code.PlacedTree.{selection_id_numbered}
 use Rattle.erd_normal.specs.code.ObjectNumbers.{AreObjectNumbers, number_in}

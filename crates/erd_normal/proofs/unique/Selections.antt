@@ -35,7 +35,8 @@ use Rattle.erd_meaning.specs.code.Orders.{name_cmp_exact, name_cmp_total}
 use Rattle.erd_meaning.proofs.accepted.Phases.{no_shape_fault}
 use Rattle.erd_normal.proofs.unique.Families.{Alike}
 use Rattle.erd_normal.proofs.unique.Contents.{Filled, absent, filled}
-use Rattle.erd_normal.specs.Canonical.{IsCanonical, canonical_id, canonical_selection_id, rank_of}
+use Rattle.erd_normal.specs.Canonical.{IsCanonical, canonical_id, canonical_selection_id}
+use Rattle.erd_meaning.specs.Lookups.{rank_of}
 use Rattle.erd_normal.proofs.lists.Matched.{paired_count}
 use Rattle.erd_normal.proofs.lists.Paired.{Keys, Paired, all_keys, has_key, keys_rise, paired}
 use Rattle.erd_normal.proofs.unique.Records.{class_within, map_from_found, members_in, record_with-Some}

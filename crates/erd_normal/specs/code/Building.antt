@@ -7,7 +7,8 @@ use Rattle.serde_json.specs.Written.{compact_text}
 use Rattle.erd_tables.specs.declared.class.Family.{Family}
 use Rattle.erd_meaning.specs.Keys.{Preference, key_of}
 use Rattle.erd_meaning.specs.Objects.{objects, Placed}
-use Rattle.erd_normal.specs.Canonical.{id_prefix, rank_of}
+use Rattle.erd_normal.specs.Canonical.{id_prefix}
+use Rattle.erd_meaning.specs.Lookups.{rank_of}
 
 -- The members with the value under the name. If there is no value, the members stay.
 abbrev pub put_if : List ℕ → Option Data → Members → Members

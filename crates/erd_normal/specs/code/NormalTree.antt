@@ -22,7 +22,8 @@ use Rattle.erd_meaning.specs.Records.{class_of_node}
 use Rattle.erd_meaning.specs.SelectionNames.{compact_cmp, key_named, name_cmp, name_of, rising_list, selection_role, with_rising_text}
 use Rattle.erd_meaning.specs.declared.keys.key.Key.{Key}
 use Rattle.erd_normal.specs.code.Building.{put_all}
-use Rattle.erd_normal.specs.Canonical.{canonical_id, canonical_selection_id, rank_of}
+use Rattle.erd_normal.specs.Canonical.{canonical_id, canonical_selection_id}
+use Rattle.erd_meaning.specs.Lookups.{rank_of}
 
 -- ---- ranks and references
 

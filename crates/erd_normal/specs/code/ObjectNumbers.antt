@@ -13,7 +13,8 @@ use Rattle.erd_meaning.specs.Keys.{Preference}
 use Rattle.erd_check.specs.Values.{entries_at}
 use Rattle.erd_meaning.specs.Objects.{IsBounded, Placed, contests, numbered_selections}
 use Rattle.erd_meaning.specs.SelectionNames.{key_named, name_of}
-use Rattle.erd_normal.specs.Canonical.{id_prefix, rank_of}
+use Rattle.erd_normal.specs.Canonical.{id_prefix}
+use Rattle.erd_meaning.specs.Lookups.{rank_of}
 use Rattle.erd_normal.specs.code.Building.{AreNumbers}
 use Rattle.erd_normal.specs.code.ElectionParts.{objects_of_part, part_seen}
 use Rattle.erd_normal.specs.code.KeyRanks.{named_value, rising_in_contest}

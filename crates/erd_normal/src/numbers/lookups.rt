@@ -12,7 +12,7 @@ ghost use Rattle.erd_normal.specs.code.PlacedTree.{selection_id_numbered};
 
 use crate::numbers::id_texts::selection_id_text;
 use crate::numbers::object_numbers::ObjectNumbers;
-use crate::order::ranked_name::RankedName;
+use crate::order::lent_name::LentName;
 use erd_meaning::Report;
 use erd_tables::Family;
 use serde_json::Value;
@@ -143,7 +143,7 @@ pub(crate) fn part_in<'b, 'a>(
 pub(crate) fn selections_in<'b, 'a>(
     numbers: &'b ObjectNumbers<'a>,
     contest: usize,
-) -> &'b [(RankedName<'a>, (usize, &'a Value))]
+) -> &'b [(LentName<'a>, (usize, &'a Value))]
     ensures { result.now ≡ option_map_or (λ table. table.items) (slice_get numbers.now.selections.rising.items contest) [] }
 {
     let tables = numbers.selections.rising.as_slice();

@@ -11,7 +11,7 @@ ghost use Rattle.erd_normal.specs.code.ObjectNumbers.{AreObjectNumbers, number_n
 
 use crate::numbers::lookups::{number_of, part_in, selection_id, selections_in};
 use crate::numbers::object_numbers::ObjectNumbers;
-use crate::order::ranked_name::RankedName;
+use crate::order::lent_name::LentName;
 use erd_meaning::Report;
 use erd_tables::Family;
 use serde_json::Value;
@@ -70,7 +70,7 @@ impl<'a> NumberedReport<'a> {
     }
 
     /// The selections of the contest at a position, sorted by name, each with its name and its position.
-    pub(crate) fn selections_of(&self, contest: usize) -> &[(RankedName<'a>, (usize, &'a Value))]
+    pub(crate) fn selections_of(&self, contest: usize) -> &[(LentName<'a>, (usize, &'a Value))]
         ensures selections { map (λ p. named_value self.now.prefer (view self.now.tree) p.1.0 (view p.1.1.now)) result.now ≡ rising_at self.now.prefer (view self.now.tree) contest }
         ensures whole { AllByRecursion (λ p. has_float (view p.1.1.now) ≡ false) result.now }
     {

@@ -3,7 +3,6 @@ ghost use Rattle.serde_json.specs.View.{view};
 ghost use Rattle.erd_meaning.specs.Accepted.{IsAccepted};
 ghost use Rattle.erd_normal.specs.code.ObjectNumbers.{AreObjectNumbers};
 
-use crate::numbers::chosen_numbers::ChosenNumbers;
 use crate::numbers::election_parts::election_parts;
 use crate::numbers::family_table::family_table;
 use crate::numbers::object_numbers::ObjectNumbers;
@@ -24,20 +23,14 @@ pub(crate) fn numbers_of<'a>(
     // read for `whole`: no number in the report is a fraction
     let _tree = report.tree();
     let styles = rising_objects(alloc, report, Family::Style)?;
-    let parties = family_table(alloc, report, Family::Party)?;
-    let candidates = family_table(alloc, report, Family::Candidate)?;
-    let chosen = ChosenNumbers {
-        candidates: &candidates.numbers,
-        parties: &parties.numbers,
-    };
-    let selections = selection_tables(alloc, report, chosen)?;
+    let selections = selection_tables(alloc, report)?;
     Ok(ObjectNumbers {
         units: family_table(alloc, report, Family::Unit)?,
-        parties,
+        parties: family_table(alloc, report, Family::Party)?,
         persons: family_table(alloc, report, Family::Person)?,
         offices: family_table(alloc, report, Family::Office)?,
         headers: family_table(alloc, report, Family::Header)?,
-        candidates,
+        candidates: family_table(alloc, report, Family::Candidate)?,
         contests: family_table(alloc, report, Family::Contest)?,
         styles: election_parts(alloc, report, Family::Style, &styles)?,
         selections,

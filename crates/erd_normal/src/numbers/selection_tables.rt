@@ -4,14 +4,13 @@ ghost use Rattle.serde_json.specs.View.{view};
 ghost use Rattle.erd_tables.specs.declared.class.Family.TheVariants as family;
 ghost use Rattle.erd_meaning.specs.Accepted.{IsAccepted};
 ghost use Rattle.erd_meaning.specs.Objects.{contests, objects};
-ghost use Rattle.erd_normal.specs.code.Building.{AreNumbers, numbered};
+ghost use Rattle.erd_normal.specs.code.Building.{numbered};
 ghost use Rattle.erd_normal.specs.code.KeyRanks.{named_value, rising_in_contest};
 ghost use Rattle.erd_normal.specs.code.ObjectNumbers.{AreSelectionNumbers};
 
-use crate::numbers::chosen_numbers::ChosenNumbers;
 use crate::numbers::numbers_by::numbers_by;
 use crate::numbers::rising_selections::rising_selections;
-use crate::order::ranked_name::RankedName;
+use crate::order::lent_name::LentName;
 use erd_check::values::entries_at;
 use erd_meaning::Report;
 use erd_tables::Family;
@@ -23,7 +22,7 @@ use std::alloc::{AllocError, Global};
 /// 1.
 #[derive(Drop)]
 pub(crate) struct SelectionTables<'a> {
-    pub(crate) rising: Vec<Vec<(RankedName<'a>, (usize, &'a Value))>>,
+    pub(crate) rising: Vec<Vec<(LentName<'a>, (usize, &'a Value))>>,
     pub(crate) numbers: Vec<usize>,
 }
 
@@ -31,18 +30,15 @@ pub(crate) struct SelectionTables<'a> {
 pub(crate) fn selection_tables<'a>(
     alloc: Global,
     report: &'a Report<'a>,
-    chosen: ChosenNumbers,
 ) -> Result<SelectionTables<'a>, AllocError>
     requires accepted { IsAccepted report.now.prefer (view report.now.tree) }
-    requires candidates { AreNumbers report.now.prefer (view report.now.tree) family.Candidate chosen.candidates.now }
-    requires parties { AreNumbers report.now.prefer (view report.now.tree) family.Party chosen.parties.now }
     ensures rising { IfOk result (λ tables. map (λ table. map (λ p. named_value report.now.prefer (view report.now.tree) p.1.0 (view p.1.1.now)) table.items) tables.rising.items
         ≡ map (λ o. rising_in_contest report.now.prefer (view report.now.tree) o.value) (contests (view report.now.tree))) }
     ensures numbers { IfOk result (λ tables. AreSelectionNumbers report.now.prefer (view report.now.tree) tables.numbers.items) }
     ensures few { OnOk result (length (objects family.Selection (view report.now.tree)) < 2 ^ 64) }
 {
     let count = report.count(Family::Selection);
-    let rising = contest_tables(alloc, report, chosen)?;
+    let rising = contest_tables(alloc, report)?;
     let numbers = selection_numbers(alloc, count, &rising)?;
     Ok(SelectionTables { rising, numbers })
 }
@@ -51,10 +47,7 @@ pub(crate) fn selection_tables<'a>(
 fn contest_tables<'a>(
     alloc: Global,
     report: &'a Report<'a>,
-    chosen: ChosenNumbers,
-) -> Result<Vec<Vec<(RankedName<'a>, (usize, &'a Value))>>, AllocError>
-    requires candidates { AreNumbers report.now.prefer (view report.now.tree) family.Candidate chosen.candidates.now }
-    requires parties { AreNumbers report.now.prefer (view report.now.tree) family.Party chosen.parties.now }
+) -> Result<Vec<Vec<(LentName<'a>, (usize, &'a Value))>>, AllocError>
     ensures { IfOk result (λ tables. map (λ table. map (λ p. named_value report.now.prefer (view report.now.tree) p.1.0 (view p.1.1.now)) table.items) tables.items
         ≡ map (λ o. rising_in_contest report.now.prefer (view report.now.tree) o.value) (contests (view report.now.tree))) }
 {
@@ -67,7 +60,7 @@ fn contest_tables<'a>(
         match report.object(Family::Contest, index) {
             Some(contest) => {
                 let selections = entries_at(contest, "ContestSelection");
-                tables.push(rising_selections(alloc, report, chosen, start, selections)?)?;
+                tables.push(rising_selections(alloc, report, start, selections)?)?;
                 start += selections.len();
             }
             None => {}
@@ -80,7 +73,7 @@ fn contest_tables<'a>(
 fn selection_numbers(
     alloc: Global,
     count: usize,
-    tables: &[Vec<(RankedName, (usize, &Value))>],
+    tables: &[Vec<(LentName, (usize, &Value))>],
 ) -> Result<Vec<usize>, AllocError>
     ensures { IfOk result (λ numbers. numbers.items
         ≡ flat_map (λ table. numbered 0 (map (λ p. (p.0, p.1.0)) table.items) (replicate (length table.items) 0)) tables.now) }

@@ -59,6 +59,7 @@ pub fn names_are(alloc: Global, report: &str, ranked: Ranked) -> Result<(), Fail
             return Err(Fail::from("another name at that position of the contest"));
         }
         is_ordered(alloc, &report, &copy, *rank, ranked)?;
+        is_ranked(alloc, &report, index, ranked)?;
         is_found(alloc, &report, &copy, *rank, ranked)?;
     }
     Ok(())
@@ -80,6 +81,27 @@ fn is_ordered(
             && (*name == *other) == (rank == *other_rank);
         if !is_right {
             let text = format!(in alloc; "rank {rank} and rank {other_rank}")?;
+            return Err(Fail::from(text));
+        }
+    }
+    Ok(())
+}
+
+// The name with the ranks of its keys compares correctly with each such name of the report.
+fn is_ranked(alloc: Global, report: &Report, index: usize, ranked: Ranked) -> Result<(), Fail> {
+    let (contest, rank) = ranked[index];
+    let Some((found, one)) = report.ranked_name_at(index) else {
+        return Err(Fail::from("no name with ranks"));
+    };
+    if found != contest {
+        return Err(Fail::from("another contest of the name with ranks"));
+    }
+    for (other_index, (_, other_rank)) in ranked.iter().enumerate() {
+        let Some((_, other)) = report.ranked_name_at(other_index) else {
+            return Err(Fail::from("no name with ranks"));
+        };
+        if one.compare(other) != rank.cmp(other_rank) {
+            let text = format!(in alloc; "ranks of {rank} and of {other_rank}")?;
             return Err(Fail::from(text));
         }
     }

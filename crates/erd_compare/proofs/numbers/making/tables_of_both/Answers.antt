@@ -4,6 +4,11 @@ use Rattle.erd_compare.specs.code.KeyedDifferences.{IsComparable}
 use Rattle.erd_compare.specs.declared.difference.Part.TheVariants as part
 use Rattle.erd_compare.proofs.numbers.making.tables_of_both.Goals as goal
 
+pub tables_of_part-requires-9-clause-right : goal.tables_of_part-requires-9-clause-right
+tables_of_part-requires-9-clause-right c =
+    let tree = c.tree-other.ensures in
+    subst (λ v. IsComparable c.args.right.now.prefer (view v)) tree.tree (record { accepted = tree.accepted; whole = record { is_tree = tree.is_tree; whole = tree.whole } })
+
 pub tables_of_part-requires-10-clause-left : goal.tables_of_part-requires-10-clause-left
 tables_of_part-requires-10-clause-left c =
     let tree = c.tree-one.ensures in

@@ -1,11 +1,13 @@
-use Rattle.std.specs.Ordering.{eq_by_cmp}
-use denote.Bor.{Bor}
-use Rattle.erd_meaning.specs.NameParts.{NameParts}
-use Rattle.erd_meaning.specs.SelectionNames.{name_cmp}
-use Rattle.erd_compare.proofs.same_values.EqualOptions.{decides_as, names_decide, options_decide}
+use Rattle.std.proofs.Common.{option_map, sym, ap, ◌∙◌}
+use Rattle.serde_json.specs.Find.{as_str}
+use Rattle.serde_json.specs.View.{view}
+use Rattle.erd_compare.proofs.same_numbers.NamesOnSides.{on_reference}
 use Rattle.erd_compare.proofs.values.content.is_same_name.Goals as goal
 
-pub returns : goal.returns
-returns c =
-    decides_as c.eq.ensures c.name_named.ensures c.name_named-2.ensures
-    (options_decide {T = Bor NameParts} (λ x y. eq_by_cmp name_cmp x.now y.now) (λ x. x.now) (λ x y. names_decide x.now y.now) c.name_named.result c.name_named-2.result)
+pub are_equal_names-requires-clause-one : goal.are_equal_names-requires-clause-one
+are_equal_names-requires-clause-one c =
+    (on_reference c.args.sides.left.now (as_str (view c.args.one.now)) c.in-Some-Some.one.now (sym c.name_named.ensures ∙ ap (option_map (λ name. name.now)) c.in-Some-Some.is-0)).0
+
+pub are_equal_names-requires-clause-other : goal.are_equal_names-requires-clause-other
+are_equal_names-requires-clause-other c =
+    (on_reference c.args.sides.right.now (as_str (view c.args.other.now)) c.in-Some-Some.other.now (sym c.name_named-2.ensures ∙ ap (option_map (λ name. name.now)) c.in-Some-Some.is-1)).0

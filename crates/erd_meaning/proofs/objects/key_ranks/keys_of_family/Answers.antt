@@ -6,13 +6,8 @@ use Rattle.erd_meaning.specs.code.ObjectLookups.{those_of}
 use Rattle.erd_meaning.specs.code.ObjectWalk.{Kept}
 use Rattle.erd_meaning.specs.code.Shown.{shown}
 use Rattle.erd_meaning.specs.declared.keys.key.Key.{Key}
+use Rattle.erd_meaning.proofs.finding.OneObject.{at_low}
 use Rattle.erd_meaning.proofs.objects.key_ranks.keys_of_family.Goals as goal
-
--- what stands at a position of a list
-at_low : {A : Type 0} (xs : List A) (i : ℕ) → i < length xs → (x : A) × (slice_get xs i ≡ Some x)
-at_low [] i low = absurd (omega arith)
-at_low (y ∷ xs) zero low = (y, refl)
-at_low (y ∷ xs) (suc i) low = at_low xs i (omega arith)
 
 -- one more key
 one_more : (os : List Kept) (i : ℕ) (keys : List (Option (Bor Key))) (key : Option (Bor Key)) → i < length os → map option_copied keys ≡ map (λ k. k.key) (take i os)

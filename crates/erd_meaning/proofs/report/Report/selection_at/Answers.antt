@@ -1,21 +1,25 @@
-use Rattle.std.proofs.Common.{Option, Some, option_map, sym, ap, ◌∙◌}
-use Rattle.std.proofs.lemmas.Option.{slice_get-map}
+use Rattle.std.proofs.Common.{◌≡◌, ℕ, Option, Some, None, option_map, refl, sym, ap, ◌∙◌}
+use Rattle.serde_json.specs.Data.{Data}
+use Rattle.serde_json.specs.View.{view}
+use Rattle.erd_meaning.specs.Keys.{Preference}
+use Rattle.erd_meaning.specs.Lookups.{selection_in}
 use Rattle.erd_meaning.specs.NameParts.{NameParts}
-use Rattle.erd_meaning.specs.code.RankedNames.{PlacedName}
+use Rattle.erd_meaning.specs.code.RankedNames.{PlacedName, ranked_name}
 use Rattle.erd_meaning.specs.code.SelectionWalk.{NumberedName}
 use Rattle.erd_meaning.proofs.report.Report.selection_at.Goals as goal
 
--- a name of the index without its ranks
+-- a name without its ranks
 abbrev plain : PlacedName → NumberedName
 plain s = (s.0, s.1.name)
 
-abbrev named : NumberedName → Option NumberedName
-named s = Some s
+plain_again : (π : Preference) (t : Data) (o : Option NumberedName) → option_map plain (option_map (λ s. (s.0, ranked_name π t s.1)) o) ≡ o
+plain_again π t None = refl
+plain_again π t (Some s) = refl
 
 pub returns : goal.returns
 returns c =
-    let keys = c.indexes.result.now.names.keys in
-    ap (λ (n : NameParts). named (c.in_ok-contest.field-0.now.0, n)) c.name.ensures
-    ∙ ap (option_map plain) c.in_ok-contest.ensures.key
-    ∙ sym (slice_get-map plain keys c.args.index)
-    ∙ c.indexes.ensures.resolved.named c.args.index
+    let π = c.args.self.now.prefer in
+    let t = view c.args.self.now.tree in
+    ap (λ (n : NameParts). option_map (λ (m : NameParts). (c.in_ok-contest.contest, m)) (Some n)) c.name.ensures
+    ∙ ap (option_map plain) (sym (ap (option_map (λ s. (s.0, s.1.now))) c.in_ok-contest.was) ∙ c.ranked_name_at.ensures)
+    ∙ plain_again π t (selection_in π t c.args.index)

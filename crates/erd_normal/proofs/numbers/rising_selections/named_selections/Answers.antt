@@ -3,10 +3,9 @@ use Rattle.std.proofs.lemmas.List.{length-map, map-append}
 use Rattle.std.proofs.lemmas.Option.{slice_get-map, slice_get_read}
 use Rattle.std.specs.List.{slice_get}
 use Rattle.serde_json.specs.View.{view}
-use Rattle.erd_normal.specs.code.KeyNumbers.{numbered_name_of}
+use Rattle.erd_normal.specs.code.NamesByRank.{numbered_name, numbered_name_of}
 use Rattle.erd_normal.specs.code.KeyRanks.{keyed_from, keyed_value}
 use Rattle.erd_normal.proofs.ranks.KeyPositions.{keyed_all, keyed_some}
-use Rattle.erd_normal.proofs.ranks.KeysInTurn.{numbered_with}
 use Rattle.erd_normal.proofs.numbers.rising_selections.named_selections.Goals as goal
 
 pub loop-index-preserved : goal.loop-index-preserved
@@ -20,7 +19,7 @@ loop-index-preserved c =
     let d = view c.index-selections-index.result in
     let here : slice_get ds i ≡ Some d =
     slice_get-map view vs i ∙ ap (option_map view) (slice_get_read vs (length vs) i c.index-selections-index.result refl c.loop-index-test.true c.index-selections-index.is) in
-    let named = c.at-name.ensures ∙ numbered_with π t d c.in_ok-numbers.numbers.items _ (c.requires.named i d here) c.in_ok-numbers.ensures in
+    let named = c.at-name.ensures ∙ ap (option_map (numbered_name π t)) (c.requires.named i d here) in
     ap (λ ps. map (λ p. keyed_value p.0 p.1.0 (view p.1.1.now)) ps ++ keyed_from name (i + 1) (drop (i + 1) ds)) c.in_ok-push.ensures.items
     ∙ (ap (λ ps. ps ++ keyed_from name (i + 1) (drop (i + 1) ds)) (map-append (λ p. keyed_value p.0 p.1.0 (view p.1.1.now)) c.loop-index.named.items _ ∙ ap (λ n. map (λ p. keyed_value p.0 p.1.0 (view p.1.1.now)) c.loop-index.named.items ++ (n, (i, d)) ∷ []) named)
     ∙ keyed_some name ds (map (λ p. keyed_value p.0 p.1.0 (view p.1.1.now)) c.loop-index.named.items) (keyed_from name 0 ds) i c.loop-index.invariant d here)

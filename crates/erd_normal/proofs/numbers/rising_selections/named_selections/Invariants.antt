@@ -1,6 +1,6 @@
 use Rattle.std.proofs.Common.{◌≡◌, ◌++◌, drop, map}
 use Rattle.serde_json.specs.View.{view}
-use Rattle.erd_normal.specs.code.KeyNumbers.{numbered_name_of}
+use Rattle.erd_normal.specs.code.NamesByRank.{numbered_name_of}
 use Rattle.erd_normal.specs.code.KeyRanks.{keyed_from, keyed_value}
 use Rattle.erd_normal.proofs.numbers.rising_selections.named_selections.Given as goal
 

@@ -12,7 +12,7 @@ use Rattle.erd_normal.proofs.lists.StableRising.{map_after}
 use Rattle.erd_normal.proofs.ranks.KeysInTurn.{numbered_names_alike}
 use Rattle.erd_normal.proofs.ranks.RisingTables.{renamed, table_made, tables_alike}
 use Rattle.erd_normal.specs.StableOrder.{IsStablySorted}
-use Rattle.erd_normal.specs.code.KeyNumbers.{numbered_name_of}
+use Rattle.erd_normal.specs.code.NamesByRank.{numbered_name_of}
 use Rattle.erd_normal.specs.code.KeyRanks.{keyed_value, named_value, rising_table}
 use Rattle.erd_normal.proofs.numbers.rising_selections.rising_selections.Goals as goal
 

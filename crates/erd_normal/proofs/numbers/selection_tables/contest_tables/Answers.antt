@@ -33,8 +33,6 @@ rising_selections-requires c =
     let low : i < length (contest_values t) = subst (λ n. i < n) (as_many t c.count-count.result c.count-count.ensures) c.loop-index-test.true in
     let here = value_there (contest_values t) i d at in
     record {
-      candidates = c.requires.candidates;
-      parties = c.requires.parties;
       named = named_in_turn t i c.loop-index.start d c.entries_at-selections.result.now low here c.loop-index.invariant.start c.entries_at-selections.ensures c.args.report.now.prefer;
       few = few_in_turn t i c.loop-index.start d c.entries_at-selections.result.now low here c.loop-index.invariant.start c.entries_at-selections.ensures
           (subst (λ v. IsBounded (view v)) c.tree-tree.ensures.tree c.tree-tree.ensures.bounded);

@@ -1,0 +1,60 @@
+-- The keys in the name of a selection are those of objects of the report.
+use Rattle.std.proofs.Common.{◌≡◌, ℕ, List, [], ◌∷◌, codes, Option, Some, None, option_and_then, option_map, refl, ap, ◌∙◌, subst}
+use Rattle.std.specs.List.{AllByRecursion, cons_option}
+use Rattle.serde_json.specs.Data.{Data}
+use Rattle.serde_json.specs.Find.{as_str}
+use Rattle.erd_tables.specs.declared.class.Class.{Class}
+use Rattle.erd_tables.specs.declared.class.Class.TheVariants as class
+use Rattle.erd_tables.specs.declared.class.Family.{Family}
+use Rattle.erd_tables.specs.declared.class.Family.TheVariants as family
+use Rattle.erd_check.specs.Values.{entries_at}
+use Rattle.erd_check.specs.Wants.{class_of_object}
+use Rattle.erd_meaning.specs.Keys.{Preference, key_cmp, key_of}
+use Rattle.erd_meaning.specs.NameParts.{NameParts}
+use Rattle.erd_meaning.specs.Objects.{objects, owner}
+use Rattle.erd_meaning.specs.SelectionNames.{key_named, keys_named, keys_of_selection, name_in_class, name_of, selection_role}
+use Rattle.erd_meaning.specs.code.RankedNames.{HasKeysIn, IsKeyIn, family_chosen}
+use Rattle.erd_meaning.specs.declared.keys.key.Key.{Key}
+use Rattle.erd_meaning.proofs.accepted.References.{Contains-Has}
+use Rattle.erd_meaning.proofs.accepted.Standing.{owned_by}
+use Rattle.erd_meaning.proofs.orders.RisingAlike.{all_rising}
+
+module _ (π : Preference) (t : Data) (f : Family) where
+  referred_in : (id : List ℕ) (k : Key) → key_named π t f id ≡ Some k → IsKeyIn π t f k
+  referred_in id k e = at (owner t f id) refl e
+    where
+      at : (d : Option Data) → owner t f id ≡ d → option_and_then (key_of π) d ≡ Some k → IsKeyIn π t f k
+      at None is h = cc
+      at (Some d) is h = let x = owned_by t f id d is in record { owner = x.0; stands = Contains-Has (objects f t) x.0 x.1; keyed = ap (key_of π) x.2 ∙ h }
+
+  by_reference : (id : Option (List ℕ)) (k : Key) → option_and_then (key_named π t f) id ≡ Some k → IsKeyIn π t f k
+  by_reference None k e = cc
+  by_reference (Some id) k e = referred_in id k e
+
+  -- so it is with each key that references name
+  pub all_named : (rs : List Data) → AllByRecursion (IsKeyIn π t f) (keys_named π t f rs)
+  all_named [] = tt
+  all_named (r ∷ rs) = at (option_and_then (key_named π t f) (as_str r)) refl (all_named rs)
+    where
+      at : (o : Option Key) → option_and_then (key_named π t f) (as_str r) ≡ o → AllByRecursion (IsKeyIn π t f) (keys_named π t f rs) → AllByRecursion (IsKeyIn π t f) (cons_option o (keys_named π t f rs))
+      at None is rest = rest
+      at (Some k) is rest = (by_reference (as_str r) k is, rest)
+
+module _ (π : Preference) (t : Data) where
+  chosen_all : (c : Class) (d : Data) → AllByRecursion (IsKeyIn π t (family_chosen c)) (keys_of_selection π t c d)
+  chosen_all class.CandidateSelection d = all_named π t family.Candidate (entries_at (codes "CandidateIds") d)
+  chosen_all class.PartySelection d = all_named π t family.Party (entries_at (codes "PartyIds") d)
+  chosen_all c d = tt
+
+  -- and with each key in a name
+  pub keys_in_name : (c : Class) (d : Data) → AllByRecursion (IsKeyIn π t (family_chosen c)) (name_in_class π t c d).keys
+  keys_in_name c d = all_rising (IsKeyIn π t (family_chosen c)) key_cmp (keys_of_selection π t c d) (chosen_all c d)
+
+  pub known_name : (d : Data) (n : NameParts) → name_of π t d ≡ Some n → HasKeysIn π t n
+  known_name d n e = at (class_of_object selection_role d) e
+    where
+      at : (c : Option Class) → option_map (λ c. name_in_class π t c d) c ≡ Some n → HasKeysIn π t n
+      at None h = cc
+      at (Some c) h =
+          let same : name_in_class π t c d ≡ n = cc in
+          subst (HasKeysIn π t) same (keys_in_name c d)

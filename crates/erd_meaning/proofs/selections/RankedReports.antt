@@ -1,0 +1,59 @@
+-- The names that a report keeps with ranks are those of its selections, with the ranks of their keys in the report.
+use Rattle.std.proofs.Common.{◌≡◌, ℕ, List, map, filter, length, cond, true, is_lt, Option, Some, None, option_map, slice_get, refl, sym, ap, ◌∙◌}
+use Rattle.std.proofs.lemmas.Option.{slice_get-map}
+use Rattle.std.specs.Option.{option_cmp}
+use Rattle.serde_json.specs.View.{view}
+use Rattle.serde_json.specs.declared.value.Value.{Value}
+use Rattle.erd_tables.specs.declared.class.Class.{Class}
+use Rattle.erd_tables.specs.declared.class.Class.TheVariants as class
+use Rattle.erd_tables.specs.declared.class.Family.{Family}
+use Rattle.erd_check.proofs.Order.{In-all}
+use Rattle.erd_meaning.specs.Keys.{Preference, has_keys, key_cmp, key_of}
+use Rattle.erd_meaning.specs.Lookups.{rank_of}
+use Rattle.erd_meaning.specs.NameParts.{NameParts}
+use Rattle.erd_meaning.specs.Objects.{Placed, objects}
+use Rattle.erd_meaning.specs.code.ObjectWalk.{Kept, kept}
+use Rattle.erd_meaning.specs.code.RankedNames.{AllAreRanked, IsRanked, PlacedName, RankedParts, family_chosen, names_of, rank_among, ranked_name, ranked_parts, ranked_selection_in}
+use Rattle.erd_meaning.specs.code.Resolved.{IsResolved}
+use Rattle.erd_meaning.specs.code.SelectionWalk.{NumberedName}
+use Rattle.erd_meaning.specs.code.Shown.{shown}
+use Rattle.erd_meaning.specs.declared.keys.key.Key.{Key}
+use Rattle.erd_meaning.specs.declared.objects.object.Object.{Object}
+use Rattle.erd_meaning.proofs.finding.Lookups.{those_shown}
+use Rattle.erd_meaning.proofs.finding.OneObject.{in_at}
+use Rattle.erd_meaning.proofs.orders.Counted.{count_map}
+
+-- the objects that selections are for have keys
+pub chosen_keyed : (c : Class) → has_keys (family_chosen c) ≡ true
+chosen_keyed class.PartySelection = refl
+chosen_keyed c = refl
+
+module _ (π : Preference) (v : Value) (os : List Object) (names : List NumberedName) (r : IsResolved π v os names) where
+  rank_same : (f : Family) → has_keys f ≡ true → (key : Option Key) → rank_among (map shown os) f key ≡ rank_of π (view v) f key
+  rank_same f keyed key =
+      ap (λ ks. length (filter (λ k. is_lt (option_cmp key_cmp k.key key)) ks)) (those_shown π v os names f r)
+      ∙ count_map (λ (o : Placed). kept π f o.value) (λ (k : Kept). is_lt (option_cmp key_cmp k.key key)) (objects f (view v))
+      ∙ ap (λ b. length (filter (λ (o : Placed). is_lt (option_cmp key_cmp (cond b (key_of π o.value) None) key)) (objects f (view v)))) keyed
+
+  ranked_same : (n : NameParts) → ranked_parts (map shown os) n ≡ ranked_name π (view v) n
+  ranked_same n i = record { name = n; ranks = map (λ key. rank_same (family_chosen n.class) (chosen_keyed n.class) (Some key) i) n.keys }
+
+-- the name at a position, with its ranks
+pub ranked_there : (π : Preference) (v : Value) (os : List Object) (names : List PlacedName) → IsResolved π v os (names_of names) → AllAreRanked (map shown os) names → (i : ℕ)
+    → slice_get names i ≡ ranked_selection_in π (view v) i
+ranked_there π v os names r are i =
+    at (slice_get names i) refl
+    ∙ ap (option_map whole) (sym (slice_get-map plain names i) ∙ r.named i)
+  where
+    plain : PlacedName → NumberedName
+    plain s = (s.0, s.1.name)
+
+    whole : NumberedName → PlacedName
+    whole s = (s.0, ranked_name π (view v) s.1)
+
+    one : (s : PlacedName) → IsRanked (map shown os) s.1 → s ≡ whole (plain s)
+    one s h = ap (λ (q : RankedParts). (s.0, q)) (h.ranks ∙ ranked_same π v os (names_of names) r s.1.name)
+
+    at : (o : Option PlacedName) → slice_get names i ≡ o → o ≡ option_map whole (option_map plain o)
+    at None is = refl
+    at (Some s) is = ap Some (one s (In-all (λ s. IsRanked (map shown os) s.1) s names are (in_at names i s is)))
