@@ -1,5 +1,5 @@
 -- A key stands in the sorted table of its part at its rank.
-use Rattle.std.proofs.Common.{◌≡◌, ◌+◌, ◌<◌, ℕ, zero, suc, List, [], ◌∷◌, map, filter, length, cond, Bool, true, false, Ordering, Less, Option, Some, None, option_map, is_lt, inl, inr, refl, sym, ap, ◌∙◌, subst}
+use Rattle.std.proofs.Common.{◌≡◌, ℕ, zero, suc, List, [], ◌∷◌, filter, length, cond, Bool, true, false, Ordering, Less, Option, Some, None, is_lt, inl, inr, refl, sym, ap, ◌∙◌, subst}
 use Rattle.std.specs.Cmp.{IsTotalOrder}
 use Rattle.std.specs.List.{AllByRecursion, slice_get}
 use Rattle.std.specs.List.Sorted.{IsPermutation, IsStrictlySortedBy}

@@ -33,7 +33,7 @@ use Rattle.erd_compare.specs.declared.numbers.side.Side.TheVariants.{Left, Right
 use Rattle.erd_compare.proofs.same_values.EqualOptions.{names_decide}
 use Rattle.erd_compare.proofs.same_numbers.KeyNumbers.{both_keys, left_number, number_here, one_number}
 use Rattle.erd_compare.proofs.same_numbers.KeyPlaces.{Stands}
-use Rattle.erd_compare.proofs.same_numbers.KeysByRank.{StandsAtRank, at_rank, place_in}
+use Rattle.erd_compare.proofs.same_numbers.KeysByRank.{at_rank, place_in}
 use Rattle.erd_compare.proofs.same_numbers.NamedNumbers.{its_role, kept, stands_on_side}
 
 -- ---- names of a report

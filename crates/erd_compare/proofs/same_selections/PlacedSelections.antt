@@ -1,5 +1,5 @@
 -- The names that a report has of the selections of a contest are those of the selections that stand in the contest.
-use Rattle.std.proofs.Common.{◌≡◌, ℕ, List, Bool, true, Option, Some, None, option_and_then, option_map, map, slice_get, codes, refl, sym, ap, ◌∙◌, subst}
+use Rattle.std.proofs.Common.{◌≡◌, ℕ, List, true, Option, Some, None, option_and_then, option_map, slice_get, codes, refl, sym, ap, ◌∙◌, subst}
 use Rattle.std.proofs.lemmas.Option.{slice_get-map}
 use Rattle.serde_json.specs.Data.{Data}
 use Rattle.serde_json.specs.Find.{get}
@@ -17,7 +17,6 @@ use Rattle.erd_meaning.proofs.meanings.SelectionKinds as kinds
 use Rattle.erd_meaning.specs.Judged.{Judged}
 use Rattle.erd_meaning.specs.Keys.{Preference}
 use Rattle.erd_meaning.specs.Lookups.{name_in_contest}
-use Rattle.erd_meaning.specs.NameParts.{NameParts}
 use Rattle.erd_meaning.specs.Objects.{Placed, contests, selections_of_contest}
 use Rattle.erd_meaning.specs.SelectionNames.{name_of}
 use Rattle.erd_compare.specs.code.PlacedObjects.{AreNamedIn, AreSelectionsAt, IsPlaced}

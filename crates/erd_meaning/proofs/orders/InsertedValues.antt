@@ -1,10 +1,10 @@
 -- Two values that go into a list in order, one after the other: the list is the same, whichever goes in first. So a list in
 -- rising order is the same, in whichever order its entries came.
-use Rattle.std.proofs.Common.{◌≡◌, List, [], ◌∷◌, map, Bool, true, false, cond, Ordering, Less, Equal, Greater, is_lt, refl, sym, ap, ◌∙◌}
+use Rattle.std.proofs.Common.{◌≡◌, List, [], ◌∷◌, Bool, true, false, cond, Ordering, Less, Equal, Greater, is_lt, refl, sym, ap, ◌∙◌}
 use Rattle.std.specs.Cmp.{IsTotalOrder}
 use Rattle.std.specs.Ordering.{ordering_reverse}
 use Rattle.std.proofs.lemmas.Map.Lookups.{CmpEqualImpliesEq}
-use Rattle.erd_meaning.specs.SelectionNames.{rising_list, with_inserted}
+use Rattle.erd_meaning.specs.SelectionNames.{with_inserted}
 
 -- ---- answers of a comparison
 

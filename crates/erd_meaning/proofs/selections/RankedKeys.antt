@@ -1,14 +1,13 @@
 -- The ranks of keys are in the order of the keys, wherever objects of the family have the keys. The keys in the name of a
 -- selection are those of objects.
-use Rattle.std.proofs.Common.{◌≡◌, ◌<◌, ℕ, inl, inr, List, [], ◌∷◌, map, filter, length, find, Bool, true, false, cond, Option, Some, None, is_some, option_and_then, option_map, codes, Ordering, Less, Equal, Greater, nat_cmp, is_lt, is_eq, refl, sym, ap, ap₂, ◌∙◌, subst}
+use Rattle.std.proofs.Common.{◌≡◌, ℕ, inl, inr, List, [], ◌∷◌, map, filter, length, find, Bool, true, false, cond, Option, Some, None, is_some, option_and_then, option_map, codes, nat_cmp, is_lt, is_eq, refl, sym, ap, ap₂, ◌∙◌, subst}
 use Rattle.std.proofs.lemmas.Option.{slice_get-map}
 use Rattle.std.proofs.lemmas.Simd.{map-map}
-use Rattle.std.proofs.lemmas.Cmp.{nat_cmp_total, on_total, tied_itself}
+use Rattle.std.proofs.lemmas.Cmp.{on_total, tied_itself}
 use Rattle.std.specs.Cmp.{IsTotalOrder}
 use Rattle.std.specs.Cmp.Lexicographic.{options_total}
 use Rattle.std.specs.List.{AllByRecursion, cons_option, list_all, position, slice_get}
 use Rattle.std.specs.Option.{option_cmp, option_copied}
-use Rattle.std.specs.Ordering.{ordering_reverse}
 use Rattle.serde_json.specs.Data.{Data}
 use Rattle.serde_json.specs.Find.{as_str}
 use Rattle.erd_tables.specs.declared.class.Class.{Class}
@@ -17,7 +16,6 @@ use Rattle.erd_tables.specs.declared.class.Family.{Family}
 use Rattle.erd_tables.specs.declared.class.Family.TheVariants as family
 use Rattle.erd_check.proofs.Order.{In}
 use Rattle.erd_check.proofs.Reasons.{and_true, both_true}
-use Rattle.erd_check.proofs.Steps.{at_less}
 use Rattle.erd_check.specs.Values.{entries_at}
 use Rattle.erd_check.specs.Wants.{class_of_object}
 use Rattle.erd_meaning.specs.Keys.{Preference, key_cmp, key_of}
@@ -27,7 +25,7 @@ use Rattle.erd_meaning.specs.code.NamesAmong.{class_name_among, key_among, keys_
 use Rattle.erd_meaning.specs.code.ObjectIndexes.{number_of_key, rank}
 use Rattle.erd_meaning.specs.code.ObjectLookups.{is_keyed, is_of_family, keeps_id, those_of}
 use Rattle.erd_meaning.specs.code.ObjectWalk.{Kept, same_key}
-use Rattle.erd_meaning.specs.code.Orders.{key_cmp_exact, key_cmp_total}
+use Rattle.erd_meaning.specs.code.Orders.{key_cmp_total}
 use Rattle.erd_meaning.specs.code.RankedNames.{AreRanks, IsRanked, RankedParts, family_chosen, has_keys_among, is_key_among, lent_key_cmp, rank_among, ranked_key, ranked_name_among, ranked_parts}
 use Rattle.erd_meaning.specs.declared.keys.key.Key.{Key}
 use denote.Ref.{Bor}

@@ -1,10 +1,10 @@
 -- A list in rising order has the same entries, each as often, and is ordered before or after a map alike.
-use Rattle.std.proofs.Common.{◌≡◌, suc, ◌⊎◌, inl, inr, List, [], ◌∷◌, map, filter, filter_map, length, Bool, true, false, cond, Option, Ordering, is_lt, refl, sym, ap, subst}
+use Rattle.std.proofs.Common.{◌≡◌, ◌⊎◌, inl, inr, List, [], ◌∷◌, filter_map, length, Bool, true, false, cond, Option, Ordering, is_lt, sym, subst}
 use Rattle.std.specs.List.{list_any}
 use Rattle.erd_check.proofs.Order.{In}
 use Rattle.erd_check.proofs.Rising.{Has, Has-cases, here, later}
 use Rattle.erd_meaning.specs.SelectionNames.{rising_list, with_inserted}
-use Rattle.erd_normal.proofs.lists.Reordered.{any-reordered, any_filter_map-reordered, count-reordered, length-reordered, reordered_rising}
+use Rattle.erd_normal.proofs.lists.Reordered.{any-reordered, any_filter_map-reordered, length-reordered, reordered_rising}
 
 -- ---- what doesn't depend on the order of a list
 
