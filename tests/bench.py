@@ -2,7 +2,7 @@
 
 Each report is the county example, in which each object stands many times, with names and keys of its own. Beside `erd` run
 a proved program that only reads the file by serde_json and writes it again, `jq -S -c .` where there is a jq, and Python's
-json. RUNS is how often each is run; the least processor time counts.
+json. RUNS is how often each is run, in turn with the others; the median processor time counts.
 """
 import math
 import os
@@ -32,12 +32,13 @@ def report_of(copies, vendor, folder):
 def measure(copies, folder, runs):
     """The size in MB, and for each program its time and memory."""
     left, right = report_of(copies, "vendor-a", folder), report_of(copies, "vendor-b", folder)
-    found = {"read and write": measured([ROUND_TRIP], runs, [0], left)}
+    commands = {"read and write": ([ROUND_TRIP], left)}
     for words in (["check", left], ["canon", left], ["compare", left, right]):
-        found["erd " + words[0]] = measured(["./erd"] + words, runs, [0])
+        commands["erd " + words[0]] = (["./erd"] + words, None)
     if shutil.which("jq"):
-        found["jq -S -c ."] = measured(["jq", "-S", "-c", ".", left], 1, [0])
-    found["Python's json"] = measured([sys.executable, "-c", PYTHON_ROUND_TRIP, left], 1, [0])
+        commands["jq -S -c ."] = (["jq", "-S", "-c", ".", left], None)
+    commands["Python's json"] = ([sys.executable, "-c", PYTHON_ROUND_TRIP, left], None)
+    found = measured(commands, runs)
     size = os.path.getsize(left)
     os.remove(left)
     os.remove(right)
@@ -54,7 +55,7 @@ def table(title, sizes, rows, number):
 
 
 def main():
-    runs = int(os.environ.get("RUNS", "3"))
+    runs = int(os.environ.get("RUNS", "5"))
     sizes, rows = [], []
     with tempfile.TemporaryDirectory() as folder:
         for copies in COPIES:

@@ -1,5 +1,6 @@
 """What the benchmarks share: processor time and peak memory of one run of a program, and ratios of them."""
 import os
+import statistics
 import sys
 
 
@@ -20,13 +21,14 @@ def run(command, stdin=None):
     return usage.ru_utime + usage.ru_stime, usage.ru_maxrss / 1024, os.waitstatus_to_exitcode(status)
 
 
-def measured(command, runs, statuses, stdin=None):
-    """The least processor time of some runs, and the peak memory of that one. Another exit status ends the benchmark."""
-    best = None
+def measured(commands, runs):
+    """For each command, by its name, the medians of the processor time and the peak memory of so many runs. The commands run in
+    turn, so that what else the machine does meets all of them alike. A status other than 0 ends the benchmark."""
+    found = {name: [] for name in commands}
     for _ in range(runs):
-        time, memory, status = run(command, stdin)
-        if status not in statuses:
-            sys.exit("bench: " + " ".join(command) + ": status " + str(status))
-        if best is None or time < best[0]:
-            best = (time, memory)
-    return best
+        for name, (command, stdin) in commands.items():
+            time, memory, status = run(command, stdin)
+            if status != 0:
+                sys.exit("bench: " + " ".join(command) + ": status " + str(status))
+            found[name].append((time, memory))
+    return {name: tuple(statistics.median(values) for values in zip(*each)) for name, each in found.items()}

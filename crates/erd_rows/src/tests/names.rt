@@ -89,11 +89,13 @@ fn is_ordered(
 
 // The name with the ranks of its keys compares correctly with each such name of the report.
 fn is_ranked(alloc: Global, report: &Report, index: usize, ranked: Ranked) -> Result<(), Fail> {
-    let (contest, rank) = ranked[index];
-    let Some((found, one)) = report.ranked_name_at(index) else {
+    let (Some((contest, rank)), Some((found, one))) = (
+        ranked.get(index),
+        report.ranked_name_at(index),
+    ) else {
         return Err(Fail::from("no name with ranks"));
     };
-    if found != contest {
+    if found != *contest {
         return Err(Fail::from("another contest of the name with ranks"));
     }
     for (other_index, (_, other_rank)) in ranked.iter().enumerate() {
