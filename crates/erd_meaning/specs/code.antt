@@ -15,7 +15,7 @@ pub mod Indexed  -- when these indexes are those of the objects
 pub mod ReferenceReasons  -- the reasons of a reference, as the program tells them
 pub mod NamesAmong  -- the names of selections by these look-ups
 pub mod SelectionWalk  -- the names of selections in the order in which the program meets them, with the faults of selections
-pub mod RankedNames  -- names with the ranks of their keys, which an index compares
+pub mod RankedNames  -- names with the ranks of their keys, which an index compares and a report lends
 pub mod RankedOrders  -- their order is total, and equal ones are hashed alike
 pub mod Shown  -- what the program's own structs stand for
 pub mod ShownWalks  -- what clauses see of the walks

@@ -1,7 +1,6 @@
--- Optional values that are compared by a test which decides equality.
-use Rattle.std.proofs.Common.{◌≡◌, Bool, true, true≢false, Option, Some, None, option_map, is_eq, refl, sym, ap, subst, ◌∙◌}
+-- Answers that decide whether two values are equal.
+use Rattle.std.proofs.Common.{◌≡◌, Bool, true, is_eq, sym, ap, subst, ◌∙◌}
 use Rattle.std.proofs.lemmas.Cmp.{tied_itself}
-use Rattle.std.specs.Option.{option_eq}
 use Rattle.std.specs.Ordering.{eq_by_cmp}
 use Rattle.erd_meaning.proofs.orders.EqualNames.{equal_names}
 use Rattle.erd_meaning.specs.NameParts.{NameParts}
@@ -12,13 +11,6 @@ use Rattle.erd_compare.specs.code.Comparing.{Decides}
 -- names that are equal in their order are equal
 pub names_decide : (m n : NameParts) → Decides (eq_by_cmp name_cmp m n) m n
 names_decide m n = (λ h. equal_names m n h, λ e. subst (λ (x : NameParts). eq_by_cmp name_cmp m x ≡ true) e (ap is_eq (tied_itself name_cmp_total m)))
-
--- optional values are equal exactly if they are by the test
-pub options_decide : {T V : Type 0} (test : T → T → Bool) (value : T → V) → ((x y : T) → Decides (test x y) (value x) (value y)) → (o p : Option T) → Decides (option_eq test o p) (option_map value o) (option_map value p)
-options_decide test value each None None = (λ h. refl, λ e. refl)
-options_decide test value each (Some x) None = (λ h. absurd (true≢false (sym h)), λ e. cc)
-options_decide test value each None (Some y) = (λ h. absurd (true≢false (sym h)), λ e. cc)
-options_decide test value each (Some x) (Some y) = (λ h. ap Some ((each x y).0 h), λ e. let same : value x ≡ value y = cc in (each x y).1 same)
 
 -- an answer about equal values
 pub decides_as : {A : Type 0} {p q : Bool} {a a' b b' : A} → q ≡ p → a ≡ a' → b ≡ b' → Decides p a b → Decides q a' b'

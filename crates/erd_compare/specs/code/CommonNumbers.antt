@@ -71,7 +71,7 @@ tables_of part.Contest n = n.contests
 tables_of part.Style n = n.styles
 
 -- These are the keys of the two reports in the part, and the numbers. The left report is comparable, so no two of its objects
--- have the same key.
+-- in the part have the same key.
 pub record ArePartTables (a b : Judged) (p : Part) (n : PartTables) : Type 0 where
   pub comparable : IsComparable a.prefer (view a.tree)
   pub left : IsKeyTable a.prefer (view a.tree) (role_of_part p) n.ones.items

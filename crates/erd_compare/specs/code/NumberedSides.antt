@@ -47,13 +47,13 @@ pub record IsNumberSet (ns : List ℕ) (s : BTreeSet ℕ) : Type 0 where
   pub rises : IsStrictlySortedBy nat_cmp s.keys
   pub same : (n : ℕ) → number_set s.keys n ≡ number_set ns n
 
--- The number of the object of the part whose key has this rank, or none if there is none. On the left it is the position of
--- the object.
+-- The number that the tables have at this rank of the part, or none if the rank is past them. On the left it is the position
+-- of the object.
 abbrev pub number_at_rank : KeyTables → Side → Part → ℕ → Option ℕ
 number_at_rank tables Left p rank = option_map (λ e. e.1) (slice_get (tables_of p tables).ones.items rank)
 number_at_rank tables Right p rank = option_and_then (λ e. slice_get (tables_of p tables).numbers.items e.1) (slice_get (tables_of p tables).others.items rank)
 
--- The number at the rank of each key of an object is that of the key.
+-- On either side, the number at the rank of an object's key is the number of that key.
 abbrev pub AreNumbersAtRanks : Judged → Judged → KeyTables → Type 0
 AreNumbersAtRanks a b tables =
     (side : Side) (f : Family) → has_keys f ≡ true → (key : Key) → IsKeyIn (on_side side a b).prefer (view (on_side side a b).tree) f key

@@ -19,7 +19,7 @@ use Rattle.erd_compare.specs.declared.difference.Part.{Part}
 use Rattle.erd_compare.specs.declared.numbers.side.Side.{Side}
 use denote.Ref.{Bor}
 
--- The name is one that the report has, with the ranks of its keys. Each key in it is that of an object.
+-- The ranks of the name are those of its keys in the report, and each of these is the key of an object.
 pub record IsNameOn (a : Judged) (r : RankedParts) : Type 0 where
   pub ranked : r ≡ ranked_name a.prefer (view a.tree) r.name
   pub known : HasKeysIn a.prefer (view a.tree) r.name

@@ -1,5 +1,4 @@
--- Two values that go into a list in order, one after the other: the list is the same, whichever goes in first. So a list in
--- rising order is the same, in whichever order its entries came.
+-- Two values that go into a list in order, one after the other: the list is the same, whichever goes in first.
 use Rattle.std.proofs.Common.{◌≡◌, List, [], ◌∷◌, Bool, true, false, cond, Ordering, Less, Equal, Greater, is_lt, refl, sym, ap, ◌∙◌}
 use Rattle.std.specs.Cmp.{IsTotalOrder}
 use Rattle.std.specs.Ordering.{ordering_reverse}

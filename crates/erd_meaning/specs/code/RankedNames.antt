@@ -68,7 +68,7 @@ ranked_parts ks n = record { name = n; ranks = map (λ key. rank_among ks (famil
 abbrev pub ranked_name_among : Preference → List Kept → Data → Option RankedParts
 ranked_name_among π ks d = option_map (ranked_parts ks) (name_among π ks d)
 
--- The name of a selection of a report with the ranks of its keys in the report.
+-- The name with the ranks of its keys in the report.
 abbrev pub ranked_name : Preference → Data → NameParts → RankedParts
 ranked_name π t n = record { name = n; ranks = map (λ key. rank_of π t (family_chosen n.class) (Some key)) n.keys }
 

@@ -10,10 +10,11 @@ use std::cmp::Ordering;
 use std::hash::{Hash, Hasher};
 use std::marker::Model;
 
-/// The name of a selection of a report, with the ranks of its keys in the report. The rank of a key is the number of objects
-/// of its family with lesser keys: of candidates or of parties. Contracts see the name and the ranks.
+/// The name of a selection of a report, with the ranks of its keys. The rank of a key is the number of candidates, or of
+/// parties, of the report that have lesser keys. Contracts see the name and the ranks.
 ///
-/// Names of one report are compared by their ranks and by the parts after the keys. So it takes no longer if keys are long.
+/// Two names of one report are compared by their ranks and their other parts, so long keys take no longer. Do not compare
+/// names of different reports with `==` or `compare`: there, equal ranks may stand for different keys.
 #[derive(Debug, Drop)]
 pub struct RankedName {
     name: SelectionName,
@@ -47,7 +48,7 @@ impl RankedName {
         &self.name
     }
 
-    /// Returns the family of the objects whose keys are in the name.
+    /// Returns the family of the objects whose keys are in the name. For a name without keys it may be `Family::Candidate`.
     pub fn family(&self) -> Family
         ensures { result ≡ family_chosen self.now.name.class }
     {

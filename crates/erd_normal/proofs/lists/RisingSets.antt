@@ -1,4 +1,4 @@
--- A list in rising order has the same entries, each as often, and is ordered before or after a map alike.
+-- A list in rising order has the same entries, and as many.
 use Rattle.std.proofs.Common.{◌≡◌, ◌⊎◌, inl, inr, List, [], ◌∷◌, filter_map, length, Bool, true, false, cond, Option, Ordering, is_lt, sym, subst}
 use Rattle.std.specs.List.{list_any}
 use Rattle.erd_check.proofs.Order.{In}

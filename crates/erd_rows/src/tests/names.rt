@@ -59,7 +59,7 @@ pub fn names_are(alloc: Global, report: &str, ranked: Ranked) -> Result<(), Fail
             return Err(Fail::from("another name at that position of the contest"));
         }
         is_ordered(alloc, &report, &copy, *rank, ranked)?;
-        is_ranked(alloc, &report, index, ranked)?;
+        is_ranked(alloc, &report, index, place, ranked)?;
         is_found(alloc, &report, &copy, *rank, ranked)?;
     }
     Ok(())
@@ -88,7 +88,13 @@ fn is_ordered(
 }
 
 // The name with the ranks of its keys compares correctly with each such name of the report.
-fn is_ranked(alloc: Global, report: &Report, index: usize, ranked: Ranked) -> Result<(), Fail> {
+fn is_ranked(
+    alloc: Global,
+    report: &Report,
+    index: usize,
+    place: usize,
+    ranked: Ranked,
+) -> Result<(), Fail> {
     let (Some((contest, rank)), Some((found, one))) = (
         ranked.get(index),
         report.ranked_name_at(index),
@@ -97,6 +103,15 @@ fn is_ranked(alloc: Global, report: &Report, index: usize, ranked: Ranked) -> Re
     };
     if found != *contest {
         return Err(Fail::from("another contest of the name with ranks"));
+    }
+    let Some(same) = report.ranked_name_in_contest(found, place) else {
+        return Err(Fail::from("no name with ranks in the contest"));
+    };
+    if *same.name() != *one.name() || !same.name().is_same_but_keys(one.name()) {
+        return Err(Fail::from("another name with ranks in the contest"));
+    }
+    if same.ranks() != one.ranks() || same.family() == Family::Selection {
+        return Err(Fail::from("other ranks in the contest"));
     }
     for (other_index, (_, other_rank)) in ranked.iter().enumerate() {
         let Some((_, other)) = report.ranked_name_at(other_index) else {
