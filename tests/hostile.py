@@ -2,6 +2,7 @@
 
 Prints for each shape and each command the processor time at the larger size, and the exponent of growth. SIZE is the number
 of entries at the smaller size, or a part of it where an entry is large: at the larger size there are a thousand elections.
+RUNS is how often each command runs; the median processor time counts.
 Words are the names of the shapes to try.
 """
 import json
@@ -10,7 +11,7 @@ import os
 import sys
 import tempfile
 
-from measuring import run
+from measuring import measured
 
 CLASS = "ElectionResults."
 
@@ -299,8 +300,15 @@ def runs_of(shape, n, folder):
     return {"check": ["./erd", "check", path], "canon": ["./erd", "canon", path], "compare": ["./erd", "compare", path, path]}
 
 
+def medians(shape, n, folder, runs):
+    """The time and the memory of each command. Some shapes are refused, and some pairs differ."""
+    commands = {name: (command, None) for name, command in runs_of(shape, n, folder).items()}
+    return measured(commands, runs, (0, 1))
+
+
 def main():
     size = int(os.environ.get("SIZE", "5000"))
+    runs = int(os.environ.get("RUNS", "3"))
     words = sys.argv[1:]
     print("| Shape | Command | Seconds | Exponent |")
     print("|---|---|---:|---:|")
@@ -308,8 +316,7 @@ def main():
         for shape in SINGLE + PAIRS:
             if words and shape.__name__ not in words:
                 continue
-            small = {name: run(command) for name, command in runs_of(shape, size, folder).items()}
-            large = {name: run(command) for name, command in runs_of(shape, 4 * size, folder).items()}
+            small, large = medians(shape, size, folder, runs), medians(shape, 4 * size, folder, runs)
             for name in small:
                 exponent = math.log(max(large[name][0], 0.001) / max(small[name][0], 0.001)) / math.log(4)
                 print("| %s | %s | %.2f | %.2f |" % (shape.__name__, name, large[name][0], exponent), flush=True)

@@ -21,14 +21,14 @@ def run(command, stdin=None):
     return usage.ru_utime + usage.ru_stime, usage.ru_maxrss / 1024, os.waitstatus_to_exitcode(status)
 
 
-def measured(commands, runs):
+def measured(commands, runs, statuses=(0,)):
     """For each command, by its name, the medians of the processor time and the peak memory of so many runs. The commands run in
-    turn, so that what else the machine does meets all of them alike. A status other than 0 ends the benchmark."""
+    turn, so that what else the machine does meets all of them alike. Another status than these ends the benchmark."""
     found = {name: [] for name in commands}
     for _ in range(runs):
         for name, (command, stdin) in commands.items():
             time, memory, status = run(command, stdin)
-            if status != 0:
+            if status not in statuses:
                 sys.exit("bench: " + " ".join(command) + ": status " + str(status))
             found[name].append((time, memory))
     return {name: tuple(statistics.median(values) for values in zip(*each)) for name, each in found.items()}
