@@ -202,6 +202,13 @@ def long_contents(n):
     return made
 
 
+def long_labels(n):
+    """The contents of a ballot list one selection with a long label and a long identifier again and again."""
+    listed = {"@type": CLASS + "OrderedContest", "ContestId": "c", "OrderedContestSelectionIds": ["s0"] * n}
+    chosen = selection(0, "BallotMeasureSelection", Selection=label([language("L" * (10 * n))]), ExternalIdentifier=[identifier("I" * (10 * n))])
+    return report(ONE, Contest=[contest([chosen], "BallotMeasureContest")], BallotStyle=[style(0, [listed])])
+
+
 def empty_arrays(n):
     return report([unit("u%d" % i, "U%07d" % i, ComposingGpUnitIds=[]) for i in range(n)])
 
@@ -280,7 +287,8 @@ def selections_moved(n):
 
 SINGLE = [units_rising, units_falling, units_alike, candidate_selections, write_ins, measure_texts, ordered_selections, references,
           identifiers, translations, same_triples, unresolved, repeated, foreign, twins, same_ids, chain, styles, deep_headers,
-          long_key, long_keys, long_tickets, long_twins, long_contents, empty_arrays, elections, twin_elections]
+          long_key, long_keys, long_tickets, long_twins, long_contents, long_labels,
+          empty_arrays, elections, twin_elections]
 PAIRS = [moved, nothing_common, last_differs, every_second, long_references_moved, selections_moved, elections_moved]
 
 

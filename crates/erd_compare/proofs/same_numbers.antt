@@ -4,5 +4,7 @@ pub mod KeyNumbers
 pub mod NamedNumbers
 pub mod NumberSets
 pub mod KeysByRank
+pub mod InsertedKeys
+pub mod NameNumbers
 pub mod NamesOnSides
 pub mod NumberedSelections

@@ -2,3 +2,4 @@ pub mod MemberValues
 pub mod NameMaps
 pub mod SelectionWalks
 pub mod PlacedSelections
+pub mod PlacedNames

@@ -9,6 +9,7 @@ mod tables;
 use crate::difference::{Difference, Part};
 use crate::first::parts::part_difference;
 use crate::numbers::making::tables_of_both;
+use crate::numbers::name_numbers::names_of_both;
 use crate::sides::Sides;
 use erd_meaning::Report;
 use std::alloc::{AllocError, Global};
@@ -37,8 +38,9 @@ const PARTS: [Part; 10] = [
 /// key differs at `ElectionId`. docs/PROFILE.md lists the parts, the keys and what members mean.
 ///
 /// The code copies and builds no records. It sorts the keys of both reports in each part, and looks up each key of the right
-/// report among those of the left one. From then on it compares references by the numbers that this gives to objects, and
-/// members in place. In each part it walks both lists of keys in step, and it stops at the first difference.
+/// report among those of the left one. It looks up the name of each selection once. From then on it compares references by
+/// the numbers that this gives to objects and names, and members in place. In each part it walks both lists of keys in step,
+/// and it stops at the first difference.
 ///
 /// # Errors
 ///
@@ -52,10 +54,12 @@ pub fn first_difference(
     ensures { IfOk result (IsDifference (meaning left.now.prefer (view left.now.tree)) (meaning right.now.prefer (view right.now.tree))) }
 {
     let tables = tables_of_both(alloc, left, right)?;
+    let names = names_of_both(alloc, left, right, &tables)?;
     let sides = Sides {
         left,
         right,
         tables: &tables,
+        names: &names,
     };
     for part in PARTS {
         if let Some(difference) = part_difference(alloc, sides, part)? {

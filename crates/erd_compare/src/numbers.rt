@@ -1,6 +1,8 @@
-//! Numbers in place of keys. The keys of both reports are sorted once, and each key of the right report is looked up once
-//! among those of the left report. From then on numbers are compared.
+//! Numbers in place of keys, and of the names of selections. The keys of both reports are sorted once, and each key of the
+//! right report is looked up once among those of the left report. Then each name is looked up once. From then on numbers are
+//! compared.
 
+pub(crate) mod kept_names;
 pub(crate) mod kept_tables;
 pub(crate) mod lookups;
 pub(crate) mod making;

@@ -1,7 +1,8 @@
+ghost use Rattle.erd_compare.specs.code.CommonNames.{AreNameNumbers};
 ghost use Rattle.erd_compare.specs.code.CommonNumbers.{AreCommonNumbers, tables_of};
-ghost use Rattle.erd_compare.specs.code.NumberedSides.{AreNumbersAtRanks};
 ghost use Rattle.erd_compare.specs.declared.difference.Part.{Part};
 
+use crate::numbers::kept_names::NameNumbers;
 use crate::numbers::kept_tables::KeyTables;
 use erd_meaning::Report;
 
@@ -15,6 +16,8 @@ pub(crate) struct Sides<'a> {
     pub right: &'a Report<'a>,
     /// The keys of both reports, and numbers in place of them.
     pub tables: &'a KeyTables<'a>,
+    /// The numbers of the names of selections.
+    pub names: &'a NameNumbers,
     ghost numbered: { (p : Part) → AreCommonNumbers left.now right.now p (tables_of p tables.now).numbers.items },
-    ghost ranked: { AreNumbersAtRanks left.now right.now tables.now },
+    ghost named: { AreNameNumbers left.now right.now names.now },
 }

@@ -1,5 +1,5 @@
 -- What can be looked up among the objects and the elections of a report, by family and position.
-use Rattle.std.specs.Prelude.{◌≡◌, ◌↔◌, ℕ, List, Option, Some, None, filter, length, option_and_then, option_map}
+use Rattle.std.specs.Prelude.{◌≡◌, ◌↔◌, ◌+◌, ◌==◌, ℕ, List, Option, Some, None, if◌then◌else◌, filter, length, option_and_then, option_map}
 use Rattle.std.specs.List.{slice_get}
 use Rattle.std.specs.Option.{option_cmp}
 use Rattle.std.specs.Ordering.{is_lt}
@@ -41,6 +41,18 @@ election_in f t i = option_and_then (λ o. election_of_place o.place) (slice_get
 -- The position of the contest of the selection at this position, and the name of the selection, or none.
 abbrev pub selection_in : Preference → Data → ℕ → Option (ℕ × NameParts)
 selection_in π t i = option_and_then (λ s. option_map (λ n. (s.0, n)) (name_of π t s.1.value)) (slice_get (numbered_selections t) i)
+
+-- The selection at position i of the contest at position c, or none.
+abbrev pub selection_of : Data → ℕ → ℕ → Option Placed
+selection_of t c i = option_and_then (λ o. slice_get (selections_of_contest o) i) (slice_get (contests t) c)
+
+-- The selection, if it is of the contest at position c.
+abbrev pub if_of_contest : ℕ → ℕ × Placed → Option Placed
+if_of_contest c s = if s.0 == c then Some s.1 else None
+
+-- The selections of the contest at position c stand one after another among those of the report, from position s on.
+abbrev pub StandFrom : Data → ℕ → ℕ → Type 0
+StandFrom t c s = (i : ℕ) → option_and_then (if_of_contest c) (slice_get (numbered_selections t) (s + i)) ≡ selection_of t c i
 
 -- The name of the selection at this position of the contest at the other, or none.
 abbrev pub name_in_contest : Preference → Data → ℕ → ℕ → Option NameParts

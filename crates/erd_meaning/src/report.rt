@@ -5,7 +5,7 @@ ghost use Rattle.serde_json.specs.Written.{has_float};
 ghost use Rattle.erd_check.specs.Numbers.{HasFittingNumbers};
 ghost use Rattle.erd_check.specs.Trees.{IsShallow, IsTree};
 ghost use Rattle.erd_meaning.specs.Accepted.{IsAccepted};
-ghost use Rattle.erd_meaning.specs.Lookups.{FindsId, FindsKey, FindsSelection, election_in, election_key_in, key_in, name_in_contest, selection_in};
+ghost use Rattle.erd_meaning.specs.Lookups.{FindsId, FindsKey, FindsSelection, StandFrom, election_in, election_key_in, key_in, name_in_contest, selection_in};
 ghost use Rattle.erd_meaning.specs.Objects.{IsBounded, elections, objects};
 ghost use Rattle.erd_meaning.specs.code.RankedNames.{AllAreRanked, names_of, ranked_name, ranked_selection_in};
 ghost use Rattle.erd_meaning.specs.code.Resolved.{IsResolved};
@@ -249,25 +249,23 @@ impl<'a> Report<'a> {
         Some((*contest, name))
     }
 
+    /// Returns the position of the first selection of the contest at the position `contest`. The other selections of the
+    /// contest follow it, in the order of the contest.
+    pub fn first_selection(&self, contest: usize) -> usize
+        ensures { StandFrom (view self.now.tree) contest result }
+    {
+        self.objects().first_selection(contest)
+    }
+
     /// Returns the name of the selection at the position `index` of the contest at the position `contest`, or `None` if there
     /// is no such selection.
     pub fn name_in_contest(&self, contest: usize, index: usize) -> Option<&SelectionName>
         ensures { option_copied result ≡ name_in_contest self.now.prefer (view self.now.tree) contest index }
     {
-        let name = self.ranked_name_in_contest(contest, index)?;
-        Some(name.name())
-    }
-
-    /// Returns the name of the selection at the position `index` of the contest at the position `contest`, with the ranks of
-    /// its keys, or `None` if there is no such selection.
-    pub fn ranked_name_in_contest(&self, contest: usize, index: usize) -> Option<&RankedName>
-        ensures { option_copied result
-            ≡ option_map (ranked_name self.now.prefer (view self.now.tree)) (name_in_contest self.now.prefer (view self.now.tree) contest index) }
-    {
         // read for its bound: a word counts the selections
         let _count = self.count(Family::Selection);
-        let start = self.objects().first_selection(contest);
-        let (own, name) = self.ranked_name_at(start.checked_add(index)?)?;
+        let start = self.first_selection(contest);
+        let (own, name) = self.selection_at(start.checked_add(index)?)?;
         if own == contest { Some(name) } else { None }
     }
 

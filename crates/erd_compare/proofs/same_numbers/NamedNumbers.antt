@@ -59,10 +59,6 @@ module _ (a b : Judged) (side : Side) (p : Part) where
   abbrev t : Data
   t = view (on_side side a b).tree
 
-  -- the number is that of the key, if the object has one
-  pub number_found : (i : ℕ) (k : Key) (n : Option ℕ) → key_in_role π (role_of_part p) t i ≡ Some k → IsNumberAt a b side p i n → n ≡ option_map (number_of_key a b p) (key_in_role π (role_of_part p) t i)
-  number_found i k n e is = is (Some k) (stands_there π t (role_of_part p) i k e) ∙ sym (ap (option_map (number_of_key a b p)) e)
-
   pub stands_on_side : (i : ℕ) (k : Option Key) → HasKeyAt π t (role_of_part p) i k → Stands k (both_keys a b p)
   stands_on_side i k h = on side h
     where

@@ -10,22 +10,23 @@ use Rattle.erd_check.proofs.Order.{In-from_contains}
 use Rattle.erd_tables.specs.declared.class.Family.{Family}
 use Rattle.erd_tables.specs.declared.class.Family.TheVariants as family
 use Rattle.erd_tables.specs.declared.class.Role.TheVariants as role
+use Rattle.erd_meaning.proofs.selections.NumberedSelections.{numbered_at}
 use Rattle.erd_meaning.proofs.selections.KeysInNames.{known_name}
 use Rattle.erd_meaning.proofs.selections.RankedReports.{chosen_keyed}
 use Rattle.erd_meaning.specs.Judged.{Judged}
 use Rattle.erd_meaning.specs.Keys.{Preference, has_keys}
 use Rattle.erd_meaning.specs.Lookups.{name_in_contest, rank_of}
 use Rattle.erd_meaning.specs.NameParts.{NameParts}
-use Rattle.erd_meaning.specs.Objects.{Placed, contests, objects, owner, selections_of_contest}
+use Rattle.erd_meaning.specs.Objects.{Placed, contests, objects, owner, selections_of_contest, numbered_selections}
 use Rattle.erd_meaning.specs.SelectionNames.{name_cmp, name_named, name_of}
-use Rattle.erd_meaning.specs.code.NumberedNames.{NumberedParts, without_keys}
-use Rattle.erd_meaning.specs.code.RankedNames.{HasKeysIn, IsKeyIn, RankedParts, family_chosen, ranked_name}
+use Rattle.erd_meaning.specs.code.NumberedNames.{NumberedParts, numbered_parts, without_keys}
+use Rattle.erd_meaning.specs.code.RankedNames.{HasKeysIn, IsKeyIn, PlacedName, RankedParts, family_chosen, ranked_name, ranked_selection_in}
 use Rattle.erd_meaning.specs.declared.keys.key.Key.{Key}
 use Rattle.erd_compare.specs.code.CommonNumbers.{AreKeyTables, number_of_key, part_of_family, tables_of}
 use Rattle.erd_compare.specs.code.Comparing.{Decides}
 use Rattle.erd_compare.specs.code.KeyedDifferences.{HasKeyAt, IsKeyTable, role_of_part}
 use Rattle.erd_compare.specs.code.NumberedSides.{AreNumbersAtRanks, number_at_rank, on_side}
-use Rattle.erd_compare.specs.code.SelectionsByName.{IsNameOn, numbered_name, numbers_in_name, part_of_name}
+use Rattle.erd_compare.specs.code.CommonNames.{name_told, numbered_name, numbered_name_of, numbers_in_name, numbers_told, part_of_name}
 use Rattle.erd_compare.specs.declared.difference.Part.{Part}
 use Rattle.erd_compare.specs.declared.numbers.kept_tables.KeyTables.{KeyTables}
 use Rattle.erd_compare.specs.declared.numbers.side.Side.{Side}
@@ -35,38 +36,6 @@ use Rattle.erd_compare.proofs.same_numbers.KeyNumbers.{both_keys, left_number, n
 use Rattle.erd_compare.proofs.same_numbers.KeyPlaces.{Stands}
 use Rattle.erd_compare.proofs.same_numbers.KeysByRank.{at_rank, place_in}
 use Rattle.erd_compare.proofs.same_numbers.NamedNumbers.{its_role, kept, stands_on_side}
-
--- ---- names of a report
-
-module _ (a : Judged) where
-  abbrev π : Preference
-  π = a.prefer
-
-  abbrev t : Data
-  t = view a.tree
-
-  -- a name that is found with ranks, where each that can be found has keys of objects
-  on_any : (o : Option NameParts) → ((n : NameParts) → o ≡ Some n → HasKeysIn π t n) → (r : RankedParts) → option_map (ranked_name π t) o ≡ Some r → IsNameOn a r × (o ≡ Some r.name)
-  on_any None known r e = cc
-  on_any (Some n) known r e =
-      let same : ranked_name π t n ≡ r = cc in
-      let name : n ≡ r.name = ap (λ (q : RankedParts). q.name) same in
-      (record { ranked = sym same ∙ ap (ranked_name π t) name; known = subst (HasKeysIn π t) name (known n refl) }, ap Some name)
-
-  pub on_contest : (c i : ℕ) (r : RankedParts) → option_map (ranked_name π t) (name_in_contest π t c i) ≡ Some r → IsNameOn a r × (name_in_contest π t c i ≡ Some r.name)
-  on_contest c i r e = on_any (name_in_contest π t c i) known r e
-    where
-      known : (n : NameParts) → name_in_contest π t c i ≡ Some n → HasKeysIn π t n
-      known n h =
-          option_and_then_some (λ (o : Placed). option_and_then (λ (s : Placed). name_of π t s.value) (slice_get (selections_of_contest o) i)) (slice_get (contests t) c) n h
-          (λ o is there. option_and_then_some (λ (s : Placed). name_of π t s.value) (slice_get (selections_of_contest o) i) n there (λ s at named. known_name π t s.value n named))
-
-  pub on_reference : (id : Option (List ℕ)) (r : RankedParts) → option_map (ranked_name π t) (option_and_then (name_named π t) id) ≡ Some r → IsNameOn a r × (option_and_then (name_named π t) id ≡ Some r.name)
-  on_reference id r e = on_any (option_and_then (name_named π t) id) known r e
-    where
-      known : (n : NameParts) → option_and_then (name_named π t) id ≡ Some n → HasKeysIn π t n
-      known n h =
-          option_and_then_some (name_named π t) id n h (λ x is there. option_and_then_some (name_of π t) (owner t family.Selection x) n there (λ d at named. known_name π t d n named))
 
 all_weaker : {A : Type 0} (P Q : A → Type 0) → ((x : A) → P x → Q x) → (xs : List A) → AllByRecursion P xs → AllByRecursion Q xs
 all_weaker P Q more [] h = tt
@@ -149,64 +118,42 @@ module _ (a b : Judged) where
       let x = at_rank b.prefer (view b.tree) f keyed es (subst (λ r. IsKeyTable b.prefer (view b.tree) r es) (its_role f keyed) (are p).right) at.0 key at.1 in
       ap (option_and_then (λ e. slice_get ns e.1)) x.place ∙ number_here a b p ns x.entry.1 (Some key) (are p).numbers (in_part Right f keyed x.entry.1 (Some key) x.stands)
 
-  module _ (tables : KeyTables) (are : AreNumbersAtRanks a b tables) where
+  module _ (tables : KeyTables) (are : AreNumbersAtRanks a b tables) (side : Side) where
     -- the numbers at the ranks of keys are those of the keys
-    all_ranked : (side : Side) (f : Family) → has_keys f ≡ true → (keys : List Key) → AllByRecursion (IsKeyIn (prefer_on side) (tree_on side) f) keys
-        → map (number_at_rank tables side (part_of_family f)) (map (λ key. rank_of (prefer_on side) (tree_on side) f (Some key)) keys) ≡ map Some (map (number_of_key a b (part_of_family f)) keys)
-    all_ranked side f keyed [] h = refl
-    all_ranked side f keyed (k ∷ ks) h = ap₂ ◌∷◌ (are side f keyed k h.0) (all_ranked side f keyed ks h.1)
+    all_ranked : (f : Family) → has_keys f ≡ true → (keys : List Key) → AllByRecursion (IsKeyIn (prefer_on side) (tree_on side) f) keys
+        → filter_map (number_at_rank tables side (part_of_family f)) (map (λ key. rank_of (prefer_on side) (tree_on side) f (Some key)) keys) ≡ map (number_of_key a b (part_of_family f)) keys
+    all_ranked f keyed [] h = refl
+    all_ranked f keyed (k ∷ ks) h = ap₂ cons_option (are side f keyed k h.0) (all_ranked f keyed ks h.1)
 
-    numbers_at : (side : Side) (r : RankedParts) → IsNameOn (on_side side a b) r → map (number_at_rank tables side (part_of_name r.name)) r.ranks ≡ map Some (numbers_in_name a b r.name)
-    numbers_at side r is =
-        ap (λ (q : RankedParts). map (number_at_rank tables side (part_of_name r.name)) q.ranks) is.ranked
-        ∙ all_ranked side (family_chosen r.name.class) (chosen_keyed r.name.class) r.name.keys is.known
+    numbers_in : (n : NameParts) → HasKeysIn (prefer_on side) (tree_on side) n → numbers_told tables side (ranked_name (prefer_on side) (tree_on side) n) ≡ numbers_in_name a b n
+    numbers_in n known = all_ranked (family_chosen n.class) (chosen_keyed n.class) n.keys known
 
-    none_missing : (g : ℕ → Option ℕ) (rs ns : List ℕ) → map g rs ≡ map Some ns → filter_map g rs ≡ ns
-    none_missing g [] [] e = refl
-    none_missing g [] (n ∷ ns) e = cc
-    none_missing g (r ∷ rs) [] e = cc
-    none_missing g (r ∷ rs) (n ∷ ns) e =
-        let first : g r ≡ Some n = cc in
-        let later : map g rs ≡ map Some ns = cc in
-        ap₂ cons_option first (none_missing g rs ns later)
-
-    -- so they are the numbers in a name
-    pub numbers_found : (side : Side) (r : RankedParts) → IsNameOn (on_side side a b) r → filter_map (number_at_rank tables side (part_of_name r.name)) r.ranks ≡ numbers_in_name a b r.name
-    numbers_found side r is = none_missing (number_at_rank tables side (part_of_name r.name)) r.ranks (numbers_in_name a b r.name) (numbers_at side r is)
-
-    some_one : (ms ns : List ℕ) → map Some ms ≡ map Some ns → ms ≡ ns
-    some_one [] [] e = refl
-    some_one [] (n ∷ ns) e = cc
-    some_one (m ∷ ms) [] e = cc
-    some_one (m ∷ ms) (n ∷ ns) e =
-        let first : m ≡ n = cc in
-        let later : map {B = Option ℕ} Some ms ≡ map Some ns = cc in
-        ap₂ ◌∷◌ first (some_one ms ns later)
-
-    -- names that are equal apart from their keys are equal exactly if the numbers at their ranks are
-    pub names_by_ranks : (one other : RankedParts) → IsNameOn a one → IsNameOn b other → without_keys one.name ≡ without_keys other.name → (answer : Bool)
-        → Decides answer (map (number_at_rank tables Left (part_of_name one.name)) one.ranks) (map (number_at_rank tables Right (part_of_name one.name)) other.ranks) → Decides answer one.name other.name
-    names_by_ranks one other mine its rest answer decides = (
-      λ h.
-          let numbers = some_one (numbers_in_name a b one.name) (numbers_in_name a b other.name) (sym (numbers_at Left one mine) ∙ (decides.0 h ∙ right)) in
-          from_numbered Left Right one.name other.name mine.known its.known (λ i. record { numbers = numbers i; name = rest i }),
-      λ e. decides.1 (numbers_at Left one mine ∙ (ap (λ n. map Some (numbers_in_name a b n)) e ∙ sym right)),
-    )
+    -- so the name that they tell has the numbers of its keys
+    pub name_is_told : (d : Data) → name_told tables side (on_side side a b) d ≡ numbered_name_of a b side d
+    name_is_told d = at (name_of (prefer_on side) (tree_on side) d) (λ n is. known_name (prefer_on side) (tree_on side) d n is)
       where
-        part : part_of_name one.name ≡ part_of_name other.name
-        part = ap part_of_name rest
+        at : (o : Option NameParts) → ((n : NameParts) → o ≡ Some n → HasKeysIn (prefer_on side) (tree_on side) n)
+            → option_map (λ n. numbered_parts n (numbers_told tables side (ranked_name (prefer_on side) (tree_on side) n))) o ≡ option_map (numbered_name a b) o
+        at None known = refl
+        at (Some n) known = ap (λ ns. Some (numbered_parts n ns)) (numbers_in n (known n refl))
 
-        right : map (number_at_rank tables Right (part_of_name one.name)) other.ranks ≡ map Some (numbers_in_name a b other.name)
-        right = ap (λ p. map (number_at_rank tables Right p) other.ranks) part ∙ numbers_at Right other its
+-- ---- by position
 
--- ---- names apart from their keys
+module _ (a : Judged) (tables : KeyTables) (side : Side) where
+  abbrev pub told_name : PlacedName → NumberedParts
+  told_name s = numbered_parts s.1.name (numbers_told tables side s.1)
 
-module _ (m n x y : NameParts) (answer : Bool) (one : x ≡ m) (other : y ≡ n) (is : answer ≡ eq_by_cmp name_cmp (without_keys x) (without_keys y)) where
-  pub alike_but_keys : answer ≡ true → without_keys m ≡ without_keys n
-  alike_but_keys h = ap without_keys (sym one) ∙ ((names_decide (without_keys x) (without_keys y)).0 (sym is ∙ h) ∙ ap without_keys other)
+  -- the name of the selection at a position, as its ranks tell it
+  pub told_at : (i : ℕ) → option_map told_name (ranked_selection_in a.prefer (view a.tree) i) ≡ option_and_then (λ (o : Placed). name_told tables side a o.value) (slice_get (objects family.Selection (view a.tree)) i)
+  told_at i = by (slice_get (numbered_selections (view a.tree)) i) ∙ ap (option_and_then (λ (o : Placed). name_told tables side a o.value)) (numbered_at (view a.tree) i)
+    where
+      of_name : (k : ℕ) (o : Option NameParts)
+          → option_map told_name (option_map (λ (s : ℕ × NameParts). (s.0, ranked_name a.prefer (view a.tree) s.1)) (option_map (λ n. (k, n)) o)) ≡ option_map (λ n. numbered_parts n (numbers_told tables side (ranked_name a.prefer (view a.tree) n))) o
+      of_name k None = refl
+      of_name k (Some n) = refl
 
-  pub apart_but_keys : answer ≡ false → Decides false m n
-  apart_but_keys h = (
-    λ e. absurd (true≢false (sym e)),
-    λ e. sym h ∙ (is ∙ (names_decide (without_keys x) (without_keys y)).1 (ap without_keys (one ∙ (e ∙ sym other)))),
-  )
+      by : (s : Option (ℕ × Placed))
+          → option_map told_name (option_map (λ (x : ℕ × NameParts). (x.0, ranked_name a.prefer (view a.tree) x.1)) (option_and_then (λ (x : ℕ × Placed). option_map (λ n. (x.0, n)) (name_of a.prefer (view a.tree) x.1.value)) s))
+          ≡ option_and_then (λ (o : Placed). name_told tables side a o.value) (option_map (λ (x : ℕ × Placed). x.1) s)
+      by None = refl
+      by (Some s) = of_name s.0 (name_of a.prefer (view a.tree) s.1.value)

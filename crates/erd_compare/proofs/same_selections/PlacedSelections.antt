@@ -1,6 +1,6 @@
--- The names that a report has of the selections of a contest are those of the selections that stand in the contest.
-use Rattle.std.proofs.Common.{◌≡◌, ℕ, List, true, Option, Some, None, option_and_then, option_map, slice_get, codes, refl, sym, ap, ◌∙◌, subst}
-use Rattle.std.proofs.lemmas.Option.{slice_get-map}
+-- The selections of a contest among those of their report.
+use Rattle.std.proofs.Common.{◌≡◌, ◌==◌, ◌+◌, ℕ, List, Bool, true, false, cond, Option, Some, None, option_and_then, option_map, slice_get, codes, refl, sym, ap, ◌∙◌, subst}
+use Rattle.std.proofs.lemmas.Option.{option_and_then_some, slice_get-map}
 use Rattle.serde_json.specs.Data.{Data}
 use Rattle.serde_json.specs.Find.{get}
 use Rattle.serde_json.specs.View.{view}
@@ -11,15 +11,17 @@ use Rattle.erd_tables.specs.declared.class.Family.TheVariants as family
 use Rattle.erd_tables.specs.declared.class.Role.TheVariants as role
 use Rattle.erd_tables.specs.declared.member.MemberKind.{MemberKind}
 use Rattle.erd_tables.specs.declared.member.MemberKind.TheVariants as kind
+use Rattle.erd_check.proofs.Order.{In, In-flat_map}
 use Rattle.erd_check.specs.Values.{entries_at, entries_of}
+use Rattle.erd_meaning.proofs.accepted.References.{option_map-Some}
 use Rattle.erd_meaning.proofs.accepted.Skeleton.{values-placed_entries}
+use Rattle.erd_meaning.proofs.finding.OneObject.{in_at}
 use Rattle.erd_meaning.proofs.meanings.SelectionKinds as kinds
+use Rattle.erd_meaning.proofs.selections.NumberedSelections.{numbered_at}
 use Rattle.erd_meaning.specs.Judged.{Judged}
-use Rattle.erd_meaning.specs.Keys.{Preference}
-use Rattle.erd_meaning.specs.Lookups.{name_in_contest}
-use Rattle.erd_meaning.specs.Objects.{Placed, contests, selections_of_contest}
-use Rattle.erd_meaning.specs.SelectionNames.{name_of}
-use Rattle.erd_compare.specs.code.PlacedObjects.{AreNamedIn, AreSelectionsAt, IsPlaced}
+use Rattle.erd_meaning.specs.Lookups.{StandFrom, if_of_contest, selection_of}
+use Rattle.erd_meaning.specs.Objects.{Placed, contests, numbered_selections, objects, selections_of_contest}
+use Rattle.erd_compare.specs.code.PlacedObjects.{AreSelectionsAt, AreSelectionsIn, IsPlaced}
 use Rattle.erd_compare.specs.code.SelectionMembers.{is_selections}
 
 -- ---- the member of a contest
@@ -40,32 +42,47 @@ placed_selections a c name i d found placed is holds =
     let contest : IsPlaced a (role.OfFamily family.Contest) i d = subst (λ r. IsPlaced a r i d) (kinds.selections_role c name selections) placed in
     through (codes "ContestSelection") d (slice_get (contests (view a.tree)) i) contest ∙ ap (λ n. get n d) (sym (kinds.selections_name c name selections)) ∙ sym is
 
--- ---- their names
+-- ---- the selections of a contest
 
-module _ (π : Preference) (t : Data) where
-  by_value : (o : Option Placed) → option_and_then (λ (s : Placed). name_of π t s.value) o ≡ option_and_then (name_of π t) (option_map (λ (s : Placed). s.value) o)
-  by_value None = refl
-  by_value (Some s) = refl
+entries_there : (d v : Data) → get (codes "ContestSelection") d ≡ Some v → entries_at (codes "ContestSelection") d ≡ entries_of v
+entries_there d v e = rw e
 
-  entries_there : (d v : Data) → get (codes "ContestSelection") d ≡ Some v → entries_at (codes "ContestSelection") d ≡ entries_of v
-  entries_there d v e = rw e
+at_contest : (o : Option Placed) (v : Data) (i : ℕ) → option_and_then (λ o. get (codes "ContestSelection") o.value) o ≡ Some v
+    → option_map (λ (s : Placed). s.value) (option_and_then (λ o. slice_get (selections_of_contest o) i) o) ≡ slice_get (entries_of v) i
+at_contest None v i e = cc
+at_contest (Some o) v i e = sym (slice_get-map (λ (s : Placed). s.value) (selections_of_contest o) i) ∙ ap (λ ds. slice_get ds i) (values-placed_entries (codes "ContestSelection") o ∙ entries_there o.value v e)
 
-  in_contest : (o : Placed) (v : Data) (i : ℕ) → get (codes "ContestSelection") o.value ≡ Some v
-      → option_and_then (λ (s : Placed). name_of π t s.value) (slice_get (selections_of_contest o) i) ≡ option_and_then (name_of π t) (slice_get (entries_of v) i)
-  in_contest o v i e =
-      by_value (slice_get (selections_of_contest o) i)
-      ∙ ap (option_and_then (name_of π t)) (sym (slice_get-map (λ (s : Placed). s.value) (selections_of_contest o) i) ∙ ap (λ ds. slice_get ds i) (values-placed_entries (codes "ContestSelection") o ∙ entries_there o.value v e))
+-- the entries of the member are the selections of the contest at a position
+pub selections_in : (a : Judged) (c : ℕ) (found : Option Data) (v : Data) (ds : List Data) → AreSelectionsAt a c found → found ≡ Some v → ds ≡ entries_of v → AreSelectionsIn a c ds
+selections_in a c found v ds there is entries = subst (AreSelectionsIn a c) (sym entries) (λ i. at_contest (slice_get (contests (view a.tree)) c) v i (there ∙ is))
 
-  at_contest : (o : Option Placed) (v : Data) (i : ℕ) → option_and_then (λ o. get (codes "ContestSelection") o.value) o ≡ Some v
-      → option_and_then (λ o. option_and_then (λ (s : Placed). name_of π t s.value) (slice_get (selections_of_contest o) i)) o ≡ option_and_then (name_of π t) (slice_get (entries_of v) i)
-  at_contest None v i e = cc
-  at_contest (Some o) v i e = in_contest o v i e
+-- ---- among all selections
 
--- the selections of the contest at a position have the names that the report has of them
-pub named_in : (a : Judged) (c : ℕ) (found : Option Data) (v : Data) (ds : List Data) → AreSelectionsAt a c found → found ≡ Some v → ds ≡ entries_of v → AreNamedIn a c ds
-named_in a c found v ds there is entries =
-    subst (AreNamedIn a c) (sym entries) (λ i. at_contest a.prefer (view a.tree) (slice_get (contests (view a.tree)) c) v i (there ∙ is))
+module _ (a : Judged) (c : ℕ) (ds : List Data) (are : AreSelectionsIn a c ds) (i : ℕ) (d : Data) (at : slice_get ds i ≡ Some d) where
+  abbrev t : Data
+  t = view a.tree
 
--- the name of one of them
-pub name_there : (a : Judged) (c i : ℕ) (d : Data) (ds : List Data) → AreNamedIn a c ds → slice_get ds i ≡ Some d → name_in_contest a.prefer (view a.tree) c i ≡ name_of a.prefer (view a.tree) d
-name_there a c i d ds named at = named i ∙ ap (option_and_then (name_of a.prefer (view a.tree))) at
+  -- the object of a selection
+  object : (o : Placed) × (selection_of t c i ≡ Some o) × (o.value ≡ d)
+  object = option_map-Some (λ (o : Placed). o.value) (selection_of t c i) d (are i ∙ at)
+
+  -- it is one of the selections of the report
+  pub stands_among : (o : Placed) × In o (objects family.Selection t) × (o.value ≡ d)
+  stands_among = (object.0, inside, object.2)
+    where
+      inside : In object.0 (objects family.Selection t)
+      inside =
+          option_and_then_some (λ (x : Placed). slice_get (selections_of_contest x) i) (slice_get (contests t) c) object.0 object.1
+          (λ x here there. In-flat_map selections_of_contest object.0 x (contests t) (in_at (contests t) c x here) (in_at (selections_of_contest x) i object.0 there))
+
+  own_selection : (s : Option (ℕ × Placed)) (o : Placed) → option_and_then (if_of_contest c) s ≡ Some o → option_map (λ (x : ℕ × Placed). x.1) s ≡ Some o
+  own_selection None o e = cc
+  own_selection (Some s) o e = by (s.0 == c) e
+    where
+      by : (yes : Bool) → cond yes (Some s.1) None ≡ Some o → Some s.1 ≡ Some o
+      by true e = e
+      by false e = cc
+
+  -- it stands as far after the first selection of its contest as in the contest
+  pub stands_after : (start : ℕ) → StandFrom t c start → (o : Placed) × (slice_get (objects family.Selection t) (start + i) ≡ Some o) × (o.value ≡ d)
+  stands_after start from = (object.0, sym (numbered_at t (start + i)) ∙ own_selection (slice_get (numbered_selections t) (start + i)) object.0 (from i ∙ object.1), object.2)

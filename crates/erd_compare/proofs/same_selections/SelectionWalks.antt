@@ -1,10 +1,10 @@
--- The selections of two contests by their names: what the right has at each name of the left is taken out.
-use Rattle.std.proofs.Common.{◌≡◌, ◌↔◌, ◌⊎◌, inl, inr, List, [], ◌∷◌, length, suc, Bool, true, false, true≢false, cond, Option, Some, None, option_and_then, option_map, find, Bor, is_eq, refl, sym, ap, ◌∙◌, subst}
+-- The selections of two contests by the numbers of their names: what the right has at each name of the left is taken out.
+use Rattle.std.proofs.Common.{◌≡◌, ◌==◌, ◌↔◌, ℕ, ◌⊎◌, inl, inr, List, [], ◌∷◌, length, suc, Bool, true, false, true≢false, cond, Option, Some, None, option_and_then, option_map, find, Bor, is_eq, refl, sym, ap, ◌∙◌, subst}
 use Rattle.std.proofs.Math.Path.{fun_ext}
-use Rattle.std.proofs.lemmas.Cmp.{tied_itself}
+use Rattle.std.proofs.lemmas.Bool.Decides.{Decides-eqb}
 use Rattle.std.specs.List.{AllByRecursion, IsDistinct}
 use Rattle.std.specs.Map.{keys_of, lookup}
-use Rattle.std.specs.Option.{option_cmp}
+use Rattle.std.specs.Option.{option_eq}
 use Rattle.serde_json.specs.Data.{Data}
 use Rattle.serde_json.specs.View.{view}
 use Rattle.serde_json.specs.declared.value.Value.{Value}
@@ -14,51 +14,50 @@ use Rattle.erd_meaning.proofs.accepted.References.{find-Some}
 use Rattle.erd_meaning.specs.Judged.{Judged}
 use Rattle.erd_meaning.specs.Keys.{Preference}
 use Rattle.erd_meaning.specs.Meaning.{SelectionRecord}
-use Rattle.erd_meaning.specs.code.NumberedNames.{NumberedParts, numbered_name_cmp}
-use Rattle.erd_meaning.specs.code.NumberedOrders.{numbered_name_cmp_total}
 use Rattle.erd_meaning.specs.Records.{plain_member, selection_record}
 use Rattle.erd_meaning.specs.SelectionNames.{name_in_class, selection_role}
 use Rattle.erd_tables.specs.declared.class.Class.{Class}
 use Rattle.erd_compare.specs.code.Comparing.{Decides, IsWholeTree}
-use Rattle.erd_compare.specs.code.SelectionsByName.{IsByName, has_name, name_eq, numbered_map, numbered_name}
+use Rattle.erd_compare.specs.code.CommonNames.{number_of_name}
+use Rattle.erd_compare.specs.code.SelectionsByName.{IsByNumber, has_number, numbered_map}
 use Rattle.erd_compare.specs.code.NumberedSides.{on_side}
 use Rattle.erd_compare.specs.declared.numbers.side.Side.{Side}
 use Rattle.erd_compare.specs.declared.numbers.side.Side.TheVariants.{Left, Right}
-use Rattle.erd_compare.proofs.same_selections.NameMaps.{one_name}
+use Rattle.erd_compare.proofs.same_selections.NameMaps.{one_number}
 use Rattle.erd_compare.proofs.whole_trees.WholeTrees.{AreWholeTrees}
 
 -- ---- entries of a map
 
 -- a selection with its name
 abbrev pub Entry : Type 0
-Entry = NumberedParts × Bor Value
+Entry = ℕ × Bor Value
 
 -- the value of the selection with the name, if there is one
-abbrev pub seen_at : NumberedParts → List Entry → Option Data
-seen_at q es = option_map (λ (v : Bor Value). view v.now) (lookup (name_eq q) es)
+abbrev pub seen_at : ℕ → List Entry → Option Data
+seen_at q es = option_map (λ (v : Bor Value). view v.now) (lookup (λ l. q == l) es)
 
 -- a name is itself
-own_name : (k : NumberedParts) → name_eq k k ≡ true
-own_name k = ap is_eq (tied_itself numbered_name_cmp_total k)
+own_name : (k : ℕ) → (k == k) ≡ true
+own_name k = (Decides-eqb k k).1 refl
 
 -- and names apart are so either way
-apart_either : (k q : NumberedParts) → name_eq k q ≡ false → name_eq q k ≡ false
-apart_either k q apart = at (name_eq q k) refl
+apart_either : (k q : ℕ) → (k == q) ≡ false → (q == k) ≡ false
+apart_either k q apart = at (q == k) refl
   where
-    at : (b : Bool) → name_eq q k ≡ b → b ≡ false
-    at true e = absurd (true≢false (sym (own_name k) ∙ (ap (name_eq k) (sym (one_name q k e)) ∙ apart)))
+    at : (b : Bool) → (q == k) ≡ b → b ≡ false
+    at true e = absurd (true≢false (sym (own_name k) ∙ (ap (λ l. k == l) (sym (one_number q k e)) ∙ apart)))
     at false e = refl
 
 -- the first entry is found at its name
-found_first : (e : Entry) (es : List Entry) → lookup (name_eq e.0) (e ∷ es) ≡ Some e.1
+found_first : (e : Entry) (es : List Entry) → lookup (λ l. e.0 == l) (e ∷ es) ≡ Some e.1
 found_first e es = rw (own_name e.0) refl
 
 -- and elsewhere what the others have
-found_later : (e : Entry) (es : List Entry) (q : NumberedParts) → name_eq e.0 q ≡ false → lookup (name_eq q) (e ∷ es) ≡ lookup (name_eq q) es
+found_later : (e : Entry) (es : List Entry) (q : ℕ) → (e.0 == q) ≡ false → lookup (λ l. q == l) (e ∷ es) ≡ lookup (λ l. q == l) es
 found_later e es q apart = rw (apart_either e.0 q apart) refl
 
 -- a name that differs from all finds nothing
-found_none : (k : NumberedParts) (es : List Entry) → AllByRecursion (λ l. name_eq k l ≡ false) (keys_of es) → lookup (name_eq k) es ≡ None
+found_none : (k : ℕ) (es : List Entry) → AllByRecursion (λ l. (k == l) ≡ false) (keys_of es) → lookup (λ l. k == l) es ≡ None
 found_none k [] h = refl
 found_none k (e ∷ es) h = rw h.0 (found_none k es h.1)
 
@@ -76,54 +75,54 @@ module _ (a b : Judged) (side : Side) (ds : List Data) where
   t = view (on_side side a b).tree
 
   -- a selection with a name has a class, and so it means something
-  means_something : (name : NumberedParts) (d : Data) → has_name a b side name d ≡ true → selection_record π t d ≡ None → ⊥
+  means_something : (name : ℕ) (d : Data) → has_number a b side name d ≡ true → selection_record π t d ≡ None → ⊥
   means_something name d named = at (class_of_object selection_role d) named
     where
-      at : (o : Option Class) → is_eq (option_cmp numbered_name_cmp (option_map (numbered_name a b) (option_map (λ c. name_in_class π t c d) o)) (Some name)) ≡ true → option_map (in_class π t d) o ≡ None → ⊥
+      at : (o : Option Class) → option_eq ◌==◌ (option_map (number_of_name a b) (option_map (λ c. name_in_class π t c d) o)) (Some name) ≡ true → option_map (in_class π t d) o ≡ None → ⊥
       at None h nothing = cc
       at (Some c) h nothing = cc
 
   -- what the map of the selections has at a name that one of them has, and that it has something there
-  record_at : (name : NumberedParts) (d : Data) → find (has_name a b side name) ds ≡ Some d → numbered_map a b side ds name ≡ selection_record π t d
+  record_at : (name : ℕ) (d : Data) → find (has_number a b side name) ds ≡ Some d → numbered_map a b side ds name ≡ selection_record π t d
   record_at name d h = ap (option_and_then (selection_record π t)) h
 
-  something_at : (name : NumberedParts) (d : Data) → find (has_name a b side name) ds ≡ Some d → numbered_map a b side ds name ≡ None → ⊥
-  something_at name d h nothing = means_something name d (find-Some (has_name a b side name) ds d h).1 (sym (record_at name d h) ∙ nothing)
+  something_at : (name : ℕ) (d : Data) → find (has_number a b side name) ds ≡ Some d → numbered_map a b side ds name ≡ None → ⊥
+  something_at name d h nothing = means_something name d (find-Some (has_number a b side name) ds d h).1 (sym (record_at name d h) ∙ nothing)
 
   -- and nothing at others
-  nothing_at : (name : NumberedParts) → None ≡ find (has_name a b side name) ds → numbered_map a b side ds name ≡ None
+  nothing_at : (name : ℕ) → None ≡ find (has_number a b side name) ds → numbered_map a b side ds name ≡ None
   nothing_at name h = ap (option_and_then (selection_record π t)) (sym h)
 
-  pub whole_at : AreWholeTrees ds → (name : NumberedParts) (d : Data) → find (has_name a b side name) ds ≡ Some d → IsWholeTree d
-  whole_at whole name d h = all-Has IsWholeTree ds d whole (find-Some (has_name a b side name) ds d h).0
+  pub whole_at : AreWholeTrees ds → (name : ℕ) (d : Data) → find (has_number a b side name) ds ≡ Some d → IsWholeTree d
+  whole_at whole name d h = all-Has IsWholeTree ds d whole (find-Some (has_number a b side name) ds d h).0
 
 -- ---- two contests
 
 module _ (a b : Judged) (ds es : List Data) where
   -- the maps of both
-  abbrev ones : NumberedParts → Option SelectionRecord
+  abbrev ones : ℕ → Option SelectionRecord
   ones = numbered_map a b Left ds
 
-  abbrev others : NumberedParts → Option SelectionRecord
+  abbrev others : ℕ → Option SelectionRecord
   others = numbered_map a b Right es
 
   -- a name that was passed: neither has it any more, and both mean the same there
-  record IsPassed (ls rs : List Entry) (q : NumberedParts) : Type 0 where
-    left : lookup (name_eq q) ls ≡ None
-    right : lookup (name_eq q) rs ≡ None
+  record IsPassed (ls rs : List Entry) (q : ℕ) : Type 0 where
+    left : lookup (λ l. q == l) ls ≡ None
+    right : lookup (λ l. q == l) rs ≡ None
     same : ones q ≡ others q
 
   -- a name that is left: each has the first selection with it
-  record IsLeft (ls rs : List Entry) (q : NumberedParts) : Type 0 where
-    left : seen_at q ls ≡ find (has_name a b Left q) ds
-    right : seen_at q rs ≡ find (has_name a b Right q) es
+  record IsLeft (ls rs : List Entry) (q : ℕ) : Type 0 where
+    left : seen_at q ls ≡ find (has_number a b Left q) ds
+    right : seen_at q rs ≡ find (has_number a b Right q) es
 
   -- what is left of the entries of both
   pub record AreSelectionsLeft (ls rs : List Entry) : Type 0 where
-    distinct : IsDistinct name_eq (keys_of ls)
-    each : (q : NumberedParts) → IsPassed ls rs q ⊎ IsLeft ls rs q
+    distinct : IsDistinct ◌==◌ (keys_of ls)
+    each : (q : ℕ) → IsPassed ls rs q ⊎ IsLeft ls rs q
 
-  pub both_maps : (ls rs : List Entry) → IsDistinct name_eq (keys_of ls) → IsByName a b Left ds ls → IsByName a b Right es rs → AreSelectionsLeft ls rs
+  pub both_maps : (ls rs : List Entry) → IsDistinct ◌==◌ (keys_of ls) → IsByNumber a b Left ds ls → IsByNumber a b Right es rs → AreSelectionsLeft ls rs
   both_maps ls rs distinct mine its = record { distinct = distinct; each = λ q. inr (record { left = mine q; right = its q }) }
 
   -- what the selections have at the name of the next entry
@@ -134,43 +133,43 @@ module _ (a b : Judged) (ds es : List Data) where
       at (inl passed) = let clash : Some e.1 ≡ None = sym (found_first e ls) ∙ passed.left in cc
       at (inr left) = left
 
-  pub own_left : (e : Entry) (ls rs : List Entry) → AreSelectionsLeft (e ∷ ls) rs → find (has_name a b Left e.0) ds ≡ Some (view e.1.now)
+  pub own_left : (e : Entry) (ls rs : List Entry) → AreSelectionsLeft (e ∷ ls) rs → find (has_number a b Left e.0) ds ≡ Some (view e.1.now)
   own_left e ls rs h = sym (next_left e ls rs h).left ∙ ap (option_map (λ (v : Bor Value). view v.now)) (found_first e ls)
 
-  pub own_right : (e : Entry) (w : Bor Value) (ls rs : List Entry) → AreSelectionsLeft (e ∷ ls) rs → Some w ≡ lookup (name_eq e.0) rs → find (has_name a b Right e.0) es ≡ Some (view w.now)
+  pub own_right : (e : Entry) (w : Bor Value) (ls rs : List Entry) → AreSelectionsLeft (e ∷ ls) rs → Some w ≡ lookup (λ l. e.0 == l) rs → find (has_number a b Right e.0) es ≡ Some (view w.now)
   own_right e w ls rs h taken = sym (next_left e ls rs h).right ∙ ap (option_map (λ (v : Bor Value). view v.now)) (sym taken)
 
   -- an entry of the left alone
-  pub left_alone : (e : Entry) (ls rs : List Entry) → AreSelectionsLeft (e ∷ ls) rs → None ≡ lookup (name_eq e.0) rs → ones ≡ others → ⊥
+  pub left_alone : (e : Entry) (ls rs : List Entry) → AreSelectionsLeft (e ∷ ls) rs → None ≡ lookup (λ l. e.0 == l) rs → ones ≡ others → ⊥
   left_alone e ls rs h none same =
       something_at a b Left ds e.0 (view e.1.now) (own_left e ls rs h)
       (ap (λ m. m e.0) same ∙ nothing_at a b Right es e.0 (ap (option_map (λ (v : Bor Value). view v.now)) none ∙ (next_left e ls rs h).right))
 
   -- entries of one name, which mean different things
-  pub differ : (e : Entry) (w : Bor Value) (ls rs : List Entry) → AreSelectionsLeft (e ∷ ls) rs → Some w ≡ lookup (name_eq e.0) rs
+  pub differ : (e : Entry) (w : Bor Value) (ls rs : List Entry) → AreSelectionsLeft (e ∷ ls) rs → Some w ≡ lookup (λ l. e.0 == l) rs
       → (selection_record a.prefer (view a.tree) (view e.1.now) ≡ selection_record b.prefer (view b.tree) (view w.now) → ⊥) → ones ≡ others → ⊥
   differ e w ls rs h taken unequal same =
       unequal (sym (record_at a b Left ds e.0 (view e.1.now) (own_left e ls rs h)) ∙ (ap (λ m. m e.0) same ∙ record_at a b Right es e.0 (view w.now) (own_right e w ls rs h taken)))
 
   -- entries of one name, which mean the same
-  pub both_passed : (e : Entry) (w : Bor Value) (ls rs rs' : List Entry) → AreSelectionsLeft (e ∷ ls) rs → Some w ≡ lookup (name_eq e.0) rs
-      → ((q : NumberedParts) → lookup (name_eq q) rs' ≡ cond (name_eq e.0 q) None (lookup (name_eq q) rs))
+  pub both_passed : (e : Entry) (w : Bor Value) (ls rs rs' : List Entry) → AreSelectionsLeft (e ∷ ls) rs → Some w ≡ lookup (λ l. e.0 == l) rs
+      → ((q : ℕ) → lookup (λ l. q == l) rs' ≡ cond (e.0 == q) None (lookup (λ l. q == l) rs))
       → selection_record a.prefer (view a.tree) (view e.1.now) ≡ selection_record b.prefer (view b.tree) (view w.now) → AreSelectionsLeft ls rs'
   unfolding IsDistinct
-  both_passed e w ls rs rs' h taken updates equal = record { distinct = h.distinct.1; each = λ q. at q (name_eq e.0 q) refl }
+  both_passed e w ls rs rs' h taken updates equal = record { distinct = h.distinct.1; each = λ q. at q (e.0 == q) refl }
     where
       here : IsPassed ls rs' e.0
       here = record {
         left = found_none e.0 ls h.distinct.0;
-        right = updates e.0 ∙ ap (λ b. cond b None (lookup (name_eq e.0) rs)) (own_name e.0);
+        right = updates e.0 ∙ ap (λ b. cond b None (lookup (λ l. e.0 == l) rs)) (own_name e.0);
         same = record_at a b Left ds e.0 (view e.1.now) (own_left e ls rs h) ∙ (equal ∙ sym (record_at a b Right es e.0 (view w.now) (own_right e w ls rs h taken)));
       }
 
-      elsewhere : (q : NumberedParts) → name_eq e.0 q ≡ false → lookup (name_eq q) rs' ≡ lookup (name_eq q) rs
-      elsewhere q apart = updates q ∙ ap (λ b. cond b None (lookup (name_eq q) rs)) apart
+      elsewhere : (q : ℕ) → (e.0 == q) ≡ false → lookup (λ l. q == l) rs' ≡ lookup (λ l. q == l) rs
+      elsewhere q apart = updates q ∙ ap (λ b. cond b None (lookup (λ l. q == l) rs)) apart
 
-      at : (q : NumberedParts) (b : Bool) → name_eq e.0 q ≡ b → IsPassed ls rs' q ⊎ IsLeft ls rs' q
-      at q true e' = inl (subst (IsPassed ls rs') (one_name e.0 q e') here)
+      at : (q : ℕ) (b : Bool) → (e.0 == q) ≡ b → IsPassed ls rs' q ⊎ IsLeft ls rs' q
+      at q true e' = inl (subst (IsPassed ls rs') (one_number e.0 q e') here)
       at q false e' = by (h.each q)
         where
           by : IsPassed (e ∷ ls) rs q ⊎ IsLeft (e ∷ ls) rs q → IsPassed ls rs' q ⊎ IsLeft ls rs' q
@@ -184,7 +183,7 @@ module _ (a b : Judged) (ds es : List Data) where
   all_passed : AreSelectionsLeft [] [] → ones ≡ others
   all_passed h = fun_ext (λ q. at q (h.each q))
     where
-      at : (q : NumberedParts) → IsPassed [] [] q ⊎ IsLeft [] [] q → ones q ≡ others q
+      at : (q : ℕ) → IsPassed [] [] q ⊎ IsLeft [] [] q → ones q ≡ others q
       at q (inl passed) = passed.same
       at q (inr left) = nothing_at a b Left ds q left.left ∙ sym (nothing_at a b Right es q left.right)
 

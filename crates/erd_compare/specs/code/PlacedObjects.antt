@@ -6,9 +6,8 @@ use Rattle.serde_json.specs.Find.{get}
 use Rattle.serde_json.specs.View.{view}
 use Rattle.erd_tables.specs.declared.class.Role.{Role}
 use Rattle.erd_meaning.specs.Judged.{Judged}
-use Rattle.erd_meaning.specs.Lookups.{name_in_contest}
+use Rattle.erd_meaning.specs.Lookups.{selection_of}
 use Rattle.erd_meaning.specs.Objects.{contests}
-use Rattle.erd_meaning.specs.SelectionNames.{name_of}
 use Rattle.erd_compare.specs.code.KeyedDifferences.{objects_in}
 
 -- The object with the role at this position of the report.
@@ -19,6 +18,6 @@ IsPlaced a r i d = option_map (λ o. o.value) (slice_get (objects_in r (view a.t
 abbrev pub AreSelectionsAt : Judged → ℕ → Option Data → Type 0
 AreSelectionsAt a c found = option_and_then (λ o. get (codes "ContestSelection") o.value) (slice_get (contests (view a.tree)) c) ≡ found
 
--- Under each position, the report has the name of the selection that stands there in the list.
-abbrev pub AreNamedIn : Judged → ℕ → List Data → Type 0
-AreNamedIn a c ds = (i : ℕ) → name_in_contest a.prefer (view a.tree) c i ≡ option_and_then (name_of a.prefer (view a.tree)) (slice_get ds i)
+-- These are the selections of the contest at the position.
+abbrev pub AreSelectionsIn : Judged → ℕ → List Data → Type 0
+AreSelectionsIn a c ds = (i : ℕ) → option_map (λ o. o.value) (selection_of (view a.tree) c i) ≡ slice_get ds i

@@ -1,11 +1,15 @@
-ghost use Rattle.std.specs.Prelude.{◌≡◌, option_map, slice_get};
+ghost use Rattle.std.specs.Prelude.{◌≡◌, option_and_then, option_map, slice_get};
 ghost use Rattle.serde_json.specs.View.{view};
+ghost use Rattle.erd_tables.specs.declared.class.Family.TheVariants as family;
+ghost use Rattle.erd_meaning.specs.Objects.{objects};
+ghost use Rattle.erd_compare.specs.code.CommonNames.{number_of_selection};
 ghost use Rattle.erd_compare.specs.code.CommonNumbers.{number_of_key, part_of_family};
 ghost use Rattle.erd_compare.specs.declared.difference.Part.TheVariants.{Election};
 ghost use Rattle.erd_compare.specs.code.KeyedDifferences.{holder_key_in, key_in_role, role_of_part};
 ghost use Rattle.erd_compare.specs.code.NumberedSides.{IsNumberAt, number_at_rank, on_side};
 
 use crate::difference::Part;
+use crate::numbers::kept_tables::KeyTables;
 use crate::numbers::role_objects::{election_of, key_at, role_of};
 use crate::numbers::side::Side;
 use crate::sides::Sides;
@@ -72,11 +76,16 @@ fn number_in(numbers: &[usize], index: usize) -> Option<usize>
     }
 }
 
-/// The number of the object of a part whose key has this rank, if there is one.
-pub(crate) fn number_at_rank(sides: Sides, side: Side, part: Part, rank: usize) -> Option<usize>
-    ensures { result ≡ number_at_rank sides.entry.tables.now side part rank }
+/// The number that the tables have at a rank of a part, if there is one.
+pub(crate) fn number_at_rank(
+    tables: &KeyTables,
+    side: Side,
+    part: Part,
+    rank: usize,
+) -> Option<usize>
+    ensures { result ≡ number_at_rank tables.now side part rank }
 {
-    let tables = sides.tables.of(part);
+    let tables = tables.of(part);
     match side {
         Side::Left => position_in(&tables.ones, rank),
         Side::Right => number_in(&tables.numbers, position_in(&tables.others, rank)?),
@@ -100,4 +109,19 @@ pub(crate) fn holder_number(sides: Sides, side: Side, part: Part, index: usize) 
 {
     let election = election_of(report_on(sides, side), role_of(part), index)?;
     number_of(sides, side, Part::Election, election)
+}
+
+/// The number of the name of the selection at a position, if there is such a selection and it has a name.
+pub(crate) fn name_number_at(sides: Sides, side: Side, index: usize) -> Option<usize>
+    ensures { result ≡ option_and_then (λ o. number_of_selection sides.entry.left.now sides.entry.right.now side o.value)
+        (slice_get (objects family.Selection (view (on_side side sides.entry.left.now sides.entry.right.now).tree)) index) }
+{
+    let numbers = match side {
+        Side::Left => &sides.names.left,
+        Side::Right => &sides.names.right,
+    };
+    match numbers.get(index) {
+        Some(number) => *number,
+        None => None,
+    }
 }

@@ -1,22 +1,24 @@
-ghost use Rattle.std.specs.Prelude.{◌≡◌, map, option_map, IfOk, IfSome};
+ghost use Rattle.std.specs.Prelude.{◌≡◌, ◌+◌, map, option_and_then, option_map, slice_get, IfOk, IfSome};
 ghost use Rattle.std.specs.List.{AllByRecursion};
 ghost use Rattle.serde_json.specs.View.{view};
+ghost use Rattle.erd_tables.specs.declared.class.Family.TheVariants as family;
+ghost use Rattle.erd_meaning.specs.Objects.{objects};
 ghost use Rattle.erd_meaning.specs.Records.{plain_member, selection_map, selection_record};
+ghost use Rattle.erd_compare.specs.code.CommonNames.{number_of_selection};
 ghost use Rattle.erd_compare.specs.code.Comparing.{Decides, IsWholeTree};
 ghost use Rattle.erd_compare.specs.code.LeastNames.{IsObject};
 ghost use Rattle.erd_compare.specs.code.NumberedSides.{on_side};
-ghost use Rattle.erd_compare.specs.code.PlacedObjects.{AreNamedIn, AreSelectionsAt};
+ghost use Rattle.erd_compare.specs.code.PlacedObjects.{AreSelectionsIn, AreSelectionsAt};
 ghost use Rattle.erd_compare.specs.code.SelectionMembers.{if_filled, selections_meant};
-ghost use Rattle.erd_compare.specs.code.SelectionsByName.{IsByName};
+ghost use Rattle.erd_compare.specs.code.SelectionsByName.{IsByNumber};
 
-use crate::numbers::name_numbers::numbered_name;
+use crate::numbers::lookups::{name_number_at, report_on};
 use crate::numbers::side::Side;
 use crate::objects::members_left::{MembersLeft, lesser_name};
 use crate::objects::placed::{Found, Selections};
 use crate::objects::plain_members::is_same_plain_member;
 use crate::sides::Sides;
 use erd_check::values::{class_of_object, entries_of, is_empty_array};
-use erd_meaning::NumberedName;
 use erd_tables::{Class, Family, Role};
 use indexmap::IndexMap;
 use serde_json::Value;
@@ -73,15 +75,15 @@ fn is_same_selection_map<'a>(
 ) -> Result<bool, AllocError>
     requires ones { AllByRecursion (λ v. IsWholeTree (view v)) ones.values.now }
     requires others { AllByRecursion (λ v. IsWholeTree (view v)) others.values.now }
-    requires ones_named { AreNamedIn sides.left.now ones.contest (map view ones.values.now) }
-    requires others_named { AreNamedIn sides.right.now others.contest (map view others.values.now) }
+    requires ones_named { AreSelectionsIn sides.left.now ones.contest (map view ones.values.now) }
+    requires others_named { AreSelectionsIn sides.right.now others.contest (map view others.values.now) }
     ensures { IfOk result (λ answer. Decides answer (selection_map sides.entry.left.now.prefer (view sides.entry.left.now.tree) (map view ones.entry.values.now))
         (selection_map sides.entry.right.now.prefer (view sides.entry.right.now.tree) (map view others.entry.values.now))) }
 {
-    let ones = by_name(alloc, sides, Side::Left, ones)?;
-    let mut others = by_name(alloc, sides, Side::Right, others)?;
-    for (name, one) in &ones {
-        let Some(other) = others.swap_remove(name) else {
+    let ones = by_number(alloc, sides, Side::Left, ones)?;
+    let mut others = by_number(alloc, sides, Side::Right, others)?;
+    for (number, one) in &ones {
+        let Some(other) = others.swap_remove(number) else {
             return Ok(false);
         };
         if !is_same_selection(alloc, sides, one, other)? {
@@ -91,27 +93,37 @@ fn is_same_selection_map<'a>(
     Ok(others.is_empty())
 }
 
-/// The selections of a contest by name, with numbers in place of keys. If several have the same name, the first one counts.
-fn by_name<'a>(
+/// The selections of a contest by the numbers of their names. If several have the same name, the first one counts.
+fn by_number<'a>(
     alloc: Global,
     sides: Sides<'a>,
     side: Side,
     selections: Selections<'a>,
-) -> Result<IndexMap<NumberedName<'a>, &'a Value>, AllocError>
-    requires { AreNamedIn (on_side side sides.left.now sides.right.now) selections.contest (map view selections.values.now) }
-    ensures { IfOk result (λ named. IsByName sides.entry.left.now sides.entry.right.now side (map view selections.entry.values.now) named.entries) }
+) -> Result<IndexMap<usize, &'a Value>, AllocError>
+    requires { AreSelectionsIn (on_side side sides.left.now sides.right.now) selections.contest (map view selections.values.now) }
+    ensures { IfOk result (λ numbered. IsByNumber sides.entry.left.now sides.entry.right.now side (map view selections.entry.values.now) numbered.entries) }
 {
     let Selections { values, contest } = selections;
-    let mut named = IndexMap::new(alloc);
+    let start = report_on(sides, side).first_selection(contest);
+    let mut numbered = IndexMap::new(alloc);
     for (index, selection) in values.iter().enumerate() {
-        let place = (contest, index);
-        if let Some(name) = numbered_name(alloc, sides, side, place)? {
-            if !named.contains_key(&name) {
-                named.insert(name, selection)?;
+        if let Some(number) = number_after(sides, side, start, index) {
+            if !numbered.contains_key(&number) {
+                numbered.insert(number, selection)?;
             }
         }
     }
-    Ok(named)
+    Ok(numbered)
+}
+
+/// The number of the name of the selection that stands so far after a position, if there is one.
+fn number_after(sides: Sides, side: Side, start: usize, index: usize) -> Option<usize>
+    ensures { result ≡ option_and_then (λ o. number_of_selection sides.entry.left.now sides.entry.right.now side o.value)
+        (slice_get (objects family.Selection (view (on_side side sides.entry.left.now sides.entry.right.now).tree)) (start + index)) }
+{
+    // read for its bound: a word counts the selections
+    let _count = report_on(sides, side).count(Family::Selection);
+    name_number_at(sides, side, start.checked_add(index)?)
 }
 
 /// Whether two selections mean the same.

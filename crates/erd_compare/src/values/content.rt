@@ -10,11 +10,10 @@ ghost use Rattle.erd_meaning.specs.SelectionNames.{key_named, name_named};
 ghost use Rattle.erd_compare.specs.code.Comparing.{Decides, IsWholeTree};
 ghost use Rattle.erd_compare.specs.code.ContentParts.{content_within};
 
-use crate::numbers::name_numbers::are_equal_names;
 use crate::numbers::side::Side;
 use crate::sides::Sides;
 use crate::values::chosen_members::is_same_carried;
-use crate::values::references::{name_named, number_with_id};
+use crate::values::references::{number_of_name_named, number_with_id};
 use erd_check::values::{class_of_object, entries_at, entries_of, text_at};
 use erd_meaning::Report;
 use erd_tables::{Class, Family, Role};
@@ -147,12 +146,7 @@ fn is_same_name(sides: Sides, one: &Value, other: &Value) -> bool
     ensures { Decides result (option_and_then (name_named sides.entry.left.now.prefer (view sides.entry.left.now.tree)) (as_str (view one.now)))
         (option_and_then (name_named sides.entry.right.now.prefer (view sides.entry.right.now.tree)) (as_str (view other.now))) }
 {
-    match (name_named(sides.left, one), name_named(sides.right, other)) {
-        (Some(one), Some(other)) => are_equal_names(sides, one, other),
-        (Some(_), None) => false,
-        (None, Some(_)) => false,
-        (None, None) => true,
-    }
+    number_of_name_named(sides, Side::Left, one) == number_of_name_named(sides, Side::Right, other)
 }
 
 /// Whether the members with this name refer to objects of the family with the same key.

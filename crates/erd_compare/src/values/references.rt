@@ -5,39 +5,30 @@ ghost use Rattle.erd_meaning.specs.Keys.{has_keys};
 ghost use Rattle.erd_tables.specs.Classes.{family_number};
 ghost use Rattle.erd_meaning.specs.Records.{key_set};
 ghost use Rattle.erd_meaning.specs.SelectionNames.{key_named, keys_named, name_named};
-ghost use Rattle.erd_meaning.specs.code.RankedNames.{ranked_name, ranked_selection_in};
+ghost use Rattle.erd_compare.specs.code.CommonNames.{number_of_name};
 ghost use Rattle.erd_compare.specs.code.Comparing.{Decides};
-ghost use Rattle.erd_compare.specs.code.NumberedSides.{IsNumberSet, number_with_id, list_of_numbers};
+ghost use Rattle.erd_compare.specs.code.NumberedSides.{IsNumberSet, number_with_id, list_of_numbers, on_side};
 
-use crate::numbers::lookups::{number_of, part_of, report_on};
+use crate::numbers::lookups::{name_number_at, number_of, part_of, report_on};
 use crate::numbers::side::Side;
 use crate::sides::Sides;
-use erd_meaning::{RankedName, Report};
 use erd_tables::Family;
 use serde_json::Value;
 use std::alloc::{AllocError, Global};
 use std::collections::BTreeSet;
 
-/// The name of the selection that a reference names, with the ranks of its keys, if there is one.
-pub(crate) fn name_named<'a>(report: &'a Report, value: &Value) -> Option<&'a RankedName>
-    ensures { option_map (λ name. name.now) result ≡ option_map (ranked_name report.now.prefer (view report.now.tree))
-        (option_and_then (name_named report.now.prefer (view report.now.tree)) (as_str (view value.now))) }
+/// The number of the name of the selection that a reference names, if there is one.
+pub(crate) fn number_of_name_named(sides: Sides, side: Side, value: &Value) -> Option<usize>
+    ensures { result ≡ option_map (number_of_name sides.entry.left.now sides.entry.right.now)
+        (option_and_then (name_named (on_side side sides.entry.left.now sides.entry.right.now).prefer (view (on_side side sides.entry.left.now sides.entry.right.now).tree)) (as_str (view value.now))) }
 {
     let id = value.as_str()?;
-    let (found, index) = report.target(id)?;
+    let (found, index) = report_on(sides, side).target(id)?;
     if is_same_family(found, Family::Selection) {
-        selection_name(report, index)
+        name_number_at(sides, side, index)
     } else {
         None
     }
-}
-
-/// The name of the selection at a position, with the ranks of its keys, if there is one.
-fn selection_name<'a>(report: &'a Report, index: usize) -> Option<&'a RankedName>
-    ensures { option_map (λ name. name.now) result ≡ option_map (λ s. s.1) (ranked_selection_in report.now.prefer (view report.now.tree) index) }
-{
-    let (_, name) = report.ranked_name_at(index)?;
-    Some(name)
 }
 
 /// Whether two families are the same.

@@ -12,7 +12,7 @@ use Rattle.serde_json.specs.Data.{Data}
 use Rattle.erd_tables.specs.Classes.{family_number}
 use Rattle.erd_tables.specs.declared.class.Family.TheVariants as family
 use Rattle.erd_meaning.specs.Keys.{Preference}
-use Rattle.erd_meaning.specs.Lookups.{name_in_contest, selection_in}
+use Rattle.erd_meaning.specs.Lookups.{StandFrom, if_of_contest, name_in_contest, selection_in}
 use Rattle.erd_meaning.specs.NameParts.{NameParts}
 use Rattle.erd_meaning.specs.Objects.{Placed, contests, numbered_selections, numbered_selections_of, objects, selections_of_contest}
 use Rattle.erd_meaning.specs.SelectionNames.{name_of}
@@ -183,10 +183,6 @@ module _ (k r : ℕ) (ss rs : List Numbered) (start : IsStart (counts_of ss ++ c
 
 -- ---- what stands there
 
--- the selection, if it is of contest k
-abbrev of_contest : ℕ → Numbered → Option Placed
-of_contest k s = cond (s.0 == k) (Some s.1) None
-
 not_same : (m n : ℕ) → n < m → (m == n) ≡ false
 not_same m n less = at (m == n) refl
   where
@@ -194,12 +190,12 @@ not_same m n less = at (m == n) refl
     at true e = let same : m ≡ n = (Decides-eqb m n).0 e in absurd (omega arith)
     at false e = refl
 
-none_of_later : (k : ℕ) (ss : List Numbered) (i : ℕ) → AllByRecursion {X = Numbered} (λ s. k < s.0) ss → option_and_then (of_contest k) (slice_get ss i) ≡ None
+none_of_later : (k : ℕ) (ss : List Numbered) (i : ℕ) → AllByRecursion {X = Numbered} (λ s. k < s.0) ss → option_and_then (if_of_contest k) (slice_get ss i) ≡ None
 none_of_later k [] i h = refl
 none_of_later k (s ∷ ss) zero h = ap (λ b. cond b (Some s.1) None) (not_same s.0 k h.0)
 none_of_later k (s ∷ ss) (suc i) h = none_of_later k ss i h.1
 
-own_selections : (k : ℕ) (os : List Placed) (i : ℕ) → option_and_then (of_contest k) (slice_get (map {B = Numbered} (λ o. (k, o)) os) i) ≡ slice_get os i
+own_selections : (k : ℕ) (os : List Placed) (i : ℕ) → option_and_then (if_of_contest k) (slice_get (map {B = Numbered} (λ o. (k, o)) os) i) ≡ slice_get os i
 own_selections k [] i = refl
 own_selections k (o ∷ os) zero = ap (λ b. cond b (Some o) None) (itself k)
 own_selections k (o ∷ os) (suc i) = own_selections k os i
@@ -210,17 +206,17 @@ past_end (x ∷ xs) zero m e = absurd (omega arith)
 past_end (x ∷ xs) (suc i) m e = past_end xs i m (omega arith)
 
 from_contest : (k i : ℕ) (o : Placed) (after : List Numbered) → AllByRecursion {X = Numbered} (λ s. k < s.0) after
-    → option_and_then (of_contest k) (slice_get (numbered_selections_of (k, o) ++ after) i) ≡ slice_get (selections_of_contest o) i
+    → option_and_then (if_of_contest k) (slice_get (numbered_selections_of (k, o) ++ after) i) ≡ slice_get (selections_of_contest o) i
 from_contest k i o after high = at (within_or_after (length own) i)
   where
     own : List Numbered
     own = numbered_selections_of (k, o)
 
-    at : (i < length own) ⊎ ((m : ℕ) × (i ≡ length own + m)) → option_and_then (of_contest k) (slice_get (own ++ after) i) ≡ slice_get (selections_of_contest o) i
-    at (inl low) = ap (option_and_then (of_contest k)) (get_first own after i low) ∙ own_selections k (selections_of_contest o) i
+    at : (i < length own) ⊎ ((m : ℕ) × (i ≡ length own + m)) → option_and_then (if_of_contest k) (slice_get (own ++ after) i) ≡ slice_get (selections_of_contest o) i
+    at (inl low) = ap (option_and_then (if_of_contest k)) (get_first own after i low) ∙ own_selections k (selections_of_contest o) i
     at (inr past) =
         let same : length own ≡ length (selections_of_contest o) = length-map {B = Numbered} (selections_of_contest o) (λ p. (k, p)) in
-        ap (option_and_then (of_contest k)) (get_later own after i past.0 past.1) ∙ none_of_later k after past.0 high
+        ap (option_and_then (if_of_contest k)) (get_later own after i past.0 past.1) ∙ none_of_later k after past.0 high
         ∙ sym (past_end (selections_of_contest o) i past.0 (past.1 ∙ ap (λ n. n + past.0) same))
 
 all_high : (k : ℕ) (os : List Placed) (after : List Numbered) → AllByRecursion {X = Numbered} (λ s. k < s.0) after → AllByRecursion {X = Numbered} (λ s. k ≤ s.0) (map {B = Numbered} (λ o. (k, o)) os ++ after)
@@ -233,32 +229,36 @@ counts-append ss rs = map-append {A = Numbered} (λ s. s.0 + 1) ss rs
 
 -- the selections that stand at and after the start
 found_at : (cs : List Placed) (k r i : ℕ) → IsStart (counts_of (numbered_from 0 cs)) k r
-    → option_and_then (of_contest k) (slice_get (numbered_from 0 cs) (r + i)) ≡ option_and_then (λ o. slice_get (selections_of_contest o) i) (slice_get cs k)
+    → option_and_then (if_of_contest k) (slice_get (numbered_from 0 cs) (r + i)) ≡ option_and_then (λ o. slice_get (selections_of_contest o) i) (slice_get cs k)
 found_at cs k r i start = at (slice_get cs k) refl
   where
     zero_more : 0 + k ≡ k
     zero_more = omega arith
 
-    at : (o : Option Placed) → slice_get cs k ≡ o → option_and_then (of_contest k) (slice_get (numbered_from 0 cs) (r + i)) ≡ option_and_then (λ o. slice_get (selections_of_contest o) i) o
+    at : (o : Option Placed) → slice_get cs k ≡ o → option_and_then (if_of_contest k) (slice_get (numbered_from 0 cs) (r + i)) ≡ option_and_then (λ o. slice_get (selections_of_contest o) i) o
     at None e =
         let low : AllByRecursion {X = Numbered} (λ s. s.0 < k) (numbered_from 0 cs) = subst (λ m. AllByRecursion {X = Numbered} (λ s. s.0 < m) (numbered_from 0 cs)) zero_more (all_below 0 cs k e) in
         let whole = sym (counts-append (numbered_from 0 cs) []) ∙ ap counts_of (append-nil (numbered_from 0 cs)) in
         let place = one_start k r (numbered_from 0 cs) [] (subst (λ ns. IsStart ns k r) (sym whole) start) low tt in
-        ap (option_and_then (of_contest k)) (past_end (numbered_from 0 cs) (r + i) i (ap (λ n. n + i) place))
+        ap (option_and_then (if_of_contest k)) (past_end (numbered_from 0 cs) (r + i) i (ap (λ n. n + i) place))
     at (Some o) e =
         let h : Split (numbered_from 0 cs) k o = subst (λ m. Split (numbered_from 0 cs) m o) zero_more (split 0 cs k o e) in
         let rest = numbered_selections_of (k, o) ++ h.after in
         let whole = ap counts_of h.whole ∙ counts-append h.before rest in
         let place = one_start k r h.before rest (subst (λ ns. IsStart ns k r) whole start) h.low (all_high k (selections_of_contest o) h.after h.high) in
-        ap (λ (ss : List Numbered). option_and_then (of_contest k) (slice_get ss (r + i))) h.whole
-        ∙ ap (option_and_then (of_contest k)) (get_later h.before rest (r + i) i (ap (λ n. n + i) place)) ∙ from_contest k i o h.after h.high
+        ap (λ (ss : List Numbered). option_and_then (if_of_contest k) (slice_get ss (r + i))) h.whole
+        ∙ ap (option_and_then (if_of_contest k)) (get_later h.before rest (r + i) i (ap (λ n. n + i) place)) ∙ from_contest k i o h.after h.high
+
+-- so they stand from the start on
+pub stand_from_start : (t : Data) (k r : ℕ) → IsStart (counts_of (numbered_selections t)) k r → StandFrom t k r
+stand_from_start t k r start i = found_at (contests t) k r i start
 
 -- ---- their names
 
 -- what stands so far after the start is the name of that selection of the contest
-pub name_is : (π : Preference) (t : Data) (k r i : ℕ) → IsStart (counts_of (numbered_selections t)) k r
+pub name_is : (π : Preference) (t : Data) (k r i : ℕ) → StandFrom t k r
     → option_and_then (λ (s : ℕ × NameParts). cond (s.0 == k) (Some s.1) None) (selection_in π t (r + i)) ≡ name_in_contest π t k i
-name_is π t k r i start = at (slice_get (numbered_selections t) (r + i)) ∙ ap (option_and_then (λ o. name_of π t o.value)) (found_at (contests t) k r i start) ∙ by (slice_get (contests t) k)
+name_is π t k r i start = at (slice_get (numbered_selections t) (r + i)) ∙ ap (option_and_then (λ o. name_of π t o.value)) (start i) ∙ by (slice_get (contests t) k)
   where
     both_none : (b : Bool) → let none : Option NameParts = None in none ≡ cond b none none
     both_none true = refl
@@ -273,7 +273,7 @@ name_is π t k r i start = at (slice_get (numbered_selections t) (r + i)) ∙ ap
     chosen s false = refl
 
     at : (o : Option Numbered) → option_and_then (λ (s : ℕ × NameParts). cond (s.0 == k) (Some s.1) None) (option_and_then (λ s. option_map (λ n. (s.0, n)) (name_of π t s.1.value)) o)
-        ≡ option_and_then (λ (o : Placed). name_of π t o.value) (option_and_then (of_contest k) o)
+        ≡ option_and_then (λ (o : Placed). name_of π t o.value) (option_and_then (if_of_contest k) o)
     at None = refl
     at (Some s) = named s (name_of π t s.1.value) ∙ chosen s (s.0 == k)
 

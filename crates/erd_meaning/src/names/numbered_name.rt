@@ -70,39 +70,6 @@ impl<'a> Eq for NumberedName<'a> {
     ghost laws = { eq_by_cmp_equiv numbered_name_cmp_total };
 }
 
-impl<'a> PartialOrd for NumberedName<'a> {
-    ghost use Rattle.std.specs.Cmp.{partial_order_from_total};
-    ghost use Rattle.std.specs.Ordering.{as_partial_cmp};
-    ghost use Rattle.erd_meaning.specs.code.NumberedNames.{numbered_name_cmp};
-    ghost use Rattle.erd_meaning.specs.code.NumberedOrders.{numbered_name_cmp_total};
-
-    ghost partial_cmp = { as_partial_cmp numbered_name_cmp };
-
-    ghost laws = { partial_order_from_total numbered_name_cmp_total };
-
-    fn partial_cmp(&self, other: &NumberedName<'a>) -> Option<Ordering> {
-        Some(self.compare(other))
-    }
-}
-
-impl<'a> Ord for NumberedName<'a> {
-    ghost use Rattle.std.proofs.Common.{refl};
-    ghost use Rattle.erd_meaning.specs.code.NumberedNames.{numbered_name_cmp};
-    ghost use Rattle.erd_meaning.specs.code.NumberedOrders.{numbered_name_cmp_total};
-
-    ghost cmp = { numbered_name_cmp };
-
-    ghost total = { numbered_name_cmp_total };
-
-    ghost matches_partial_cmp = { λ a b. refl };
-
-    ghost matches_eq = { λ a b. refl };
-
-    fn cmp(&self, other: &NumberedName<'a>) -> Ordering {
-        self.compare(other)
-    }
-}
-
 impl<'a> Hash for NumberedName<'a> {
     ghost use Rattle.erd_meaning.specs.code.NumberedNames.{numbered_name_writes};
     ghost use Rattle.erd_meaning.specs.code.NumberedOrders.{equal_numbered_alike};

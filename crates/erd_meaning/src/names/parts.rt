@@ -65,15 +65,6 @@ impl Parts {
             .then(self.compare_after_keys(other))
     }
 
-    /// Compares the parts with others, apart from the keys.
-    pub(crate) fn compare_but_keys(&self, other: &Parts) -> Ordering
-        ensures { result ≡ name_cmp (without_keys self.now) (without_keys other.now) }
-    {
-        type_text(self.class)
-            .cmp(type_text(other.class))
-            .then(self.compare_after_keys(other))
-    }
-
     /// Compares the parts after the keys with those of others.
     pub(crate) fn compare_after_keys(&self, other: &Parts) -> Ordering
         ensures { result ≡ after_keys_cmp self.now other.now }

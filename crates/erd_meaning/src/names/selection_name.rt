@@ -60,13 +60,6 @@ impl SelectionName {
         self.digest
     }
 
-    /// Returns whether the name is equal to another, apart from the keys of candidates or parties.
-    pub fn is_same_but_keys(&self, other: &SelectionName) -> bool
-        ensures { result ≡ eq_by_cmp name_cmp (without_keys self.now) (without_keys other.now) }
-    {
-        self.parts.compare_but_keys(&other.parts).is_eq()
-    }
-
     /// Returns an equal name. The two names share the keys of candidates or parties; the other parts are copied.
     ///
     /// # Errors

@@ -104,14 +104,14 @@ fn is_ranked(
     if found != *contest {
         return Err(Fail::from("another contest of the name with ranks"));
     }
-    let Some(same) = report.ranked_name_in_contest(found, place) else {
-        return Err(Fail::from("no name with ranks in the contest"));
-    };
-    if *same.name() != *one.name() || !same.name().is_same_but_keys(one.name()) {
-        return Err(Fail::from("another name with ranks in the contest"));
+    if report.first_selection(found).checked_add(place) != Some(index) {
+        return Err(Fail::from("another first selection of the contest"));
     }
-    if same.ranks() != one.ranks() || same.family() == Family::Selection {
-        return Err(Fail::from("other ranks in the contest"));
+    if report.name_in_contest(found, place) != Some(one.name()) {
+        return Err(Fail::from("another name in the contest"));
+    }
+    if one.family() == Family::Selection {
+        return Err(Fail::from("keys of selections"));
     }
     for (other_index, (_, other_rank)) in ranked.iter().enumerate() {
         let Some((_, other)) = report.ranked_name_at(other_index) else {

@@ -3,14 +3,10 @@ use Rattle.serde_json.specs.View.{view}
 use Rattle.erd_meaning.specs.Records.{meaning}
 use Rattle.erd_compare.specs.code.Comparing.{TellsPart}
 use Rattle.erd_compare.proofs.least_difference.PartsInOrder.{equal_meanings, equal_more, first_told, part_at}
-use Rattle.erd_compare.proofs.same_numbers.NamesOnSides.{numbers_at_ranks}
 use Rattle.erd_compare.proofs.first.first_difference.Goals as goal
 
 pub invariant_of-sides-clause-numbered : goal.invariant_of-sides-clause-numbered
 invariant_of-sides-clause-numbered c p = (c.in_ok-tables.ensures p).numbers
-
-pub invariant_of-sides-clause-ranked : goal.invariant_of-sides-clause-ranked
-invariant_of-sides-clause-ranked c = numbers_at_ranks c.args.left.now c.args.right.now c.in_ok-tables.tables c.in_ok-tables.ensures
 
 pub loop-part-preserved : goal.loop-part-preserved
 loop-part-preserved c =

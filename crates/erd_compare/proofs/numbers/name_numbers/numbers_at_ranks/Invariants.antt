@@ -5,4 +5,4 @@ use Rattle.erd_compare.proofs.numbers.name_numbers.numbers_at_ranks.Given as goa
 
 abbrev pub invariant-loop-rank : goal.invariant-loop-rank
 invariant-loop-rank l =
-    l.numbers.items ++ filter_map (number_at_rank l.sides.tables.now l.side l.part) (drop l.rank-index l.ranks) ≡ filter_map (number_at_rank l.sides.tables.now l.side l.part) l.ranks
+    l.numbers.items ++ filter_map (number_at_rank l.tables l.side l.part) (drop l.rank-index l.ranks) ≡ filter_map (number_at_rank l.tables l.side l.part) l.ranks

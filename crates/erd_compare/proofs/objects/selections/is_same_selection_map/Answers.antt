@@ -3,17 +3,18 @@ use Rattle.serde_json.specs.View.{view}
 use Rattle.erd_compare.specs.code.SelectionsByName.{numbered_map}
 use Rattle.erd_compare.specs.declared.numbers.side.Side.TheVariants.{Left, Right}
 use Rattle.erd_compare.proofs.same_numbers.NumberedSelections.{maps_decide}
+use Rattle.erd_compare.proofs.same_selections.PlacedNames.{contest_named}
 use Rattle.erd_compare.proofs.same_selections.SelectionWalks.{AreSelectionsLeft, Entry, both_maps, both_passed, decided_not, differ, ended, left_alone, own_left, own_right, whole_at}
 use Rattle.erd_compare.proofs.whole_trees.WholeTrees.{whole_trees-views}
 use Rattle.erd_compare.proofs.objects.selections.is_same_selection_map.Goals as goal
 
-pub loop-name-init : goal.loop-name-init
-loop-name-init c =
+pub loop-number-init : goal.loop-number-init
+loop-number-init c =
     let a = c.args.sides.left.now in
     let b = c.args.sides.right.now in
     let ds = map view c.args.ones.values.now in
     let es = map view c.args.others.values.now in
-    let gives = c.into_iter-name-iterator.ensures.into_iter_gives in
+    let gives = c.into_iter-number-iterator.ensures.into_iter_gives in
     subst (λ ls. AreSelectionsLeft a b ds es ls c.in_ok-others.others.entries) (sym gives.0)
     (both_maps a b ds es c.in_ok-ones.ones.entries c.in_ok-others.others.entries gives.4 c.in_ok-ones.ensures c.in_ok-others.ensures)
 
@@ -23,9 +24,9 @@ returns-in_default c =
     let b = c.args.sides.right.now in
     let ds = map view c.args.ones.values.now in
     let es = map view c.args.others.values.now in
-    let e : Entry = (c.in-Some.name.now, c.in-Some.one.now) in
-    let h = subst (λ ls. AreSelectionsLeft a b ds es ls c.loop-name.others.entries) c.in-Some.ensures.steps c.loop-name.invariant in
-    maps_decide a b ds es false (decided_not (numbered_map a b Left ds) (numbered_map a b Right es) (left_alone a b ds es e c.next.new.self c.loop-name.others.entries h c.in_default.ensures.value))
+    let e : Entry = (c.in-Some.number.now, c.in-Some.one.now) in
+    let h = subst (λ ls. AreSelectionsLeft a b ds es ls c.loop-number.others.entries) c.in-Some.ensures.steps c.loop-number.invariant in
+    maps_decide a b ds es (contest_named a b Left c.args.ones.contest ds c.requires.ones_named) (contest_named a b Right c.args.others.contest es c.requires.others_named) false (decided_not (numbered_map a b Left ds) (numbered_map a b Right es) (left_alone a b ds es e c.next.new.self c.loop-number.others.entries h c.in_default.ensures.value))
 
 pub is_same_selection-requires-clause-one : goal.is_same_selection-requires-clause-one
 is_same_selection-requires-clause-one c =
@@ -33,9 +34,9 @@ is_same_selection-requires-clause-one c =
     let b = c.args.sides.right.now in
     let ds = map view c.args.ones.values.now in
     let es = map view c.args.others.values.now in
-    let e : Entry = (c.in-Some.name.now, c.in-Some.one.now) in
-    let h = subst (λ ls. AreSelectionsLeft a b ds es ls c.loop-name.others.entries) c.in-Some.ensures.steps c.loop-name.invariant in
-    whole_at a b Left ds (whole_trees-views c.args.ones.values.now c.requires.ones) e.0 (view e.1.now) (own_left a b ds es e c.next.new.self c.loop-name.others.entries h)
+    let e : Entry = (c.in-Some.number.now, c.in-Some.one.now) in
+    let h = subst (λ ls. AreSelectionsLeft a b ds es ls c.loop-number.others.entries) c.in-Some.ensures.steps c.loop-number.invariant in
+    whole_at a b Left ds (whole_trees-views c.args.ones.values.now c.requires.ones) e.0 (view e.1.now) (own_left a b ds es e c.next.new.self c.loop-number.others.entries h)
 
 pub is_same_selection-requires-clause-other : goal.is_same_selection-requires-clause-other
 is_same_selection-requires-clause-other c =
@@ -43,10 +44,10 @@ is_same_selection-requires-clause-other c =
     let b = c.args.sides.right.now in
     let ds = map view c.args.ones.values.now in
     let es = map view c.args.others.values.now in
-    let e : Entry = (c.in-Some.name.now, c.in-Some.one.now) in
+    let e : Entry = (c.in-Some.number.now, c.in-Some.one.now) in
     let w = c.in-Some-swap_remove.other in
-    let h = subst (λ ls. AreSelectionsLeft a b ds es ls c.loop-name.others.entries) c.in-Some.ensures.steps c.loop-name.invariant in
-    whole_at a b Right es (whole_trees-views c.args.others.values.now c.requires.others) e.0 (view w.now) (own_right a b ds es e w c.next.new.self c.loop-name.others.entries h c.in-Some-swap_remove.ensures.value)
+    let h = subst (λ ls. AreSelectionsLeft a b ds es ls c.loop-number.others.entries) c.in-Some.ensures.steps c.loop-number.invariant in
+    whole_at a b Right es (whole_trees-views c.args.others.values.now c.requires.others) e.0 (view w.now) (own_right a b ds es e w c.next.new.self c.loop-number.others.entries h c.in-Some-swap_remove.ensures.value)
 
 pub returns-then-not-branch : goal.returns-then-not-branch
 returns-then-not-branch c =
@@ -54,23 +55,23 @@ returns-then-not-branch c =
     let b = c.args.sides.right.now in
     let ds = map view c.args.ones.values.now in
     let es = map view c.args.others.values.now in
-    let e : Entry = (c.in-Some.name.now, c.in-Some.one.now) in
+    let e : Entry = (c.in-Some.number.now, c.in-Some.one.now) in
     let w = c.in-Some-swap_remove.other in
-    let h = subst (λ ls. AreSelectionsLeft a b ds es ls c.loop-name.others.entries) c.in-Some.ensures.steps c.loop-name.invariant in
-    maps_decide a b ds es false (decided_not (numbered_map a b Left ds) (numbered_map a b Right es)
-    (differ a b ds es e w c.next.new.self c.loop-name.others.entries h c.in-Some-swap_remove.ensures.value
+    let h = subst (λ ls. AreSelectionsLeft a b ds es ls c.loop-number.others.entries) c.in-Some.ensures.steps c.loop-number.invariant in
+    maps_decide a b ds es (contest_named a b Left c.args.ones.contest ds c.requires.ones_named) (contest_named a b Right c.args.others.contest es c.requires.others_named) false (decided_not (numbered_map a b Left ds) (numbered_map a b Right es)
+    (differ a b ds es e w c.next.new.self c.loop-number.others.entries h c.in-Some-swap_remove.ensures.value
     (λ same. absurd (true≢false (sym (c.in_ok-is_same_selection.ensures.1 same) ∙ c.if-not-branch.true)))))
 
-pub loop-name-preserved : goal.loop-name-preserved
-loop-name-preserved c =
+pub loop-number-preserved : goal.loop-number-preserved
+loop-number-preserved c =
     let a = c.args.sides.left.now in
     let b = c.args.sides.right.now in
     let ds = map view c.args.ones.values.now in
     let es = map view c.args.others.values.now in
-    let e : Entry = (c.in-Some.name.now, c.in-Some.one.now) in
+    let e : Entry = (c.in-Some.number.now, c.in-Some.one.now) in
     let w = c.in-Some-swap_remove.other in
-    let h = subst (λ ls. AreSelectionsLeft a b ds es ls c.loop-name.others.entries) c.in-Some.ensures.steps c.loop-name.invariant in
-    both_passed a b ds es e w c.next.new.self c.loop-name.others.entries c.swap_remove.new.self.entries h c.in-Some-swap_remove.ensures.value
+    let h = subst (λ ls. AreSelectionsLeft a b ds es ls c.loop-number.others.entries) c.in-Some.ensures.steps c.loop-number.invariant in
+    both_passed a b ds es e w c.next.new.self c.loop-number.others.entries c.swap_remove.new.self.entries h c.in-Some-swap_remove.ensures.value
     c.in-Some-swap_remove.ensures.updates.0 (c.in_ok-is_same_selection.ensures.0 c.if-not-branch.false)
 
 pub returns : goal.returns
@@ -79,5 +80,5 @@ returns c =
     let b = c.args.sides.right.now in
     let ds = map view c.args.ones.values.now in
     let es = map view c.args.others.values.now in
-    let h = subst (λ ls. AreSelectionsLeft a b ds es ls c.loop-name.others.entries) c.in-None.ensures.steps.0 c.loop-name.invariant in
-    maps_decide a b ds es c.is_empty.result (ended a b ds es c.is_empty.result c.loop-name.others.entries h c.is_empty.ensures)
+    let h = subst (λ ls. AreSelectionsLeft a b ds es ls c.loop-number.others.entries) c.in-None.ensures.steps.0 c.loop-number.invariant in
+    maps_decide a b ds es (contest_named a b Left c.args.ones.contest ds c.requires.ones_named) (contest_named a b Right c.args.others.contest es c.requires.others_named) c.is_empty.result (ended a b ds es c.is_empty.result c.loop-number.others.entries h c.is_empty.ensures)

@@ -3,6 +3,6 @@ use Rattle.serde_json.specs.View.{view}
 use Rattle.erd_compare.proofs.same_selections.SelectionWalks.{AreSelectionsLeft}
 use Rattle.erd_compare.proofs.objects.selections.is_same_selection_map.Given as goal
 
-abbrev pub invariant-loop-name : goal.invariant-loop-name
-invariant-loop-name l =
-    AreSelectionsLeft l.sides.left.now l.sides.right.now (map view l.fn.ones.values.now) (map view l.fn.others.values.now) l.name-iterator l.others.entries
+abbrev pub invariant-loop-number : goal.invariant-loop-number
+invariant-loop-number l =
+    AreSelectionsLeft l.sides.left.now l.sides.right.now (map view l.fn.ones.values.now) (map view l.fn.others.values.now) l.number-iterator l.others.entries

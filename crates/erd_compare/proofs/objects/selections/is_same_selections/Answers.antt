@@ -4,7 +4,7 @@ use Rattle.serde_json.specs.Data.{Data}
 use Rattle.serde_json.specs.View.{view}
 use Rattle.serde_json.specs.declared.value.Value.{Value}
 use Rattle.erd_compare.proofs.same_selections.MemberValues.{filled-there, selections-Decide, whole_filled}
-use Rattle.erd_compare.proofs.same_selections.PlacedSelections.{named_in}
+use Rattle.erd_compare.proofs.same_selections.PlacedSelections.{selections_in}
 use Rattle.erd_compare.proofs.whole_trees.WholeTrees.{whole_values-entries_of}
 use Rattle.erd_compare.proofs.objects.selections.is_same_selections.Goals as goal
 
@@ -29,10 +29,10 @@ returns-in-Some-Some c =
 
 pub is_same_selection_map-requires-clause-ones_named : goal.is_same_selection_map-requires-clause-ones_named
 is_same_selection_map-requires-clause-ones_named c =
-    named_in c.args.sides.left.now c.args.one.index (seen c.args.one.value) (view c.in-Some-Some.ones.now) _ c.requires.one_placed
+    selections_in c.args.sides.left.now c.args.one.index (seen c.args.one.value) (view c.in-Some-Some.ones.now) _ c.requires.one_placed
     (filled-there (seen c.args.one.value) (view c.in-Some-Some.ones.now) (sym c.filled.ensures ∙ ap seen c.in-Some-Some.is-0)) c.entries_of.ensures
 
 pub is_same_selection_map-requires-clause-others_named : goal.is_same_selection_map-requires-clause-others_named
 is_same_selection_map-requires-clause-others_named c =
-    named_in c.args.sides.right.now c.args.other.index (seen c.args.other.value) (view c.in-Some-Some.others.now) _ c.requires.other_placed
+    selections_in c.args.sides.right.now c.args.other.index (seen c.args.other.value) (view c.in-Some-Some.others.now) _ c.requires.other_placed
     (filled-there (seen c.args.other.value) (view c.in-Some-Some.others.now) (sym c.filled-2.ensures ∙ ap seen c.in-Some-Some.is-1)) c.entries_of-in-Some-Some.ensures

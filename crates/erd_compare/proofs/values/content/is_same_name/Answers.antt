@@ -1,13 +1,18 @@
-use Rattle.std.proofs.Common.{option_map, sym, ap, ◌∙◌}
+use Rattle.std.proofs.Common.{◌==◌, option_and_then, refl, ap₂, ◌∙◌}
+use Rattle.std.specs.Option.{option_eq}
 use Rattle.serde_json.specs.Find.{as_str}
 use Rattle.serde_json.specs.View.{view}
-use Rattle.erd_compare.proofs.same_numbers.NamesOnSides.{on_reference}
+use Rattle.erd_meaning.specs.SelectionNames.{name_named}
+use Rattle.erd_compare.specs.declared.numbers.side.Side.TheVariants.{Left, Right}
+use Rattle.erd_compare.proofs.same_numbers.NameNumbers.{names_decide, reference_named}
+use Rattle.erd_compare.proofs.same_values.EqualOptions.{decides_as}
 use Rattle.erd_compare.proofs.values.content.is_same_name.Goals as goal
 
-pub are_equal_names-requires-clause-one : goal.are_equal_names-requires-clause-one
-are_equal_names-requires-clause-one c =
-    (on_reference c.args.sides.left.now (as_str (view c.args.one.now)) c.in-Some-Some.one.now (sym c.name_named.ensures ∙ ap (option_map (λ name. name.now)) c.in-Some-Some.is-0)).0
-
-pub are_equal_names-requires-clause-other : goal.are_equal_names-requires-clause-other
-are_equal_names-requires-clause-other c =
-    (on_reference c.args.sides.right.now (as_str (view c.args.other.now)) c.in-Some-Some.other.now (sym c.name_named-2.ensures ∙ ap (option_map (λ name. name.now)) c.in-Some-Some.is-1)).0
+pub returns : goal.returns
+returns c =
+    let a = c.args.sides.left.now in
+    let b = c.args.sides.right.now in
+    let one = as_str (view c.args.one.now) in
+    let other = as_str (view c.args.other.now) in
+    decides_as (c.eq.ensures ∙ ap₂ (option_eq ◌==◌) c.number_of_name_named.ensures c.number_of_name_named-2.ensures) refl refl
+    (names_decide a b (option_and_then (name_named a.prefer (view a.tree)) one) (option_and_then (name_named b.prefer (view b.tree)) other) (reference_named a b Left one) (reference_named a b Right other))

@@ -1,0 +1,193 @@
+-- The positions of keys that are added to a list one after another, each once.
+use Rattle.std.proofs.Common.{◌≡◌, ◌≤◌, ◌+◌, ℕ, List, [], ◌∷◌, ◌++◌, length, map, drop, Bool, true, false, true≢false, not, cond, ◌||◌, eqb, Option, Some, None, option_map, Ordering, is_eq, inl, inr, refl, sym, ap, ap₂, ◌∙◌, subst, append-nil, arith}
+use Rattle.std.proofs.lemmas.Bool.Decides.{Decides-eqb}
+use Rattle.std.proofs.lemmas.Cmp.{tied_itself}
+use Rattle.std.proofs.lemmas.List.{drop_all, drop_more}
+use Rattle.std.proofs.lemmas.Option.{get_or_from_slice_get, slice_get_within}
+use Rattle.std.proofs.lemmas.List.Folds.{list_any-append, position_or_len_push}
+use Rattle.std.proofs.lemmas.Map.Lookups.{CmpEqualImpliesEq}
+use Rattle.std.specs.Cmp.{Equal-is, IsTotalOrder}
+use Rattle.std.specs.List.{cons_option, filter_map, list_any, position_or_len, slice_get}
+use Rattle.std.specs.Ordering.{eq_by_cmp}
+use Rattle.indexmap.specs.IndexSet.{insert_all, insert_key}
+use Rattle.erd_check.proofs.Order.{In, any_at}
+
+-- ---- the first that passes a test
+
+module _ {K : Type 0} (p : K → Bool) where
+  later_any : (k : K) (ks : List K) → p k ≡ false → list_any p (k ∷ ks) ≡ true → list_any p ks ≡ true
+  later_any k ks none h = sym (ap (λ b. b || list_any p ks) none) ∙ h
+
+  -- its position stays if more keys are added behind
+  position_kept : (ks ms : List K) → list_any p ks ≡ true → position_or_len p (ks ++ ms) ≡ position_or_len p ks
+  position_kept [] ms h = cc
+  position_kept (k ∷ ks) ms h = at (p k) refl (λ later. position_kept ks ms later)
+    where
+      at : (b : Bool) → p k ≡ b → (list_any p ks ≡ true → position_or_len p (ks ++ ms) ≡ position_or_len p ks) → cond (not b) (1 + position_or_len p (ks ++ ms)) 0 ≡ cond (not b) (1 + position_or_len p ks) 0
+      at true e rest = refl
+      at false e rest = ap (λ n. 1 + n) (rest (later_any k ks e h))
+
+module _ {K : Type 0} (cmp : K → K → Ordering) (total : IsTotalOrder cmp) (exact : CmpEqualImpliesEq cmp) where
+  abbrev eq : K → K → Bool
+  eq = eq_by_cmp cmp
+
+  itself : (k : K) → eq k k ≡ true
+  itself k = ap is_eq (tied_itself total k)
+
+  one_key : (k l : K) → eq k l ≡ true → k ≡ l
+  one_key k l h = exact k l ((Equal-is (cmp k l)).0 h)
+
+  -- keys that are in the list and have one position are one
+  pub one_position : (k l : K) (ks : List K) → list_any (eq k) ks ≡ true → list_any (eq l) ks ≡ true → position_or_len (eq k) ks ≡ position_or_len (eq l) ks → k ≡ l
+  one_position k l [] mine its same = cc
+  one_position k l (m ∷ ms) mine its same = at (eq k m) refl (eq l m) refl same (λ here there e. one_position k l ms here there e)
+    where
+      at : (b : Bool) → eq k m ≡ b → (d : Bool) → eq l m ≡ d → cond (not b) (1 + position_or_len (eq k) ms) 0 ≡ cond (not d) (1 + position_or_len (eq l) ms) 0
+          → (list_any (eq k) ms ≡ true → list_any (eq l) ms ≡ true → position_or_len (eq k) ms ≡ position_or_len (eq l) ms → k ≡ l) → k ≡ l
+      at true e true f h rest = one_key k m e ∙ sym (one_key l m f)
+      at true e false f h rest = absurd (omega (arith, h))
+      at false e true f h rest = absurd (omega (arith, h))
+      at false e false f h rest = rest (later_any (eq k) m ms e mine) (later_any (eq l) m ms f its) (omega (arith, h))
+
+  -- ---- adding keys
+
+  -- the key is in the list, at this position
+  pub record StandsAt (k : K) (ks : List K) (n : ℕ) : Type 0 where
+    pub any : list_any (eq k) ks ≡ true
+    pub place : position_or_len (eq k) ks ≡ n
+
+  stands_one : (k l : K) (ks : List K) (n : ℕ) → StandsAt k ks n → StandsAt k (insert_key eq ks l) n
+  stands_one k l ks n h = at (list_any (eq l) ks)
+    where
+      at : (b : Bool) → StandsAt k (cond b ks (ks ++ l ∷ [])) n
+      at true = h
+      at false = record {
+        any = list_any-append (eq k) ks (l ∷ []) ∙ ap (λ b. b || list_any (eq k) (l ∷ [])) h.any;
+        place = position_kept (eq k) ks (l ∷ []) h.any ∙ h.place;
+      }
+
+  -- a key stays where it is
+  pub stands_all : (k : K) (ls ks : List K) (n : ℕ) → StandsAt k ks n → StandsAt k (insert_all eq ks ls) n
+  stands_all k [] ks n h = h
+  stands_all k (l ∷ ls) ks n h = stands_all k ls (insert_key eq ks l) n (stands_one k l ks n h)
+
+  -- a key that is added has the position where it is found, or is the last
+  pub stands_added : (k : K) (ks : List K) → StandsAt k (insert_key eq ks k) (position_or_len (eq k) ks)
+  stands_added k ks = at (list_any (eq k) ks) refl
+    where
+      own : list_any (eq k) (k ∷ []) ≡ true
+      own = ap (λ b. b || false) (itself k)
+
+      or_own : (b : Bool) → b || true ≡ true
+      or_own true = refl
+      or_own false = refl
+
+      pushed : cond (eqb (position_or_len (eq k) ks) (length ks)) (length ks + 0) (position_or_len (eq k) ks) ≡ position_or_len (eq k) ks
+      pushed = by (eqb (position_or_len (eq k) ks) (length ks)) refl
+        where
+          by : (b : Bool) → eqb (position_or_len (eq k) ks) (length ks) ≡ b → cond b (length ks + 0) (position_or_len (eq k) ks) ≡ position_or_len (eq k) ks
+          by true e = let same : position_or_len (eq k) ks ≡ length ks = (Decides-eqb (position_or_len (eq k) ks) (length ks)).0 e in omega arith
+          by false e = refl
+
+      at : (b : Bool) → list_any (eq k) ks ≡ b → StandsAt k (cond b ks (ks ++ k ∷ [])) (position_or_len (eq k) ks)
+      at true e = record { any = e; place = refl }
+      at false e = record {
+        any = list_any-append (eq k) ks (k ∷ []) ∙ (ap (λ b. list_any (eq k) ks || b) own ∙ or_own (list_any (eq k) ks));
+        place = position_or_len_push (eq k) ks k
+            ∙ (ap (λ b. cond (eqb (position_or_len (eq k) ks) (length ks)) (length ks + cond b 0 1) (position_or_len (eq k) ks)) (itself k) ∙ pushed);
+      }
+
+  -- each key that is added is in the list
+  pub added_any : (k : K) (ls ks : List K) → In k ls → list_any (eq k) (insert_all eq ks ls) ≡ true
+  added_any k [] ks h = absurd h
+  added_any k (l ∷ ls) ks (inl e) = subst (λ x. list_any (eq x) (insert_all eq (insert_key eq ks l) ls) ≡ true) e
+      (stands_all l ls (insert_key eq ks l) (position_or_len (eq l) ks) (stands_added l ks)).any
+  added_any k (l ∷ ls) ks (inr h) = added_any k ls (insert_key eq ks l) h
+
+  -- ---- the keys of a list of objects
+
+  module _ {O : Type 0} (told : O → Option K) where
+    -- the position of its key, if an object has one
+    abbrev pub position_in : List K → O → Option ℕ
+    position_in ks o = option_map (λ k. position_or_len (eq k) ks) (told o)
+
+    behind_any : (k : K) (y : Option K) (ks : List K) → In k ks → In k (cons_option y ks)
+    behind_any k None ks h = h
+    behind_any k (Some l) ks h = inr h
+
+    pub in_told : (o : O) (k : K) (os : List O) → In o os → told o ≡ Some k → In k (filter_map told os)
+    in_told o k [] h e = absurd h
+    in_told o k (x ∷ xs) (inl here) e = subst (λ y. In k (cons_option y (filter_map told xs))) (sym (ap told here ∙ e)) (inl refl)
+    in_told o k (x ∷ xs) (inr later) e = behind_any k (told x) (filter_map told xs) (in_told o k xs later e)
+
+    -- the positions stay if more keys are added
+    pub positions_stay : (os : List O) (ks ls : List K) → ((o : O) (k : K) → In o os → told o ≡ Some k → list_any (eq k) ks ≡ true) → map (position_in ks) os ≡ map (position_in (insert_all eq ks ls)) os
+    positions_stay [] ks ls h = refl
+    positions_stay (o ∷ os) ks ls h = ap₂ ◌∷◌ (at (told o) refl) (positions_stay os ks ls (λ x k i e. h x k (inr i) e))
+      where
+        at : (y : Option K) → told o ≡ y → option_map (λ k. position_or_len (eq k) ks) y ≡ option_map (λ k. position_or_len (eq k) (insert_all eq ks ls)) y
+        at None e = refl
+        at (Some k) e = ap Some (sym (stands_all k ls ks (position_or_len (eq k) ks) (record { any = h o k (inl refl) e; place = refl })).place)
+
+    -- the keys of the objects that are left are still to be added, and their positions to be listed
+    pub record IsAdding (old : List K) (all left : List O) (ks : List K) (ns : List (Option ℕ)) : Type 0 where
+      pub keys : insert_all eq ks (filter_map told left) ≡ insert_all eq old (filter_map told all)
+      pub positions : ns ++ map (position_in (insert_all eq old (filter_map told all))) left ≡ map (position_in (insert_all eq old (filter_map told all))) all
+
+    behind : {A : Type 0} (xs ys : List A) (x : A) → (xs ++ x ∷ []) ++ ys ≡ xs ++ x ∷ ys
+    behind [] ys x = refl
+    behind (z ∷ zs) ys x = ap (λ ws. z ∷ ws) (behind zs ys x)
+
+    -- an object without a key
+    pub none_added : (old ks : List K) (all left : List O) (o : O) (ns : List (Option ℕ)) → told o ≡ None → IsAdding old all (o ∷ left) ks ns → IsAdding old all left ks (ns ++ None ∷ [])
+    none_added old ks all left o ns e h = record {
+      keys = sym (ap (λ y. insert_all eq ks (cons_option y (filter_map told left))) e) ∙ h.keys;
+      positions = behind ns (map (position_in all_keys) left) None
+          ∙ (ap (λ y. ns ++ option_map (λ k. position_or_len (eq k) all_keys) y ∷ map (position_in all_keys) left) (sym e) ∙ h.positions);
+    }
+      where
+        all_keys : List K
+        all_keys = insert_all eq old (filter_map told all)
+
+    -- an object with a key, which is added
+    pub one_added : (old ks : List K) (all left : List O) (o : O) (k : K) (ns : List (Option ℕ)) → told o ≡ Some k → IsAdding old all (o ∷ left) ks ns
+        → IsAdding old all left (insert_key eq ks k) (ns ++ Some (position_or_len (eq k) ks) ∷ [])
+    one_added old ks all left o k ns e h = record {
+      keys = added;
+      positions = behind ns (map (position_in all_keys) left) (Some (position_or_len (eq k) ks))
+          ∙ (ap (λ n. ns ++ Some n ∷ map (position_in all_keys) left) (sym place)
+          ∙ (ap (λ y. ns ++ option_map (λ x. position_or_len (eq x) all_keys) y ∷ map (position_in all_keys) left) (sym e) ∙ h.positions));
+    }
+      where
+        all_keys : List K
+        all_keys = insert_all eq old (filter_map told all)
+
+        added : insert_all eq (insert_key eq ks k) (filter_map told left) ≡ all_keys
+        added = sym (ap (λ y. insert_all eq ks (cons_option y (filter_map told left))) e) ∙ h.keys
+
+        place : position_or_len (eq k) all_keys ≡ position_or_len (eq k) ks
+        place = ap (position_or_len (eq k)) (sym added) ∙ (stands_all k (filter_map told left) (insert_key eq ks k) (position_or_len (eq k) ks) (stands_added k ks)).place
+
+    next_left : (all : List O) (i : ℕ) (o : O) → slice_get all i ≡ Some o → drop i all ≡ o ∷ drop (i + 1) all
+    next_left all i o here = drop_more all i o (slice_get_within all i o here) ∙ ap (λ x. x ∷ drop (i + 1) all) (get_or_from_slice_get all i o o here)
+
+    -- the object at the next position
+    module _ (old ks ks' : List K) (all : List O) (i : ℕ) (o : O) (n : Option ℕ) (ns ns' : List (Option ℕ)) (here : slice_get all i ≡ Some o) (h : IsAdding old all (drop i all) ks ns) (pushed : ns' ≡ ns ++ n ∷ []) where
+      now_left : IsAdding old all (o ∷ drop (i + 1) all) ks ns
+      now_left = subst (λ left. IsAdding old all left ks ns) (next_left all i o here) h
+
+      pub next_none : told o ≡ None → ks' ≡ ks → n ≡ None → IsAdding old all (drop (i + 1) all) ks' ns'
+      next_none e same number =
+          subst (IsAdding old all (drop (i + 1) all) ks') (sym (pushed ∙ ap (λ x. ns ++ x ∷ []) number))
+          (subst (λ xs. IsAdding old all (drop (i + 1) all) xs (ns ++ None ∷ [])) (sym same) (none_added old ks all (drop (i + 1) all) o ns e now_left))
+
+      pub next_one : (k : K) → told o ≡ Some k → ks' ≡ insert_key eq ks k → n ≡ Some (position_or_len (eq k) ks) → IsAdding old all (drop (i + 1) all) ks' ns'
+      next_one k e added number =
+          subst (IsAdding old all (drop (i + 1) all) ks') (sym (pushed ∙ ap (λ x. ns ++ x ∷ []) number))
+          (subst (λ xs. IsAdding old all (drop (i + 1) all) xs (ns ++ Some (position_or_len (eq k) ks) ∷ [])) (sym added) (one_added old ks all (drop (i + 1) all) o k ns e now_left))
+
+    -- no object is left
+    pub none_left : (old ks : List K) (all : List O) (i : ℕ) (ns : List (Option ℕ)) → length all ≤ i → IsAdding old all (drop i all) ks ns → ns ≡ map (position_in ks) all
+    none_left old ks all i ns past h =
+        let ended = subst (λ left. IsAdding old all left ks ns) (drop_all i all past) h in
+        sym (append-nil ns) ∙ (ended.positions ∙ ap (λ xs. map (position_in xs) all) (sym ended.keys))
