@@ -5,5 +5,6 @@ pub mod MemberWalks
 pub mod HeldRecords
 pub mod KeyedRecords
 pub mod KeyTables
+pub mod FamilyTables
 pub mod KeyWalks
 pub mod PartsInOrder

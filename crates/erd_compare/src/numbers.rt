@@ -7,5 +7,6 @@ pub(crate) mod kept_tables;
 pub(crate) mod lookups;
 pub(crate) mod making;
 pub(crate) mod name_numbers;
+pub(crate) mod rising_keys;
 pub(crate) mod role_objects;
 pub(crate) mod side;

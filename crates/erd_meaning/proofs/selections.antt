@@ -13,6 +13,7 @@ pub mod WholeParts
 pub mod WrittenLabels
 pub mod NameTests  -- the test by which an index of names is asked
 pub mod RankedKeys  -- the ranks of keys are in the order of the keys
+pub mod PositionedKeys  -- keys with positions, in rising order
 pub mod RankedTests  -- the test by which an index of names with ranks is asked
 pub mod RankedReports  -- the names that a report keeps with ranks
 pub mod KeysInNames  -- the keys in names are those of objects

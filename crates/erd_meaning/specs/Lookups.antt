@@ -1,5 +1,5 @@
 -- What can be looked up among the objects and the elections of a report, by family and position.
-use Rattle.std.specs.Prelude.{◌≡◌, ◌↔◌, ◌+◌, ◌==◌, ℕ, List, Option, Some, None, if◌then◌else◌, filter, length, option_and_then, option_map}
+use Rattle.std.specs.Prelude.{◌≡◌, ◌↔◌, ◌+◌, ◌==◌, ℕ, List, [], ◌∷◌, Option, Some, None, if◌then◌else◌, filter, length, map, option_and_then, option_map}
 use Rattle.std.specs.List.{slice_get}
 use Rattle.std.specs.Option.{option_cmp}
 use Rattle.std.specs.Ordering.{is_lt}
@@ -9,7 +9,7 @@ use Rattle.erd_tables.specs.declared.class.Family.TheVariants as family
 use Rattle.erd_meaning.specs.NameParts.{NameParts}
 use Rattle.erd_meaning.specs.Objects.{Placed, contests, election_of_place, elections, id_of, numbered_selections, objects, selections_of_contest}
 use Rattle.erd_meaning.specs.Keys.{Preference, key_cmp, key_of, key_of_family_object}
-use Rattle.erd_meaning.specs.SelectionNames.{name_of}
+use Rattle.erd_meaning.specs.SelectionNames.{name_of, rising_list}
 use Rattle.erd_meaning.specs.declared.keys.key.Key.{Key}
 
 -- The key of the object at this position of its family, or none if there is no such object or it has no key.
@@ -19,6 +19,16 @@ key_in π f t i = option_and_then (λ o. key_of_family_object π f o.value) (sli
 -- The number of objects of the family in the report whose keys are less than this one.
 abbrev pub rank_of : Preference → Data → Family → Option Key → ℕ
 rank_of π t f k = length (filter (λ o. is_lt (option_cmp key_cmp (key_of π o.value) k)) (objects f t))
+
+-- The keys with their positions. The first stands at position i.
+abbrev pub positioned : {K : Type 0} → ℕ → List K → List (K × ℕ)
+positioned i [] = []
+positioned i (k ∷ ks) = (k, i) ∷ positioned (i + 1) ks
+
+-- The keys of the objects of the family in rising order, each with the position of its object. Equal keys stand in the order of
+-- the report.
+abbrev pub rising_keys : Preference → Data → Family → List (Option Key × ℕ)
+rising_keys π t f = rising_list (λ a b. option_cmp key_cmp a.0 b.0) (positioned 0 (map (λ o. key_of_family_object π f o.value) (objects f t)))
 
 -- The `@id` of the object at this position of its family, or none if there is no such object or it has no `@id`.
 abbrev pub id_in : Family → Data → ℕ → Option (List ℕ)

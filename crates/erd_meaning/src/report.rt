@@ -5,7 +5,7 @@ ghost use Rattle.serde_json.specs.Written.{has_float};
 ghost use Rattle.erd_check.specs.Numbers.{HasFittingNumbers};
 ghost use Rattle.erd_check.specs.Trees.{IsShallow, IsTree};
 ghost use Rattle.erd_meaning.specs.Accepted.{IsAccepted};
-ghost use Rattle.erd_meaning.specs.Lookups.{FindsId, FindsKey, FindsSelection, StandFrom, election_in, election_key_in, key_in, name_in_contest, selection_in};
+ghost use Rattle.erd_meaning.specs.Lookups.{FindsId, FindsKey, FindsSelection, StandFrom, election_in, election_key_in, key_in, name_in_contest, rising_keys, selection_in};
 ghost use Rattle.erd_meaning.specs.Objects.{IsBounded, elections, objects};
 ghost use Rattle.erd_meaning.specs.code.RankedNames.{AllAreRanked, names_of, ranked_name, ranked_selection_in};
 ghost use Rattle.erd_meaning.specs.code.Resolved.{IsResolved};
@@ -213,6 +213,22 @@ impl<'a> Report<'a> {
         ensures { option_copied result ≡ key_in self.now.prefer family (view self.now.tree) index }
     {
         self.objects().key_at(family, index)
+    }
+
+    /// Returns the keys of the objects of the family in rising order, each with the position of its object. It sorts them,
+    /// except those of candidates and parties: these are sorted when the report is resolved.
+    ///
+    /// # Errors
+    ///
+    /// `AllocError` if out of memory.
+    pub fn rising_keys(
+        &self,
+        alloc: Global,
+        family: Family,
+    ) -> Result<Vec<(Option<&Key>, usize)>, AllocError>
+        ensures { IfOk result (λ rising. map (λ p. (option_copied p.0, p.1)) rising.items ≡ rising_keys self.now.prefer (view self.now.tree) family) }
+    {
+        self.indexes().objects.rising_keys(alloc, family)
     }
 
     /// Returns the position of the object of the family with the key, or `None` if there is none. No two objects of a family

@@ -3,6 +3,7 @@ pub mod KeyPositions
 pub mod KeyPlaces
 pub mod Numbered
 pub mod RisingTables
+pub mod RisingEntries  -- the objects that stand with rising keys
 pub mod KeysInTurn
 pub mod FamilyNumbers
 pub mod PlacedEntries

@@ -1,5 +1,5 @@
 -- The positions of keys that are added to a list one after another, each once.
-use Rattle.std.proofs.Common.{◌≡◌, ◌≤◌, ◌+◌, ℕ, List, [], ◌∷◌, ◌++◌, length, map, drop, Bool, true, false, true≢false, not, cond, ◌||◌, eqb, Option, Some, None, option_map, Ordering, is_eq, inl, inr, refl, sym, ap, ap₂, ◌∙◌, subst, append-nil, arith}
+use Rattle.std.proofs.Common.{◌≡◌, ◌≤◌, ◌+◌, ℕ, List, [], ◌∷◌, ◌++◌, length, map, drop, Bool, true, false, not, cond, ◌||◌, eqb, Option, Some, None, option_map, Ordering, is_eq, inl, inr, refl, sym, ap, ap₂, ◌∙◌, subst, append-nil, arith}
 use Rattle.std.proofs.lemmas.Bool.Decides.{Decides-eqb}
 use Rattle.std.proofs.lemmas.Cmp.{tied_itself}
 use Rattle.std.proofs.lemmas.List.{drop_all, drop_more}
@@ -10,7 +10,7 @@ use Rattle.std.specs.Cmp.{Equal-is, IsTotalOrder}
 use Rattle.std.specs.List.{cons_option, filter_map, list_any, position_or_len, slice_get}
 use Rattle.std.specs.Ordering.{eq_by_cmp}
 use Rattle.indexmap.specs.IndexSet.{insert_all, insert_key}
-use Rattle.erd_check.proofs.Order.{In, any_at}
+use Rattle.erd_check.proofs.Order.{In}
 
 -- ---- the first that passes a test
 

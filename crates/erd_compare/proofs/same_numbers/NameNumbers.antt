@@ -1,5 +1,5 @@
 -- The numbers of the names of selections: names of two reports are equal if and only if their numbers are.
-use Rattle.std.proofs.Common.{◌≡◌, ◌==◌, ℕ, List, [], ◌∷◌, map, Bool, true, true≢false, Option, Some, None, option_and_then, option_map, refl, sym, ap, ap₂, ◌∙◌, subst}
+use Rattle.std.proofs.Common.{◌≡◌, ◌==◌, ℕ, List, [], ◌∷◌, map, true, true≢false, Option, Some, None, option_and_then, option_map, refl, sym, ap, ap₂, ◌∙◌, subst}
 use Rattle.std.proofs.lemmas.Bool.Decides.{Decides-eqb}
 use Rattle.std.proofs.lemmas.Option.{option_and_then_some}
 use Rattle.std.specs.List.{cons_option, filter_map, list_any, position_or_len}
@@ -29,7 +29,7 @@ use Rattle.erd_compare.specs.declared.numbers.kept_names.NameNumbers.{NameNumber
 use Rattle.erd_compare.specs.declared.numbers.kept_tables.KeyTables.{KeyTables}
 use Rattle.erd_compare.specs.declared.numbers.side.Side.{Side}
 use Rattle.erd_compare.specs.declared.numbers.side.Side.TheVariants.{Left, Right}
-use Rattle.erd_compare.proofs.same_numbers.InsertedKeys.{StandsAt, added_any, in_told, one_position, position_in, positions_stay, stands_all}
+use Rattle.erd_compare.proofs.same_numbers.InsertedKeys.{added_any, in_told, one_position, positions_stay, stands_all}
 use Rattle.erd_compare.proofs.same_numbers.NamesOnSides.{from_numbered, name_is_told, numbers_at_ranks}
 
 module _ (a b : Judged) where

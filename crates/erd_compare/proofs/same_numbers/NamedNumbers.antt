@@ -20,7 +20,7 @@ use Rattle.erd_meaning.proofs.accepted.References.{find-Some, option_map-Some}
 use Rattle.erd_meaning.proofs.finding.OwnedObjects.{position_of}
 use Rattle.erd_compare.specs.code.CommonNumbers.{number_of_key, part_of_family}
 use Rattle.erd_compare.specs.code.KeyedDifferences.{HasKeyAt, holder_in, holder_key_in, key_in_role, key_with_role, role_of_part}
-use Rattle.erd_compare.specs.code.NumberedSides.{IsNumberAt, number_with_id, on_side}
+use Rattle.erd_compare.specs.code.NumberedSides.{number_with_id, on_side}
 use Rattle.erd_compare.specs.declared.difference.Part.{Part}
 use Rattle.erd_compare.specs.declared.difference.Part.TheVariants as part
 use Rattle.erd_compare.specs.declared.numbers.side.Side.{Side}

@@ -1,9 +1,7 @@
 -- The names that a report gives to its selections: each key in them is that of an object, so it has a number. The numbers
 -- are found by the ranks of the keys.
-use Rattle.std.proofs.Common.{◌≡◌, ℕ, List, [], ◌∷◌, map, Bool, true, false, true≢false, Option, Some, None, option_and_then, option_map, refl, sym, ap, ap₂, ◌∙◌, subst}
+use Rattle.std.proofs.Common.{◌≡◌, ℕ, List, [], ◌∷◌, map, true, Option, Some, None, option_and_then, option_map, refl, sym, ap, ap₂, ◌∙◌, subst}
 use Rattle.std.specs.List.{AllByRecursion, cons_option, filter_map, slice_get}
-use Rattle.std.specs.Ordering.{eq_by_cmp}
-use Rattle.std.proofs.lemmas.Option.{option_and_then_some}
 use Rattle.serde_json.specs.Data.{Data}
 use Rattle.serde_json.specs.View.{view}
 use Rattle.erd_check.proofs.Order.{In-from_contains}
@@ -15,15 +13,14 @@ use Rattle.erd_meaning.proofs.selections.KeysInNames.{known_name}
 use Rattle.erd_meaning.proofs.selections.RankedReports.{chosen_keyed}
 use Rattle.erd_meaning.specs.Judged.{Judged}
 use Rattle.erd_meaning.specs.Keys.{Preference, has_keys}
-use Rattle.erd_meaning.specs.Lookups.{name_in_contest, rank_of}
+use Rattle.erd_meaning.specs.Lookups.{rank_of}
 use Rattle.erd_meaning.specs.NameParts.{NameParts}
-use Rattle.erd_meaning.specs.Objects.{Placed, contests, objects, owner, selections_of_contest, numbered_selections}
-use Rattle.erd_meaning.specs.SelectionNames.{name_cmp, name_named, name_of}
+use Rattle.erd_meaning.specs.Objects.{Placed, objects, numbered_selections}
+use Rattle.erd_meaning.specs.SelectionNames.{name_of}
 use Rattle.erd_meaning.specs.code.NumberedNames.{NumberedParts, numbered_parts, without_keys}
-use Rattle.erd_meaning.specs.code.RankedNames.{HasKeysIn, IsKeyIn, PlacedName, RankedParts, family_chosen, ranked_name, ranked_selection_in}
+use Rattle.erd_meaning.specs.code.RankedNames.{HasKeysIn, IsKeyIn, PlacedName, family_chosen, ranked_name, ranked_selection_in}
 use Rattle.erd_meaning.specs.declared.keys.key.Key.{Key}
 use Rattle.erd_compare.specs.code.CommonNumbers.{AreKeyTables, number_of_key, part_of_family, tables_of}
-use Rattle.erd_compare.specs.code.Comparing.{Decides}
 use Rattle.erd_compare.specs.code.KeyedDifferences.{HasKeyAt, IsKeyTable, role_of_part}
 use Rattle.erd_compare.specs.code.NumberedSides.{AreNumbersAtRanks, number_at_rank, on_side}
 use Rattle.erd_compare.specs.code.CommonNames.{name_told, numbered_name, numbered_name_of, numbers_in_name, numbers_told, part_of_name}
@@ -31,7 +28,6 @@ use Rattle.erd_compare.specs.declared.difference.Part.{Part}
 use Rattle.erd_compare.specs.declared.numbers.kept_tables.KeyTables.{KeyTables}
 use Rattle.erd_compare.specs.declared.numbers.side.Side.{Side}
 use Rattle.erd_compare.specs.declared.numbers.side.Side.TheVariants.{Left, Right}
-use Rattle.erd_compare.proofs.same_values.EqualOptions.{names_decide}
 use Rattle.erd_compare.proofs.same_numbers.KeyNumbers.{both_keys, left_number, number_here, one_number}
 use Rattle.erd_compare.proofs.same_numbers.KeyPlaces.{Stands}
 use Rattle.erd_compare.proofs.same_numbers.KeysByRank.{at_rank, place_in}

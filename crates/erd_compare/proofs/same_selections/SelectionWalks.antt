@@ -1,5 +1,5 @@
 -- The selections of two contests by the numbers of their names: what the right has at each name of the left is taken out.
-use Rattle.std.proofs.Common.{◌≡◌, ◌==◌, ◌↔◌, ℕ, ◌⊎◌, inl, inr, List, [], ◌∷◌, length, suc, Bool, true, false, true≢false, cond, Option, Some, None, option_and_then, option_map, find, Bor, is_eq, refl, sym, ap, ◌∙◌, subst}
+use Rattle.std.proofs.Common.{◌≡◌, ◌==◌, ◌↔◌, ℕ, ◌⊎◌, inl, inr, List, [], ◌∷◌, length, suc, Bool, true, false, true≢false, cond, Option, Some, None, option_and_then, option_map, find, Bor, refl, sym, ap, ◌∙◌, subst}
 use Rattle.std.proofs.Math.Path.{fun_ext}
 use Rattle.std.proofs.lemmas.Bool.Decides.{Decides-eqb}
 use Rattle.std.specs.List.{AllByRecursion, IsDistinct}

@@ -6,6 +6,7 @@ ghost use Rattle.erd_compare.specs.code.KeyedDifferences.{IsComparable, IsKeyTab
 
 use crate::difference::Part;
 use crate::numbers::kept_tables::{KeyTables, PartTables};
+use crate::numbers::rising_keys::rising_keys;
 use crate::numbers::role_objects::{count, key_at, role_of};
 use erd_meaning::{Key, Report};
 use std::alloc::{AllocError, Global};
@@ -54,24 +55,6 @@ fn tables_of_part<'a>(
         others,
         numbers,
     })
-}
-
-/// The keys of the objects of a report in a part, rising, each with the position of its object.
-fn rising_keys<'a>(
-    alloc: Global,
-    report: &'a Report,
-    part: Part,
-) -> Result<Vec<(Option<&'a Key>, usize)>, AllocError>
-    requires comparable { IsComparable report.now.prefer (view report.now.tree) }
-    ensures { IfOk result (λ table. IsKeyTable report.now.prefer (view report.now.tree) (role_of_part part) table.items) }
-{
-    let role = role_of(part);
-    let mut table = Vec::with_capacity(alloc, count(report, role))?;
-    for index in 0..count(report, role) {
-        table.push((key_at(report, role, index), index))?;
-    }
-    table.sort_unstable();
-    Ok(table)
 }
 
 /// The numbers of the objects of the right report in a part, by their positions. An object whose key the left report has

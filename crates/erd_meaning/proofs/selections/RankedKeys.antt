@@ -1,8 +1,7 @@
 -- The ranks of keys are in the order of the keys, wherever objects of the family have the keys. The keys in the name of a
 -- selection are those of objects.
-use Rattle.std.proofs.Common.{◌≡◌, ℕ, inl, inr, List, [], ◌∷◌, map, filter, length, find, Bool, true, false, cond, Option, Some, None, is_some, option_and_then, option_map, codes, nat_cmp, is_lt, is_eq, refl, sym, ap, ap₂, ◌∙◌, subst}
+use Rattle.std.proofs.Common.{◌≡◌, ℕ, inl, inr, List, [], ◌∷◌, map, find, Bool, true, false, cond, Option, Some, None, is_some, option_and_then, option_map, codes, nat_cmp, is_eq, refl, sym, ap, ◌∙◌, subst}
 use Rattle.std.proofs.lemmas.Option.{slice_get-map}
-use Rattle.std.proofs.lemmas.Simd.{map-map}
 use Rattle.std.proofs.lemmas.Cmp.{on_total, tied_itself}
 use Rattle.std.specs.Cmp.{IsTotalOrder}
 use Rattle.std.specs.Cmp.Lexicographic.{options_total}
@@ -32,7 +31,6 @@ use denote.Ref.{Bor}
 use Rattle.erd_meaning.proofs.finding.Lookups.{ranked}
 use Rattle.erd_meaning.proofs.finding.OneObject.{hit, in_at, missed}
 use Rattle.erd_meaning.proofs.identity.KeyTests.{same_key_from}
-use Rattle.erd_meaning.proofs.orders.Counted.{count-rising, count_map}
 use Rattle.erd_meaning.proofs.orders.CountedKeys.{IsKeyOf, counted_as_key}
 use Rattle.erd_meaning.proofs.orders.RisingAlike.{all_rising, rising_alike}
 use Rattle.erd_meaning.proofs.orders.RisingLists.{rising_list_map}
@@ -41,7 +39,7 @@ use Rattle.erd_meaning.proofs.orders.RisingLists.{rising_list_map}
 pub lent_key_cmp_total : IsTotalOrder lent_key_cmp
 lent_key_cmp_total = options_total (on_total (λ k. k.now) key_cmp_total)
 
-copied_cmp : (k l : Option (Bor Key)) → lent_key_cmp k l ≡ option_cmp key_cmp (option_copied k) (option_copied l)
+pub copied_cmp : (k l : Option (Bor Key)) → lent_key_cmp k l ≡ option_cmp key_cmp (option_copied k) (option_copied l)
 copied_cmp None None = refl
 copied_cmp None (Some l) = refl
 copied_cmp (Some k) None = refl
@@ -130,29 +128,6 @@ module _ (ks : List Kept) (f : Family) where
       let at = key_at_number key i e in
       rank_there key i ranks are (ap (option_and_then (λ (k : Kept). k.key)) at.place ∙ at.keyed)
       ∙ sym (ap (λ o. cond (is_some o) (Some (rank_among ks f (Some key))) None) e)
-
-  -- the ranks that are counted among the sorted keys
-  pub ranks_counted : (keys copies rising : List (Option (Bor Key))) (ranks : List ℕ) → map option_copied keys ≡ map (λ k. k.key) (those_of f ks)
-      → map option_copied copies ≡ map (λ k. k.key) (those_of f ks) → rising ≡ rising_list lent_key_cmp copies
-      → ranks ≡ map (λ key. length (filter (λ k. is_lt (lent_key_cmp k key)) rising)) keys → AreRanks ks f ranks
-  ranks_counted keys copies rising ranks are copied sorted counted =
-      counted ∙ each keys
-      ∙ sym (map-map (λ key. rank_among ks f key) option_copied keys)
-      ∙ ap (map (λ key. rank_among ks f key)) are
-      ∙ map-map (λ key. rank_among ks f key) (λ (k : Kept). k.key) (those_of f ks)
-    where
-      one : (key : Option (Bor Key)) → length (filter (λ k. is_lt (lent_key_cmp k key)) rising) ≡ rank_among ks f (option_copied key)
-      one key =
-          ap (λ xs. length (filter (λ k. is_lt (lent_key_cmp k key)) xs)) sorted
-          ∙ count-rising lent_key_cmp (λ k. is_lt (lent_key_cmp k key)) copies
-          ∙ ap (λ (test : Option (Bor Key) → Bool). length (filter test copies)) (λ i k. is_lt (copied_cmp k key i))
-          ∙ sym (count_map option_copied (λ k. is_lt (option_cmp key_cmp k (option_copied key))) copies)
-          ∙ ap (λ xs. length (filter (λ k. is_lt (option_cmp key_cmp k (option_copied key))) xs)) copied
-          ∙ count_map (λ (k : Kept). k.key) (λ k. is_lt (option_cmp key_cmp k (option_copied key))) (those_of f ks)
-
-      each : (ls : List (Option (Bor Key))) → map (λ key. length (filter (λ k. is_lt (lent_key_cmp k key)) rising)) ls ≡ map (λ key. rank_among ks f (option_copied key)) ls
-      each [] = refl
-      each (l ∷ ls) = ap₂ (λ n ns. n ∷ ns) (one l) (each ls)
 
   -- ---- keys that references name
 

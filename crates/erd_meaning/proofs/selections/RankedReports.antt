@@ -1,6 +1,7 @@
 -- The names that a report keeps with ranks are those of its selections, with the ranks of their keys in the report.
 use Rattle.std.proofs.Common.{◌≡◌, ℕ, List, map, filter, length, cond, true, is_lt, Option, Some, None, option_map, slice_get, refl, sym, ap, ◌∙◌}
 use Rattle.std.proofs.lemmas.Option.{slice_get-map}
+use Rattle.std.proofs.lemmas.Simd.{map-map}
 use Rattle.std.specs.Option.{option_cmp}
 use Rattle.serde_json.specs.View.{view}
 use Rattle.serde_json.specs.declared.value.Value.{Value}
@@ -9,11 +10,12 @@ use Rattle.erd_tables.specs.declared.class.Class.TheVariants as class
 use Rattle.erd_tables.specs.declared.class.Family.{Family}
 use Rattle.erd_check.proofs.Order.{In-all}
 use Rattle.erd_meaning.specs.Keys.{Preference, has_keys, key_cmp, key_of}
-use Rattle.erd_meaning.specs.Lookups.{rank_of}
+use Rattle.erd_meaning.specs.Lookups.{positioned, rank_of, rising_keys}
 use Rattle.erd_meaning.specs.NameParts.{NameParts}
+use Rattle.erd_meaning.specs.SelectionNames.{rising_list}
 use Rattle.erd_meaning.specs.Objects.{Placed, objects}
 use Rattle.erd_meaning.specs.code.ObjectWalk.{Kept, kept}
-use Rattle.erd_meaning.specs.code.RankedNames.{AllAreRanked, IsRanked, PlacedName, RankedParts, family_chosen, names_of, rank_among, ranked_name, ranked_parts, ranked_selection_in}
+use Rattle.erd_meaning.specs.code.RankedNames.{AllAreRanked, IsRanked, PlacedName, RankedParts, family_chosen, names_of, rank_among, ranked_name, ranked_parts, ranked_selection_in, rising_keys_among}
 use Rattle.erd_meaning.specs.code.Resolved.{IsResolved}
 use Rattle.erd_meaning.specs.code.SelectionWalk.{NumberedName}
 use Rattle.erd_meaning.specs.code.Shown.{shown}
@@ -34,6 +36,11 @@ module _ (π : Preference) (v : Value) (os : List Object) (names : List Numbered
       ap (λ ks. length (filter (λ k. is_lt (option_cmp key_cmp k.key key)) ks)) (those_shown π v os names f r)
       ∙ count_map (λ (o : Placed). kept π f o.value) (λ (k : Kept). is_lt (option_cmp key_cmp k.key key)) (objects f (view v))
       ∙ ap (λ b. length (filter (λ (o : Placed). is_lt (option_cmp key_cmp (cond b (key_of π o.value) None) key)) (objects f (view v)))) keyed
+
+  pub rising_same : (f : Family) → rising_keys_among (map shown os) f ≡ rising_keys π (view v) f
+  rising_same f =
+      ap (λ (keys : List (Option Key)). rising_list (λ a b. option_cmp key_cmp a.0 b.0) (positioned 0 keys))
+      (ap (map (λ (k : Kept). k.key)) (those_shown π v os names f r) ∙ map-map (λ (k : Kept). k.key) (λ (o : Placed). kept π f o.value) (objects f (view v)))
 
   ranked_same : (n : NameParts) → ranked_parts (map shown os) n ≡ ranked_name π (view v) n
   ranked_same n i = record { name = n; ranks = map (λ key. rank_same (family_chosen n.class) (chosen_keyed n.class) (Some key) i) n.keys }

@@ -1,9 +1,9 @@
 -- Names of selections with the ranks of their keys. An index compares the ranks, so it takes no longer if keys are long. They
 -- do not define the profile: `RankedKeys` proves that equal ranks mean equal keys.
-use Rattle.std.specs.Prelude.{◌≡◌, ℕ, List, [], ◌∷◌, ◌++◌, Bool, true, false, ◌&&◌, ◌==◌, Option, Some, is_some, filter, length, map, option_map}
+use Rattle.std.specs.Prelude.{◌≡◌, ℕ, List, [], ◌∷◌, ◌++◌, Bool, true, false, ◌&&◌, ◌==◌, Option, Some, is_some, filter, length, map, option_and_then, option_map}
 use Rattle.std.specs.Hash.{HashWrites, usize}
-use Rattle.std.specs.List.{AllByRecursion, list_all}
-use Rattle.std.specs.Option.{option_cmp}
+use Rattle.std.specs.List.{AllByRecursion, list_all, slice_get}
+use Rattle.std.specs.Option.{option_cmp, option_copied}
 use Rattle.std.specs.Ordering.{eq_by_cmp, is_lt, nat_cmp, ordering_then}
 use Rattle.std.specs.declared.cmp.Ordering.{Ordering}
 use Rattle.serde_json.specs.Data.{Data}
@@ -12,10 +12,10 @@ use Rattle.erd_tables.specs.declared.class.Class.TheVariants as class
 use Rattle.erd_tables.specs.declared.class.Family.{Family}
 use Rattle.erd_tables.specs.declared.class.Family.TheVariants as family
 use Rattle.erd_meaning.specs.Keys.{Preference, key_cmp, key_of}
-use Rattle.erd_meaning.specs.Lookups.{rank_of, selection_in}
+use Rattle.erd_meaning.specs.Lookups.{positioned, rank_of, selection_in}
 use Rattle.erd_meaning.specs.NameParts.{NameParts}
 use Rattle.erd_meaning.specs.Objects.{IsObject, Placed}
-use Rattle.erd_meaning.specs.SelectionNames.{name_cmp}
+use Rattle.erd_meaning.specs.SelectionNames.{name_cmp, rising_list}
 use Rattle.erd_meaning.specs.code.NameHashes.{name_digest, name_writes}
 use Rattle.erd_meaning.specs.code.NamesAmong.{name_among}
 use Rattle.erd_meaning.specs.code.NumberedNames.{numbered_name_cmp, numbered_parts}
@@ -35,6 +35,23 @@ rank_among ks f key = length (filter (λ k. is_lt (option_cmp key_cmp k.key key)
 -- These are the ranks of the objects of the family, in the order of the report.
 abbrev pub AreRanks : List Kept → Family → List ℕ → Type 0
 AreRanks ks f ranks = ranks ≡ map (λ k. rank_among ks f k.key) (those_of f ks)
+
+-- The key of the object at this position of its family, or none if there is no such object or it has no key.
+abbrev pub key_at_among : List Kept → Family → ℕ → Option Key
+key_at_among ks f i = option_and_then (λ k. k.key) (slice_get (those_of f ks) i)
+
+-- The keys of the objects of the family in rising order, each with the position of its object.
+abbrev pub rising_keys_among : List Kept → Family → List (Option Key × ℕ)
+rising_keys_among ks f = rising_list (λ a b. option_cmp key_cmp a.0 b.0) (positioned 0 (map (λ k. k.key) (those_of f ks)))
+
+-- The positions are those of the objects of the family in the order of their keys, and these are the ranks of the objects.
+pub record IsKeyOrder (ks : List Kept) (f : Family) (positions ranks : List ℕ) : Type 0 where
+  pub positions_rise : positions ≡ map (λ p. p.1) (rising_keys_among ks f)
+  pub ranked : AreRanks ks f ranks
+
+-- Borrowed keys with positions, as contracts see them.
+abbrev pub seen_keys : List (Option (Bor Key) × ℕ) → List (Option Key × ℕ)
+seen_keys ps = map (λ p. (option_copied p.0, p.1)) ps
 
 -- Borrowed keys are compared by what they point to. None is less than any.
 abbrev pub lent_key_cmp : Option (Bor Key) → Option (Bor Key) → Ordering

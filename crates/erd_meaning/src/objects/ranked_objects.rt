@@ -3,25 +3,26 @@ ghost use Rattle.serde_json.specs.Find.{as_str};
 ghost use Rattle.serde_json.specs.View.{view};
 ghost use Rattle.erd_meaning.specs.code.NamesAmong.{key_among};
 ghost use Rattle.erd_meaning.specs.code.ObjectLookups.{those_of};
-ghost use Rattle.erd_meaning.specs.code.RankedNames.{AreRanks, family_chosen, is_key_among, rank_among, ranked_key};
+ghost use Rattle.erd_meaning.specs.code.RankedNames.{AreRanks, family_chosen, is_key_among, rank_among, ranked_key, rising_keys_among, seen_keys};
 ghost use Rattle.erd_meaning.specs.code.Shown.{shown};
 
 use crate::keys::key::Key;
 use crate::keys::shared_key::SharedKey;
-use crate::objects::key_ranks::key_ranks;
+use crate::objects::key_order::{KeyOrder, key_order};
+use crate::objects::rising_keys::{keys_at, rising_keys};
 use crate::objects::table::ObjectTable;
 use erd_tables::{Class, Family};
 use serde_json::Value;
 use std::alloc::{AllocError, Global};
 use std::marker::Model;
 
-/// The objects of a report, with the ranks of the candidates and of the parties in the order of their keys. Names of
-/// selections are compared by these ranks. Contracts see the objects.
+/// The objects of a report, with the order of the candidates and that of the parties by their keys. Names of selections are
+/// compared by the ranks in these orders. Contracts see the objects.
 #[derive(Debug, Drop)]
 pub(crate) struct RankedObjects<'a> {
     table: ObjectTable<'a>,
-    candidates: Vec<usize>,
-    parties: Vec<usize>,
+    candidates: KeyOrder,
+    parties: KeyOrder,
 }
 
 impl<'a> Model for RankedObjects<'a> {
@@ -30,7 +31,7 @@ impl<'a> Model for RankedObjects<'a> {
     ghost use Rattle.serde_json.specs.contracts.value.Value as tree_value;
     ghost use Rattle.erd_tables.specs.declared.class.Family.TheVariants as family;
     ghost use Rattle.erd_meaning.specs.declared.objects.object.Object.{Object};
-    ghost use Rattle.erd_meaning.specs.code.RankedNames.{AreRanks};
+    ghost use Rattle.erd_meaning.specs.code.RankedNames.{IsKeyOrder};
     ghost use Rattle.erd_meaning.specs.code.Shown.{shown};
 
     ghost Value = { List Object };
@@ -39,17 +40,17 @@ impl<'a> Model for RankedObjects<'a> {
 
     ghost view = { λ r. r.table };
 
-    ghost invariant = { λ r. AreRanks (map shown r.table) family.Candidate r.candidates.items
-        × AreRanks (map shown r.table) family.Party r.parties.items };
+    ghost invariant = { λ r. IsKeyOrder (map shown r.table) family.Candidate r.candidates.positions.items r.candidates.ranks.items
+        × IsKeyOrder (map shown r.table) family.Party r.parties.positions.items r.parties.ranks.items };
 }
 
 impl<'a> RankedObjects<'a> {
-    /// Returns the objects, with the ranks of candidates and parties.
+    /// Returns the objects, with the orders of candidates and parties by key.
     pub(crate) fn of(alloc: Global, table: ObjectTable<'a>) -> Result<RankedObjects<'a>, AllocError>
         ensures { IfOk result (λ ranked. ranked ≡ table.entry) }
     {
-        let candidates = key_ranks(alloc, &table, Family::Candidate)?;
-        let parties = key_ranks(alloc, &table, Family::Party)?;
+        let candidates = key_order(alloc, &table, Family::Candidate)?;
+        let parties = key_order(alloc, &table, Family::Party)?;
         Ok(RankedObjects {
             table,
             candidates,
@@ -104,9 +105,26 @@ impl<'a> RankedObjects<'a> {
         ensures { AreRanks (map shown self.now) (family_chosen class) result.now }
     {
         match class {
-            Class::PartySelection => &self.parties,
-            _ => &self.candidates,
+            Class::PartySelection => &self.parties.ranks,
+            _ => &self.candidates.ranks,
         }
+    }
+
+    /// Returns the keys of the objects of the family in rising order, each with the position of its object. Those of
+    /// candidates and of parties are sorted already.
+    pub(crate) fn rising_keys(
+        &self,
+        alloc: Global,
+        family: Family,
+    ) -> Result<Vec<(Option<&Key>, usize)>, AllocError>
+        ensures { IfOk result (λ rising. seen_keys rising.items ≡ rising_keys_among (map shown self.now) family) }
+    {
+        let sorted = match family {
+            Family::Candidate => &self.candidates.positions,
+            Family::Party => &self.parties.positions,
+            _ => return rising_keys(alloc, &self.table, family),
+        };
+        keys_at(alloc, &self.table, family, sorted)
     }
 }
 

@@ -12,7 +12,8 @@ use Rattle.erd_normal.proofs.ranks.Numbered.{number_of}
 use Rattle.erd_normal.proofs.lists.RisingSets.{length-rising}
 use Rattle.erd_normal.proofs.lists.StableRising.{by_first}
 use Rattle.erd_normal.specs.code.Building.{numbered}
-use Rattle.erd_normal.specs.code.KeyRanks.{places_of, positioned}
+use Rattle.erd_normal.specs.code.KeyRanks.{places_of}
+use Rattle.erd_meaning.specs.Lookups.{positioned}
 
 -- ---- lengths
 

@@ -1,12 +1,11 @@
 -- Values with their keys and positions, one after another.
-use Rattle.std.proofs.Common.{◌≡◌, ℕ, zero, suc, ◌+◌, List, [], ◌∷◌, ◌++◌, drop, length, true, cond, Option, Some, None, option_and_then, option_map, append_assoc, add-one, refl, sym, ap, ◌∙◌}
+use Rattle.std.proofs.Common.{◌≡◌, ℕ, zero, suc, ◌+◌, List, [], ◌∷◌, ◌++◌, drop, length, Option, Some, None, option_and_then, option_map, append_assoc, add-one, refl, sym, ap, ◌∙◌}
 use Rattle.std.proofs.lemmas.List.{append-nil}
 use Rattle.std.specs.List.{slice_get}
 use Rattle.serde_json.specs.Data.{Data}
-use Rattle.erd_tables.specs.declared.class.Family.{Family}
-use Rattle.erd_meaning.specs.Keys.{Preference, has_keys, key_of, key_of_family_object}
-use Rattle.erd_meaning.specs.Lookups.{election_key_in, key_in}
-use Rattle.erd_meaning.specs.Objects.{Placed, elections, objects}
+use Rattle.erd_meaning.specs.Keys.{Preference, key_of}
+use Rattle.erd_meaning.specs.Lookups.{election_key_in}
+use Rattle.erd_meaning.specs.Objects.{Placed, elections}
 use Rattle.erd_normal.specs.code.KeyRanks.{keyed_from}
 
 -- ---- what is left of a list
@@ -54,15 +53,7 @@ module _ {K : Type 0} (key : Data → K) (ds : List Data) (built all : List (K �
   pub keyed_all : built ++ keyed_from key (length ds) (drop (length ds) ds) ≡ all → built ≡ all
   keyed_all h = sym (append-nil built) ∙ (ap (λ left. built ++ keyed_from key (length ds) left) (sym (all_dropped ds)) ∙ h)
 
--- the key that is lent for the object at a position
-pub key_lent : (π : Preference) (f : Family) (t : Data) (i : ℕ) (d : Data) → has_keys f ≡ true → option_map (λ o. o.value) (slice_get (objects f t) i) ≡ Some d → key_in π f t i ≡ key_of π d
-key_lent π f t i d keyed e = at (slice_get (objects f t) i) e
-  where
-    at : (o : Option Placed) → option_map (λ o. o.value) o ≡ Some d → option_and_then (λ o. key_of_family_object π f o.value) o ≡ key_of π d
-    at None e = cc
-    at (Some o) e = let same : o.value ≡ d = cc in ap (λ b. cond b (key_of π o.value) None) keyed ∙ ap (key_of π) same
-
--- and for the election at a position
+-- the key that is lent for the election at a position
 pub election_key_lent : (π : Preference) (t : Data) (i : ℕ) (d : Data) → option_map (λ e. e.value) (slice_get (elections t) i) ≡ Some d → election_key_in π t i ≡ key_of π d
 election_key_lent π t i d e = at (slice_get (elections t) i) e
   where

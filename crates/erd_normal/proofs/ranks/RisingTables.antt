@@ -12,7 +12,8 @@ use Rattle.erd_normal.proofs.lists.RisingSets.{In-rising}
 use Rattle.erd_normal.proofs.lists.StableRising.{by_first, map_after, map_back, rising_from_stable}
 use Rattle.erd_normal.specs.StableOrder.{IsStablySorted}
 use Rattle.erd_normal.specs.code.Building.{numbered}
-use Rattle.erd_normal.specs.code.KeyRanks.{keyed_from, keyed_value, places_by, places_of, positioned, rising_table}
+use Rattle.erd_normal.specs.code.KeyRanks.{keyed_from, keyed_value, places_by, places_of, rising_table}
+use Rattle.erd_meaning.specs.Lookups.{positioned}
 
 -- a key with its position, and a key with its value
 abbrev pub place_in : {K V : Type 0} → K × (ℕ × V) → K × ℕ
@@ -34,7 +35,7 @@ module _ {K : Type 0} (cmp : K → K → Ordering) where
     abbrev beside_key : Data → K × Data
     beside_key d = (key d, d)
 
-    keyed_places : (i : ℕ) (ds : List Data) → map place_in (keyed_from key i ds) ≡ positioned i (map key ds)
+    pub keyed_places : (i : ℕ) (ds : List Data) → map place_in (keyed_from key i ds) ≡ positioned i (map key ds)
     keyed_places i [] = refl
     keyed_places i (d ∷ ds) = ap (λ ps. (key d, i) ∷ ps) (keyed_places (i + 1) ds)
 

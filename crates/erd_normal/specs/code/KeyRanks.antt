@@ -7,7 +7,7 @@ use Rattle.serde_json.specs.Data.{Data}
 use Rattle.erd_tables.specs.declared.class.Family.{Family}
 use Rattle.erd_check.specs.Values.{entries_at}
 use Rattle.erd_meaning.specs.Keys.{Preference, has_keys, key_cmp, key_of}
-use Rattle.erd_meaning.specs.Lookups.{selection_in}
+use Rattle.erd_meaning.specs.Lookups.{positioned, selection_in}
 use Rattle.erd_meaning.specs.NameParts.{NameParts}
 use Rattle.erd_meaning.specs.Objects.{contests, elections, objects}
 use Rattle.erd_meaning.specs.SelectionNames.{name_cmp, name_of, rising_list}
@@ -62,11 +62,6 @@ abbrev pub rising_at : Preference → Data → ℕ → List (Option NameParts ×
 rising_at π t i = option_map_or (λ o. rising_in_contest π t o.value) (slice_get (contests t) i) []
 
 -- ---- the places of keys
-
--- The keys with their positions. The first stands at position i.
-abbrev pub positioned : {K : Type 0} → ℕ → List K → List (K × ℕ)
-positioned i [] = []
-positioned i (k ∷ ks) = (k, i) ∷ positioned (i + 1) ks
 
 -- The places of the pairs, counted from 1. Each place stands at the position that its pair names.
 abbrev pub places_by : {K : Type 0} → List (K × ℕ) → List ℕ

@@ -296,6 +296,58 @@ fn look_ups(rt: HostRuntime) -> Result<(), Fail> {
     Ok(())
 }
 
+// The keys of a family in rising order have these values, and their objects these positions.
+fn rise(
+    alloc: Global,
+    report: &Report,
+    family: Family,
+    wanted: &[(&str, usize)],
+) -> Result<(), Fail> {
+    let rising = report.rising_keys(alloc, family)?;
+    if rising.len() != wanted.len() {
+        return Err(Fail::from("another number of keys"));
+    }
+    for (index, (value, position)) in wanted.iter().enumerate() {
+        let wanted_key = key(alloc, "local-level", "", value)?;
+        match rising.get(index) {
+            Some((Some(found), at)) if **found == wanted_key && *at == *position => {}
+            _ => return Err(Fail::from(*value)),
+        }
+    }
+    Ok(())
+}
+
+// The small ballot lists neither its units nor its candidates in the order of their keys.
+#[test]
+fn rising_keys(rt: HostRuntime) -> Result<(), Fail> {
+    let alloc = rt.alloc();
+    let tree = Value::from_str(alloc, SMALL_BALLOT)?;
+    let Ok(shaped) = shape(alloc, &tree) else {
+        return Err(Fail::from("a fault of the shape"));
+    };
+    let Ok(report) = resolve(alloc, shaped) else {
+        return Err(Fail::from("a fault"));
+    };
+    rise(alloc, &report, Family::Unit, &[("U1", 1), ("U2", 0)])?;
+    rise(alloc, &report, Family::Party, &[("P1", 0)])?;
+    rise(
+        alloc,
+        &report,
+        Family::Candidate,
+        &[("K1", 1), ("K2", 2), ("K3", 0)],
+    )?;
+    rise(alloc, &report, Family::Contest, &[("C1", 0), ("C2", 1)])?;
+    // Selections have no keys.
+    let selections = report.rising_keys(alloc, Family::Selection)?;
+    assert!(rt; selections.len() == 5);
+    assert!(rt;
+        selections
+            .get(4)
+            .is_some_and(|last| last.0.is_none() && last.1 == 4)
+    );
+    Ok(())
+}
+
 fn has_one_election(report: &Report, wanted: &Key) -> bool {
     let held = [
         report.election_of(Family::Candidate, 2),

@@ -1,13 +1,12 @@
-use Rattle.std.proofs.Common.{◌≡◌, ◌++◌, ◌+◌, ◌<◌, ◌≤◌, ◌∷◌, [], List, ℕ, Option, Some, drop, length, option_and_then, sym, ap, ap₂, ◌∙◌, subst}
+use Rattle.std.proofs.Common.{◌<◌, ◌≤◌, Option, Some, length, option_and_then, sym, ap, ◌∙◌, subst}
 use Rattle.serde_json.specs.View.{view}
-use Rattle.indexmap.specs.IndexSet.{insert_key}
 use Rattle.erd_tables.specs.declared.class.Family.TheVariants as family
 use Rattle.erd_meaning.specs.Objects.{Placed, objects}
 use Rattle.erd_meaning.specs.code.NumberedNames.{NumberedParts, numbered_name_cmp}
 use Rattle.erd_meaning.specs.code.NumberedOrders.{numbered_name_cmp_exact, numbered_name_cmp_total}
 use Rattle.erd_meaning.proofs.finding.OneObject.{at_low}
-use Rattle.erd_compare.specs.code.CommonNames.{name_eq, name_told}
-use Rattle.erd_compare.proofs.same_numbers.InsertedKeys.{IsAdding, next_none, next_one, none_left}
+use Rattle.erd_compare.specs.code.CommonNames.{name_told}
+use Rattle.erd_compare.proofs.same_numbers.InsertedKeys.{next_none, next_one, none_left}
 use Rattle.erd_compare.proofs.numbers.name_numbers.numbers_of_names.Goals as goal
 use Rattle.erd_compare.proofs.numbers.name_numbers.numbers_of_names.Goals.{in-Some+in_ok-insert_full-in-Some, in-None}
 

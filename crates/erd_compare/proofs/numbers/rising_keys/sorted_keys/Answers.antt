@@ -3,7 +3,7 @@ use Rattle.std.specs.Option.{option_copied}
 use Rattle.serde_json.specs.View.{view}
 use Rattle.erd_compare.specs.code.KeyedDifferences.{key_in_role, objects_in, role_of_part}
 use Rattle.erd_compare.proofs.least_difference.KeyTables.{Entry, ListsKeys, key_here, none_listed, one_more, table_sorted}
-use Rattle.erd_compare.proofs.numbers.making.rising_keys.Goals as goal
+use Rattle.erd_compare.proofs.numbers.rising_keys.sorted_keys.Goals as goal
 
 pub loop-index-init : goal.loop-index-init
 loop-index-init c =
