@@ -1,12 +1,8 @@
--- Lists in rising order, lists whose entries are distinct, and what is found in them.
-pub mod Reordered
-pub mod RisingSets
-pub mod RisingOrders
+-- Lists in rising order, and what is found in them.
 pub mod FilteredRising
 pub mod RisingAgain
 pub mod RisingRanks
 pub mod NumbersInOrder
-pub mod DistinctEntries
 pub mod StableSorts
 pub mod StableRising
 pub mod BuiltLists

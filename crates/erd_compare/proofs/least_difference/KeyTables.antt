@@ -66,14 +66,6 @@ more : (π : Preference) (t : Data) (r : Role) (n : ℕ) (es : List Entry) → A
 more π t r n [] h = tt
 more π t r n (e ∷ es) h = (record { stands = h.0.stands; low = omega (arith, h.0.low) }, more π t r n es h.1)
 
--- keys that differ are not equal in their order
-pub unequal : (a b : Option Key) → (a ≡ b → ⊥) → eq_by_cmp by_key a b ≡ false
-unequal a b apart = at (eq_by_cmp by_key a b) refl
-  where
-    at : (o : Bool) → eq_by_cmp by_key a b ≡ o → eq_by_cmp by_key a b ≡ false
-    at true is = absurd (apart (options_exact key_cmp equal_keys a b is))
-    at false is = is
-
 -- one more key, which differs from each that is listed
 apart_more : (ks : List (Option Key)) (k : Option Key) → IsDistinct (eq_by_cmp by_key) ks → ((l : Option Key) → In l ks → l ≡ k → ⊥) → IsDistinct (eq_by_cmp by_key) (ks ++ k ∷ [])
 unfolding IsDistinct
@@ -85,6 +77,13 @@ apart_more (l ∷ ls) k h other = (
       (In-append j ls (k ∷ []) inside)),
   apart_more ls k h.1 (λ j i. other j (inr i)),
 )
+  where
+    unequal : (a b : Option Key) → (a ≡ b → ⊥) → eq_by_cmp by_key a b ≡ false
+    unequal a b apart = at (eq_by_cmp by_key a b) refl
+      where
+        at : (o : Bool) → eq_by_cmp by_key a b ≡ o → eq_by_cmp by_key a b ≡ false
+        at true is = absurd (apart (options_exact key_cmp equal_keys a b is))
+        at false is = is
 
 map_more : {A B : Type 0} (g : A → B) (xs : List A) (x : A) → map g (xs ++ x ∷ []) ≡ map g xs ++ g x ∷ []
 map_more g [] x = refl

@@ -10,7 +10,7 @@ use Rattle.erd_tables.specs.declared.place.Step.TheVariants.{Name, At}
 use Rattle.erd_check.specs.code.Paths.{fault_at}
 use Rattle.erd_check.proofs.Reports.{tree_of, one_unit, three_contests, two_elections}
 use Rattle.erd_meaning.specs.Keys.{Preference}
-use Rattle.erd_meaning.specs.Lookups.{election_in, election_key_in, key_in, selection_in}
+use Rattle.erd_meaning.specs.Lookups.{election_in, election_key_in, key_in, rising_keys, selection_in}
 use Rattle.erd_meaning.specs.Objects.{election_of_place, has_several, needs_key}
 use Rattle.erd_meaning.specs.declared.keys.key.Key.{Key}
 use Rattle.erd_meaning.proofs.examples.RecordExamples.{local_key}
@@ -58,6 +58,11 @@ contests_in_elections : (map (key_in None family.Contest (tree_of three_contests
     × (keys_at None (tree_of three_contests) ≡ Some (local_key (codes "E2")) ∷ Some (local_key (codes "E1")) ∷ None ∷ [])
 unfolding serde_json_on_literals
 contests_in_elections = (refl, refl, refl)
+
+-- in the order of their keys, each with its position
+contests_rise : rising_keys None (tree_of three_contests) family.Contest ≡ (Some (local_key (codes "C1")), 2) ∷ (Some (local_key (codes "C2")), 0) ∷ (Some (local_key (codes "C3")), 1) ∷ []
+unfolding serde_json_on_literals
+contests_rise = refl
 
 -- a unit is in no election
 unit_in_none : election_in family.Unit (tree_of three_contests) 0 ≡ None

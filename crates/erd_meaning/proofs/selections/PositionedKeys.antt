@@ -36,7 +36,12 @@ positioned-append {K} i (l ∷ ks) k =
     let next : i + 1 + length ks ≡ i + length (l ∷ ks) = omega arith in
     ap (λ ps. (l, i) ∷ ps) (positioned-append (i + 1) ks k ∙ ap (λ n. positioned (i + 1) ks ++ (k, n) ∷ []) next)
 
--- the positions leave the keys
+-- without the positions, the keys are left
+pub positioned_keys : {K : Type 0} (i : ℕ) (ks : List K) → map (λ (p : K × ℕ). p.0) (positioned i ks) ≡ ks
+positioned_keys i [] = refl
+positioned_keys i (k ∷ ks) = ap (λ ls. k ∷ ls) (positioned_keys (i + 1) ks)
+
+-- as many pass a test
 pub count_positioned : {K : Type 0} (test : K → Bool) (i : ℕ) (ks : List K) → length (filter (λ (p : K × ℕ). test p.0) (positioned i ks)) ≡ length (filter test ks)
 count_positioned test i [] = refl
 count_positioned {K} test i (k ∷ ks) = at (test k) (count_positioned test (i + 1) ks)

@@ -25,7 +25,7 @@ use Rattle.erd_meaning.specs.declared.keys.key.Key.{Key}
 use Rattle.erd_normal.specs.code.NormalTree.{normal_election, normal_object, normal_selection}
 use Rattle.erd_normal.proofs.built.NormalEntries.{entries_of_identifiers, identifiers_of_election, selection_identifiers}
 use Rattle.erd_normal.proofs.built.NormalGets.{class_has_role}
-use Rattle.erd_normal.proofs.lists.Reordered.{Reordered, reordered_rising, whole-reordered}
+use Rattle.erd_meaning.proofs.orders.Reordered.{Reordered, reordered_rising, whole-reordered}
 
 -- ---- the lesser of two
 

@@ -24,7 +24,7 @@ use Rattle.erd_normal.specs.code.NormalTree.{by_key, by_name, normal_election, n
 use Rattle.erd_normal.proofs.built.NormalEntries.{entries_of_election, entries_of_elections, entries_of_report, entries_of_selections}
 use Rattle.erd_normal.proofs.built.NormalGets.{class_has_role}
 use Rattle.erd_normal.proofs.lists.Matched.{Matched, matched_flat, matched_map, matched_then}
-use Rattle.erd_normal.proofs.lists.Reordered.{reordered_map, reordered_rising}
+use Rattle.erd_meaning.proofs.orders.Reordered.{reordered_map, reordered_rising}
 
 -- the objects of a family, without their places
 abbrev pub values_of : Family → Data → List Data

@@ -27,8 +27,8 @@ use Rattle.erd_meaning.proofs.accepted.Phases.{no_identity_fault}
 use Rattle.erd_meaning.proofs.accepted.References.{has_identifier}
 use Rattle.erd_meaning.proofs.accepted.Standing.{flat-has, one_named, stands}
 use Rattle.erd_normal.specs.code.NormalTree.{by_key, by_name}
-use Rattle.erd_normal.proofs.lists.DistinctEntries.{distinct_from_one_place, distinct_map}
-use Rattle.erd_normal.proofs.lists.RisingSets.{has_from_In}
+use Rattle.erd_meaning.proofs.orders.DistinctEntries.{distinct_from_one_place, distinct_map}
+use Rattle.erd_meaning.proofs.orders.RisingSets.{has_from_In}
 use Rattle.erd_normal.proofs.unique.Selections.{has_name}
 use Rattle.erd_meaning.proofs.accepted.Skeleton.{values-placed_entries, values-placed_from}
 use Rattle.erd_meaning.proofs.finding.TwinElections.{one_election_key}

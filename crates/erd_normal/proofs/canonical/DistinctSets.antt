@@ -38,8 +38,8 @@ use Rattle.erd_meaning.proofs.accepted.References.{resolves}
 use Rattle.erd_meaning.proofs.accepted.Standing.{one_keyed, owned_by}
 use Rattle.erd_normal.specs.code.NormalTree.{reference_cmp}
 use Rattle.erd_normal.proofs.unique.Arrays.{Names}
-use Rattle.erd_normal.proofs.lists.DistinctEntries.{unrepeated_by_cmp}
-use Rattle.erd_normal.proofs.lists.RisingSets.{has_from_In}
+use Rattle.erd_meaning.proofs.orders.DistinctEntries.{unrepeated_by_cmp}
+use Rattle.erd_meaning.proofs.orders.RisingSets.{has_from_In}
 use Rattle.erd_check.proofs.Options.{and_then-Some}
 
 -- ---- sets of references

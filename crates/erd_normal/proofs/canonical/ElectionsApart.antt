@@ -17,7 +17,7 @@ use Rattle.erd_meaning.proofs.accepted.KeyedElections.{election_has_identifier}
 use Rattle.erd_meaning.proofs.accepted.Phases.{no_identity_fault}
 use Rattle.erd_meaning.proofs.finding.TwinElections.{one_election_key}
 use Rattle.erd_meaning.proofs.identity.KeyTests.{same_key_from}
-use Rattle.erd_normal.proofs.lists.DistinctEntries.{distinct_from_one_place, distinct_map, distinct_one}
+use Rattle.erd_meaning.proofs.orders.DistinctEntries.{distinct_from_one_place, distinct_map, distinct_one}
 use Rattle.erd_normal.proofs.lists.Matched.{IsEven, Matched, distinct_matched, matched_back, matched_length}
 
 -- the elections of a report, without their places

@@ -20,7 +20,7 @@ use Rattle.erd_meaning.specs.SelectionNames.{compact_cmp, rising_list, with_risi
 use Rattle.erd_normal.specs.Canonical.{HasNoEmptyArray, kind_wanted}
 use Rattle.erd_normal.specs.code.NormalTree.{array_of, by_key, by_name, normal_content, normal_election, normal_nodes, normal_object, normal_reference, normal_selection, normal_selection_reference, normal_tree, reference_cmp}
 use Rattle.erd_normal.proofs.lists.BuiltLists.{as_empty}
-use Rattle.erd_normal.proofs.lists.RisingSets.{length-rising}
+use Rattle.erd_meaning.proofs.orders.RisingSets.{length-rising}
 use Rattle.erd_normal.proofs.throughout.ThroughoutMembers.{HoldsOfMembers}
 use Rattle.erd_normal.proofs.throughout.ThroughoutObjects.{HoldsOfObjects}
 use Rattle.erd_normal.proofs.throughout.ThroughoutReports.{HoldsOfBuilt, holds_of_built}

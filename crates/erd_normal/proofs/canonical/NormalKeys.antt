@@ -27,7 +27,7 @@ use Rattle.erd_normal.specs.Canonical.{canonical_id}
 use Rattle.erd_meaning.specs.Lookups.{rank_of}
 use Rattle.erd_normal.specs.code.NormalTree.{by_key, normal_object, normal_tree}
 use Rattle.erd_normal.proofs.lists.BuiltLists.{all_map}
-use Rattle.erd_normal.proofs.lists.DistinctEntries.{distinct_one}
+use Rattle.erd_meaning.proofs.orders.DistinctEntries.{distinct_one}
 use Rattle.erd_normal.proofs.lists.KeyedRanks.{rank_exact, rank_low}
 use Rattle.erd_normal.proofs.lists.Matched.{Matched, distinct_matched, even_order, matched_back, matched_count, matched_length, matched_on, matched_within}
 use Rattle.erd_normal.proofs.lists.RisingRanks.{rank_map}

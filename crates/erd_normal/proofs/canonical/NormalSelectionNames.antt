@@ -21,7 +21,7 @@ use Rattle.erd_normal.proofs.canonical.RisingReports.{selection_ranks}
 use Rattle.erd_normal.proofs.canonical.NormalKeys.{object_from}
 use Rattle.erd_normal.proofs.canonical.SelectionIds.{listed, selection_values, selections_there}
 use Rattle.erd_check.proofs.Positions.{same_in_some, map_has, has_at, position_of}
-use Rattle.erd_normal.proofs.lists.RisingSets.{has_rising}
+use Rattle.erd_meaning.proofs.orders.RisingSets.{has_rising}
 
 module _ (π : Preference) (t : Data) (accepted : IsAccepted π t) (tree : IsTree t) (bounded : IsBounded t) where
   module _ (contest p : Placed) (of_report : Has (objects family.Contest t) contest) (is : normal_object π t family.Contest contest.value ≡ p.value) where

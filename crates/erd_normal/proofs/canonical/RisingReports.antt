@@ -33,7 +33,7 @@ use Rattle.erd_normal.proofs.canonical.DistinctSets.{json_values_distinct, refer
 use Rattle.erd_normal.proofs.texts.FittingNumbers.{entry-fitting}
 use Rattle.erd_normal.proofs.unique.Labels.{identifier_simple, language_simple}
 use Rattle.erd_normal.proofs.lists.ListParts.{IsPart, part_distinct}
-use Rattle.erd_normal.proofs.lists.RisingOrders.{rising_strictly}
+use Rattle.erd_meaning.proofs.orders.RisingOrders.{rising_strictly}
 use Rattle.erd_normal.proofs.lists.RisingRanks.{rank_by_at, rank_map}
 
 pub by_key_total : (π : Preference) → IsTotalOrder (by_key π)

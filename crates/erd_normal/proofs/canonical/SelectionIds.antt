@@ -27,7 +27,7 @@ use Rattle.erd_normal.proofs.built.NormalObjects.{selections_built}
 use Rattle.erd_normal.proofs.canonical.NormalSelections.{selection_ids}
 use Rattle.erd_normal.proofs.canonical.SelectionTexts.{canonical_selection_id_exact}
 use Rattle.erd_check.proofs.Positions.{same_in_some, has_mapped, map_has, position_of, position_low}
-use Rattle.erd_normal.proofs.lists.RisingSets.{rising_has, length-rising}
+use Rattle.erd_meaning.proofs.orders.RisingSets.{rising_has, length-rising}
 
 -- ---- what stands in the report that is built
 

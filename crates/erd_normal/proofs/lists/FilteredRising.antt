@@ -3,7 +3,7 @@ use Rattle.std.proofs.Common.{◌≡◌, List, [], ◌∷◌, filter, Bool, true
 use Rattle.std.specs.Cmp.{IsTotalOrder}
 use Rattle.std.specs.List.{AllByRecursion}
 use Rattle.erd_meaning.specs.SelectionNames.{rising_list, with_inserted}
-use Rattle.erd_normal.proofs.lists.RisingOrders.{NeverFalls, rising_never_falls}
+use Rattle.erd_meaning.proofs.orders.RisingOrders.{NeverFalls, rising_never_falls}
 use Rattle.erd_check.proofs.Positions.{all_weakened}
 
 -- what holds of all holds of those that are kept

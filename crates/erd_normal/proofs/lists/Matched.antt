@@ -8,7 +8,7 @@ use Rattle.erd_check.proofs.Shapes.{false_unless}
 use Rattle.erd_check.proofs.Rising.{Has, here, later}
 use Rattle.erd_normal.proofs.lists.FoundBuilt.{AreApart}
 use Rattle.erd_normal.proofs.lists.Paired.{Paired, none, more}
-use Rattle.erd_normal.proofs.lists.Reordered.{Reordered, no_entry, one_kept, two_exchanged, in_turn, any-reordered, count-reordered, length-reordered, reordered_after, reordered_back, reordered_before, reordered_flat, reordered-has, reordered_map, reordered_self}
+use Rattle.erd_meaning.proofs.orders.Reordered.{Reordered, no_entry, one_kept, two_exchanged, in_turn, any-reordered, count-reordered, length-reordered, reordered_after, reordered_back, reordered_before, reordered_flat, reordered-has, reordered_map, reordered_self}
 
 -- the entries of the one list are related to those of the other, each to one, in some order
 pub record Matched {A B : Type 0} (R : A → B → Type 0) (xs : List A) (ys : List B) : Type 0 where

@@ -9,10 +9,10 @@ use Rattle.std.specs.Ordering.{ordering_reverse}
 use Rattle.erd_meaning.proofs.orders.RisingLists.{rising_from_sort}
 use Rattle.erd_meaning.specs.SelectionNames.{rising_list, with_inserted}
 use Rattle.erd_normal.proofs.lists.BuiltLists.{all_map}
-use Rattle.erd_normal.proofs.lists.Reordered.{Reordered, in_turn, length-reordered, reordered_back, reordered_map, reordered_rising, reordered_self, reordered_swap}
+use Rattle.erd_meaning.proofs.orders.Reordered.{Reordered, in_turn, length-reordered, reordered_back, reordered_map, reordered_rising, reordered_self, reordered_swap}
 use Rattle.erd_normal.proofs.lists.RisingAgain.{rising-reordered}
 use Rattle.erd_meaning.proofs.orders.InsertedValues.{is_less}
-use Rattle.erd_normal.proofs.lists.RisingOrders.{NeverFalls, rising_never_falls}
+use Rattle.erd_meaning.proofs.orders.RisingOrders.{NeverFalls, rising_never_falls}
 
 -- ---- exchanges
 

@@ -10,7 +10,7 @@ use Rattle.erd_meaning.specs.Keys.{Preference, key_cmp}
 use Rattle.erd_meaning.proofs.orders.InsertedValues.{inserted_exchange}
 use Rattle.erd_meaning.specs.code.Orders.{key_cmp_exact, key_cmp_total}
 use Rattle.erd_meaning.specs.SelectionNames.{key_named, keys_named, rising_list, with_inserted}
-use Rattle.erd_normal.proofs.lists.Reordered.{Reordered, reordered_rising, whole-reordered}
+use Rattle.erd_meaning.proofs.orders.Reordered.{Reordered, reordered_rising, whole-reordered}
 
 module _ {A : Type 0} {cmp : A → A → Ordering} (order : IsTotalOrder cmp) (exact : CmpEqualImpliesEq cmp) where
   abbrev with_kept : Option A → List A → List A

@@ -8,10 +8,10 @@ use Rattle.std.proofs.lemmas.Cmp.{on_total, tied_itself}
 use Rattle.erd_check.proofs.Order.{In, In-all, all_from_In}
 use Rattle.erd_meaning.proofs.finding.OneObject.{in_at}
 use Rattle.erd_meaning.specs.SelectionNames.{rising_list}
-use Rattle.erd_normal.proofs.lists.RisingSets.{rising-In}
+use Rattle.erd_meaning.proofs.orders.RisingSets.{rising-In}
 use Rattle.erd_meaning.proofs.orders.Counted.{count-rising, count_map}
 use Rattle.erd_meaning.proofs.orders.InsertedValues.{less_turned}
-use Rattle.erd_normal.proofs.lists.RisingOrders.{rising_strictly}
+use Rattle.erd_meaning.proofs.orders.RisingOrders.{rising_strictly}
 
 -- how many entries of a list are below a value
 abbrev pub rank_in : {A : Type 0} → (A → A → Ordering) → A → List A → ℕ

@@ -28,7 +28,7 @@ use Rattle.erd_meaning.proofs.meanings.WholeMeanings.{same_meaning}
 use Rattle.erd_meaning.proofs.orders.EqualNames.{equal_keys, options_exact}
 use Rattle.erd_normal.specs.code.NormalTree.{by_key}
 use Rattle.erd_normal.proofs.canonical.DistinctObjects.{elections_distinct, objects_distinct}
-use Rattle.erd_normal.proofs.lists.DistinctEntries.{distinct_map}
+use Rattle.erd_meaning.proofs.orders.DistinctEntries.{distinct_map}
 use Rattle.erd_normal.proofs.lists.FoundBuilt.{find_values}
 use Rattle.erd_normal.proofs.lists.Matched.{AtMostOne, Matched, apart_distinct, matched_find, matched_flat, matched_mapped, one_if_apart, said_same}
 

@@ -49,7 +49,7 @@ use Rattle.erd_normal.proofs.meaning.MeantValues.{arranged_meant, nothing_of, re
 use Rattle.erd_normal.proofs.built.NormalGets.{class_of_built, class_of_built_selection, get_object, get_selection, kind_of_family_id}
 use Rattle.erd_normal.proofs.unique.Records.{record_with-Some}
 use Rattle.erd_check.proofs.Positions.{all_by_entry}
-use Rattle.erd_normal.proofs.lists.RisingSets.{length-rising}
+use Rattle.erd_meaning.proofs.orders.RisingSets.{length-rising}
 use Rattle.erd_normal.proofs.canonical.DistinctObjects.{selection_values_distinct}
 use Rattle.std.proofs.lemmas.List.{length-map}
 

@@ -30,7 +30,7 @@ use Rattle.erd_normal.proofs.lists.BuiltLists.{all_rising}
 use Rattle.erd_normal.proofs.built.NormalEntries.{no_entry}
 use Rattle.erd_normal.proofs.canonical.NormalOwners.{key_named_built}
 use Rattle.erd_normal.proofs.meaning.RisingMeanings.{json_set-rising, keys_named-rising, label_of-rising}
-use Rattle.erd_normal.proofs.lists.RisingSets.{length-rising}
+use Rattle.erd_meaning.proofs.orders.RisingSets.{length-rising}
 use Rattle.std.proofs.lemmas.List.{length-map}
 use Rattle.erd_check.proofs.Lists.{list_of_items-items_of}
 

@@ -12,7 +12,7 @@ use Rattle.erd_meaning.specs.code.Orders.{compact_cmp_total}
 use Rattle.erd_meaning.specs.SelectionNames.{compact_cmp, rising_list, with_inserted, with_rising_text}
 use Rattle.erd_normal.proofs.meaning.RisingMeanings.{entries_at-with_rising_text}
 use Rattle.erd_meaning.proofs.orders.InsertedValues.{less_turned}
-use Rattle.erd_normal.proofs.lists.RisingOrders.{NeverFalls, rising_never_falls}
+use Rattle.erd_meaning.proofs.orders.RisingOrders.{NeverFalls, rising_never_falls}
 
 -- ---- lists
 

@@ -16,8 +16,8 @@ use Rattle.erd_meaning.specs.Meaning.{translated}
 use Rattle.erd_meaning.specs.Records.{label_beside_text, json_set, key_set, label_of}
 use Rattle.erd_meaning.specs.SelectionNames.{compact_cmp, key_named, keys_named, rising_list, with_rising_text}
 use Rattle.erd_check.proofs.Lists.{list_of_items-items_of}
-use Rattle.erd_normal.proofs.lists.Reordered.{Reordered, any-reordered, any_filter_map-reordered}
-use Rattle.erd_normal.proofs.lists.RisingSets.{any-rising, any_filter_map-rising}
+use Rattle.erd_meaning.proofs.orders.Reordered.{Reordered, any-reordered, any_filter_map-reordered}
+use Rattle.erd_meaning.proofs.orders.RisingSets.{any-rising, any_filter_map-rising}
 
 -- ---- sets
 

@@ -12,7 +12,7 @@ use Rattle.erd_meaning.specs.Objects.{Placed, objects}
 use Rattle.erd_meaning.specs.code.Orders.{key_cmp_total}
 use Rattle.erd_meaning.specs.declared.keys.key.Key.{Key}
 use Rattle.erd_normal.proofs.canonical.DistinctObjects.{values_distinct}
-use Rattle.erd_normal.proofs.lists.DistinctEntries.{distinct_map}
+use Rattle.erd_meaning.proofs.orders.DistinctEntries.{distinct_map}
 use Rattle.erd_normal.proofs.lists.RisingRanks.{rank_map}
 use Rattle.erd_normal.proofs.ranks.KeyPlaces.{place_is}
 use Rattle.erd_normal.proofs.ranks.RisingTables.{numbers_of}

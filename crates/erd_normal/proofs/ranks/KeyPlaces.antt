@@ -1,5 +1,5 @@
 -- The places of distinct keys among the sorted ones are their ranks, counted from 1.
-use Rattle.std.proofs.Common.{◌≡◌, ℕ, zero, suc, ◌+◌, inl, inr, List, [], ◌∷◌, filter, length, Bool, true, false, cond, Some, Ordering, is_lt, slice_get, slice_set, replicate, refl, sym, ap, ◌∙◌, arith}
+use Rattle.std.proofs.Common.{◌≡◌, ℕ, zero, suc, ◌+◌, inl, inr, List, [], ◌∷◌, filter, length, false, Some, Ordering, is_lt, slice_get, slice_set, replicate, refl, sym, ap, ◌∙◌, arith}
 use Rattle.std.proofs.lemmas.List.{length-replicate, length-set}
 use Rattle.std.proofs.lemmas.Option.{slice_get_within}
 use Rattle.std.specs.Cmp.{IsTotalOrder}
@@ -9,10 +9,11 @@ use Rattle.erd_check.proofs.Order.{In}
 use Rattle.erd_meaning.proofs.finding.OneObject.{in_at}
 use Rattle.erd_meaning.specs.SelectionNames.{rising_list}
 use Rattle.erd_normal.proofs.ranks.Numbered.{number_of}
-use Rattle.erd_normal.proofs.lists.RisingSets.{length-rising}
+use Rattle.erd_meaning.proofs.orders.RisingSets.{length-rising}
 use Rattle.erd_normal.proofs.lists.StableRising.{by_first}
 use Rattle.erd_normal.specs.code.Building.{numbered}
 use Rattle.erd_normal.specs.code.KeyRanks.{places_of}
+use Rattle.erd_meaning.proofs.selections.PositionedKeys.{count_positioned}
 use Rattle.erd_meaning.specs.Lookups.{positioned}
 
 -- ---- lengths
@@ -67,17 +68,7 @@ stands n (x ∷ ks) zero k e =
     ap (λ y. Some (y, n)) same ∙ ap (λ m. Some (k, m)) count
 stands n (x ∷ ks) (suc i) k e = let count : (n + 1) + i ≡ n + suc i = omega arith in stands (n + 1) ks i k e ∙ ap (λ m. Some (k, m)) count
 
-counted_at : {A B : Type 0} (b : Bool) (x : A) (y : B) (xs : List A) (ys : List B) → length xs ≡ length ys → length (cond b (x ∷ xs) xs) ≡ length (cond b (y ∷ ys) ys)
-counted_at true x y xs ys e = ap suc e
-counted_at false x y xs ys e = e
-
 module _ {K : Type 0} (cmp : K → K → Ordering) where
-  -- as many pairs as keys are lesser
-  counted : (k : K) (n : ℕ) (ks : List K) → length (filter (λ y. is_lt (cmp y.0 k)) (positioned n ks)) ≡ length (filter (λ y. is_lt (cmp y k)) ks)
-  counted k n [] = refl
-  counted k n (x ∷ ks) =
-      counted_at (is_lt (cmp x k)) (x, n) x (filter (λ y. is_lt (cmp y.0 k)) (positioned (n + 1) ks)) (filter (λ y. is_lt (cmp y k)) ks) (counted k (n + 1) ks)
-
   others_apart : (k : K) (m n : ℕ) (ks : List K) → AllByRecursion (λ x. eq_by_cmp cmp k x ≡ false) ks → AllByRecursion (λ q. eq_by_cmp (by_first cmp) (k, m) q ≡ false) (positioned n ks)
   others_apart k m n [] h = tt
   others_apart k m n (x ∷ ks) h = (h.0, others_apart k m (n + 1) ks h.1)
@@ -94,4 +85,4 @@ module _ {K : Type 0} (cmp : K → K → Ordering) where
       let p : K × ℕ = (k, i) in
       let count : 0 + i ≡ i = omega arith in
       let here : slice_get old i ≡ Some p = stands 0 ks i k at ∙ ap (λ m. Some (k, m)) count in
-      number_of cmp total old p (apart 0 ks distinct) (single ks) (in_at old i p here) (slice_get_within old i p here) ∙ ap (λ n. Some (n + 1)) (counted k 0 ks)
+      number_of cmp total old p (apart 0 ks distinct) (single ks) (in_at old i p here) (slice_get_within old i p here) ∙ ap (λ n. Some (n + 1)) (count_positioned (λ y. is_lt (cmp y k)) 0 ks)

@@ -8,9 +8,9 @@ use Rattle.std.specs.List.Sorted.{IsStrictlySortedBy}
 use Rattle.std.specs.Ordering.{eq_by_cmp}
 use Rattle.erd_check.proofs.Order.{In, In-all, all_from_In}
 use Rattle.erd_meaning.specs.SelectionNames.{rising_list}
-use Rattle.erd_normal.proofs.lists.RisingOrders.{rising_strictly}
+use Rattle.erd_meaning.proofs.orders.RisingOrders.{rising_strictly}
 use Rattle.erd_normal.proofs.lists.RisingRanks.{rank_in, stands_at_rank}
-use Rattle.erd_normal.proofs.lists.RisingSets.{In-rising, length-rising}
+use Rattle.erd_meaning.proofs.orders.RisingSets.{In-rising, length-rising}
 use Rattle.erd_normal.proofs.lists.StableRising.{by_first}
 use Rattle.erd_normal.specs.code.Building.{numbered}
 

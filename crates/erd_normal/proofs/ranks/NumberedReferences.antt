@@ -20,9 +20,9 @@ use Rattle.erd_meaning.specs.Objects.{contests, id_of, objects, owner, Placed}
 use Rattle.erd_meaning.specs.SelectionNames.{key_named}
 use Rattle.erd_meaning.specs.code.Orders.{key_cmp_total}
 use Rattle.erd_meaning.specs.declared.keys.key.Key.{Key}
-use Rattle.erd_normal.proofs.lists.DistinctEntries.{place_of}
+use Rattle.erd_meaning.proofs.orders.DistinctEntries.{place_of}
 use Rattle.erd_normal.proofs.lists.NumbersInOrder.{ranks_climb}
-use Rattle.erd_normal.proofs.lists.RisingSets.{has_from_In, In-from_has}
+use Rattle.erd_meaning.proofs.orders.RisingSets.{has_from_In, In-from_has}
 use Rattle.erd_normal.specs.code.Building.{AreNumbers, numbered_id}
 use Rattle.erd_normal.specs.Canonical.{id_prefix}
 use Rattle.erd_normal.specs.code.ElectionParts.{objects_of_part, part_seen}

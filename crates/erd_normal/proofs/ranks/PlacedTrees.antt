@@ -44,7 +44,7 @@ use Rattle.erd_normal.specs.code.KeyRanks.{keyed_values, rising_at, rising_elect
 use Rattle.erd_normal.specs.code.NormalTree.{array_of, by_key, by_name, in_envelope, normal_election, normal_election_value, normal_members, normal_object, normal_object_value, normal_object_with, normal_report_value, normal_selection, normal_tree, normal_value, unless_no_entry, with_id}
 use Rattle.erd_normal.specs.code.PlacedTree.{map_from, placed_election, placed_election_value, placed_elections, placed_object, placed_object_value, placed_objects, placed_report_value, placed_selection}
 use Rattle.erd_check.proofs.Positions.{map_has, has_at}
-use Rattle.erd_normal.proofs.lists.RisingSets.{In-from_has}
+use Rattle.erd_meaning.proofs.orders.RisingSets.{In-from_has}
 use Rattle.erd_normal.proofs.lists.StableRising.{map_after}
 use Rattle.erd_check.proofs.Whole.{get_member-later}
 

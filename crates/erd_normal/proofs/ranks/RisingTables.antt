@@ -8,7 +8,7 @@ use Rattle.serde_json.specs.Data.{Data}
 use Rattle.erd_check.proofs.Order.{In}
 use Rattle.erd_meaning.proofs.orders.RisingLists.{rising_list_map}
 use Rattle.erd_meaning.specs.SelectionNames.{rising_list}
-use Rattle.erd_normal.proofs.lists.RisingSets.{In-rising}
+use Rattle.erd_meaning.proofs.orders.RisingSets.{In-rising}
 use Rattle.erd_normal.proofs.lists.StableRising.{by_first, map_after, map_back, rising_from_stable}
 use Rattle.erd_normal.specs.StableOrder.{IsStablySorted}
 use Rattle.erd_normal.specs.code.Building.{numbered}

@@ -23,9 +23,9 @@ use Rattle.erd_meaning.specs.NameParts.{NameParts}
 use Rattle.erd_meaning.specs.Objects.{Placed, contests, has_id, id_of, numbered_selections, numbered_selections_of, objects, selections_of_contest}
 use Rattle.erd_meaning.specs.SelectionNames.{name_of}
 use Rattle.erd_normal.proofs.canonical.ContestSelections.{one_contest}
-use Rattle.erd_normal.proofs.lists.DistinctEntries.{place_of}
+use Rattle.erd_meaning.proofs.orders.DistinctEntries.{place_of}
 use Rattle.erd_normal.proofs.lists.FoundInParts.{FoundSelection, owner_found}
-use Rattle.erd_normal.proofs.lists.RisingSets.{has_from_In, In-from_has}
+use Rattle.erd_meaning.proofs.orders.RisingSets.{has_from_In, In-from_has}
 use Rattle.erd_normal.proofs.unique.Selections.{has_name}
 use Rattle.erd_normal.specs.code.NormalTree.{contest_with, id_of_selection, normal_selection_reference, rank_of_name, selection_with}
 use Rattle.erd_normal.specs.code.PlacedTree.{selection_id_numbered}

@@ -6,7 +6,7 @@ use Rattle.erd_check.specs.Wants.{entry_want, is_table_set, scope_inside, want_o
 use Rattle.erd_check.specs.declared.want.Scope.{Scope}
 use Rattle.erd_check.specs.declared.want.Want.{Want}
 use Rattle.erd_normal.specs.Rearranged.{is_id_text}
-use Rattle.erd_normal.proofs.lists.Reordered.{Reordered}
+use Rattle.erd_meaning.proofs.orders.Reordered.{Reordered}
 
 -- the entries of a set may stand in another order
 abbrev pub IsArranged : Bool → List Data → List Data → Type 0

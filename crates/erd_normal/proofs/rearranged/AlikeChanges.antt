@@ -18,7 +18,7 @@ use Rattle.erd_check.specs.declared.want.Want.TheVariants.{Object}
 use Rattle.erd_check.proofs.Lists.{list_of_items-items_of}
 use Rattle.erd_check.proofs.Steps.{text_from_equal}
 use Rattle.erd_normal.specs.Rearranged.{HasEntries, Renaming, changed_at, exchanged, is_id_text, item_changed, member_changed, renamed_items, renamed_members, renamed_value, replaced_text, swapped}
-use Rattle.erd_normal.proofs.lists.Reordered.{Reordered, reordered_self, reordered_swap}
+use Rattle.erd_meaning.proofs.orders.Reordered.{Reordered, reordered_self, reordered_swap}
 use Rattle.erd_normal.proofs.rearranged.Alike.{Alike, AlikeMembers, AreAlike, IsArranged}
 
 arranged_self : (b : Bool) (ds : List Data) → IsArranged b ds ds

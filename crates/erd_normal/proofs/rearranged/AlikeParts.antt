@@ -20,7 +20,7 @@ use Rattle.erd_check.proofs.Steps.{text_from_equal}
 use Rattle.erd_normal.specs.Rearranged.{is_id_text}
 use Rattle.erd_normal.proofs.lists.Matched.{Both, both, neither, Matched}
 use Rattle.erd_normal.proofs.lists.Paired.{Paired, none, more}
-use Rattle.erd_normal.proofs.lists.Reordered.{Reordered, reordered_back, reordered_self, reordered-has}
+use Rattle.erd_meaning.proofs.orders.Reordered.{Reordered, reordered_back, reordered_self, reordered-has}
 use Rattle.erd_normal.proofs.rearranged.Alike.{Alike, AlikeMembers, AreAlike, IsArranged}
 
 -- ---- values of which nothing is asked

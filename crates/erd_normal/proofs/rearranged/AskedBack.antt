@@ -13,9 +13,9 @@ use Rattle.erd_check.specs.declared.want.Want.TheVariants.{Object}
 use Rattle.erd_check.proofs.Entries.{list_of_items-place, list_of_items-tree}
 use Rattle.erd_check.proofs.Rising.{Has, here, later}
 use Rattle.erd_check.proofs.Shapes.{Within, Within-root, Within-step, within-tree}
-use Rattle.erd_normal.proofs.lists.DistinctEntries.{unrepeated_distinct}
+use Rattle.erd_meaning.proofs.orders.DistinctEntries.{unrepeated_distinct}
 use Rattle.erd_normal.proofs.lists.Matched.{Both, both, neither, Matched, distinct-paired, distinct-reordered, matched_back}
-use Rattle.erd_normal.proofs.lists.Reordered.{reordered-has}
+use Rattle.erd_meaning.proofs.orders.Reordered.{reordered-has}
 use Rattle.erd_normal.proofs.rearranged.Alike.{Alike, AlikeMembers}
 use Rattle.erd_normal.proofs.rearranged.AlikeParts.{alike_array, alike_member, alike_scope, alike_tree}
 use Rattle.erd_normal.proofs.texts.WholeEntries.{listed_items}

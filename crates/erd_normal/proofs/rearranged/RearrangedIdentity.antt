@@ -29,7 +29,7 @@ use Rattle.erd_meaning.proofs.accepted.References.{Contains-Has, Has-Contains, o
 use Rattle.erd_normal.specs.code.NormalTree.{by_key}
 use Rattle.erd_normal.proofs.canonical.DistinctObjects.{values_distinct}
 use Rattle.erd_normal.proofs.canonical.ElectionsApart.{election_values, none_keyless, one_election}
-use Rattle.erd_normal.proofs.lists.DistinctEntries.{distinct_one}
+use Rattle.erd_meaning.proofs.orders.DistinctEntries.{distinct_one}
 use Rattle.erd_normal.proofs.lists.Matched.{IsEven, Matched, distinct_matched, even_order, matched_back, matched_within}
 use Rattle.erd_normal.proofs.rearranged.Alike.{Alike}
 use Rattle.erd_normal.proofs.rearranged.RelatedMembers.{Related}

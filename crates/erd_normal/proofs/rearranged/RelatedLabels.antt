@@ -38,7 +38,7 @@ use Rattle.erd_meaning.specs.SelectionNames.{compact_cmp, rising_list, with_risi
 use Rattle.erd_meaning.proofs.orders.RisingLists.{rising_list_map}
 use Rattle.erd_normal.proofs.built.PutMembers.{put_elsewhere}
 use Rattle.erd_normal.proofs.lists.Matched.{Both, both, neither, matched_equal}
-use Rattle.erd_normal.proofs.lists.Reordered.{Reordered, no_entry, reordered_map}
+use Rattle.erd_meaning.proofs.orders.Reordered.{Reordered, no_entry, reordered_map}
 use Rattle.erd_normal.proofs.lists.RisingAgain.{rising-reordered}
 use Rattle.erd_normal.proofs.meaning.RisingLabels.{put_twice}
 use Rattle.erd_normal.proofs.meaning.RisingMeanings.{json_set-reordered}

@@ -25,7 +25,7 @@ use Rattle.erd_meaning.proofs.accepted.Standing.{contest_selections}
 use Rattle.erd_normal.proofs.built.LeastKeys.{key_of_identifiers-reordered, kind_of_identifiers}
 use Rattle.erd_normal.proofs.built.NormalGets.{kind_of_family_id}
 use Rattle.erd_normal.proofs.lists.Matched.{Both, both, neither, Matched, matched_equal, matched_flat}
-use Rattle.erd_normal.proofs.lists.Reordered.{Reordered, no_entry}
+use Rattle.erd_meaning.proofs.orders.Reordered.{Reordered, no_entry}
 use Rattle.erd_normal.proofs.rearranged.Alike.{Alike}
 use Rattle.erd_normal.proofs.rearranged.PlainValues.{alike_plain}
 use Rattle.erd_normal.proofs.rearranged.RelatedMembers.{Related, alike_listed, related_array, related_id_text, related_in, related_listed}

@@ -15,7 +15,7 @@ use Rattle.erd_meaning.specs.Lookups.{id_in}
 use Rattle.erd_meaning.specs.Objects.{Placed, has_id, id_of, objects}
 use Rattle.erd_meaning.proofs.accepted.Phases.{no_identity_fault}
 use Rattle.erd_meaning.proofs.finding.OneObject.{one_id}
-use Rattle.erd_normal.proofs.lists.DistinctEntries.{distinct_from_one_place, distinct_map}
+use Rattle.erd_meaning.proofs.orders.DistinctEntries.{distinct_from_one_place, distinct_map}
 use Rattle.erd_normal.proofs.rearranged.RelatedObjects.{family_values, object_values}
 
 -- an object of the report writes this `@id`

@@ -9,7 +9,7 @@ use Rattle.std.proofs.lemmas.Cmp.{tied_back, upto}
 use Rattle.erd_check.proofs.Order.{In, In-all, all_from_In}
 use Rattle.erd_meaning.proofs.orders.InsertedValues.{greater_turned}
 use Rattle.erd_meaning.specs.SelectionNames.{rising_list, with_inserted}
-use Rattle.erd_normal.proofs.lists.RisingSets.{In-inserted, In-rising}
+use Rattle.erd_meaning.proofs.orders.RisingSets.{In-inserted, In-rising}
 
 -- ---- answers of a comparison
 

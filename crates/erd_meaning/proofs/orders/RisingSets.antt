@@ -1,10 +1,12 @@
 -- A list in rising order has the same entries, and as many.
-use Rattle.std.proofs.Common.{◌≡◌, ◌⊎◌, inl, inr, List, [], ◌∷◌, filter_map, length, Bool, true, false, cond, Option, Ordering, is_lt, sym, subst}
+use Rattle.std.proofs.Common.{◌≡◌, ◌⊎◌, inl, inr, List, [], ◌∷◌, filter_map, length, Bool, true, false, cond, Option, Ordering, is_lt, refl, sym, subst, arith}
+use Rattle.std.proofs.lemmas.List.Sorted.{IsPermutation-cons, IsPermutation-refl, IsPermutation-swap, IsPermutation-trans}
 use Rattle.std.specs.List.{list_any}
+use Rattle.std.specs.List.Sorted.{IsPermutation}
 use Rattle.erd_check.proofs.Order.{In}
 use Rattle.erd_check.proofs.Rising.{Has, Has-cases, here, later}
 use Rattle.erd_meaning.specs.SelectionNames.{rising_list, with_inserted}
-use Rattle.erd_normal.proofs.lists.Reordered.{any-reordered, any_filter_map-reordered, length-reordered, reordered_rising}
+use Rattle.erd_meaning.proofs.orders.Reordered.{any-reordered, any_filter_map-reordered, length-reordered, reordered_rising}
 
 -- ---- what doesn't depend on the order of a list
 
@@ -18,6 +20,26 @@ any_filter_map-rising cmp f test xs = sym (any_filter_map-reordered f test (reor
 
 pub length-rising : {A : Type 0} (cmp : A → A → Ordering) (xs : List A) → length (rising_list cmp xs) ≡ length xs
 length-rising cmp xs = sym (length-reordered (reordered_rising cmp xs))
+
+-- ---- a permutation
+
+-- the first two entries change places
+exchange : {A : Type 0} (x y : A) (xs : List A) → IsPermutation (x ∷ (y ∷ xs)) (y ∷ (x ∷ xs))
+exchange x y xs = IsPermutation-swap (x ∷ (y ∷ xs)) (y ∷ (x ∷ xs)) 0 1 (omega arith) (omega arith) refl
+
+inserted_same : {A : Type 0} (cmp : A → A → Ordering) (x : A) (ys : List A) → IsPermutation (x ∷ ys) (with_inserted cmp x ys)
+inserted_same cmp x [] = IsPermutation-refl (x ∷ [])
+inserted_same {A} cmp x (y ∷ ys) = at (is_lt (cmp y x)) (inserted_same cmp x ys)
+  where
+    at : (b : Bool) → IsPermutation (x ∷ ys) (with_inserted cmp x ys) → IsPermutation (x ∷ (y ∷ ys)) (cond b (y ∷ with_inserted cmp x ys) (x ∷ (y ∷ ys)))
+    at true h = IsPermutation-trans (x ∷ (y ∷ ys)) (y ∷ (x ∷ ys)) (y ∷ with_inserted cmp x ys) (exchange x y ys) (IsPermutation-cons y (x ∷ ys) (with_inserted cmp x ys) h)
+    at false h = IsPermutation-refl (x ∷ (y ∷ ys))
+
+pub permuted_rising : {A : Type 0} (cmp : A → A → Ordering) (xs : List A) → IsPermutation xs (rising_list cmp xs)
+permuted_rising cmp [] = IsPermutation-refl []
+permuted_rising cmp (x ∷ xs) =
+    IsPermutation-trans (x ∷ xs) (x ∷ rising_list cmp xs) (with_inserted cmp x (rising_list cmp xs)) (IsPermutation-cons x xs (rising_list cmp xs) (permuted_rising cmp xs))
+    (inserted_same cmp x (rising_list cmp xs))
 
 -- ---- what stands in the list
 
