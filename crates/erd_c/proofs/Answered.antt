@@ -1,13 +1,13 @@
--- From what the engines promise of their devices to the bytes that these hold, and from an answer to what is told of it.
-use Rattle.std.proofs.Common.{◌≡◌, ◌<◌, ◌≤◌, ◌≢◌, ℕ, List, [], ◌++◌, Option, Some, None, Result, Ok, Err, IfOk, IfErr, refl, sym, subst, ap, ◌∙◌, append-nil}
-use native.Mathlib.Omega.{arith}
+-- From what the engines promise of their devices to the bytes that these hold, and from an answer to what a call tells of it.
+use Rattle.std.proofs.Common.{◌≡◌, ◌<◌, ◌≢◌, ℕ, List, [], ◌++◌, Option, Some, None, Result, Ok, Err, IfOk, IfErr, refl, sym, subst, ap, ◌∙◌, append-nil, arith}
 use Rattle.std.specs.Io.KnownBytes.{Appends}
 use Rattle.erd_meaning.specs.Keys.{Preference}
 use Rattle.erd_canon.specs.Reading.{IsReadWhole}
 use Rattle.erd_canon.specs.Run.{IsAnswered, IsWholeRun}
 use Rattle.erd_canon.specs.declared.engines.outcome.Outcome.{Outcome}
 use Rattle.erd_canon.specs.declared.engines.outcome.Outcome.TheVariants.{Good, Bad, NotJson}
-use Rattle.erd_c.specs.Told.{HasCanonicalText, IsTelling, IsTold}
+use Rattle.erd_canon.specs.Statuses.{outcome_status}
+use Rattle.erd_c.specs.Told.{HasCanonicalText, HasNoText, IsCall, IsTelling}
 use Rattle.erd_c.specs.declared.told.Told.{Told}
 
 -- a reader of these bytes that is at its end gave them
@@ -36,9 +36,26 @@ refusal_of π limit outcome bytes given first items other others after bad same 
     (all_went first items run.written.err_text none run.written.wrote_err)
     (answered_why π outcome run.input run.written.out_text run.written.err_text bad run.written.answered)
 
--- an outcome below 3 is told of an answer
-pub told_of : {T F : Type 0} (outcome : T → Outcome) (items : T → List ℕ) (Answers : Outcome → List ℕ → Type 0) (r : Result T F) (told : Told) (room : List ℕ)
-    → IfOk r (λ it. Answers (outcome it) (items it)) → IfOk r (λ it. IsTelling (outcome it) (items it) told room) → IfErr r (λ _. 3 ≤ told.outcome)
-    → told.outcome < 3 → IsTold Answers told room
-told_of outcome items Answers (Ok it) told room answers telling faulty low = record { outcome = outcome it; text = items it; answers = answers; telling = telling }
-told_of outcome items Answers (Err fault) told room answers telling faulty low = absurd (omega (arith, faulty, low))
+status_below : (outcome : Outcome) → outcome_status outcome < 3
+status_below Good = omega arith
+status_below Bad = omega arith
+status_below NotJson = omega arith
+
+-- a call whose arguments are right tells its answer, or that memory ran out
+pub call_of : {T F : Type 0} (outcome : T → Outcome) (items : T → List ℕ) (Answers : Outcome → List ℕ → Type 0) (Wrong : Type 0) (r : Result T F) (told : Told) (before after : List ℕ)
+    → ¬ Wrong → IfOk r (λ it. Answers (outcome it) (items it)) → IfOk r (λ it. IsTelling (outcome it) (items it) told before after)
+    → IfErr r (λ _. (told.outcome ≡ 4) × HasNoText told before after) → IsCall Answers Wrong told before after
+call_of outcome items Answers Wrong (Ok it) told before after right answers telling faulty =
+    let low : told.outcome < 3 = omega (arith, telling.status, status_below (outcome it)) in
+    record {
+      answered = λ _. record { outcome = outcome it; text = items it; answers = answers; telling = telling };
+      silent = λ high. absurd (omega (arith, high, low));
+      wrong = (λ is. absurd (omega (arith, is, low)), λ wrong. absurd (right wrong));
+      known = omega (arith, low);
+    }
+call_of outcome items Answers Wrong (Err fault) told before after right answers telling faulty = record {
+  answered = λ low. absurd (omega (arith, faulty.0, low));
+  silent = λ _. faulty.1;
+  wrong = (λ is. absurd (omega (arith, is, faulty.0)), λ wrong. absurd (right wrong));
+  known = omega (arith, faulty.0);
+}

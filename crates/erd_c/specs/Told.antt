@@ -1,7 +1,9 @@
 -- What a call of the C library tells its caller.
-use Rattle.std.specs.Prelude.{◌≡◌, ◌≤◌, ℕ, List, Bool, true, false, Some, None, length, take}
+use Rattle.std.specs.Prelude.{◌≡◌, ◌≤◌, ◌<◌, ◌⊎◌, ◌↔◌, ◌++◌, ℕ, List, Bool, true, false, Some, None, length, drop}
+use Rattle.std.specs.Str.{IsUtf8}
 use Rattle.erd_meaning.specs.Keys.{Preference}
 use Rattle.erd_canon.specs.Bytes.{IsCanonicalBytes}
+use Rattle.erd_canon.specs.Limits.{most_bytes}
 use Rattle.erd_canon.specs.Run.{IsToldFaults, IsToldNotJson}
 use Rattle.erd_canon.specs.Statuses.{outcome_status}
 use Rattle.erd_canon.specs.declared.engines.outcome.Outcome.{Outcome}
@@ -20,15 +22,38 @@ HasCanonicalText π bytes Good text = IsCanonicalBytes π bytes text
 HasCanonicalText π bytes Bad text = IsToldFaults π bytes text
 HasCanonicalText π bytes NotJson text = IsToldNotJson bytes text
 
--- The call tells the outcome by its exit status and the text by its length. The text is at the front of the room if it fits.
-pub record IsTelling (outcome : Outcome) (text : List ℕ) (told : Told) (room : List ℕ) : Type 0 where
+-- The text is at the front of the room if it fits, and the rest of the room is as before. If it does not fit, the room is as
+-- before.
+pub record IsPut (text before after : List ℕ) : Type 0 where
+  pub fits : length text ≤ length before → after ≡ text ++ drop (length text) before
+  pub too_long : length before < length text → after ≡ before
+
+-- The call tells the outcome by its exit status and the text by its length, and the text is put into the room if it fits.
+pub record IsTelling (outcome : Outcome) (text : List ℕ) (told : Told) (before after : List ℕ) : Type 0 where
   pub status : told.outcome ≡ outcome_status outcome
   pub count : told.length ≡ length text
-  pub written : length text ≤ length room → take (length text) room ≡ text
+  pub put : IsPut text before after
 
 -- The call tells some outcome and some text, and these two are an answer.
-pub record IsTold (Answers : Outcome → List ℕ → Type 0) (told : Told) (room : List ℕ) : Type 0 where
+pub record IsTold (Answers : Outcome → List ℕ → Type 0) (told : Told) (before after : List ℕ) : Type 0 where
   pub outcome : Outcome
   pub text : List ℕ
   pub answers : Answers outcome text
-  pub telling : IsTelling outcome text told room
+  pub telling : IsTelling outcome text told before after
+
+-- The call has no text: its length is 0, and the room is as before.
+pub record HasNoText (told : Told) (before after : List ℕ) : Type 0 where
+  pub count : told.length ≡ 0
+  pub kept : after ≡ before
+
+-- The arguments of a call are wrong: the preference is not UTF-8, or the longest report has more bytes than a run reads.
+abbrev pub IsWrong : Bool → List ℕ → ℕ → Type 0
+IsWrong prefers prefer longest = ((prefers ≡ true) × ¬ IsUtf8 prefer) ⊎ (most_bytes < longest)
+
+-- All that a call tells. With an outcome of 0, 1 or 2 it tells an answer. With 3 or 4 it has no text. It is 3 if and only if
+-- the arguments are wrong.
+pub record IsCall (Answers : Outcome → List ℕ → Type 0) (Wrong : Type 0) (told : Told) (before after : List ℕ) : Type 0 where
+  pub answered : told.outcome < 3 → IsTold Answers told before after
+  pub silent : 3 ≤ told.outcome → HasNoText told before after
+  pub wrong : (told.outcome ≡ 3) ↔ Wrong
+  pub known : told.outcome ≤ 4

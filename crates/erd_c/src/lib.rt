@@ -2,14 +2,15 @@
 //! does what a command of the program does, and returns the command's exit status and text.
 #![tactic(auto)]
 
-ghost use Rattle.std.specs.Prelude.{◌≡◌, ◌<◌, length};
+ghost use Rattle.std.specs.Prelude.{length, max};
+ghost use Rattle.erd_canon.specs.DataAnswers.{IsCheckedData, IsComparedData};
 ghost use Rattle.erd_canon.specs.Run.{IsChecked, IsCompared};
-ghost use Rattle.erd_c.specs.Told.{HasCanonicalText, IsTold, preference};
+ghost use Rattle.erd_c.specs.Told.{HasCanonicalText, IsCall, IsWrong, preference};
 
 mod answers;
 mod told;
 
-use answers::{canonical, checked, compared};
+use answers::{canonical, checked, checked_data, compared, compared_data};
 use std::alloc::Global;
 pub use told::Told;
 use told::{given, tell};
@@ -28,9 +29,10 @@ pub extern "C" fn erd_tell_check(
     prefer: &[u8],
     room: &mut [u8],
 ) -> Told
-    ensures { result.outcome < 3 → IsTold (IsChecked (preference prefers prefer.now) bytes.now) result room.new }
+    ensures { IsCall (IsChecked (preference prefers prefer.now) bytes.now)
+        (IsWrong prefers prefer.now (length bytes.now)) result room.old room.new }
 {
-    match given(prefers, prefer) {
+    match given(prefers, prefer, bytes.len()) {
         Ok(prefer) => tell(checked(alloc, bytes, prefer), room),
         Err(told) => told,
     }
@@ -51,9 +53,10 @@ pub extern "C" fn erd_tell_canonical(
     prefer: &[u8],
     room: &mut [u8],
 ) -> Told
-    ensures { result.outcome < 3 → IsTold (HasCanonicalText (preference prefers prefer.now) bytes.now) result room.new }
+    ensures { IsCall (HasCanonicalText (preference prefers prefer.now) bytes.now)
+        (IsWrong prefers prefer.now (length bytes.now)) result room.old room.new }
 {
-    match given(prefers, prefer) {
+    match given(prefers, prefer, bytes.len()) {
         Ok(prefer) => tell(canonical(alloc, bytes, prefer), room),
         Err(told) => told,
     }
@@ -76,10 +79,58 @@ pub extern "C" fn erd_tell_compare(
     prefer: &[u8],
     room: &mut [u8],
 ) -> Told
-    ensures { result.outcome < 3 → IsTold (IsCompared (preference prefers prefer.now) left.now right.now) result room.new }
+    ensures { IsCall (IsCompared (preference prefers prefer.now) left.now right.now)
+        (IsWrong prefers prefer.now (max (length left.now) (length right.now))) result room.old room.new }
 {
-    match given(prefers, prefer) {
+    match given(prefers, prefer, left.len().max(right.len())) {
         Ok(prefer) => tell(compared(alloc, left, right, prefer), room),
+        Err(told) => told,
+    }
+}
+
+/// Checks a report, as `erd_tell_check` does, and answers with JSON.
+///
+/// The text is the compact JSON that `erd_canon::check_data_with` answers, with no line end.
+///
+/// `prefer` is the preferred type of identifier. It is used only if `prefers` is true. The result says how long the text is,
+/// and the text is written to the front of `room` if it fits.
+#[unsafe(no_mangle)]
+pub extern "C" fn erd_tell_check_data(
+    alloc: Global,
+    bytes: &[u8],
+    prefers: bool,
+    prefer: &[u8],
+    room: &mut [u8],
+) -> Told
+    ensures { IsCall (IsCheckedData (preference prefers prefer.now) bytes.now)
+        (IsWrong prefers prefer.now (length bytes.now)) result room.old room.new }
+{
+    match given(prefers, prefer, bytes.len()) {
+        Ok(prefer) => tell(checked_data(alloc, bytes, prefer), room),
+        Err(told) => told,
+    }
+}
+
+/// Compares the meanings of two reports, as `erd_tell_compare` does, and answers with JSON.
+///
+/// The text is the compact JSON that `erd_canon::compare_data_with` answers, with no line end.
+///
+/// `prefer` is the preferred type of identifier. It is used only if `prefers` is true. The result says how long the text is,
+/// and the text is written to the front of `room` if it fits.
+#[unsafe(no_mangle)]
+pub extern "C" fn erd_tell_compare_data(
+    alloc: Global,
+    left: &[u8],
+    right: &[u8],
+    prefers: bool,
+    prefer: &[u8],
+    room: &mut [u8],
+) -> Told
+    ensures { IsCall (IsComparedData (preference prefers prefer.now) left.now right.now)
+        (IsWrong prefers prefer.now (max (length left.now) (length right.now))) result room.old room.new }
+{
+    match given(prefers, prefer, left.len().max(right.len())) {
+        Ok(prefer) => tell(compared_data(alloc, left, right, prefer), room),
         Err(told) => told,
     }
 }

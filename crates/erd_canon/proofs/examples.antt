@@ -1,4 +1,5 @@
 mod TextExamples
-mod EngineExamples
+pub mod EngineExamples
 mod ReportExamples
 mod LineExamples
+mod DataExamples

@@ -1,3 +1,4 @@
 pub mod PlainWords
 pub mod PreferenceWords
 pub mod LineReadings
+pub mod RequestsFound

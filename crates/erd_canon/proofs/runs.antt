@@ -3,3 +3,4 @@ pub mod FaultText
 pub mod CheckTexts
 pub mod Comparisons
 pub mod Agreement
+pub mod PartTexts

@@ -1,11 +1,17 @@
 -- The definitions of this crate. What the public contracts say, in the order in which one would read it:
 pub mod Bytes  -- the tree that bytes are, and the canonical bytes of a report
+pub mod Headline  -- what canonical bytes promise, whole
 pub mod ByteLaws  -- the laws of canonical bytes
 pub mod EngineTexts  -- the texts that checking, canonicalising and comparing write
 pub mod Refused  -- why bytes are refused, and on which side
 pub mod Limits  -- how much a run takes from one reader
 pub mod Reading  -- what came from a reader
 pub mod Run  -- what a run read and wrote that ends with an outcome
+pub mod DataValues  -- the JSON values of faults and of a comparison
+pub mod DataAnswers  -- what the calls answer as data
+pub mod Writing  -- what a writer holds after a failed write
 pub mod Statuses  -- exit statuses, and the words of faults
 pub mod ExactLines  -- the exact command lines
+pub mod Subcommands  -- the command line, as the parser of command lines sees it
+pub mod ReadLines  -- what any words are read as
 pub mod code  -- what private functions answer, which a reader may skip

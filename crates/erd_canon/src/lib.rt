@@ -1,10 +1,11 @@
-//! The calls that take the bytes of reports: they check a report, return its canonical bytes, or compare two reports. The
-//! engines do the same from readers to writers. The command line of the program that calls the engines is here too. The
-//! rules are those of docs/PROFILE.md.
+//! The calls that take the bytes of reports: they check a report, return its canonical bytes, or compare two reports. Others
+//! answer a check or a comparison as JSON. The engines do the same from readers to writers. The command line of the program that
+//! calls the engines is here too. The rules are those of docs/PROFILE.md.
 #![tactic(auto)]
 
 mod bytes;
 mod commands;
+mod data;
 mod devices;
 mod engines;
 
@@ -16,8 +17,12 @@ pub use bytes::refusal::{Refusal, Side};
 pub use commands::prefer::Prefer;
 pub use commands::request::{FileName, LineFault, Request};
 pub use commands::words::command_line;
+pub use data::answer::Answer;
+pub use data::check::{check_data, check_data_with};
+pub use data::compare::{compare_data, compare_data_with};
+pub use devices::log::Log;
 pub use devices::read_from::ReadFrom;
-pub use devices::sink::Sink;
+pub use devices::sink::{Sink, write_out};
 pub use devices::source::{Failed, MOST_BYTES, Source};
 pub use devices::write_to::WriteTo;
 pub use engines::canon::{run_canon, run_canon_with};

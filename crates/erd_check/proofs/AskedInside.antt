@@ -16,7 +16,8 @@ use Rattle.erd_tables.specs.declared.place.Step.{Step}
 use Rattle.erd_tables.specs.declared.place.Step.TheVariants.{Name, At}
 use Rattle.erd_check.specs.Trees.{is_same_json}
 use Rattle.erd_check.specs.Values.{list_of_items, names}
-use Rattle.erd_check.specs.code.Walk.{asked_with, IsInOrder, AreItemsInOrder, AreMembersInOrder}
+use Rattle.erd_check.specs.code.Walk.{asked_with}
+use Rattle.erd_check.specs.Visits.{IsInOrder, AreItemsInOrder, AreMembersInOrder}
 use Rattle.erd_check.specs.Wants.{Asked, scope_inside, want_of_name, entry_want, is_compared_set, asked_from, asked_at}
 use Rattle.erd_check.specs.declared.want.Want.{Want}
 use Rattle.erd_check.specs.declared.want.Want.TheVariants.{Object}

@@ -11,7 +11,8 @@ use Rattle.erd_tables.specs.declared.class.Role.TheVariants.{Report}
 use Rattle.erd_tables.specs.declared.fault.Fault.{Fault}
 use Rattle.erd_check.specs.Faults.{ShapeFault, NoneOf}
 use Rattle.erd_check.specs.Trees.{IsBeforeFirst, IsNumber, IsTree, AreTrees, AreMembers}
-use Rattle.erd_check.specs.code.Walk.{reasons, told_of_report, IsInOrder, AreItemsInOrder, AreMembersInOrder}
+use Rattle.erd_check.specs.code.Walk.{reasons}
+use Rattle.erd_check.specs.Visits.{told_of_report, IsInOrder, AreItemsInOrder, AreMembersInOrder}
 use Rattle.erd_check.specs.Values.{names}
 use Rattle.erd_check.specs.Wants.{scope_inside, want_of_name, entry_want}
 use Rattle.erd_check.specs.declared.want.Scope.{Scope}

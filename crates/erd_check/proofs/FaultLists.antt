@@ -6,7 +6,7 @@ use Rattle.erd_tables.specs.declared.fault.Fault.{Fault}
 use Rattle.erd_tables.specs.declared.fault.Reason.{Reason}
 use Rattle.erd_tables.specs.declared.place.Step.{Step}
 use Rattle.erd_check.specs.Faults.{ShapeFault, NoneOf}
-use Rattle.erd_check.specs.code.Paths.{fault_at}
+use Rattle.erd_check.specs.Paths.{fault_at}
 
 pub none_from_empty : (IsFault : List Step → Reason → Type 0) (faults : List Fault) → ListsAll IsFault faults → length faults ≡ 0 → NoneOf IsFault
 none_from_empty IsFault faults all empty p r h =

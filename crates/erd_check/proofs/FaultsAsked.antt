@@ -10,8 +10,8 @@ use Rattle.erd_tables.specs.declared.class.Role.TheVariants.{Report}
 use Rattle.erd_tables.specs.declared.fault.Fault.{Fault}
 use Rattle.erd_tables.specs.declared.fault.Reason.{Reason}
 use Rattle.erd_tables.specs.declared.place.Step.{Step}
-use Rattle.erd_check.specs.code.Paths.{fault_at}
-use Rattle.erd_check.specs.code.Walk.{IsInOrder}
+use Rattle.erd_check.specs.Paths.{fault_at}
+use Rattle.erd_check.specs.Visits.{IsInOrder}
 use Rattle.erd_check.specs.Wants.{Asked, asked_at}
 use Rattle.erd_check.specs.declared.want.Want.TheVariants.{Object}
 use Rattle.erd_check.proofs.AllAsked.{AskedPlace, all_asked, all_asked_complete}

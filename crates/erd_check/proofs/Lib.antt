@@ -9,7 +9,6 @@ pub mod FaultsAsked
 pub mod Walks
 pub mod ShapeWalks
 pub mod TableKinds
-pub mod SilentWalks
 pub mod Deciding
 pub mod Reports
 pub mod Members

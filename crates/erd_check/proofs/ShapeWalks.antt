@@ -8,7 +8,8 @@ use Rattle.erd_tables.specs.declared.fault.Reason.{Reason}
 use Rattle.erd_tables.specs.declared.place.Step.{Step}
 use Rattle.erd_check.specs.Faults.{is_shape_fault, ShapeFault}
 use Rattle.erd_check.specs.Wants.{Asked, asked_at}
-use Rattle.erd_check.specs.code.Walk.{reasons, told_of_report, IsInOrder}
+use Rattle.erd_check.specs.code.Walk.{reasons}
+use Rattle.erd_check.specs.Visits.{told_of_report, IsInOrder}
 use Rattle.erd_check.specs.declared.want.Want.TheVariants.{Object}
 use Rattle.erd_check.proofs.FaultsAsked.{AreReasons}
 use Rattle.erd_check.proofs.Order.{In}

@@ -27,7 +27,8 @@ use Rattle.erd_check.specs.Shapes.{IsShaped}
 use Rattle.erd_check.specs.Trees.{IsShallow, AreMembers, AreTrees, IsBeforeFirst, IsTree}
 use Rattle.erd_check.specs.Values.{names}
 use Rattle.erd_check.specs.Wants.{asked, class_of_object, entry_want, is_compared_set, is_repeated, scope_inside, want_of_name}
-use Rattle.erd_check.specs.code.Walk.{asked_with, AreItemsInOrder, AreItemsKnown, AreMembersInOrder, AreMembersKnown, IsAskedInRange, IsInOrder, IsKnown}
+use Rattle.erd_check.specs.code.Walk.{asked_with, IsAskedInRange}
+use Rattle.erd_check.specs.Visits.{AreItemsInOrder, AreItemsKnown, AreMembersInOrder, AreMembersKnown, IsInOrder, IsKnown}
 use Rattle.erd_check.specs.declared.want.Scope.{Scope}
 use Rattle.erd_check.specs.declared.want.Scope.TheVariants as scope
 use Rattle.erd_check.specs.declared.want.Want.{Want}

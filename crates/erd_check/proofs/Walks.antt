@@ -14,7 +14,8 @@ use Rattle.erd_tables.specs.declared.place.Step.{Step}
 use Rattle.erd_tables.specs.declared.place.Step.TheVariants.{Name, At}
 use Rattle.erd_check.specs.Trees.{is_same_json}
 use Rattle.erd_check.specs.Wants.{Asked, asked_at, scope_inside, want_of_name, entry_want, is_compared_set}
-use Rattle.erd_check.specs.code.Walk.{asked_with, faults_of, told_at, told_of_items, told_of_members, told_of_report, IsInOrder, Telling}
+use Rattle.erd_check.specs.code.Walk.{asked_with}
+use Rattle.erd_check.specs.Visits.{faults_of, told_at, told_of_items, told_of_members, told_of_report, IsInOrder, Telling}
 use Rattle.erd_check.specs.declared.want.Scope.{Scope}
 use Rattle.erd_check.specs.declared.want.Want.{Want}
 use Rattle.erd_check.specs.declared.want.Want.TheVariants.{Object}

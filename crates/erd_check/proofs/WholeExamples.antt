@@ -6,7 +6,7 @@ use Rattle.erd_tables.specs.declared.fault.Fault.{Fault}
 use Rattle.erd_tables.specs.declared.fault.Reason.TheVariants.{WrongKind, MissingMember, NotWhole, OutsideProfile, UnknownReference, CarriedIdentity, NotPreElection, ElectionCount}
 use Rattle.erd_tables.specs.declared.place.Step.TheVariants.{Name, At}
 use Rattle.erd_check.specs.Faults.{ShapeFault, NoneOf}
-use Rattle.erd_check.specs.code.Paths.{fault_at}
+use Rattle.erd_check.specs.Paths.{fault_at}
 use Rattle.erd_check.specs.Trees.{IsTree}
 use Rattle.erd_check.proofs.Deciding.{is_tree, tree_sound, faults_found, faults_listed, no_fault_listed}
 use Rattle.erd_check.proofs.Reports.{tree_of, one_unit, small_ballot, small_ballot_canonical, one_unit_report, three_contests, two_elections}

@@ -109,21 +109,6 @@ is_elections w = false
 abbrev pub is_table_set : Want → Bool
 is_table_set w = is_elections w || (is_keyed_array w || is_compared_set w)
 
--- True where a reference is asked for, or a value that may have references inside: an array of references, or an array or
--- an object that is not part of an identifier, a text or a carried value.
-abbrev pub leads_to_references : Want → Bool
-leads_to_references (Object role.Identifier) = false
-leads_to_references (Object role.Label) = false
-leads_to_references (Object role.Language) = false
-leads_to_references (Object r) = true
-leads_to_references (Reference f) = true
-leads_to_references (Member (kind.Many f) required) = true
-leads_to_references (Member (kind.Keyed f) required) = true
-leads_to_references (Member kind.Elections required) = true
-leads_to_references (Member kind.Content required) = true
-leads_to_references (Member kind.Ordered required) = true
-leads_to_references w = false
-
 -- ---- at places
 
 -- A value, what is asked of it, and whether it is equal to an earlier entry of its set.

@@ -8,6 +8,12 @@ use serde_json::{Map, Number, Value};
 /// Returns `true` if and only if two values are equal as JSON: built alike, with equal texts and equal whole numbers.
 /// Arrays are compared as lists, and objects as maps. A number that is not whole is equal to no number, not even to
 /// itself; this rule is from docs/PROFILE.md.
+///
+/// ```
+/// let one = Value::from_str(alloc, r#"{"a":1,"b":2}"#)?;
+/// let other = Value::from_str(alloc, r#"{"b":2,"a":1}"#)?;
+/// assert!(rt; same_json(&one, &other));
+/// ```
 #[cycle(same)]
 pub fn same_json(left: &Value, right: &Value) -> bool
     ensures { result ≡ is_same_json (view left.now) (view right.now) }
@@ -66,6 +72,10 @@ fn same_members(left: &Map<String, Value>, right: &Map<String, Value>) -> bool
 }
 
 /// Returns `true` if and only if the value is equal as JSON to one of the earlier values, as `same_json` compares them.
+///
+/// ```
+/// assert!(rt; is_among(&second, entries));
+/// ```
 pub fn is_among(value: &Value, earlier: &[Value]) -> bool
     ensures { result ≡ list_any (is_same_json (view value.now)) (map view earlier.now) }
 {

@@ -4,8 +4,9 @@ ghost use Rattle.serde_json.specs.Find.{is_float};
 ghost use Rattle.serde_json.specs.View.{view, number_view};
 ghost use Rattle.erd_check.specs.Faults.{has_kind, has_wanted_kind, names_wanted, is_not_whole, is_reference, lacks};
 ghost use Rattle.erd_check.specs.Numbers.{IsFittingNumber, IsInRange};
-ghost use Rattle.erd_check.specs.code.Walk.{IsAskedInRange, other_reasons, missing, faults_of};
-ghost use Rattle.erd_check.specs.code.Paths.{steps_of};
+ghost use Rattle.erd_check.specs.code.Walk.{IsAskedInRange, other_reasons, missing};
+ghost use Rattle.erd_check.specs.Visits.{faults_of};
+ghost use Rattle.erd_check.specs.Paths.{steps_of};
 
 use crate::equality::is_among;
 use crate::path::{Path, push_fault};

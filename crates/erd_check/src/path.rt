@@ -1,6 +1,6 @@
 //! The place that a walk has come to, and the fault at that place.
 ghost use Rattle.std.specs.Prelude.{◌≡◌, [], ◌∷◌, ◌++◌, IfOk};
-ghost use Rattle.erd_check.specs.code.Paths.{steps_of, fault_at};
+ghost use Rattle.erd_check.specs.Paths.{steps_of, fault_at};
 
 use erd_tables::{Fault, Place, Reason, Step, Text};
 use std::alloc::{AllocError, Global};

@@ -3,7 +3,8 @@ ghost use Rattle.serde_json.specs.View.{view};
 ghost use Rattle.erd_tables.specs.Faults.{ListsAll};
 ghost use Rattle.erd_check.specs.Faults.{ShapeFault};
 ghost use Rattle.erd_check.specs.Trees.{IsShallow};
-ghost use Rattle.erd_check.specs.code.Walk.{IsAskedInRange, IsInOrder, IsKnown};
+ghost use Rattle.erd_check.specs.code.Walk.{IsAskedInRange};
+ghost use Rattle.erd_check.specs.Visits.{IsInOrder, IsKnown};
 ghost use Rattle.erd_check.specs.declared.want.Want.TheVariants.{Object};
 ghost use Rattle.erd_tables.specs.declared.class.Role.TheVariants.{Report};
 
@@ -23,6 +24,12 @@ use std::alloc::{AllocError, Global};
 /// # Errors
 ///
 /// `AllocError` if out of memory.
+///
+/// ```
+/// let tree = Value::from_str(alloc, r#"{"@type":"ElectionResults.ElectionReport"}"#)?;
+/// let found = faults(alloc, &tree)?;
+/// assert_eq!(rt; found.len(), 2);
+/// ```
 pub fn faults(alloc: Global, tree: &Value) -> Result<FaultList, AllocError>
     requires nests { IsShallow (view tree.now) }
     ensures { IfOk result (ListsAll (ShapeFault (view tree.now))) }

@@ -37,6 +37,10 @@ impl<'a> Model for Shaped<'a> {
 impl<'a> Shaped<'a> {
     /// Returns the report. Its shape has no fault, and it is nested at most 127 deep. The names of the members of each
     /// object in it strictly rise, and each number in it is whole and fits 64 bits.
+    ///
+    /// ```
+    /// assert!(rt; same_json(shaped.tree(), &tree));
+    /// ```
     pub fn tree(&self) -> &'a Value
         ensures tree { result.now ≡ self.now }
         ensures faultless { IsFaultless result.now }
@@ -58,6 +62,11 @@ impl<'a> Shaped<'a> {
 /// `CheckError::Faults` if the shape has faults: all of them, as `faults` lists them. There is at least one.
 ///
 /// `CheckError::Memory` if out of memory.
+///
+/// ```
+/// let tree = Value::from_str(alloc, BALLOT)?;
+/// let shaped = shape(alloc, &tree)?;
+/// ```
 pub fn shape<'a>(alloc: Global, tree: &'a Value) -> Result<Shaped<'a>, CheckError>
     requires nests { IsShallow (view tree.now) }
     ensures tree { IfOk result (λ s. s ≡ tree.now) }

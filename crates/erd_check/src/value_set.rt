@@ -24,6 +24,11 @@ impl<'a> ValueSet<'a> {
     ghost use Rattle.erd_check.specs.ValueSets.{StandsFor, values_in};
 
     /// Returns an empty set.
+    ///
+    /// ```
+    /// let mut set = ValueSet::new(alloc);
+    /// assert!(rt; !set.has(&one));
+    /// ```
     pub fn new(alloc: Global) -> ValueSet<'a>
         ensures { StandsFor [] result }
     {
@@ -37,6 +42,10 @@ impl<'a> ValueSet<'a> {
     /// # Errors
     ///
     /// `AllocError` if out of memory.
+    ///
+    /// ```
+    /// assert!(rt; ValueSet::of(alloc, entries)?.has(&second));
+    /// ```
     pub fn of(alloc: Global, values: &'a [Value]) -> Result<ValueSet<'a>, AllocError>
         ensures { IfOk result (StandsFor (map view values.now)) }
     {
@@ -52,6 +61,11 @@ impl<'a> ValueSet<'a> {
     /// # Errors
     ///
     /// `AllocError` if out of memory.
+    ///
+    /// ```
+    /// set.insert(&one)?;
+    /// assert!(rt; set.has(&other));
+    /// ```
     pub fn insert(&mut self, value: &'a Value) -> Result<(), AllocError>
         ensures { IfOk result (λ _. (ds : List Data) → StandsFor ds self.old → StandsFor (ds ++ view value.now ∷ []) self.new) }
     {
@@ -61,7 +75,7 @@ impl<'a> ValueSet<'a> {
 
     /// Returns values to compare with the given one. One of them is equal to it as JSON if and only if a value of the
     /// set is.
-    pub fn tied_with(&self, value: &'a Value) -> &'a [Value]
+    pub(crate) fn tied_with(&self, value: &'a Value) -> &'a [Value]
         ensures { list_any (is_same_json (view value.now)) (map view result.now) ≡ list_any (is_same_json (view value.now)) (values_in self.now) }
     {
         match self.ordered.get(&OrderedValue { value }) {
@@ -71,6 +85,10 @@ impl<'a> ValueSet<'a> {
     }
 
     /// Returns `true` if and only if the set has a value that is equal as JSON to the given one.
+    ///
+    /// ```
+    /// assert!(rt; set.has(&other));
+    /// ```
     pub fn has(&self, value: &'a Value) -> bool
         ensures { result ≡ list_any (is_same_json (view value.now)) (values_in self.now) }
     {

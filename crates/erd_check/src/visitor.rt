@@ -6,8 +6,8 @@ ghost use Rattle.serde_json.specs.View.{view};
 ghost use Rattle.erd_tables.specs.declared.fault.Reason.{Reason};
 ghost use Rattle.erd_check.specs.Trees.{is_same_json};
 ghost use Rattle.erd_check.specs.Wants.{scope_inside};
-ghost use Rattle.erd_check.specs.code.Paths.{steps_of};
-ghost use Rattle.erd_check.specs.code.Walk.{faults_of, IsKnownOfAll, IsSilent};
+ghost use Rattle.erd_check.specs.Paths.{steps_of};
+ghost use Rattle.erd_check.specs.Visits.{faults_of, IsKnownOfAll, IsSilent};
 ghost use Rattle.erd_check.specs.declared.want.Want.{Want as Asked};
 
 use crate::path::Path;

@@ -9,8 +9,8 @@ ghost use Rattle.erd_tables.specs.Texts.{text_cmp};
 ghost use Rattle.erd_check.specs.Trees.{is_same_json};
 ghost use Rattle.erd_check.specs.Values.{names};
 ghost use Rattle.erd_check.specs.Wants.{entry_want, is_compared_set};
-ghost use Rattle.erd_check.specs.code.Paths.{steps_of};
-ghost use Rattle.erd_check.specs.code.Walk.{told_at, told_of_items, told_of_members, told_of_report, IsKnown, AreItemsKnown, AreMembersKnown, IsInOrder, AreItemsInOrder, AreMembersInOrder};
+ghost use Rattle.erd_check.specs.Paths.{steps_of};
+ghost use Rattle.erd_check.specs.Visits.{told_at, told_of_items, told_of_members, told_of_report, IsKnown, AreItemsKnown, AreMembersKnown, IsInOrder, AreItemsInOrder, AreMembersInOrder};
 ghost use Rattle.erd_check.specs.declared.want.Want.TheVariants.{Object};
 ghost use Rattle.erd_tables.specs.declared.class.Role.TheVariants.{Report};
 

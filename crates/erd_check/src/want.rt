@@ -1,7 +1,7 @@
 //! What the member table (docs/PROFILE.md) asks of a value.
 ghost use Rattle.std.specs.Prelude.{◌≡◌};
 ghost use Rattle.serde_json.specs.View.{view};
-ghost use Rattle.erd_check.specs.Wants.{scope_inside, want_of_name, member_want, carried_want, entry_want, is_compared_set, leads_to_references};
+ghost use Rattle.erd_check.specs.Wants.{scope_inside, want_of_name, member_want, carried_want, entry_want, is_compared_set};
 
 use crate::values::class_of_object;
 use erd_tables::class::{Class, Family, Role};
@@ -39,7 +39,7 @@ pub enum Scope {
 
 /// Returns the scope of the members of a value, given what the table asks of the value. The scope is `Nothing` if the value
 /// is not an object.
-pub fn scope_of(want: Want, value: &Value) -> Scope
+pub(crate) fn scope_of(want: Want, value: &Value) -> Scope
     ensures { result ≡ scope_inside want (view value.now) }
 {
     if !value.is_object() {
@@ -57,7 +57,7 @@ pub fn scope_of(want: Want, value: &Value) -> Scope
 
 /// Returns what the table asks of the member of this name in an object with the scope, or `None` if it asks nothing. If the
 /// class of the object is unknown, the table asks for `@type` alone.
-pub fn want_in(scope: Scope, name: &str) -> Option<Want>
+pub(crate) fn want_in(scope: Scope, name: &str) -> Option<Want>
     ensures { result ≡ want_of_name scope name.now }
 {
     match scope {
@@ -101,7 +101,7 @@ fn want_of_carried(name: &str) -> Want
 
 /// Returns what the table asks of the entries of an array, given what it asks of the array. Returns `None` if it asks
 /// nothing of the entries.
-pub fn want_of_entry(want: Want) -> Option<Want>
+pub(crate) fn want_of_entry(want: Want) -> Option<Want>
     ensures { result ≡ entry_want want }
 {
     match want {
@@ -122,7 +122,7 @@ pub fn want_of_entry(want: Want) -> Option<Want>
 
 /// Returns `true` if and only if the table asks for a set whose entries are compared with one another: an array of the kind
 /// `Many`, `Identifiers` or `Languages`.
-pub fn is_set_wanted(want: Want) -> bool
+pub(crate) fn is_set_wanted(want: Want) -> bool
     ensures { result ≡ is_compared_set want }
 {
     matches!(
@@ -132,24 +132,4 @@ pub fn is_set_wanted(want: Want) -> bool
             _
         )
     )
-}
-
-/// Returns `true` if the table asks for a reference, or for a value that may have references inside. No identifier, no text
-/// and no carried value has any.
-pub fn may_have_references(want: Want) -> bool
-    ensures { result ≡ leads_to_references want }
-{
-    match want {
-        Want::Object(role) => !matches!(role, Role::Identifier | Role::Label | Role::Language),
-        Want::Reference(_) => true,
-        Want::Member(kind, _) => matches!(
-            kind,
-            MemberKind::Many(_)
-                | MemberKind::Keyed(_)
-                | MemberKind::Elections
-                | MemberKind::Content
-                | MemberKind::Ordered
-        ),
-        Want::ClassText(_) | Want::Status | Want::Carried => false,
-    }
 }

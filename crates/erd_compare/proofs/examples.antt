@@ -3,3 +3,4 @@ pub mod OrderExamples
 pub mod FirstDifferenceExamples
 mod BallotDifferenceExamples
 mod ElectionDifferenceExamples
+mod DataExamples

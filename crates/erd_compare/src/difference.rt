@@ -71,6 +71,10 @@ impl Difference {
     /// # Errors
     ///
     /// `AllocError` if out of memory.
+    ///
+    /// ```
+    /// assert_eq!(rt; difference.line(alloc)?.as_str(), "election: member \"Name\"");
+    /// ```
     pub fn line(&self, alloc: Global) -> Result<String, AllocError>
         ensures { IfOk result (λ line. string_bytes line ≡ difference_line self.now) }
     {
@@ -82,7 +86,7 @@ impl Difference {
 }
 
 /// The word for a part.
-fn part_words(part: Part) -> &'static str
+pub(crate) fn part_words(part: Part) -> &'static str
     ensures { result.now ≡ part_text part }
 {
     match part {
@@ -131,11 +135,19 @@ fn how_words(alloc: Global, how: &How) -> Result<String, AllocError>
 fn key_in_json(alloc: Global, key: &Key) -> Result<String, AllocError>
     ensures { IfOk result (λ json. string_bytes json ≡ compact_text (key_as_json key.now)) }
 {
+    let value = key_value(alloc, key)?;
+    value.to_string(alloc)
+}
+
+/// The three texts of a key as a JSON array.
+pub(crate) fn key_value(alloc: Global, key: &Key) -> Result<Value, AllocError>
+    ensures { IfOk result (λ value. view value ≡ key_as_json key.now) }
+{
     let kind = string_value(alloc, &key.kind)?;
     let other = string_value(alloc, &key.other)?;
     let value = string_value(alloc, &key.value)?;
     let texts = vec![in alloc; kind, other, value]?;
-    Value::Array(texts).to_string(alloc)
+    Ok(Value::Array(texts))
 }
 
 /// A text as compact JSON.

@@ -45,6 +45,10 @@ const PARTS: [Part; 10] = [
 /// # Errors
 ///
 /// `AllocError` if out of memory.
+///
+/// ```
+/// assert!(rt; first_difference(alloc, &report, &report)?.is_none());
+/// ```
 pub fn first_difference(
     alloc: Global,
     left: &Report,

@@ -2,6 +2,7 @@
 #![tactic(auto)]
 
 pub mod difference;
+mod difference_value;
 mod first;
 mod numbers;
 mod objects;

@@ -3,5 +3,6 @@ pub mod ReferenceFaultLists
 pub mod SelectionEntries
 pub mod ReferenceLookups
 pub mod SelectionsElsewhere
+pub mod SilentWalks
 pub mod ReasonsFound
 pub mod ReferenceWalks

@@ -17,3 +17,4 @@ pub mod PositionedKeys  -- keys with positions, in rising order
 pub mod RankedTests  -- the test by which an index of names with ranks is asked
 pub mod RankedReports  -- the names that a report keeps with ranks
 pub mod KeysInNames  -- the keys in names are those of objects
+pub mod RanksInTurn  -- names with ranks are in the order of names

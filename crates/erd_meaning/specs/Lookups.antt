@@ -1,6 +1,6 @@
 -- What can be looked up among the objects and the elections of a report, by family and position.
-use Rattle.std.specs.Prelude.{◌≡◌, ◌↔◌, ◌+◌, ◌==◌, ℕ, List, [], ◌∷◌, Option, Some, None, if◌then◌else◌, filter, length, map, option_and_then, option_map}
-use Rattle.std.specs.List.{slice_get}
+use Rattle.std.specs.Prelude.{◌≡◌, ◌↔◌, ℕ, List, Option, Some, None, filter, length, map, option_and_then, option_map, take}
+use Rattle.std.specs.List.{enumerate_from, flat_map, slice_get}
 use Rattle.std.specs.Option.{option_cmp}
 use Rattle.std.specs.Ordering.{is_lt}
 use Rattle.serde_json.specs.Data.{Data}
@@ -20,15 +20,12 @@ key_in π f t i = option_and_then (λ o. key_of_family_object π f o.value) (sli
 abbrev pub rank_of : Preference → Data → Family → Option Key → ℕ
 rank_of π t f k = length (filter (λ o. is_lt (option_cmp key_cmp (key_of π o.value) k)) (objects f t))
 
--- The keys with their positions. The first stands at position i.
-abbrev pub positioned : {K : Type 0} → ℕ → List K → List (K × ℕ)
-positioned i [] = []
-positioned i (k ∷ ks) = (k, i) ∷ positioned (i + 1) ks
-
 -- The keys of the objects of the family in rising order, each with the position of its object. Equal keys stand in the order of
 -- the report.
 abbrev pub rising_keys : Preference → Data → Family → List (Option Key × ℕ)
-rising_keys π t f = rising_list (λ a b. option_cmp key_cmp a.0 b.0) (positioned 0 (map (λ o. key_of_family_object π f o.value) (objects f t)))
+rising_keys π t f =
+    rising_list (λ a b. option_cmp key_cmp a.0 b.0)
+    (map (λ p. (key_of_family_object π f p.1.value, p.0)) (enumerate_from 0 (objects f t)))
 
 -- The `@id` of the object at this position of its family, or none if there is no such object or it has no `@id`.
 abbrev pub id_in : Family → Data → ℕ → Option (List ℕ)
@@ -52,21 +49,9 @@ election_in f t i = option_and_then (λ o. election_of_place o.place) (slice_get
 abbrev pub selection_in : Preference → Data → ℕ → Option (ℕ × NameParts)
 selection_in π t i = option_and_then (λ s. option_map (λ n. (s.0, n)) (name_of π t s.1.value)) (slice_get (numbered_selections t) i)
 
--- The selection at position i of the contest at position c, or none.
-abbrev pub selection_of : Data → ℕ → ℕ → Option Placed
-selection_of t c i = option_and_then (λ o. slice_get (selections_of_contest o) i) (slice_get (contests t) c)
-
--- The selection, if it is of the contest at position c.
-abbrev pub if_of_contest : ℕ → ℕ × Placed → Option Placed
-if_of_contest c s = if s.0 == c then Some s.1 else None
-
--- The selections of the contest at position c stand one after another among those of the report, from position s on.
-abbrev pub StandFrom : Data → ℕ → ℕ → Type 0
-StandFrom t c s = (i : ℕ) → option_and_then (if_of_contest c) (slice_get (numbered_selections t) (s + i)) ≡ selection_of t c i
-
--- The name of the selection at this position of the contest at the other, or none.
-abbrev pub name_in_contest : Preference → Data → ℕ → ℕ → Option NameParts
-name_in_contest π t c i = option_and_then (λ o. option_and_then (λ s. name_of π t s.value) (slice_get (selections_of_contest o) i)) (slice_get (contests t) c)
+-- The number of selections in the contests before this position.
+abbrev pub selections_before : Data → ℕ → ℕ
+selections_before t c = length (flat_map selections_of_contest (take c (contests t)))
 
 -- The answer is a position if and only if the object of the family at that position has the key. So at most one has it.
 abbrev pub FindsKey : Preference → Data → Family → Key → Option ℕ → Type 0

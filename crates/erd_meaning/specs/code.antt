@@ -3,8 +3,6 @@ pub mod Orders  -- the orders of keys, names and compact texts are total, and te
 pub mod ChosenKeys  -- the order in which the program chooses among identifiers
 pub mod LabelTexts  -- the text of a label, with its translations as texts
 pub mod ShownLabels  -- what clauses see of a label that is written member by member
-pub mod NameHashes  -- what a hasher is given of a key and of a name
-pub mod NumberedNames  -- names with numbers in place of keys
 pub mod NumberedOrders  -- their order is total, tells unequal ones apart, and keeps the order of names if the numbers keep that of keys
 pub mod ObjectWalk  -- the elections and the objects in the order in which the program meets them, with the faults of identity
 pub mod ElectionKeys  -- what the program keeps of the elections: their keys, and which holds an object
@@ -15,7 +13,7 @@ pub mod Indexed  -- when these indexes are those of the objects
 pub mod ReferenceReasons  -- the reasons of a reference, as the program tells them
 pub mod NamesAmong  -- the names of selections by these look-ups
 pub mod SelectionWalk  -- the names of selections in the order in which the program meets them, with the faults of selections
-pub mod RankedNames  -- names with the ranks of their keys, which an index compares and a report lends
+pub mod RanksAmong  -- names with ranks among the objects that the program keeps, which an index compares
 pub mod RankedOrders  -- their order is total, and equal ones are hashed alike
 pub mod Shown  -- what the program's own structs stand for
 pub mod ShownWalks  -- what clauses see of the walks

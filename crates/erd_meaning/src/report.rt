@@ -5,21 +5,19 @@ ghost use Rattle.serde_json.specs.Written.{has_float};
 ghost use Rattle.erd_check.specs.Numbers.{HasFittingNumbers};
 ghost use Rattle.erd_check.specs.Trees.{IsShallow, IsTree};
 ghost use Rattle.erd_meaning.specs.Accepted.{IsAccepted};
-ghost use Rattle.erd_meaning.specs.Lookups.{FindsId, FindsKey, FindsSelection, StandFrom, election_in, election_key_in, key_in, name_in_contest, rising_keys, selection_in};
+ghost use Rattle.erd_meaning.specs.Lookups.{FindsId, FindsKey, FindsSelection, election_in, election_key_in, key_in, rising_keys, selection_in, selections_before};
 ghost use Rattle.erd_meaning.specs.Objects.{IsBounded, elections, objects};
-ghost use Rattle.erd_meaning.specs.code.RankedNames.{AllAreRanked, names_of, ranked_name, ranked_selection_in};
+ghost use Rattle.erd_meaning.specs.code.RanksAmong.{AllAreRanked, names_of};
+ghost use Rattle.erd_meaning.specs.RankedNames.{ranked_selection_in};
 ghost use Rattle.erd_meaning.specs.code.Resolved.{IsResolved};
 ghost use Rattle.erd_meaning.specs.code.ResolvedElections.{AreElections};
 ghost use Rattle.erd_meaning.specs.code.SelectionWalk.{NumberedName};
-ghost use Rattle.erd_meaning.specs.SelectionNames.{name_of};
 ghost use Rattle.erd_meaning.specs.code.Shown.{shown};
 
 pub(crate) mod reference_judge;
 pub(crate) mod resolving;
 
 use crate::keys::key::Key;
-use crate::keys::key_rule::KeyRule;
-use crate::names::naming::name_of_selection;
 use crate::names::ranked_name::RankedName;
 use crate::names::selection_name::SelectionName;
 use crate::names::sought_name::SoughtName;
@@ -128,6 +126,10 @@ impl<'a> Report<'a> {
     /// Returns the JSON value of the report. It is accepted under the preference, and nested at most 127 deep. The names
     /// of the members of each object in it strictly rise, each number in it is whole and fits 64 bits, and each family
     /// has fewer than 2^64 objects.
+    ///
+    /// ```
+    /// assert!(rt; same_json(report.tree(), tree));
+    /// ```
     pub fn tree(&self) -> &'a Value
         ensures tree { result.now ≡ self.now.tree }
         ensures accepted { IsAccepted self.now.prefer (view result.now) }
@@ -143,6 +145,10 @@ impl<'a> Report<'a> {
     }
 
     /// Returns the preference that the report was resolved under: the type of identifier that its keys follow, or `None`.
+    ///
+    /// ```
+    /// assert!(rt; report.preference().is_none());
+    /// ```
     pub fn preference(&self) -> Option<&str>
         ensures { option_copied result ≡ self.now.prefer }
     {
@@ -153,6 +159,10 @@ impl<'a> Report<'a> {
     }
 
     /// Returns the election at position 0. A report has at least one (reason 9).
+    ///
+    /// ```
+    /// assert!(rt; same_json(report.election(), report.election_at(0).ok_or("no election")?));
+    /// ```
     pub fn election(&self) -> &'a Value
         ensures { option_map (λ o. o.value) (slice_get (elections (view self.now.tree)) 0) ≡ Some (view result.now) }
     {
@@ -160,6 +170,10 @@ impl<'a> Report<'a> {
     }
 
     /// Returns the number of elections.
+    ///
+    /// ```
+    /// assert_eq!(rt; report.election_count(), 1);
+    /// ```
     pub fn election_count(&self) -> usize
         ensures { result ≡ length (elections (view self.now.tree)) }
     {
@@ -167,6 +181,10 @@ impl<'a> Report<'a> {
     }
 
     /// Returns the election at the position, or `None` if there is none. Positions count from 0, in the order of the report.
+    ///
+    /// ```
+    /// assert!(rt; same_json(report.election(), report.election_at(0).ok_or("no election")?));
+    /// ```
     pub fn election_at(&self, index: usize) -> Option<&'a Value>
         ensures { option_map (λ v. view v.now) result ≡ option_map (λ o. o.value) (slice_get (elections (view self.now.tree)) index) }
     {
@@ -175,6 +193,10 @@ impl<'a> Report<'a> {
 
     /// Returns the key of the election at the position, or `None` if there is no such election or it has no external
     /// identifier. The only election of a report does not need one.
+    ///
+    /// ```
+    /// assert!(rt; report.election_key(0).is_none());
+    /// ```
     pub fn election_key(&self, index: usize) -> Option<&Key>
         ensures { option_copied result ≡ election_key_in self.now.prefer (view self.now.tree) index }
     {
@@ -184,6 +206,10 @@ impl<'a> Report<'a> {
     /// Returns the position of the election that contains the candidate, contest or style at the position, or `None` if
     /// there is no such object. For other families it returns `None`. For the election of a selection, ask for that of
     /// its contest.
+    ///
+    /// ```
+    /// assert_eq!(rt; report.election_of(Family::Candidate, 0), Some(0));
+    /// ```
     pub fn election_of(&self, family: Family, index: usize) -> Option<usize>
         ensures { result ≡ election_in family (view self.now.tree) index }
     {
@@ -191,6 +217,10 @@ impl<'a> Report<'a> {
     }
 
     /// Returns the number of objects of the family.
+    ///
+    /// ```
+    /// assert_eq!(rt; report.count(Family::Selection), 2);
+    /// ```
     pub fn count(&self, family: Family) -> usize
         ensures { result ≡ length (objects family (view self.now.tree)) }
     {
@@ -198,6 +228,11 @@ impl<'a> Report<'a> {
     }
 
     /// Returns the object of the family at the position, or `None` if there is none.
+    ///
+    /// ```
+    /// assert!(rt; report.object(Family::Candidate, 0).is_some());
+    /// assert!(rt; report.object(Family::Candidate, 1).is_none());
+    /// ```
     pub fn object(&self, family: Family, index: usize) -> Option<&'a Value>
         ensures { option_map (λ v. view v.now) result ≡ option_map (λ o. o.value) (slice_get (objects family (view self.now.tree)) index) }
     {
@@ -209,6 +244,11 @@ impl<'a> Report<'a> {
 
     /// Returns the key of the object of the family at the position, or `None` if there is no such object. Selections have no
     /// keys. Every object of another family has one (reason 12).
+    ///
+    /// ```
+    /// let county = key(alloc, "fips", "20")?;
+    /// assert_eq!(rt; report.key_at(Family::Unit, 0), Some(&county));
+    /// ```
     pub fn key_at(&self, family: Family, index: usize) -> Option<&Key>
         ensures { option_copied result ≡ key_in self.now.prefer family (view self.now.tree) index }
     {
@@ -221,6 +261,10 @@ impl<'a> Report<'a> {
     /// # Errors
     ///
     /// `AllocError` if out of memory.
+    ///
+    /// ```
+    /// assert_eq!(rt; report.rising_keys(alloc, Family::Unit)?.len(), 1);
+    /// ```
     pub fn rising_keys(
         &self,
         alloc: Global,
@@ -233,6 +277,10 @@ impl<'a> Report<'a> {
 
     /// Returns the position of the object of the family with the key, or `None` if there is none. No two objects of a family
     /// have the same key (reason 13).
+    ///
+    /// ```
+    /// assert_eq!(rt; report.find(Family::Unit, &county), Some(0));
+    /// ```
     pub fn find(&self, family: Family, key: &Key) -> Option<usize>
         ensures { FindsKey self.now.prefer (view self.now.tree) family key.now result }
     {
@@ -241,6 +289,10 @@ impl<'a> Report<'a> {
 
     /// Returns the family and position of the object with the `@id`, or `None` if there is none. No two objects have
     /// the same `@id` (reason 14).
+    ///
+    /// ```
+    /// assert_eq!(rt; report.target("k1"), Some((Family::Candidate, 0)));
+    /// ```
     pub fn target(&self, id: &str) -> Option<(Family, usize)>
         ensures { FindsId (view self.now.tree) id.now result }
     {
@@ -249,6 +301,11 @@ impl<'a> Report<'a> {
 
     /// Returns the position of the contest of the selection at the position, and the name of the selection. Returns
     /// `None` if there is no such selection.
+    ///
+    /// ```
+    /// let (contest, name) = report.selection_at(1).ok_or("no write-in line")?;
+    /// assert_eq!(rt; contest, 0);
+    /// ```
     pub fn selection_at(&self, index: usize) -> Option<(usize, &SelectionName)>
         ensures { option_map (λ s. (s.0, s.1.now)) result ≡ selection_in self.now.prefer (view self.now.tree) index }
     {
@@ -258,6 +315,11 @@ impl<'a> Report<'a> {
 
     /// Returns the position of the contest of the selection at the position, and the name of the selection with the ranks of
     /// its keys. Returns `None` if there is no such selection.
+    ///
+    /// ```
+    /// let (_, ranked) = report.ranked_name_at(0).ok_or("no selection")?;
+    /// assert_eq!(rt; ranked.family(), Family::Candidate);
+    /// ```
     pub fn ranked_name_at(&self, index: usize) -> Option<(usize, &RankedName)>
         ensures { option_map (λ s. (s.0, s.1.now)) result ≡ ranked_selection_in self.now.prefer (view self.now.tree) index }
     {
@@ -265,28 +327,24 @@ impl<'a> Report<'a> {
         Some((*contest, name))
     }
 
-    /// Returns the position of the first selection of the contest at the position `contest`. The other selections of the
-    /// contest follow it, in the order of the contest.
+    /// Returns the position of the first selection of the contest at the position `contest`: the number of selections in the
+    /// contests before it. The other selections of the contest follow it, in the order of the contest.
+    ///
+    /// ```
+    /// assert_eq!(rt; report.first_selection(0), 0);
+    /// ```
     pub fn first_selection(&self, contest: usize) -> usize
-        ensures { StandFrom (view self.now.tree) contest result }
+        ensures { result ≡ selections_before (view self.now.tree) contest }
     {
         self.objects().first_selection(contest)
     }
 
-    /// Returns the name of the selection at the position `index` of the contest at the position `contest`, or `None` if there
-    /// is no such selection.
-    pub fn name_in_contest(&self, contest: usize, index: usize) -> Option<&SelectionName>
-        ensures { option_copied result ≡ name_in_contest self.now.prefer (view self.now.tree) contest index }
-    {
-        // read for its bound: a word counts the selections
-        let _count = self.count(Family::Selection);
-        let start = self.first_selection(contest);
-        let (own, name) = self.selection_at(start.checked_add(index)?)?;
-        if own == contest { Some(name) } else { None }
-    }
-
     /// Returns the position of the selection that has the name and is in the contest at the position `contest`, or `None` if
     /// there is none. No two selections of a contest have the same name (reason 18).
+    ///
+    /// ```
+    /// assert_eq!(rt; report.find_selection(contest, name), Some(1));
+    /// ```
     pub fn find_selection(&self, contest: usize, name: &SelectionName) -> Option<usize>
         ensures { FindsSelection self.now.prefer (view self.now.tree) contest name.now result }
     {
@@ -297,30 +355,6 @@ impl<'a> Report<'a> {
             name,
         };
         indexes.names.get_index_of(&sought)
-    }
-
-    /// Returns the name of a selection, or `None` if its class is not one of the selection classes. The candidates or
-    /// parties that it refers to are looked up in this report. Each number in `selection` must be whole.
-    ///
-    /// # Errors
-    ///
-    /// `AllocError` if out of memory.
-    pub fn name_of(
-        &self,
-        alloc: Global,
-        selection: &Value,
-    ) -> Result<Option<SelectionName>, AllocError>
-        requires whole { has_float (view selection.now) ≡ false }
-        ensures { IfOk result (λ name. name ≡ name_of self.now.prefer (view self.now.tree) (view selection.now)) }
-    {
-        let keys = KeyRule {
-            alloc,
-            prefer: self.preference(),
-        };
-        match name_of_selection(&keys, &self.indexes().objects, selection)? {
-            Some(name) => Ok(Some(name.into_name())),
-            None => Ok(None),
-        }
     }
 }
 

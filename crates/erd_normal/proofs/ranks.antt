@@ -4,7 +4,6 @@ pub mod KeyPlaces
 pub mod Numbered
 pub mod RisingTables
 pub mod RisingEntries  -- the objects that stand with rising keys
-pub mod KeysInTurn
 pub mod FamilyNumbers
 pub mod PlacedEntries
 pub mod PartsFilled

@@ -1,4 +1,5 @@
--- The laws of the canonical form, as statements: it is unique, a rearranged report has the same one, and preferences agree.
+-- The laws of the canonical form, as statements: it exists and is unique, a rearranged report has the same one, and preferences
+-- agree.
 use Rattle.std.specs.Prelude.{ℕ, ◌≡◌, ◌↔◌, List, Option, Some, map, IsTrue, Contains}
 use Rattle.serde_json.specs.Data.{Data}
 use Rattle.erd_tables.specs.declared.class.Family.{Family}
@@ -7,7 +8,7 @@ use Rattle.erd_tables.specs.declared.class.Role.TheVariants as role
 use Rattle.erd_tables.specs.declared.member.MemberKind.TheVariants as kind
 use Rattle.erd_tables.specs.declared.place.Step.{Step}
 use Rattle.erd_check.specs.Numbers.{HasFittingNumbers}
-use Rattle.erd_check.specs.Trees.{IsTree}
+use Rattle.erd_check.specs.Trees.{IsNoDeeper, IsTree}
 use Rattle.erd_check.specs.Values.{entries_of}
 use Rattle.erd_check.specs.Wants.{Asked, asked_at}
 use Rattle.erd_meaning.specs.Accepted.{IsAccepted}
@@ -17,7 +18,7 @@ use Rattle.erd_meaning.specs.Objects.{Placed, contests, elections, objects, sele
 use Rattle.erd_meaning.specs.Records.{content_of, key_set, object_record, selection_record, meaning}
 use Rattle.erd_meaning.specs.SelectionNames.{name_of, key_named, keys_named}
 use Rattle.erd_meaning.specs.declared.keys.key.Key.{Key}
-use Rattle.erd_normal.specs.Canonical.{kind_wanted, IsCanonical}
+use Rattle.erd_normal.specs.Canonical.{kind_wanted, IsCanonical, IsCanonicalFormOf}
 use Rattle.erd_normal.specs.Rearranged.{Change, IsRearrangement}
 
 -- Both trees are canonical, and they mean the same.
@@ -125,3 +126,16 @@ abbrev pub PreferencesAgree : Type 0
 PreferencesAgree =
     (π ρ : Preference) (t u : Data) → IsGiven t → IsGiven u → IsAccepted π t → IsAccepted π u → IsAccepted ρ t → IsAccepted ρ u
     → (meaning π t ≡ meaning π u) ↔ (meaning ρ t ≡ meaning ρ u)
+
+-- ---- existence
+
+-- A tree that is the canonical form of t. It is nested no deeper than t.
+pub record HasCanonicalForm (π : Preference) (t : Data) : Type 0 where
+  pub form : Data
+  pub is_tree : IsTree form
+  pub is_form : IsCanonicalFormOf π t form
+  pub no_deeper : IsNoDeeper form t
+
+-- Under every preference, each report as calls take it has a canonical form if it is accepted.
+abbrev pub CanonicalFormExists : Type 0
+CanonicalFormExists = (π : Preference) (t : Data) → IsGiven t → IsAccepted π t → HasCanonicalForm π t

@@ -1,5 +1,6 @@
 -- Other spellings of one report: other `@id` texts, and other orders of the entries of its sets.
-use Rattle.std.specs.Prelude.{ℕ, zero, suc, ◌≡◌, ◌<◌, List, [], ◌∷◌, Bool, true, false, if◌then◌else◌, Option, Some, option_map, unwrap_or, map, find, slice_get, Contains, swap, length, IsSomeAnd, IsTrue}
+use Rattle.std.specs.Prelude.{ℕ, zero, suc, ◌≡◌, ◌<◌, List, [], ◌∷◌, Bool, true, false, if◌then◌else◌, Option, Some, option_map, unwrap_or, map, find, Contains, swap, length, IsSomeAnd, IsTrue}
+use Rattle.std.specs.List.{IsDistinct}
 use Rattle.std.specs.Str.{bytes_eq}
 use Rattle.serde_json.specs.Data.{Data, string, array, object, Items, no_items, item, Members, no_members, member}
 use Rattle.serde_json.specs.View.{items_of}
@@ -53,14 +54,19 @@ abbrev mutual
 abbrev pub renamed : Renaming → Data → Data
 renamed pairs t = renamed_value pairs (Some (want.Object role.Report)) t
 
--- Each `@id` of the report stands on the left of a pair. No text stands on the left twice, and none on the right twice.
+-- The texts that are replaced, in the order of the pairs.
+abbrev pub old_texts : Renaming → List (List ℕ)
+old_texts pairs = map (λ pair. pair.0) pairs
+
+-- The texts that replace them, in the same order.
+abbrev pub new_texts : Renaming → List (List ℕ)
+new_texts pairs = map (λ pair. pair.1) pairs
+
+-- Each `@id` of the report is among the old texts. The old texts are without repeats, and so are the new ones.
 pub record IsRenaming (t : Data) (pairs : Renaming) : Type 0 where
-  pub all : (f : Family) (o : Placed) (id : List ℕ) → IsObject t f o → id_of o.value ≡ Some id
-      → Contains (map (λ pair. pair.0) pairs) id
-  pub left : (i j : ℕ) (p q : List ℕ × List ℕ) → slice_get pairs i ≡ Some p → slice_get pairs j ≡ Some q
-      → p.0 ≡ q.0 → i ≡ j
-  pub right : (i j : ℕ) (p q : List ℕ × List ℕ) → slice_get pairs i ≡ Some p → slice_get pairs j ≡ Some q
-      → p.1 ≡ q.1 → i ≡ j
+  pub all : (f : Family) (o : Placed) (id : List ℕ) → IsObject t f o → id_of o.value ≡ Some id → Contains (old_texts pairs) id
+  pub left : IsDistinct bytes_eq (old_texts pairs)
+  pub right : IsDistinct bytes_eq (new_texts pairs)
 
 -- ---- exchanging
 

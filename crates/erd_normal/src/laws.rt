@@ -1,4 +1,4 @@
-ghost use Rattle.erd_normal.specs.Laws.{NamesAgree, ReferencesAgree, ObjectsAgree, CanonicalIsUnique, PreferencesAgree, RearrangedMeansTheSame};
+ghost use Rattle.erd_normal.specs.Laws.{NamesAgree, ReferencesAgree, ObjectsAgree, CanonicalFormExists, CanonicalIsUnique, PreferencesAgree, RearrangedMeansTheSame};
 
 /// The law that two canonical reports with the same meaning have the same keys, selection names and `@id` texts, in the same
 /// order. The function does nothing.
@@ -16,6 +16,12 @@ pub fn references_agree()
 /// The function does nothing.
 pub fn objects_agree()
     ensures law { ObjectsAgree }
+{}
+
+/// The law that a canonical form exists: under every preference, each accepted report as calls take it (`IsGiven`) has one.
+/// The function does nothing.
+pub fn canonical_form_exists()
+    ensures law { CanonicalFormExists }
 {}
 
 /// The law that two canonical reports with the same meaning are equal. The function does nothing.

@@ -10,8 +10,8 @@ mod text;
 mod values;
 
 pub use laws::{
-    canonical_is_unique, names_agree, objects_agree, preferences_agree, rearranged_means_the_same,
-    references_agree,
+    canonical_form_exists, canonical_is_unique, names_agree, objects_agree, preferences_agree,
+    rearranged_means_the_same, references_agree,
 };
 pub use order::compact_text::CompactText;
 pub use order::set_order::SetOrder;

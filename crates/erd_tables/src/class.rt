@@ -98,6 +98,11 @@ pub enum Role {
 
 /// Returns the class that an `@type` text names, or `None` if it names none of the 22. The one text that names a class is
 /// `ElectionResults.` followed by the name of the class, byte for byte.
+///
+/// ```
+/// assert_eq!(rt; class_of("ElectionResults.Party"), Some(Class::Party));
+/// assert_eq!(rt; class_of("Party"), None);
+/// ```
 pub fn class_of(text: &str) -> Option<Class>
     ensures value { result ≡ class_of_text text.now }
     ensures exact { NamesItsClass text.now result }
@@ -137,6 +142,10 @@ fn class_from_text(text: &str) -> Option<Class>
 }
 
 /// Returns the `@type` text of a class: `ElectionResults.` followed by the name of the class.
+///
+/// ```
+/// assert_eq!(rt; type_text(Class::Party), "ElectionResults.Party");
+/// ```
 pub fn type_text(class: Class) -> &'static str
     ensures { result.now ≡ text_of_class class }
 {
@@ -167,6 +176,10 @@ pub fn type_text(class: Class) -> &'static str
 }
 
 /// Returns the role of the objects of a class.
+///
+/// ```
+/// assert_eq!(rt; role_of(Class::Coalition), Role::OfFamily(Family::Party));
+/// ```
 pub fn role_of(class: Class) -> Role
     ensures { result ≡ role_of_class class }
 {
@@ -195,6 +208,11 @@ pub fn role_of(class: Class) -> Role
 }
 
 /// Returns the family of the objects of a class, or `None` if no `@id` can name objects of the class.
+///
+/// ```
+/// assert_eq!(rt; family_of(Class::Coalition), Some(Family::Party));
+/// assert_eq!(rt; family_of(Class::Election), None);
+/// ```
 pub fn family_of(class: Class) -> Option<Family>
     ensures { result ≡ family_of_class class }
 {
@@ -205,6 +223,12 @@ pub fn family_of(class: Class) -> Option<Family>
 }
 
 /// Returns the class that an `@type` text names if the objects of that class have the role, otherwise `None`.
+///
+/// ```
+/// let candidate = Role::OfFamily(Family::Candidate);
+/// assert_eq!(rt; class_in(candidate, "ElectionResults.Candidate"), Some(Class::Candidate));
+/// assert_eq!(rt; class_in(candidate, "ElectionResults.Party"), None);
+/// ```
 pub fn class_in(role: Role, text: &str) -> Option<Class>
     ensures { result ≡ class_in_role role text.now }
 {

@@ -69,6 +69,10 @@ impl Fault {
     /// # Errors
     ///
     /// `AllocError` if out of memory.
+    ///
+    /// ```
+    /// assert_eq!(rt; fault.line(alloc)?.as_str(), "/GpUnit/10: @id used twice");
+    /// ```
     pub fn line(&self, alloc: Global) -> Result<String, AllocError>
         ensures { IfOk result (λ line. string_bytes line ≡ fault_line self.now) }
     {
@@ -125,6 +129,10 @@ impl Model for FaultList {
 
 impl FaultList {
     /// Returns the list of these faults, in the same order.
+    ///
+    /// ```
+    /// let list = FaultList::of(vec![in alloc; fault]?);
+    /// ```
     pub fn of(faults: Vec<Fault>) -> FaultList
         ensures { result ≡ faults.items }
     {
@@ -132,6 +140,10 @@ impl FaultList {
     }
 
     /// Returns the number of faults.
+    ///
+    /// ```
+    /// assert_eq!(rt; list.len(), 1);
+    /// ```
     pub fn len(&self) -> usize
         ensures { result ≡ length self.now }
     {
@@ -139,6 +151,10 @@ impl FaultList {
     }
 
     /// Returns `true` if and only if the list has no faults.
+    ///
+    /// ```
+    /// assert!(rt; !list.is_empty());
+    /// ```
     pub fn is_empty(&self) -> bool
         ensures { result ≡ (length self.now == 0) }
     {
@@ -146,6 +162,12 @@ impl FaultList {
     }
 
     /// Returns an iterator over the faults, in the order of the list.
+    ///
+    /// ```
+    /// for fault in list.iter() {
+    ///     assert_eq!(rt; fault.place.len(), 2);
+    /// }
+    /// ```
     pub fn iter(&self) -> Iter<'_, Fault>
         ensures rest { iter_rest result ≡ self.now }
         ensures runs { IterYieldsInOrder Fault }
@@ -154,6 +176,10 @@ impl FaultList {
     }
 
     /// Returns the fault at the position, counted from 0, or `None` if there is none.
+    ///
+    /// ```
+    /// assert!(rt; list.get(1).is_none());
+    /// ```
     pub fn get(&self, index: usize) -> Option<&Fault>
         ensures { option_copied result ≡ slice_get self.now index }
     {

@@ -48,6 +48,11 @@ pub enum MemberKind {
 
 /// Returns what the table asks of the member of this name in an object of the class. If the class has no row for the name,
 /// that is `ClassText`, `Identity`, `StrangeIdentity`, `StrangeReference` or `Carried`.
+///
+/// ```
+/// assert_eq!(rt; member_kind(Class::Candidate, "PartyId"), MemberKind::One(Family::Party));
+/// assert_eq!(rt; member_kind(Class::Candidate, "Nickname"), MemberKind::Carried);
+/// ```
 pub fn member_kind(class: Class, name: &str) -> MemberKind
     ensures { result ≡ kind_of_member class name.now }
 {
@@ -59,6 +64,11 @@ pub fn member_kind(class: Class, name: &str) -> MemberKind
 
 /// Returns `true` if and only if the member of this name in a report belongs to its envelope. The envelope says how the file
 /// came about, and is no part of what the report means. docs/PROFILE.md lists its members.
+///
+/// ```
+/// assert!(rt; is_envelope("Issuer"));
+/// assert!(rt; !is_envelope("Status"));
+/// ```
 pub fn is_envelope(name: &str) -> bool
     ensures { result ≡ is_envelope_name name.now }
 {
@@ -66,6 +76,11 @@ pub fn is_envelope(name: &str) -> bool
 }
 
 /// Returns `true` if and only if a name ends in `Id` or `Ids`, as the names of references do in the standard. Case matters.
+///
+/// ```
+/// assert!(rt; is_reference_form("PartyIds"));
+/// assert!(rt; !is_reference_form("PartyID"));
+/// ```
 pub fn is_reference_form(name: &str) -> bool
     ensures { result ≡ is_reference_name name.now }
 {
@@ -92,6 +107,10 @@ fn kind_unlisted(class: Class, name: &str) -> MemberKind
 
 /// Returns the names of the members that an object of the class must have besides `@type`, in byte order.
 /// `ExternalIdentifier` is never one of them: an object that needs one and has none is refused for reason 12.
+///
+/// ```
+/// assert!(rt; required(Class::LanguageString).contains(&"Content"));
+/// ```
 pub fn required(class: Class) -> &'static [&'static str]
     ensures { map (λ s. s.now) result.now ≡ required_names class }
 {
@@ -122,6 +141,11 @@ pub fn required(class: Class) -> &'static [&'static str]
 }
 
 /// Returns `true` if and only if `required` lists the name for the class.
+///
+/// ```
+/// assert!(rt; is_required_member(Class::Header, "Name"));
+/// assert!(rt; !is_required_member(Class::Header, "Color"));
+/// ```
 pub fn is_required_member(class: Class, name: &str) -> bool
     ensures { result ≡ is_required class name.now }
 {

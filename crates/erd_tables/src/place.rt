@@ -36,6 +36,10 @@ impl Model for Place {
 
 impl Place {
     /// Returns the place that these steps lead to. With no steps it is the place of the whole value.
+    ///
+    /// ```
+    /// let place = Place::of(vec![in alloc; Step::Name(name), Step::At(10)]?);
+    /// ```
     pub fn of(steps: Vec<Step>) -> Place
         ensures { result ≡ steps.items }
     {
@@ -43,6 +47,10 @@ impl Place {
     }
 
     /// Returns the number of steps.
+    ///
+    /// ```
+    /// assert_eq!(rt; place.len(), 2);
+    /// ```
     pub fn len(&self) -> usize
         ensures { result ≡ length self.now }
     {
@@ -50,6 +58,10 @@ impl Place {
     }
 
     /// Returns `true` if and only if the place has no steps: it is that of the whole value.
+    ///
+    /// ```
+    /// assert!(rt; !place.is_empty());
+    /// ```
     pub fn is_empty(&self) -> bool
         ensures { result ≡ (length self.now == 0) }
     {
@@ -57,6 +69,10 @@ impl Place {
     }
 
     /// Returns an iterator over the steps, from the whole value inwards.
+    ///
+    /// ```
+    /// assert_eq!(rt; place.iter().count(), 2);
+    /// ```
     pub fn iter(&self) -> Iter<'_, Step>
         ensures rest { iter_rest result ≡ self.now }
         ensures runs { IterYieldsInOrder Step }
@@ -65,6 +81,10 @@ impl Place {
     }
 
     /// Returns the step at the position, counted from 0, or `None` if there is none.
+    ///
+    /// ```
+    /// assert!(rt; matches!(place.step(1), Some(Step::At(10))));
+    /// ```
     pub fn step(&self, index: usize) -> Option<&Step>
         ensures { option_copied result ≡ slice_get self.now index }
     {
@@ -78,6 +98,10 @@ impl Place {
 /// # Errors
 ///
 /// `AllocError` if out of memory.
+///
+/// ```
+/// assert_eq!(rt; pointer(alloc, &place)?.as_str(), "/GpUnit/10");
+/// ```
 pub fn pointer(alloc: Global, place: &Place) -> Result<String, AllocError>
     ensures { IfOk result (λ text. string_bytes text ≡ pointer_text place.now) }
 {

@@ -21,6 +21,10 @@ impl Model for Text {
 
 impl Text {
     /// Returns the string as a `Text`.
+    ///
+    /// ```
+    /// let name = Text::of(String::from_str(alloc, "GpUnit")?);
+    /// ```
     pub fn of(text: String) -> Text
         ensures { result ≡ string_bytes text }
     {
@@ -28,6 +32,10 @@ impl Text {
     }
 
     /// Returns the text as a string slice.
+    ///
+    /// ```
+    /// assert_eq!(rt; name.as_str(), "GpUnit");
+    /// ```
     pub fn as_str(&self) -> &str
         ensures { result.now ≡ self.now }
     {

@@ -2,11 +2,17 @@
 #![tactic(auto)]
 
 #[cfg(test)]
+mod examples;
+#[cfg(test)]
 mod tests;
 
-ghost use Rattle.std.specs.Prelude.{◌≡◌, IfOk, None};
+ghost use Rattle.std.specs.Prelude.{◌≡◌, ◌↔◌, IfOk, IsTrue, None, OnOk};
+ghost use Rattle.serde_json.specs.Data.{Data};
 ghost use Rattle.serde_json.specs.View.{view};
 ghost use Rattle.erd_check.specs.Trees.{IsShallow};
+ghost use Rattle.erd_meaning.specs.Records.{meaning};
+ghost use Rattle.erd_canon.specs.Bytes.{IsTreeOf};
+ghost use Rattle.erd_canon.specs.Refused.{IsSomeReport};
 
 use erd_canon::{Refusal, Side, canonical, check_bytes, compare_bytes};
 use erd_check::{CheckError, shape};
@@ -18,8 +24,13 @@ use serde_json::Value;
 use std::alloc::{AllocError, Global};
 use thiserror::Error;
 
-/// Whether two files define the same ballots, by their canonical bytes.
-pub fn is_same(alloc: Global, left: &[u8], right: &[u8]) -> Result<bool, Refusal> {
+/// Whether two files define the same ballots, by their canonical bytes. Both are accepted reports, and the answer is true if
+/// and only if they mean the same.
+pub fn is_same(alloc: Global, left: &[u8], right: &[u8]) -> Result<bool, Refusal>
+    ensures accepted { OnOk result (IsSomeReport None left.now × IsSomeReport None right.now) }
+    ensures same { IfOk result (λ same. (t u : Data) → IsTreeOf left.now t → IsTreeOf right.now u
+        → IsTrue same ↔ (meaning None t ≡ meaning None u)) }
+{
     let left_form = canonical(alloc, left)?;
     let right_form = canonical(alloc, right)?;
     Ok(left_form.as_slice() == right_form.as_slice())

@@ -2,21 +2,21 @@ use super::*;
 use std::fmt::InlineText;
 use std::test::Fail;
 
-const REPORT: &str =
+pub const REPORT: &str =
     r#"{"@type":"ElectionResults.ElectionReport","Status":"pre-election","GpUnit":[{"@id":"u7","@type":"ElectionResults.ReportingUnit","Type":"county","ExternalIdentifier":[{"@type":"ElectionResults.ExternalIdentifier","Type":"local-level","Value":"U1"}]}],"Election":[{"@type":"ElectionResults.Election","Name":"Test","Type":"general","StartDate":"2026-11-03","EndDate":"2026-11-03","ElectionScopeId":"u7"}]}"#;
 
 // The same report with another `@id`, and members in another order.
-const OTHER_SPELLING: &str =
+pub const OTHER_SPELLING: &str =
     r#"{"Election":[{"@type":"ElectionResults.Election","ElectionScopeId":"county","EndDate":"2026-11-03","StartDate":"2026-11-03","Type":"general","Name":"Test"}],"GpUnit":[{"Type":"county","@id":"county","@type":"ElectionResults.ReportingUnit","ExternalIdentifier":[{"Value":"U1","Type":"local-level","@type":"ElectionResults.ExternalIdentifier"}]}],"Status":"pre-election","@type":"ElectionResults.ElectionReport"}"#;
 
 // The same with another name of the election.
-const OTHER_NAME: &str =
+pub const OTHER_NAME: &str =
     r#"{"@type":"ElectionResults.ElectionReport","Status":"pre-election","GpUnit":[{"@id":"u7","@type":"ElectionResults.ReportingUnit","Type":"county","ExternalIdentifier":[{"@type":"ElectionResults.ExternalIdentifier","Type":"local-level","Value":"U1"}]}],"Election":[{"@type":"ElectionResults.Election","Name":"Other","Type":"general","StartDate":"2026-11-03","EndDate":"2026-11-03","ElectionScopeId":"u7"}]}"#;
 
 // No member but its class.
-const BARE: &str = r#"{"@type":"ElectionResults.ElectionReport"}"#;
+pub const BARE: &str = r#"{"@type":"ElectionResults.ElectionReport"}"#;
 
-const CANONICAL: &str =
+pub const CANONICAL: &str =
     r#"{"@type":"ElectionResults.ElectionReport","Election":[{"@type":"ElectionResults.Election","ElectionScopeId":"gp1","EndDate":"2026-11-03","Name":"Test","StartDate":"2026-11-03","Type":"general"}],"Format":"summary-contest","GeneratedDate":"2000-01-01T00:00:00Z","GpUnit":[{"@id":"gp1","@type":"ElectionResults.ReportingUnit","ExternalIdentifier":[{"@type":"ElectionResults.ExternalIdentifier","Type":"local-level","Value":"U1"}],"Type":"county"}],"Issuer":"canonical","IssuerAbbreviation":"canonical","SequenceEnd":1,"SequenceStart":1,"Status":"pre-election","VendorApplicationId":"canonical"}"#;
 
 // What a caller prints of an error, whichever it is.

@@ -20,7 +20,7 @@ use Rattle.erd_canon.specs.declared.engines.outcome.Outcome.TheVariants.{Good, B
 
 -- ---- no bytes are no JSON
 
-no_bytes : IsNotJson []
+pub no_bytes : IsNotJson []
 unfolding serde_json_on_literals
 no_bytes t is = none-some t is.1
 
@@ -54,7 +54,7 @@ compared_same b t accepted =
 
 -- ---- `null` is of a wrong kind, and nothing else is at fault
 
-root_kind : Fault
+unfoldable pub root_kind : Fault
 root_kind = record { place = []; reason = reason.WrongKind }
 
 fault_is : (p : List Step) (r : Reason) → ShapeFault null p r → root_kind ≡ record { place = p; reason = r }
@@ -92,7 +92,7 @@ one_sorted : IsStrictlySortedBy fault_cmp (root_kind ∷ [])
 unfolding IsStrictlySortedBy
 one_sorted = (tt, tt)
 
-null_refused : IsRefusedReport None (codes "null") (root_kind ∷ [])
+pub null_refused : IsRefusedReport None (codes "null") (root_kind ∷ [])
 unfolding serde_json_on_literals
 null_refused = record {
   tree = null;

@@ -1,9 +1,12 @@
 -- The exact lines, and what `clap` makes of others, on examples.
-use Rattle.std.proofs.Common.{◌≡◌, List, ℕ, [], ◌∷◌, Some, None, Bool, codes, false, refl, arith}
-use Rattle.clap.specs.Words.{takes}
+use Rattle.std.proofs.Common.{◌≡◌, List, ℕ, [], ◌∷◌, Some, None, Bool, codes, false, true, refl, arith}
+use Rattle.clap.specs.Words.{Kinds, fault_of, subcommand_of, takes}
+use Rattle.clap.specs.declared.error.kind.ErrorKind.TheVariants.{DisplayHelp, MissingRequiredArgument, UnknownArgument}
 use Rattle.clap.proofs.OnLiterals.{clap_on_literals}
 use Rattle.erd_canon.specs.ExactLines.{HasPlainWords, words_of}
-use Rattle.erd_canon.specs.code.Subcommands.{program}
+use Rattle.erd_canon.specs.ReadLines.{request_in}
+use Rattle.erd_canon.specs.Subcommands.{program}
+use Rattle.erd_canon.specs.declared.commands.request.Request.{Request}
 use Rattle.erd_canon.specs.declared.commands.request.Request.TheVariants.{Filter, Check, Canon, Compare}
 
 -- the rows of the program's table
@@ -99,3 +102,51 @@ type_of_filter = refl
 type_twice : is_line (codes "check" ∷ codes "--prefer" ∷ codes "b" ∷ codes "--prefer" ∷ codes "c" ∷ codes "a" ∷ []) ≡ false
 unfolding clap_on_literals
 type_twice = refl
+
+-- ---- what other words are read as
+
+abbrev read_as : List (List ℕ) → Request
+read_as words = request_in (subcommand_of program (codes "erd" ∷ words))
+
+abbrev faults_of : List (List ℕ) → Kinds
+faults_of words = fault_of program (codes "erd" ∷ words)
+
+-- the type after an equals sign
+type_joined : read_as (codes "compare" ∷ codes "--prefer=fips" ∷ codes "a" ∷ codes "b" ∷ []) ≡ Compare (codes "a") (codes "b") (Some (codes "fips"))
+unfolding clap_on_literals
+type_joined = refl
+
+type_joined_taken : is_line (codes "compare" ∷ codes "--prefer=fips" ∷ codes "a" ∷ codes "b" ∷ []) ≡ true
+unfolding clap_on_literals
+type_joined_taken = refl
+
+-- the option after a file
+type_after : read_as (codes "check" ∷ codes "a" ∷ codes "--prefer" ∷ codes "fips" ∷ []) ≡ Check (codes "a") (Some (codes "fips"))
+unfolding clap_on_literals
+type_after = refl
+
+type_between : read_as (codes "compare" ∷ codes "a" ∷ codes "--prefer=fips" ∷ codes "b" ∷ []) ≡ Compare (codes "a") (codes "b") (Some (codes "fips"))
+unfolding clap_on_literals
+type_between = refl
+
+-- a file whose name begins with a hyphen, after two hyphens
+hyphen_after : read_as (codes "canon" ∷ codes "--" ∷ codes "-a" ∷ []) ≡ Canon (codes "-a") None
+unfolding clap_on_literals
+hyphen_after = refl
+
+-- help, and words that are none of the program's
+help_asked : faults_of (codes "--help" ∷ []) ≡ DisplayHelp ∷ []
+unfolding clap_on_literals
+help_asked = refl
+
+help_of_check : faults_of (codes "check" ∷ codes "-h" ∷ []) ≡ DisplayHelp ∷ []
+unfolding clap_on_literals
+help_of_check = refl
+
+file_lacking : faults_of (codes "check" ∷ []) ≡ MissingRequiredArgument ∷ []
+unfolding clap_on_literals
+file_lacking = refl
+
+option_unknown : faults_of (codes "check" ∷ codes "--nosuch" ∷ codes "a" ∷ []) ≡ UnknownArgument ∷ []
+unfolding clap_on_literals
+option_unknown = refl

@@ -12,6 +12,7 @@ use Rattle.erd_normal.specs.Laws.{MeanAlike}
 use Rattle.erd_canon.proofs.forms.Refusing.{one_tree}
 use Rattle.erd_canon.specs.ByteLaws.{OneFormForOneMeaning, IsItsOwnForm, SameFormWhenRearranged}
 use Rattle.erd_canon.specs.Bytes.{IsTreeOf, IsCanonicalBytes}
+use Rattle.erd_canon.specs.Headline.{Headline}
 
 -- the tree of canonical bytes means what the report means
 meant : (π : Preference) (b c : List ℕ) (t : Data) (k : IsCanonicalBytes π b c) → IsTreeOf b t → meaning π k.tree ≡ meaning π t
@@ -68,3 +69,19 @@ same_form_when_rearranged π b c k d t u changes is is_other rearranged =
       written = k.written;
       reads_back = k.reads_back;
     }
+
+-- all of it
+pub headline : (π : Preference) (b c : List ℕ) → IsCanonicalBytes π b c → Headline π b c
+headline π b c k = record {
+  form = k;
+  accepted = record {
+    left = k.report;
+    right = k.tree;
+    left_accepted = k.is_accepted;
+    right_accepted = record { read = k.reads_back; accepted = k.is_canonical.canonical.accepted };
+    same = sym k.is_canonical.same;
+  };
+  equal_bytes = one_form_for_one_meaning π b c k;
+  own_form = is_its_own_form π b c k;
+  rearranged = same_form_when_rearranged π b c k;
+}

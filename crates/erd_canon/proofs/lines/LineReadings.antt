@@ -1,16 +1,27 @@
 -- What `clap` makes of the exact lines.
 use Rattle.std.proofs.Common.{◌≡◌, ◌&&◌, ◌++◌, ℕ, Bool, List, [], ◌∷◌, Option, Some, None, codes, length, lt-ltb, nat_lt, true, false, arith, refl, ap, ap₂, ◌∙◌, subst, sym}
-use Rattle.clap.specs.Words.{Row, Text, first_of, is_simple, subcommand_of, takes}
+use Rattle.clap.specs.Words.{Row, Text, first_of, is_simple, is_simple_and_free, subcommand_of, takes}
 use Rattle.clap.specs.Simple.{Shape}
 use Rattle.clap.specs.Takes.{level_passes, step_passes, turn_passes}
 use Rattle.clap.specs.Walk.{Held, Walk, arg_by_index, finished, nothing_held, rows_after, to_positional, value, walked}
 use Rattle.clap.proofs.OnLiterals.{clap_on_literals}
-use Rattle.erd_canon.specs.code.Subcommands.{program, IsAskedBy}
+use Rattle.erd_canon.specs.Subcommands.{program}
 use Rattle.erd_canon.proofs.lines.PlainWords.{IsPlainWord, at, walked_plain, turn_plain}
 use Rattle.erd_canon.proofs.lines.PreferenceWords.{Prefers, canon_prefers, check_prefers, compare_prefers, ends, file_plain, held_first, level_preferring, rows_preferring, subcommand}
 use Rattle.erd_canon.specs.ExactLines.{HasPlainWords, IsPreferenceWord, preference_words, words_of}
 use Rattle.erd_canon.specs.declared.commands.request.Request.{Request}
 use Rattle.erd_canon.specs.declared.commands.request.Request.TheVariants.{Filter, Check, Canon, Compare}
+
+-- the result of the parse, a subcommand and its matches or neither, makes this request.
+abbrev pub IsAskedBy : Option (List ℕ × List Row) → Request → Type 0
+IsAskedBy None Filter = Unit {0}
+IsAskedBy (Some met) (Check file prefer) = (met.0 ≡ codes "check")
+    × ((first_of (codes "FILE") met.1 ≡ Some file) × (first_of (codes "TYPE") met.1 ≡ prefer))
+IsAskedBy (Some met) (Canon file prefer) = (met.0 ≡ codes "canon")
+    × ((first_of (codes "FILE") met.1 ≡ Some file) × (first_of (codes "TYPE") met.1 ≡ prefer))
+IsAskedBy (Some met) (Compare left right prefer) = (met.0 ≡ codes "compare")
+    × ((first_of (codes "LEFT") met.1 ≡ Some left) × ((first_of (codes "RIGHT") met.1 ≡ Some right) × (first_of (codes "TYPE") met.1 ≡ prefer)))
+IsAskedBy _ _ = ⊥
 
 -- the walk after one word
 abbrev first : Shape → Held → Text → Walk
@@ -234,3 +245,7 @@ line_found (Compare left right prefer) name h =
 pub program_simple : is_simple program ≡ true
 unfolding clap_on_literals
 program_simple = refl
+
+pub program_free : is_simple_and_free program ≡ true
+unfolding clap_on_literals
+program_free = refl

@@ -6,7 +6,7 @@ use Rattle.clap.specs.Simple.{Shape}
 use Rattle.clap.specs.Takes.{default_passes, is_valid, level_passes, settle_passes, turn_passes, walk_passes}
 use Rattle.clap.specs.Walk.{Held, Walk, finished, nothing_held, rows_after, walk, walk_from, walked}
 use Rattle.clap.proofs.OnLiterals.{clap_on_literals}
-use Rattle.erd_canon.specs.code.Subcommands.{program}
+use Rattle.erd_canon.specs.Subcommands.{program}
 use Rattle.erd_canon.specs.ExactLines.{IsFileName, IsPreferenceWord, preference_words}
 use Rattle.erd_canon.proofs.lines.PlainWords.{IsPlainWord, at, plain_word, turn_waited, waits_for, walked_waited}
 

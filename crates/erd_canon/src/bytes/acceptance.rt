@@ -22,6 +22,13 @@ use std::alloc::Global;
 /// - `Refusal::NotJson` if the bytes are not JSON.
 /// - `Refusal::Faults` with all faults of the first phase that has any, if the bytes are JSON but not an accepted report.
 /// - `Refusal::Memory` if out of memory.
+///
+/// ```
+/// let Err(Refusal::Faults(faults)) = check_bytes(alloc, BARE.as_bytes()) else {
+///     return Err(Fail::from("a report without an election"));
+/// };
+/// assert_eq!(rt; faults.len(), 2);
+/// ```
 pub fn check_bytes(alloc: Global, bytes: &[u8]) -> Result<(), Refusal>
     ensures ok { OnOk result (IsSomeReport None bytes.now) }
     ensures refused { IfErr result (RefusedAs None bytes.now) }
@@ -36,6 +43,10 @@ pub fn check_bytes(alloc: Global, bytes: &[u8]) -> Result<(), Refusal>
 /// - `Refusal::NotJson` if the bytes are not JSON.
 /// - `Refusal::Faults` with all faults of the first phase that has any, if the bytes are JSON but not an accepted report.
 /// - `Refusal::Memory` if out of memory.
+///
+/// ```
+/// assert!(rt; check_bytes_with(alloc, one, Some("fips")).is_ok());
+/// ```
 pub fn check_bytes_with(alloc: Global, bytes: &[u8], prefer: Option<&str>) -> Result<(), Refusal>
     ensures ok { OnOk result (IsSomeReport (option_copied prefer.entry) bytes.now) }
     ensures refused { IfErr result (RefusedAs (option_copied prefer.entry) bytes.now) }

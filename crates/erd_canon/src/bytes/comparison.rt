@@ -22,6 +22,11 @@ use std::alloc::Global;
 /// - `Side::Left` with the refusal if the left report is refused.
 /// - `Side::Right` with the refusal if the left report is accepted and the right report is refused.
 /// - `Side::Memory` if both reports are accepted and memory runs out while they are compared.
+///
+/// ```
+/// let difference = compare_bytes(alloc, one, other)?.ok_or("no difference")?;
+/// assert_eq!(rt; difference.part, Part::Election);
+/// ```
 pub fn compare_bytes(alloc: Global, left: &[u8], right: &[u8]) -> Result<Option<Difference>, Side>
     ensures ok { IfOk result (IsComparison None left.now right.now) }
     ensures agree { IfOk result (AgreesUnderEach left.now right.now) }
@@ -42,6 +47,11 @@ pub fn compare_bytes(alloc: Global, left: &[u8], right: &[u8]) -> Result<Option<
 /// - `Side::Left` with the refusal if the left report is refused.
 /// - `Side::Right` with the refusal if the left report is accepted and the right report is refused.
 /// - `Side::Memory` if both reports are accepted and memory runs out while they are compared.
+///
+/// ```
+/// let half = compare_bytes_with(alloc, one, "{".as_bytes(), Some("fips"));
+/// assert!(rt; matches!(half, Err(Side::Right(Refusal::NotJson))));
+/// ```
 #[tactic(auto, using(crate::proofs::forms::Refusing::refused_tree))]
 pub fn compare_bytes_with(
     alloc: Global,

@@ -7,7 +7,9 @@ pub const PROGRAM: &str =
 /// What the program does, with and without a subcommand.
 pub const PROGRAM_AT_LENGTH: &str =
     "Puts a pre-election ballot definition (NIST SP 1500-100, version 2, JSON) into one canonical form:
-two files have the same canonical form if and only if they define the same ballots.
+two files have the same canonical form if and only if they mean the same. All that they say of units,
+parties, persons, offices, contests and ballots counts, but not `@id` names, the order of members and
+of sets, or the envelope (who made the file, and when).
 
 Without a command it reads a report from standard input and writes its canonical form to standard
 output, with no line end. If the report is refused, it writes nothing there, and the faults to
@@ -75,8 +77,8 @@ pub const COMPARE: &str =
 /// What `compare` reads and writes.
 pub const COMPARE_AT_LENGTH: &str =
     "Reads the reports in LEFT and RIGHT, and writes to standard output `same`, or one line with the first
-difference of the ballots that they define. The line names the object that differs, by its external
-identifier, and how it differs:
+difference in what they mean. The line names the object that differs, by its external identifier, and
+says how it differs:
 
   style [\"local-level\",\"\",\"S1\"]: member \"OrderedContent\"
 
@@ -111,5 +113,5 @@ pub const PREFER: &str =
 pub const PREFER_AT_LENGTH: &str =
     "The type of identifier that the keys of objects follow, such as fips or local-level. The key of an
 object is then the least of its identifiers of this type, or the least of all where it has none of
-it. Without this option, it is the least of all. Objects with equal keys belong together, so use this
-option if the vendors agree on one type of identifier only";
+it. Without this option, it is the least of all. Objects with equal keys belong together. Use this
+option if there is only one type of identifier on which the vendors agree";

@@ -1,6 +1,6 @@
-ghost use Rattle.std.specs.Prelude.{◌≡◌, ℕ, List, ◌∷◌, Some, map, MatchResult, codes, string_bytes};
+ghost use Rattle.std.specs.Prelude.{◌≡◌, ℕ, List, ◌∷◌, map, MatchResult, codes, string_bytes};
 ghost use Rattle.erd_canon.specs.ExactLines.{HasPlainWords, words_of};
-ghost use Rattle.erd_canon.specs.code.Subcommands.{IsAskedBy};
+ghost use Rattle.erd_canon.specs.ReadLines.{IsFaultFor, IsLineRead, request_in, subcommand_request, word_for};
 ghost use Rattle.clap.specs.Words.{first_of, found_of, kind_of, rows_of, subcommand_rows_of};
 
 use crate::commands::builder::program_command;
@@ -16,17 +16,27 @@ use std::alloc::Global;
 /// If no other word follows, returns `Request::Filter`. For `check FILE`, `canon FILE` and `compare LEFT RIGHT`, returns the
 /// request of the same name without a preference. With `--prefer TYPE` between the subcommand and the first file name,
 /// returns it with the preference TYPE. This holds if no file name and no TYPE is empty or begins with `-`. Then the only
-/// error is `LineFault::Memory`. `clap` decides how other words are parsed.
+/// error is `LineFault::Memory`. All other words are parsed by the grammar of `clap` too, and the result is the one that it
+/// states for the subcommands of the program and these words.
 ///
 /// # Errors
 ///
 /// - `LineFault::Help` with the help text if the words ask for help.
 /// - `LineFault::Usage` with a message if the words are not a command line of the program.
 /// - `LineFault::Memory` if out of memory.
+///
+/// ```
+/// let Request::Check(file, prefer) = command_line(alloc, &words)? else {
+///     return Err(Fail::from("another request"));
+/// };
+/// assert_eq!(rt; file.as_str(), "county.json");
+/// assert_eq!(rt; prefer.text(), Some("fips"));
+/// ```
 pub fn command_line(alloc: Global, words: &[String]) -> Result<Request, LineFault>
     ensures exact { (request : Request) (name : List ℕ) → HasPlainWords request
         → map string_bytes words.now ≡ name ∷ words_of request
         → MatchResult result (λ answer. answer ≡ request) (λ fault. fault ≡ LineFault.Memory) }
+    ensures read { IsLineRead (map string_bytes words.now) result }
 {
     let command = program_command(alloc)?;
     match command.try_get_matches_from(words) {
@@ -37,8 +47,8 @@ pub fn command_line(alloc: Global, words: &[String]) -> Result<Request, LineFaul
 
 // The request that the matches of the program give.
 fn request_of(alloc: Global, matches: &ArgMatches<'_>) -> Result<Request, LineFault>
-    ensures { (request : Request) → IsAskedBy (subcommand_rows_of matches.now) request
-        → MatchResult result (λ answer. answer ≡ request) (λ fault. fault ≡ LineFault.Memory) }
+    ensures { MatchResult result (λ answer. answer ≡ request_in (subcommand_rows_of matches.now))
+        (λ fault. fault ≡ LineFault.Memory) }
 {
     match matches.subcommand() {
         None => Ok(Request::Filter),
@@ -52,8 +62,8 @@ fn subcommand_request(
     name: &str,
     matches: &ArgMatches<'_>,
 ) -> Result<Request, LineFault>
-    ensures { (request : Request) → IsAskedBy (Some (name.now, rows_of (found_of matches.now))) request
-        → MatchResult result (λ answer. answer ≡ request) (λ fault. fault ≡ LineFault.Memory) }
+    ensures { MatchResult result (λ answer. answer ≡ subcommand_request name.now (rows_of (found_of matches.now)))
+        (λ fault. fault ≡ LineFault.Memory) }
 {
     let prefer = preference(alloc, matches)?;
     match name {
@@ -69,8 +79,8 @@ fn subcommand_request(
 
 // The word that was given for the argument.
 fn file_name(alloc: Global, matches: &ArgMatches<'_>, id: &str) -> Result<FileName, LineFault>
-    ensures { (file : List ℕ) → first_of id.now (rows_of (found_of matches.now)) ≡ Some file
-        → MatchResult result (λ answer. answer ≡ file) (λ fault. fault ≡ LineFault.Memory) }
+    ensures { MatchResult result (λ answer. answer ≡ word_for id.now (rows_of (found_of matches.now)))
+        (λ fault. fault ≡ LineFault.Memory) }
 {
     let name = String::from_str(alloc, matches.get_str(id).unwrap_or(""))?;
     Ok(Text::of(name))
@@ -89,7 +99,8 @@ fn preference(alloc: Global, matches: &ArgMatches<'_>) -> Result<Prefer, LineFau
 
 // The fault for an error of `clap`.
 fn fault_of(alloc: Global, error: &Error) -> LineFault
-    ensures { kind_of error.now ≡ ErrorKind.OutOfMemory → result ≡ LineFault.Memory }
+    ensures memory { kind_of error.now ≡ ErrorKind.OutOfMemory → result ≡ LineFault.Memory }
+    ensures kind { IsFaultFor (kind_of error.now) result }
 {
     let kind = error.kind();
     if kind == ErrorKind::OutOfMemory {

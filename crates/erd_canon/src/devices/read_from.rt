@@ -1,7 +1,8 @@
-ghost use Rattle.std.specs.Prelude.{◌≡◌, false};
+ghost use Rattle.std.specs.Prelude.{◌≡◌, false, length};
+ghost use Rattle.std.specs.List.{sum_by};
 
+use crate::devices::log::Log;
 use crate::devices::source::{Failed, Source};
-use crate::devices::tally::Tally;
 use std::io::Read;
 
 /// A source that reads from any `std::io::Read`. A read counts as a failure if it returns any error, even an interruption.
@@ -10,12 +11,16 @@ pub struct ReadFrom<R> {
     /// The reader, as the last read left it.
     pub reader: R,
     pub(crate) has_failed: bool,
-    pub(crate) reads: Tally,
-    pub(crate) given: Tally,
+    // Each read: the room that it had, and the number of bytes that it gave.
+    pub(crate) reads: Log<usize, usize>,
 }
 
 impl<R: Read> ReadFrom<R> {
     /// Wraps a reader as a source that has not failed. To read again after a failure, wrap the reader again.
+    ///
+    /// ```
+    /// let mut reader = ReadFrom::of(REPORT.as_bytes());
+    /// ```
     pub fn of(reader: R) -> ReadFrom<R>
         ensures reader { result.reader ≡ reader }
         ensures works { result.has_failed ≡ false }
@@ -23,8 +28,7 @@ impl<R: Read> ReadFrom<R> {
         ReadFrom {
             reader,
             has_failed: false,
-            reads: Tally::new(),
-            given: Tally::new(),
+            reads: Log::new(),
         }
     }
 }
@@ -34,18 +38,18 @@ impl<R: Read> Source for ReadFrom<R> {
 
     ghost has_failed = { λ s. s.has_failed };
 
-    ghost reads = { λ s. s.reads.count };
+    ghost reads = { λ s. length s.reads.items };
 
-    ghost given = { λ s. s.given.count };
+    ghost given = { λ s. sum_by (λ read. read.1) s.reads.items };
 
     fn read(&mut self, buffer: &mut [u8]) -> Result<usize, Failed> {
-        self.reads = self.reads.plus(1);
         match self.reader.read(buffer) {
             Ok(count) => {
-                self.given = self.given.plus(count);
+                self.reads = self.reads.and(&buffer.len(), &count);
                 Ok(count)
             }
             Err(_) => {
+                self.reads = self.reads.and(&buffer.len(), &0);
                 self.has_failed = true;
                 Err(Failed)
             }

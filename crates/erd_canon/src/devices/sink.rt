@@ -1,6 +1,7 @@
 ghost use Rattle.std.specs.Prelude.{◌≡◌, ◌↔◌, ℕ, ◌+◌, ◌<◌, List, length, Bool, true, false, Option, None, IfOk, OnOk, OnErr, IsErr};
 ghost use Rattle.std.specs.Io.{WritesAtMost};
 ghost use Rattle.std.specs.Io.KnownBytes.{WriteAppends, Appends, Keeps};
+ghost use Rattle.erd_canon.specs.Writing.{IsPartWritten};
 
 use crate::devices::source::Failed;
 
@@ -24,6 +25,11 @@ pub trait Sink {
     /// # Errors
     ///
     /// `Failed` if the write failed.
+    ///
+    /// ```
+    /// let mut sink = WriteTo::of(Vec::new(rt.alloc()));
+    /// assert_eq!(rt; sink.write("abc".as_bytes()).ok(), Some(3));
+    /// ```
     fn write(&mut self, bytes: &[u8]) -> Result<usize, Failed>
         requires { has_failed self.old ≡ false }
         ensures bound { WritesAtMost result bytes.now }
@@ -39,6 +45,10 @@ pub trait Sink {
     /// # Errors
     ///
     /// `Failed` if the flush failed.
+    ///
+    /// ```
+    /// assert!(rt; sink.flush().is_ok());
+    /// ```
     fn flush(&mut self) -> Result<(), Failed>
         requires { has_failed self.old ≡ false }
         ensures flushed { OnOk result (is_flushed self.new ≡ true) }
@@ -48,14 +58,27 @@ pub trait Sink {
         ensures err { OnErr result (has_failed self.new ≡ true) };
 
     /// Returns whether a write or a flush has failed.
+    ///
+    /// ```
+    /// assert!(rt; !reader.failed() && !out.failed());
+    /// ```
     fn failed(&self) -> bool
         ensures { result ≡ has_failed self.now };
 }
 
 /// Writes all the bytes. For an empty slice it calls nothing.
-pub(crate) fn write_out<W: Sink>(sink: &mut W, bytes: &[u8]) -> Result<(), Failed>
+///
+/// # Errors
+///
+/// `Failed` if a write failed. The sink then holds a first part of the bytes.
+///
+/// ```
+/// assert!(rt; write_out(&mut sink, "def".as_bytes()).is_ok());
+/// ```
+pub fn write_out<W: Sink>(sink: &mut W, bytes: &[u8]) -> Result<(), Failed>
     requires { W.has_failed sink.old ≡ false }
     ensures written { OnOk result (Appends (W.contents sink.old) (W.contents sink.new) bytes.now) }
+    ensures part { IsPartWritten (W.contents sink.old) (W.contents sink.new) bytes.now }
     ensures failed { IsErr result ↔ (W.has_failed sink.new ≡ true) }
     ensures works { OnOk result (W.has_failed sink.new ≡ false) }
     ensures counted { W.flushes sink.new ≡ W.flushes sink.old }

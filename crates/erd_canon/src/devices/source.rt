@@ -32,6 +32,12 @@ pub trait Source {
     /// # Errors
     ///
     /// `Failed` if the read failed.
+    ///
+    /// ```
+    /// let mut source = ReadFrom::of("abc".as_bytes());
+    /// let mut buffer = [0; 2];
+    /// assert_eq!(rt; source.read(&mut buffer).ok(), Some(2));
+    /// ```
     fn read(&mut self, buffer: &mut [u8]) -> Result<usize, Failed>
         requires { has_failed self.old ≡ false }
         ensures bound { ReadsAtMost result buffer.new }
@@ -43,6 +49,10 @@ pub trait Source {
             (λ _. given self.new ≡ given self.old) };
 
     /// Returns whether a read has failed.
+    ///
+    /// ```
+    /// assert!(rt; !reader.failed() && !out.failed());
+    /// ```
     fn failed(&self) -> bool
         ensures { result ≡ has_failed self.now };
 }

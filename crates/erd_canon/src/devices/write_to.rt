@@ -1,8 +1,8 @@
-ghost use Rattle.std.specs.Prelude.{◌≡◌, false};
+ghost use Rattle.std.specs.Prelude.{◌≡◌, false, length};
 
+use crate::devices::log::Log;
 use crate::devices::sink::Sink;
 use crate::devices::source::Failed;
-use crate::devices::tally::Tally;
 use std::io::Write;
 
 /// A sink that writes to any `std::io::Write`. A write counts as a failure if it returns any error, even an interruption, or
@@ -13,11 +13,16 @@ pub struct WriteTo<W> {
     pub writer: W,
     pub(crate) has_failed: bool,
     pub(crate) is_flushed: bool,
-    pub(crate) flushes: Tally,
+    // Each flush.
+    pub(crate) flushes: Log<(), ()>,
 }
 
 impl<W: Write> WriteTo<W> {
     /// Wraps a writer as a sink that has not failed. To write again after a failure, wrap the writer again.
+    ///
+    /// ```
+    /// let mut out = WriteTo::of(Vec::new(alloc));
+    /// ```
     pub fn of(writer: W) -> WriteTo<W>
         ensures writer { result.writer ≡ writer }
         ensures works { result.has_failed ≡ false }
@@ -26,7 +31,7 @@ impl<W: Write> WriteTo<W> {
             writer,
             has_failed: false,
             is_flushed: false,
-            flushes: Tally::new(),
+            flushes: Log::new(),
         }
     }
 }
@@ -38,7 +43,7 @@ impl<W: Write> Sink for WriteTo<W> {
 
     ghost is_flushed = { λ s. s.is_flushed };
 
-    ghost flushes = { λ s. s.flushes.count };
+    ghost flushes = { λ s. length s.flushes.items };
 
     fn write(&mut self, bytes: &[u8]) -> Result<usize, Failed> {
         self.is_flushed = false;
@@ -52,7 +57,7 @@ impl<W: Write> Sink for WriteTo<W> {
     }
 
     fn flush(&mut self) -> Result<(), Failed> {
-        self.flushes = self.flushes.plus(1);
+        self.flushes = self.flushes.and(&(), &());
         match self.writer.flush() {
             Ok(()) => {
                 self.is_flushed = true;

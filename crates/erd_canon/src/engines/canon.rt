@@ -5,6 +5,7 @@ ghost use Rattle.erd_canon.specs.Limits.{most_bytes, most_reads};
 ghost use Rattle.erd_canon.specs.Reading.{Exceeds};
 ghost use Rattle.erd_canon.specs.Refused.{IsSomeReport};
 ghost use Rattle.erd_canon.specs.Run.{IsAcceptedInput, IsAnswerWritten, IsRefusedInput, IsToldRun, IsWholeRun};
+ghost use Rattle.erd_canon.specs.Writing.{IsAnswerPartWritten, IsBrokenRun};
 
 use crate::bytes::canonical::canonical_with;
 use crate::bytes::refusal::Refusal;
@@ -23,6 +24,15 @@ use std::alloc::Global;
 /// - `RunFault::Write` if and only if a write or a flush failed.
 /// - `RunFault::TooLong` if a reader gave more than 67,108,864 bytes.
 /// - `RunFault::Memory` if out of memory.
+///
+/// ```
+/// let mut reader = ReadFrom::of(REPORT.as_bytes());
+/// let mut out = WriteTo::of(Vec::new(alloc));
+/// let mut err = WriteTo::of(Vec::new(alloc));
+/// let outcome = run_canon(alloc, &mut reader, &mut out, &mut err)?;
+/// assert_eq!(rt; outcome.status(), 0);
+/// assert_eq!(rt; out.writer.as_slice(), CANONICAL.as_bytes());
+/// ```
 pub fn run_canon<S: Source, O: Sink, E: Sink>(
     alloc: Global,
     reader: &mut S,
@@ -42,6 +52,10 @@ pub fn run_canon<S: Source, O: Sink, E: Sink>(
 
     // If the fault is not `Write`, nothing was written or flushed.
     ensures quiet { IfErr result (λ fault. fault ≢ RunFault.Write → (out.new ≡ out.old) × (err.new ≡ err.old)) }
+
+    // If it is `Write`, each writer holds a first part of its text.
+    ensures broken { result ≡ Err RunFault.Write → IsBrokenRun None most_bytes (S.remaining reader.old) (S.remaining reader.new)
+        (O.contents out.old) (O.contents out.new) (E.contents err.old) (E.contents err.new) }
 
     // After a failed write to `out`, `err` is unchanged. Before a failed write, nothing is flushed. `err` is flushed only
     // after `out`.
@@ -84,6 +98,10 @@ pub fn run_canon<S: Source, O: Sink, E: Sink>(
 /// - `RunFault::Write` if and only if a write or a flush failed.
 /// - `RunFault::TooLong` if a reader gave more than 67,108,864 bytes.
 /// - `RunFault::Memory` if out of memory.
+///
+/// ```
+/// assert_eq!(rt; run_canon_with(alloc, &mut reader, &mut out, &mut err, prefer)?, Outcome::Good);
+/// ```
 pub fn run_canon_with<S: Source, O: Sink, E: Sink>(
     alloc: Global,
     reader: &mut S,
@@ -104,6 +122,10 @@ pub fn run_canon_with<S: Source, O: Sink, E: Sink>(
 
     // If the fault is not `Write`, nothing was written or flushed.
     ensures quiet { IfErr result (λ fault. fault ≢ RunFault.Write → (out.new ≡ out.old) × (err.new ≡ err.old)) }
+
+    // If it is `Write`, each writer holds a first part of its text.
+    ensures broken { result ≡ Err RunFault.Write → IsBrokenRun (option_copied prefer.entry) most_bytes (S.remaining reader.old) (S.remaining reader.new)
+        (O.contents out.old) (O.contents out.new) (E.contents err.old) (E.contents err.new) }
 
     // After a failed write to `out`, `err` is unchanged. Before a failed write, nothing is flushed. `err` is flushed only
     // after `out`.
@@ -147,6 +169,8 @@ fn write_answer<O: Sink, E: Sink>(
     ensures flushed { OnOk result ((O.is_flushed out.new ≡ true) × (E.is_flushed err.new ≡ true)) }
     ensures works { OnOk result ((O.has_failed out.new ≡ false) × (E.has_failed err.new ≡ false)) }
     ensures memory { result ≡ Err RunFault.Memory → (out.new ≡ out.old) × (err.new ≡ err.old) }
+    ensures broken { result ≡ Err RunFault.Write → IsAnswerPartWritten (option_copied prefer.entry) bytes.now (O.contents out.old) (O.contents out.new)
+        (E.contents err.old) (E.contents err.new) }
     ensures write { result ≡ Err RunFault.Write
         → (O.has_failed out.new ≡ true) ⊎ (E.has_failed err.new ≡ true) }
     ensures faults { IfErr result (λ fault. (fault ≡ RunFault.Memory) ⊎ (fault ≡ RunFault.Write)) }

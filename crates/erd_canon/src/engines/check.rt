@@ -21,6 +21,14 @@ use std::alloc::Global;
 /// - `RunFault::Write` if and only if a write or a flush failed.
 /// - `RunFault::TooLong` if a reader gave more than 67,108,864 bytes.
 /// - `RunFault::Memory` if out of memory.
+///
+/// ```
+/// let mut reader = ReadFrom::of(REPORT.as_bytes());
+/// let mut out = WriteTo::of(Vec::new(alloc));
+/// let outcome = run_check(alloc, &mut reader, &mut out)?;
+/// assert_eq!(rt; outcome, Outcome::Good);
+/// assert_eq!(rt; out.writer.as_slice(), "accepted\n".as_bytes());
+/// ```
 pub fn run_check<S: Source, O: Sink>(
     alloc: Global,
     reader: &mut S,
@@ -64,6 +72,10 @@ pub fn run_check<S: Source, O: Sink>(
 /// - `RunFault::Write` if and only if a write or a flush failed.
 /// - `RunFault::TooLong` if a reader gave more than 67,108,864 bytes.
 /// - `RunFault::Memory` if out of memory.
+///
+/// ```
+/// assert_eq!(rt; run_check_with(alloc, &mut reader, &mut out, prefer)?, Outcome::Good);
+/// ```
 pub fn run_check_with<S: Source, O: Sink>(
     alloc: Global,
     reader: &mut S,

@@ -26,6 +26,14 @@ use std::alloc::{AllocError, Global};
 /// - `RunFault::Write` if and only if a write or a flush failed.
 /// - `RunFault::TooLong` if a reader gave more than 67,108,864 bytes.
 /// - `RunFault::Memory` if out of memory.
+///
+/// ```
+/// let mut left = ReadFrom::of(REPORT.as_bytes());
+/// let mut right = ReadFrom::of(OTHER_NAME.as_bytes());
+/// let mut out = WriteTo::of(Vec::new(alloc));
+/// let outcome = run_compare(alloc, &mut left, &mut right, &mut out)?;
+/// assert_eq!(rt; outcome.status(), 1);
+/// ```
 pub fn run_compare<S: Source, T: Source, O: Sink>(
     alloc: Global,
     left: &mut S,
@@ -79,6 +87,11 @@ pub fn run_compare<S: Source, T: Source, O: Sink>(
 /// - `RunFault::Write` if and only if a write or a flush failed.
 /// - `RunFault::TooLong` if a reader gave more than 67,108,864 bytes.
 /// - `RunFault::Memory` if out of memory.
+///
+/// ```
+/// assert_eq!(rt; run_compare_with(alloc, &mut left, &mut right, &mut out, prefer)?, Outcome::Good);
+/// assert_eq!(rt; out.writer.as_slice(), "same\n".as_bytes());
+/// ```
 pub fn run_compare_with<S: Source, T: Source, O: Sink>(
     alloc: Global,
     left: &mut S,

@@ -34,6 +34,10 @@ pub enum RunFault {
 
 impl Outcome {
     /// Returns the exit status of the program for this outcome: 0 for `Good`, 1 for `Bad`, 2 for `NotJson`.
+    ///
+    /// ```
+    /// assert_eq!(rt; outcome.status(), 0);
+    /// ```
     pub fn status(&self) -> u8
         ensures { result ≡ outcome_status self.now }
     {
@@ -47,6 +51,10 @@ impl Outcome {
 
 impl RunFault {
     /// Returns the exit status of the program for this fault: 4 for `Memory`, 3 for the others.
+    ///
+    /// ```
+    /// assert_eq!(rt; RunFault::Memory.status(), 4);
+    /// ```
     pub fn status(&self) -> u8
         ensures { result ≡ fault_status self.now }
     {
@@ -57,6 +65,10 @@ impl RunFault {
     }
 
     /// Returns the message of the program for this fault on standard error, without a line feed.
+    ///
+    /// ```
+    /// assert_eq!(rt; RunFault::Memory.words(), "no memory");
+    /// ```
     pub fn words(&self) -> &'static str
         ensures { result.now ≡ fault_words self.now }
     {

@@ -1,5 +1,6 @@
 ghost use Rattle.std.specs.Prelude.{◌≡◌, ◌⊎◌, ◌<◌, length, false, true, IfErr, IfOk, OnOk, OnErr};
 ghost use Rattle.std.specs.Io.KnownBytes.{Appends};
+ghost use Rattle.erd_canon.specs.Writing.{IsPartWritten};
 
 use crate::devices::sink::{Sink, write_out};
 use crate::engines::outcome::{Outcome, RunFault};
@@ -14,6 +15,7 @@ pub(crate) fn write_one<O: Sink>(
     ensures outcome { IfOk result (λ answer. answer ≡ outcome) }
     ensures fault { IfErr result (λ fault. fault ≡ RunFault.Write) }
     ensures wrote { OnOk result (Appends (O.contents out.old) (O.contents out.new) text.now) }
+    ensures part { IsPartWritten (O.contents out.old) (O.contents out.new) text.now }
     ensures flushed { OnOk result (O.is_flushed out.new ≡ true) }
     ensures works { OnOk result (O.has_failed out.new ≡ false) }
     ensures failed { OnErr result (O.has_failed out.new ≡ true) }
@@ -37,6 +39,8 @@ pub(crate) fn write_both<O: Sink, E: Sink>(
     ensures fault { IfErr result (λ fault. fault ≡ RunFault.Write) }
     ensures wrote_out { OnOk result (Appends (O.contents out.old) (O.contents out.new) out_text.now) }
     ensures wrote_err { OnOk result (Appends (E.contents err.old) (E.contents err.new) err_text.now) }
+    ensures part_out { IsPartWritten (O.contents out.old) (O.contents out.new) out_text.now }
+    ensures part_err { IsPartWritten (E.contents err.old) (E.contents err.new) err_text.now }
     ensures flushed { OnOk result ((O.is_flushed out.new ≡ true) × (E.is_flushed err.new ≡ true)) }
     ensures works { OnOk result ((O.has_failed out.new ≡ false) × (E.has_failed err.new ≡ false)) }
     ensures failed { OnErr result ((O.has_failed out.new ≡ true) ⊎ (E.has_failed err.new ≡ true)) }

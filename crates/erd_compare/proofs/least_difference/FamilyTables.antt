@@ -15,7 +15,8 @@ use Rattle.erd_tables.specs.declared.class.Family.{Family}
 use Rattle.erd_tables.specs.declared.class.Role.{Role}
 use Rattle.erd_tables.specs.declared.class.Role.TheVariants as role
 use Rattle.erd_meaning.specs.Keys.{Preference, key_cmp}
-use Rattle.erd_meaning.specs.Lookups.{positioned, rising_keys}
+use Rattle.erd_meaning.specs.code.RanksAmong.{positioned}
+use Rattle.erd_meaning.specs.Lookups.{rising_keys}
 use Rattle.erd_meaning.specs.Objects.{Placed}
 use Rattle.erd_meaning.specs.SelectionNames.{rising_list}
 use Rattle.erd_meaning.specs.declared.keys.key.Key.{Key}
@@ -26,7 +27,7 @@ use Rattle.erd_meaning.proofs.orders.EqualNames.{equal_keys, options_exact}
 use Rattle.erd_meaning.proofs.orders.RisingLists.{rising_list_map}
 use Rattle.erd_meaning.proofs.orders.RisingOrders.{rising_strictly}
 use Rattle.erd_meaning.proofs.orders.RisingSets.{permuted_rising}
-use Rattle.erd_meaning.proofs.selections.PositionedKeys.{KeyPosition, all_positioned, positioned_keys}
+use Rattle.erd_meaning.proofs.selections.PositionedKeys.{KeyPosition, all_positioned, positioned_keys, rising_positioned}
 use Rattle.erd_compare.specs.code.KeyedDifferences.{HasKeyAt, IsComparable, IsKeyTable, key_with_role, keys_in_role, keys_of, objects_in, role_of_part}
 use Rattle.erd_compare.specs.declared.difference.Part.{Part}
 use Rattle.erd_compare.proofs.least_difference.KeyTables.{Entry, by_key, by_key_total, entry_key, key_listed}
@@ -92,4 +93,4 @@ rising_table π t r es apart is = record {
 pub family_table : (π : Preference) (t : Data) (c : IsComparable π t) (p : Part) (f : Family) (es : List Entry) → role_of_part p ≡ role.OfFamily f → map (λ e. (option_copied e.0, e.1)) es ≡ rising_keys π t f
     → IsKeyTable π t (role_of_part p) es
 family_table π t c p f es is listed = subst (λ r. IsKeyTable π t r es) (sym is)
-    (rising_table π t (role.OfFamily f) es (subst (λ r. IsDistinct (eq_by_cmp by_key) (keys_in_role π t r)) is (keys_apart π t c p)) listed)
+    (rising_table π t (role.OfFamily f) es (subst (λ r. IsDistinct (eq_by_cmp by_key) (keys_in_role π t r)) is (keys_apart π t c p)) (listed ∙ sym (rising_positioned π t f)))

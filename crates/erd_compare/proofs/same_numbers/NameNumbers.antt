@@ -18,9 +18,9 @@ use Rattle.erd_meaning.specs.Keys.{Preference}
 use Rattle.erd_meaning.specs.NameParts.{NameParts}
 use Rattle.erd_meaning.specs.Objects.{Placed, has_id, objects, owner, owner_at}
 use Rattle.erd_meaning.specs.SelectionNames.{name_named, name_of}
-use Rattle.erd_meaning.specs.code.NumberedNames.{NumberedParts, numbered_name_cmp}
+use Rattle.erd_meaning.specs.NumberedNames.{NumberedParts, numbered_name_cmp}
 use Rattle.erd_meaning.specs.code.NumberedOrders.{numbered_name_cmp_exact, numbered_name_cmp_total}
-use Rattle.erd_meaning.specs.code.RankedNames.{HasKeysIn}
+use Rattle.erd_meaning.specs.code.RanksAmong.{HasKeysIn}
 use Rattle.erd_compare.specs.code.CommonNames.{AreNameNumbers, name_eq, name_told, names_of_both, names_on, number_of_name, number_of_selection, numbered_name, numbered_name_of, numbers_on}
 use Rattle.erd_compare.specs.code.CommonNumbers.{AreKeyTables}
 use Rattle.erd_compare.specs.code.Comparing.{Decides}

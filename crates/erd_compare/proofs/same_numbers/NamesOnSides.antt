@@ -17,8 +17,9 @@ use Rattle.erd_meaning.specs.Lookups.{rank_of}
 use Rattle.erd_meaning.specs.NameParts.{NameParts}
 use Rattle.erd_meaning.specs.Objects.{Placed, objects, numbered_selections}
 use Rattle.erd_meaning.specs.SelectionNames.{name_of}
-use Rattle.erd_meaning.specs.code.NumberedNames.{NumberedParts, numbered_parts, without_keys}
-use Rattle.erd_meaning.specs.code.RankedNames.{HasKeysIn, IsKeyIn, PlacedName, family_chosen, ranked_name, ranked_selection_in}
+use Rattle.erd_meaning.specs.NumberedNames.{NumberedParts, numbered_parts, without_keys}
+use Rattle.erd_meaning.specs.code.RanksAmong.{HasKeysIn, IsKeyIn}
+use Rattle.erd_meaning.specs.RankedNames.{PlacedName, family_chosen, ranked_name, ranked_selection_in}
 use Rattle.erd_meaning.specs.declared.keys.key.Key.{Key}
 use Rattle.erd_compare.specs.code.CommonNumbers.{AreKeyTables, number_of_key, part_of_family, tables_of}
 use Rattle.erd_compare.specs.code.KeyedDifferences.{HasKeyAt, IsKeyTable, role_of_part}

@@ -19,7 +19,7 @@ use Rattle.erd_meaning.proofs.finding.OneObject.{in_at}
 use Rattle.erd_meaning.proofs.meanings.SelectionKinds as kinds
 use Rattle.erd_meaning.proofs.selections.NumberedSelections.{numbered_at}
 use Rattle.erd_meaning.specs.Judged.{Judged}
-use Rattle.erd_meaning.specs.Lookups.{StandFrom, if_of_contest, selection_of}
+use Rattle.erd_meaning.specs.code.SelectionWalk.{StandFrom, if_of_contest, selection_of}
 use Rattle.erd_meaning.specs.Objects.{Placed, contests, numbered_selections, objects, selections_of_contest}
 use Rattle.erd_compare.specs.code.PlacedObjects.{AreSelectionsAt, AreSelectionsIn, IsPlaced}
 use Rattle.erd_compare.specs.code.SelectionMembers.{is_selections}

@@ -10,8 +10,8 @@ use Rattle.erd_meaning.specs.Judged.{Judged}
 use Rattle.erd_meaning.specs.NameParts.{NameParts}
 use Rattle.erd_meaning.specs.Objects.{objects}
 use Rattle.erd_meaning.specs.SelectionNames.{name_of}
-use Rattle.erd_meaning.specs.code.NumberedNames.{NumberedParts, numbered_name_cmp, numbered_parts}
-use Rattle.erd_meaning.specs.code.RankedNames.{RankedParts, family_chosen, ranked_name}
+use Rattle.erd_meaning.specs.NumberedNames.{NumberedParts, numbered_name_cmp, numbered_parts}
+use Rattle.erd_meaning.specs.RankedNames.{RankedParts, family_chosen, ranked_name}
 use Rattle.erd_compare.specs.code.CommonNumbers.{number_of_key, part_of_family}
 use Rattle.erd_compare.specs.code.NumberedSides.{number_at_rank, on_side}
 use Rattle.erd_compare.specs.declared.difference.Part.{Part}

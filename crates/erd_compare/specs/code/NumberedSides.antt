@@ -11,7 +11,7 @@ use Rattle.erd_meaning.specs.Judged.{Judged}
 use Rattle.erd_meaning.specs.Keys.{has_keys}
 use Rattle.erd_meaning.specs.Lookups.{rank_of}
 use Rattle.erd_meaning.specs.SelectionNames.{key_named, keys_named}
-use Rattle.erd_meaning.specs.code.RankedNames.{IsKeyIn}
+use Rattle.erd_meaning.specs.code.RanksAmong.{IsKeyIn}
 use Rattle.erd_meaning.specs.declared.keys.key.Key.{Key}
 use Rattle.erd_compare.specs.code.CommonNumbers.{common_number, number_of_key, part_of_family, tables_of}
 use Rattle.erd_compare.specs.code.KeyedDifferences.{HasKeyAt, role_of_part}

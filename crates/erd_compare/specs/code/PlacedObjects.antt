@@ -6,7 +6,7 @@ use Rattle.serde_json.specs.Find.{get}
 use Rattle.serde_json.specs.View.{view}
 use Rattle.erd_tables.specs.declared.class.Role.{Role}
 use Rattle.erd_meaning.specs.Judged.{Judged}
-use Rattle.erd_meaning.specs.Lookups.{selection_of}
+use Rattle.erd_meaning.specs.code.SelectionWalk.{selection_of}
 use Rattle.erd_meaning.specs.Objects.{contests}
 use Rattle.erd_compare.specs.code.KeyedDifferences.{objects_in}
 

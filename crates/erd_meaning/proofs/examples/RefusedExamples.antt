@@ -8,7 +8,7 @@ use Rattle.erd_tables.specs.declared.fault.Reason.{Reason}
 use Rattle.erd_tables.specs.declared.fault.Reason.TheVariants.{NoIdentifier, TwinIdentifier, Unresolved, WrongFamily, SelectionOfOtherContest, TwinSelection}
 use Rattle.erd_tables.specs.declared.place.Step.{Step}
 use Rattle.erd_tables.specs.declared.place.Step.TheVariants.{Name, At}
-use Rattle.erd_check.specs.code.Paths.{fault_at}
+use Rattle.erd_check.specs.Paths.{fault_at}
 use Rattle.erd_check.proofs.Deciding.{is_tree, faults_found, no_fault_listed, tree_sound}
 use Rattle.erd_check.proofs.Reports.{tree_of, small_ballot_with, header_node, contest_node, with_election_member, election, report_of_two, two_elections_with}
 use Rattle.erd_check.proofs.WholeExamples.{faulty, faulty_faults, faulty_has_all, no_election, no_election_faults, no_election_has_all}

@@ -8,7 +8,7 @@ use Rattle.erd_tables.specs.declared.fault.Fault.{Fault}
 use Rattle.erd_tables.specs.declared.fault.Reason.TheVariants.{NoIdentifier, TwinIdentifier, DuplicateId}
 use Rattle.erd_tables.specs.declared.place.Step.{Step}
 use Rattle.erd_tables.proofs.PlaceOrder.{place_cmp_total, place_same, start_less}
-use Rattle.erd_check.specs.code.Paths.{fault_at}
+use Rattle.erd_check.specs.Paths.{fault_at}
 use Rattle.erd_check.proofs.Order.{In, In-append, In-append_left, In-append_right, In-all, Below, sorted_append}
 use Rattle.erd_meaning.specs.code.ObjectWalk.{Located, Met, are_named_alike, are_twins, fault_if, faults_after, is_keyless}
 use Rattle.erd_meaning.proofs.identity.ObjectPlaces.{AreApart, apart, id_place}

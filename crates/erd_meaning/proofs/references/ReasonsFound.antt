@@ -8,14 +8,13 @@ use Rattle.erd_tables.specs.declared.class.Family.{Family}
 use Rattle.erd_tables.specs.declared.class.Family.TheVariants as family
 use Rattle.erd_tables.specs.declared.fault.Reason.{Reason}
 use Rattle.erd_tables.specs.declared.fault.Reason.TheVariants.{Unresolved, WrongFamily, SelectionOfOtherContest}
-use Rattle.erd_check.specs.Wants.{leads_to_references}
 use Rattle.erd_check.specs.declared.want.Want.{Want}
 use Rattle.erd_check.specs.declared.want.Want.TheVariants.{Reference}
-use Rattle.erd_check.proofs.SilentWalks.{TellsOfReferences}
+use Rattle.erd_meaning.proofs.references.SilentWalks.{TellsOfReferences}
 use Rattle.erd_meaning.specs.code.ObjectIndexes.{number_among, number_of_id}
 use Rattle.erd_meaning.specs.code.ObjectLookups.{object_among}
 use Rattle.erd_meaning.specs.code.ObjectWalk.{Kept}
-use Rattle.erd_meaning.specs.code.ReferenceReasons.{id_reasons, is_elsewhere, is_known, is_of_others, is_selection_elsewhere, is_selection_family, reason_if, reference_reasons_told}
+use Rattle.erd_meaning.specs.code.ReferenceReasons.{id_reasons, is_elsewhere, is_known, is_of_others, is_selection_elsewhere, is_selection_family, leads_to_references, reason_if, reference_reasons_told}
 use Rattle.erd_meaning.proofs.finding.FoundWithId.{with_id_none, with_id_of_other, with_id_some}
 use Rattle.erd_meaning.proofs.finding.Known.{id_known}
 

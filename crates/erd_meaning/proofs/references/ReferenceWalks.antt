@@ -10,7 +10,8 @@ use Rattle.erd_tables.specs.declared.class.Role.TheVariants.{Report}
 use Rattle.erd_tables.specs.declared.fault.Reason.{Reason}
 use Rattle.erd_tables.specs.declared.fault.Reason.TheVariants.{Repeated, Unresolved, WrongFamily, SelectionOfOtherContest}
 use Rattle.erd_tables.specs.declared.place.Step.{Step}
-use Rattle.erd_check.specs.code.Walk.{asked_with, told_of_report, IsInOrder}
+use Rattle.erd_check.specs.code.Walk.{asked_with}
+use Rattle.erd_check.specs.Visits.{told_of_report, IsInOrder}
 use Rattle.erd_check.specs.Wants.{Asked}
 use Rattle.erd_check.specs.declared.want.Want.{Want}
 use Rattle.erd_check.specs.declared.want.Want.TheVariants.{Object, Reference}

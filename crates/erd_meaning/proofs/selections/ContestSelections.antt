@@ -1,30 +1,26 @@
--- The selections of a contest stand one after another among those of the report. They begin after the last selection up to
--- which no more contests stand than before the contest.
-use Rattle.std.proofs.Common.{◌≡◌, ◌==◌, ◌<◌, ◌≤◌, ◌+◌, ◌-◌, ◌⊎◌, ⊎_elim, inl, inr, ℕ, zero, suc, List, [], ◌∷◌, ◌++◌, length, map, cond, Bool, true, false, true≢false, Option, Some, None, option_and_then, option_map, refl, sym, ap, ◌∙◌, subst, append_assoc, append-nil, length-append, arith}
+-- The selections of a contest stand one after another among those of the report, after as many as the contests before have. They
+-- begin after the last selection up to which no more contests stand than before the contest.
+use Rattle.std.proofs.Common.{◌≡◌, ◌==◌, ◌<◌, ◌≤◌, ◌+◌, ◌⊎◌, ⊎_elim, inl, inr, ℕ, zero, suc, List, [], ◌∷◌, ◌++◌, length, map, cond, Bool, true, false, true≢false, Option, Some, None, option_and_then, refl, sym, ap, ap₂, ◌∙◌, subst, take, append_assoc, append-nil, length-append, arith}
 use Rattle.std.proofs.Math.Dec.{leb}
 use Rattle.std.proofs.lemmas.Bool.{le-leb}
 use Rattle.std.proofs.lemmas.Bool.Decides.{Decides-eqb, leb_tells}
 use Rattle.std.proofs.lemmas.List.{get_or_append_left, get_or-append-add, length-map, map-append}
 use Rattle.std.specs.Prelude.{⊤}
-use Rattle.std.specs.List.{AllByRecursion, slice_get, slice_index_or}
+use Rattle.std.specs.List.{AllByRecursion, flat_map, slice_get, slice_index_or}
 use Rattle.std.specs.List.Sorted.{IsNonDecreasingBy}
 use Rattle.serde_json.specs.Data.{Data}
 use Rattle.erd_tables.specs.Classes.{family_number}
 use Rattle.erd_tables.specs.declared.class.Family.TheVariants as family
-use Rattle.erd_meaning.specs.Keys.{Preference}
-use Rattle.erd_meaning.specs.Lookups.{StandFrom, if_of_contest, name_in_contest, selection_in}
-use Rattle.erd_meaning.specs.NameParts.{NameParts}
-use Rattle.erd_meaning.specs.Objects.{Placed, contests, numbered_selections, numbered_selections_of, objects, selections_of_contest}
-use Rattle.erd_meaning.specs.SelectionNames.{name_of}
+use Rattle.erd_meaning.specs.code.SelectionWalk.{StandFrom, if_of_contest, numbered_from}
+use Rattle.erd_meaning.specs.Lookups.{selections_before}
+use Rattle.erd_meaning.specs.Objects.{Placed, contests, numbered_selections, numbered_selections_of, selections_of_contest}
 use Rattle.erd_meaning.specs.code.ObjectIndexes.{IsStart, contests_before}
 use Rattle.erd_meaning.specs.code.ObjectLookups.{is_of_family}
 use Rattle.erd_meaning.specs.code.ObjectWalk.{Kept}
-use Rattle.erd_meaning.specs.code.SelectionWalk.{numbered_from}
 use Rattle.erd_meaning.proofs.identity.ObjectFamilies.{itself}
 use Rattle.erd_meaning.proofs.selections.ListParts.{get_first, get_later, within_or_after}
 use Rattle.erd_meaning.proofs.selections.NamesTold.{Numbered}
 use Rattle.erd_meaning.proofs.selections.NumberedObjects.{counts_of}
-use Rattle.erd_meaning.proofs.selections.NumberedSelections.{numbered_at}
 
 -- ---- the numbers of contests rise
 
@@ -86,35 +82,57 @@ all_later m n [] low = tt
 all_later m n (c ∷ cs) low =
     all_both {A = Numbered} (λ s. m < s.0) (numbered_selections_of (n, c)) (numbered_from (n + 1) cs) (of_number (λ s. m < s.0) n (selections_of_contest c) (λ o. low)) (all_later m (n + 1) cs (omega arith))
 
+-- as many as the contests have
+many_of_contest : (n : ℕ) (c : Placed) → length (numbered_selections_of (n, c)) ≡ length (selections_of_contest c)
+many_of_contest n c = length-map {B = Numbered} (selections_of_contest c) (λ p. (n, p))
+
+many_in : List Placed → ℕ
+many_in cs = length (flat_map selections_of_contest cs)
+
+one_more : (c : Placed) (cs : List Placed) (n m : ℕ) → n ≡ length (selections_of_contest c) → m ≡ many_in cs → n + m ≡ many_in (c ∷ cs)
+unfolding many_in
+one_more c cs n m e f = ap₂ ◌+◌ e f ∙ sym (length-append {A = Placed} (selections_of_contest c) (flat_map selections_of_contest cs))
+
+many_of_contests : (n : ℕ) (cs : List Placed) → length (numbered_from n cs) ≡ many_in cs
+unfolding many_in
+many_of_contests n [] = refl
+many_of_contests n (c ∷ cs) =
+    length-append {A = Numbered} (numbered_selections_of (n, c)) (numbered_from (n + 1) cs)
+    ∙ one_more c cs (length (numbered_selections_of (n, c))) (length (numbered_from (n + 1) cs)) (many_of_contest n c) (many_of_contests (n + 1) cs)
+
 -- the selections before those of a contest and after them
-record Split (ss : List Numbered) (k : ℕ) (o : Placed) : Type 0 where
+record Split (ss : List Numbered) (k : ℕ) (o : Placed) (many : ℕ) : Type 0 where
   before : List Numbered
   after : List Numbered
   whole : ss ≡ before ++ (numbered_selections_of (k, o) ++ after)
   low : AllByRecursion {X = Numbered} (λ s. s.0 < k) before
   high : AllByRecursion {X = Numbered} (λ s. k < s.0) after
+  count : length before ≡ many
 
-split : (n : ℕ) (cs : List Placed) (k : ℕ) (o : Placed) → slice_get cs k ≡ Some o → Split (numbered_from n cs) (n + k) o
+split : (n : ℕ) (cs : List Placed) (k : ℕ) (o : Placed) → slice_get cs k ≡ Some o → Split (numbered_from n cs) (n + k) o (many_in (take k cs))
+unfolding many_in
 split n [] k o at = cc
 split n (c ∷ cs) zero o at =
     let same : c ≡ o = cc in
     let sum : n ≡ n + 0 = omega arith in
-    subst (λ m. Split (numbered_from n (c ∷ cs)) m o) sum (record {
+    subst (λ m. Split (numbered_from n (c ∷ cs)) m o 0) sum (record {
       before = [];
       after = numbered_from (n + 1) cs;
       whole = ap (λ (p : Placed). numbered_selections_of (n, p) ++ numbered_from (n + 1) cs) same;
       low = tt;
       high = all_later n (n + 1) cs (omega arith);
+      count = refl;
     })
 split n (c ∷ cs) (suc k) o at =
     let h = split (n + 1) cs k o at in
     let sum : n + 1 + k ≡ n + suc k = omega arith in
-    subst (λ m. Split (numbered_from n (c ∷ cs)) m o) sum (record {
+    subst (λ m. Split (numbered_from n (c ∷ cs)) m o (many_in (c ∷ take k cs))) sum (record {
       before = numbered_selections_of (n, c) ++ h.before;
       after = h.after;
       whole = ap (λ (ss : List Numbered). numbered_selections_of (n, c) ++ ss) h.whole ∙ sym (append_assoc {A = Numbered} (numbered_selections_of (n, c)) h.before (numbered_selections_of (n + 1 + k, o) ++ h.after));
       low = all_both {A = Numbered} (λ s. s.0 < n + 1 + k) (numbered_selections_of (n, c)) h.before (of_number (λ s. s.0 < n + 1 + k) n (selections_of_contest c) (λ p. omega arith)) h.low;
       high = h.high;
+      count = length-append {A = Numbered} (numbered_selections_of (n, c)) h.before ∙ one_more c (take k cs) (length (numbered_selections_of (n, c))) (length h.before) (many_of_contest n c) h.count;
     })
 
 all_below : (n : ℕ) (cs : List Placed) (k : ℕ) → slice_get cs k ≡ None → AllByRecursion {X = Numbered} (λ s. s.0 < n + k) (numbered_from n cs)
@@ -227,64 +245,56 @@ all_high k (o ∷ os) after h = (omega arith, all_high k os after h)
 counts-append : (ss rs : List Numbered) → counts_of (ss ++ rs) ≡ counts_of ss ++ counts_of rs
 counts-append ss rs = map-append {A = Numbered} (λ s. s.0 + 1) ss rs
 
--- the selections that stand at and after the start
-found_at : (cs : List Placed) (k r i : ℕ) → IsStart (counts_of (numbered_from 0 cs)) k r
-    → option_and_then (if_of_contest k) (slice_get (numbered_from 0 cs) (r + i)) ≡ option_and_then (λ o. slice_get (selections_of_contest o) i) (slice_get cs k)
-found_at cs k r i start = at (slice_get cs k) refl
-  where
-    zero_more : 0 + k ≡ k
-    zero_more = omega arith
+taken_all : (cs : List Placed) (k : ℕ) → slice_get cs k ≡ None → take k cs ≡ cs
+taken_all [] zero e = refl
+taken_all [] (suc k) e = refl
+taken_all (c ∷ cs) zero e = cc
+taken_all (c ∷ cs) (suc k) e = ap (λ os. c ∷ os) (taken_all cs k e)
 
-    at : (o : Option Placed) → slice_get cs k ≡ o → option_and_then (if_of_contest k) (slice_get (numbered_from 0 cs) (r + i)) ≡ option_and_then (λ o. slice_get (selections_of_contest o) i) o
-    at None e =
-        let low : AllByRecursion {X = Numbered} (λ s. s.0 < k) (numbered_from 0 cs) = subst (λ m. AllByRecursion {X = Numbered} (λ s. s.0 < m) (numbered_from 0 cs)) zero_more (all_below 0 cs k e) in
-        let whole = sym (counts-append (numbered_from 0 cs) []) ∙ ap counts_of (append-nil (numbered_from 0 cs)) in
-        let place = one_start k r (numbered_from 0 cs) [] (subst (λ ns. IsStart ns k r) (sym whole) start) low tt in
-        ap (option_and_then (if_of_contest k)) (past_end (numbered_from 0 cs) (r + i) i (ap (λ n. n + i) place))
-    at (Some o) e =
-        let h : Split (numbered_from 0 cs) k o = subst (λ m. Split (numbered_from 0 cs) m o) zero_more (split 0 cs k o e) in
-        let rest = numbered_selections_of (k, o) ++ h.after in
-        let whole = ap counts_of h.whole ∙ counts-append h.before rest in
-        let place = one_start k r h.before rest (subst (λ ns. IsStart ns k r) whole start) h.low (all_high k (selections_of_contest o) h.after h.high) in
-        ap (λ (ss : List Numbered). option_and_then (if_of_contest k) (slice_get ss (r + i))) h.whole
-        ∙ ap (option_and_then (if_of_contest k)) (get_later h.before rest (r + i) i (ap (λ n. n + i) place)) ∙ from_contest k i o h.after h.high
+module _ (cs : List Placed) (k : ℕ) where
+  zero_more : 0 + k ≡ k
+  zero_more = omega arith
 
--- so they stand from the start on
-pub stand_from_start : (t : Data) (k r : ℕ) → IsStart (counts_of (numbered_selections t)) k r → StandFrom t k r
+  parted : (o : Placed) → slice_get cs k ≡ Some o → Split (numbered_from 0 cs) k o (many_in (take k cs))
+  parted o e = subst (λ m. Split (numbered_from 0 cs) m o (many_in (take k cs))) zero_more (split 0 cs k o e)
+
+  all_before : slice_get cs k ≡ None → length (numbered_from 0 cs) ≡ many_in (take k cs)
+  all_before e = many_of_contests 0 cs ∙ ap many_in (sym (taken_all cs k e))
+
+  -- the start is after the selections of the contests before
+  start_is : (r : ℕ) → IsStart (counts_of (numbered_from 0 cs)) k r → r ≡ many_in (take k cs)
+  start_is r start = at (slice_get cs k) refl
+    where
+      at : (o : Option Placed) → slice_get cs k ≡ o → r ≡ many_in (take k cs)
+      at None e =
+          let low : AllByRecursion {X = Numbered} (λ s. s.0 < k) (numbered_from 0 cs) = subst (λ m. AllByRecursion {X = Numbered} (λ s. s.0 < m) (numbered_from 0 cs)) zero_more (all_below 0 cs k e) in
+          let whole = sym (counts-append (numbered_from 0 cs) []) ∙ ap counts_of (append-nil (numbered_from 0 cs)) in
+          one_start k r (numbered_from 0 cs) [] (subst (λ ns. IsStart ns k r) (sym whole) start) low tt ∙ all_before e
+      at (Some o) e =
+          let h = parted o e in
+          let rest = numbered_selections_of (k, o) ++ h.after in
+          let whole = ap counts_of h.whole ∙ counts-append h.before rest in
+          one_start k r h.before rest (subst (λ ns. IsStart ns k r) whole start) h.low (all_high k (selections_of_contest o) h.after h.high) ∙ h.count
+
+  -- the selections that stand at and after the start
+  found_at : (r i : ℕ) → r ≡ many_in (take k cs)
+      → option_and_then (if_of_contest k) (slice_get (numbered_from 0 cs) (r + i)) ≡ option_and_then (λ o. slice_get (selections_of_contest o) i) (slice_get cs k)
+  found_at r i start = at (slice_get cs k) refl
+    where
+      at : (o : Option Placed) → slice_get cs k ≡ o → option_and_then (if_of_contest k) (slice_get (numbered_from 0 cs) (r + i)) ≡ option_and_then (λ o. slice_get (selections_of_contest o) i) o
+      at None e = ap (option_and_then (if_of_contest k)) (past_end (numbered_from 0 cs) (r + i) i (ap (λ n. n + i) (start ∙ sym (all_before e))))
+      at (Some o) e =
+          let h = parted o e in
+          let rest = numbered_selections_of (k, o) ++ h.after in
+          ap (λ (ss : List Numbered). option_and_then (if_of_contest k) (slice_get ss (r + i))) h.whole
+          ∙ ap (option_and_then (if_of_contest k)) (get_later h.before rest (r + i) i (ap (λ n. n + i) (start ∙ sym h.count))) ∙ from_contest k i o h.after h.high
+
+-- the start, by the contests before
+pub start_counted : (t : Data) (k r : ℕ) → IsStart (counts_of (numbered_selections t)) k r → r ≡ selections_before t k
+unfolding many_in
+start_counted t k r start = start_is (contests t) k r start
+
+-- and the selections of the contest stand from there on
+pub stand_from_start : (t : Data) (k r : ℕ) → r ≡ selections_before t k → StandFrom t k r
+unfolding many_in
 stand_from_start t k r start i = found_at (contests t) k r i start
-
--- ---- their names
-
--- what stands so far after the start is the name of that selection of the contest
-pub name_is : (π : Preference) (t : Data) (k r i : ℕ) → StandFrom t k r
-    → option_and_then (λ (s : ℕ × NameParts). cond (s.0 == k) (Some s.1) None) (selection_in π t (r + i)) ≡ name_in_contest π t k i
-name_is π t k r i start = at (slice_get (numbered_selections t) (r + i)) ∙ ap (option_and_then (λ o. name_of π t o.value)) (start i) ∙ by (slice_get (contests t) k)
-  where
-    both_none : (b : Bool) → let none : Option NameParts = None in none ≡ cond b none none
-    both_none true = refl
-    both_none false = refl
-
-    named : (s : Numbered) (o : Option NameParts) → option_and_then (λ (s : ℕ × NameParts). cond (s.0 == k) (Some s.1) None) (option_map (λ n. (s.0, n)) o) ≡ cond (s.0 == k) o None
-    named s None = both_none (s.0 == k)
-    named s (Some n) = refl
-
-    chosen : (s : Numbered) (b : Bool) → cond b (name_of π t s.1.value) None ≡ option_and_then (λ (o : Placed). name_of π t o.value) (cond b (Some s.1) None)
-    chosen s true = refl
-    chosen s false = refl
-
-    at : (o : Option Numbered) → option_and_then (λ (s : ℕ × NameParts). cond (s.0 == k) (Some s.1) None) (option_and_then (λ s. option_map (λ n. (s.0, n)) (name_of π t s.1.value)) o)
-        ≡ option_and_then (λ (o : Placed). name_of π t o.value) (option_and_then (if_of_contest k) o)
-    at None = refl
-    at (Some s) = named s (name_of π t s.1.value) ∙ chosen s (s.0 == k)
-
-    by : (o : Option Placed) → option_and_then (λ (o : Placed). name_of π t o.value) (option_and_then (λ o. slice_get (selections_of_contest o) i) o) ≡ option_and_then (λ o. option_and_then (λ (s : Placed). name_of π t s.value) (slice_get (selections_of_contest o) i)) o
-    by None = refl
-    by (Some o) = refl
-
--- past the last selection stands none
-pub no_selection : (π : Preference) (t : Data) (i : ℕ) → length (objects family.Selection t) ≤ i → selection_in π t i ≡ None
-no_selection π t i past = at (slice_get (numbered_selections t) i) (numbered_at t i ∙ past_end (objects family.Selection t) i (i - length (objects family.Selection t)) (omega arith))
-  where
-    at : (o : Option Numbered) → option_map (λ (s : Numbered). s.1) o ≡ None → option_and_then {U = ℕ × NameParts} (λ s. option_map (λ n. (s.0, n)) (name_of π t s.1.value)) o ≡ None
-    at None e = refl
-    at (Some s) e = cc

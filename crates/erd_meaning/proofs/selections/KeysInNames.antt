@@ -13,7 +13,8 @@ use Rattle.erd_meaning.specs.Keys.{Preference, key_cmp, key_of}
 use Rattle.erd_meaning.specs.NameParts.{NameParts}
 use Rattle.erd_meaning.specs.Objects.{objects, owner}
 use Rattle.erd_meaning.specs.SelectionNames.{key_named, keys_named, keys_of_selection, name_in_class, name_of, selection_role}
-use Rattle.erd_meaning.specs.code.RankedNames.{HasKeysIn, IsKeyIn, family_chosen}
+use Rattle.erd_meaning.specs.code.RanksAmong.{HasKeysIn, IsKeyIn}
+use Rattle.erd_meaning.specs.RankedNames.{family_chosen}
 use Rattle.erd_meaning.specs.declared.keys.key.Key.{Key}
 use Rattle.erd_meaning.proofs.accepted.References.{Contains-Has}
 use Rattle.erd_meaning.proofs.accepted.Standing.{owned_by}

@@ -11,7 +11,7 @@ use Rattle.erd_tables.specs.Faults.{fault_cmp}
 use Rattle.erd_tables.specs.Places.{place_cmp}
 use Rattle.erd_tables.specs.declared.fault.Fault.{Fault}
 use Rattle.erd_tables.specs.declared.fault.Reason.TheVariants.{TwinSelection}
-use Rattle.erd_check.specs.code.Paths.{fault_at}
+use Rattle.erd_check.specs.Paths.{fault_at}
 use Rattle.erd_check.proofs.Order.{In, In-append, In-append_left, In-append_right, In-all, any_at, sorted_append}
 use Rattle.erd_check.proofs.Reasons.{and_true, both_true}
 use Rattle.erd_meaning.specs.NameParts.{NameParts}

@@ -2,16 +2,18 @@
 use Rattle.std.proofs.Common.{◌≡◌, ◌+◌, ◌<◌, ◌++◌, ℕ, List, [], ◌∷◌, suc, length, filter, map, cond, Bool, true, false, Ordering, Option, Some, None, is_lt, option_and_then, option_map, slice_get, take, refl, sym, ap, ap₂, ◌∙◌, arith}
 use Rattle.std.proofs.lemmas.List.{length-map, length-take, map-append, take_more}
 use Rattle.std.proofs.lemmas.Option.{get_or_from_slice_get, slice_get-map}
-use Rattle.std.specs.List.{AllByRecursion}
+use Rattle.std.specs.List.{AllByRecursion, enumerate_from}
 use Rattle.std.specs.Option.{option_cmp, option_copied}
 use Rattle.erd_check.proofs.Positions.{all_weakened}
 use Rattle.erd_tables.specs.declared.class.Family.{Family}
-use Rattle.erd_meaning.specs.Keys.{key_cmp}
-use Rattle.erd_meaning.specs.Lookups.{positioned}
+use Rattle.serde_json.specs.Data.{Data}
+use Rattle.erd_meaning.specs.Keys.{Preference, key_cmp, key_of_family_object}
+use Rattle.erd_meaning.specs.Lookups.{rising_keys}
+use Rattle.erd_meaning.specs.Objects.{Placed, objects}
+use Rattle.erd_meaning.specs.code.RanksAmong.{key_at_among, lent_key_cmp, positioned, rank_among, rising_keys_among, seen_keys}
 use Rattle.erd_meaning.specs.SelectionNames.{rising_list}
 use Rattle.erd_meaning.specs.code.ObjectLookups.{those_of}
 use Rattle.erd_meaning.specs.code.ObjectWalk.{Kept}
-use Rattle.erd_meaning.specs.code.RankedNames.{key_at_among, lent_key_cmp, rank_among, rising_keys_among, seen_keys}
 use Rattle.erd_meaning.specs.declared.keys.key.Key.{Key}
 use denote.Ref.{Bor}
 use Rattle.erd_meaning.proofs.finding.OneObject.{at_low}
@@ -35,6 +37,11 @@ positioned-append {K} i [] k = let none : i ≡ i + 0 = omega arith in ap (λ n.
 positioned-append {K} i (l ∷ ks) k =
     let next : i + 1 + length ks ≡ i + length (l ∷ ks) = omega arith in
     ap (λ ps. (l, i) ∷ ps) (positioned-append (i + 1) ks k ∙ ap (λ n. positioned (i + 1) ks ++ (k, n) ∷ []) next)
+
+-- what is made of objects with their positions
+pub positioned_made : {A K : Type 0} (key : A → K) (i : ℕ) (xs : List A) → positioned i (map key xs) ≡ map (λ (p : ℕ × A). (key p.1, p.0)) (enumerate_from i xs)
+positioned_made key i [] = refl
+positioned_made {A} {K} key i (x ∷ xs) = ap (λ (ps : List (K × ℕ)). (key x, i) ∷ ps) (positioned_made key (i + 1) xs)
 
 -- without the positions, the keys are left
 pub positioned_keys : {K : Type 0} (i : ℕ) (ks : List K) → map (λ (p : K × ℕ). p.0) (positioned i ks) ≡ ks
@@ -133,3 +140,10 @@ module _ (ks : List Kept) (f : Family) where
       ap₂ (λ (ns : List ℕ) n. ns ++ n ∷ []) before (counted ∙ rank_counted rising key seen ∙ ap (rank_among ks f) here)
       ∙ sym (map-append (λ (k : Kept). rank_among ks f k.key) (take i os) (o ∷ []))
       ∙ ap (map (λ (k : Kept). rank_among ks f k.key)) (sym (take_more os i o low ∙ ap (λ (k : Kept). take i os ++ k ∷ []) (get_or_from_slice_get os i o o there.1)))
+
+-- ---- of a report
+
+-- the rising keys of a report
+pub rising_positioned : (π : Preference) (t : Data) (f : Family)
+    → rising_list (λ a b. option_cmp key_cmp a.0 b.0) (positioned 0 (map (λ (o : Placed). key_of_family_object π f o.value) (objects f t))) ≡ rising_keys π t f
+rising_positioned π t f = ap (rising_list (λ a b. option_cmp key_cmp a.0 b.0)) (positioned_made (λ (o : Placed). key_of_family_object π f o.value) 0 (objects f t))

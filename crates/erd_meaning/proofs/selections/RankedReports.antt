@@ -10,12 +10,13 @@ use Rattle.erd_tables.specs.declared.class.Class.TheVariants as class
 use Rattle.erd_tables.specs.declared.class.Family.{Family}
 use Rattle.erd_check.proofs.Order.{In-all}
 use Rattle.erd_meaning.specs.Keys.{Preference, has_keys, key_cmp, key_of}
-use Rattle.erd_meaning.specs.Lookups.{positioned, rank_of, rising_keys}
+use Rattle.erd_meaning.specs.code.RanksAmong.{AllAreRanked, IsRanked, names_of, positioned, rank_among, ranked_parts, rising_keys_among}
+use Rattle.erd_meaning.specs.Lookups.{rank_of, rising_keys}
 use Rattle.erd_meaning.specs.NameParts.{NameParts}
 use Rattle.erd_meaning.specs.SelectionNames.{rising_list}
 use Rattle.erd_meaning.specs.Objects.{Placed, objects}
 use Rattle.erd_meaning.specs.code.ObjectWalk.{Kept, kept}
-use Rattle.erd_meaning.specs.code.RankedNames.{AllAreRanked, IsRanked, PlacedName, RankedParts, family_chosen, names_of, rank_among, ranked_name, ranked_parts, ranked_selection_in, rising_keys_among}
+use Rattle.erd_meaning.specs.RankedNames.{PlacedName, RankedParts, family_chosen, ranked_name, ranked_selection_in}
 use Rattle.erd_meaning.specs.code.Resolved.{IsResolved}
 use Rattle.erd_meaning.specs.code.SelectionWalk.{NumberedName}
 use Rattle.erd_meaning.specs.code.Shown.{shown}
@@ -24,6 +25,7 @@ use Rattle.erd_meaning.specs.declared.objects.object.Object.{Object}
 use Rattle.erd_meaning.proofs.finding.Lookups.{those_shown}
 use Rattle.erd_meaning.proofs.finding.OneObject.{in_at}
 use Rattle.erd_meaning.proofs.orders.Counted.{count_map}
+use Rattle.erd_meaning.proofs.selections.PositionedKeys.{rising_positioned}
 
 -- the objects that selections are for have keys
 pub chosen_keyed : (c : Class) → has_keys (family_chosen c) ≡ true
@@ -41,6 +43,7 @@ module _ (π : Preference) (v : Value) (os : List Object) (names : List Numbered
   rising_same f =
       ap (λ (keys : List (Option Key)). rising_list (λ a b. option_cmp key_cmp a.0 b.0) (positioned 0 keys))
       (ap (map (λ (k : Kept). k.key)) (those_shown π v os names f r) ∙ map-map (λ (k : Kept). k.key) (λ (o : Placed). kept π f o.value) (objects f (view v)))
+      ∙ rising_positioned π (view v) f
 
   ranked_same : (n : NameParts) → ranked_parts (map shown os) n ≡ ranked_name π (view v) n
   ranked_same n i = record { name = n; ranks = map (λ key. rank_same (family_chosen n.class) (chosen_keyed n.class) (Some key) i) n.keys }

@@ -13,12 +13,13 @@ use Rattle.erd_check.proofs.Order.{In, In-all}
 use Rattle.erd_meaning.specs.Keys.{key_cmp}
 use Rattle.erd_meaning.specs.NameParts.{NameParts}
 use Rattle.erd_meaning.specs.SelectionNames.{class_cmp, name_cmp}
-use Rattle.erd_meaning.specs.code.NameHashes.{name_digest}
-use Rattle.erd_meaning.specs.code.NumberedNames.{numbered_name_cmp, numbered_parts, without_keys}
+use Rattle.erd_meaning.specs.Hashes.{name_digest}
+use Rattle.erd_meaning.specs.NumberedNames.{numbered_name_cmp, numbered_parts, without_keys}
 use Rattle.erd_meaning.specs.code.NumberedOrders.{numbered_as_named, numbers_as_keys}
 use Rattle.erd_meaning.specs.code.ObjectWalk.{Kept}
 use Rattle.erd_meaning.specs.code.Orders.{classes_exact, name_cmp_exact}
-use Rattle.erd_meaning.specs.code.RankedNames.{AllAreRanked, IsRanked, PlacedName, RankedParts, are_ranks_of, family_chosen, has_keys_among, is_key_among, is_sought, names_of, rank_among, ranked_name_cmp, ranked_parts}
+use Rattle.erd_meaning.specs.code.RanksAmong.{AllAreRanked, IsRanked, are_ranks_of, has_keys_among, is_key_among, is_sought, names_of, rank_among, ranked_parts}
+use Rattle.erd_meaning.specs.RankedNames.{PlacedName, RankedParts, family_chosen, ranked_name_cmp}
 use Rattle.erd_meaning.specs.code.SelectionWalk.{NumberedName, added_name, is_selection_named, is_taken}
 use Rattle.erd_meaning.specs.declared.keys.key.Key.{Key}
 use Rattle.erd_tables.specs.declared.class.Class.{Class}

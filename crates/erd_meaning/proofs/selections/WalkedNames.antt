@@ -11,7 +11,7 @@ use Rattle.erd_meaning.specs.NameParts.{NameParts}
 use Rattle.erd_meaning.specs.code.NamesAmong.{name_among}
 use Rattle.erd_meaning.specs.Objects.{numbered_selections}
 use Rattle.erd_meaning.specs.code.ObjectWalk.{Kept, kept_objects}
-use Rattle.erd_meaning.specs.code.RankedNames.{names_of}
+use Rattle.erd_meaning.specs.code.RanksAmong.{names_of}
 use Rattle.erd_meaning.specs.code.Resolved.{AreNames}
 use Rattle.erd_meaning.specs.SelectionNames.{name_of}
 use Rattle.erd_meaning.specs.code.SelectionWalk.{NamesMet, NumberedName, is_taken, named_all}

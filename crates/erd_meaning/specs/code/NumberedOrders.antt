@@ -3,16 +3,18 @@
 use Rattle.std.proofs.Common.{◌≡◌, ℕ, List, [], ◌∷◌, map, true, Ordering, Less, Equal, Greater, nat_cmp, refl, sym, ap, ap₂, ◌∙◌, inl, inr}
 use Rattle.std.specs.Cmp.{Equal-is, IsTotalOrder}
 use Rattle.std.specs.Cmp.Lexicographic.{slice_cmp}
-use Rattle.std.specs.Ordering.{eq_by_cmp, ordering_then}
+use Rattle.std.specs.Option.{option_cmp}
+use Rattle.std.specs.Ordering.{bool_cmp, eq_by_cmp, int_cmp, ordering_then}
 use Rattle.std.proofs.lemmas.Cmp.{nat_cmp_total, nat_list_cmp_total, lists_total, then_total, on_total}
 use Rattle.std.proofs.lemmas.Map.Lookups.{CmpEqualImpliesEq, exact_unsigned}
 use Rattle.erd_check.proofs.Order.{In}
 use Rattle.erd_tables.proofs.PlaceOrder.{lists_exact, then_both}
 use Rattle.erd_tables.specs.Classes.{class_name}
+use Rattle.erd_tables.specs.Texts.{text_cmp}
 use Rattle.erd_meaning.specs.Keys.{key_cmp}
 use Rattle.erd_meaning.specs.NameParts.{NameParts}
 use Rattle.erd_meaning.specs.SelectionNames.{class_cmp, name_cmp}
-use Rattle.erd_meaning.specs.code.NumberedNames.{NumberedParts, after_keys_cmp, numbered_name_cmp, numbered_parts, without_keys}
+use Rattle.erd_meaning.specs.NumberedNames.{NumberedParts, numbered_name_cmp, numbered_parts, without_keys}
 use Rattle.erd_meaning.specs.code.Orders.{name_cmp_exact, name_cmp_total}
 use Rattle.erd_meaning.specs.declared.keys.key.Key.{Key}
 
@@ -32,6 +34,14 @@ numbered_name_cmp_exact a b e =
 -- what is made of such a name is the same of an equal one
 pub equal_numbered_alike : {B : Type 0} (f : NumberedParts → B) (a b : NumberedParts) → eq_by_cmp numbered_name_cmp a b ≡ true → f a ≡ f b
 equal_numbered_alike f a b e = ap f (numbered_name_cmp_exact a b ((Equal-is (numbered_name_cmp a b)).0 e))
+
+-- How the parts of two names compare that come after the keys.
+abbrev pub after_keys_cmp : NameParts → NameParts → Ordering
+after_keys_cmp a b =
+    ordering_then (bool_cmp a.write_in b.write_in)
+    (ordering_then (option_cmp int_cmp a.order b.order)
+    (ordering_then (option_cmp text_cmp a.label b.label)
+    (option_cmp key_cmp a.identifier b.identifier)))
 
 -- names without keys are told apart by the parts after the keys if their classes are equal
 pub by_later_parts : (m n : NameParts) (numbers : Ordering)

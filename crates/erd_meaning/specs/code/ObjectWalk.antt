@@ -13,7 +13,7 @@ use Rattle.erd_tables.specs.declared.fault.Fault.{Fault}
 use Rattle.erd_tables.specs.declared.fault.Reason.TheVariants.{NoIdentifier, TwinIdentifier, DuplicateId}
 use Rattle.erd_tables.specs.declared.place.Step.{Step}
 use Rattle.erd_tables.specs.declared.place.Step.TheVariants.{Name}
-use Rattle.erd_check.specs.code.Paths.{fault_at}
+use Rattle.erd_check.specs.Paths.{fault_at}
 use Rattle.erd_meaning.specs.Keys.{Preference, has_keys, key_cmp, key_of, key_of_family_object}
 use Rattle.erd_meaning.specs.Objects.{Placed, elections, has_several, id_of, placed_entries, report_of, selections_of_contest}
 use Rattle.erd_meaning.specs.declared.keys.key.Key.{Key}

@@ -9,12 +9,13 @@ use Rattle.std.proofs.lemmas.Map.Lookups.{exact_unsigned}
 use Rattle.erd_tables.proofs.PlaceOrder.{then_both}
 use Rattle.erd_check.proofs.Reasons.{and_true}
 use Rattle.erd_meaning.specs.NameParts.{NameParts}
-use Rattle.erd_meaning.specs.code.NameHashes.{name_digest}
-use Rattle.erd_meaning.specs.code.NumberedNames.{numbered_name_cmp, numbered_parts}
+use Rattle.erd_meaning.specs.Hashes.{name_digest}
+use Rattle.erd_meaning.specs.NumberedNames.{numbered_name_cmp, numbered_parts}
 use Rattle.erd_meaning.specs.code.NumberedOrders.{numbered_name_cmp_total}
 use Rattle.erd_meaning.specs.code.ObjectWalk.{Kept}
 use Rattle.erd_meaning.specs.code.Orders.{name_cmp_exact, name_cmp_total}
-use Rattle.erd_meaning.specs.code.RankedNames.{PlacedName, RankedParts, has_keys_among, is_sought, ranked_name_cmp, ranked_name_writes, ranked_parts, sought_cmp, sought_writes}
+use Rattle.erd_meaning.specs.RankedNames.{PlacedName, RankedParts, ranked_name_cmp, ranked_name_writes}
+use Rattle.erd_meaning.specs.code.RanksAmong.{has_keys_among, is_sought, ranked_parts, sought_cmp, sought_writes}
 use Rattle.erd_meaning.specs.code.SelectionWalk.{NumberedName}
 use Rattle.erd_meaning.specs.SelectionNames.{name_cmp}
 

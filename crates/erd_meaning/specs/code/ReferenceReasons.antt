@@ -7,14 +7,33 @@ use Rattle.serde_json.specs.Data.{Data}
 use Rattle.serde_json.specs.Find.{as_str}
 use Rattle.erd_tables.specs.declared.class.Family.{Family}
 use Rattle.erd_tables.specs.declared.class.Family.TheVariants as family
+use Rattle.erd_tables.specs.declared.class.Role.TheVariants as role
 use Rattle.erd_tables.specs.declared.fault.Reason.{Reason}
 use Rattle.erd_tables.specs.declared.fault.Reason.TheVariants.{Repeated, Unresolved, WrongFamily, SelectionOfOtherContest}
+use Rattle.erd_tables.specs.declared.member.MemberKind.TheVariants as kind
 use Rattle.erd_check.specs.Values.{text_at}
 use Rattle.erd_check.specs.declared.want.Want.{Want}
-use Rattle.erd_check.specs.declared.want.Want.TheVariants.{Reference}
+use Rattle.erd_check.specs.declared.want.Want.TheVariants.{Member, Object, Reference}
 use Rattle.erd_meaning.specs.code.ObjectIndexes.{is_in_contest, number_among}
 use Rattle.erd_meaning.specs.code.ObjectLookups.{keeps_id, object_among}
 use Rattle.erd_meaning.specs.code.ObjectWalk.{Kept}
+
+-- ---- where references stand
+
+-- True where a reference is asked for, or a value that may have references inside: an array of references, or an array or
+-- an object that is not part of an identifier, a text or a carried value.
+abbrev pub leads_to_references : Want → Bool
+leads_to_references (Object role.Identifier) = false
+leads_to_references (Object role.Label) = false
+leads_to_references (Object role.Language) = false
+leads_to_references (Object r) = true
+leads_to_references (Reference f) = true
+leads_to_references (Member (kind.Many f) required) = true
+leads_to_references (Member (kind.Keyed f) required) = true
+leads_to_references (Member kind.Elections required) = true
+leads_to_references (Member kind.Content required) = true
+leads_to_references (Member kind.Ordered required) = true
+leads_to_references w = false
 
 -- ---- look-ups
 

@@ -2,7 +2,7 @@
 use Rattle.std.specs.Prelude.{List, [], ◌∷◌, map}
 use Rattle.serde_json.specs.declared.value.Value.{Value}
 use Rattle.erd_meaning.specs.Keys.{Preference}
-use Rattle.erd_meaning.specs.code.RankedNames.{AllAreRanked, names_of}
+use Rattle.erd_meaning.specs.code.RanksAmong.{AllAreRanked, names_of}
 use Rattle.erd_meaning.specs.code.Resolved.{IsResolved}
 use Rattle.erd_meaning.specs.code.ResolvedElections.{AreElections}
 use Rattle.erd_meaning.specs.code.Shown.{shown}

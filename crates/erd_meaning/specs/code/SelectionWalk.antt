@@ -1,17 +1,17 @@
 -- The names of the selections of a report in the order of their places, as the program walks them, with the faults of
 -- selections that it reports on the way. They do not define the profile: `SelectionsMet` proves that the names are those of
 -- `selection_in`, and `SelectionFaults` that the faults are those of `SelectionFault`.
-use Rattle.std.specs.Prelude.{ℕ, List, [], ◌∷◌, ◌++◌, Bool, ◌&&◌, ◌==◌, if◌then◌else◌, Option}
-use Rattle.std.specs.List.{enumerate_from, flat_map, list_any}
+use Rattle.std.specs.Prelude.{◌≡◌, ◌+◌, ℕ, List, [], ◌∷◌, ◌++◌, Bool, ◌&&◌, ◌==◌, if◌then◌else◌, Option, Some, None, option_and_then}
+use Rattle.std.specs.List.{enumerate_from, flat_map, list_any, slice_get}
 use Rattle.std.specs.Option.{option_map_or}
 use Rattle.std.specs.Ordering.{is_eq}
 use Rattle.serde_json.specs.Data.{Data}
 use Rattle.erd_tables.specs.declared.fault.Fault.{Fault}
 use Rattle.erd_tables.specs.declared.fault.Reason.TheVariants.{TwinSelection}
 use Rattle.erd_tables.specs.declared.place.Step.{Step}
-use Rattle.erd_check.specs.code.Paths.{fault_at}
+use Rattle.erd_check.specs.Paths.{fault_at}
 use Rattle.erd_meaning.specs.NameParts.{NameParts}
-use Rattle.erd_meaning.specs.Objects.{Placed, numbered_selections_of}
+use Rattle.erd_meaning.specs.Objects.{Placed, contests, numbered_selections, numbered_selections_of, selections_of_contest}
 use Rattle.erd_meaning.specs.code.ObjectWalk.{fault_if}
 use Rattle.erd_meaning.specs.SelectionNames.{name_cmp}
 
@@ -56,3 +56,17 @@ named_one name m s = option_map_or (with_name m s.1.place s.0) (name s.1.value) 
 abbrev pub named_all : (Data → Option NameParts) → NamesMet → List (ℕ × Placed) → NamesMet
 named_all name m [] = m
 named_all name m (s ∷ ss) = named_all name (named_one name m s) ss
+
+-- ---- the selections of a contest among all
+
+-- The selection at position i of the contest at position c, or none.
+abbrev pub selection_of : Data → ℕ → ℕ → Option Placed
+selection_of t c i = option_and_then (λ o. slice_get (selections_of_contest o) i) (slice_get (contests t) c)
+
+-- The selection, if it is of the contest at position c.
+abbrev pub if_of_contest : ℕ → ℕ × Placed → Option Placed
+if_of_contest c s = if s.0 == c then Some s.1 else None
+
+-- The selections of the contest at position c stand one after another among those of the report, from position s on.
+abbrev pub StandFrom : Data → ℕ → ℕ → Type 0
+StandFrom t c s = (i : ℕ) → option_and_then (if_of_contest c) (slice_get (numbered_selections t) (s + i)) ≡ selection_of t c i

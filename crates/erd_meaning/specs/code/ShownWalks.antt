@@ -1,7 +1,7 @@
 -- What clauses see of the walks over objects and over selections: how far each has come.
 use Rattle.std.specs.Prelude.{map}
 use Rattle.erd_meaning.specs.code.ObjectWalk.{ObjectsMet}
-use Rattle.erd_meaning.specs.code.RankedNames.{names_of}
+use Rattle.erd_meaning.specs.code.RanksAmong.{names_of}
 use Rattle.erd_meaning.specs.code.SelectionWalk.{NamesMet}
 use Rattle.erd_meaning.specs.code.Shown.{shown}
 use Rattle.erd_meaning.specs.declared.objects.object_walk.ObjectWalk.{ObjectWalk}

@@ -23,6 +23,10 @@ impl Key {
     /// # Errors
     ///
     /// `AllocError` if out of memory.
+    ///
+    /// ```
+    /// assert!(rt; one.try_clone(alloc)? == one);
+    /// ```
     pub fn try_clone(&self, alloc: Global) -> Result<Key, AllocError>
         ensures { IfOk result (λ key. key ≡ self.now) }
     {

@@ -17,6 +17,10 @@ use std::alloc::{AllocError, Global};
 /// # Errors
 ///
 /// `AllocError` if out of memory.
+///
+/// ```
+/// assert_eq!(rt; key_of(alloc, county, None)?, Some(key(alloc, "fips", "20")?));
+/// ```
 pub fn key_of(
     alloc: Global,
     object: &Value,

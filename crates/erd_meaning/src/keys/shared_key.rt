@@ -1,5 +1,5 @@
 ghost use Rattle.std.specs.Prelude.{◌≡◌, IfOk};
-ghost use Rattle.erd_meaning.specs.code.NameHashes.{key_digest};
+ghost use Rattle.erd_meaning.specs.Hashes.{key_digest};
 
 use crate::keys::key::Key;
 use crate::keys::triple::Triple;
@@ -19,7 +19,7 @@ pub(crate) struct SharedKey {
 impl Model for SharedKey {
     ghost use Rattle.std.specs.Prelude.{◌≡◌};
     ghost use Rattle.erd_meaning.specs.declared.keys.key.Key.{Key};
-    ghost use Rattle.erd_meaning.specs.code.NameHashes.{key_digest};
+    ghost use Rattle.erd_meaning.specs.Hashes.{key_digest};
 
     ghost Value = { Key };
 
@@ -136,7 +136,7 @@ impl Ord for SharedKey {
 }
 
 impl Hash for SharedKey {
-    ghost use Rattle.erd_meaning.specs.code.NameHashes.{shared_key_writes};
+    ghost use Rattle.erd_meaning.specs.Hashes.{shared_key_writes};
     ghost use Rattle.erd_meaning.specs.code.Orders.{equal_keys_alike};
 
     ghost hash_input = { shared_key_writes };

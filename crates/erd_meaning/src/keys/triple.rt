@@ -121,7 +121,7 @@ impl<'a> Eq for Triple<'a> {
 }
 
 impl<'a> Hash for Triple<'a> {
-    ghost use Rattle.erd_meaning.specs.code.NameHashes.{key_writes};
+    ghost use Rattle.erd_meaning.specs.Hashes.{key_writes};
     ghost use Rattle.erd_meaning.specs.code.Orders.{equal_keys_alike};
 
     ghost hash_input = { key_writes };

@@ -5,7 +5,8 @@ ghost use Rattle.serde_json.specs.Written.{has_float};
 ghost use Rattle.erd_meaning.specs.Keys.{key_cmp};
 ghost use Rattle.erd_meaning.specs.code.NamesAmong.{keys_among, selection_keys_among};
 ghost use Rattle.erd_meaning.specs.code.ObjectWalk.{Kept};
-ghost use Rattle.erd_meaning.specs.code.RankedNames.{family_chosen, ranked_key, ranked_name_among};
+ghost use Rattle.erd_meaning.specs.RankedNames.{family_chosen};
+ghost use Rattle.erd_meaning.specs.code.RanksAmong.{ranked_key, ranked_name_among};
 ghost use Rattle.erd_meaning.specs.SelectionNames.{is_write_in, label_of_selection, order_of_selection, rising_list};
 ghost use Rattle.erd_meaning.specs.code.Shown.{shown};
 

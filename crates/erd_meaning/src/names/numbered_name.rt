@@ -1,6 +1,6 @@
 //! The name of a selection, with numbers in place of keys.
 ghost use Rattle.std.specs.Prelude.{◌≡◌};
-ghost use Rattle.erd_meaning.specs.code.NumberedNames.{numbered_name_cmp, numbered_parts};
+ghost use Rattle.erd_meaning.specs.NumberedNames.{numbered_name_cmp, numbered_parts};
 
 use crate::names::parts::compare_numbered;
 use crate::names::selection_name::SelectionName;
@@ -20,7 +20,7 @@ pub struct NumberedName<'a> {
 }
 
 impl<'a> Model for NumberedName<'a> {
-    ghost use Rattle.erd_meaning.specs.code.NumberedNames.{NumberedParts, numbered_parts};
+    ghost use Rattle.erd_meaning.specs.NumberedNames.{NumberedParts, numbered_parts};
 
     ghost Value = { NumberedParts };
 
@@ -29,6 +29,11 @@ impl<'a> Model for NumberedName<'a> {
 
 impl<'a> NumberedName<'a> {
     /// Returns the name, which is borrowed, with these numbers in place of its keys.
+    ///
+    /// ```
+    /// let numbered = NumberedName::lent(name, Vec::new(alloc));
+    /// assert!(rt; numbered == NumberedName::lent(name, Vec::new(alloc)));
+    /// ```
     pub fn lent(name: &'a SelectionName, numbers: Vec<usize>) -> NumberedName<'a>
         ensures { result ≡ numbered_parts name.now numbers.items }
     {
@@ -51,7 +56,7 @@ impl<'a> NumberedName<'a> {
 impl<'a> PartialEq for NumberedName<'a> {
     ghost use Rattle.std.specs.Cmp.{eq_by_cmp_equiv, partial_equiv_from_equiv};
     ghost use Rattle.std.specs.Ordering.{eq_by_cmp};
-    ghost use Rattle.erd_meaning.specs.code.NumberedNames.{numbered_name_cmp};
+    ghost use Rattle.erd_meaning.specs.NumberedNames.{numbered_name_cmp};
     ghost use Rattle.erd_meaning.specs.code.NumberedOrders.{numbered_name_cmp_total};
 
     ghost eq = { eq_by_cmp numbered_name_cmp };
@@ -71,7 +76,7 @@ impl<'a> Eq for NumberedName<'a> {
 }
 
 impl<'a> Hash for NumberedName<'a> {
-    ghost use Rattle.erd_meaning.specs.code.NumberedNames.{numbered_name_writes};
+    ghost use Rattle.erd_meaning.specs.NumberedNames.{numbered_name_writes};
     ghost use Rattle.erd_meaning.specs.code.NumberedOrders.{equal_numbered_alike};
 
     ghost hash_input = { numbered_name_writes };

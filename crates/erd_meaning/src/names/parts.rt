@@ -1,7 +1,8 @@
 ghost use Rattle.std.specs.Prelude.{◌≡◌, IfOk};
 ghost use Rattle.erd_meaning.specs.SelectionNames.{name_cmp};
-ghost use Rattle.erd_meaning.specs.code.NameHashes.{name_digest};
-ghost use Rattle.erd_meaning.specs.code.NumberedNames.{after_keys_cmp, numbered_name_cmp, numbered_parts, without_keys};
+ghost use Rattle.erd_meaning.specs.Hashes.{name_digest};
+ghost use Rattle.erd_meaning.specs.code.NumberedOrders.{after_keys_cmp};
+ghost use Rattle.erd_meaning.specs.NumberedNames.{numbered_name_cmp, numbered_parts, without_keys};
 
 use crate::keys::key::{Key, copied};
 use crate::keys::shared_key::SharedKey;

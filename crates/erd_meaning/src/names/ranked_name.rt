@@ -1,6 +1,9 @@
 ghost use Rattle.std.specs.Prelude.{◌≡◌};
-ghost use Rattle.erd_meaning.specs.code.NumberedNames.{numbered_name_cmp, numbered_parts};
-ghost use Rattle.erd_meaning.specs.code.RankedNames.{family_chosen};
+ghost use Rattle.serde_json.specs.Data.{Data};
+ghost use Rattle.erd_meaning.specs.Keys.{Preference};
+ghost use Rattle.erd_meaning.specs.NumberedNames.{numbered_name_cmp, numbered_parts};
+ghost use Rattle.erd_meaning.specs.RankedNames.{IsRankedIn, family_chosen};
+ghost use Rattle.erd_meaning.specs.SelectionNames.{name_cmp};
 
 use crate::names::parts::compare_numbered;
 use crate::names::selection_name::SelectionName;
@@ -22,7 +25,7 @@ pub struct RankedName {
 }
 
 impl Model for RankedName {
-    ghost use Rattle.erd_meaning.specs.code.RankedNames.{RankedParts};
+    ghost use Rattle.erd_meaning.specs.RankedNames.{RankedParts};
 
     ghost Value = { RankedParts };
 
@@ -42,6 +45,10 @@ impl RankedName {
     }
 
     /// Returns the name.
+    ///
+    /// ```
+    /// assert!(rt; write_in.name() == name);
+    /// ```
     pub fn name(&self) -> &SelectionName
         ensures { result.now ≡ self.now.name }
     {
@@ -49,20 +56,21 @@ impl RankedName {
     }
 
     /// Returns the family of the objects whose keys are in the name. For a name without keys it may be `Family::Candidate`.
+    ///
+    /// ```
+    /// assert_eq!(rt; ranked.family(), Family::Candidate);
+    /// ```
     pub fn family(&self) -> Family
         ensures { result ≡ family_chosen self.now.name.class }
     {
         family_chosen(self.name.parts().class)
     }
 
-    /// Returns the name without its ranks.
-    pub(crate) fn into_name(self) -> SelectionName
-        ensures { result ≡ self.name }
-    {
-        self.name
-    }
-
     /// Returns the ranks of the keys, in the order of the keys.
+    ///
+    /// ```
+    /// assert_eq!(rt; ranked.ranks().first(), Some(&0));
+    /// ```
     pub fn ranks(&self) -> &[usize]
         ensures { result.now ≡ self.now.ranks }
     {
@@ -71,8 +79,14 @@ impl RankedName {
 
     /// Compares the name with another, with the ranks in place of the keys. For two names of one report, this is the order
     /// of the names.
+    ///
+    /// ```
+    /// assert_eq!(rt; write_in.compare(ranked), Ordering::Less);
+    /// ```
     pub fn compare(&self, other: &RankedName) -> Ordering
-        ensures { result ≡ numbered_name_cmp (numbered_parts self.now.name self.now.ranks) (numbered_parts other.now.name other.now.ranks) }
+        ensures ranks { result ≡ numbered_name_cmp (numbered_parts self.now.name self.now.ranks) (numbered_parts other.now.name other.now.ranks) }
+        ensures names { (π : Preference) (t : Data) → IsRankedIn π t self.now → IsRankedIn π t other.now
+            → result ≡ name_cmp self.now.name other.now.name }
     {
         compare_numbered(
             self.name.parts(),
@@ -86,7 +100,7 @@ impl RankedName {
 impl PartialEq for RankedName {
     ghost use Rattle.std.specs.Cmp.{eq_by_cmp_equiv, partial_equiv_from_equiv};
     ghost use Rattle.std.specs.Ordering.{eq_by_cmp};
-    ghost use Rattle.erd_meaning.specs.code.RankedNames.{ranked_name_cmp};
+    ghost use Rattle.erd_meaning.specs.RankedNames.{ranked_name_cmp};
     ghost use Rattle.erd_meaning.specs.code.RankedOrders.{ranked_name_cmp_total};
 
     ghost eq = { eq_by_cmp ranked_name_cmp };
@@ -106,7 +120,7 @@ impl Eq for RankedName {
 }
 
 impl Hash for RankedName {
-    ghost use Rattle.erd_meaning.specs.code.RankedNames.{ranked_name_writes};
+    ghost use Rattle.erd_meaning.specs.RankedNames.{ranked_name_writes};
     ghost use Rattle.erd_meaning.specs.code.RankedOrders.{equal_ranked_alike};
 
     ghost hash_input = { ranked_name_writes };

@@ -2,8 +2,8 @@
 ghost use Rattle.std.specs.Prelude.{◌≡◌, IfOk};
 ghost use Rattle.std.specs.Ordering.{eq_by_cmp};
 ghost use Rattle.erd_meaning.specs.SelectionNames.{name_cmp};
-ghost use Rattle.erd_meaning.specs.code.NameHashes.{name_digest};
-ghost use Rattle.erd_meaning.specs.code.NumberedNames.{without_keys};
+ghost use Rattle.erd_meaning.specs.Hashes.{name_digest};
+ghost use Rattle.erd_meaning.specs.NumberedNames.{without_keys};
 
 use crate::names::parts::Parts;
 use std::alloc::{AllocError, Global};
@@ -28,7 +28,7 @@ pub struct SelectionName {
 impl Model for SelectionName {
     ghost use Rattle.std.specs.Prelude.{◌≡◌};
     ghost use Rattle.erd_meaning.specs.NameParts.{NameParts};
-    ghost use Rattle.erd_meaning.specs.code.NameHashes.{name_digest};
+    ghost use Rattle.erd_meaning.specs.Hashes.{name_digest};
 
     ghost Value = { NameParts };
 
@@ -65,6 +65,10 @@ impl SelectionName {
     /// # Errors
     ///
     /// `AllocError` if out of memory.
+    ///
+    /// ```
+    /// assert!(rt; name.try_clone(alloc)? == *name);
+    /// ```
     pub fn try_clone(&self, alloc: Global) -> Result<SelectionName, AllocError>
         ensures { IfOk result (λ name. name ≡ self.now) }
     {
@@ -132,7 +136,7 @@ impl Ord for SelectionName {
 }
 
 impl Hash for SelectionName {
-    ghost use Rattle.erd_meaning.specs.code.NameHashes.{name_writes};
+    ghost use Rattle.erd_meaning.specs.Hashes.{name_writes};
     ghost use Rattle.erd_meaning.specs.code.Orders.{equal_names_alike};
 
     ghost hash_input = { name_writes };

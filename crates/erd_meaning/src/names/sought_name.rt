@@ -1,6 +1,7 @@
 ghost use Rattle.std.specs.Prelude.{◌≡◌, ◌&&◌, ◌==◌, map, Some};
 ghost use Rattle.std.specs.Ordering.{eq_by_cmp};
-ghost use Rattle.erd_meaning.specs.code.RankedNames.{are_ranks_of, family_chosen, has_keys_among, is_key_among, rank_among, ranked_name_cmp, ranked_parts};
+ghost use Rattle.erd_meaning.specs.code.RanksAmong.{are_ranks_of, has_keys_among, is_key_among, rank_among, ranked_parts};
+ghost use Rattle.erd_meaning.specs.RankedNames.{family_chosen, ranked_name_cmp};
 ghost use Rattle.erd_meaning.specs.code.Shown.{shown};
 
 use crate::keys::key::Key;
@@ -67,7 +68,7 @@ impl<'b, 'a> SoughtName<'b, 'a> {
 impl<'b, 'a> PartialEq for SoughtName<'b, 'a> {
     ghost use Rattle.std.specs.Cmp.{eq_by_cmp_equiv, on_per, partial_equiv_from_equiv};
     ghost use Rattle.std.specs.Ordering.{eq_by_cmp};
-    ghost use Rattle.erd_meaning.specs.code.RankedNames.{sought_cmp};
+    ghost use Rattle.erd_meaning.specs.code.RanksAmong.{sought_cmp};
     ghost use Rattle.erd_meaning.specs.code.RankedOrders.{sought_cmp_total};
 
     ghost eq = { λ a b. eq_by_cmp sought_cmp (a.contest, a.name.now) (b.contest, b.name.now) };
@@ -90,7 +91,7 @@ impl<'b, 'a> Eq for SoughtName<'b, 'a> {
 }
 
 impl<'b, 'a> Hash for SoughtName<'b, 'a> {
-    ghost use Rattle.erd_meaning.specs.code.RankedNames.{sought_writes};
+    ghost use Rattle.erd_meaning.specs.code.RanksAmong.{sought_writes};
     ghost use Rattle.erd_meaning.specs.code.RankedOrders.{equal_sought_alike};
 
     ghost hash_input = { λ q. sought_writes (q.contest, q.name.now) };
@@ -105,7 +106,7 @@ impl<'b, 'a> Hash for SoughtName<'b, 'a> {
 
 impl<'b, 'a> Equivalent<(usize, RankedName)> for &SoughtName<'b, 'a> {
     ghost use Rattle.std.specs.Prelude.{map};
-    ghost use Rattle.erd_meaning.specs.code.RankedNames.{is_sought};
+    ghost use Rattle.erd_meaning.specs.code.RanksAmong.{is_sought};
     ghost use Rattle.erd_meaning.specs.code.RankedOrders.{sought_alike, sought_equal};
     ghost use Rattle.erd_meaning.specs.code.Shown.{shown};
 

@@ -2,7 +2,7 @@
 ghost use Rattle.std.specs.Prelude.{◌≡◌, length, filter, map, IfOk};
 ghost use Rattle.std.specs.List.Sorted.{IsSorted};
 ghost use Rattle.std.specs.Ordering.{is_lt};
-ghost use Rattle.erd_meaning.specs.code.RankedNames.{AreRanks, lent_key_cmp, rising_keys_among, seen_keys};
+ghost use Rattle.erd_meaning.specs.code.RanksAmong.{AreRanks, lent_key_cmp, rising_keys_among, seen_keys};
 ghost use Rattle.erd_meaning.specs.code.Shown.{shown};
 
 use crate::keys::key::Key;

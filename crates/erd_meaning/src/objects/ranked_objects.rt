@@ -3,7 +3,8 @@ ghost use Rattle.serde_json.specs.Find.{as_str};
 ghost use Rattle.serde_json.specs.View.{view};
 ghost use Rattle.erd_meaning.specs.code.NamesAmong.{key_among};
 ghost use Rattle.erd_meaning.specs.code.ObjectLookups.{those_of};
-ghost use Rattle.erd_meaning.specs.code.RankedNames.{AreRanks, family_chosen, is_key_among, rank_among, ranked_key, rising_keys_among, seen_keys};
+ghost use Rattle.erd_meaning.specs.code.RanksAmong.{AreRanks, is_key_among, rank_among, ranked_key, rising_keys_among, seen_keys};
+ghost use Rattle.erd_meaning.specs.RankedNames.{family_chosen};
 ghost use Rattle.erd_meaning.specs.code.Shown.{shown};
 
 use crate::keys::key::Key;
@@ -31,7 +32,7 @@ impl<'a> Model for RankedObjects<'a> {
     ghost use Rattle.serde_json.specs.contracts.value.Value as tree_value;
     ghost use Rattle.erd_tables.specs.declared.class.Family.TheVariants as family;
     ghost use Rattle.erd_meaning.specs.declared.objects.object.Object.{Object};
-    ghost use Rattle.erd_meaning.specs.code.RankedNames.{IsKeyOrder};
+    ghost use Rattle.erd_meaning.specs.code.RanksAmong.{IsKeyOrder};
     ghost use Rattle.erd_meaning.specs.code.Shown.{shown};
 
     ghost Value = { List Object };

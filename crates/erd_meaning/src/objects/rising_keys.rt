@@ -1,10 +1,9 @@
 //! The keys of the objects of a family in rising order, each with the position of its object.
 ghost use Rattle.std.specs.Prelude.{◌≡◌, map, IfOk};
 ghost use Rattle.std.specs.List.Sorted.{IsSorted};
-ghost use Rattle.erd_meaning.specs.Lookups.{positioned};
+ghost use Rattle.erd_meaning.specs.code.RanksAmong.{key_at_among, lent_key_cmp, positioned, rising_keys_among, seen_keys};
 ghost use Rattle.erd_meaning.specs.SelectionNames.{rising_list};
 ghost use Rattle.erd_meaning.specs.code.ObjectLookups.{those_of};
-ghost use Rattle.erd_meaning.specs.code.RankedNames.{key_at_among, lent_key_cmp, rising_keys_among, seen_keys};
 ghost use Rattle.erd_meaning.specs.code.Shown.{shown};
 
 use crate::keys::key::Key;

@@ -3,12 +3,12 @@ ghost use Rattle.std.specs.Option.{option_to_list};
 ghost use Rattle.serde_json.specs.View.{view};
 ghost use Rattle.erd_tables.specs.Faults.{ListsAll};
 ghost use Rattle.erd_check.specs.Trees.{IsTree};
-ghost use Rattle.erd_check.specs.code.Paths.{steps_of};
-ghost use Rattle.erd_check.specs.code.Walk.{faults_of};
+ghost use Rattle.erd_check.specs.Paths.{steps_of};
+ghost use Rattle.erd_check.specs.Visits.{faults_of};
 ghost use Rattle.erd_meaning.specs.LaterFaults.{ReferenceFault};
 ghost use Rattle.erd_meaning.specs.code.ObjectWalk.{kept_objects};
 ghost use Rattle.erd_meaning.specs.code.Resolved.{IsIdentified};
-ghost use Rattle.erd_meaning.specs.code.ReferenceReasons.{id_reasons, is_selection_elsewhere, is_selection_family};
+ghost use Rattle.erd_meaning.specs.code.ReferenceReasons.{id_reasons, is_selection_elsewhere, is_selection_family, leads_to_references};
 ghost use Rattle.erd_meaning.specs.code.Shown.{shown};
 
 use crate::keys::key_rule::KeyRule;
@@ -18,8 +18,8 @@ use erd_check::path::{Path, push_fault};
 use erd_check::values::text_at;
 use erd_check::visitor::{Position, Visit, Visitor};
 use erd_check::walk::walk_report;
-use erd_check::want::{Scope, Want, may_have_references};
-use erd_tables::{Family, Fault, FaultList, Reason};
+use erd_check::want::{Scope, Want};
+use erd_tables::{Family, Fault, FaultList, MemberKind, Reason, Role};
 use serde_json::Value;
 use std::alloc::{AllocError, Global};
 
@@ -87,6 +87,26 @@ impl<'b, 'a> Visitor for ReferenceJudge<'b, 'a> {
             ),
             None => Ok(()),
         }
+    }
+}
+
+/// Returns `true` if the table asks for a reference, or for a value that may have references inside. No identifier, no text
+/// and no carried value has any.
+fn may_have_references(want: Want) -> bool
+    ensures { result ≡ leads_to_references want }
+{
+    match want {
+        Want::Object(role) => !matches!(role, Role::Identifier | Role::Label | Role::Language),
+        Want::Reference(_) => true,
+        Want::Member(kind, _) => matches!(
+            kind,
+            MemberKind::Many(_)
+                | MemberKind::Keyed(_)
+                | MemberKind::Elections
+                | MemberKind::Content
+                | MemberKind::Ordered
+        ),
+        Want::ClassText(_) | Want::Status | Want::Carried => false,
     }
 }
 

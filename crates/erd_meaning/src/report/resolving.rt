@@ -9,7 +9,7 @@ ghost use Rattle.erd_check.specs.Trees.{IsTree};
 ghost use Rattle.erd_meaning.specs.Accepted.{IsAccepted, IsFault};
 ghost use Rattle.erd_meaning.specs.LaterFaults.{IdentityFault, ReferenceFault, SelectionFault};
 ghost use Rattle.erd_meaning.specs.code.ObjectWalk.{election_keys, kept_objects};
-ghost use Rattle.erd_meaning.specs.code.RankedNames.{AllAreRanked, names_of};
+ghost use Rattle.erd_meaning.specs.code.RanksAmong.{AllAreRanked, names_of};
 ghost use Rattle.erd_meaning.specs.code.Resolved.{AreNames, IsIdentified, IsReferred, IsResolved, IsToldApart};
 ghost use Rattle.erd_meaning.specs.code.Shown.{shown};
 
@@ -36,6 +36,13 @@ use std::alloc::{AllocError, Global};
 /// `CheckError::Faults` if the report is not accepted, with the list that `resolve_with` describes.
 ///
 /// `CheckError::Memory` if out of memory.
+///
+/// ```
+/// let tree = Value::from_str(alloc, BALLOT)?;
+/// let shaped = shape(alloc, &tree)?;
+/// assert!(rt; same_json(shaped.tree(), &tree));
+/// let report = resolve(alloc, shaped)?;
+/// ```
 pub fn resolve<'a>(alloc: Global, shaped: Shaped<'a>) -> Result<Report<'a>, CheckError>
     ensures tree { IfOk result (λ r. r.tree ≡ shaped.entry) }
     ensures prefer { IfOk result (λ r. r.prefer ≡ None) }
@@ -56,6 +63,11 @@ pub fn resolve<'a>(alloc: Global, shaped: Shaped<'a>) -> Result<Report<'a>, Chec
 /// each fault once, by place and then by reason, and is not empty. docs/PROFILE.md has the reasons and phases.
 ///
 /// `CheckError::Memory` if out of memory.
+///
+/// ```
+/// let report = resolve_with(alloc, shape(alloc, &tree)?, Some("local-level"))?;
+/// assert_eq!(rt; report.preference(), Some("local-level"));
+/// ```
 pub fn resolve_with<'a>(
     alloc: Global,
     shaped: Shaped<'a>,

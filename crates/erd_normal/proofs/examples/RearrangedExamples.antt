@@ -1,9 +1,9 @@
 -- Whole reports that are rearrangements of one another, and changes that are refused.
-use Rattle.std.proofs.Common.{◌≡◌, ℕ, zero, suc, List, [], ◌∷◌, ◌++◌, map, codes, Contains, Option, Some, None, Bool, true, false, true≢false, not, ◌&&◌, refl, sym, ap, ◌∙◌, arith, lit<}
+use Rattle.std.proofs.Common.{◌≡◌, ℕ, zero, suc, List, [], ◌∷◌, ◌++◌, map, codes, Contains, Option, Some, None, Bool, true, false, true≢false, not, ◌&&◌, refl, sym, ap, arith, lit<}
 use Rattle.std.proofs.lemmas.Bool.{and_parts, or_parts, not-true}
 use Rattle.std.proofs.lemmas.Map.Views.{Contains-from_any}
 use Rattle.std.proofs.lemmas.Slice.Eq.{bytes_eq-Decides}
-use Rattle.std.specs.List.{list_any, list_all}
+use Rattle.std.specs.List.{AllByRecursion, IsDistinct, list_any, list_all}
 use Rattle.std.specs.Option.{option_map_or}
 use Rattle.std.specs.Prelude.{slice_get, length, option_map, unwrap_or, if◌then◌else◌, ◌==◌}
 use Rattle.std.specs.Str.{bytes_eq}
@@ -47,26 +47,16 @@ is_renaming t pairs =
     list_all (λ f. are_among (map (λ pair. pair.0) pairs) (objects f t)) families
     && (are_apart (λ pair. pair.0) pairs && are_apart (λ pair. pair.1) pairs)
 
-not_later : {A : Type 0} (test : A → Bool) (xs : List A) (j : ℕ) (y : A) → list_any test xs ≡ false → slice_get xs j ≡ Some y → test y ≡ true → ⊥
-not_later test [] j y h e g = absurd (cc e)
-not_later test (x ∷ xs) zero y h e g =
-    let same : x ≡ y = cc in absurd (true≢false (sym g ∙ (ap test (sym same) ∙ (or_parts (test x) _ h).0)))
-not_later test (x ∷ xs) (suc j) y h e g = not_later test xs j y (or_parts (test x) _ h).1 e g
+other_texts : (text : List ℕ) (side : List ℕ × List ℕ → List ℕ) (ps : Renaming) → list_any (λ q. bytes_eq text (side q)) ps ≡ false → AllByRecursion (λ other. bytes_eq text other ≡ false) (map side ps)
+other_texts text side [] h = tt
+other_texts text side (p ∷ ps) h = let parts = or_parts (bytes_eq text (side p)) _ h in (parts.0, other_texts text side ps parts.1)
 
-one_position : (side : List ℕ × List ℕ → List ℕ) (pairs : Renaming) → are_apart side pairs ≡ true → (i j : ℕ) (p q : List ℕ × List ℕ)
-    → slice_get pairs i ≡ Some p → slice_get pairs j ≡ Some q → side p ≡ side q → i ≡ j
-one_position side [] h i j p q at_i at_j same = absurd (cc at_i)
-one_position side (r ∷ rs) h zero zero p q at_i at_j same = refl
-one_position side (r ∷ rs) h zero (suc j) p q at_i at_j same =
-    let both = and_parts (not (list_any (λ s. bytes_eq (side r) (side s)) rs)) _ h in
-    let first : r ≡ p = cc in
-    absurd (not_later (λ s. bytes_eq (side r) (side s)) rs j q (not-true _ both.0) at_j ((bytes_eq-Decides (side r) (side q)).1 (ap side first ∙ same)))
-one_position side (r ∷ rs) h (suc i) zero p q at_i at_j same =
-    let both = and_parts (not (list_any (λ s. bytes_eq (side r) (side s)) rs)) _ h in
-    let first : r ≡ q = cc in
-    absurd (not_later (λ s. bytes_eq (side r) (side s)) rs i p (not-true _ both.0) at_i ((bytes_eq-Decides (side r) (side p)).1 (ap side first ∙ sym same)))
-one_position side (r ∷ rs) h (suc i) (suc j) p q at_i at_j same =
-    ap suc (one_position side rs (and_parts (not (list_any (λ s. bytes_eq (side r) (side s)) rs)) _ h).1 i j p q at_i at_j same)
+texts_apart : (side : List ℕ × List ℕ → List ℕ) (ps : Renaming) → are_apart side ps ≡ true → IsDistinct bytes_eq (map side ps)
+unfolding IsDistinct
+texts_apart side [] h = tt
+texts_apart side (p ∷ ps) h =
+    let both = and_parts (not (list_any (λ q. bytes_eq (side p) (side q)) ps)) _ h in
+    (other_texts (side p) side ps (not-true _ both.0), texts_apart side ps both.1)
 
 -- what passes the test is a renaming
 renaming : (t : Data) (pairs : Renaming) → is_renaming t pairs ≡ true → IsRenaming t pairs
@@ -78,8 +68,8 @@ renaming t pairs h =
           let among = passed (λ o. option_map_or (λ id. list_any (bytes_eq id) (map (λ pair. pair.0) pairs)) (id_of o.value) true) (objects f t) o
           (passed (λ f. are_among (map (λ pair. pair.0) pairs) (objects f t)) families f parts.0 (is_family f)) stands in
           Contains-from_any (λ x y. (bytes_eq-Decides x y).0) id (map (λ pair. pair.0) pairs) (rw is at among);
-      left = one_position (λ pair. pair.0) pairs sides.0;
-      right = one_position (λ pair. pair.1) pairs sides.1;
+      left = texts_apart (λ pair. pair.0) pairs sides.0;
+      right = texts_apart (λ pair. pair.1) pairs sides.1;
     }
 
 -- ---- the report of one unit
@@ -159,11 +149,13 @@ report = tree_of one_unit
 
 -- two texts become one
 two_to_one : IsRenaming report ((codes "u7", codes "k") ∷ (codes "u8", codes "k") ∷ []) → ⊥
-two_to_one h = absurd (cc (h.right 0 1 (codes "u7", codes "k") (codes "u8", codes "k") refl refl refl))
+unfolding IsDistinct
+two_to_one h = true≢false h.right.0.0
 
 -- one text becomes two
 one_to_two : IsRenaming report ((codes "u7", codes "k") ∷ (codes "u7", codes "l") ∷ []) → ⊥
-one_to_two h = absurd (cc (h.left 0 1 (codes "u7", codes "k") (codes "u7", codes "l") refl refl refl))
+unfolding IsDistinct
+one_to_two h = true≢false h.left.0.0
 
 -- the unit's `@id` is left out
 not_among : Contains (codes "u8" ∷ []) (codes "u7") → ⊥

@@ -14,7 +14,7 @@ use Rattle.erd_normal.proofs.lists.StableRising.{by_first}
 use Rattle.erd_normal.specs.code.Building.{numbered}
 use Rattle.erd_normal.specs.code.KeyRanks.{places_of}
 use Rattle.erd_meaning.proofs.selections.PositionedKeys.{count_positioned}
-use Rattle.erd_meaning.specs.Lookups.{positioned}
+use Rattle.erd_meaning.specs.code.RanksAmong.{positioned}
 
 -- ---- lengths
 

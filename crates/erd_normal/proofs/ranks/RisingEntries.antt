@@ -8,13 +8,14 @@ use Rattle.serde_json.specs.Data.{Data}
 use Rattle.erd_check.proofs.Order.{In}
 use Rattle.erd_tables.specs.declared.class.Family.{Family}
 use Rattle.erd_meaning.specs.Keys.{Preference, has_keys, key_cmp, key_of}
-use Rattle.erd_meaning.specs.Lookups.{positioned, rising_keys}
+use Rattle.erd_meaning.specs.code.RanksAmong.{positioned}
+use Rattle.erd_meaning.specs.Lookups.{rising_keys}
 use Rattle.erd_meaning.specs.Objects.{Placed, objects}
 use Rattle.erd_meaning.specs.SelectionNames.{rising_list}
 use Rattle.erd_meaning.specs.declared.keys.key.Key.{Key}
 use Rattle.erd_meaning.proofs.finding.OneObject.{in_at}
 use Rattle.erd_meaning.proofs.orders.RisingLists.{rising_list_map}
-use Rattle.erd_meaning.proofs.selections.PositionedKeys.{KeyEntry, KeyPosition}
+use Rattle.erd_meaning.proofs.selections.PositionedKeys.{KeyEntry, KeyPosition, rising_positioned}
 use Rattle.erd_normal.proofs.lists.StableRising.{by_first}
 use Rattle.erd_normal.proofs.ranks.FamilyNumbers.{values_kept}
 use Rattle.erd_normal.proofs.ranks.RisingTables.{keyed_places, place_in, stands_in}
@@ -37,13 +38,14 @@ module _ (π : Preference) (t : Data) (f : Family) (keyed : has_keys f ≡ true)
   -- the keys of the table, with its positions
   places_in_table : map place_in table ≡ rising_keys π t f
   places_in_table =
-      ap (map place_in) table_is
+      (ap (map place_in) table_is
       ∙ (rising_list_map place_in (by_first (option_cmp key_cmp)) (keyed_from (key_of π) 0 values)
       ∙ ap (rising_list (by_first (option_cmp key_cmp)))
       (keyed_places (option_cmp key_cmp) (key_of π) 0 values
       ∙ ap (positioned 0)
       (map-map (key_of π) (λ (o : Placed). o.value) (objects f t)
-      ∙ sym (ap (λ b. map (λ (o : Placed). if b then key_of π o.value else None) (objects f t)) keyed))))
+      ∙ sym (ap (λ b. map (λ (o : Placed). if b then key_of π o.value else None) (objects f t)) keyed)))))
+      ∙ rising_positioned π t f
 
   module _ (keys : List KeyEntry) (seen : map (λ (p : KeyEntry). (option_copied p.0, p.1)) keys ≡ rising_keys π t f) (i : ℕ) (e : KeyEntry) (here : slice_get keys i ≡ Some e) where
     -- the entry of the table there

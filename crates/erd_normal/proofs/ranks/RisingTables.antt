@@ -13,7 +13,7 @@ use Rattle.erd_normal.proofs.lists.StableRising.{by_first, map_after, map_back, 
 use Rattle.erd_normal.specs.StableOrder.{IsStablySorted}
 use Rattle.erd_normal.specs.code.Building.{numbered}
 use Rattle.erd_normal.specs.code.KeyRanks.{keyed_from, keyed_value, places_by, places_of, rising_table}
-use Rattle.erd_meaning.specs.Lookups.{positioned}
+use Rattle.erd_meaning.specs.code.RanksAmong.{positioned}
 
 -- a key with its position, and a key with its value
 abbrev pub place_in : {K V : Type 0} → K × (ℕ × V) → K × ℕ

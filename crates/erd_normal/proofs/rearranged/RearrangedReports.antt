@@ -1,19 +1,19 @@
 -- A rearranged report is a tree, is accepted as it was, and means the same: by each change, and so by all.
 use Rattle.std.proofs.Common.{◌≡◌, ℕ, List, [], ◌∷◌, map, true, Some, option_map, unwrap_or, Contains, refl, sym, ap, ◌∙◌, subst}
-use Rattle.std.specs.Prelude.{slice_get}
 use Rattle.std.specs.Str.{bytes_eq}
 use Rattle.serde_json.specs.Data.{Data}
 use Rattle.erd_tables.specs.declared.class.Role.TheVariants as role
 use Rattle.erd_check.specs.Trees.{IsTree}
 use Rattle.erd_check.specs.declared.want.Want.TheVariants.{Object}
 use Rattle.erd_check.proofs.Exact.{text_exact, text_itself}
-use Rattle.erd_check.proofs.Positions.{map_has, position_of, same_in_some}
+use Rattle.erd_check.proofs.Positions.{map_has}
 use Rattle.erd_check.proofs.Rising.{Has}
 use Rattle.erd_meaning.specs.Accepted.{IsAccepted}
 use Rattle.erd_meaning.specs.Keys.{Preference}
 use Rattle.erd_meaning.specs.Objects.{id_of, objects}
 use Rattle.erd_meaning.specs.Records.{meaning}
 use Rattle.erd_meaning.proofs.accepted.References.{Contains-Has, Has-Contains, find-any}
+use Rattle.erd_meaning.proofs.orders.DistinctEntries.{distinct_one}
 use Rattle.erd_meaning.proofs.orders.Sets.{any-has}
 use Rattle.erd_normal.specs.Laws.{RearrangedMeansTheSame}
 use Rattle.erd_normal.specs.Rearranged.{Change, IsAllowed, IsRearrangement, IsRenaming, Renaming, a_renaming, an_exchange, changed, exchanged, renamed, replaced_text}
@@ -45,15 +45,16 @@ replacing_pair pairs s among =
       new = ap (λ o. unwrap_or (option_map (λ pair. pair.1) o) s) q.1;
     }
 
+same_text : (a b : List ℕ) → a ≡ b → bytes_eq a b ≡ true
+same_text a b e = subst (λ x. bytes_eq a x ≡ true) e (text_itself a)
+
 renaming_tells : (t : Data) (pairs : Renaming) → IsRenaming t pairs → TellsIds (replaced_text pairs) t
 renaming_tells t pairs h a b x y same =
     let p = replacing_pair pairs a (listed a x) in
     let q = replacing_pair pairs b (listed b y) in
-    let i = position_of pairs p.pair p.stands in
-    let j = position_of pairs q.pair q.stands in
-    let one : i.0 ≡ j.0 = h.right i.0 j.0 p.pair q.pair i.1 j.1 (sym p.new ∙ same ∙ q.new) in
-    let both : Some p.pair ≡ Some q.pair = sym i.1 ∙ ap (slice_get pairs) one ∙ j.1 in
-    let pair : p.pair ≡ q.pair = same_in_some p.pair q.pair both in
+    let new : p.pair.1 ≡ q.pair.1 = sym p.new ∙ same ∙ q.new in
+    let pair : p.pair ≡ q.pair =
+    distinct_one (λ (z : List ℕ × List ℕ). z.1) bytes_eq pairs h.right p.pair q.pair p.stands q.stands (same_text p.pair.1 q.pair.1 new) (same_text q.pair.1 p.pair.1 (sym new)) in
     sym p.old ∙ ap (λ (z : List ℕ × List ℕ). z.0) pair ∙ q.old
   where
     listed : (s : List ℕ) → IsId t s → Contains (map (λ pair. pair.0) pairs) s

@@ -4,8 +4,8 @@ use Rattle.serde_json.specs.Data.{Data}
 use Rattle.erd_meaning.specs.Keys.{Preference}
 use Rattle.erd_meaning.specs.NameParts.{NameParts}
 use Rattle.erd_meaning.specs.SelectionNames.{name_of}
-use Rattle.erd_meaning.specs.code.NumberedNames.{NumberedParts, numbered_parts}
-use Rattle.erd_meaning.specs.code.RankedNames.{ranked_name}
+use Rattle.erd_meaning.specs.NumberedNames.{NumberedParts, numbered_parts}
+use Rattle.erd_meaning.specs.RankedNames.{ranked_name}
 
 -- The name with the ranks of its keys in their place.
 abbrev pub numbered_name : Preference → Data → NameParts → NumberedParts

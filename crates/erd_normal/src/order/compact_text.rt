@@ -33,6 +33,11 @@ impl CompactText {
     /// # Errors
     ///
     /// `AllocError` if out of memory.
+    ///
+    /// ```
+    /// let value = Value::from_str(alloc, r#"{ "a": [1, 2] }"#)?;
+    /// let text = CompactText::of(alloc, &value)?;
+    /// ```
     pub fn of(alloc: Global, value: &Value) -> Result<CompactText, AllocError>
         ensures { IfOk result (λ t. has_float (view value.now) ≡ false → t ≡ compact_text (view value.now)) }
     {

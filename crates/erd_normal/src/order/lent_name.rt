@@ -17,7 +17,7 @@ pub(crate) struct LentName<'a> {
 
 impl<'a> Model for LentName<'a> {
     ghost use Rattle.std.specs.Prelude.{Option, option_map};
-    ghost use Rattle.erd_meaning.specs.code.NumberedNames.{NumberedParts, numbered_parts};
+    ghost use Rattle.erd_meaning.specs.NumberedNames.{NumberedParts, numbered_parts};
 
     ghost Value = { Option NumberedParts };
 
@@ -39,7 +39,7 @@ impl<'a> LentName<'a> {
 impl<'a> SetOrder for LentName<'a> {
     ghost use Rattle.std.specs.Cmp.Lexicographic.{options_total};
     ghost use Rattle.std.specs.Option.{option_cmp};
-    ghost use Rattle.erd_meaning.specs.code.NumberedNames.{numbered_name_cmp};
+    ghost use Rattle.erd_meaning.specs.NumberedNames.{numbered_name_cmp};
     ghost use Rattle.erd_meaning.specs.code.NumberedOrders.{numbered_name_cmp_total};
     ghost use Rattle.erd_normal.specs.code.NameOrders.{optional_numbered_exact};
 

@@ -13,6 +13,10 @@ pub trait SetOrder {
     ghost cmp: { Self → Self → Ordering };
 
     /// Returns how this value compares with another.
+    ///
+    /// ```
+    /// assert_eq!(rt; one.order(&other), Ordering::Less);
+    /// ```
     fn order(&self, other: &Self) -> Ordering
         ensures { result ≡ cmp self.now other.now };
 
@@ -50,51 +54,5 @@ impl SetOrder for SelectionName {
 
     fn order(&self, other: &SelectionName) -> Ordering {
         self.cmp(other)
-    }
-}
-
-impl SetOrder for Option<Key> {
-    ghost use Rattle.std.specs.Cmp.Lexicographic.{options_total};
-    ghost use Rattle.std.specs.Option.{option_cmp};
-    ghost use Rattle.erd_meaning.specs.Keys.{key_cmp};
-    ghost use Rattle.erd_meaning.specs.code.Orders.{key_cmp_total};
-    ghost use Rattle.erd_normal.specs.code.KeyOrders.{optional_key_exact};
-
-    ghost cmp = { option_cmp key_cmp };
-
-    ghost total = { options_total key_cmp_total };
-
-    ghost exact = { optional_key_exact };
-
-    fn order(&self, other: &Option<Key>) -> Ordering {
-        match (self, other) {
-            (None, None) => Ordering::Equal,
-            (None, Some(_)) => Ordering::Less,
-            (Some(_), None) => Ordering::Greater,
-            (Some(left), Some(right)) => left.cmp(right),
-        }
-    }
-}
-
-impl SetOrder for Option<SelectionName> {
-    ghost use Rattle.std.specs.Cmp.Lexicographic.{options_total};
-    ghost use Rattle.std.specs.Option.{option_cmp};
-    ghost use Rattle.erd_meaning.specs.code.Orders.{name_cmp_total};
-    ghost use Rattle.erd_meaning.specs.SelectionNames.{name_cmp};
-    ghost use Rattle.erd_normal.specs.code.NameOrders.{optional_name_exact};
-
-    ghost cmp = { option_cmp name_cmp };
-
-    ghost total = { options_total name_cmp_total };
-
-    ghost exact = { optional_name_exact };
-
-    fn order(&self, other: &Option<SelectionName>) -> Ordering {
-        match (self, other) {
-            (None, None) => Ordering::Equal,
-            (None, Some(_)) => Ordering::Less,
-            (Some(_), None) => Ordering::Greater,
-            (Some(left), Some(right)) => left.cmp(right),
-        }
     }
 }

@@ -9,6 +9,11 @@ use std::alloc::{AllocError, Global};
 /// # Errors
 ///
 /// `AllocError` if out of memory. The pairs are then dropped.
+///
+/// ```
+/// let sorted = in_order(alloc, vec![in alloc; (other, 2), (one, 1)]?)?;
+/// assert_eq!(rt; sorted.first().map(|pair| pair.1), Some(1));
+/// ```
 pub fn in_order<K: SetOrder + Drop, T: Drop>(
     alloc: Global,
     pairs: Vec<(K, T)>,

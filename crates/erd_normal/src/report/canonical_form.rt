@@ -24,6 +24,11 @@ use std::alloc::{AllocError, Global};
 /// # Errors
 ///
 /// `AllocError` if out of memory.
+///
+/// ```
+/// let text = normal_text(alloc, &report)?;
+/// assert_eq!(rt; text.as_slice(), form.to_string(alloc)?.as_bytes());
+/// ```
 pub fn normal_text(alloc: Global, report: &Report) -> Result<Vec<u8>, AllocError>
     ensures { IfOk result (λ text. IsCanonicalText report.now.prefer (view report.now.tree) text.items) }
 {
@@ -41,6 +46,10 @@ pub fn normal_text(alloc: Global, report: &Report) -> Result<Vec<u8>, AllocError
 /// # Errors
 ///
 /// `AllocError` if out of memory.
+///
+/// ```
+/// let form = normal_tree(alloc, &report)?;
+/// ```
 pub fn normal_tree(alloc: Global, report: &Report) -> Result<Value, AllocError>
     ensures canonical { IfOk result (λ tree. IsCanonicalFormOf report.now.prefer (view report.now.tree) (view tree)) }
     ensures unique { IfOk result (λ tree. (u : Data) → IsTree u → IsCanonicalFormOf report.now.prefer (view report.now.tree) u → u ≡ view tree) }

@@ -1,10 +1,166 @@
-//! The requests that command lines give.
+//! The requests that command lines give, with each request for memory refused in turn.
+use crate::tests::answers::{Answer, right_if};
+use crate::tests::refusing::each_refused;
 use erd_canon::{LineFault, Prefer, Request, command_line};
 use std::alloc::{AllocError, Global};
 use std::test::Fail;
 
+// Words after the name of the program, and the request or the kind of text that they give. A request has the names of files
+// in brackets, and then the preference.
+type Line = (&'static [&'static str], &'static str);
+
+const REQUESTS: &[Line] = &[
+    (&[], "filter"),
+    (&["check", "a"], "check [a]"),
+    (&["canon", "a"], "canon [a]"),
+    (&["compare", "a", "b"], "compare [a] [b]"),
+    (&["compare", "a", "a"], "compare [a] [a]"),
+    (&["nosuch"], "usage"),
+    (&["check"], "usage"),
+    (&["compare", "a"], "usage"),
+    (&["--help"], "help"),
+    (
+        &["check", "--prefer", "fips", "a"],
+        "check [a] under [fips]",
+    ),
+    (
+        &["canon", "--prefer", "fips", "a"],
+        "canon [a] under [fips]",
+    ),
+    (
+        &["compare", "--prefer", "fips", "a", "b"],
+        "compare [a] [b] under [fips]",
+    ),
+    (
+        &["compare", "--prefer", "a", "a", "a"],
+        "compare [a] [a] under [a]",
+    ),
+];
+
+// The name of a file is any text that is not empty and does not begin with a hyphen. After `--` it may begin with one.
+const NAMES_OF_FILES: &[Line] = &[
+    (&["check", "two words"], "check [two words]"),
+    (&["check", " "], "check [ ]"),
+    (&["check", "a\nb"], "check [a\nb]"),
+    (&["canon", "Wähler/北京.json"], "canon [Wähler/北京.json]"),
+    (&["canon", "\u{1F5F3}"], "canon [\u{1F5F3}]"),
+    (&["check", "help"], "check [help]"),
+    (&["check", "check"], "check [check]"),
+    (
+        &["compare", "compare", "canon"],
+        "compare [compare] [canon]",
+    ),
+    (&["check", "a=b"], "check [a=b]"),
+    (&["check", "a--"], "check [a--]"),
+    (
+        &["compare", "a -h", "/dev/stdin"],
+        "compare [a -h] [/dev/stdin]",
+    ),
+    (&["check", "--", "-a"], "check [-a]"),
+    (&["canon", "--", "--help"], "canon [--help]"),
+    (&["compare", "--", "-a", "-b"], "compare [-a] [-b]"),
+    (&["compare", "a", "--", "-b"], "compare [a] [-b]"),
+    (&["check", "--", "a"], "check [a]"),
+    (&["check", "--", "--"], "check [--]"),
+    (&["check", "-a"], "usage"),
+];
+
+const HELP_AND_USAGE: &[Line] = &[
+    (&["-h"], "help"),
+    (&["help"], "help"),
+    (&["help", "check"], "help"),
+    (&["help", "canon"], "help"),
+    (&["help", "compare"], "help"),
+    (&["check", "--help"], "help"),
+    (&["canon", "-h"], "help"),
+    (&["compare", "a", "--help"], "help"),
+    (&["Check", "a"], "usage"),
+    (&["canon"], "usage"),
+    (&["compare"], "usage"),
+    (&["check", "a", "b"], "usage"),
+    (&["canon", "a", "b"], "usage"),
+    (&["compare", "a", "b", "c"], "usage"),
+    (&["--check", "a"], "usage"),
+    (&["--version"], "usage"),
+    (&["help", "nosuch"], "usage"),
+];
+
+// A type is any text that is not empty and does not begin with a hyphen. In the place of a file name or a type, the words of
+// the option are ordinary names, except for a word that begins with hyphens.
+const PREFERENCES: &[Line] = &[
+    (&["check", "prefer"], "check [prefer]"),
+    (&["canon", "TYPE"], "canon [TYPE]"),
+    (&["compare", "prefer", "fips"], "compare [prefer] [fips]"),
+    (
+        &["check", "--prefer", "prefer", "prefer"],
+        "check [prefer] under [prefer]",
+    ),
+    (
+        &["compare", "--prefer", "LEFT", "RIGHT", "TYPE"],
+        "compare [RIGHT] [TYPE] under [LEFT]",
+    ),
+    (&["check", "--", "--prefer"], "check [--prefer]"),
+    (
+        &["compare", "--", "--prefer", "fips"],
+        "compare [--prefer] [fips]",
+    ),
+    (
+        &["check", "--prefer", "check", "canon"],
+        "check [canon] under [check]",
+    ),
+    (
+        &["canon", "--prefer", "compare", "check"],
+        "canon [check] under [compare]",
+    ),
+    (
+        &["compare", "--prefer", "canon", "compare", "check"],
+        "compare [compare] [check] under [canon]",
+    ),
+    (
+        &["check", "--prefer", "help", "help"],
+        "check [help] under [help]",
+    ),
+    (
+        &["check", "--prefer", "two words", "a"],
+        "check [a] under [two words]",
+    ),
+    (&["canon", "--prefer", " ", "a"], "canon [a] under [ ]"),
+    (
+        &["canon", "--prefer", " --prefer x", "a"],
+        "canon [a] under [ --prefer x]",
+    ),
+    (
+        &["check", "--prefer", "a\nb", "a"],
+        "check [a] under [a\nb]",
+    ),
+    (
+        &["check", "--prefer", "Gemeindeschlüssel", "Wähler"],
+        "check [Wähler] under [Gemeindeschlüssel]",
+    ),
+    (
+        &["compare", "--prefer", "北京\u{1F5F3}", "a", "b"],
+        "compare [a] [b] under [北京\u{1F5F3}]",
+    ),
+    (&["check", "--prefer", "a=b", "c"], "check [c] under [a=b]"),
+    (
+        &["check", "--prefer", "local-level-", "c"],
+        "check [c] under [local-level-]",
+    ),
+    (&["check", "--prefer"], "usage"),
+    (&["check", "--prefer", "a"], "usage"),
+    (&["canon", "--prefer", "a"], "usage"),
+    (&["compare", "--prefer", "a", "b"], "usage"),
+    (&["check", "a", "--prefer"], "usage"),
+    (&["check", "--prefer", "", "a"], "usage"),
+    (&["canon", "--prefer", "", "a"], "usage"),
+    (&["compare", "--prefer", "", "a", "b"], "usage"),
+    (&["--prefer", "fips"], "usage"),
+    (&["--prefer", "fips", "check", "a"], "usage"),
+    (&["--prefer"], "usage"),
+];
+
 // The words, with the program's name before them.
-pub fn line_of(alloc: Global, words: &[&str]) -> Result<Vec<String>, AllocError> {
+fn line_of(alloc: Global, words: &[&str]) -> Result<Vec<String>, AllocError> {
     let mut line = Vec::new(alloc);
     line.push(String::from_str(alloc, "erd")?)?;
     for word in words {
@@ -21,234 +177,157 @@ fn under(alloc: Global, prefer: &Prefer) -> Result<String, AllocError> {
     }
 }
 
-// The result for the words, with the names of files and the preference in brackets.
-fn answer(alloc: Global, words: &[&str]) -> Result<String, AllocError> {
-    let line = line_of(alloc, words)?;
-    match command_line(alloc, line.as_slice()) {
-        Ok(Request::Filter) => String::from_str(alloc, "filter"),
-        Ok(Request::Check(file, prefer)) => {
-            let (file, prefer) = (file.as_str(), under(alloc, &prefer)?);
+// The request with the names of files and the preference in brackets.
+fn told(alloc: Global, request: &Request) -> Result<String, AllocError> {
+    match request {
+        Request::Filter => String::from_str(alloc, "filter"),
+        Request::Check(file, prefer) => {
+            let (file, prefer) = (file.as_str(), under(alloc, prefer)?);
             format!(in alloc; "check [{file}]{prefer}")
         }
-        Ok(Request::Canon(file, prefer)) => {
-            let (file, prefer) = (file.as_str(), under(alloc, &prefer)?);
+        Request::Canon(file, prefer) => {
+            let (file, prefer) = (file.as_str(), under(alloc, prefer)?);
             format!(in alloc; "canon [{file}]{prefer}")
         }
-        Ok(Request::Compare(left, right, prefer)) => {
+        Request::Compare(left, right, prefer) => {
             let (left, right) = (left.as_str(), right.as_str());
-            let prefer = under(alloc, &prefer)?;
+            let prefer = under(alloc, prefer)?;
             format!(in alloc; "compare [{left}] [{right}]{prefer}")
         }
+    }
+}
+
+// The request of these words.
+fn request(alloc: Global, words: &[&str]) -> Result<Request, LineFault> {
+    match line_of(alloc, words) {
+        Ok(line) => command_line(alloc, line.as_slice()),
+        Err(_) => Err(LineFault::Memory),
+    }
+}
+
+fn answer(alloc: Global, words: &[&str]) -> Result<String, AllocError> {
+    match request(alloc, words) {
+        Ok(request) => told(alloc, &request),
         Err(LineFault::Help(_)) => String::from_str(alloc, "help"),
         Err(LineFault::Usage(_)) => String::from_str(alloc, "usage"),
         Err(LineFault::Memory) => Err(AllocError),
     }
 }
 
-// Each command line has the expected result.
-pub fn all_are(alloc: Global, lines: &[(&[&str], &str)]) -> Result<(), Fail> {
+fn has_answer(alloc: Global, words: &[&str], wanted: &str) -> Answer {
+    match answer(alloc, words) {
+        Ok(text) => right_if(text.as_str() == wanted),
+        Err(_) => Answer::WantsMemory,
+    }
+}
+
+fn all_are(alloc: Global, lines: &[Line]) -> Result<(), Fail> {
     for (words, wanted) in lines {
-        let found = answer(alloc, words)?;
-        if found.as_str() != *wanted {
-            let text = format!(in alloc; "{wanted} is read as {found}")?;
-            return Err(Fail::from(text));
-        }
+        each_refused(alloc, wanted, |alloc| has_answer(alloc, words, wanted))?;
     }
     Ok(())
 }
 
 #[test]
-fn exact_lines(rt: HostRuntime) -> Result<(), Fail> {
-    all_are(
-        rt.alloc(),
-        &[
-            (&[], "filter"),
-            (&["check", "a"], "check [a]"),
-            (&["canon", "a"], "canon [a]"),
-            (&["compare", "a", "b"], "compare [a] [b]"),
-            (&["compare", "a", "a"], "compare [a] [a]"),
-        ],
-    )
-}
-
-// The name of a file is any text that is not empty and does not begin with a hyphen.
-#[test]
-fn names_of_files(rt: HostRuntime) -> Result<(), Fail> {
-    all_are(
-        rt.alloc(),
-        &[
-            (&["check", "two words"], "check [two words]"),
-            (&["check", " "], "check [ ]"),
-            (&["check", "a\nb"], "check [a\nb]"),
-            (&["canon", "Wähler/北京.json"], "canon [Wähler/北京.json]"),
-            (&["canon", "\u{1F5F3}"], "canon [\u{1F5F3}]"),
-            (&["check", "help"], "check [help]"),
-            (&["check", "check"], "check [check]"),
-            (
-                &["compare", "compare", "canon"],
-                "compare [compare] [canon]",
-            ),
-            (&["check", "a=b"], "check [a=b]"),
-            (&["check", "a--"], "check [a--]"),
-            (
-                &["compare", "a -h", "/dev/stdin"],
-                "compare [a -h] [/dev/stdin]",
-            ),
-        ],
-    )
-}
-
-// After `--`, a name may begin with a hyphen.
-#[test]
-fn names_after_two_hyphens(rt: HostRuntime) -> Result<(), Fail> {
-    all_are(
-        rt.alloc(),
-        &[
-            (&["check", "--", "-a"], "check [-a]"),
-            (&["canon", "--", "--help"], "canon [--help]"),
-            (&["compare", "--", "-a", "-b"], "compare [-a] [-b]"),
-            (&["compare", "a", "--", "-b"], "compare [a] [-b]"),
-            (&["check", "--", "a"], "check [a]"),
-            (&["check", "--", "--"], "check [--]"),
-            (&["check", "-a"], "usage"),
-        ],
-    )
+fn refused_lines(rt: HostRuntime) -> Result<(), Fail> {
+    all_are(rt.alloc(), REQUESTS)
 }
 
 #[test]
-fn lines_for_help(rt: HostRuntime) -> Result<(), Fail> {
-    all_are(
-        rt.alloc(),
-        &[
-            (&["--help"], "help"),
-            (&["-h"], "help"),
-            (&["help"], "help"),
-            (&["help", "check"], "help"),
-            (&["help", "canon"], "help"),
-            (&["help", "compare"], "help"),
-            (&["check", "--help"], "help"),
-            (&["canon", "-h"], "help"),
-            (&["compare", "a", "--help"], "help"),
-        ],
-    )
-}
-
-#[test]
-fn wrong_lines(rt: HostRuntime) -> Result<(), Fail> {
-    all_are(
-        rt.alloc(),
-        &[
-            (&["nosuch"], "usage"),
-            (&["Check", "a"], "usage"),
-            (&["check"], "usage"),
-            (&["canon"], "usage"),
-            (&["compare"], "usage"),
-            (&["compare", "a"], "usage"),
-            (&["check", "a", "b"], "usage"),
-            (&["canon", "a", "b"], "usage"),
-            (&["compare", "a", "b", "c"], "usage"),
-            (&["--check", "a"], "usage"),
-            (&["--version"], "usage"),
-            (&["help", "nosuch"], "usage"),
-        ],
-    )
-}
-
-// The help or usage text for the words.
-fn told(alloc: Global, words: &[&str]) -> Result<String, Fail> {
-    let line = line_of(alloc, words)?;
-    match command_line(alloc, line.as_slice()) {
-        Err(LineFault::Help(text)) => Ok(String::from_str(alloc, text.as_str())?),
-        Err(LineFault::Usage(text)) => Ok(String::from_str(alloc, text.as_str())?),
-        _ => Err(Fail::from("neither help nor usage")),
-    }
-}
-
-// Each text has all its parts, and ends with one line feed.
-fn all_tell(alloc: Global, lines: &[(&[&str], &[&str])]) -> Result<(), Fail> {
-    for (words, parts) in lines {
-        let text = told(alloc, words)?;
-        for part in *parts {
-            if !text.as_str().contains(*part) {
-                let text = format!(in alloc; "no {part} in {text}")?;
-                return Err(Fail::from(text));
-            }
-        }
-        if !text.as_str().ends_with("\n") || text.as_str().ends_with("\n\n") {
-            return Err(Fail::from(text));
-        }
+fn command_lines(rt: HostRuntime) -> Result<(), Fail> {
+    for lines in [REQUESTS, NAMES_OF_FILES, HELP_AND_USAGE, PREFERENCES] {
+        all_are(rt.alloc(), lines)?;
     }
     Ok(())
 }
 
-// The help says how each command is called, what it reads and writes and what its exit statuses are, and gives an example.
-#[test]
-fn texts_of_help(rt: HostRuntime) -> Result<(), Fail> {
-    let program: &[&str] = &[
-        "pre-election ballot definition",
-        "Usage: erd [COMMAND]\n",
-        "check    Reports",
-        "canon    Writes",
-        "compare  Reports",
-        "Exit status:\n  0  ",
-        "Example:\n  erd < report.json > canonical.json\n",
-    ];
-    let check: &[&str] = &[
-        "Usage: erd check [OPTIONS] <FILE>\n",
-        "--prefer <TYPE>",
-        "standard output `accepted`",
-        "Exit status:\n  0  accepted\n",
-        "Example:\n  erd check report.json\n",
-    ];
-    let canon: &[&str] = &[
-        "Usage: erd canon [OPTIONS] <FILE>\n",
-        "--prefer <TYPE>",
-        "canonical form to standard output",
-        "Exit status:\n  0  written\n",
-        "Example:\n  erd canon report.json > canonical.json\n",
-    ];
-    let compare: &[&str] = &[
-        "Usage: erd compare [OPTIONS] <LEFT> <RIGHT>\n",
-        "--prefer <TYPE>",
-        "standard output `same`",
-        "Exit status:\n  0  same\n",
-        "Example:\n  erd compare vendor-a.json vendor-b.json\n",
-    ];
-    all_tell(
-        rt.alloc(),
-        &[
-            (&["--help"], program),
-            (&["help"], program),
-            (&["help", "check"], check),
-            (&["check", "--help"], check),
-            (&["help", "canon"], canon),
-            (&["help", "compare"], compare),
-        ],
-    )
+// Words that ask for help or are wrong, and parts of the text about them.
+const TEXTS: &[(&[&str], &[&str])] = &[
+    (&["--help"], OF_THE_PROGRAM),
+    (&["help"], OF_THE_PROGRAM),
+    (&["help", "check"], OF_CHECK),
+    (&["check", "--help"], OF_CHECK),
+    (&["help", "canon"], OF_CANON),
+    (&["help", "compare"], OF_COMPARE),
+    (
+        &["nosuch"],
+        &["error: ", "'nosuch'", "Usage: erd [COMMAND]\n"],
+    ),
+    (
+        &["check"],
+        &["error: ", "<FILE>", "Usage: erd check <FILE>\n"],
+    ),
+    (
+        &["compare", "a"],
+        &["error: ", "<RIGHT>", "Usage: erd compare <LEFT> <RIGHT>\n"],
+    ),
+    (
+        &["canon", "a", "b"],
+        &["error: ", "'b'", "Usage: erd canon [OPTIONS] <FILE>\n"],
+    ),
+];
+
+const OF_THE_PROGRAM: &[&str] = &[
+    "pre-election ballot definition",
+    "Usage: erd [COMMAND]\n",
+    "check    Reports",
+    "canon    Writes",
+    "compare  Reports",
+    "Exit status:\n  0  ",
+    "Example:\n  erd < report.json > canonical.json\n",
+];
+
+const OF_CHECK: &[&str] = &[
+    "Usage: erd check [OPTIONS] <FILE>\n",
+    "--prefer <TYPE>",
+    "standard output `accepted`",
+    "Exit status:\n  0  accepted\n",
+    "Example:\n  erd check report.json\n",
+];
+
+const OF_CANON: &[&str] = &[
+    "Usage: erd canon [OPTIONS] <FILE>\n",
+    "--prefer <TYPE>",
+    "canonical form to standard output",
+    "Exit status:\n  0  written\n",
+    "Example:\n  erd canon report.json > canonical.json\n",
+];
+
+const OF_COMPARE: &[&str] = &[
+    "Usage: erd compare [OPTIONS] <LEFT> <RIGHT>\n",
+    "--prefer <TYPE>",
+    "standard output `same`",
+    "Exit status:\n  0  same\n",
+    "Example:\n  erd compare vendor-a.json vendor-b.json\n",
+];
+
+// Whether the text has all parts, and ends with one line feed.
+fn has_parts(text: &str, parts: &[&str]) -> Answer {
+    for part in parts {
+        if !text.contains(*part) {
+            return Answer::Wrong;
+        }
+    }
+    right_if(text.ends_with("\n") && !text.ends_with("\n\n"))
 }
 
-// The usage text says what is wrong, and how the command is called.
+fn is_told(alloc: Global, words: &[&str], parts: &[&str]) -> Answer {
+    match request(alloc, words) {
+        Err(LineFault::Help(text)) => has_parts(text.as_str(), parts),
+        Err(LineFault::Usage(text)) => has_parts(text.as_str(), parts),
+        Err(LineFault::Memory) => Answer::WantsMemory,
+        Ok(_) => Answer::Wrong,
+    }
+}
+
 #[test]
-fn texts_of_usage(rt: HostRuntime) -> Result<(), Fail> {
-    all_tell(
-        rt.alloc(),
-        &[
-            (
-                &["nosuch"],
-                &["error: ", "'nosuch'", "Usage: erd [COMMAND]\n"],
-            ),
-            (
-                &["check"],
-                &["error: ", "<FILE>", "Usage: erd check <FILE>\n"],
-            ),
-            (
-                &["compare", "a"],
-                &["error: ", "<RIGHT>", "Usage: erd compare <LEFT> <RIGHT>\n"],
-            ),
-            (
-                &["canon", "a", "b"],
-                &["error: ", "'b'", "Usage: erd canon [OPTIONS] <FILE>\n"],
-            ),
-        ],
-    )
+fn refused_help_and_usage(rt: HostRuntime) -> Result<(), Fail> {
+    for (words, parts) in TEXTS {
+        each_refused(
+            rt.alloc(),
+            "help and usage",
+            |alloc| is_told(alloc, words, parts),
+        )?;
+    }
+    Ok(())
 }

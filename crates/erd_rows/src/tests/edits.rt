@@ -1,19 +1,46 @@
 //! Edits of reports.
+use crate::tests::vectors::{
+    ONE_UNIT, ONE_UNIT_CANONICAL, OTHER_ENVELOPE, OTHER_VENDOR, SMALL_BALLOT,
+    SMALL_BALLOT_CANONICAL,
+};
 use std::alloc::{AllocError, Global};
 use std::test::Fail;
 
-// A text and its replacement.
+// A text and its replacement. Both may have marks.
 pub type Edit = (&'static str, &'static str);
 
-// The text with the first `from` replaced.
-pub fn edited(alloc: Global, text: &str, from: &str, to: &str) -> Result<String, Fail> {
-    let (before, after) = text.split_once(from).ok_or("no such text")?;
-    Ok(format!(in alloc; "{before}{to}{after}")?)
+// The text that edits begin with. A table names it, so that what is proved of a table does not hold the text once for each row.
+#[derive(Clone, Copy)]
+pub enum Base {
+    OneUnit,
+    OneUnitCanonical,
+    OtherEnvelope,
+    OtherVendor,
+    SmallBallot,
+    SmallBallotCanonical,
+    Text(&'static str),
 }
 
-// The text with the first `from` of each edit replaced, one edit after another. `spelled` is applied to each edit.
-pub fn with_edits(alloc: Global, text: &str, edits: &[(&str, &str)]) -> Result<String, Fail> {
-    let mut whole = String::from_str(alloc, text)?;
+impl Base {
+    fn text(self) -> &'static str {
+        match self {
+            Base::OneUnit => ONE_UNIT,
+            Base::OneUnitCanonical => ONE_UNIT_CANONICAL,
+            Base::OtherEnvelope => OTHER_ENVELOPE,
+            Base::OtherVendor => OTHER_VENDOR,
+            Base::SmallBallot => SMALL_BALLOT,
+            Base::SmallBallotCanonical => SMALL_BALLOT_CANONICAL,
+            Base::Text(text) => text,
+        }
+    }
+}
+
+// A text, and edits of it.
+pub type Edited = (Base, &'static [Edit]);
+
+// The text with the first `from` of each edit replaced, one edit after another.
+pub fn made(alloc: Global, (base, edits): Edited) -> Result<String, Fail> {
+    let mut whole = spelled(alloc, base.text())?;
     for (from, to) in edits {
         let from = spelled(alloc, from)?;
         let to = spelled(alloc, to)?;
@@ -22,15 +49,23 @@ pub fn with_edits(alloc: Global, text: &str, edits: &[(&str, &str)]) -> Result<S
     Ok(whole)
 }
 
-// The text with the first `from` replaced, or `None` if it is absent or memory runs out.
-pub fn replaced(alloc: Global, text: &str, from: &str, to: &str) -> Option<String> {
-    let (before, after) = text.split_once(from)?;
-    format!(in alloc; "{before}{to}{after}").ok()
+// The text with the first `from` replaced.
+pub fn edited(alloc: Global, text: &str, from: &str, to: &str) -> Result<String, Fail> {
+    let (before, after) = text.split_once(from).ok_or("no such text")?;
+    Ok(format!(in alloc; "{before}{to}{after}")?)
 }
 
-// The text with each `%` replaced by the prefix of class names.
+// The text with its marks filled. `%` stands for the prefix of class names, and `#U1&` for one identifier of the type
+// `local-level` with the value `U1`.
 pub fn spelled(alloc: Global, text: &str) -> Result<String, AllocError> {
-    filled(alloc, text, '%', "ElectionResults.")
+    let text = filled(
+        alloc,
+        text,
+        '#',
+        "\"ExternalIdentifier\":[{\"@type\":\"%ExternalIdentifier\",\"Type\":\"local-level\",\"Value\":\"",
+    )?;
+    let text = filled(alloc, text.as_str(), '&', "\"}]")?;
+    filled(alloc, text.as_str(), '%', "ElectionResults.")
 }
 
 // The text with each mark replaced by this text.

@@ -1,145 +1,362 @@
-//! The names of selections, and the selections that they find.
-use crate::tests::lines::{ACCEPTED, check_lines};
-use erd_check::shape;
-use erd_meaning::{Report, SelectionName, resolve};
+//! The names of selections: their order, and the selections that they find.
+use crate::tests::answers::{Answer, right_if};
+use crate::tests::edits::{Base, Edited, made};
+use crate::tests::report_calls::{Asked, on_report};
+use crate::tests::runs::PLAIN;
+use crate::tests::vectors::{SMALL_BALLOT, SMALL_BALLOT_CANONICAL};
+use erd_canon::Refusal;
+use erd_meaning::{Report, SelectionName};
+use erd_normal::in_order;
 use erd_tables::Family;
-use serde_json::Value;
-use std::alloc::Global;
+use std::alloc::{AllocError, Global};
 use std::test::Fail;
 
 // For each selection, the position of its contest and the rank of its name among all names. Equal names have the same rank.
-pub type Ranked<'a> = &'a [(usize, usize)];
+type Ranked = &'static [(usize, usize)];
 
-// The names of the small ballot's own selections: ordered by the names of their classes, then by their keys. Labels that are
-// texts come before labels with translations.
-pub const OWN: Ranked<'static> = &[(0, 3), (0, 4), (0, 2), (1, 1), (1, 0)];
+const WRITE_IN: &str = r#""IsWriteIn":true}"#;
 
-// The report is accepted, and its selections have these contests and names with these ranks.
-pub fn names_are(alloc: Global, report: &str, ranked: Ranked) -> Result<(), Fail> {
-    let told = check_lines(alloc, report)?;
-    if told.as_str() != ACCEPTED {
-        return Err(Fail::from(told));
-    }
-    let tree = Value::from_str(alloc, report)?;
-    let Ok(shaped) = shape(alloc, &tree) else {
-        return Err(Fail::from("a fault of the shape"));
-    };
-    let Ok(report) = resolve(alloc, shaped) else {
-        return Err(Fail::from("a fault"));
-    };
-    if report.count(Family::Selection) != ranked.len() {
-        return Err(Fail::from("other selections"));
-    }
-    if report.selection_at(ranked.len()).is_some() {
-        return Err(Fail::from("one selection more"));
-    }
-    for contest in 0..report.count(Family::Contest).saturating_add(1) {
-        let count = ranked.iter().filter(|it| it.0 == contest).count();
-        if report.name_in_contest(contest, count).is_some() {
-            return Err(Fail::from("a name past the last one of a contest"));
-        }
-    }
-    for (index, (contest, rank)) in ranked.iter().enumerate() {
-        let Some((found, name)) = report.selection_at(index) else {
-            return Err(Fail::from("no selection"));
-        };
-        if found != *contest {
-            return Err(Fail::from("another contest"));
-        }
-        let copy = name.try_clone(alloc)?;
-        if copy != *name {
-            return Err(Fail::from("an unequal copy"));
-        }
-        let place = ranked
-            .iter()
-            .take(index)
-            .filter(|it| it.0 == *contest)
-            .count();
-        if report.name_in_contest(*contest, place) != Some(name) {
-            return Err(Fail::from("another name at that position of the contest"));
-        }
-        is_ordered(alloc, &report, &copy, *rank, ranked)?;
-        is_ranked(alloc, &report, index, place, ranked)?;
-        is_found(alloc, &report, &copy, *rank, ranked)?;
-    }
-    Ok(())
+const ANSWER: &str = r#""Selection":"No"}"#;
+
+// The names are ordered by the names of their classes, then by their keys, then by whether they are write-in lines. Labels
+// that are texts come before labels with translations.
+const NAMES: &[(Edited, Ranked)] = &[
+    (
+        (Base::SmallBallot, &[]),
+        &[(0, 3), (0, 4), (0, 2), (1, 1), (1, 0)],
+    ),
+    (
+        (Base::SmallBallotCanonical, &[]),
+        &[(0, 2), (0, 3), (0, 4), (1, 0), (1, 1)],
+    ),
+    (
+        (Base::OtherVendor, &[]),
+        &[(0, 0), (0, 1), (1, 2), (1, 4), (1, 3)],
+    ),
+    // Write-in lines are distinguished by `SequenceOrder`, or by identifiers.
+    (
+        (
+            Base::SmallBallot,
+            &[(
+                WRITE_IN,
+                r#""IsWriteIn":true,"SequenceOrder":1},{"@id":"a15","@type":"%CandidateSelection","IsWriteIn":true,"SequenceOrder":2}"#,
+            )],
+        ),
+        &[(0, 4), (0, 5), (0, 2), (0, 3), (1, 1), (1, 0)],
+    ),
+    (
+        (
+            Base::SmallBallot,
+            &[(
+                WRITE_IN,
+                r#""IsWriteIn":true,#W1&},{"@id":"a15","@type":"%CandidateSelection","IsWriteIn":true,#W2&}"#,
+            )],
+        ),
+        &[(0, 4), (0, 5), (0, 2), (0, 3), (1, 1), (1, 0)],
+    ),
+    (
+        (
+            Base::SmallBallot,
+            &[(
+                WRITE_IN,
+                r#""IsWriteIn":true},{"@id":"a15","@type":"%CandidateSelection","IsWriteIn":true,"SequenceOrder":-7}"#,
+            )],
+        ),
+        &[(0, 4), (0, 5), (0, 2), (0, 3), (1, 1), (1, 0)],
+    ),
+    // A selection that is no write-in line comes before one that is.
+    (
+        (
+            Base::SmallBallot,
+            &[(
+                WRITE_IN,
+                r#""IsWriteIn":true},{"@id":"a15","@type":"%CandidateSelection"}"#,
+            )],
+        ),
+        &[(0, 4), (0, 5), (0, 3), (0, 2), (1, 1), (1, 0)],
+    ),
+    // Two contests may each have a selection with the same name. It is found in both.
+    (
+        (
+            Base::SmallBallot,
+            &[(
+                ANSWER,
+                r#""Selection":"No"},{"@id":"a15","@type":"%CandidateSelection","IsWriteIn":true}"#,
+            )],
+        ),
+        &[(0, 3), (0, 4), (0, 2), (1, 1), (1, 0), (1, 2)],
+    ),
+    // A shorter list of candidates comes before its continuations.
+    (
+        (
+            Base::SmallBallot,
+            &[(
+                WRITE_IN,
+                r#""IsWriteIn":true},{"@id":"a15","@type":"%CandidateSelection","CandidateIds":["a5"]}"#,
+            )],
+        ),
+        &[(0, 4), (0, 5), (0, 2), (0, 3), (1, 1), (1, 0)],
+    ),
+    // The class is compared before the keys: a party and a candidate have one key, or two.
+    (
+        (
+            Base::SmallBallot,
+            &[(
+                WRITE_IN,
+                r#""IsWriteIn":true},{"@id":"a15","@type":"%PartySelection","PartyIds":["a3"]}"#,
+            )],
+        ),
+        &[(0, 3), (0, 4), (0, 2), (0, 5), (1, 1), (1, 0)],
+    ),
+    (
+        (
+            Base::SmallBallot,
+            &[
+                (
+                    WRITE_IN,
+                    r#""IsWriteIn":true},{"@id":"a15","@type":"%PartySelection","PartyIds":["a3"]}"#,
+                ),
+                (r#""Value":"K3""#, r#""Value":"P1""#),
+            ],
+        ),
+        &[(0, 3), (0, 4), (0, 2), (0, 5), (1, 1), (1, 0)],
+    ),
+    // A coalition is a party.
+    (
+        (
+            Base::SmallBallot,
+            &[
+                (
+                    r#""Name":"Blue"}"#,
+                    r#""Name":"Blue"},{"@id":"a15","@type":"%Coalition",#P2&,"Name":"Both","PartyIds":["a3","a15"],"ContestId":"a8","ContestIds":["a12","a8"]}"#,
+                ),
+                (
+                    WRITE_IN,
+                    r#""IsWriteIn":true},{"@id":"a18","@type":"%PartySelection","PartyIds":["a15","a3"]},{"@id":"a19","@type":"%PartySelection","PartyIds":["a15"]}"#,
+                ),
+            ],
+        ),
+        &[(0, 3), (0, 4), (0, 2), (0, 5), (0, 6), (1, 1), (1, 0)],
+    ),
+    // A third contest, which has one answer.
+    (
+        (
+            Base::SmallBallot,
+            &[(
+                r#"],"BallotStyle""#,
+                r#",{"@id":"a15","@type":"%RetentionContest",#C3&,"Name":"Keep","CandidateId":"a5","OfficeId":"a17","ElectionDistrictId":"a1","ContestSelection":[{"@id":"a18","@type":"%BallotMeasureSelection","Selection":"No"}]}],"BallotStyle""#,
+            )],
+        ),
+        &[(0, 3), (0, 4), (0, 2), (1, 1), (1, 0), (2, 0)],
+    ),
+    // An absent number comes first. Numbers are ordered by value.
+    (
+        (
+            Base::SmallBallot,
+            &[(
+                WRITE_IN,
+                r#""IsWriteIn":true},{"@id":"a15","@type":"%CandidateSelection","IsWriteIn":true,"SequenceOrder":10},{"@id":"a18","@type":"%CandidateSelection","IsWriteIn":true,"SequenceOrder":2},{"@id":"a19","@type":"%CandidateSelection","IsWriteIn":true,"SequenceOrder":-1},{"@id":"a20","@type":"%CandidateSelection","IsWriteIn":true,"SequenceOrder":18446744073709551615},{"@id":"a21","@type":"%CandidateSelection","IsWriteIn":true,"SequenceOrder":-9223372036854775808}"#,
+            )],
+        ),
+        &[
+            (0, 8),
+            (0, 9),
+            (0, 2),
+            (0, 6),
+            (0, 5),
+            (0, 4),
+            (0, 7),
+            (0, 3),
+            (1, 1),
+            (1, 0),
+        ],
+    ),
+    // A label as a text and the same label as one translation are different. Labels with translations are ordered by their
+    // bytes.
+    (
+        (
+            Base::SmallBallot,
+            &[(
+                ANSWER,
+                r#""Selection":"No"},{"@id":"a15","@type":"%BallotMeasureSelection","Selection":"Yes"},{"@id":"a18","@type":"%BallotMeasureSelection","Selection":{"@type":"%InternationalizedText","Text":[{"@type":"%LanguageString","Language":"en","Content":"Yes"}]}}"#,
+            )],
+        ),
+        &[(0, 5), (0, 6), (0, 4), (1, 2), (1, 0), (1, 1), (1, 3)],
+    ),
+    // The carried members of a label are part of it. So are those of a translation.
+    (
+        (
+            Base::SmallBallot,
+            &[(
+                ANSWER,
+                r#""Selection":"No"},{"@id":"a15","@type":"%BallotMeasureSelection","Selection":{"@type":"%InternationalizedText","Note":[2],"Text":[{"@type":"%LanguageString","Language":"en","Content":"Yes"},{"@type":"%LanguageString","Language":"es","Content":"Si"}]}},{"@id":"a18","@type":"%BallotMeasureSelection","Selection":{"@type":"%InternationalizedText","Text":[{"@type":"%LanguageString","Language":"en","Content":"Yes"},{"@type":"%LanguageString","Language":"es","Content":"Si","Accent":false}]}}"#,
+            )],
+        ),
+        &[(0, 5), (0, 6), (0, 4), (1, 3), (1, 0), (1, 1), (1, 2)],
+    ),
+    // An absent identifier comes first. If there are several, the least one counts.
+    (
+        (
+            Base::SmallBallot,
+            &[(
+                ANSWER,
+                r#""Selection":"No"},{"@id":"a15","@type":"%BallotMeasureSelection","Selection":"No",#W1&},{"@id":"a18","@type":"%BallotMeasureSelection","Selection":"No","ExternalIdentifier":[{"@type":"%ExternalIdentifier","Type":"local-level","Value":"W1"},{"@type":"%ExternalIdentifier","Type":"fips","Value":"20"}]}"#,
+            )],
+        ),
+        &[(0, 5), (0, 6), (0, 4), (1, 3), (1, 0), (1, 2), (1, 1)],
+    ),
+];
+
+// Whether the names of the report's selections have these contests and ranks.
+fn have_ranks(report: &Report, ranked: Ranked) -> bool {
+    report.count(Family::Selection) == ranked.len()
+        && report.selection_at(ranked.len()).is_none()
+        && (0..ranked.len()).all(|index| has_rank(report, index, ranked))
 }
 
-// The name compares correctly with each name of the report.
-fn is_ordered(
-    alloc: Global,
-    report: &Report,
-    name: &SelectionName,
-    rank: usize,
-    ranked: Ranked,
-) -> Result<(), Fail> {
+// Whether the name at this position compares rightly with each name, and is found rightly in each contest.
+fn has_rank(report: &Report, index: usize, ranked: Ranked) -> bool {
+    let (Some((contest, rank)), Some((found, name))) = (
+        ranked.get(index),
+        report.selection_at(index),
+    ) else {
+        return false;
+    };
+    found == *contest
+        && is_ordered(report, name, *rank, ranked)
+        && is_found(report, name, *rank, ranked)
+        && is_ranked(report, index, *rank, ranked)
+}
+
+fn is_ordered(report: &Report, name: &SelectionName, rank: usize, ranked: Ranked) -> bool {
     for (index, (_, other_rank)) in ranked.iter().enumerate() {
         let Some((_, other)) = report.selection_at(index) else {
-            return Err(Fail::from("no selection"));
+            return false;
         };
-        let is_right = name.cmp(other) == rank.cmp(other_rank)
-            && (*name == *other) == (rank == *other_rank);
-        if !is_right {
-            let text = format!(in alloc; "rank {rank} and rank {other_rank}")?;
-            return Err(Fail::from(text));
+        if name.cmp(other) != rank.cmp(other_rank) || (*name == *other) != (rank == *other_rank) {
+            return false;
         }
     }
-    Ok(())
+    true
 }
 
-// The name with the ranks of its keys compares correctly with each such name of the report.
-fn is_ranked(
-    alloc: Global,
-    report: &Report,
-    index: usize,
-    place: usize,
-    ranked: Ranked,
-) -> Result<(), Fail> {
-    let (Some((contest, rank)), Some((found, one))) = (
-        ranked.get(index),
-        report.ranked_name_at(index),
-    ) else {
-        return Err(Fail::from("no name with ranks"));
-    };
-    if found != *contest {
-        return Err(Fail::from("another contest of the name with ranks"));
-    }
-    if report.first_selection(found).checked_add(place) != Some(index) {
-        return Err(Fail::from("another first selection of the contest"));
-    }
-    if report.name_in_contest(found, place) != Some(one.name()) {
-        return Err(Fail::from("another name in the contest"));
-    }
-    if one.family() == Family::Selection {
-        return Err(Fail::from("keys of selections"));
-    }
-    for (other_index, (_, other_rank)) in ranked.iter().enumerate() {
-        let Some((_, other)) = report.ranked_name_at(other_index) else {
-            return Err(Fail::from("no name with ranks"));
-        };
-        if one.compare(other) != rank.cmp(other_rank) {
-            let text = format!(in alloc; "ranks of {rank} and of {other_rank}")?;
-            return Err(Fail::from(text));
-        }
-    }
-    Ok(())
-}
-
-// The name is found in each contest that has it, at its position, and in no other contest.
-fn is_found(
-    alloc: Global,
-    report: &Report,
-    name: &SelectionName,
-    rank: usize,
-    ranked: Ranked,
-) -> Result<(), Fail> {
-    let contests = report.count(Family::Contest);
-    for contest in 0..contests.saturating_add(1) {
+// Whether the name is found in each contest that has it, at its position, and in no other contest.
+fn is_found(report: &Report, name: &SelectionName, rank: usize, ranked: Ranked) -> bool {
+    for contest in 0..report.count(Family::Contest).saturating_add(1) {
         let wanted = ranked.iter().position(|it| *it == (contest, rank));
         if report.find_selection(contest, name) != wanted {
-            let text = format!(in alloc; "rank {rank} in contest {contest}")?;
-            return Err(Fail::from(text));
+            return false;
         }
     }
+    true
+}
+
+// Whether the name with the ranks of its keys compares rightly with each such name.
+fn is_ranked(report: &Report, index: usize, rank: usize, ranked: Ranked) -> bool {
+    let Some((_, one)) = report.ranked_name_at(index) else {
+        return false;
+    };
+    for (other_index, (_, other_rank)) in ranked.iter().enumerate() {
+        let Some((_, other)) = report.ranked_name_at(other_index) else {
+            return false;
+        };
+        if one.compare(other) != rank.cmp(other_rank) {
+            return false;
+        }
+    }
+    true
+}
+
+// Calls `then` on the accepted report of this text, without a preference.
+pub fn on_text<F: Fn(&Report) -> Answer>(
+    alloc: Global,
+    text: &str,
+    then: F,
+) -> Result<Answer, Refusal>
+    requires { F.IsAlwaysCallable then }
+{
+    let asked = Asked {
+        report: text.as_bytes(),
+        lines: "",
+        form: "",
+        under: PLAIN,
+    };
+    on_report(alloc, &asked, then)
+}
+
+#[test]
+fn names_of_selections(rt: HostRuntime) -> Result<(), Fail> {
+    for (index, (report, ranked)) in NAMES.iter().enumerate() {
+        let report = made(rt.alloc(), *report)?;
+        let answer = on_text(rt.alloc(), report.as_str(), |report| {
+            right_if(have_ranks(report, ranked))
+        })?;
+        assert!(rt; answer == Answer::Right, "report {index}");
+    }
+    Ok(())
+}
+
+// The positions of the selections in the order of their names.
+fn positions_in_order(alloc: Global, report: &Report) -> Result<Vec<usize>, AllocError> {
+    let mut pairs = Vec::new(alloc);
+    for index in 0..report.count(Family::Selection) {
+        if let Some((_, name)) = report.selection_at(index) {
+            pairs.push((name.try_clone(alloc)?, index))?;
+        }
+    }
+    let mut positions = Vec::new(alloc);
+    for pair in in_order(alloc, pairs)?.iter() {
+        positions.push(pair.1)?;
+    }
+    Ok(positions)
+}
+
+fn are_in_order(alloc: Global, report: &Report, wanted: &[usize]) -> Answer {
+    match positions_in_order(alloc, report) {
+        Ok(positions) => right_if(positions.as_slice() == wanted),
+        Err(_) => Answer::WantsMemory,
+    }
+}
+
+#[test]
+fn names_in_order(rt: HostRuntime) -> Result<(), Fail> {
+    let alloc = rt.alloc();
+    let answer = on_text(alloc, SMALL_BALLOT, |report| {
+        are_in_order(alloc, report, &[4, 3, 2, 0, 1])
+    })?;
+    assert!(rt; answer == Answer::Right);
+    Ok(())
+}
+
+// Whether the names of one report find the same selections in the other, at these positions.
+fn are_found(left: &Report, right: &Report, wanted: &[usize]) -> bool {
+    for (index, position) in wanted.iter().enumerate() {
+        let Some((contest, name)) = left.selection_at(index) else {
+            return false;
+        };
+        if right.find_selection(contest, name) != Some(*position) {
+            return false;
+        }
+    }
+    left.count(Family::Selection) == right.count(Family::Selection)
+}
+
+fn found_in(alloc: Global, left: &Report, right: &str, wanted: &[usize]) -> Answer {
+    let found = on_text(
+        alloc,
+        right,
+        |right| right_if(are_found(left, right, wanted)),
+    );
+    found.unwrap_or(Answer::Wrong)
+}
+
+// The names of one report are found in another report with other `@id` texts and arrays in another order.
+#[test]
+fn names_of_two_vendors(rt: HostRuntime) -> Result<(), Fail> {
+    let alloc = rt.alloc();
+    let answer = on_text(alloc, SMALL_BALLOT, |left| {
+        found_in(alloc, left, SMALL_BALLOT_CANONICAL, &[1, 2, 0, 4, 3])
+    })?;
+    assert!(rt; answer == Answer::Right);
     Ok(())
 }

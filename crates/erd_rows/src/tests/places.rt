@@ -1,39 +1,8 @@
 //! Places, JSON Pointers and equality.
-use crate::tests::lines::all_hold;
-use crate::vectors::ONE_UNIT;
 use erd_check::same_json;
 use erd_tables::{Fault, Place, Reason, Step, Text, pointer};
 use serde_json::Value;
 use std::test::Fail;
-
-#[test]
-fn names_in_pointers(rt: HostRuntime) -> Result<(), Fail> {
-    all_hold(
-        rt.alloc(),
-        &[
-            (ONE_UNIT, "{", r#"{"":1.5,"#, "/: not a whole number\n"),
-            (
-                ONE_UNIT,
-                "{",
-                r#"{"~1/~0":1.5,"#,
-                "/~01~1~00: not a whole number\n",
-            ),
-            (
-                ONE_UNIT,
-                "{",
-                r#"{"\u00e9\u20ac\n":1.5,"#,
-                "/\u{e9}\u{20ac}\n: not a whole number\n",
-            ),
-            // Ordered by the bytes of the names themselves, before `~` and `/` are escaped.
-            (
-                ONE_UNIT,
-                "{",
-                r#"{"a":{"b":1.5},"a0":1.5,"a/":1.5,"#,
-                "/a/b: not a whole number\n/a~1: not a whole number\n/a0: not a whole number\n",
-            ),
-        ],
-    )
-}
 
 #[test]
 fn pointers(rt: HostRuntime) -> Result<(), Fail> {

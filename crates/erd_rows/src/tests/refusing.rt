@@ -1,5 +1,6 @@
 //! Refused memory requests. The library that `tests/refusals.sh` preloads refuses them. Without it, no request is refused,
 //! and each call is made twice.
+use crate::tests::answers::Answer;
 use std::alloc::Global;
 use std::test::Fail;
 
@@ -10,14 +11,6 @@ const ASK: usize = 1 << 61;
 
 // No call here makes this many requests.
 const MANY: usize = 20_000;
-
-// The result of a call.
-#[derive(Clone, Copy, PartialEq, Eq)]
-pub enum Answer {
-    Right,
-    WantsMemory,
-    Wrong,
-}
 
 // Asks that the request with this number, counted from 1 from here on, is refused.
 fn refuse(alloc: Global, number: usize) {
@@ -31,7 +24,7 @@ fn was_refused(alloc: Global) -> bool {
 
 // Refuses each memory request of a call in turn, until the call makes fewer requests. With a refused request, the call must
 // be out of memory or give the right result. Each call is repeated without a refusal, and must give the right result.
-pub fn each_refused<F: Fn(Global) -> Answer>(alloc: Global, call: F) -> Result<(), Fail>
+pub fn each_refused<F: Fn(Global) -> Answer>(alloc: Global, name: &str, call: F) -> Result<(), Fail>
     requires { F.IsAlwaysCallable call }
 {
     for number in 1..MANY {
@@ -40,11 +33,11 @@ pub fn each_refused<F: Fn(Global) -> Answer>(alloc: Global, call: F) -> Result<(
         let is_refused = was_refused(alloc);
         let wants_memory = is_refused && first == Answer::WantsMemory;
         if !wants_memory && first != Answer::Right {
-            let text = format!(in alloc; "at request {number}")?;
+            let text = format!(in alloc; "{name}: at request {number}")?;
             return Err(Fail::from(text));
         }
         if call(alloc) != Answer::Right {
-            let text = format!(in alloc; "after request {number}")?;
+            let text = format!(in alloc; "{name}: after request {number}")?;
             return Err(Fail::from(text));
         }
         if !is_refused {

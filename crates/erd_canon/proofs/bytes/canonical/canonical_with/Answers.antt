@@ -5,7 +5,7 @@ use Rattle.serde_json.specs.View.{view}
 use Rattle.erd_meaning.specs.Keys.{Preference}
 use Rattle.erd_normal.specs.CanonicalText.{IsCanonicalText}
 use Rattle.erd_canon.proofs.forms.CanonicalTexts.{canonical_text}
-use Rattle.erd_canon.proofs.forms.FormLaws.{same_form_when_rearranged, one_form_for_one_meaning, is_its_own_form}
+use Rattle.erd_canon.proofs.forms.FormLaws.{headline}
 use Rattle.erd_canon.proofs.forms.Refusing.{refused_tree}
 use Rattle.erd_canon.proofs.bytes.canonical.canonical_with.Goals as goal
 
@@ -20,20 +20,14 @@ returns-in_err-report-clause-refused c =
     rw (p.1, p.2)
     (refused_tree (option_copied c.args.prefer) c.args.bytes.now (view c.in_ok-tree.tree) c.in_err-report.field-0.0 c.in_ok-tree.ensures.read c.in_err-report.ensures.refused)
 
-pub returns-clause-ok : goal.returns-clause-ok
-returns-clause-ok c =
-    canonical_text (option_copied c.args.prefer) c.args.bytes.now (view c.in_ok-tree.tree) (view c.in_ok-report.report.tree) c.in_ok-text.text.items
+pub returns-clause-headline : goal.returns-clause-headline
+returns-clause-headline c =
+    let π = option_copied c.args.prefer in
+    let text = c.in_ok-text.text.items in
+    headline π c.args.bytes.now text
+    (canonical_text π c.args.bytes.now (view c.in_ok-tree.tree) (view c.in_ok-report.report.tree) text
     c.in_ok-tree.ensures.read c.in_ok-report.ensures.accepted c.in_ok-tree.ensures.nests (ap view c.in_ok-report.ensures.tree)
-    (subst (λ (π : Preference). IsCanonicalText π (view c.in_ok-report.report.tree) c.in_ok-text.text.items) c.in_ok-report.ensures.prefer c.in_ok-text.ensures)
-
-pub returns-clause-unique : goal.returns-clause-unique
-returns-clause-unique c = one_form_for_one_meaning (option_copied c.args.prefer) c.args.bytes.now c.in_ok-text.text.items (returns-clause-ok c)
-
-pub returns-clause-own : goal.returns-clause-own
-returns-clause-own c = is_its_own_form (option_copied c.args.prefer) c.args.bytes.now c.in_ok-text.text.items (returns-clause-ok c)
-
-pub returns-clause-rearranged : goal.returns-clause-rearranged
-returns-clause-rearranged c = same_form_when_rearranged (option_copied c.args.prefer) c.args.bytes.now c.in_ok-text.text.items (returns-clause-ok c)
+    (subst (λ (π : Preference). IsCanonicalText π (view c.in_ok-report.report.tree) text) c.in_ok-report.ensures.prefer c.in_ok-text.ensures))
 
 pub returns-in_err-text-clause-refused : goal.returns-in_err-text-clause-refused
 returns-in_err-text-clause-refused c =

@@ -1,21 +1,39 @@
-use Rattle.std.proofs.Common.{◌≡◌, ◌∙◌, ◌∷◌, Option, List, ap, ap₂, subst, sym}
-use Rattle.clap.specs.Words.{Row, Text, is_simple, subcommand_of, subcommand_rows_of, takes}
-use Rattle.erd_canon.specs.code.Subcommands.{program, IsAskedBy}
+use Rattle.std.proofs.Common.{◌≡◌, ◌⊎◌, ◌∙◌, ◌∷◌, [], true, ap, map, string_bytes, subst, sym}
+use Rattle.clap.specs.Words.{App, IsAmong, fault_of, is_simple, is_simple_and_free, kind_of, subcommand_of, subcommand_rows_of, takes}
+use Rattle.clap.specs.declared.error.kind.ErrorKind.TheVariants.{OutOfMemory}
 use Rattle.erd_canon.specs.ExactLines.{words_of}
-use Rattle.erd_canon.proofs.lines.LineReadings.{program_simple, line_found, takes-line}
+use Rattle.erd_canon.specs.ReadLines.{request_in}
+use Rattle.erd_canon.specs.Subcommands.{program}
+use Rattle.erd_canon.proofs.lines.LineReadings.{line_found, program_free, program_simple, takes-line}
+use Rattle.erd_canon.proofs.lines.RequestsFound.{asked_is, exact_of, fault_read, read_of}
 use Rattle.erd_canon.proofs.commands.words.command_line.Goals as goal
 
 pub returns-in-Ok : goal.returns-in-Ok
-returns-in-Ok c = record {
-  exact = λ request name names e.
-      let matches = c.in-Ok.matches in
-      let found : subcommand_rows_of matches ≡ subcommand_of program (name ∷ words_of request) =
-      (c.in-Ok.ensures.matches (ap is_simple c.in_ok-command.ensures ∙ program_simple)).1 ∙ ap₂ subcommand_of c.in_ok-command.ensures e in
-      c.request_of.ensures request (subst (λ (o : Option (Text × List Row)). IsAskedBy o request) (sym found) (line_found request name names));
-}
+returns-in-Ok c =
+    let matches = c.in-Ok.matches in
+    let words = map string_bytes c.args.words.now in
+    let is = c.in_ok-command.ensures in
+    let found : subcommand_rows_of matches ≡ subcommand_of program words =
+    (c.in-Ok.ensures.matches (ap is_simple is ∙ program_simple)).1 ∙ ap (λ (a : App). subcommand_of a words) is in
+    let none : fault_of program words ≡ [] =
+    sym (ap (λ (a : App). fault_of a words) is) ∙ c.in-Ok.ensures.kinds (ap is_simple_and_free is ∙ program_free) in
+    record {
+      exact = λ request name names e.
+          exact_of c.request_of.result (request_in (subcommand_rows_of matches)) request c.request_of.ensures
+          (ap request_in (found ∙ ap (subcommand_of program) e) ∙ asked_is (subcommand_of program (name ∷ words_of request)) request (line_found request name names));
+      read = read_of words c.request_of.result (request_in (subcommand_rows_of matches)) c.request_of.ensures (ap request_in found) none;
+    }
 
 pub returns-in-Err : goal.returns-in-Err
-returns-in-Err c = record {
-  exact = λ request name names e.
-      c.fault_of.ensures (c.in-Err.ensures.passes (ap₂ takes c.in_ok-command.ensures e ∙ takes-line request name names));
-}
+returns-in-Err c =
+    let words = map string_bytes c.args.words.now in
+    let is = c.in_ok-command.ensures in
+    let passes : takes program words ≡ true → kind_of c.in-Err.error ≡ OutOfMemory =
+    λ taken. c.in-Err.ensures.passes (ap (λ (a : App). takes a words) is ∙ taken) in
+    let among : (kind_of c.in-Err.error ≡ OutOfMemory) ⊎ IsAmong (kind_of c.in-Err.error) (fault_of program words) =
+    subst (λ (a : App). (kind_of c.in-Err.error ≡ OutOfMemory) ⊎ IsAmong (kind_of c.in-Err.error) (fault_of a words)) is
+    (c.in-Err.ensures.kinds (ap is_simple_and_free is ∙ program_free)) in
+    record {
+      exact = λ request name names e. c.fault_of.ensures.memory (passes (ap (takes program) e ∙ takes-line request name names));
+      read = fault_read words (kind_of c.in-Err.error) c.fault_of.result c.fault_of.ensures.kind passes c.fault_of.ensures.memory among;
+    }

@@ -1,5 +1,5 @@
 use Rattle.std.proofs.Common.{Some, ap, ap₂, option_map, sym, ◌∙◌}
-use Rattle.erd_meaning.specs.code.NumberedNames.{numbered_parts}
+use Rattle.erd_meaning.specs.NumberedNames.{numbered_parts}
 use Rattle.erd_compare.proofs.same_numbers.NamesOnSides.{told_at, told_name}
 use Rattle.erd_compare.proofs.numbers.name_numbers.numbered_name.Goals as goal
 

@@ -2,7 +2,7 @@ use Rattle.std.proofs.Common.{◌<◌, ◌≤◌, Option, Some, length, option_a
 use Rattle.serde_json.specs.View.{view}
 use Rattle.erd_tables.specs.declared.class.Family.TheVariants as family
 use Rattle.erd_meaning.specs.Objects.{Placed, objects}
-use Rattle.erd_meaning.specs.code.NumberedNames.{NumberedParts, numbered_name_cmp}
+use Rattle.erd_meaning.specs.NumberedNames.{NumberedParts, numbered_name_cmp}
 use Rattle.erd_meaning.specs.code.NumberedOrders.{numbered_name_cmp_exact, numbered_name_cmp_total}
 use Rattle.erd_meaning.proofs.finding.OneObject.{at_low}
 use Rattle.erd_compare.specs.code.CommonNames.{name_told}

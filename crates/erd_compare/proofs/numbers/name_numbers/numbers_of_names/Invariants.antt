@@ -2,7 +2,7 @@ use Rattle.std.proofs.Common.{drop}
 use Rattle.serde_json.specs.View.{view}
 use Rattle.erd_tables.specs.declared.class.Family.TheVariants as family
 use Rattle.erd_meaning.specs.Objects.{objects}
-use Rattle.erd_meaning.specs.code.NumberedNames.{numbered_name_cmp}
+use Rattle.erd_meaning.specs.NumberedNames.{numbered_name_cmp}
 use Rattle.erd_meaning.specs.code.NumberedOrders.{numbered_name_cmp_exact, numbered_name_cmp_total}
 use Rattle.erd_compare.specs.code.CommonNames.{name_told}
 use Rattle.erd_compare.proofs.same_numbers.InsertedKeys.{IsAdding}

@@ -3,7 +3,8 @@ use Rattle.std.proofs.lemmas.List.{drop_all, drop_more}
 use Rattle.std.proofs.lemmas.Option.{slice_get-map, slice_get_read}
 use Rattle.serde_json.specs.View.{view}
 use Rattle.erd_meaning.specs.Judged.{Judged}
-use Rattle.erd_meaning.specs.Lookups.{StandFrom}
+use Rattle.erd_meaning.specs.Lookups.{selections_before}
+use Rattle.erd_meaning.proofs.selections.ContestSelections.{stand_from_start}
 use Rattle.erd_meaning.specs.Objects.{Placed}
 use Rattle.erd_compare.specs.code.CommonNames.{number_of_selection}
 use Rattle.erd_compare.specs.code.NumberedSides.{on_side}
@@ -25,7 +26,8 @@ loop-index-preserved c =
     let v = c.index-values-index.result in
     let h : IsFilling a b side all (v ∷ left) m =
     subst (λ vs. IsFilling a b side all vs m) (drop_more all c.loop-index.index v c.loop-index-test.true ∙ ap (λ w. w ∷ left) (sym c.index-values-index.is)) c.loop-index.invariant in
-    let from = subst (λ (x : Judged). StandFrom (view x.tree) contest c.first_selection-start.result) c.report_on.ensures c.first_selection-start.ensures in
+    let counted = subst (λ (x : Judged). c.first_selection-start.result ≡ selections_before (view x.tree) contest) c.report_on.ensures c.first_selection-start.ensures in
+    let from = stand_from_start (view j.tree) contest c.first_selection-start.result counted in
     let o = stands_after j contest (map view all) c.requires c.loop-index.index (view v)
     (slice_get-map view all c.loop-index.index ∙ ap (option_map view) (slice_get_read all (length all) c.loop-index.index v refl c.loop-index-test.true c.index-values-index.is)) c.first_selection-start.result from in
     let numbered : c.number_after.result ≡ number_of_selection a b side (view v) =

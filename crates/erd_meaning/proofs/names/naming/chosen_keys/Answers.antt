@@ -2,7 +2,8 @@ use Rattle.std.proofs.Common.{◌≡◌, IfOk, ℕ, List, map, nat_cmp, ap, ◌�
 use Rattle.serde_json.specs.View.{view}
 use Rattle.erd_meaning.specs.SelectionNames.{rising_list}
 use Rattle.erd_meaning.specs.code.NamesAmong.{selection_keys_among}
-use Rattle.erd_meaning.specs.code.RankedNames.{family_chosen, ranked_key}
+use Rattle.erd_meaning.specs.RankedNames.{family_chosen}
+use Rattle.erd_meaning.specs.code.RanksAmong.{ranked_key}
 use Rattle.erd_meaning.specs.code.Shown.{shown}
 use Rattle.erd_meaning.specs.declared.keys.key.Key.{Key}
 use Rattle.erd_meaning.proofs.selections.RankedKeys.{chosen_known, ranked_in_order}

@@ -1,9 +1,9 @@
 use Rattle.std.proofs.Common.{◌≡◌, ℕ, drop, map}
 use Rattle.serde_json.specs.View.{view}
-use Rattle.erd_check.specs.code.Paths.{steps_of}
+use Rattle.erd_check.specs.Paths.{steps_of}
 use Rattle.erd_meaning.specs.code.NamesAmong.{name_among}
 use Rattle.erd_meaning.specs.Objects.{Placed, placed_from}
-use Rattle.erd_meaning.specs.code.RankedNames.{AllAreRanked}
+use Rattle.erd_meaning.specs.code.RanksAmong.{AllAreRanked}
 use Rattle.erd_meaning.specs.code.SelectionWalk.{named_all}
 use Rattle.erd_meaning.specs.code.Shown.{shown}
 use Rattle.erd_meaning.specs.code.ShownWalks.{names_met}

@@ -1,7 +1,7 @@
 use Rattle.std.proofs.Common.{◌≡◌, drop, map}
-use Rattle.erd_check.specs.code.Paths.{steps_of}
+use Rattle.erd_check.specs.Paths.{steps_of}
 use Rattle.erd_meaning.specs.code.NamesAmong.{name_among}
-use Rattle.erd_meaning.specs.code.RankedNames.{AllAreRanked}
+use Rattle.erd_meaning.specs.code.RanksAmong.{AllAreRanked}
 use Rattle.erd_meaning.specs.code.SelectionWalk.{named_all}
 use Rattle.erd_meaning.specs.code.Shown.{shown}
 use Rattle.erd_meaning.specs.code.ShownWalks.{names_met}

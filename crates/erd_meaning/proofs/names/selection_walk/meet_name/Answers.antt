@@ -1,8 +1,9 @@
 use Rattle.std.proofs.Common.{◌≡◌, ◌++◌, Bool, true, false, not, sym, ap, ◌∙◌, append-nil, refl, subst, List}
 use Rattle.erd_tables.specs.declared.fault.Reason.TheVariants.{TwinSelection}
-use Rattle.erd_check.specs.code.Paths.{fault_at, steps_of}
+use Rattle.erd_check.specs.Paths.{fault_at, steps_of}
 use Rattle.erd_meaning.specs.code.ObjectWalk.{fault_if}
-use Rattle.erd_meaning.specs.code.RankedNames.{AllAreRanked, PlacedName, names_of}
+use Rattle.erd_meaning.specs.code.RanksAmong.{AllAreRanked, names_of}
+use Rattle.erd_meaning.specs.RankedNames.{PlacedName}
 use Rattle.erd_meaning.specs.code.SelectionWalk.{is_taken}
 use Rattle.erd_meaning.proofs.selections.RankedTests.{any_ranked, inserted_names, inserted_ranked}
 use Rattle.erd_meaning.proofs.names.selection_walk.meet_name.Goals as goal

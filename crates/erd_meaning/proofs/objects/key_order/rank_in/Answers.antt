@@ -1,7 +1,7 @@
 use Rattle.std.proofs.Common.{is_lt, rules, sym}
 use Rattle.std.proofs.lemmas.Cmp.{on_total}
 use Rattle.std.proofs.lemmas.List.Sorted.{IsPartitionPoint-from_clause}
-use Rattle.erd_meaning.specs.code.RankedNames.{lent_key_cmp}
+use Rattle.erd_meaning.specs.code.RanksAmong.{lent_key_cmp}
 use Rattle.erd_meaning.proofs.orders.Counted.{count_parted}
 use Rattle.erd_meaning.proofs.orders.RisingLists.{parted_by}
 use Rattle.erd_meaning.proofs.selections.PositionedKeys.{KeyEntry}

@@ -2,7 +2,7 @@ use Rattle.std.proofs.Common.{◌<◌, ◌≤◌, length, map, ap, ◌∙◌, su
 use Rattle.std.proofs.lemmas.List.{take_all}
 use Rattle.erd_meaning.specs.code.ObjectLookups.{those_of}
 use Rattle.erd_meaning.specs.code.ObjectWalk.{Kept}
-use Rattle.erd_meaning.specs.code.RankedNames.{rank_among}
+use Rattle.erd_meaning.specs.code.RanksAmong.{rank_among}
 use Rattle.erd_meaning.specs.code.Shown.{shown}
 use Rattle.erd_meaning.proofs.selections.PositionedKeys.{one_rank}
 use Rattle.erd_meaning.proofs.objects.key_order.ranks_among.Goals as goal

@@ -1,6 +1,6 @@
 use Rattle.std.proofs.Common.{◌≡◌, map, take}
 use Rattle.erd_meaning.specs.code.ObjectLookups.{those_of}
-use Rattle.erd_meaning.specs.code.RankedNames.{rank_among}
+use Rattle.erd_meaning.specs.code.RanksAmong.{rank_among}
 use Rattle.erd_meaning.specs.code.Shown.{shown}
 use Rattle.erd_meaning.proofs.objects.key_order.ranks_among.Given as goal
 

@@ -1,7 +1,7 @@
 use Rattle.std.proofs.Common.{◌≡◌, drop, map}
 use Rattle.std.specs.List.{flat_map}
 use Rattle.serde_json.specs.View.{view}
-use Rattle.erd_check.specs.code.Paths.{steps_of}
+use Rattle.erd_check.specs.Paths.{steps_of}
 use Rattle.erd_meaning.specs.Objects.{placed_from}
 use Rattle.erd_meaning.specs.code.ObjectWalk.{contest_located, met_all}
 use Rattle.erd_meaning.specs.code.ShownWalks.{met_of}

@@ -1,6 +1,6 @@
 use Rattle.std.proofs.Common.{[], ◌∷◌, ◌++◌, codes}
 use Rattle.erd_tables.specs.declared.place.Step.TheVariants.{Name}
-use Rattle.erd_check.specs.code.Paths.{steps_of}
+use Rattle.erd_check.specs.Paths.{steps_of}
 use Rattle.erd_meaning.specs.code.ObjectWalk.{election_located}
 use Rattle.erd_meaning.specs.code.ShownWalks.{met_of}
 use Rattle.erd_meaning.proofs.identity.MetObjects.{election_met, entry, met_inside}

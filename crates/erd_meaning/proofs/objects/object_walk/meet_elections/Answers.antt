@@ -1,7 +1,7 @@
 use Rattle.std.proofs.Common.{◌≡◌, [], ◌∷◌, ◌++◌, Bool, IfOk, ap, codes, nat_lt, subst}
 use Rattle.std.specs.List.{flat_map}
 use Rattle.erd_tables.specs.declared.place.Step.TheVariants.{Name}
-use Rattle.erd_check.specs.code.Paths.{steps_of}
+use Rattle.erd_check.specs.Paths.{steps_of}
 use Rattle.erd_meaning.specs.Objects.{placed_entries}
 use Rattle.erd_meaning.specs.code.ObjectWalk.{election_located, met_all}
 use Rattle.erd_meaning.specs.code.Shown.{placed_at}

@@ -1,7 +1,7 @@
 use Rattle.std.proofs.Common.{rules}
 use Rattle.std.proofs.lemmas.Cmp.{on_total}
 use Rattle.std.proofs.lemmas.List.Sorted.{answers_always}
-use Rattle.erd_meaning.specs.code.RankedNames.{lent_key_cmp}
+use Rattle.erd_meaning.specs.code.RanksAmong.{lent_key_cmp}
 use Rattle.erd_meaning.proofs.orders.RisingLists.{rising_from_sort}
 use Rattle.erd_meaning.proofs.selections.RankedKeys.{lent_key_cmp_total}
 use Rattle.erd_meaning.proofs.objects.rising_keys.in_rising_order.Goals as goal

@@ -1,5 +1,5 @@
 use Rattle.std.proofs.Common.{◌≡◌, map, take}
-use Rattle.erd_meaning.specs.code.RankedNames.{key_at_among, seen_keys}
+use Rattle.erd_meaning.specs.code.RanksAmong.{key_at_among, seen_keys}
 use Rattle.erd_meaning.specs.code.Shown.{shown}
 use Rattle.erd_meaning.proofs.objects.rising_keys.keys_at.Given as goal
 

@@ -1,6 +1,6 @@
 use Rattle.std.proofs.Common.{◌<◌, List, length, map, ap, ◌∙◌, subst}
 use Rattle.erd_meaning.specs.code.ObjectLookups.{those_of}
-use Rattle.erd_meaning.specs.code.RankedNames.{seen_keys}
+use Rattle.erd_meaning.specs.code.RanksAmong.{seen_keys}
 use Rattle.erd_meaning.specs.code.Shown.{shown}
 use Rattle.erd_meaning.proofs.selections.PositionedKeys.{KeyEntry, one_positioned}
 use Rattle.erd_meaning.proofs.objects.rising_keys.keys_of_family.Goals as goal

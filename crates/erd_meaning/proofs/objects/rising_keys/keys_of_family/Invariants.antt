@@ -1,7 +1,6 @@
 use Rattle.std.proofs.Common.{◌≡◌, map, take}
-use Rattle.erd_meaning.specs.Lookups.{positioned}
+use Rattle.erd_meaning.specs.code.RanksAmong.{positioned, seen_keys}
 use Rattle.erd_meaning.specs.code.ObjectLookups.{those_of}
-use Rattle.erd_meaning.specs.code.RankedNames.{seen_keys}
 use Rattle.erd_meaning.specs.code.Shown.{shown}
 use Rattle.erd_meaning.proofs.objects.rising_keys.keys_of_family.Given as goal
 

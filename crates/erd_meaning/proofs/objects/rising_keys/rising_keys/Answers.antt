@@ -3,7 +3,7 @@ use Rattle.std.proofs.lemmas.Result.{IfOk-weaker}
 use Rattle.std.specs.Option.{option_cmp}
 use Rattle.erd_meaning.specs.Keys.{key_cmp}
 use Rattle.erd_meaning.specs.SelectionNames.{rising_list}
-use Rattle.erd_meaning.specs.code.RankedNames.{lent_key_cmp, rising_keys_among, seen_keys}
+use Rattle.erd_meaning.specs.code.RanksAmong.{lent_key_cmp, rising_keys_among, seen_keys}
 use Rattle.erd_meaning.specs.code.Shown.{shown}
 use Rattle.erd_meaning.proofs.selections.PositionedKeys.{KeyPosition, rising_seen}
 use Rattle.erd_meaning.proofs.objects.rising_keys.rising_keys.Goals as goal

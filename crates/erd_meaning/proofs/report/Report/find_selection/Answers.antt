@@ -1,6 +1,6 @@
 use Rattle.std.proofs.Common.{◌≡◌, map, sym, ◌∙◌}
 use Rattle.std.specs.List.{position}
-use Rattle.erd_meaning.specs.code.RankedNames.{names_of}
+use Rattle.erd_meaning.specs.code.RanksAmong.{names_of}
 use Rattle.erd_meaning.specs.code.SelectionWalk.{is_selection_named}
 use Rattle.erd_meaning.specs.code.Shown.{shown}
 use Rattle.erd_meaning.proofs.finding.FoundSelections.{selection_found}

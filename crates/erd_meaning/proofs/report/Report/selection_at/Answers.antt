@@ -4,7 +4,7 @@ use Rattle.serde_json.specs.View.{view}
 use Rattle.erd_meaning.specs.Keys.{Preference}
 use Rattle.erd_meaning.specs.Lookups.{selection_in}
 use Rattle.erd_meaning.specs.NameParts.{NameParts}
-use Rattle.erd_meaning.specs.code.RankedNames.{PlacedName, ranked_name}
+use Rattle.erd_meaning.specs.RankedNames.{PlacedName, ranked_name}
 use Rattle.erd_meaning.specs.code.SelectionWalk.{NumberedName}
 use Rattle.erd_meaning.proofs.report.Report.selection_at.Goals as goal
 

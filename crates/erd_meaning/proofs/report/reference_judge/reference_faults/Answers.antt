@@ -2,7 +2,7 @@ use Rattle.std.proofs.Common.{◌∙◌, subst, sym, ap, List}
 use Rattle.serde_json.specs.View.{view}
 use Rattle.erd_tables.specs.Faults.{ListsAll}
 use Rattle.erd_tables.specs.declared.class.Role.TheVariants.{Report}
-use Rattle.erd_check.specs.code.Walk.{told_of_report}
+use Rattle.erd_check.specs.Visits.{told_of_report}
 use Rattle.erd_check.specs.declared.want.Want.TheVariants.{Object}
 use Rattle.erd_check.proofs.Deciding.{tree_in_order}
 use Rattle.erd_meaning.specs.LaterFaults.{ReferenceFault}

@@ -5,7 +5,7 @@ use Rattle.serde_json.specs.Data.{Data}
 use Rattle.serde_json.specs.View.{view}
 use Rattle.serde_json.specs.declared.value.Value.{Value}
 use Rattle.erd_meaning.specs.NameParts.{NameParts}
-use Rattle.erd_meaning.specs.code.NumberedNames.{NumberedParts}
+use Rattle.erd_meaning.specs.NumberedNames.{NumberedParts}
 use Rattle.erd_normal.proofs.lists.StableRising.{map_after}
 use Rattle.erd_normal.proofs.texts.WrittenTokens.{array_written}
 use Rattle.erd_normal.specs.code.KeyRanks.{named_value}

@@ -4,7 +4,7 @@ use Rattle.std.proofs.lemmas.Bool.{ne_eqb}
 use Rattle.std.specs.Ordering.{eq_by_cmp}
 use Rattle.erd_meaning.specs.NameParts.{NameParts}
 use Rattle.erd_meaning.specs.SelectionNames.{name_cmp}
-use Rattle.erd_meaning.specs.code.NameHashes.{name_digest}
+use Rattle.erd_meaning.specs.Hashes.{name_digest}
 use Rattle.erd_meaning.specs.code.Orders.{equal_names_alike}
 use Rattle.erd_meaning.proofs.names.selection_name.SelectionNamePartialEq.eq.Goals as goal
 

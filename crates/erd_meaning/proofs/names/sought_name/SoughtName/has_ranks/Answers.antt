@@ -1,6 +1,7 @@
 use Rattle.std.proofs.Common.{◌≡◌, ◌&&◌, ◌==◌, List, get_or, length, map, sym, ap, ◌∙◌, Some}
 use Rattle.erd_meaning.specs.NameParts.{NameParts}
-use Rattle.erd_meaning.specs.code.RankedNames.{are_ranks_of, family_chosen, is_key_among, rank_among}
+use Rattle.erd_meaning.specs.code.RanksAmong.{are_ranks_of, is_key_among, rank_among}
+use Rattle.erd_meaning.specs.RankedNames.{family_chosen}
 use Rattle.erd_meaning.specs.code.Shown.{shown}
 use Rattle.erd_meaning.specs.declared.keys.key.Key.{Key}
 use Rattle.erd_meaning.proofs.selections.RankedTests.{all_pass_at, lengths_differ, next_left, one_fails}

@@ -1,5 +1,6 @@
 use Rattle.std.proofs.Common.{◌≡◌, drop, map}
-use Rattle.erd_meaning.specs.code.RankedNames.{are_ranks_of, family_chosen}
+use Rattle.erd_meaning.specs.code.RanksAmong.{are_ranks_of}
+use Rattle.erd_meaning.specs.RankedNames.{family_chosen}
 use Rattle.erd_meaning.specs.code.Shown.{shown}
 use Rattle.erd_meaning.proofs.names.sought_name.SoughtName.has_ranks.Given as goal
 

@@ -1,8 +1,9 @@
 use Rattle.std.proofs.Common.{◌≡◌, ℕ, List, false, is_eq, map, true, sym, ap, ap₂, ◌∙◌}
 use Rattle.erd_meaning.specs.NameParts.{NameParts}
-use Rattle.erd_meaning.specs.code.NameHashes.{name_digest}
-use Rattle.erd_meaning.specs.code.NumberedNames.{numbered_name_cmp, numbered_parts}
-use Rattle.erd_meaning.specs.code.RankedNames.{are_ranks_of, family_chosen}
+use Rattle.erd_meaning.specs.Hashes.{name_digest}
+use Rattle.erd_meaning.specs.NumberedNames.{numbered_name_cmp, numbered_parts}
+use Rattle.erd_meaning.specs.code.RanksAmong.{are_ranks_of}
+use Rattle.erd_meaning.specs.RankedNames.{family_chosen}
 use Rattle.erd_meaning.specs.code.Shown.{shown}
 use Rattle.erd_meaning.proofs.selections.RankedTests.{sought_hits, sought_misses}
 use Rattle.erd_meaning.proofs.names.sought_name.SoughtName.is_name.Goals as goal

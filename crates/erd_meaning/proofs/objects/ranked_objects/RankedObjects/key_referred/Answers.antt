@@ -4,7 +4,8 @@ use Rattle.erd_meaning.specs.code.NamesAmong.{key_among}
 use Rattle.erd_meaning.specs.code.ObjectIndexes.{number_among}
 use Rattle.erd_meaning.specs.code.ObjectLookups.{those_of}
 use Rattle.erd_meaning.specs.code.ObjectWalk.{Kept}
-use Rattle.erd_meaning.specs.code.RankedNames.{family_chosen, ranked_key}
+use Rattle.erd_meaning.specs.RankedNames.{family_chosen}
+use Rattle.erd_meaning.specs.code.RanksAmong.{ranked_key}
 use Rattle.erd_meaning.specs.code.Shown.{shown}
 use Rattle.erd_meaning.specs.declared.objects.object.Object.{Object}
 use Rattle.erd_meaning.proofs.finding.FoundWithId.{object_numbered}

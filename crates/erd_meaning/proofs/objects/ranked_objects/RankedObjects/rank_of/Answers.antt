@@ -1,6 +1,6 @@
 use Rattle.std.proofs.Common.{◌≡◌, Some, List, map, sym, ap, ◌∙◌}
 use Rattle.erd_meaning.specs.code.ObjectIndexes.{number_of_key}
-use Rattle.erd_meaning.specs.code.RankedNames.{family_chosen}
+use Rattle.erd_meaning.specs.RankedNames.{family_chosen}
 use Rattle.erd_meaning.specs.code.Shown.{shown}
 use Rattle.erd_meaning.specs.declared.objects.object.Object.{Object}
 use Rattle.erd_meaning.proofs.selections.RankedKeys.{rank_found}

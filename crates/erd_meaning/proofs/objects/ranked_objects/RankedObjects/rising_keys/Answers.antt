@@ -1,7 +1,7 @@
 use Rattle.std.proofs.Common.{◌≡◌, ℕ, List, map, sym, ap, ◌∙◌}
 use Rattle.std.proofs.lemmas.Result.{IfOk-weaker}
 use Rattle.erd_tables.specs.declared.class.Family.{Family}
-use Rattle.erd_meaning.specs.code.RankedNames.{key_at_among, rising_keys_among, seen_keys}
+use Rattle.erd_meaning.specs.code.RanksAmong.{key_at_among, rising_keys_among, seen_keys}
 use Rattle.erd_meaning.specs.code.Shown.{shown}
 use Rattle.erd_meaning.specs.declared.objects.object.Object.{Object}
 use Rattle.erd_meaning.proofs.selections.PositionedKeys.{KeyPosition, from_positions}

@@ -1,0 +1,12 @@
+use Rattle.std.proofs.Common.{◌≡◌, ◌++◌, map, string_bytes}
+use Rattle.std.specs.Slice.Iter.{iter_rest}
+use Rattle.serde_json.specs.View.{items_of}
+use Rattle.serde_json.specs.Written.{compact_text, items_text}
+use Rattle.erd_check.specs.Numbers.{ItemsHaveFittingNumbers}
+use Rattle.erd_canon.specs.DataValues.{fault_data, faults_data}
+use Rattle.erd_canon.proofs.data.fault_texts.push_faults.Given as goal
+
+abbrev pub invariant-loop-fault : goal.invariant-loop-fault
+invariant-loop-fault l =
+    (string_bytes l.text ++ items_text l.later (items_of (map fault_data (iter_rest l.fault-iterator))) ≡ string_bytes l.fn.text ++ compact_text (faults_data l.faults))
+    × (ItemsHaveFittingNumbers (items_of (map fault_data (iter_rest l.fault-iterator))) → ItemsHaveFittingNumbers (items_of (map fault_data l.faults)))

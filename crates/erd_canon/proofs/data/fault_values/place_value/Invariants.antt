@@ -1,0 +1,11 @@
+use Rattle.std.proofs.Common.{◌≡◌, ◌++◌, map}
+use Rattle.std.specs.Slice.Iter.{iter_rest}
+use Rattle.serde_json.specs.View.{items_of, view}
+use Rattle.erd_check.specs.Numbers.{ItemsHaveFittingNumbers}
+use Rattle.erd_canon.specs.DataValues.{step_data}
+use Rattle.erd_canon.proofs.data.fault_values.place_value.Given as goal
+
+abbrev pub invariant-loop-step : goal.invariant-loop-step
+invariant-loop-step l =
+    (map view l.values.items ++ map step_data (iter_rest l.step-iterator) ≡ map step_data l.place)
+    × (ItemsHaveFittingNumbers (items_of (map step_data (iter_rest l.step-iterator))) → ItemsHaveFittingNumbers (items_of (map step_data l.place)))

@@ -1,0 +1,5 @@
+pub mod Pieces
+pub mod ReadBack
+pub mod DataTrees
+pub mod DataTexts
+pub mod Answered

@@ -1,0 +1,110 @@
+-- The values that calls answer as data are trees, nest little, and have no number that is not whole.
+use Rattle.std.proofs.Common.{◌≡◌, ◌≤◌, ℕ, suc, max, List, [], ◌∷◌, Option, Some, None, map, false, refl, sym, subst, arith}
+use Rattle.serde_json.specs.Data.{Data, string, depth, items_depth, members_depth, Members, no_members, member, number, unsigned}
+use Rattle.serde_json.specs.View.{items_of}
+use Rattle.serde_json.specs.Written.{has_float, items_have_float}
+use Rattle.erd_tables.specs.declared.fault.Fault.{Fault}
+use Rattle.erd_tables.specs.declared.fault.Reason.{Reason}
+use Rattle.erd_tables.specs.declared.fault.Reason.TheVariants as reason
+use Rattle.erd_tables.specs.declared.place.Step.{Step}
+use Rattle.erd_tables.specs.declared.place.Step.TheVariants.{Name, At}
+use Rattle.erd_check.specs.Trees.{AreMembers, AreTrees, IsTree}
+use Rattle.erd_meaning.specs.declared.keys.key.Key.{Key}
+use Rattle.erd_compare.specs.DifferenceData.{difference_data}
+use Rattle.erd_compare.specs.declared.difference.Difference.{Difference}
+use Rattle.erd_compare.specs.declared.difference.How.{How}
+use Rattle.erd_compare.specs.declared.difference.How.TheVariants.{OnlyLeft, OnlyRight, OtherClass, Member}
+use Rattle.erd_compare.specs.declared.difference.Part.{Part}
+use Rattle.erd_canon.specs.DataValues.{after_name, comparison_data, fault_data, faults_data, place_data, refused_data, step_data}
+use Rattle.erd_canon.specs.code.RefusalData.{TellsRefusalAs}
+use Rattle.erd_canon.specs.declared.engines.outcome.Outcome.{Outcome}
+use Rattle.erd_canon.specs.declared.engines.outcome.Outcome.TheVariants.{Good, Bad, NotJson}
+use Rattle.erd_canon.specs.declared.bytes.refusal.Refusal.{Refusal}
+use Rattle.erd_canon.specs.declared.bytes.refusal.Refusal.TheVariants as refusal
+
+-- ---- trees
+
+steps_tree : (steps : List Step) → AreTrees (items_of (map step_data steps))
+steps_tree [] = tt
+steps_tree (Name name ∷ steps) = (tt, steps_tree steps)
+steps_tree (At i ∷ steps) = (tt, steps_tree steps)
+
+fault_tree : (f : Fault) → IsTree (fault_data f)
+fault_tree f = at f.reason (steps_tree f.place)
+  where
+    at : (r : Reason) → AreTrees (items_of (map step_data f.place)) → IsTree (fault_data (record { place = f.place; reason = r }))
+    at (reason.MissingMember name) place = (refl, tt, (refl, place, (tt, tt, tt)))
+    at r place = (refl, place, (tt, tt, tt))
+
+faults_tree : (faults : List Fault) → AreTrees (items_of (map fault_data faults))
+faults_tree [] = tt
+faults_tree (f ∷ faults) = (fault_tree f, faults_tree faults)
+
+pub refused_tree : (side : List ℕ) (why : Data) → IsTree why → IsTree (refused_data side why)
+refused_tree side why tree = (refl, tree, (tt, tt, tt))
+
+-- ---- depths
+
+steps_depth : (steps : List Step) → items_depth (items_of (map step_data steps)) ≤ 0
+steps_depth [] = omega arith
+steps_depth (Name name ∷ steps) = omega (arith, steps_depth steps)
+steps_depth (At i ∷ steps) = omega (arith, steps_depth steps)
+
+fault_depth : (f : Fault) → depth (fault_data f) ≤ 2
+fault_depth f = at f.reason (steps_depth f.place)
+  where
+    at : (r : Reason) → items_depth (items_of (map step_data f.place)) ≤ 0 → depth (fault_data (record { place = f.place; reason = r })) ≤ 2
+    at (reason.MissingMember name) place = omega arith
+    at r place = omega arith
+
+faults_depth : (faults : List Fault) → items_depth (items_of (map fault_data faults)) ≤ 2
+faults_depth [] = omega arith
+faults_depth (f ∷ faults) = omega (arith, fault_depth f, faults_depth faults)
+
+pub refused_depth : (side : List ℕ) (why : Data) → depth why ≤ 3 → depth (refused_data side why) ≤ 4
+refused_depth side why low = omega arith
+
+-- ---- no number that is not whole
+
+steps_whole : (steps : List Step) → items_have_float (items_of (map step_data steps)) ≡ false
+steps_whole [] = refl
+steps_whole (Name name ∷ steps) = steps_whole steps
+steps_whole (At i ∷ steps) = steps_whole steps
+
+pub fault_whole : (f : Fault) → has_float (fault_data f) ≡ false
+fault_whole f = at f.reason (steps_whole f.place)
+  where
+    at : (r : Reason) → items_have_float (items_of (map step_data f.place)) ≡ false → has_float (fault_data (record { place = f.place; reason = r })) ≡ false
+    at (reason.MissingMember name) place = rw place refl
+    at r place = rw place refl
+
+-- ---- refusals and differences
+
+-- what is told of a refusal
+pub refusal_value : (refused : Refusal) (outcome : Outcome) (value : Data) → TellsRefusalAs refused outcome value → IsTree value × (depth value ≤ 3)
+refusal_value (refusal.Faults faults) Bad value is =
+    subst (λ d. IsTree d × (depth d ≤ 3)) (sym is) (faults_tree faults, omega (arith, faults_depth faults))
+refusal_value refusal.NotJson NotJson value is = subst (λ d. IsTree d × (depth d ≤ 3)) (sym is) (tt, omega arith)
+refusal_value (refusal.Faults faults) Good value is = absurd is
+refusal_value (refusal.Faults faults) NotJson value is = absurd is
+refusal_value refusal.NotJson Good value is = absurd is
+refusal_value refusal.NotJson Bad value is = absurd is
+refusal_value refusal.Memory outcome value is = absurd is
+
+-- the list of faults of an accepted report
+pub no_faults_tree : IsTree (faults_data [])
+no_faults_tree = tt
+
+difference_at : (p : Part) (k : Option Key) (h : How) → let d = difference_data (record { part = p; key = k; how = h }) in (depth d ≤ 2) × (has_float d ≡ false)
+difference_at p None OnlyLeft = (omega arith, refl)
+difference_at p None OnlyRight = (omega arith, refl)
+difference_at p None OtherClass = (omega arith, refl)
+difference_at p None (Member name) = (omega arith, refl)
+difference_at p (Some k) OnlyLeft = (omega arith, refl)
+difference_at p (Some k) OnlyRight = (omega arith, refl)
+difference_at p (Some k) OtherClass = (omega arith, refl)
+difference_at p (Some k) (Member name) = (omega arith, refl)
+
+-- the object of a difference
+pub difference_value : (d : Difference) → (depth (difference_data d) ≤ 2) × (has_float (difference_data d) ≡ false)
+difference_value d = difference_at d.part d.key d.how

@@ -1,0 +1,42 @@
+-- What any words of a command line are read as, by the rules of the program in `clap`'s grammar.
+use Rattle.std.specs.Prelude.{◌≡◌, ◌≢◌, true, ℕ, List, [], Option, Some, None, Result, Ok, Err, codes, bytes_eq, if◌then◌else◌, unwrap_or}
+use Rattle.clap.specs.Words.{IsAmong, Row, fault_of, first_of, subcommand_of, takes}
+use Rattle.clap.specs.declared.error.kind.ErrorKind.{ErrorKind}
+use Rattle.clap.specs.declared.error.kind.ErrorKind.TheVariants.{DisplayHelp, OutOfMemory}
+use Rattle.erd_canon.specs.declared.commands.request.LineFault.{LineFault}
+use Rattle.erd_canon.specs.declared.commands.request.LineFault.TheVariants.{Help, Usage, Memory}
+use Rattle.erd_canon.specs.declared.commands.request.Request.{Request}
+use Rattle.erd_canon.specs.declared.commands.request.Request.TheVariants.{Filter, Check, Canon, Compare}
+use Rattle.erd_canon.specs.Subcommands.{program}
+
+-- The word that was given for the required argument with this name.
+abbrev pub word_for : List ℕ → List Row → List ℕ
+word_for id rows = unwrap_or (first_of id rows) []
+
+-- The request of the subcommand with this name, for what was given for its arguments.
+abbrev pub subcommand_request : List ℕ → List Row → Request
+subcommand_request name rows =
+    if bytes_eq name (codes "check") then Check (word_for (codes "FILE") rows) (first_of (codes "TYPE") rows)
+    else (if bytes_eq name (codes "canon") then Canon (word_for (codes "FILE") rows) (first_of (codes "TYPE") rows)
+    else Compare (word_for (codes "LEFT") rows) (word_for (codes "RIGHT") rows) (first_of (codes "TYPE") rows))
+
+-- The request of the subcommand that was found in the words, if any.
+abbrev pub request_in : Option (List ℕ × List Row) → Request
+request_in None = Filter
+request_in (Some found) = subcommand_request found.0 found.1
+
+-- The words are read as this request only if the grammar has no fault for them, and then it is the one that they make.
+-- Help and usage are the answer only if the grammar does not take the words, and by the kind of a fault that it has for
+-- them. Out of memory may always be the answer.
+abbrev pub IsLineRead : List (List ℕ) → Result Request LineFault → Type 0
+IsLineRead words (Ok request) = (request ≡ request_in (subcommand_of program words)) × (fault_of program words ≡ [])
+IsLineRead words (Err (Help text)) = (takes program words ≢ true) × IsAmong DisplayHelp (fault_of program words)
+IsLineRead words (Err (Usage text)) =
+    (takes program words ≢ true) × ((kind : ErrorKind) × (kind ≢ DisplayHelp) × IsAmong kind (fault_of program words))
+IsLineRead words (Err Memory) = Unit {0}
+
+-- An error of the parser with this kind is passed on as this fault.
+abbrev pub IsFaultFor : ErrorKind → LineFault → Type 0
+IsFaultFor kind (Help text) = kind ≡ DisplayHelp
+IsFaultFor kind (Usage text) = (kind ≢ DisplayHelp) × (kind ≢ OutOfMemory)
+IsFaultFor kind Memory = Unit {0}

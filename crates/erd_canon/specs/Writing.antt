@@ -1,0 +1,29 @@
+-- What a writer holds after a write that may have failed.
+use Rattle.std.specs.Prelude.{ℕ, List, Option, take}
+use Rattle.std.specs.Io.KnownBytes.{Appends}
+use Rattle.erd_canon.specs.declared.engines.outcome.Outcome.{Outcome}
+use Rattle.erd_canon.specs.Reading.{IsReadWhole}
+use Rattle.erd_canon.specs.Run.{IsAnswered}
+use Rattle.erd_meaning.specs.Keys.{Preference}
+
+-- If the bytes of the writer are known: a first part of the text was written, and nothing else.
+pub record IsPartWritten (before after : Option (List ℕ)) (text : List ℕ) : Type 0 where
+  pub count : ℕ
+  pub wrote : Appends before after (take count text)
+
+-- Canonicalising the input has these texts for its writers. If their bytes are known, a first part of its text was
+-- written to each, and nothing else.
+pub record IsAnswerPartWritten (π : Preference) (bytes : List ℕ) (out_before out_after err_before err_after : Option (List ℕ)) : Type 0 where
+  pub outcome : Outcome
+  pub out_text : List ℕ
+  pub err_text : List ℕ
+  pub answered : IsAnswered π bytes outcome out_text err_text
+  pub part_out : IsPartWritten out_before out_after out_text
+  pub part_err : IsPartWritten err_before err_after err_text
+
+-- If the bytes of the devices are known: the reader was read to its end within the limit, and a first part of each text of
+-- canonicalising its bytes was written, and nothing else.
+pub record IsBrokenRun (π : Preference) (limit : ℕ) (before after out_before out_after err_before err_after : Option (List ℕ)) : Type 0 where
+  pub input : List ℕ
+  pub whole : IsReadWhole limit before after input
+  pub written : IsAnswerPartWritten π input out_before out_after err_before err_after

@@ -1,0 +1,198 @@
+-- No reference stands in an identifier, a text or a carried value, so a walk that tells of references alone tells nothing there.
+use Rattle.std.proofs.Common.{◌≡◌, ℕ, List, [], ◌∷◌, ◌++◌, length, Bool, true, false, ◌&&◌, ◌||◌, cond, Option, Some, None, option_and_then, codes, refl, sym, ap, ap₂, ◌∙◌}
+use Rattle.std.specs.List.{list_all, list_any}
+use Rattle.std.specs.Option.{option_map_or}
+use Rattle.std.specs.Str.{bytes_eq}
+use Rattle.serde_json.specs.Data.{Data, null, boolean, number, string, array, object, Items, no_items, item, Members, no_members, member}
+use Rattle.serde_json.specs.Find.{get, as_str}
+use Rattle.erd_tables.proofs.Roles.{class_in_role_named}
+use Rattle.erd_tables.specs.Classes.{class_in_role, role_of_class}
+use Rattle.erd_tables.specs.Rows.{rows_of_class}
+use Rattle.erd_tables.specs.Table.{is_reference_name, kind_of_identity, kind_of_member, is_required}
+use Rattle.erd_tables.specs.declared.class.Class.{Class}
+use Rattle.erd_tables.specs.declared.class.Class.TheVariants as class
+use Rattle.erd_tables.specs.declared.class.Role.{Role}
+use Rattle.erd_tables.specs.declared.class.Role.TheVariants as role
+use Rattle.erd_tables.specs.declared.member.MemberKind.{MemberKind}
+use Rattle.erd_tables.specs.declared.member.MemberKind.TheVariants as kind
+use Rattle.erd_tables.specs.declared.place.Step.{Step}
+use Rattle.erd_tables.specs.declared.place.Step.TheVariants.{Name, At}
+use Rattle.erd_check.specs.Trees.{is_same_json}
+use Rattle.erd_check.specs.Wants.{class_of_object, carried_want, entry_want, is_compared_set, is_report_class, member_want, scope_inside, want_of_kind, want_of_name}
+use Rattle.erd_meaning.specs.code.ReferenceReasons.{leads_to_references}
+use Rattle.erd_check.specs.Visits.{faults_of, told_at, told_of_items, told_of_members, AreItemsKnown, AreMembersKnown, IsKnown, IsKnownOfAll, IsSilent, Telling}
+use Rattle.erd_check.specs.declared.want.Scope.{Scope}
+use Rattle.erd_check.specs.declared.want.Scope.TheVariants as scope
+use Rattle.erd_check.specs.declared.want.Want.{Want}
+use Rattle.erd_check.specs.declared.want.Want.TheVariants.{Object, ClassText, Status, Member, Carried}
+use Rattle.erd_check.proofs.Deciding.{if_some}
+use Rattle.erd_check.proofs.TableKinds.{kind_of_class}
+
+-- ---- what is asked inside
+
+abbrev is_plain_kind : MemberKind → Bool
+is_plain_kind (kind.One f) = false
+is_plain_kind (kind.Many f) = false
+is_plain_kind (kind.Keyed f) = false
+is_plain_kind kind.Elections = false
+is_plain_kind kind.Content = false
+is_plain_kind kind.Ordered = false
+is_plain_kind k = true
+
+plain_kind : (k : MemberKind) (required : Bool) → is_plain_kind k ≡ true → leads_to_references (want_of_kind k required) ≡ false
+plain_kind (kind.One f) required e = cc
+plain_kind (kind.Many f) required e = cc
+plain_kind (kind.Keyed f) required e = cc
+plain_kind kind.Elections required e = cc
+plain_kind kind.Content required e = cc
+plain_kind kind.Ordered required e = cc
+plain_kind k required e = refl
+
+-- the roles of objects that have no references
+abbrev is_plain_role : Role → Bool
+is_plain_role role.Identifier = true
+is_plain_role role.Label = true
+is_plain_role role.Language = true
+is_plain_role r = false
+
+plain_rows : (c : Class) → is_plain_role (role_of_class c) ≡ true → list_all (λ m. is_plain_kind m.kind) (rows_of_class c) ≡ true
+plain_rows class.ExternalIdentifier e = refl
+plain_rows class.InternationalizedText e = refl
+plain_rows class.LanguageString e = refl
+plain_rows c e = cc
+
+plain_identity : (c : Class) → is_plain_kind (kind_of_identity c) ≡ true
+plain_identity class.ElectionReport = refl
+plain_identity c = refl
+
+plain_member : (c : Class) (name : List ℕ) → is_plain_role (role_of_class c) ≡ true → bytes_eq name (codes "@type") ≡ false → leads_to_references (member_want c name) ≡ false
+plain_member c name e other = at (is_report_class c && bytes_eq name (codes "Status"))
+  where
+    at : (b : Bool) → leads_to_references (cond b Status (want_of_kind (kind_of_member c name) (is_required c name))) ≡ false
+    at true = refl
+    at false = plain_kind (kind_of_member c name) (is_required c name) (kind_of_class is_plain_kind c name other (plain_rows c e) (plain_identity c) refl refl)
+
+class_role : (r : Role) (o : Option (List ℕ)) (c : Class) → option_and_then (class_in_role r) o ≡ Some c → role_of_class c ≡ r
+class_role r None c e = cc
+class_role r (Some text) c e = (class_in_role_named r text c e).role
+
+-- in an object without references, nothing that leads to one is asked for
+plain_named : (r : Role) (o : Option Class) → is_plain_role r ≡ true → ((c : Class) → o ≡ Some c → role_of_class c ≡ r) → (name : List ℕ) (v : Want)
+    → want_of_name (scope.Members r o) name ≡ Some v → leads_to_references v ≡ false
+plain_named r o plain classes name v = at (bytes_eq name (codes "@type")) refl o classes
+  where
+    at : (b : Bool) → bytes_eq name (codes "@type") ≡ b → (o : Option Class) → ((c : Class) → o ≡ Some c → role_of_class c ≡ r)
+        → want_of_name (scope.Members r o) name ≡ Some v → leads_to_references v ≡ false
+    at true is o own e =
+        let named : want_of_name (scope.Members r o) name ≡ Some (ClassText r) = rw is in
+        let k : ClassText r ≡ v = cc in
+        ap leads_to_references (sym k)
+    at false is None own e =
+        let unnamed : want_of_name (scope.Members r None) name ≡ None = rw is in
+        cc
+    at false is (Some c) own e =
+        let named : want_of_name (scope.Members r (Some c)) name ≡ Some (member_want c name) = rw is in
+        let k : member_want c name ≡ v = cc in
+        ap leads_to_references (sym k) ∙ plain_member c name (ap is_plain_role (own c refl) ∙ plain) is
+
+plain_object : (r : Role) (ms : Members) → is_plain_role r ≡ true → (name : List ℕ) (v : Want) → want_of_name (scope.Members r (class_of_object r (object ms))) name ≡ Some v → leads_to_references v ≡ false
+plain_object r ms plain = plain_named r (class_of_object r (object ms)) plain (class_role r (option_and_then as_str (get (codes "@type") (object ms))))
+
+plain_carried : (name : List ℕ) (v : Want) → want_of_name scope.Carried name ≡ Some v → leads_to_references v ≡ false
+plain_carried name v e =
+    let h : carried_want name ≡ v = cc in
+    ap leads_to_references (sym h) ∙ at (bytes_eq name (codes "@id") || is_reference_name name)
+  where
+    at : (b : Bool) → leads_to_references (cond b (Member kind.StrangeIdentity false) Carried) ≡ false
+    at true = refl
+    at false = refl
+
+nothing_named : (name : List ℕ) (v : Want) → want_of_name scope.Nothing name ≡ Some v → leads_to_references v ≡ false
+nothing_named name v e = cc
+
+-- what is asked of the members of a value that does not lead to references
+named_inside : (w : Want) (ms : Members) → leads_to_references w ≡ false → (name : List ℕ) (v : Want) → want_of_name (scope_inside w (object ms)) name ≡ Some v → leads_to_references v ≡ false
+named_inside (Object role.Identifier) ms h = plain_object role.Identifier ms refl
+named_inside (Object role.Label) ms h = plain_object role.Label ms refl
+named_inside (Object role.Language) ms h = plain_object role.Language ms refl
+named_inside (Object r) ms h = cc
+named_inside (Member kind.Label required) ms h = plain_object role.Label ms refl
+named_inside Carried ms h = plain_carried
+named_inside w ms h = nothing_named
+
+-- and of its entries
+entries_inside : (w v : Want) → leads_to_references w ≡ false → entry_want w ≡ Some v → leads_to_references v ≡ false
+entries_inside (Member kind.Identifiers required) v h e = let k : Object role.Identifier ≡ v = cc in ap leads_to_references (sym k)
+entries_inside (Member kind.Languages required) v h e = let k : Object role.Language ≡ v = cc in ap leads_to_references (sym k)
+entries_inside Carried v h e = let k : Carried ≡ v = cc in ap leads_to_references (sym k)
+entries_inside w v h e = cc
+
+-- ---- the walk
+
+-- what is told of values that do not lead to references
+pub record TellsOfReferences (tells : Telling) : Type 0 where
+  pub nothing : (outer : Data) (w : Want) (repeated : Bool) (d : Data) → leads_to_references w ≡ false → tells outer w repeated d ≡ []
+
+module _ (tells : Telling) (quiet : TellsOfReferences tells) where
+  here : (outer : Data) (p : List Step) (w : Want) (repeated : Bool) (d : Data) → leads_to_references w ≡ false → faults_of p (tells outer w repeated d) ≡ []
+  here outer p w repeated d h = ap (faults_of p) (quiet.nothing outer w repeated d h)
+
+  in_entries : (owner : Data) (p : List Step) (is_set : Bool) (all ds : Items) (o : Option Want)
+      → ((v : Want) → o ≡ Some v → told_of_items tells owner (array all) p v is_set [] ds ≡ [])
+      → option_map_or (λ v. told_of_items tells owner (array all) p v is_set [] ds) o [] ≡ []
+  in_entries owner p is_set all ds None each = refl
+  in_entries owner p is_set all ds (Some v) each = each v refl
+
+  in_member : (outer owner : Data) (p : List Step) (d : Data) (o : Option Want)
+      → ((v : Want) → o ≡ Some v → told_at tells outer owner p v false d ≡ [])
+      → option_map_or (λ v. told_at tells outer owner p v false d) o [] ≡ []
+  in_member outer owner p d None each = refl
+  in_member outer owner p d (Some v) each = each v refl
+
+  mutual
+    silent_at : (outer owner : Data) (p : List Step) (w : Want) (repeated : Bool) (d : Data) → leads_to_references w ≡ false → told_at tells outer owner p w repeated d ≡ []
+    silent_at outer owner p w repeated null h = here outer p w repeated null h
+    silent_at outer owner p w repeated (boolean b) h = here outer p w repeated (boolean b) h
+    silent_at outer owner p w repeated (number n) h = here outer p w repeated (number n) h
+    silent_at outer owner p w repeated (string s) h = here outer p w repeated (string s) h
+    silent_at outer owner p w repeated (array ds) h =
+        ap₂ ◌++◌ (here outer p w repeated (array ds) h)
+        (in_entries owner p (is_compared_set w) ds ds (entry_want w) (λ v e. silent_items owner (array ds) p v (is_compared_set w) [] ds (entries_inside w v h e)))
+    silent_at outer owner p w repeated (object ms) h =
+        ap₂ ◌++◌ (here outer p w repeated (object ms) h) (silent_members owner (object ms) p (scope_inside w (object ms)) ms (named_inside w ms h))
+
+    silent_items : (outer owner : Data) (p : List Step) (w : Want) (is_set : Bool) (earlier : List Data) (ds : Items) → leads_to_references w ≡ false → told_of_items tells outer owner p w is_set earlier ds ≡ []
+    silent_items outer owner p w is_set earlier no_items h = refl
+    silent_items outer owner p w is_set earlier (item d ds) h =
+        ap₂ ◌++◌ (silent_at outer owner (p ++ At (length earlier) ∷ []) w (is_set && list_any (is_same_json d) earlier) d h) (silent_items outer owner p w is_set (earlier ++ d ∷ []) ds h)
+
+    silent_members : (outer owner : Data) (p : List Step) (s : Scope) (ms : Members) → ((name : List ℕ) (v : Want) → want_of_name s name ≡ Some v → leads_to_references v ≡ false) → told_of_members tells outer owner p s ms ≡ []
+    silent_members outer owner p s no_members h = refl
+    silent_members outer owner p s (member k d ms) h =
+        ap₂ ◌++◌ (in_member outer owner (p ++ Name k ∷ []) d (want_of_name s k) (λ v e. silent_at outer owner (p ++ Name k ∷ []) v false d (h k v e))) (silent_members outer owner p s ms h)
+
+pub is_silent : (tells : Telling) → TellsOfReferences tells → (w : Want) → leads_to_references w ≡ false → IsSilent tells w
+is_silent tells quiet w h = λ outer owner p repeated d. silent_at tells quiet outer owner p w repeated d h
+
+-- ---- what is known of values
+
+module _ (Known : Want → Data → Type 0) (each : (w : Want) (d : Data) → Known w d) where
+  mutual
+    known_at : (w : Want) (d : Data) → IsKnown Known w d
+    known_at w null = each w null
+    known_at w (boolean b) = each w (boolean b)
+    known_at w (number n) = each w (number n)
+    known_at w (string s) = each w (string s)
+    known_at w (array ds) = (each w (array ds), if_some (λ v. AreItemsKnown Known v ds) (entry_want w) (λ v. items_known v ds))
+    known_at w (object ms) = (each w (object ms), members_known (scope_inside w (object ms)) ms)
+
+    items_known : (w : Want) (ds : Items) → AreItemsKnown Known w ds
+    items_known w no_items = tt
+    items_known w (item d ds) = (known_at w d, items_known w ds)
+
+    members_known : (s : Scope) (ms : Members) → AreMembersKnown Known s ms
+    members_known s no_members = tt
+    members_known s (member k d ms) = (if_some (λ v. IsKnown Known v d) (want_of_name s k) (λ v. known_at v d), members_known s ms)
+
+pub is_known_of_all : (Known : Want → Data → Type 0) → ((w : Want) (d : Data) → Known w d) → (w : Want) → IsKnownOfAll Known w
+is_known_of_all Known each w = λ d. known_at Known each w d

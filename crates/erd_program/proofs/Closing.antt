@@ -1,0 +1,49 @@
+-- What was done with files, from the lists of closed files before they were opened.
+use Rattle.std.proofs.Common.{◌≡◌, ◌++◌, ◌∷◌, ◌∙◌, [], ℕ, List, ap, ap₂, append_assoc}
+use Rattle.erd_meaning.specs.Keys.{Preference}
+use Rattle.erd_program.specs.Files.{AreFilesCompared, IsFileCanonicalised, IsFileChecked}
+use Rattle.erd_program.specs.World.{BeforeAfter, Outside, between}
+
+-- two entries, one after the other
+pub twice : {A : Type 0} (a b c : List A) (x y : A) → b ≡ a ++ x ∷ [] → c ≡ b ++ y ∷ [] → c ≡ a ++ x ∷ y ∷ []
+twice a b c x y p q = q ∙ (ap (λ l. l ++ y ∷ []) p ∙ append_assoc a (x ∷ []) (y ∷ []))
+
+-- what opening two files gave
+pub both_opened : {R : Type 0} (a b c : List (List ℕ × R)) (left right : List ℕ) (x y u v : R) → b ≡ a ++ (left, x) ∷ [] → c ≡ b ++ (right, y) ∷ [] → x ≡ u → y ≡ v
+    → c ≡ a ++ (left, u) ∷ (right, v) ∷ []
+both_opened a b c left right x y u v p q is_u is_v = twice a b c (left, x) (right, y) p q ∙ ap₂ (λ x y. a ++ (left, x) ∷ (right, y) ∷ []) is_u is_v
+
+pub checked_from : {F File I O E : Type 0} {known : Outside F File I O E} {π : Preference} {name : List ℕ} {file : File} {status : ℕ} {a b c : List (List ℕ × File)} {out : BeforeAfter O} {err : BeforeAfter E}
+    → b ≡ a → IsFileChecked known π name file status (between b c) out err → IsFileChecked known π name file status (between a c) out err
+checked_from {name = name} e is = record {
+  answer = is.answer;
+  file_left = is.file_left;
+  run = is.run;
+  is_closed = is.is_closed ∙ ap (λ l. l ++ (name, is.file_left) ∷ []) e;
+  status_is = is.status_is;
+  told = is.told;
+}
+
+pub canonicalised_from : {F File I O E : Type 0} {known : Outside F File I O E} {π : Preference} {name : List ℕ} {file : File} {status : ℕ} {a b c : List (List ℕ × File)} {out : BeforeAfter O} {err : BeforeAfter E}
+    → b ≡ a → IsFileCanonicalised known π name file status (between b c) out err → IsFileCanonicalised known π name file status (between a c) out err
+canonicalised_from {name = name} e is = record {
+  answer = is.answer;
+  file_left = is.file_left;
+  err_left = is.err_left;
+  run = is.run;
+  is_closed = is.is_closed ∙ ap (λ l. l ++ (name, is.file_left) ∷ []) e;
+  status_is = is.status_is;
+  told = is.told;
+}
+
+pub compared_from : {F File I O E : Type 0} {known : Outside F File I O E} {π : Preference} {left_name right_name : List ℕ} {left right : File} {status : ℕ} {a b c : List (List ℕ × File)} {out : BeforeAfter O} {err : BeforeAfter E}
+    → b ≡ a → AreFilesCompared known π left_name right_name left right status (between b c) out err → AreFilesCompared known π left_name right_name left right status (between a c) out err
+compared_from {left_name = left_name} {right_name = right_name} e is = record {
+  answer = is.answer;
+  left_left = is.left_left;
+  right_left = is.right_left;
+  run = is.run;
+  are_closed = is.are_closed ∙ ap (λ l. l ++ (left_name, is.left_left) ∷ (right_name, is.right_left) ∷ []) e;
+  status_is = is.status_is;
+  told = is.told;
+}

@@ -1,0 +1,42 @@
+-- What the program says on a stream, and with which status it ends.
+use Rattle.std.specs.Prelude.{◌≡◌, ◌⊎◌, ◌++◌, ◌∷◌, [], ℕ, true, false, List, Option, Result, Ok, Err, MatchResult, codes}
+use Rattle.std.specs.Io.KnownBytes.{Appends}
+use Rattle.erd_canon.specs.declared.engines.outcome.Outcome.{Outcome}
+use Rattle.erd_canon.specs.declared.engines.outcome.RunFault.{RunFault}
+use Rattle.erd_canon.specs.declared.engines.outcome.RunFault.TheVariants as run
+use Rattle.erd_canon.specs.Statuses.{outcome_status, fault_status, fault_words}
+use Rattle.erd_canon.specs.Writing.{IsPartWritten}
+use Rattle.erd_program.specs.declared.files.WorldFault.{WorldFault}
+use Rattle.erd_program.specs.declared.files.WorldFault.TheVariants.{Refused, Memory}
+use Rattle.erd_program.specs.World.{BeforeAfter, Writer}
+
+-- The text was written, or a first part of it if that failed, and nothing else. To a stream that had failed, nothing was
+-- written.
+pub record IsSaid {W : Type 0} (known : Writer W) (text : List ℕ) (stream : BeforeAfter W) : Type 0 where
+  pub part : IsPartWritten (known.contents stream.before) (known.contents stream.after) text
+  pub all : known.has_failed stream.after ≡ false → Appends (known.contents stream.before) (known.contents stream.after) text
+  pub quiet : known.has_failed stream.before ≡ true → stream.after ≡ stream.before
+
+-- The line that says why a run ended early.
+abbrev pub fault_text : RunFault → List ℕ
+fault_text fault = fault_words fault ++ 10 ∷ []
+
+-- The exit status of a run: that of its outcome or of its fault.
+abbrev pub run_status : Result Outcome RunFault → ℕ
+run_status (Ok outcome) = outcome_status outcome
+run_status (Err fault) = fault_status fault
+
+-- The run said on the stream why it ended early, if it did, and else nothing.
+abbrev pub IsTold : {W : Type 0} → Writer W → Result Outcome RunFault → BeforeAfter W → Type 0
+IsTold known (Ok outcome) stream = stream.after ≡ stream.before
+IsTold known (Err fault) stream = IsSaid known (fault_text fault) stream
+
+-- The exit status for what the outside did not give: 3 if the system refused it, 4 if out of memory.
+abbrev pub world_status : WorldFault → ℕ
+world_status Refused = 3
+world_status Memory = 4
+
+-- The line for what the outside did not give: these words if the system refused it, and `no memory` if out of memory.
+abbrev pub world_text : List ℕ → WorldFault → List ℕ
+world_text words Refused = words ++ 10 ∷ []
+world_text words Memory = fault_text run.Memory

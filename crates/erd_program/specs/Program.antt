@@ -1,0 +1,100 @@
+-- What the program does for the words of its command line.
+use Rattle.std.specs.Prelude.{◌≡◌, ◌⊎◌, ◌++◌, ◌∷◌, [], ℕ, true, false, List, Result, Ok, Err, MatchResult, codes}
+use Rattle.std.specs.Io.KnownBytes.{Appends}
+use Rattle.erd_canon.specs.declared.commands.request.Request.{Request}
+use Rattle.erd_canon.specs.declared.commands.request.Request.TheVariants.{Filter, Check, Canon, Compare}
+use Rattle.erd_canon.specs.declared.commands.request.LineFault.{LineFault}
+use Rattle.erd_canon.specs.declared.commands.request.LineFault.TheVariants as line
+use Rattle.erd_canon.specs.declared.engines.outcome.RunFault.TheVariants as run
+use Rattle.erd_canon.specs.ExactLines.{HasPlainWords, words_of}
+use Rattle.erd_canon.specs.ReadLines.{IsLineRead}
+use Rattle.erd_canon.specs.Writing.{IsPartWritten}
+use Rattle.erd_program.specs.declared.files.WorldFault.{WorldFault}
+use Rattle.erd_program.specs.declared.files.WorldFault.TheVariants.{Memory}
+use Rattle.erd_program.specs.declared.world.World.{World}
+use Rattle.erd_program.specs.Files.{IsCanonAnswer, IsCheckAnswer, IsCompareAnswer, IsInputCanonicalised, IsRefused}
+use Rattle.erd_program.specs.Messages.{IsSaid, fault_text}
+use Rattle.erd_program.specs.World.{BeforeAfter, Outside, Writer, between}
+
+-- Standard input was left alone.
+abbrev pub LeavesInput : {F I O E : Type 0} → BeforeAfter (World F I O E) → Type 0
+LeavesInput world = world.after.input ≡ world.before.input
+
+-- No file was opened or closed.
+abbrev pub LeavesFiles : {F I O E : Type 0} → BeforeAfter (World F I O E) → Type 0
+LeavesFiles world = world.after.files ≡ world.before.files
+
+-- The program did what the request asks for.
+abbrev pub IsDone : {F File I O E : Type 0} → Outside F File I O E → Request → ℕ → BeforeAfter (World F I O E) → Type 0
+IsDone known Filter status world =
+    LeavesFiles world
+    × IsInputCanonicalised known status (between world.before.input world.after.input) (between world.before.out world.after.out) (between world.before.err world.after.err)
+IsDone {File = File} known (Check name prefer) status world =
+    LeavesInput world
+    × ((given : Result File WorldFault)
+    × (known.opened world.after.files ≡ known.opened world.before.files ++ (name, given) ∷ [])
+    × IsCheckAnswer known prefer name given status (between (known.closed world.before.files) (known.closed world.after.files))
+    (between world.before.out world.after.out) (between world.before.err world.after.err))
+IsDone {File = File} known (Canon name prefer) status world =
+    LeavesInput world
+    × ((given : Result File WorldFault)
+    × (known.opened world.after.files ≡ known.opened world.before.files ++ (name, given) ∷ [])
+    × IsCanonAnswer known prefer name given status (between (known.closed world.before.files) (known.closed world.after.files))
+    (between world.before.out world.after.out) (between world.before.err world.after.err))
+IsDone {File = File} known (Compare left right prefer) status world =
+    LeavesInput world
+    × ((a : Result File WorldFault) × (b : Result File WorldFault)
+    × (known.opened world.after.files ≡ known.opened world.before.files ++ (left, a) ∷ (right, b) ∷ [])
+    × IsCompareAnswer known prefer left right a b status (between (known.closed world.before.files) (known.closed world.after.files))
+    (between world.before.out world.after.out) (between world.before.err world.after.err))
+
+-- The text of the help was written and flushed, with status 0. Or else that failed: a first part of it was written, and
+-- `write failed` to standard error, with status 3.
+abbrev pub IsHelped : {O E : Type 0} → Writer O → Writer E → List ℕ → ℕ → BeforeAfter O → BeforeAfter E → Type 0
+IsHelped known errors text status out err =
+    ((status ≡ 0) × ((known.has_failed out.after ≡ false) × ((known.is_flushed out.after ≡ true)
+    × (Appends (known.contents out.before) (known.contents out.after) text × (err.after ≡ err.before)))))
+    ⊎ ((status ≡ 3) × ((known.has_failed out.after ≡ true)
+    × (IsPartWritten (known.contents out.before) (known.contents out.after) text × IsSaid errors (fault_text run.Write) err)))
+
+-- The text of the usage was written to standard error, with status 3.
+abbrev pub IsUsageTold : {O E : Type 0} → Writer E → List ℕ → ℕ → BeforeAfter O → BeforeAfter E → Type 0
+IsUsageTold errors text status out err = (status ≡ 3) × ((out.after ≡ out.before) × IsSaid errors text err)
+
+-- The program said why the command line has no request.
+abbrev pub IsLineRefused : {O E : Type 0} → Writer O → Writer E → LineFault → ℕ → BeforeAfter O → BeforeAfter E → Type 0
+IsLineRefused known errors (line.Help text) status out err = IsHelped known errors text status out err
+IsLineRefused known errors (line.Usage text) status out err = IsUsageTold errors text status out err
+IsLineRefused known errors line.Memory status out err = IsRefused errors [] Memory status out err
+
+-- The program answered what the command line was read as.
+abbrev pub IsLineAnswered : {F File I O E : Type 0} → Outside F File I O E → Result Request LineFault → ℕ → BeforeAfter (World F I O E) → Type 0
+IsLineAnswered known (Ok request) status world = IsDone known request status world
+IsLineAnswered known (Err fault) status world =
+    LeavesFiles world × (LeavesInput world
+    × IsLineRefused known.out known.err fault status (between world.before.out world.after.out) (between world.before.err world.after.err))
+
+-- If the words are an exact line of a request, this request was read, or else the program is out of memory.
+abbrev pub IsReadExactly : List (List ℕ) → Result Request LineFault → Type 0
+IsReadExactly words found = (request : Request) (name : List ℕ) → HasPlainWords request → words ≡ name ∷ words_of request
+    → MatchResult found (λ answer. answer ≡ request) (λ fault. fault ≡ line.Memory)
+
+-- Some line was read from the words, and the program answered it.
+pub record IsAnswered {F File I O E : Type 0} (known : Outside F File I O E) (words : List (List ℕ)) (status : ℕ) (world : BeforeAfter (World F I O E)) : Type 0 where
+  pub found : Result Request LineFault
+  pub exact : IsReadExactly words found
+  pub read : IsLineRead words found
+  pub answered : IsLineAnswered known found status world
+
+-- The words that the system gave, or why it gave none.
+abbrev pub words_given : {W : Type 0} → (W → List (List ℕ)) → Result W WorldFault → Result (List (List ℕ)) WorldFault
+words_given texts (Ok words) = Ok (texts words)
+words_given texts (Err fault) = Err fault
+
+-- What the program does: it answers the words of its command line. If it has none, since the system gave words that are
+-- not text or memory ran out, it says so.
+abbrev pub IsProgramRun : {F File I O E : Type 0} → Outside F File I O E → Result (List (List ℕ)) WorldFault → ℕ → BeforeAfter (World F I O E) → Type 0
+IsProgramRun known (Ok words) status world = IsAnswered known words status world
+IsProgramRun known (Err fault) status world =
+    LeavesFiles world × (LeavesInput world
+    × IsRefused known.err (codes "the arguments are not text") fault status (between world.before.out world.after.out) (between world.before.err world.after.err))

@@ -1,0 +1,207 @@
+ghost use Rattle.std.specs.Prelude.{◌≡◌, ◌++◌, ◌∷◌, [], Result, false};
+ghost use Rattle.std.specs.Option.{option_copied};
+ghost use Rattle.erd_program.specs.declared.files.WorldFault.{WorldFault};
+ghost use Rattle.erd_program.specs.Files.{AreFilesCompared, IsCanonAnswer, IsCheckAnswer, IsCompareAnswer, IsFileCanonicalised, IsFileChecked, IsInputCanonicalised};
+ghost use Rattle.erd_program.specs.World.{between, outside, reader, writer};
+
+use crate::files::Files;
+use crate::messages::{ended, refused};
+use crate::world::World;
+use erd_canon::{FileName, Sink, Source, run_canon_with, run_check_with, run_compare_with};
+use std::alloc::Global;
+
+// The line for a file that cannot be opened.
+const CANNOT_OPEN: &str = "cannot open\n";
+
+/// Writes the canonical form of standard input, with no preference.
+pub(crate) fn filter<F: Files, I: Source, O: Sink, E: Sink>(
+    alloc: Global,
+    world: &mut World<F, I, O, E>,
+) -> u8
+    requires input_works { I.has_failed world.old.input ≡ false }
+    requires out_works { O.has_failed world.old.out ≡ false }
+    requires err_works { E.has_failed world.old.err ≡ false }
+    ensures files { world.new.files ≡ world.old.files }
+    ensures done { IsInputCanonicalised (outside F.opened F.closed (reader F.File.remaining F.File.has_failed F.File.reads F.File.given)
+        (reader I.remaining I.has_failed I.reads I.given) (writer O.contents O.has_failed O.is_flushed O.flushes)
+        (writer E.contents E.has_failed E.is_flushed E.flushes))
+        result (between world.old.input world.new.input) (between world.old.out world.new.out)
+        (between world.old.err world.new.err) }
+{
+    let answer = run_canon_with(
+        alloc,
+        &mut world.input,
+        &mut world.out,
+        &mut world.err,
+        None,
+    );
+    ended(answer, &mut world.err)
+}
+
+/// Opens the file and checks it under the preference.
+pub(crate) fn check<F: Files, I: Source, O: Sink, E: Sink>(
+    alloc: Global,
+    world: &mut World<F, I, O, E>,
+    name: &FileName,
+    prefer: Option<&str>,
+) -> u8
+    requires out_works { O.has_failed world.old.out ≡ false }
+    requires err_works { E.has_failed world.old.err ≡ false }
+    ensures input { world.new.input ≡ world.old.input }
+    ensures done { (given : Result F.File WorldFault)
+        × (F.opened world.new.files ≡ F.opened world.old.files ++ (name.now, given) ∷ [])
+        × IsCheckAnswer (outside F.opened F.closed (reader F.File.remaining F.File.has_failed F.File.reads F.File.given)
+        (reader I.remaining I.has_failed I.reads I.given) (writer O.contents O.has_failed O.is_flushed O.flushes)
+        (writer E.contents E.has_failed E.is_flushed E.flushes))
+        (option_copied prefer.entry) name.now given result (between (F.closed world.old.files) (F.closed world.new.files))
+        (between world.old.out world.new.out) (between world.old.err world.new.err) }
+{
+    match world.files.open(name) {
+        Ok(file) => check_file(alloc, world, name, file, prefer),
+        Err(fault) => refused(fault, CANNOT_OPEN, &mut world.err),
+    }
+}
+
+// Checks the open file and closes it.
+fn check_file<F: Files, I: Source, O: Sink, E: Sink>(
+    alloc: Global,
+    world: &mut World<F, I, O, E>,
+    name: &FileName,
+    mut file: F::File,
+    prefer: Option<&str>,
+) -> u8
+    requires file_works { F.File.has_failed file ≡ false }
+    requires out_works { O.has_failed world.old.out ≡ false }
+    requires err_works { E.has_failed world.old.err ≡ false }
+    ensures input { world.new.input ≡ world.old.input }
+    ensures opened { F.opened world.new.files ≡ F.opened world.old.files }
+    ensures done { IsFileChecked (outside F.opened F.closed (reader F.File.remaining F.File.has_failed F.File.reads F.File.given)
+        (reader I.remaining I.has_failed I.reads I.given) (writer O.contents O.has_failed O.is_flushed O.flushes)
+        (writer E.contents E.has_failed E.is_flushed E.flushes))
+        (option_copied prefer.entry) name.now file result (between (F.closed world.old.files) (F.closed world.new.files))
+        (between world.old.out world.new.out) (between world.old.err world.new.err) }
+{
+    let answer = run_check_with(alloc, &mut file, &mut world.out, prefer);
+    world.files.close(name, file);
+    ended(answer, &mut world.err)
+}
+
+/// Opens the file and writes its canonical form under the preference.
+pub(crate) fn canon<F: Files, I: Source, O: Sink, E: Sink>(
+    alloc: Global,
+    world: &mut World<F, I, O, E>,
+    name: &FileName,
+    prefer: Option<&str>,
+) -> u8
+    requires out_works { O.has_failed world.old.out ≡ false }
+    requires err_works { E.has_failed world.old.err ≡ false }
+    ensures input { world.new.input ≡ world.old.input }
+    ensures done { (given : Result F.File WorldFault)
+        × (F.opened world.new.files ≡ F.opened world.old.files ++ (name.now, given) ∷ [])
+        × IsCanonAnswer (outside F.opened F.closed (reader F.File.remaining F.File.has_failed F.File.reads F.File.given)
+        (reader I.remaining I.has_failed I.reads I.given) (writer O.contents O.has_failed O.is_flushed O.flushes)
+        (writer E.contents E.has_failed E.is_flushed E.flushes))
+        (option_copied prefer.entry) name.now given result (between (F.closed world.old.files) (F.closed world.new.files))
+        (between world.old.out world.new.out) (between world.old.err world.new.err) }
+{
+    match world.files.open(name) {
+        Ok(file) => canon_file(alloc, world, name, file, prefer),
+        Err(fault) => refused(fault, CANNOT_OPEN, &mut world.err),
+    }
+}
+
+// Writes the canonical form of the open file and closes it.
+fn canon_file<F: Files, I: Source, O: Sink, E: Sink>(
+    alloc: Global,
+    world: &mut World<F, I, O, E>,
+    name: &FileName,
+    mut file: F::File,
+    prefer: Option<&str>,
+) -> u8
+    requires file_works { F.File.has_failed file ≡ false }
+    requires out_works { O.has_failed world.old.out ≡ false }
+    requires err_works { E.has_failed world.old.err ≡ false }
+    ensures input { world.new.input ≡ world.old.input }
+    ensures opened { F.opened world.new.files ≡ F.opened world.old.files }
+    ensures done { IsFileCanonicalised (outside F.opened F.closed (reader F.File.remaining F.File.has_failed F.File.reads F.File.given)
+        (reader I.remaining I.has_failed I.reads I.given) (writer O.contents O.has_failed O.is_flushed O.flushes)
+        (writer E.contents E.has_failed E.is_flushed E.flushes))
+        (option_copied prefer.entry) name.now file result (between (F.closed world.old.files) (F.closed world.new.files))
+        (between world.old.out world.new.out) (between world.old.err world.new.err) }
+{
+    let answer = run_canon_with(alloc, &mut file, &mut world.out, &mut world.err, prefer);
+    world.files.close(name, file);
+    ended(answer, &mut world.err)
+}
+
+/// Opens both files and then compares them under the preference.
+pub(crate) fn compare<F: Files, I: Source, O: Sink, E: Sink>(
+    alloc: Global,
+    world: &mut World<F, I, O, E>,
+    left: &FileName,
+    right: &FileName,
+    prefer: Option<&str>,
+) -> u8
+    requires out_works { O.has_failed world.old.out ≡ false }
+    requires err_works { E.has_failed world.old.err ≡ false }
+    ensures input { world.new.input ≡ world.old.input }
+    ensures done { (a b : Result F.File WorldFault)
+        × (F.opened world.new.files ≡ F.opened world.old.files ++ (left.now, a) ∷ (right.now, b) ∷ [])
+        × IsCompareAnswer (outside F.opened F.closed (reader F.File.remaining F.File.has_failed F.File.reads F.File.given)
+        (reader I.remaining I.has_failed I.reads I.given) (writer O.contents O.has_failed O.is_flushed O.flushes)
+        (writer E.contents E.has_failed E.is_flushed E.flushes))
+        (option_copied prefer.entry) left.now right.now a b result (between (F.closed world.old.files)
+        (F.closed world.new.files)) (between world.old.out world.new.out) (between world.old.err world.new.err) }
+{
+    let left_file = world.files.open(left);
+    let right_file = world.files.open(right);
+    match (left_file, right_file) {
+        (Ok(left_file), Ok(right_file)) => {
+            compare_files(alloc, world, (left, left_file), (right, right_file), prefer)
+        }
+        (Ok(left_file), Err(fault)) => {
+            world.files.close(left, left_file);
+            refused(fault, CANNOT_OPEN, &mut world.err)
+        }
+        (Err(fault), Ok(right_file)) => {
+            world.files.close(right, right_file);
+            refused(fault, CANNOT_OPEN, &mut world.err)
+        }
+        (Err(fault), Err(_)) => refused(fault, CANNOT_OPEN, &mut world.err),
+    }
+}
+
+// Compares the open files and closes them. Each comes with its name.
+fn compare_files<F: Files, I: Source, O: Sink, E: Sink>(
+    alloc: Global,
+    world: &mut World<F, I, O, E>,
+    left: (&FileName, F::File),
+    right: (&FileName, F::File),
+    prefer: Option<&str>,
+) -> u8
+    requires left_works { F.File.has_failed left.1 ≡ false }
+    requires right_works { F.File.has_failed right.1 ≡ false }
+    requires out_works { O.has_failed world.old.out ≡ false }
+    requires err_works { E.has_failed world.old.err ≡ false }
+    ensures input { world.new.input ≡ world.old.input }
+    ensures opened { F.opened world.new.files ≡ F.opened world.old.files }
+    ensures done { AreFilesCompared (outside F.opened F.closed (reader F.File.remaining F.File.has_failed F.File.reads F.File.given)
+        (reader I.remaining I.has_failed I.reads I.given) (writer O.contents O.has_failed O.is_flushed O.flushes)
+        (writer E.contents E.has_failed E.is_flushed E.flushes))
+        (option_copied prefer.entry) left.entry.0.now right.entry.0.now left.entry.1 right.entry.1
+        result (between (F.closed world.old.files) (F.closed world.new.files)) (between world.old.out world.new.out)
+        (between world.old.err world.new.err) }
+{
+    let (left_name, mut left_file) = left;
+    let (right_name, mut right_file) = right;
+    let answer = run_compare_with(
+        alloc,
+        &mut left_file,
+        &mut right_file,
+        &mut world.out,
+        prefer,
+    );
+    world.files.close(left_name, left_file);
+    world.files.close(right_name, right_file);
+    ended(answer, &mut world.err)
+}

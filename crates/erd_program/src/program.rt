@@ -1,0 +1,127 @@
+ghost use Rattle.std.specs.Prelude.{◌≡◌, ◌∷◌, [], map, string_bytes, OnOk, OnErr, false, true};
+ghost use Rattle.std.specs.Io.KnownBytes.{Appends};
+ghost use Rattle.erd_canon.specs.Writing.{IsPartWritten};
+ghost use Rattle.erd_program.specs.Messages.{IsSaid};
+ghost use Rattle.erd_program.specs.Program.{IsAnswered, IsDone, IsHelped, IsLineRefused, IsProgramRun, words_given};
+ghost use Rattle.erd_program.specs.World.{between, outside, reader, writer};
+
+use crate::commands::{canon, check, compare, filter};
+use crate::files::{Files, WorldFault};
+use crate::messages::{ended, refused, say};
+use crate::world::World;
+use erd_canon::{Failed, LineFault, Request, RunFault, Sink, Source, command_line, write_out};
+use std::alloc::Global;
+
+// The exit status for wrong arguments.
+const WRONG: u8 = 3;
+
+/// Runs the program on the words of its command line, and returns its exit status. The first word is the program's name.
+///
+/// The words are parsed by `command_line`. Standard input is read only if they ask for nothing else. The files that they
+/// name are opened in the order of the words, both before either is read, and closed before the program ends. The streams
+/// must not have failed before.
+pub fn run_program<F: Files, I: Source, O: Sink, E: Sink>(
+    alloc: Global,
+    words: Result<Vec<String>, WorldFault>,
+    world: &mut World<F, I, O, E>,
+) -> u8
+    requires input_works { I.has_failed world.old.input ≡ false }
+    requires out_works { O.has_failed world.old.out ≡ false }
+    requires err_works { E.has_failed world.old.err ≡ false }
+    ensures { IsProgramRun (outside F.opened F.closed (reader F.File.remaining F.File.has_failed F.File.reads F.File.given)
+        (reader I.remaining I.has_failed I.reads I.given) (writer O.contents O.has_failed O.is_flushed O.flushes)
+        (writer E.contents E.has_failed E.is_flushed E.flushes))
+        (words_given (λ all. map string_bytes all.items) words) result (between world.old world.new) }
+{
+    match words {
+        Ok(words) => answered(alloc, words.as_slice(), world),
+        Err(fault) => refused(fault, "the arguments are not text\n", &mut world.err),
+    }
+}
+
+// Parses the words as a command line, and does what it asks for.
+fn answered<F: Files, I: Source, O: Sink, E: Sink>(
+    alloc: Global,
+    words: &[String],
+    world: &mut World<F, I, O, E>,
+) -> u8
+    requires input_works { I.has_failed world.old.input ≡ false }
+    requires out_works { O.has_failed world.old.out ≡ false }
+    requires err_works { E.has_failed world.old.err ≡ false }
+    ensures { IsAnswered (outside F.opened F.closed (reader F.File.remaining F.File.has_failed F.File.reads F.File.given)
+        (reader I.remaining I.has_failed I.reads I.given) (writer O.contents O.has_failed O.is_flushed O.flushes)
+        (writer E.contents E.has_failed E.is_flushed E.flushes))
+        (map string_bytes words.now) result (between world.old world.new) }
+{
+    match command_line(alloc, words) {
+        Ok(request) => done(alloc, world, &request),
+        Err(fault) => line_refused(fault, &mut world.out, &mut world.err),
+    }
+}
+
+// Does what the request asks for.
+fn done<F: Files, I: Source, O: Sink, E: Sink>(
+    alloc: Global,
+    world: &mut World<F, I, O, E>,
+    request: &Request,
+) -> u8
+    requires input_works { I.has_failed world.old.input ≡ false }
+    requires out_works { O.has_failed world.old.out ≡ false }
+    requires err_works { E.has_failed world.old.err ≡ false }
+    ensures { IsDone (outside F.opened F.closed (reader F.File.remaining F.File.has_failed F.File.reads F.File.given)
+        (reader I.remaining I.has_failed I.reads I.given) (writer O.contents O.has_failed O.is_flushed O.flushes)
+        (writer E.contents E.has_failed E.is_flushed E.flushes))
+        request.now result (between world.old world.new) }
+{
+    match request {
+        Request::Filter => filter(alloc, world),
+        Request::Check(name, prefer) => check(alloc, world, name, prefer.text()),
+        Request::Canon(name, prefer) => canon(alloc, world, name, prefer.text()),
+        Request::Compare(left, right, prefer) => {
+            compare(alloc, world, left, right, prefer.text())
+        }
+    }
+}
+
+// Says why the command line has no request, and returns the exit status.
+fn line_refused<O: Sink, E: Sink>(fault: LineFault, out: &mut O, err: &mut E) -> u8
+    requires out_works { O.has_failed out.old ≡ false }
+    ensures { IsLineRefused (writer O.contents O.has_failed O.is_flushed O.flushes)
+        (writer E.contents E.has_failed E.is_flushed E.flushes)
+        fault result (between out.old out.new) (between err.old err.new) }
+{
+    match fault {
+        LineFault::Help(text) => help(text.as_str(), out, err),
+        LineFault::Usage(text) => {
+            say(err, text.as_str());
+            WRONG
+        }
+        LineFault::Memory => ended(Err(RunFault::Memory), err),
+    }
+}
+
+// Writes the help text to standard output, and returns the exit status.
+fn help<O: Sink, E: Sink>(text: &str, out: &mut O, err: &mut E) -> u8
+    requires out_works { O.has_failed out.old ≡ false }
+    ensures { IsHelped (writer O.contents O.has_failed O.is_flushed O.flushes)
+        (writer E.contents E.has_failed E.is_flushed E.flushes)
+        text.now result (between out.old out.new) (between err.old err.new) }
+{
+    match write_and_flush(out, text.as_bytes()) {
+        Ok(()) => 0,
+        Err(_) => ended(Err(RunFault::Write), err),
+    }
+}
+
+// Writes the text and flushes.
+fn write_and_flush<O: Sink>(out: &mut O, text: &[u8]) -> Result<(), Failed>
+    requires { O.has_failed out.old ≡ false }
+    ensures works { OnOk result (O.has_failed out.new ≡ false) }
+    ensures flushed { OnOk result (O.is_flushed out.new ≡ true) }
+    ensures written { OnOk result (Appends (O.contents out.old) (O.contents out.new) text.now) }
+    ensures failed { OnErr result (O.has_failed out.new ≡ true) }
+    ensures part { IsPartWritten (O.contents out.old) (O.contents out.new) text.now }
+{
+    write_out(out, text)?;
+    out.flush()
+}

@@ -1,0 +1,238 @@
+//! Rows of the first phase: faults of the shape, and what is no JSON.
+use crate::tests::answers::{ACCEPTED, NOT_JSON};
+use crate::tests::edits::Base;
+use crate::tests::rows::{Row, Told};
+use crate::tests::vectors::{ELECTION, THREE_SHAPE_FAULT_EDITS, THREE_SHAPE_FAULT_LINES};
+use Told::Lines;
+
+pub const OF_THE_SHAPE: &[Row] = &[
+    ("not_json", None, (Base::Text(""), &[]), Lines(NOT_JSON)),
+    (
+        "not_json",
+        None,
+        (Base::OneUnit, &[(r#""u7"}]}"#, r#""u7"}]"#)]),
+        Lines(NOT_JSON),
+    ),
+    (
+        "more_than_a_report",
+        None,
+        (Base::OneUnit, &[(r#""u7"}]}"#, r#""u7"}]}}"#)]),
+        Lines(NOT_JSON),
+    ),
+    (
+        "more_than_a_report",
+        None,
+        (Base::OneUnit, &[(r#"{"@type""#, "\u{feff}{\"@type\"")]),
+        Lines(NOT_JSON),
+    ),
+    (
+        "more_than_a_report",
+        None,
+        (Base::OneUnit, &[(r#""u7"}]}"#, "\"u7\"}]}\n")]),
+        Lines(ACCEPTED),
+    ),
+    (
+        "three_shape_faults",
+        None,
+        (Base::SmallBallot, THREE_SHAPE_FAULT_EDITS),
+        Lines(THREE_SHAPE_FAULT_LINES),
+    ),
+    (
+        "outside_members",
+        None,
+        (
+            Base::SmallBallot,
+            &[(r#""@id":"a9","#, r#""@id":"a9","VoteCounts":[{}],"#)],
+        ),
+        Lines("/Election/0/Contest/0/ContestSelection/0/VoteCounts: outside the profile\n"),
+    ),
+    (
+        "outside_members",
+        None,
+        (Base::OneUnit, &[("{", r#"{"a/b~c":1.5,"#)]),
+        Lines("/a~1b~0c: not a whole number\n"),
+    ),
+    (
+        "root_kinds",
+        None,
+        (Base::Text("[]"), &[]),
+        Lines(": wrong kind\n"),
+    ),
+    (
+        "root_kinds",
+        None,
+        (Base::Text("{}"), &[]),
+        Lines(": missing member @type\n"),
+    ),
+    (
+        "root_kinds",
+        None,
+        (Base::Text(r#"{"@type":"%ElectionReport"}"#), &[]),
+        Lines(": missing member Election\n: missing member Status\n"),
+    ),
+    (
+        "reporting_device",
+        None,
+        (Base::OneUnit, &[("%ReportingUnit", "%ReportingDevice")]),
+        Lines("/GpUnit/0/@type: wrong class\n"),
+    ),
+    (
+        "status_and_election_count",
+        None,
+        (Base::OneUnit, &[("pre-election", "certified")]),
+        Lines("/Status: not pre-election\n"),
+    ),
+    (
+        "status_and_election_count",
+        None,
+        (Base::OneUnit, &[(ELECTION, "")]),
+        Lines("/Election: wrong number of elections\n"),
+    ),
+    (
+        "empty_and_repeated",
+        None,
+        (
+            Base::SmallBallot,
+            &[(r#""GpUnitIds":["a2"]"#, r#""GpUnitIds":[]"#)],
+        ),
+        Lines("/Election/0/BallotStyle/0/GpUnitIds: empty array\n"),
+    ),
+    (
+        "empty_and_repeated",
+        None,
+        (
+            Base::SmallBallot,
+            &[(r#""GpUnitIds":["a2"]"#, r#""GpUnitIds":["a2","a2"]"#)],
+        ),
+        Lines("/Election/0/BallotStyle/0/GpUnitIds/1: repeated\n"),
+    ),
+    (
+        "empty_and_repeated",
+        None,
+        (
+            Base::OneUnit,
+            &[(
+                "#U1&",
+                r#""ExternalIdentifier":[{"@type":"%ExternalIdentifier","Type":"local-level","Value":"U1"},{"@type":"%ExternalIdentifier","Type":"local-level","Value":"U1"}]"#,
+            )],
+        ),
+        Lines("/GpUnit/0/ExternalIdentifier/1: repeated\n"),
+    ),
+    (
+        "identity_where_none_belongs",
+        None,
+        (Base::OneUnit, &[("{", r#"{"FooId":"u7","#)]),
+        Lines("/FooId: unknown reference\n"),
+    ),
+    (
+        "identity_where_none_belongs",
+        None,
+        (
+            Base::OneUnit,
+            &[(
+                r#""@id":"u7","#,
+                r#""@id":"u7","ContactInformation":{"OwnerIds":["u7"]},"#,
+            )],
+        ),
+        Lines("/GpUnit/0/ContactInformation/OwnerIds: carried identity\n"),
+    ),
+    (
+        "identity_where_none_belongs",
+        None,
+        (
+            Base::OneUnit,
+            &[(
+                r#"{"@type":"%Election","#,
+                r#"{"@id":"e","@type":"%Election","#,
+            )],
+        ),
+        Lines("/Election/0/@id: carried identity\n"),
+    ),
+    (
+        "carried_identity",
+        None,
+        (
+            Base::OneUnit,
+            &[(
+                r#""@id":"u7","#,
+                r#""@id":"u7","ContactInformation":{"a":[{"@id":"x"}]},"#,
+            )],
+        ),
+        Lines("/GpUnit/0/ContactInformation/a/0/@id: carried identity\n"),
+    ),
+    (
+        "required_members",
+        None,
+        (Base::OneUnit, &[(r#","Value":"U1""#, "")]),
+        Lines("/GpUnit/0/ExternalIdentifier/0: missing member Value\n"),
+    ),
+    (
+        "required_members",
+        None,
+        (
+            Base::OneUnit,
+            &[(
+                r#""Name":"Test""#,
+                r#""Name":{"@type":"%InternationalizedText","Text":[]}"#,
+            )],
+        ),
+        Lines("/Election/0/Name/Text: empty array\n"),
+    ),
+    (
+        "whole_numbers",
+        None,
+        (
+            Base::SmallBallot,
+            &[(r#""VotesAllowed":1"#, r#""VotesAllowed":1.5"#)],
+        ),
+        Lines("/Election/0/Contest/0/VotesAllowed: not a whole number\n"),
+    ),
+    (
+        "largest_numbers",
+        None,
+        (Base::OneUnit, &[("{", r#"{"Big":18446744073709551615,"#)]),
+        Lines(ACCEPTED),
+    ),
+    (
+        "largest_numbers",
+        None,
+        (Base::OneUnit, &[("{", r#"{"Big":18446744073709551616,"#)]),
+        Lines("/Big: not a whole number\n"),
+    ),
+    (
+        "largest_numbers",
+        None,
+        (Base::OneUnit, &[("{", r#"{"Big":-9223372036854775808,"#)]),
+        Lines(ACCEPTED),
+    ),
+    (
+        "largest_numbers",
+        None,
+        (Base::OneUnit, &[("{", r#"{"Big":-9223372036854775809,"#)]),
+        Lines("/Big: not a whole number\n"),
+    ),
+    (
+        "deepest_nesting",
+        None,
+        (
+            Base::OneUnit,
+            &[(
+                "{",
+                "{\"Depth\":[[[[[[[[[[[[[[[[[[[[[[[[[[[[[[[[[[[[[[[[[[[[[[[[[[[[[[[[[[[[[[[[[[[[[[[[[[[[[[[[[[[[[[[[[[[[[[[[[[[[[[[[[[[[[[[[[[[[[[[[[[[[[[]]]]]]]]]]]]]]]]]]]]]]]]]]]]]]]]]]]]]]]]]]]]]]]]]]]]]]]]]]]]]]]]]]]]]]]]]]]]]]]]]]]]]]]]]]]]]]]]]]]]]]]]]]]]]]]]]]]]]]]]]]]]]],",
+            )],
+        ),
+        Lines(ACCEPTED),
+    ),
+    (
+        "deepest_nesting",
+        None,
+        (
+            Base::OneUnit,
+            &[(
+                "{",
+                "{\"Depth\":[[[[[[[[[[[[[[[[[[[[[[[[[[[[[[[[[[[[[[[[[[[[[[[[[[[[[[[[[[[[[[[[[[[[[[[[[[[[[[[[[[[[[[[[[[[[[[[[[[[[[[[[[[[[[[[[[[[[[[[[[[[[[[[]]]]]]]]]]]]]]]]]]]]]]]]]]]]]]]]]]]]]]]]]]]]]]]]]]]]]]]]]]]]]]]]]]]]]]]]]]]]]]]]]]]]]]]]]]]]]]]]]]]]]]]]]]]]]]]]]]]]]]]]]]]]]]],",
+            )],
+        ),
+        Lines(NOT_JSON),
+    ),
+];

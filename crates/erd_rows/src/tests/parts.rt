@@ -1,0 +1,140 @@
+//! Calls on parts of reports, with each request for memory refused in turn.
+use crate::tests::answers::{Answer, has_text, right_if};
+use crate::tests::keys::key;
+use crate::tests::refusing::each_refused;
+use crate::tests::vectors::SMALL_BALLOT;
+use erd_check::ValueSet;
+use erd_check::path::{Path, push_fault};
+use erd_meaning::{Key, key_of};
+use erd_normal::{CompactText, in_order};
+use erd_tables::{Place, Reason, Step, Text, pointer};
+use serde_json::Value;
+use std::alloc::{AllocError, Global};
+use std::test::Fail;
+
+#[test]
+fn refused_pointer(rt: HostRuntime) -> Result<(), Fail> {
+    let alloc = rt.alloc();
+    let name = Text::of(String::from_str(alloc, "GpUnit")?);
+    let place = Place::of(vec![in alloc; Step::Name(name), Step::At(10)]?);
+    each_refused(alloc, "pointer", |alloc| {
+        has_text(pointer(alloc, &place), "/GpUnit/10")
+    })
+}
+
+// Whether a fault is added to a list, or the list is unchanged.
+fn pushed(alloc: Global) -> Answer {
+    let mut list = Vec::new(alloc);
+    let path = Path::Entry(&Path::Member(&Path::Root, "GpUnit"), 10);
+    match push_fault(alloc, &path, Reason::WrongKind, &mut list) {
+        Ok(()) => right_if(list.len() == 1),
+        Err(_) if list.is_empty() => Answer::WantsMemory,
+        Err(_) => Answer::Wrong,
+    }
+}
+
+#[test]
+fn refused_push_fault(rt: HostRuntime) -> Result<(), Fail> {
+    each_refused(rt.alloc(), "push_fault", pushed)
+}
+
+// Whether the copy of the key is equal to it.
+fn copied(alloc: Global, key: &Key) -> Answer {
+    match key.try_clone(alloc) {
+        Ok(copy) => right_if(copy == *key),
+        Err(_) => Answer::WantsMemory,
+    }
+}
+
+// Whether the object has this key.
+fn keyed(alloc: Global, object: &Value, wanted: &Key) -> Answer {
+    match key_of(alloc, object, None) {
+        Ok(Some(found)) => right_if(found == *wanted),
+        Ok(None) => Answer::Wrong,
+        Err(_) => Answer::WantsMemory,
+    }
+}
+
+#[test]
+fn refused_keys(rt: HostRuntime) -> Result<(), Fail> {
+    let alloc = rt.alloc();
+    let object = Value::from_str(
+        alloc,
+        r#"{"ExternalIdentifier":[{"Type":"b","OtherType":"","Value":"1"}]}"#,
+    )?;
+    let wanted = key(alloc, "b", "", "1")?;
+    each_refused(alloc, "try_clone", |alloc| copied(alloc, &wanted))?;
+    each_refused(alloc, "key_of", |alloc| keyed(alloc, &object, &wanted))
+}
+
+// Whether the keys are sorted, each with its number.
+fn sorted(alloc: Global, low: &Key, high: &Key) -> Result<bool, AllocError> {
+    let mut pairs = Vec::new(alloc);
+    pairs.push((high.try_clone(alloc)?, 1usize))?;
+    pairs.push((low.try_clone(alloc)?, 2))?;
+    pairs.push((high.try_clone(alloc)?, 3))?;
+    let pairs = in_order(alloc, pairs)?;
+    let numbers = [2usize, 1, 3];
+    Ok(pairs.iter().map(|it| it.1).eq(numbers.iter().copied()))
+}
+
+#[test]
+fn refused_order(rt: HostRuntime) -> Result<(), Fail> {
+    let alloc = rt.alloc();
+    let low = key(alloc, "a", "", "2")?;
+    let high = key(alloc, "b", "", "1")?;
+    each_refused(
+        alloc,
+        "in_order",
+        |alloc| match sorted(alloc, &low, &high) {
+            Ok(is_right) => right_if(is_right),
+            Err(_) => Answer::WantsMemory,
+        },
+    )
+}
+
+// Whether the set of the entries has the entry, which is one of them.
+fn has_entry(alloc: Global, entries: &[Value], entry: &Value) -> Answer {
+    match ValueSet::of(alloc, entries) {
+        Ok(set) => right_if(set.has(entry)),
+        Err(_) => Answer::WantsMemory,
+    }
+}
+
+// Whether the set has the entry, or is unchanged.
+fn inserted(alloc: Global, entry: &Value) -> Answer {
+    let mut set = ValueSet::new(alloc);
+    match set.insert(entry) {
+        Ok(()) => right_if(set.has(entry)),
+        Err(_) if set.has(entry) => Answer::Wrong,
+        Err(_) => Answer::WantsMemory,
+    }
+}
+
+// Whether the value has this compact text.
+fn compact(alloc: Global, value: &Value, wanted: &CompactText) -> Answer {
+    match CompactText::of(alloc, value) {
+        Ok(text) => right_if(text == *wanted),
+        Err(_) => Answer::WantsMemory,
+    }
+}
+
+#[test]
+fn refused_values(rt: HostRuntime) -> Result<(), Fail> {
+    let alloc = rt.alloc();
+    let value = Value::from_str(alloc, SMALL_BALLOT)?;
+    let mut entries = Vec::new(alloc);
+    for text in ["1", SMALL_BALLOT] {
+        entries.push(Value::from_str(alloc, text)?)?;
+    }
+    each_refused(alloc, "ValueSet::of", |alloc| {
+        has_entry(alloc, entries.as_slice(), &value)
+    })?;
+    each_refused(alloc, "ValueSet::insert", |alloc| inserted(alloc, &value))?;
+    let wanted = CompactText::of(alloc, &value)?;
+    each_refused(
+        alloc,
+        "CompactText::of",
+        |alloc| compact(alloc, &value, &wanted),
+    )
+}

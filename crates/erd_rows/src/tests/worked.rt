@@ -1,0 +1,266 @@
+//! The worked rows, by their tables, and rows that are made here. Some are tried with each request for memory refused.
+use crate::tests::answers::{Answer, NOT_JSON};
+use crate::tests::canonical_rows::OF_FORMS;
+use crate::tests::checked_rows::OF_THE_SHAPE;
+use crate::tests::compared_rows::OF_DIFFERENCES;
+use crate::tests::edits::{Base, edited, made, spelled};
+use crate::tests::election_rows::OF_ELECTIONS;
+use crate::tests::later_rows::OF_LATER_PHASES;
+use crate::tests::preferred_rows::OF_PREFERENCES;
+use crate::tests::report_calls::{Asked, ReportCall, report_answer};
+use crate::tests::rows::{all_hold, form_is, is_itself, taking, tell};
+use crate::tests::runs::PLAIN;
+use crate::tests::vectors::{ONE_UNIT, SMALL_BALLOT, SMALL_BALLOT_CANONICAL};
+use std::alloc::{AllocError, Global};
+use std::test::Fail;
+
+// Each table has a function of its own, so that what is proved of one does not hold the rows of another.
+fn of_the_shape(alloc: Global, name: Option<&str>) -> Result<(), Fail> {
+    all_hold(alloc, OF_THE_SHAPE, name)
+}
+
+fn of_later_phases(alloc: Global, name: Option<&str>) -> Result<(), Fail> {
+    all_hold(alloc, OF_LATER_PHASES, name)
+}
+
+fn of_forms(alloc: Global, name: Option<&str>) -> Result<(), Fail> {
+    all_hold(alloc, OF_FORMS, name)
+}
+
+fn of_differences(alloc: Global, name: Option<&str>) -> Result<(), Fail> {
+    all_hold(alloc, OF_DIFFERENCES, name)
+}
+
+fn of_preferences(alloc: Global, name: Option<&str>) -> Result<(), Fail> {
+    all_hold(alloc, OF_PREFERENCES, name)
+}
+
+fn of_elections(alloc: Global, name: Option<&str>) -> Result<(), Fail> {
+    all_hold(alloc, OF_ELECTIONS, name)
+}
+
+// Tries each call on each row of this name, or on each row where there is no name.
+fn of_each_table(alloc: Global, name: Option<&str>) -> Result<(), Fail> {
+    of_the_shape(alloc, name)?;
+    of_later_phases(alloc, name)?;
+    of_forms(alloc, name)?;
+    of_differences(alloc, name)?;
+    of_preferences(alloc, name)?;
+    of_elections(alloc, name)
+}
+
+#[test]
+fn worked_rows(rt: HostRuntime) -> Result<(), Fail> {
+    of_each_table(rt.alloc(), None)
+}
+
+// Tries each call on each row of these names.
+fn rows_named(alloc: Global, names: &[&str]) -> Result<(), Fail> {
+    for name in names {
+        of_each_table(alloc, Some(*name))?;
+    }
+    Ok(())
+}
+
+#[test]
+fn refused_two_vendors(rt: HostRuntime) -> Result<(), Fail> {
+    rows_named(rt.alloc(), &["two_vendors", "one_unit"])
+}
+
+#[test]
+fn refused_shape(rt: HostRuntime) -> Result<(), Fail> {
+    rows_named(rt.alloc(), &["three_shape_faults", "not_json"])
+}
+
+#[test]
+fn refused_later_phases(rt: HostRuntime) -> Result<(), Fail> {
+    let names = [
+        "twin_unit_key",
+        "wrong_and_unresolved_reference",
+        "write_in_lines",
+    ];
+    rows_named(rt.alloc(), &names)
+}
+
+#[test]
+fn refused_difference(rt: HostRuntime) -> Result<(), Fail> {
+    rows_named(rt.alloc(), &["other_candidate_key"])
+}
+
+#[test]
+fn refused_preferences(rt: HostRuntime) -> Result<(), Fail> {
+    of_preferences(rt.alloc(), None)
+}
+
+#[test]
+fn refused_elections(rt: HostRuntime) -> Result<(), Fail> {
+    let names = [
+        "contests_of_two_elections",
+        "contest_moved_to_another_election",
+    ];
+    rows_named(rt.alloc(), &names)
+}
+
+// The byte FF occurs in no UTF-8 text.
+#[test]
+fn not_text(rt: HostRuntime) -> Result<(), Fail> {
+    let asked = Asked {
+        report: b"\xff",
+        lines: NOT_JSON,
+        form: "",
+        under: taking(None),
+    };
+    tell(rt.alloc(), "not_text", asked)
+}
+
+// The bytes are not JSON. This asks only `check_bytes`, which is the fastest call.
+fn is_no_json(alloc: Global, report: &[u8]) -> bool {
+    let asked = Asked {
+        report,
+        lines: NOT_JSON,
+        form: "",
+        under: PLAIN,
+    };
+    report_answer(alloc, ReportCall::CheckBytes, &asked) == Answer::Right
+}
+
+// A report cut short at any byte.
+#[test]
+fn cut_short(rt: HostRuntime) -> Result<(), Fail> {
+    let mut rest = SMALL_BALLOT.as_bytes();
+    for _ in 0..rest.len() {
+        let (_, shorter) = rest.split_last().ok_or("no bytes")?;
+        let length = shorter.len();
+        assert!(rt; is_no_json(rt.alloc(), shorter), "cut at {length}");
+        rest = shorter;
+    }
+    Ok(())
+}
+
+// A report with any byte replaced by FF.
+#[test]
+fn a_byte_of_no_text(rt: HostRuntime) -> Result<(), Fail> {
+    let mut report = ONE_UNIT.as_bytes().to_vec(rt.alloc())?;
+    for index in 0..report.len() {
+        let own = report[index];
+        report[index] = b'\xff';
+        assert!(rt; is_no_json(rt.alloc(), report.as_slice()), "at {index}");
+        report[index] = own;
+    }
+    Ok(())
+}
+
+// The candidates of the small ballot, and the selections of its first contest.
+const CANDIDATES: [&str; 3] = [
+    r#"{"@id":"a7","@type":"%Candidate",#K3&,"BallotName":"Cy","PartyId":"a3"}"#,
+    r#"{"@id":"a5","@type":"%Candidate",#K1&,"BallotName":"Ann","PersonId":"a16"}"#,
+    r#"{"@id":"a6","@type":"%Candidate",#K2&,"BallotName":"Bo"}"#,
+];
+
+const SELECTIONS: [&str; 3] = [
+    r#"{"@id":"a9","@type":"%CandidateSelection","CandidateIds":["a6","a5"]}"#,
+    r#"{"@id":"a10","@type":"%CandidateSelection","CandidateIds":["a7"]}"#,
+    r#"{"@id":"a11","@type":"%CandidateSelection","IsWriteIn":true}"#,
+];
+
+// All orders of three positions.
+pub const ORDERS: [[usize; 3]; 6] = [
+    [0, 1, 2],
+    [0, 2, 1],
+    [1, 0, 2],
+    [1, 2, 0],
+    [2, 0, 1],
+    [2, 1, 0],
+];
+
+// The texts in this order, joined with commas.
+fn joined(alloc: Global, texts: &[&str], order: &[usize]) -> Result<String, AllocError> {
+    let mut whole = String::new(alloc);
+    for position in order {
+        if !whole.is_empty() {
+            whole.push(',')?;
+        }
+        whole.push_str(texts.get(*position).copied().unwrap_or(""))?;
+    }
+    spelled(alloc, whole.as_str())
+}
+
+#[test]
+fn every_order_of_candidates_and_selections(rt: HostRuntime) -> Result<(), Fail> {
+    let alloc = rt.alloc();
+    let own_candidates = joined(alloc, &CANDIDATES, &ORDERS[0])?;
+    let own_selections = joined(alloc, &SELECTIONS, &ORDERS[0])?;
+    for order in ORDERS {
+        let candidates = joined(alloc, &CANDIDATES, &order)?;
+        let report = edited(
+            alloc,
+            SMALL_BALLOT,
+            own_candidates.as_str(),
+            candidates.as_str(),
+        )?;
+        for order in ORDERS {
+            let selections = joined(alloc, &SELECTIONS, &order)?;
+            let report = edited(
+                alloc,
+                report.as_str(),
+                own_selections.as_str(),
+                selections.as_str(),
+            )?;
+            form_is(
+                alloc,
+                "orders",
+                None,
+                report.as_str(),
+                SMALL_BALLOT_CANONICAL,
+            )?;
+        }
+    }
+    Ok(())
+}
+
+// Adds two thousand units, the j-th with the value N and 10,000 - j, so that the last of the input is the first of the
+// canonical form.
+#[test]
+fn two_thousand_units(rt: HostRuntime) -> Result<(), Fail> {
+    let alloc = rt.alloc();
+    let mut units = String::new(alloc);
+    let mut forms = String::new(alloc);
+    for number in 1..2001usize {
+        let value = 10_000 - number;
+        let unit = format!(in alloc;
+            ",{{\"@id\":\"w{number}\",\"@type\":\"%ReportingUnit\",\"Type\":\"county\",#N{value}&}}"
+        )?;
+        units.push_str(unit.as_str())?;
+        let value = 7_999 + number;
+        let form = format!(in alloc;
+            "{{\"@id\":\"gp{number}\",\"@type\":\"%ReportingUnit\",#N{value}&,\"Type\":\"county\"}},"
+        )?;
+        forms.push_str(form.as_str())?;
+    }
+    let units = spelled(alloc, units.as_str())?;
+    let forms = spelled(alloc, forms.as_str())?;
+    let report = edited(
+        alloc,
+        ONE_UNIT,
+        "}]}],\"Election\"",
+        "}]}UNITS],\"Election\"",
+    )?;
+    let report = edited(alloc, report.as_str(), "UNITS", units.as_str())?;
+    let last = made(
+        alloc,
+        (
+            Base::OneUnitCanonical,
+            &[("gp1", "gp2001"), ("\"@id\":\"gp1\"", "\"@id\":\"gp2001\"")],
+        ),
+    )?;
+    let forms = format!(in alloc; "\"GpUnit\":[{forms}")?;
+    let form = edited(alloc, last.as_str(), "\"GpUnit\":[", forms.as_str())?;
+    form_is(
+        alloc,
+        "two_thousand_units",
+        None,
+        report.as_str(),
+        form.as_str(),
+    )?;
+    is_itself(alloc, "two_thousand_units", report.as_str())
+}

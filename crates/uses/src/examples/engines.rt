@@ -1,0 +1,97 @@
+//! Examples of the engines and the command line of `erd_canon`.
+use crate::tests::{CANONICAL, OTHER_NAME, REPORT};
+use erd_canon::{
+    Outcome, ReadFrom, Request, RunFault, Sink, Source, WriteTo, command_line, run_canon,
+    run_canon_with, run_check, run_check_with, run_compare, run_compare_with, write_out,
+};
+use std::test::Fail;
+
+#[test]
+fn engines(rt: HostRuntime) -> Result<(), Fail> {
+    let alloc = rt.alloc();
+    let mut reader = ReadFrom::of(REPORT.as_bytes());
+    let mut out = WriteTo::of(Vec::new(alloc));
+    let outcome = run_check(alloc, &mut reader, &mut out)?;
+    assert_eq!(rt; outcome, Outcome::Good);
+    assert_eq!(rt; out.writer.as_slice(), "accepted\n".as_bytes());
+
+    let mut reader = ReadFrom::of(REPORT.as_bytes());
+    let mut out = WriteTo::of(Vec::new(alloc));
+    let mut err = WriteTo::of(Vec::new(alloc));
+    let outcome = run_canon(alloc, &mut reader, &mut out, &mut err)?;
+    assert_eq!(rt; outcome.status(), 0);
+    assert_eq!(rt; out.writer.as_slice(), CANONICAL.as_bytes());
+    assert!(rt; !reader.failed() && !out.failed());
+
+    let mut left = ReadFrom::of(REPORT.as_bytes());
+    let mut right = ReadFrom::of(OTHER_NAME.as_bytes());
+    let mut out = WriteTo::of(Vec::new(alloc));
+    let outcome = run_compare(alloc, &mut left, &mut right, &mut out)?;
+    assert_eq!(rt; outcome.status(), 1);
+    assert_eq!(rt;
+        out.writer.as_slice(),
+        "election: member \"Name\"\n".as_bytes()
+    );
+    Ok(())
+}
+
+#[test]
+fn engines_under_a_preference(rt: HostRuntime) -> Result<(), Fail> {
+    let alloc = rt.alloc();
+    let prefer = Some("local-level");
+    let mut reader = ReadFrom::of(REPORT.as_bytes());
+    let mut out = WriteTo::of(Vec::new(alloc));
+    assert_eq!(rt;
+        run_check_with(alloc, &mut reader, &mut out, prefer)?,
+        Outcome::Good
+    );
+
+    let mut reader = ReadFrom::of(REPORT.as_bytes());
+    let mut out = WriteTo::of(Vec::new(alloc));
+    let mut err = WriteTo::of(Vec::new(alloc));
+    assert_eq!(rt;
+        run_canon_with(alloc, &mut reader, &mut out, &mut err, prefer)?,
+        Outcome::Good
+    );
+
+    let (mut left, mut right) = (
+        ReadFrom::of(REPORT.as_bytes()),
+        ReadFrom::of(REPORT.as_bytes()),
+    );
+    let mut out = WriteTo::of(Vec::new(alloc));
+    assert_eq!(rt;
+        run_compare_with(alloc, &mut left, &mut right, &mut out, prefer)?,
+        Outcome::Good
+    );
+    assert_eq!(rt; out.writer.as_slice(), "same\n".as_bytes());
+    Ok(())
+}
+
+#[test]
+fn devices(rt: HostRuntime) -> Result<(), Fail> {
+    let mut source = ReadFrom::of("abc".as_bytes());
+    let mut buffer = [0; 2];
+    assert_eq!(rt; source.read(&mut buffer).ok(), Some(2));
+    let mut sink = WriteTo::of(Vec::new(rt.alloc()));
+    assert_eq!(rt; sink.write("abc".as_bytes()).ok(), Some(3));
+    assert!(rt; write_out(&mut sink, "def".as_bytes()).is_ok());
+    assert!(rt; sink.flush().is_ok());
+    assert_eq!(rt; RunFault::Memory.status(), 4);
+    assert_eq!(rt; RunFault::Memory.words(), "no memory");
+    Ok(())
+}
+
+#[test]
+fn lines(rt: HostRuntime) -> Result<(), Fail> {
+    let alloc = rt.alloc();
+    let mut words = Vec::new(alloc);
+    for word in ["erd", "check", "--prefer", "fips", "county.json"] {
+        words.push(String::from_str(alloc, word)?)?;
+    }
+    let Request::Check(file, prefer) = command_line(alloc, &words)? else {
+        return Err(Fail::from("another request"));
+    };
+    assert_eq!(rt; file.as_str(), "county.json");
+    assert_eq!(rt; prefer.text(), Some("fips"));
+    Ok(())
+}

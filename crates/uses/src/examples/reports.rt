@@ -1,0 +1,114 @@
+//! Examples of `erd_meaning`, `erd_normal` and `erd_compare`.
+use erd_check::{same_json, shape};
+use erd_compare::first_difference;
+use erd_meaning::{Key, NumberedName, Report, key_of, resolve, resolve_with};
+use erd_normal::{CompactText, SetOrder, in_order, normal_text, normal_tree};
+use erd_tables::{Family, Text};
+use serde_json::Value;
+use std::alloc::Global;
+use std::cmp::Ordering;
+use std::process::Abort;
+use std::test::Fail;
+
+// A county with an election, a candidate, and a contest with a selection of the candidate and a write-in line.
+const BALLOT: &str =
+    r#"{"@type":"ElectionResults.ElectionReport","Status":"pre-election","GpUnit":[{"@id":"u7","@type":"ElectionResults.ReportingUnit","Type":"county","ExternalIdentifier":[{"@type":"ElectionResults.ExternalIdentifier","Type":"local-level","Value":"U1"},{"@type":"ElectionResults.ExternalIdentifier","Type":"fips","Value":"20"}]}],"Election":[{"@type":"ElectionResults.Election","Name":"Test","Type":"general","StartDate":"2026-11-03","EndDate":"2026-11-03","ElectionScopeId":"u7","Candidate":[{"@id":"k1","@type":"ElectionResults.Candidate","BallotName":"Ann","ExternalIdentifier":[{"@type":"ElectionResults.ExternalIdentifier","Type":"local-level","Value":"K1"}]}],"Contest":[{"@id":"c1","@type":"ElectionResults.CandidateContest","Name":"Mayor","ElectionDistrictId":"u7","VotesAllowed":1,"ExternalIdentifier":[{"@type":"ElectionResults.ExternalIdentifier","Type":"local-level","Value":"C1"}],"ContestSelection":[{"@id":"s1","@type":"ElectionResults.CandidateSelection","CandidateIds":["k1"]},{"@id":"s2","@type":"ElectionResults.CandidateSelection","IsWriteIn":true}]}]}]}"#;
+
+// The key with these texts, which has no `OtherType`.
+fn key(alloc: Global, kind: &str, value: &str) -> Result<Key, Fail> {
+    Ok(Key {
+        kind: Text::of(String::from_str(alloc, kind)?),
+        other: Text::of(String::new(alloc)),
+        value: Text::of(String::from_str(alloc, value)?),
+    })
+}
+
+// What the report has, by position.
+fn positions(rt: &impl Abort, tree: &Value, report: &Report) -> Result<(), Fail> {
+    assert!(rt; same_json(report.tree(), tree));
+    assert!(rt; report.preference().is_none());
+    assert_eq!(rt; report.election_count(), 1);
+    assert!(rt;
+        same_json(
+            report.election(),
+            report.election_at(0).ok_or("no election")?
+        )
+    );
+    assert!(rt; report.election_key(0).is_none());
+    assert_eq!(rt; report.election_of(Family::Candidate, 0), Some(0));
+    assert_eq!(rt; report.count(Family::Selection), 2);
+    assert!(rt; report.object(Family::Candidate, 0).is_some());
+    assert!(rt; report.object(Family::Candidate, 1).is_none());
+    Ok(())
+}
+
+// What the report finds by keys, names and `@id` texts.
+fn look_ups(rt: &impl Abort, alloc: Global, report: &Report) -> Result<(), Fail> {
+    let county = key(alloc, "fips", "20")?;
+    assert_eq!(rt; report.key_at(Family::Unit, 0), Some(&county));
+    assert_eq!(rt; report.find(Family::Unit, &county), Some(0));
+    assert_eq!(rt; report.target("k1"), Some((Family::Candidate, 0)));
+    let (contest, name) = report.selection_at(1).ok_or("no write-in line")?;
+    assert_eq!(rt; contest, 0);
+    assert_eq!(rt; report.find_selection(contest, name), Some(1));
+    assert!(rt; name.try_clone(alloc)? == *name);
+    let numbered = NumberedName::lent(name, Vec::new(alloc));
+    assert!(rt; numbered == NumberedName::lent(name, Vec::new(alloc)));
+    assert_eq!(rt; report.first_selection(0), 0);
+    let (_, ranked) = report.ranked_name_at(0).ok_or("no selection")?;
+    assert_eq!(rt; ranked.family(), Family::Candidate);
+    assert_eq!(rt; ranked.ranks().first(), Some(&0));
+    let (_, write_in) = report.ranked_name_at(1).ok_or("no write-in line")?;
+    assert!(rt; write_in.name() == name);
+    assert_eq!(rt; write_in.compare(ranked), Ordering::Less);
+    assert_eq!(rt; report.rising_keys(alloc, Family::Unit)?.len(), 1);
+    Ok(())
+}
+
+#[test]
+fn reports(rt: HostRuntime) -> Result<(), Fail> {
+    let alloc = rt.alloc();
+    let tree = Value::from_str(alloc, BALLOT)?;
+    let shaped = shape(alloc, &tree)?;
+    assert!(rt; same_json(shaped.tree(), &tree));
+    let report = resolve(alloc, shaped)?;
+    positions(&rt, &tree, &report)?;
+    look_ups(&rt, alloc, &report)?;
+    let form = normal_tree(alloc, &report)?;
+    let text = normal_text(alloc, &report)?;
+    assert_eq!(rt; text.as_slice(), form.to_string(alloc)?.as_bytes());
+    assert!(rt; first_difference(alloc, &report, &report)?.is_none());
+    Ok(())
+}
+
+#[test]
+fn preferences(rt: HostRuntime) -> Result<(), Fail> {
+    let alloc = rt.alloc();
+    let tree = Value::from_str(alloc, BALLOT)?;
+    let report = resolve_with(alloc, shape(alloc, &tree)?, Some("local-level"))?;
+    assert_eq!(rt; report.preference(), Some("local-level"));
+    assert_eq!(rt;
+        report.key_at(Family::Unit, 0),
+        Some(&key(alloc, "local-level", "U1")?)
+    );
+    let county = report.object(Family::Unit, 0).ok_or("no unit")?;
+    assert_eq!(rt;
+        key_of(alloc, county, None)?,
+        Some(key(alloc, "fips", "20")?)
+    );
+    Ok(())
+}
+
+#[test]
+fn orders(rt: HostRuntime) -> Result<(), Fail> {
+    let alloc = rt.alloc();
+    let (one, other) = (key(alloc, "fips", "20")?, key(alloc, "local-level", "U1")?);
+    assert_eq!(rt; one.order(&other), Ordering::Less);
+    assert!(rt; one.try_clone(alloc)? == one);
+    let sorted = in_order(alloc, vec![in alloc; (other, 2), (one, 1)]?)?;
+    assert_eq!(rt; sorted.first().map(|pair| pair.1), Some(1));
+    let value = Value::from_str(alloc, r#"{ "a": [1, 2] }"#)?;
+    let text = CompactText::of(alloc, &value)?;
+    assert_eq!(rt; text.order(&text), Ordering::Equal);
+    Ok(())
+}

@@ -1,0 +1,68 @@
+//! Examples of `erd_tables`.
+use erd_tables::{
+    Class, Family, Fault, FaultList, MemberKind, Place, Reason, Role, Step, Text, class_in,
+    class_of, family_of, is_envelope, is_reference_form, is_required_member, member_kind, pointer,
+    required, role_of, type_text,
+};
+use std::test::Fail;
+
+#[test]
+fn classes(rt: HostRuntime) {
+    assert_eq!(rt; class_of("ElectionResults.Party"), Some(Class::Party));
+    assert_eq!(rt; class_of("Party"), None);
+    assert_eq!(rt; type_text(Class::Party), "ElectionResults.Party");
+    assert_eq!(rt; role_of(Class::Coalition), Role::OfFamily(Family::Party));
+    assert_eq!(rt; family_of(Class::Coalition), Some(Family::Party));
+    assert_eq!(rt; family_of(Class::Election), None);
+    let candidate = Role::OfFamily(Family::Candidate);
+    assert_eq!(rt;
+        class_in(candidate, "ElectionResults.Candidate"),
+        Some(Class::Candidate)
+    );
+    assert_eq!(rt; class_in(candidate, "ElectionResults.Party"), None);
+}
+
+#[test]
+fn members(rt: HostRuntime) {
+    assert_eq!(rt;
+        member_kind(Class::Candidate, "PartyId"),
+        MemberKind::One(Family::Party)
+    );
+    assert_eq!(rt;
+        member_kind(Class::Candidate, "Nickname"),
+        MemberKind::Carried
+    );
+    assert!(rt; is_envelope("Issuer"));
+    assert!(rt; !is_envelope("Status"));
+    assert!(rt; is_reference_form("PartyIds"));
+    assert!(rt; !is_reference_form("PartyID"));
+    assert!(rt; required(Class::LanguageString).contains(&"Content"));
+    assert!(rt; is_required_member(Class::Header, "Name"));
+    assert!(rt; !is_required_member(Class::Header, "Color"));
+}
+
+#[test]
+fn places(rt: HostRuntime) -> Result<(), Fail> {
+    let alloc = rt.alloc();
+    let name = Text::of(String::from_str(alloc, "GpUnit")?);
+    assert_eq!(rt; name.as_str(), "GpUnit");
+    let place = Place::of(vec![in alloc; Step::Name(name), Step::At(10)]?);
+    assert_eq!(rt; place.len(), 2);
+    assert!(rt; !place.is_empty());
+    assert!(rt; matches!(place.step(1), Some(Step::At(10))));
+    assert_eq!(rt; place.iter().count(), 2);
+    assert_eq!(rt; pointer(alloc, &place)?.as_str(), "/GpUnit/10");
+    let fault = Fault {
+        place,
+        reason: Reason::DuplicateId,
+    };
+    assert_eq!(rt; fault.line(alloc)?.as_str(), "/GpUnit/10: @id used twice");
+    let list = FaultList::of(vec![in alloc; fault]?);
+    assert_eq!(rt; list.len(), 1);
+    assert!(rt; !list.is_empty());
+    assert!(rt; list.get(1).is_none());
+    for fault in list.iter() {
+        assert_eq!(rt; fault.place.len(), 2);
+    }
+    Ok(())
+}
