@@ -1,20 +1,36 @@
 #!/usr/bin/env bash
-# Puts what is handed on into out/release: the Debian package, a tarball with the program and what belongs to it, and
-# SHA256SUMS, the sums of both.
+# Puts what is handed on into out/release: each file of release-files.txt, a bill of materials, and SHA256SUMS. It makes every form
+# anew, and where one can't be made, or its file is missing, there is no release.
 set -eu
 cd "$(dirname "$0")/.."
 . packaging/version.sh
 umask 022
-work=$(mktemp -d)
-trap 'rm -rf "$work"' EXIT
-name=erd-$version-linux-$(uname -m)
+release=out/release
+rm -rf "$release" "$release.new"
 
-make --no-print-directory -s install PREFIX=/ DESTDIR="$work/$name"
-dated "$work/$name"
-rm -rf out/release
-mkdir -p out/release
-tar --create --directory "$work" --sort=name --format=ustar --owner=0 --group=0 --numeric-owner "$name" \
-    | gzip -9n > "out/release/$name.tar.gz"
-cp "out/erd_$version-1_$(dpkg --print-architecture).deb" out/release
-(cd out/release && sha256sum -- *.deb *.tar.gz > SHA256SUMS)
-cat out/release/SHA256SUMS
+packaging/deb.sh
+packaging/tarball.sh
+packaging/portable/make.sh
+packaging/library_deb.sh amd64
+packaging/library_deb.sh arm64
+packaging/library_archives.sh
+packaging/portable/javascript.sh
+python3 web/build.py out/portable/erd.wasm out/portable/erd.html
+packaging/python.sh
+
+mkdir -p "$release.new"
+missing=()
+while read -r pattern; do
+    mapfile -t found < <(compgen -G "out/${pattern//@VERSION@/$version}")
+    [ ${#found[@]} -eq 1 ] && cp -L "${found[0]}" "$release.new" || missing+=("$pattern")
+done < <(grep -v '^#' packaging/release-files.txt | grep .)
+if [ ${#missing[@]} -gt 0 ]; then
+    rm -rf "$release.new"
+    printf 'no release: there is no out/%s\n' "${missing[@]//@VERSION@/$version}" >&2
+    exit 1
+fi
+python3 packaging/bill_of_materials.py "$version" "$SOURCE_DATE_EPOCH" "$(dirname "$(rt doc)")" "$release.new" \
+    > "$release.new/erd-$version.spdx.json"
+(cd "$release.new" && LC_ALL=C sha256sum -- * > SHA256SUMS)
+mv "$release.new" "$release"
+cat "$release/SHA256SUMS"

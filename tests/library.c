@@ -1,8 +1,10 @@
-/* Calls the C library as the program would be called: `library [check|canon|compare [--prefer TYPE] FILE ..]`. With
- * `library threads FILE` several threads call at once, and with `library odd FILE` the calls are handed unusual arguments. */
+/* Calls the C library as the program would be called: `library [check|canon|compare [--prefer TYPE] FILE ..]`. The words
+ * `check-data` and `compare-data` ask for the same as JSON. With `library threads FILE` several threads call at once, and with
+ * `library odd FILE` the calls are handed unusual arguments. */
 #include "../bindings/c/erd.h"
 
 #include <pthread.h>
+#include <stdint.h>
 #include <stdio.h>
 #include <stdlib.h>
 #include <string.h>
@@ -36,11 +38,15 @@ static int run(const char *command, const char *prefer, const char *left_name, c
     char *text;
     size_t length;
     enum erd_outcome outcome;
-    if (strcmp(command, "compare") == 0) {
+    if (strncmp(command, "compare", 7) == 0) {
+        int is_data = strcmp(command, "compare-data") == 0;
         right = read_file(right_name);
-        outcome = erd_compare(left.bytes, left.size, right.bytes, right.size, prefer, &text, &length);
+        outcome = (is_data ? erd_compare_data : erd_compare)(left.bytes, left.size, right.bytes, right.size, prefer, &text,
+                                                             &length);
     } else if (strcmp(command, "check") == 0) {
         outcome = erd_check(left.bytes, left.size, prefer, &text, &length);
+    } else if (strcmp(command, "check-data") == 0) {
+        outcome = erd_check_data(left.bytes, left.size, prefer, &text, &length);
     } else {
         outcome = erd_canonical(left.bytes, left.size, prefer, &text, &length);
     }
@@ -65,6 +71,8 @@ static void *many_calls(void *given) {
         wrong += size != size_again || memcmp(form, again, size) != 0;
         wrong += erd_compare(file->bytes, file->size, form, size, "local-level", NULL, NULL) != ERD_GOOD;
         wrong += erd_check(form, size - 1, NULL, NULL, NULL) != ERD_NOT_JSON;
+        wrong += erd_check_data(form, size, NULL, NULL, &size_again) != ERD_GOOD || size_again != 2;
+        wrong += erd_compare_data(file->bytes, file->size, form, size - 1, NULL, NULL, NULL) != ERD_NOT_JSON;
         erd_free(form);
         erd_free(again);
     }
@@ -85,6 +93,54 @@ static int threads(const char *name) {
     }
     free(file.bytes);
     return wrong != 0;
+}
+
+/* Whether a call left this text, and no more. */
+static int is_text(const char *text, size_t length, const char *wanted) {
+    return text != NULL && length == strlen(wanted) && strcmp(text, wanted) == 0;
+}
+
+/* The number of the first call for data that is answered wrongly, or 0. */
+static int odd_data(struct file file) {
+    char *text = "";
+    size_t length = 1;
+    if (erd_check_data(NULL, 0, NULL, &text, &length) != ERD_NOT_JSON || !is_text(text, length, "\"not JSON\""))
+        return 21;
+    erd_free(text);
+    if (erd_check_data(file.bytes, file.size, "", &text, &length) != ERD_GOOD || !is_text(text, length, "[]"))
+        return 22;
+    erd_free(text);
+    if (erd_check_data(file.bytes, file.size, "\xff", &text, &length) != ERD_WRONG || text != NULL || length != 0)
+        return 23;
+    if (erd_check_data(file.bytes, 67108865, NULL, &text, &length) != ERD_WRONG || text != NULL || length != 0)
+        return 24;
+    if (erd_compare_data(file.bytes, file.size, file.bytes, 67108865, NULL, &text, &length) != ERD_WRONG || text != NULL)
+        return 25;
+    if (erd_compare_data(file.bytes, file.size, file.bytes, file.size, "fifteen bytes..", &text, &length) != ERD_GOOD
+        || !is_text(text, length, "null"))
+        return 26;
+    erd_free(text);
+    if (erd_compare_data(file.bytes, file.size, NULL, 0, "fourteen bytes", &text, &length) != ERD_NOT_JSON
+        || !is_text(text, length, "{\"faults\":\"not JSON\",\"refused\":\"right\"}"))
+        return 27;
+    erd_free(text);
+    if (erd_compare_data(NULL, 0, file.bytes, file.size, "", &text, &length) != ERD_NOT_JSON
+        || !is_text(text, length, "{\"faults\":\"not JSON\",\"refused\":\"left\"}"))
+        return 28;
+    erd_free(text);
+    return 0;
+}
+
+/* A type of identifier of this many letters. */
+static int preferred(struct file file, size_t size) {
+    char *prefer = malloc(size + 1);
+    if (prefer == NULL)
+        return 9;
+    memset(prefer, 't', size);
+    prefer[size] = 0;
+    enum erd_outcome outcome = erd_check(file.bytes, file.size, prefer, NULL, NULL);
+    free(prefer);
+    return outcome;
 }
 
 /* The number of the first call that is answered wrongly, or 0. */
@@ -111,10 +167,18 @@ static int odd(const char *name) {
         return 7;
     if (erd_compare(file.bytes, file.size, text, length, NULL, &other, NULL) != ERD_GOOD || strcmp(other, "same\n") != 0)
         return 8;
+    for (size_t size = 0; size <= 65; size++)
+        if (preferred(file, size) != ERD_GOOD)
+            return 9;
+    if (preferred(file, 70000) != ERD_GOOD)
+        return 10;
+    if (erd_canonical(file.bytes, SIZE_MAX, NULL, NULL, &length) != ERD_WRONG || length != 0)
+        return 11;
     erd_free(text);
     erd_free(other);
+    int wrong = odd_data(file);
     free(file.bytes);
-    return 0;
+    return wrong;
 }
 
 int main(int count, char **words) {

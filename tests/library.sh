@@ -1,6 +1,6 @@
 #!/usr/bin/env bash
-# Builds the C library and calls it from C and from Python: the worked rows, as the program is tried on them, under the
-# sanitizers that the compiler has. One line a case.
+# Builds the C library and calls it from C and from Python: the conformance suite, under the sanitizers that the compiler
+# has, and texts that are longer than the first room for them. One line a case.
 set -u
 cd "$(dirname "$0")/.." || exit 1
 
@@ -22,19 +22,23 @@ small=examples/small-ballot.json
 callers=$work/callers
 mkdir "$callers"
 
-make --no-print-directory library > "$work/out" 2> "$work/err"
-status=$?
-said 'make library' "$([ "$status" -eq 0 ] || tail -n 5 "$work/err")"
-[ "$status" -eq 0 ] || { counts; exit; }
+# tests/wrong_lines.sh makes a library of its own, and says so.
+if [ -z "${LIBRARY_IS_MADE:-}" ]; then
+    make --no-print-directory library > "$work/out" 2> "$work/err"
+    status=$?
+    said 'make library' "$([ "$status" -eq 0 ] || tail -n 5 "$work/err")"
+    [ "$status" -eq 0 ] || { counts; exit; }
+fi
 
 exported=$(nm -g --defined-only out/c/liberd.a 2> /dev/null | awk '$2 == "T" && $3 !~ /^(rattle_|erd_tell_)/ { print $3 }' | LC_ALL=C sort | tr '\n' ' ')
-said 'it exports its four calls' "$([ "$exported" = 'erd_canonical erd_check erd_compare erd_free ' ] || echo "it exports $exported")"
+said 'it exports its public calls' "$([ "$exported" = "$(LC_ALL=C sort packaging/portable/exports.txt | tr '\n' ' ')" ] || echo "it exports $exported")"
 
 # built NAME FLAG ..: the caller in C as $callers/NAME
 built() {
     local name=$1
     shift
-    "$compiler" -std=c11 -g -O1 -Wall -Wextra "$@" -o "$callers/$name" tests/library.c out/c/liberd.a -lpthread 2> "$work/err"
+    "$compiler" -std=c11 -g -O1 -Wall -Wextra "$@" -o "$callers/$name" tests/library.c bindings/c/erd.c out/c/liberd.a \
+        -lpthread 2> "$work/err"
 }
 
 # has FLAG ..: whether the compiler has these sanitizers, and what it builds with them runs here
@@ -42,6 +46,11 @@ has() {
     "$compiler" -x c - "$@" -o "$work/nothing" <<< 'int main(void) { return 0; }' 2> /dev/null && "$work/nothing" 2> /dev/null
 }
 
+"$compiler" -std=c11 -Wall -Wextra -o "$callers/archive" tests/library.c out/c/liberd.a -lpthread 2> "$work/err"
+said 'a caller in C that links the archive alone' "$([ $? -eq 0 ] || tail -n 5 "$work/err")"
+"$callers/archive" odd "$one" > "$work/out" 2> "$work/err"
+status=$?
+expect 'unusual arguments, with the archive alone' 0 "$work/empty" ''
 built plain
 said 'a caller in C' "$([ $? -eq 0 ] || tail -n 5 "$work/err")"
 if "$compiler" -x c++ -fsyntax-only - < /dev/null 2> /dev/null; then
@@ -49,21 +58,26 @@ if "$compiler" -x c++ -fsyntax-only - < /dev/null 2> /dev/null; then
     said 'the header is C++ too' "$(head -n 3 "$work/err")"
 fi
 
-# The rows, under AddressSanitizer where there is one: it stops at a bad access and, at the end, at memory that was not freed.
+# The suite, under AddressSanitizer where there is one: it stops at a bad access and, at the end, at memory that was not
+# freed. The C side is compiled with it too.
 erd=$callers/plain
-export ASAN_OPTIONS=detect_leaks=1 UBSAN_OPTIONS=halt_on_error=1
+sanitizers=()
+export ASAN_OPTIONS=detect_leaks=1:allocator_may_return_null=1 UBSAN_OPTIONS=halt_on_error=1
 if has -fsanitize=address,undefined; then
+    sanitizers=(-fsanitize=address,undefined)
     built address -fsanitize=address,undefined
     said 'a caller in C under AddressSanitizer' "$([ $? -eq 0 ] || tail -n 5 "$work/err")"
     erd=$callers/address
 else
     echo "skipped AddressSanitizer: the compiler has none, or it doesn't run here"
 fi
-# files that cli.sh makes for the rows
-head -c -1 "$one" > "$work/short"
-printf '\xff' > "$work/byte"
-. tests/cli_rows.sh
-. tests/cli_pairs.sh
+"$compiler" -std=c11 -g -O1 -Wall -Wextra "${sanitizers[@]}" -o "$callers/loop" tests/library_loop.c 2> "$work/err" \
+    && "$callers/loop" > "$work/out" 2> "$work/err"
+status=$?
+said "the C side alone: $(tail -n 1 "$work/out")" "$([ "$status" -eq 0 ] || head -qn 3 "$work/out" "$work/err")"
+conformance/run "$erd" > "$work/suite" 2>&1
+status=$?
+said "the conformance suite: $(tail -n 1 "$work/suite")" "$([ "$status" -eq 0 ] || head -n 3 "$work/suite")"
 
 "$erd" odd "$one" > "$work/out" 2> "$work/err"
 status=$?
@@ -71,6 +85,25 @@ expect 'unusual arguments' 0 "$work/empty" ''
 for vendor in a b; do
     call canon "examples/county.vendor-$vendor.json"
     expect "the county by vendor $vendor" 0 examples/county.canonical.json ''
+done
+# Texts that are longer than the room of the first call, or just fit it: lines as the reference program writes them.
+mkdir "$work/long"
+python3 tests/library_files.py "$one" "$work/long"
+for file in "$work"/long/*.json; do
+    name=$(basename "$file" .json)
+    python3 reference/erd_reference.py check "$file" > "$work/lines"
+    call check "$file"
+    expect "$name: check" 1 "$work/lines" ''
+    call canon "$file"
+    expect_text "$name: canon" 1 '' "$(cat "$work/lines")"$'\n'
+    call compare "$one" "$file"
+    sed 's/^/right: /' "$work/lines" > "$work/side"
+    expect "$name: compare" 1 "$work/side" ''
+    call check-data "$file"
+    expect "$name: check-data" 1 "${file%.json}.data" ''
+    call compare-data "$file" "$one"
+    printf '{"faults":%s,"refused":"left"}' "$(cat "${file%.json}.data")" > "$work/side"
+    expect "$name: compare-data" 1 "$work/side" ''
 done
 "$erd" threads examples/county.vendor-a.json > "$work/out" 2> "$work/err"
 status=$?
@@ -110,8 +143,10 @@ refused() {
 refused canon "$small"
 refused check "$small"
 refused compare "$one" "$small"
+refused check-data "$work/long/hundred-lines.json"
+refused compare-data "$one" "$small"
 
-# From Python, on files that the rows have left, with and without a preference: what the caller in C is told.
+# From Python, on the examples, with and without a preference: what the caller in C is told.
 "$compiler" -shared -o "$work/liberd.so" -Wl,--whole-archive out/c/liberd.a -Wl,--no-whole-archive 2> "$work/err"
 said 'a shared library' "$(head -n 3 "$work/err")"
 : > "$work/cases"
@@ -126,13 +161,18 @@ asked() {
 print(json.dumps(sys.stdin.buffer.read().decode(), ensure_ascii=False))')" >> "$work/wanted_lines"
 }
 for prefer in '' local-level fips; do
-    for file in examples/*.json README.md; do
+    for file in examples/*.json "$work"/long/*.json README.md; do
         asked check "$prefer" "$file"
         asked canon "$prefer" "$file"
         asked compare "$prefer" "$one" "$file"
     done
 done
 python3 tests/library.py "$work/liberd.so" "$work/cases" > "$work/found_lines" 2> "$work/err"
-said "$(wc -l < "$work/cases") calls from Python" "$(diff "$work/wanted_lines" "$work/found_lines" 2>&1 | head -c 300; tail -n 2 "$work/err")"
+said "$(wc -l < "$work/cases") calls from Python, with those for data" \
+    "$(diff "$work/wanted_lines" "$work/found_lines" 2>&1 | head -c 300; tail -n 2 "$work/err")"
+python3 tests/library_suite.py "$work/liberd.so" > "$work/out" 2> "$work/err"
+status=$?
+said "the conformance suite, in lines and as data: $(tail -n 1 "$work/out")" \
+    "$([ "$status" -eq 0 ] || head -qn 3 "$work/out" "$work/err")"
 
 counts

@@ -9,7 +9,8 @@ import json
 import os
 import sys
 
-CLASS = "ElectionResults."
+from reports import candidate, contest, election, identifier, report, selection, style, unit
+
 ENVELOPE = {
     "Format": "summary-contest", "GeneratedDate": "2000-01-01T00:00:00Z", "Issuer": "canonical",
     "IssuerAbbreviation": "canonical", "SequenceEnd": 1, "SequenceStart": 1, "VendorApplicationId": "canonical",
@@ -17,22 +18,6 @@ ENVELOPE = {
 MANY = int(sys.argv[2]) if len(sys.argv) > 2 else 2000
 # The values of the identifiers are LEAST to 9999.
 LEAST = 10000 - MANY
-
-
-def identifier(value):
-    return {"@type": CLASS + "ExternalIdentifier", "Type": "local-level", "Value": value}
-
-
-def unit(id, value, **more):
-    return {"@id": id, "@type": CLASS + "ReportingUnit", "Type": "county", "ExternalIdentifier": [identifier(value)], **more}
-
-
-def report(units, scope, **election):
-    return {
-        "@type": CLASS + "ElectionReport", "Status": "pre-election", "GpUnit": units,
-        "Election": [{"@type": CLASS + "Election", "Name": "Test", "Type": "general", "StartDate": "2026-11-03",
-                      "EndDate": "2026-11-03", "ElectionScopeId": scope, **election}],
-    }
 
 
 def canonical(units, scope, **election):
@@ -47,37 +32,20 @@ def many_units():
     return [unit("u7", "U1")] + added, canonical(rising + [unit(last, "U1")], last)
 
 
-def contest(id, district, selections):
-    return {"@id": id, "@type": CLASS + "CandidateContest", "ExternalIdentifier": [identifier("C1")], "Name": "Governor",
-            "ElectionDistrictId": district, "VotesAllowed": 1, "ContestSelection": selections}
-
-
-def candidate(id, value):
-    return {"@id": id, "@type": CLASS + "Candidate", "ExternalIdentifier": [identifier(value)], "BallotName": "Ann"}
-
-
-def selection(id, named):
-    return {"@id": id, "@type": CLASS + "CandidateSelection", "CandidateIds": [named]}
-
-
 def many_selections():
     falling = [candidate("k%d" % j, "K%d" % (10000 - j)) for j in range(1, MANY + 1)]
     rising = [candidate("ca%d" % n, "K%d" % (LEAST - 1 + n)) for n in range(1, MANY + 1)]
-    given = [selection("s%d" % j, "k%d" % j) for j in range(1, MANY + 1)]
-    wanted = [selection("cs1-%d" % n, "ca%d" % n) for n in range(1, MANY + 1)]
-    left = report([unit("u7", "U1")], "u7", Candidate=falling, Contest=[contest("c", "u7", given)])
-    return left, canonical([unit("gp1", "U1")], "gp1", Candidate=rising, Contest=[contest("co1", "gp1", wanted)])
-
-
-def style(units):
-    return {"@type": CLASS + "BallotStyle", "ExternalIdentifier": [identifier("S1")], "GpUnitIds": units}
+    given = [selection("s%d" % j, CandidateIds=["k%d" % j]) for j in range(1, MANY + 1)]
+    wanted = [selection("cs1-%d" % n, CandidateIds=["ca%d" % n]) for n in range(1, MANY + 1)]
+    left = report([unit("u7", "U1")], "u7", Candidate=falling, Contest=[contest("c", "C1", "u7", given)])
+    return left, canonical([unit("gp1", "U1")], "gp1", Candidate=rising, Contest=[contest("co1", "C1", "gp1", wanted)])
 
 
 def many_references():
     units = [unit("w%d" % j, "N%d" % (10000 - j)) for j in range(1, MANY + 1)]
     rising = [unit("gp%d" % n, "N%d" % (LEAST - 1 + n)) for n in range(1, MANY + 1)]
-    given = style(["w%d" % (j * 7 % MANY + 1) for j in range(MANY)])
-    wanted = style(["gp%d" % n for n in range(1, MANY + 1)])
+    given = style("S1", ["w%d" % (j * 7 % MANY + 1) for j in range(MANY)])
+    wanted = style("S1", ["gp%d" % n for n in range(1, MANY + 1)])
     return report(units, "w1", BallotStyle=[given]), canonical(rising, "gp%d" % MANY, BallotStyle=[wanted])
 
 
@@ -89,23 +57,23 @@ def many_identifiers():
     return report([given], "u7"), canonical([wanted], "gp1")
 
 
-def election(j, count, names):
+def one_of_many(j, count, names):
     """One of many elections: a candidate, and a contest that names the candidate of the next one. Keys of elections and
     candidates fall, and those of contests are mixed; the numbers of both count the whole report."""
     district, contest_name, selection_name, candidate_name = names
-    number, own, named = j * 7 % count + 1, count - j, count - (j + 1) % count
-    chosen = selection(selection_name % number, candidate_name % named)
-    held = {**contest(contest_name % number, district, [chosen]), "ExternalIdentifier": [identifier("C%d" % (1000 + number))]}
-    one = report([], district, Contest=[held], Candidate=[candidate(candidate_name % own, "K%d" % (1000 + own))])
-    return {**one["Election"][0], "ExternalIdentifier": [identifier("E%d" % (9999 - j))]}
+    number, own, following = j * 7 % count + 1, count - j, count - (j + 1) % count
+    chosen = selection(selection_name % number, CandidateIds=[candidate_name % following])
+    held = contest(contest_name % number, "C%d" % (1000 + number), district, [chosen])
+    standing = candidate(candidate_name % own, "K%d" % (1000 + own))
+    return election(district, Contest=[held], Candidate=[standing], ExternalIdentifier=[identifier("E%d" % (9999 - j))])
 
 
 def many_elections():
     count = max(MANY // 20, 2)
     given = report([unit("u7", "U1")], "u7")
-    given["Election"] = [election(j, count, ("u7", "c%d", "s%d", "k%d")) for j in range(count)]
+    given["Election"] = [one_of_many(j, count, ("u7", "c%d", "s%d", "k%d")) for j in range(count)]
     wanted = {**report([unit("gp1", "U1")], "gp1"), **ENVELOPE}
-    wanted["Election"] = [election(j, count, ("gp1", "co%d", "cs%d-1", "ca%d")) for j in reversed(range(count))]
+    wanted["Election"] = [one_of_many(j, count, ("gp1", "co%d", "cs%d-1", "ca%d")) for j in reversed(range(count))]
     return given, json.dumps(wanted, sort_keys=True, separators=(",", ":"))
 
 

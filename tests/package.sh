@@ -18,7 +18,7 @@ tarball=erd-$version-linux-$(uname -m)
 
 # field NAME: a field of the package
 field() {
-    dpkg-deb --field "out/release/$package" "$1"
+    dpkg-deb --field "out/$package" "$1"
 }
 
 # installing WORD ..: dpkg on the empty root, where the libraries of the machine serve
@@ -26,16 +26,14 @@ installing() {
     run dpkg --root="$work/root" --force-not-root --force-depends --force-script-chrootless --log=/dev/null "$@"
 }
 
-run make --no-print-directory release
-expect 'make release' 0
-equal 'the files of the release' "$(ls out/release | LC_ALL=C sort | tr '\n' ' ')" "SHA256SUMS $tarball.tar.gz $package "
-run env -C out/release sha256sum --check --strict SHA256SUMS
-expect_text 'the sums of the release' 0 "$package: OK"$'\n'"$tarball.tar.gz: OK"
+run make --no-print-directory deb tarball
+expect 'make deb tarball' 0
 
-cp -r out/release "$work/first"
-run make --no-print-directory release
-same_bytes 'the package has the same bytes again' "out/release/$package" "$work/first/$package"
-same_bytes 'the tarball has the same bytes again' "out/release/$tarball.tar.gz" "$work/first/$tarball.tar.gz"
+mkdir "$work/first"
+cp "out/$package" "out/$tarball.tar.gz" "$work/first"
+run make --no-print-directory deb tarball
+same_bytes 'the package has the same bytes again' "out/$package" "$work/first/$package"
+same_bytes 'the tarball has the same bytes again' "out/$tarball.tar.gz" "$work/first/$tarball.tar.gz"
 
 # The package.
 equal 'the name of the package' "$(field Package)" erd
@@ -47,17 +45,21 @@ for library in $linked; do
     [ -n "$owner" ] && grep -qwF "$owner" <<< "$(field Depends)" || why+="$library is of '$owner'; "
 done
 said "the package depends on what it is linked with ($(field Depends))" "$why"
-if command -v lintian > /dev/null; then
-    run lintian --no-cfg --fail-on error,warning "out/release/$package"
+listed 'the files of the package, their modes and owners' packaging/files/erd.deb.txt . \
+    < <(dpkg-deb --fsys-tarfile "out/$package")
+listed 'what the package says to dpkg' packaging/files/erd.deb-control.txt . \
+    < <(dpkg-deb --ctrl-tarfile "out/$package")
+if had lintian; then
+    run lintian --no-cfg --fail-on error,warning "out/$package"
     expect_text 'lintian has nothing to say' 0 ''
 else
-    echo 'skipped lintian has nothing to say: there is no lintian'
+    echo "skipped lintian has nothing to say: there is no lintian, and it can't be installed here"
 fi
 
 # An empty root.
 mkdir -p "$work/root/var/lib/dpkg/info" "$work/root/var/lib/dpkg/updates"
 touch "$work/root/var/lib/dpkg/status"
-installing --install "out/release/$package"
+installing --install "out/$package"
 expect 'dpkg installs it into an empty root' 0
 equal 'dpkg knows it there' "$(dpkg-query --admindir="$work/root/var/lib/dpkg" -W -f '${db:Status-Status}' erd)" installed
 usr=$work/root/usr
@@ -75,7 +77,9 @@ expect 'dpkg removes it' 0
 said 'no file of it is left' "$(find "$work/root" ! -type d ! -path '*/var/lib/dpkg/*' | head -n 3)"
 
 # The tarball.
-run tar --extract --gzip --file "out/release/$tarball.tar.gz" --directory "$work"
+listed 'the files of the tarball, their modes and owners' packaging/files/erd.tar.txt "$tarball" \
+    < <(gzip -dc "out/$tarball.tar.gz")
+run tar --extract --gzip --file "out/$tarball.tar.gz" --directory "$work"
 expect 'tar unpacks the tarball' 0
 works 'from the tarball' "$work/$tarball/bin/erd" "$work/$tarball/share/doc/erd/examples"
 

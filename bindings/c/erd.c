@@ -17,6 +17,10 @@ struct told erd_tell_canonical(const uint8_t *bytes, size_t size, bool prefers, 
                                uint8_t *room, size_t room_size);
 struct told erd_tell_compare(const uint8_t *left, size_t left_size, const uint8_t *right, size_t right_size, bool prefers,
                              const uint8_t *prefer, size_t prefer_size, uint8_t *room, size_t room_size);
+struct told erd_tell_check_data(const uint8_t *bytes, size_t size, bool prefers, const uint8_t *prefer, size_t prefer_size,
+                                uint8_t *room, size_t room_size);
+struct told erd_tell_compare_data(const uint8_t *left, size_t left_size, const uint8_t *right, size_t right_size,
+                                  bool prefers, const uint8_t *prefer, size_t prefer_size, uint8_t *room, size_t room_size);
 
 enum { MOST_BYTES = 67108864, ROOM_FOR_LINES = 4096 };
 
@@ -25,7 +29,7 @@ struct bytes {
     size_t size;
 };
 
-enum call { CHECK, CANONICAL, COMPARE };
+enum call { CHECK, CANONICAL, COMPARE, CHECK_DATA, COMPARE_DATA };
 
 struct question {
     enum call call;
@@ -48,32 +52,41 @@ static struct told ask(const struct question *it, uint8_t *room, size_t room_siz
         return erd_tell_check(it->left.at, it->left.size, it->prefers, it->prefer.at, it->prefer.size, room, room_size);
     case CANONICAL:
         return erd_tell_canonical(it->left.at, it->left.size, it->prefers, it->prefer.at, it->prefer.size, room, room_size);
-    default:
+    case COMPARE:
         return erd_tell_compare(it->left.at, it->left.size, it->right.at, it->right.size, it->prefers, it->prefer.at,
                                 it->prefer.size, room, room_size);
+    case CHECK_DATA:
+        return erd_tell_check_data(it->left.at, it->left.size, it->prefers, it->prefer.at, it->prefer.size, room,
+                                   room_size);
+    default:
+        return erd_tell_compare_data(it->left.at, it->left.size, it->right.at, it->right.size, it->prefers,
+                                     it->prefer.at, it->prefer.size, room, room_size);
     }
 }
 
-/* Calls with this much room for the text. If that is too little, calls once more with as much room as the text needs. */
+/* Calls with this much room for the text. If that is too little, calls once more with as much room as the text needs. The
+ * zero byte behind the text has a byte of its own. */
 static enum erd_outcome answer(const struct question *it, size_t room_size, char **text, size_t *length) {
-    for (;;) {
+    while (room_size < SIZE_MAX) {
         uint8_t *room = calloc(room_size + 1, 1);
         if (room == NULL)
             return ERD_NO_MEMORY;
         struct told told = ask(it, room, room_size);
-        if (text != NULL && told.length > room_size) {
-            room_size = told.length;
+        int is_told = told.outcome <= ERD_NOT_JSON;
+        if (is_told && text != NULL && told.length > room_size) {
             free(room);
+            room_size = told.length;
             continue;
         }
-        if (length != NULL)
+        if (is_told && length != NULL)
             *length = told.length;
-        if (text != NULL && told.outcome <= ERD_NOT_JSON)
+        if (is_told && text != NULL)
             *text = (char *)room;
         else
             free(room);
         return told.outcome;
     }
+    return ERD_NO_MEMORY;
 }
 
 static enum erd_outcome call(const struct question *it, size_t room_size, char **text, size_t *length) {
@@ -103,6 +116,21 @@ enum erd_outcome erd_compare(const void *left, size_t left_size, const void *rig
     return call(&it, ROOM_FOR_LINES, text, length);
 }
 
+enum erd_outcome erd_check_data(const void *bytes, size_t size, const char *prefer, char **text, size_t *length) {
+    struct question it = question_of(CHECK_DATA, bytes_of(bytes, size), bytes_of(NULL, 0), prefer);
+    return call(&it, ROOM_FOR_LINES, text, length);
+}
+
+enum erd_outcome erd_compare_data(const void *left, size_t left_size, const void *right, size_t right_size,
+                                  const char *prefer, char **text, size_t *length) {
+    struct question it = question_of(COMPARE_DATA, bytes_of(left, left_size), bytes_of(right, right_size), prefer);
+    return call(&it, ROOM_FOR_LINES, text, length);
+}
+
 void erd_free(char *text) {
     free(text);
+}
+
+const char *erd_version(void) {
+    return ERD_VERSION;
 }

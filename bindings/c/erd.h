@@ -9,6 +9,9 @@
 
 #include <stddef.h>
 
+/* The version of this header. A program may compare it with erd_version. */
+#define ERD_VERSION "0.1.0"
+
 #ifdef __cplusplus
 extern "C" {
 #endif
@@ -29,7 +32,14 @@ enum erd_outcome {
  *   no preference.
  * - `*text` is set to the text. The caller owns it and frees it with erd_free. `*length` is set to its length in bytes,
  *   without the zero byte that follows it. If there is no text, `*text` is set to null and `*length` to 0. `text` may be
- *   null, and so may `length`. */
+ *   null, and so may `length`.
+ *
+ * A text has no limit of its own. A report may have very many faults, and the place of each is written in full, so that a text
+ * can be many times as long as the report. If a text is longer than 4,096 bytes, or a canonical form than twice its report and
+ * 4,096 bytes, the call does its work twice: once to learn the length, and once more into a text of that length.
+ *
+ * A name in a text that is not JSON is written as it is in the report, and may have a line feed or any other character. So
+ * take a text of lines apart by hand only if you trust the report; the calls that answer with data have no such limit. */
 
 /* Checks a report. The text is `accepted`, or one line for each fault, or `not JSON`. Each line is ended by one line
  * feed. */
@@ -45,8 +55,37 @@ enum erd_outcome erd_canonical(const void *bytes, size_t size, const char *prefe
 enum erd_outcome erd_compare(const void *left, size_t left_size, const void *right, size_t right_size, const char *prefer,
                              char **text, size_t *length);
 
+/* Checks a report, as erd_check does, and answers with data. The text is compact JSON in UTF-8, with no line end: an array
+ * with an object for each fault, in the order of the lines of erd_check; the empty array if the report is accepted; or the
+ * string "not JSON". An object looks like
+ *
+ *     {"name":"Status","place":["Election",0,"Contest",2],"reason":2}
+ *
+ * `place` has the names of members as strings and positions in arrays, counted from 0, as numbers. `reason` is the number of
+ * the reason, from 1 to 18, in docs/PROFILE.md. `name` is the name of the missing member; only reason 2 has it.
+ * docs/DATA.md describes the texts of both calls in full. */
+enum erd_outcome erd_check_data(const void *bytes, size_t size, const char *prefer, char **text, size_t *length);
+
+/* Compares two reports, as erd_compare does, and answers with data. The text is compact JSON in UTF-8, with no line end:
+ * `null` if the two mean the same, or an object for their first difference, which looks like
+ *
+ *     {"how":"member","key":["local-level","","C1"],"member":"Name","part":"contest"}
+ *
+ * `part` is the first word of the difference line. `key` is null if the line has none. `how` is "only left",
+ * "only right", "other class" or "member"; only the last has `member`. If the left report is refused, or else if the
+ * right one is, the text is
+ *
+ *     {"faults":[..],"refused":"left"}
+ *
+ * in which `faults` is what erd_check_data answers for that report. */
+enum erd_outcome erd_compare_data(const void *left, size_t left_size, const void *right, size_t right_size,
+                                  const char *prefer, char **text, size_t *length);
+
 /* Frees a text that one of these calls returned. Null is allowed, and does nothing. */
 void erd_free(char *text);
+
+/* Returns the version of the library, such as "0.1.0". It is not freed. */
+const char *erd_version(void);
 
 #ifdef __cplusplus
 }

@@ -1,0 +1,71 @@
+#!/usr/bin/env node
+// The command: it reads the arguments of the program `erd`, writes what that writes, and ends with its status.
+import { readFileSync } from 'node:fs';
+import { load, NoMemoryError } from './index.mjs';
+import { requestOf, UsageFault } from './lib/arguments.mjs';
+import { bytesOfFile, opened, Stop, write } from './lib/files.mjs';
+
+const STANDARD_OUTPUT = 1;
+const STANDARD_ERROR = 2;
+const CALLS = { filter: 'erd_canonical', canon: 'erd_canonical', check: 'erd_check', compare: 'erd_compare' };
+
+process.exitCode = await run(process.argv.slice(2)).catch(ended);
+
+/** Does what the arguments ask for, and returns the status. */
+async function run(words) {
+    checkText();
+    const { command, prefer, files, text } = requestOf(words);
+    if (command === 'help') {
+        write(STANDARD_OUTPUT, text);
+        return 0;
+    }
+    const reports = opened(files).map(bytesOfFile);
+    const { outcome, bytes } = (await load()).written(CALLS[command], reports, { prefer });
+    const isRefusal = CALLS[command] === 'erd_canonical' && outcome !== 0;
+    write(isRefusal ? STANDARD_ERROR : STANDARD_OUTPUT, bytes);
+    return outcome;
+}
+
+/** Says why the command ends early, as far as that can be written, and returns the status. */
+function ended(error) {
+    const { words, status } = wordsOf(error);
+    try {
+        write(STANDARD_ERROR, words);
+    } catch (failed) {
+        if (!(failed instanceof Stop)) {
+            throw failed;
+        }
+    }
+    return status;
+}
+
+function wordsOf(error) {
+    if (error instanceof UsageFault) {
+        return { words: error.message, status: 3 };
+    }
+    if (error instanceof NoMemoryError) {
+        return { words: 'no memory\n', status: 4 };
+    }
+    if (error instanceof Stop) {
+        return { words: error.message + '\n', status: 3 };
+    }
+    throw error;
+}
+
+// Node reads an argument that is not UTF-8 as another text. Linux has the bytes of all arguments in a file.
+function checkText() {
+    if (!process.argv.some((word) => word.includes('\ufffd'))) {
+        return;
+    }
+    let bytes;
+    try {
+        bytes = readFileSync('/proc/self/cmdline');
+    } catch {
+        return;
+    }
+    try {
+        new TextDecoder('utf-8', { fatal: true }).decode(bytes);
+    } catch {
+        throw new Stop('the arguments are not text');
+    }
+}

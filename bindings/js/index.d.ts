@@ -1,0 +1,106 @@
+/** A report: its bytes, or its text. */
+export type Report = Uint8Array | ArrayBuffer | string;
+
+export interface Options {
+    /** The type of identifier that the keys of objects follow, such as `fips` or `local-level`. */
+    prefer?: string | null;
+}
+
+/** One fault of a report. */
+export interface Fault {
+    /** The way from the root of the report: names of members, and positions in arrays, counted from 0. */
+    place: (string | number)[];
+    /** The place as a JSON Pointer (RFC 6901). */
+    pointer: string;
+    /** The number of the reason, 1 to 18. docs/PROFILE.md lists the reasons. */
+    reason: number;
+    /** The name of the missing member. Only reason 2 has it. */
+    name?: string;
+    /** What is wrong, in the words of the program. */
+    words: string;
+    /** The line that the program writes for the fault, without its line feed. */
+    line: string;
+}
+
+/** The first difference of two reports. */
+export interface Difference {
+    part: 'report' | 'unit' | 'party' | 'person' | 'office' | 'header' | 'election' | 'candidate' | 'contest' | 'style';
+    /** The `Type`, the `OtherType` and the `Value` of the identifier that is the key; null if the object has no key. */
+    key: [string, string, string] | null;
+    how: 'only left' | 'only right' | 'other class' | 'member';
+    /** The member in which the two differ. Only `member` has it. */
+    member?: string;
+    /** The line that the program writes for the difference, without its line feed. */
+    line: string;
+}
+
+/** The result of `check`. */
+export class Checked {
+    readonly outcome: 'accepted' | 'refused' | 'not JSON';
+    readonly accepted: boolean;
+    /** The faults in the order of the program. Empty if the report is accepted or is not JSON. */
+    readonly faults: Fault[];
+    /** What `erd check` writes. */
+    get text(): string;
+}
+
+/** The result of `canonical`. */
+export class Canonical extends Checked {
+    /** The canonical form in UTF-8; null if the report is refused. */
+    readonly bytes: Uint8Array | null;
+    /** The canonical form, with no line end; of a refused report what `erd check` writes. */
+    get text(): string;
+}
+
+/** The result of `compare`. */
+export class Compared {
+    readonly outcome: 'same' | 'different' | 'refused' | 'not JSON';
+    readonly same: boolean;
+    /** The first difference, if the outcome is `different`. */
+    readonly difference: Difference | null;
+    /** Which report is refused, if one is. The right one is judged only if the left one is accepted. */
+    readonly side: 'left' | 'right' | null;
+    /** The faults of the refused report. */
+    readonly faults: Fault[];
+    /** What `erd compare` writes. */
+    get text(): string;
+}
+
+/** The three calls. Each throws a `TypeError` if an argument is wrong. */
+export class Erd {
+    constructor(module: WebAssembly.Module);
+    /**
+     * Checks a report, as `erd check` does.
+     * @throws {TooLongError} if the report has more than 67,108,864 bytes
+     * @throws {NoMemoryError} if the call ran out of memory
+     */
+    check(report: Report, options?: Options): Checked;
+    /**
+     * Canonicalises a report, as `erd canon` does.
+     * @throws {TooLongError} if the report has more than 67,108,864 bytes
+     * @throws {NoMemoryError} if the call ran out of memory
+     */
+    canonical(report: Report, options?: Options): Canonical;
+    /**
+     * Compares two reports, as `erd compare` does.
+     * @throws {TooLongError} if a report has more than 67,108,864 bytes
+     * @throws {NoMemoryError} if the call ran out of memory
+     */
+    compare(left: Report, right: Report, options?: Options): Compared;
+}
+
+/** Loads the proved code: `erd.wasm` beside this file, or the module that is handed in. */
+export function load(source?: Uint8Array | ArrayBuffer | WebAssembly.Module): Promise<Erd>;
+
+/** The most bytes that a report may have: 67,108,864. */
+export const MOST_BYTES: number;
+
+/** A report has more bytes than a call takes. */
+export class TooLongError extends RangeError {
+    readonly code: 'TOO_LONG';
+}
+
+/** A call ran out of memory. The next call begins with fresh memory. */
+export class NoMemoryError extends Error {
+    readonly code: 'NO_MEMORY';
+}

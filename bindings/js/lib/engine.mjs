@@ -1,0 +1,114 @@
+// The proved code as a WebAssembly module: how bytes go into it and a text comes out.
+
+/** The numbers that its calls return: the exit statuses of the program. */
+export const OUTCOME = { good: 0, bad: 1, notJson: 2, wrong: 3, noMemory: 4 };
+
+// Memory of WebAssembly can't shrink. So an instance whose memory has grown beyond this is not kept for the next call.
+const BYTES_KEPT = 64 * 1024 * 1024;
+
+/** A module, and an instance of it. The instance is made again after a call that took much memory, or that failed. */
+export class Engine {
+    #module;
+    #instance = null;
+
+    /** @param {WebAssembly.Module} module */
+    constructor(module) {
+        this.#module = module;
+    }
+
+    /**
+     * Makes one call.
+     * @param {string} name the call, such as `erd_check`
+     * @param {Uint8Array[]} reports one report or two
+     * @param {Uint8Array | null} prefer the preferred type of identifier
+     * @returns {{outcome: number, bytes: Uint8Array}} the outcome, and the text of the answer
+     */
+    call(name, reports, prefer) {
+        const instance = this.#instance ?? this.#fresh();
+        this.#instance = null;
+        const answer = instance === null ? null : answerOf(instance.exports, name, reports, prefer);
+        if (answer === null) {
+            return { outcome: OUTCOME.noMemory, bytes: new Uint8Array(0) };
+        }
+        if (answer.outcome !== OUTCOME.noMemory && instance.exports.memory.buffer.byteLength <= BYTES_KEPT) {
+            this.#instance = instance;
+        }
+        return answer;
+    }
+
+    /** An instance, or null if there is no memory for one: the engine then throws a RangeError. */
+    #fresh() {
+        try {
+            return new WebAssembly.Instance(this.#module, {});
+        } catch (error) {
+            if (error instanceof RangeError) {
+                return null;
+            }
+            throw error;
+        }
+    }
+}
+
+// Makes one call; null if there is no memory for it. The module traps if its stack is exhausted.
+function answerOf(exports, name, reports, prefer) {
+    try {
+        const room = new Room(exports);
+        const words = reports.flatMap((report) => [room.filledWith(report), report.length]);
+        const preferred = prefer === null ? 0 : room.filledWith(prefer, 1);
+        const places = room.taken(8);
+        const outcome = exports[name](...words, preferred, places, places + 4);
+        const bytes = textAt(exports, places);
+        room.givenBack();
+        return { outcome, bytes };
+    } catch (error) {
+        if (error instanceof RoomError || error instanceof WebAssembly.RuntimeError || error instanceof RangeError) {
+            return null;
+        }
+        throw error;
+    }
+}
+
+// The text that a call has left: its place and its length stand in four bytes each. It is copied and then freed.
+function textAt(exports, places) {
+    const view = new DataView(exports.memory.buffer);
+    const start = view.getUint32(places, true);
+    const bytes = new Uint8Array(exports.memory.buffer, start, view.getUint32(places + 4, true)).slice();
+    exports.erd_free(start);
+    return bytes;
+}
+
+/** The module has no memory left for what a call is handed. */
+class RoomError extends Error {}
+
+/** Memory of the module for what a call is handed. */
+class Room {
+    #exports;
+    #places = [];
+
+    constructor(exports) {
+        this.#exports = exports;
+    }
+
+    /** Memory for so many bytes. */
+    taken(size) {
+        const place = this.#exports.erd_malloc(Math.max(size, 1)) >>> 0;
+        if (place === 0) {
+            throw new RoomError();
+        }
+        this.#places.push(place);
+        return place;
+    }
+
+    /** Memory with these bytes, and with some zero bytes after them. */
+    filledWith(bytes, zeros = 0) {
+        const place = this.taken(bytes.length + zeros);
+        const memory = new Uint8Array(this.#exports.memory.buffer, place, bytes.length + zeros);
+        memory.set(bytes);
+        memory.fill(0, bytes.length);
+        return place;
+    }
+
+    givenBack() {
+        this.#places.forEach((place) => this.#exports.erd_free(place));
+    }
+}

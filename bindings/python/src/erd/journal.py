@@ -1,0 +1,79 @@
+"""What a run over many files has found so far, kept so that a run that was cut off can go on."""
+
+from __future__ import annotations
+
+import hashlib
+import json
+import os
+import sys
+from pathlib import Path
+from typing import Dict, Iterable, List, Optional
+
+from . import version
+
+
+def folder() -> Path:
+    """Returns the folder of the journals, by the custom of the system."""
+    if sys.platform == 'win32':
+        base = os.environ.get('LOCALAPPDATA') or Path.home() / 'AppData' / 'Local'
+    else:
+        base = os.environ.get('XDG_STATE_HOME') or Path.home() / '.local' / 'state'
+    return Path(base) / 'erd'
+
+
+def stamp(file: str) -> Optional[List[int]]:
+    """Returns the size and the time of the last change of a file, by which a file that has changed is judged anew."""
+    try:
+        found = os.stat(file)
+    except OSError:
+        return None
+    return [found.st_size, found.st_mtime_ns]
+
+
+class Journal:
+    """A file with a line for each row. Its name follows from what the run was asked for, and the version of the library."""
+
+    def __init__(self, names: Iterable[str], prefer: Optional[str], pattern: str, keeps: bool) -> None:
+        asked = [[os.path.abspath(name) for name in names], prefer, pattern, version()]
+        name = hashlib.sha256(json.dumps(asked).encode('utf-8', 'surrogatepass')).hexdigest()[:32]
+        self.path = folder() / f'{name}.jsonl'
+        self.path.parent.mkdir(parents=True, exist_ok=True)
+        if not keeps:
+            self.remove()
+        self.out = None
+
+    def __enter__(self) -> Journal:
+        return self
+
+    def __exit__(self, *_: object) -> None:
+        if self.out is not None:
+            self.out.close()
+
+    def rows(self, files: Iterable[str]) -> List[Dict[str, object]]:
+        """Returns the rows of these files, but for files that have changed since. A last line that was cut off is passed over."""
+        found: Dict[str, Dict[str, object]] = {}
+        try:
+            lines = self.path.read_text('utf-8', 'surrogatepass').splitlines()
+        except OSError:
+            return []
+        wanted = set(files)
+        for line in lines:
+            try:
+                kept = json.loads(line)
+                row = kept['row']
+                if row['file'] in wanted and kept['stamp'] is not None and kept['stamp'] == stamp(row['file']):
+                    found[row['file']] = row
+            except (ValueError, KeyError, TypeError):
+                continue
+        return list(found.values())
+
+    def add(self, row: Dict[str, object]) -> None:
+        """Keeps a row."""
+        if self.out is None:
+            self.out = open(self.path, 'a', encoding='utf-8', errors='surrogatepass', buffering=1)
+            self.out.write('\n')
+        self.out.write(json.dumps({'row': row, 'stamp': stamp(str(row['file']))}) + '\n')
+
+    def remove(self) -> None:
+        """Takes the journal away, once the run is whole."""
+        self.path.unlink(missing_ok=True)

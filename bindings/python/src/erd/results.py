@@ -1,0 +1,220 @@
+"""What the calls return: faults, differences, and the results that hold them."""
+
+from __future__ import annotations
+
+import json
+from dataclasses import dataclass
+from typing import Optional, Tuple, Union
+
+Step = Union[str, int]
+
+# The words of each reason for a fault, by its number. For reason 2 the name of the member follows.
+WORDS = {
+    1: 'wrong kind',
+    2: 'missing member',
+    3: 'wrong class',
+    4: 'not a whole number',
+    5: 'outside the profile',
+    6: 'unknown reference',
+    7: 'carried identity',
+    8: 'not pre-election',
+    9: 'wrong number of elections',
+    10: 'empty array',
+    11: 'repeated',
+    12: 'no external identifier',
+    13: 'identifier used twice',
+    14: '@id used twice',
+    15: 'unresolved reference',
+    16: 'reference to another family',
+    17: 'selection of another contest',
+    18: 'selection name used twice',
+}
+
+
+def compact(value: object) -> str:
+    """Returns the compact JSON text of a value, as `erd` writes it."""
+    return json.dumps(value, ensure_ascii=False, separators=(',', ':'))
+
+
+@dataclass(frozen=True)
+class Fault:
+    """One fault of a report: where it is and what is wrong there.
+
+    >>> Fault(place=('Election', 0, 'Candidate', 2, 'PartyId'), reason=15).line
+    '/Election/0/Candidate/2/PartyId: unresolved reference'
+    """
+
+    place: Tuple[Step, ...]
+    """The way from the root of the report: names of members, and positions in arrays, counted from 0."""
+
+    reason: int
+    """The number of the reason, from 1 to 18. `docs/PROFILE.md` lists them."""
+
+    name: Optional[str] = None
+    """The name of the member that is missing, if one is (reason 2)."""
+
+    @property
+    def pointer(self) -> str:
+        """The place as a JSON Pointer (RFC 6901)."""
+        return ''.join('/' + str(step).replace('~', '~0').replace('/', '~1') for step in self.place)
+
+    @property
+    def words(self) -> str:
+        """What is wrong at the place, in the words of the program."""
+        return WORDS[self.reason] if self.name is None else f'{WORDS[self.reason]} {self.name}'
+
+    @property
+    def line(self) -> str:
+        """The line that `erd check` writes for this fault, without its line feed.
+
+        Names stand in it as they are, so it may hold control characters of a stranger's file.
+        """
+        return f'{self.pointer}: {self.words}'
+
+
+@dataclass(frozen=True)
+class Difference:
+    """The first object in which two reports differ, and how they differ there.
+
+    >>> Difference(part='style', key=('local-level', '', 'S1'), how='member', member='OrderedContent').line
+    'style ["local-level","","S1"]: member "OrderedContent"'
+    """
+
+    part: str
+    """What the object is: report, unit, party, person, office, header, election, candidate, contest or style."""
+
+    key: Optional[Tuple[str, str, str]]
+    """Type, OtherType and Value of the object's key. None for the report, and for an election without identifiers."""
+
+    how: str
+    """One of `only left`, `only right`, `other class` and `member`."""
+
+    member: Optional[str] = None
+    """The first member, by name, in which the two objects differ, if `how` is `member`."""
+
+    @property
+    def line(self) -> str:
+        """The line that `erd compare` writes for this difference, without its line feed."""
+        key = '' if self.key is None else ' ' + compact(list(self.key))
+        how = self.how if self.member is None else f'{self.how} {compact(self.member)}'
+        return f'{self.part}{key}: {how}'
+
+
+@dataclass(frozen=True)
+class Check:
+    """Whether a report is accepted, and if not, why."""
+
+    is_json: bool
+    """Whether the bytes are JSON at all."""
+
+    faults: Tuple[Fault, ...] = ()
+    """Every fault of the first phase that finds one, in the order of their places."""
+
+    @property
+    def accepted(self) -> bool:
+        """Whether the report is accepted."""
+        return self.is_json and not self.faults
+
+    @property
+    def status(self) -> int:
+        """The exit status of `erd check`: 0 if accepted, 1 if refused, 2 if the bytes are not JSON."""
+        if not self.is_json:
+            return 2
+        return 1 if self.faults else 0
+
+    @property
+    def lines(self) -> Tuple[str, ...]:
+        """The lines that `erd check` writes."""
+        if not self.is_json:
+            return ('not JSON',)
+        return tuple(fault.line for fault in self.faults) or ('accepted',)
+
+    @property
+    def text(self) -> str:
+        """What `erd check` writes, each line with its line feed."""
+        return ''.join(line + '\n' for line in self.lines)
+
+    def __bool__(self) -> bool:
+        return self.accepted
+
+
+@dataclass(frozen=True)
+class Canonical:
+    """The canonical form of a report, or why it has none."""
+
+    form: Optional[bytes]
+    """The canonical bytes, if the report is accepted."""
+
+    check: Check
+    """The result of checking the report."""
+
+    @property
+    def accepted(self) -> bool:
+        """Whether the report is accepted, and so has a canonical form."""
+        return self.form is not None
+
+    def __bool__(self) -> bool:
+        return self.accepted
+
+
+@dataclass(frozen=True)
+class Comparison:
+    """Whether two reports mean the same, and if not, where they differ first; or which of them is refused, and why."""
+
+    difference: Optional[Difference] = None
+    """The first difference, if both reports are accepted and do not mean the same."""
+
+    refused: Optional[str] = None
+    """`left` or `right`, if that report is refused. The right one is judged only if the left one is accepted."""
+
+    check: Optional[Check] = None
+    """The result of checking the report that is refused."""
+
+    @property
+    def same(self) -> bool:
+        """Whether both reports are accepted and mean the same."""
+        return self.difference is None and self.refused is None
+
+    @property
+    def status(self) -> int:
+        """The exit status of `erd compare`: 0 if same, 2 if a report is not JSON, otherwise 1."""
+        if self.check is not None:
+            return self.check.status
+        return 0 if self.same else 1
+
+    @property
+    def lines(self) -> Tuple[str, ...]:
+        """The lines that `erd compare` writes."""
+        if self.check is not None:
+            return tuple(f'{self.refused}: {line}' for line in self.check.lines)
+        return ('same',) if self.difference is None else (self.difference.line,)
+
+    @property
+    def text(self) -> str:
+        """What `erd compare` writes, each line with its line feed."""
+        return ''.join(line + '\n' for line in self.lines)
+
+    def __bool__(self) -> bool:
+        return self.same
+
+
+def fault_of(data: dict) -> Fault:
+    """Returns the fault that one object of the library's JSON describes."""
+    return Fault(tuple(data['place']), data['reason'], data.get('name'))
+
+
+def check_of(data: object) -> Check:
+    """Returns the result that the library's JSON for `check` describes."""
+    if data == 'not JSON':
+        return Check(is_json=False)
+    return Check(is_json=True, faults=tuple(map(fault_of, data)))
+
+
+def comparison_of(data: object) -> Comparison:
+    """Returns the result that the library's JSON for `compare` describes."""
+    if data is None:
+        return Comparison()
+    if 'refused' in data:
+        return Comparison(refused=data['refused'], check=check_of(data['faults']))
+    key = None if data['key'] is None else tuple(data['key'])
+    return Comparison(difference=Difference(data['part'], key, data['how'], data.get('member')))

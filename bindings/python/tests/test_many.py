@@ -1,0 +1,158 @@
+"""Many files at once: in processes, on a cluster, and cut off in the middle."""
+
+import csv
+import io
+import json
+import os
+import signal
+import subprocess
+import sys
+import time
+
+import pytest
+
+
+@pytest.fixture
+def ballots(top, tmp_path):
+    """A folder with two files that define the same ballots, one that does not, and three that cannot be accepted."""
+    folder = tmp_path / 'ballots'
+    (folder / 'inner').mkdir(parents=True)
+    a = (top / 'examples' / 'county.vendor-a.json').read_bytes()
+    (folder / 'a.json').write_bytes(a)
+    (folder / 'inner' / 'b.json').write_bytes((top / 'examples' / 'county.vendor-b.json').read_bytes())
+    (folder / 'c.json').write_bytes(a.replace(b'Ingrith', b'Ingrid'))
+    (folder / 'empty.json').write_bytes(b'')
+    (folder / 'refused.json').write_bytes(b'{}')
+    (folder / 'long.json').write_bytes(b' ' * 67108865)
+    (folder / 'other.txt').write_bytes(a)
+    return folder
+
+
+@pytest.fixture
+def run(tmp_path):
+    """Runs erd.many with journals of its own."""
+    def run(*words, **more):
+        environment = {**os.environ, 'XDG_STATE_HOME': str(tmp_path / 'state')}
+        return subprocess.run([sys.executable, '-m', 'erd.many', *map(str, words)], capture_output=True, text=True,
+                              env=environment, stdin=subprocess.DEVNULL, **more)
+    return run
+
+
+def rows_by_name(ran):
+    """The rows of a run with --json, by the names of their files."""
+    return {os.path.basename(row['file']): row for row in json.loads(ran.stdout)}
+
+
+def look_at(rows):
+    """The rows are those of the folder of ballots."""
+    assert {name: row['verdict'] for name, row in rows.items()} == {
+        'a.json': 'accepted', 'b.json': 'accepted', 'c.json': 'accepted', 'empty.json': 'not JSON',
+        'refused.json': 'refused', 'long.json': 'too long'}
+    assert rows['a.json']['sha256'] == rows['b.json']['sha256'] != rows['c.json']['sha256']
+    assert [rows[name]['group'] for name in ('a.json', 'b.json', 'c.json', 'empty.json')] == [1, 1, 2, None]
+    assert rows['refused.json']['faults'] == 1
+
+
+@pytest.mark.parametrize('jobs', [1, 3])
+def test_groups(run, ballots, jobs):
+    ran = run('--json', '--jobs', jobs, ballots)
+    assert (ran.returncode, ran.stderr) == (3, '')
+    look_at(rows_by_name(ran))
+
+
+def test_sha256_is_that_of_the_canonical_form(run, top, ballots):
+    import hashlib
+    form = (top / 'examples' / 'county.canonical.json').read_bytes()
+    rows = rows_by_name(run('--json', ballots / 'a.json'))
+    assert rows['a.json']['sha256'] == hashlib.sha256(form).hexdigest()
+
+
+def test_csv_and_table(run, ballots):
+    rows = list(csv.DictReader(io.StringIO(run('--csv', ballots).stdout)))
+    assert len(rows) == 6 and {row['verdict'] for row in rows} == {'accepted', 'not JSON', 'refused', 'too long'}
+    table = run(ballots).stdout
+    assert table.splitlines()[0].split() == ['file', 'verdict', 'faults', 'sha256', 'of', 'the', 'canonical', 'form', 'group']
+    assert table.endswith('\n6 files, 3 accepted, in 2 groups\n')
+
+
+def test_names_of_files_do_not_paint_the_terminal(run, ballots):
+    (ballots / 'x\x1b[31m\n.json').write_bytes(b'{}')
+    assert '\x1b' not in run(ballots).stdout
+
+
+@pytest.mark.parametrize('words', [[], ['--json', '--csv', '.'], ['--jobs', 'x', '.'], ['--prefer', '', '.']])
+def test_usage(run, words):
+    assert run(*words).returncode == 3
+
+
+def test_what_cannot_be_read_is_a_row(run, ballots):
+    (ballots / 'gone.json').symlink_to(ballots / 'nowhere')
+    rows = rows_by_name(run('--json', ballots, ballots / 'gone.json'))
+    assert rows['gone.json']['verdict'] == 'cannot open'
+
+
+def test_a_process_that_ends_is_a_row(run, ballots, tmp_path):
+    # A process that the system stops, as for its memory, ends with no answer.
+    (tmp_path / 'sitecustomize.py').write_text(
+        'import erd, os\n'
+        'real = erd.canonical\n'
+        'def canonical(report, **more):\n'
+        '    if report == b"": os._exit(9)\n'
+        '    return real(report, **more)\n'
+        'erd.canonical = canonical\n')
+    os.environ['PYTHONPATH'] = str(tmp_path)
+    try:
+        rows = rows_by_name(run('--json', '--jobs', 2, ballots))
+    finally:
+        del os.environ['PYTHONPATH']
+    assert rows['empty.json']['verdict'] == 'the process ended'
+    assert rows['a.json']['verdict'] == rows['c.json']['verdict'] == 'accepted'
+
+
+def test_resume(run, top, tmp_path):
+    folder = tmp_path / 'many'
+    folder.mkdir()
+    report = (top / 'examples' / 'one-unit.json').read_bytes()
+    for number in range(3000):
+        (folder / f'{number}.json').write_bytes(report)
+    environment = {**os.environ, 'XDG_STATE_HOME': str(tmp_path / 'state')}
+    words = [sys.executable, '-m', 'erd.many', '--json', '--jobs', '2', str(folder)]
+    cut = subprocess.Popen(words, stdout=subprocess.DEVNULL, stderr=subprocess.DEVNULL, env=environment, start_new_session=True)
+    state = tmp_path / 'state' / 'erd'
+    deadline = time.time() + 120
+    while time.time() < deadline and not any(file.stat().st_size > 2000 for file in state.glob('*.jsonl')):
+        time.sleep(0.01)
+    os.killpg(cut.pid, signal.SIGKILL)
+    cut.wait()
+    kept = sum(len(file.read_text().split('\n')) - 2 for file in state.glob('*.jsonl'))
+    assert 0 < kept < 3000
+    (folder / '0.json').write_bytes(b'{')
+    ran = run('--json', '--resume', '--jobs', 2, folder)
+    rows = rows_by_name(ran)
+    assert len(rows) == 3000 and rows['0.json']['verdict'] == 'not JSON'
+    assert sum(row['verdict'] == 'accepted' for row in rows.values()) == 2999
+    assert not list(state.glob('*.jsonl'))
+
+
+def test_cluster(run, ballots, tmp_path):
+    pytest.importorskip('distributed')
+    started = []
+    try:
+        file = tmp_path / 'scheduler.json'
+        options = ['--scheduler-file', str(file), '--no-dashboard']
+        programs = [['distributed.cli.dask_scheduler', '--host', '127.0.0.1', '--port', '0']]
+        programs += [['distributed.cli.dask_worker', '--nthreads', '1', '--host', '127.0.0.1']] * 2
+        for program in programs:
+            started.append(subprocess.Popen([sys.executable, '-m', *program, *options], cwd=tmp_path,
+                                            stdout=subprocess.DEVNULL, stderr=subprocess.DEVNULL))
+            deadline = time.time() + 120
+            while not file.exists() and time.time() < deadline:
+                time.sleep(0.1)
+        address = json.loads(file.read_text())['address']
+        ran = run('--json', '--scheduler', address, ballots, timeout=300)
+        look_at(rows_by_name(ran))
+    finally:
+        for it in started:
+            it.terminate()
+        for it in started:
+            it.wait()

@@ -1,0 +1,65 @@
+"""The conformance suite, by the calls and, for some cases, by the command."""
+
+import subprocess
+import sys
+
+import pytest
+
+import erd
+
+
+def preference(case):
+    """The preferred type of a case, if it has one."""
+    file = case / 'prefer'
+    return file.read_text('utf-8').rstrip('\n') if file.exists() else None
+
+
+def test_answers(case):
+    prefer = preference(case)
+    if (case / 'input.json').exists():
+        report = (case / 'input.json').read_bytes()
+        found = erd.check(report, prefer=prefer)
+        assert found.text == (case / 'check.txt').read_text('utf-8')
+        form = erd.canonical(report, prefer=prefer)
+        assert form.check == found
+        canonical = case / 'canonical.json'
+        assert form.form == (canonical.read_bytes() if canonical.exists() else None)
+    else:
+        left, right = ((case / name).read_bytes() for name in ('left.json', 'right.json'))
+        assert erd.compare(left, right, prefer=prefer).text == (case / 'compare.txt').read_text('utf-8')
+
+
+@pytest.mark.parametrize('name', ['one-unit.json', 'county.vendor-b.json', 'small-ballot.json'])
+def test_commands(top, name):
+    path = str(top / 'examples' / name)
+    report = (top / 'examples' / name).read_bytes()
+
+    def run(*words, given=b''):
+        return subprocess.run([sys.executable, '-m', 'erd', *words], input=given, capture_output=True)
+
+    form = erd.canonical(report).form
+    filtered, canon, check = run(given=report), run('canon', path), run('check', path)
+    compare = run('compare', '--prefer', 'local-level', path, path)
+    assert (filtered.returncode, filtered.stdout, filtered.stderr) == (0, form, b'')
+    assert (canon.returncode, canon.stdout, canon.stderr) == (0, form, b'')
+    assert (check.returncode, check.stdout, check.stderr) == (0, b'accepted\n', b'')
+    assert (compare.returncode, compare.stdout, compare.stderr) == (0, b'same\n', b'')
+
+
+@pytest.mark.parametrize('words, status, told', [
+    (['check', 'no such file'], 3, b'cannot open\n'),
+    (['check', '.'], 3, b'read failed\n'),
+    (['compare', '.', 'no such file'], 3, b'cannot open\n'),
+    (['check'], 3, None),
+    (['check', '--prefer', '', 'x'], 3, None),
+    (['chek', 'x'], 3, None),
+])
+def test_statuses(words, status, told):
+    ran = subprocess.run([sys.executable, '-m', 'erd', *words], capture_output=True, stdin=subprocess.DEVNULL)
+    assert (ran.returncode, ran.stdout) == (status, b'')
+    assert ran.stderr == told if told is not None else ran.stderr.startswith(b'usage: ')
+
+
+def test_refused_form():
+    ran = subprocess.run([sys.executable, '-m', 'erd'], input=b'{', capture_output=True)
+    assert (ran.returncode, ran.stdout, ran.stderr) == (2, b'', b'not JSON\n')

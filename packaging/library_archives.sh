@@ -1,0 +1,28 @@
+#!/usr/bin/env bash
+# Makes the archives of the library that stands in out/portable: out/liberd-VERSION-linux-PROCESSOR.tar.gz for x86_64 and
+# aarch64, and out/erd-VERSION-windows-x86_64.zip, each with the licences, the page on calls and the examples.
+set -eu
+cd "$(dirname "$0")/.."
+. packaging/version.sh
+. packaging/archives.sh
+umask 022
+work=$(mktemp -d)
+trap 'rm -rf "$work"' EXIT
+mkdir -p out
+
+# gathered FORM NAME: the files of a form in a folder with this name
+gathered() {
+    cp -RP "out/portable/$1" "$work/$2"
+    mkdir "$work/$2/examples"
+    cp examples/calling/* "$work/$2/examples"
+    cp LICENSE-MIT LICENSE-APACHE docs/CALLING.md "$work/$2"
+}
+
+for processor in x86_64 aarch64; do
+    name=liberd-$version-linux-$processor
+    gathered "linux-$processor" "$name"
+    tarball "$work/$name" "out/$name.tar.gz"
+done
+name=erd-$version-windows-x86_64
+gathered windows-x86_64 "$name"
+zipped "$work/$name" "out/$name.zip"

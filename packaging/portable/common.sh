@@ -1,0 +1,57 @@
+# For the scripts of this folder, which run at the top of the repository: the kit's tools of LLVM, and where things stand.
+. packaging/version.sh
+umask 022
+kit=$(dirname "$(rt doc)")
+made=out/portable
+parts=$made/parts
+mkdir -p "$parts"
+
+# llvm NAME WORD ..: a tool of LLVM, all of which are in one file of the kit, by the name that it is called by
+llvm() {
+    (exec -a "$1" "$kit/toolchain/bin/clang" "${@:2}")
+}
+
+# needed PACKAGE COMMAND: stops where the command is missing, and names the Debian package that has it
+needed() {
+    command -v "$2" > /dev/null || { echo "$0: there is no $2: install the package $1" >&2; exit 1; }
+}
+
+# needed_file PACKAGE FILE: the same for a file
+needed_file() {
+    [ -e "$2" ] || { echo "$0: there is no $2: install the package $1" >&2; exit 1; }
+}
+
+# the public calls, one word each
+exports() {
+    grep -o '^[a-z_]*' packaging/portable/exports.txt
+}
+
+# The headers that a compiler brings itself, such as stddef.h: the kit's clang has none.
+headers=(-isystem "$(cc -print-file-name=include)")
+
+# without_machine FILE MODULE: the text of a module, without the names of machine, processor and file
+without_machine() {
+    sed -E '/^target (triple|datalayout) = /d; /^source_filename = /d; /^; ModuleID = /d
+        s/ "(target-cpu|target-features|tune-cpu|probe-stack|stack-probe-size|frame-pointer)"(="[^"]*")?//g
+        s/^(attributes #[0-9]+ = \{) *\}/\1 "machine"="any" }/' "$1" > "$2"
+}
+
+# from_c FILE MODULE FLAG ..: C as such a module, not optimised yet
+from_c() {
+    llvm clang --target=x86_64-unknown-linux-gnu -std=c11 -O3 -Xclang -disable-llvm-passes -fPIC -fno-stack-protector \
+        -Wall -Wextra -ffile-prefix-map="$PWD=." "${headers[@]}" "${@:3}" -S -emit-llvm "$1" -o "$parts/c.ll"
+    without_machine "$parts/c.ll" "$2"
+    rm "$parts/c.ll"
+}
+
+# proved_for MACHINE MODULE: the proved code for another machine than x86-64. One instruction of x86-64 stands in it by name, which
+# picks bytes of a vector by their places, and zero where a place is negative; each machine has one of its own that does this.
+proved_for() {
+    sed 's/@llvm\.x86\.ssse3\.pshuf\.b\.128/@pick_bytes/; /^declare .* @pick_bytes(/d' "$parts/proved.ll" > "$2"
+    cat "packaging/portable/pick_bytes/$1.ll" >> "$2"
+    if grep -q '@llvm\.x86\.' "$2"; then
+        echo "$0: the proved code has instructions of x86-64:" >&2
+        grep -o '@llvm\.x86\.[a-z0-9.]*' "$2" | sort -u >&2
+        exit 1
+    fi
+}

@@ -1,0 +1,78 @@
+/* The exports of erd.wasm. Each has the name and the parameters that it has in erd.h, but that a pointer or a size is a number
+ * of 32 bits: all memory of the module lies below 4 GiB. So `text` and `length` name 4 bytes each, or are 0.
+ *
+ * The calls of 64 bits have other names here: the compiler is told that erd_check stands for wide_erd_check, and so on. */
+#include "../../../bindings/c/erd.h"
+
+#include <stdint.h>
+
+void *malloc(size_t size);
+
+#define EXPORTED(name) __asm__(name)
+
+typedef uint32_t address;
+
+static void *at(address place) {
+    return (void *)(uintptr_t)place;
+}
+
+static address address_of(const void *place) {
+    return (address)(uintptr_t)place;
+}
+
+/* What a call has answered. */
+struct answer {
+    char *text;
+    size_t length;
+};
+
+/* Hands an answer on to the caller's 4 bytes each. */
+static uint32_t handed_on(enum erd_outcome outcome, struct answer answer, address text, address length) {
+    if (text != 0)
+        *(address *)at(text) = address_of(answer.text);
+    if (length != 0)
+        *(uint32_t *)at(length) = (uint32_t)answer.length;
+    return outcome;
+}
+
+#define ON_REPORT(name)                                                                                                        \
+    uint32_t exported_##name(address bytes, uint32_t size, address prefer, address text, address length) EXPORTED(#name);      \
+    uint32_t exported_##name(address bytes, uint32_t size, address prefer, address text, address length) {                     \
+        struct answer answer = {NULL, 0};                                                                                      \
+        enum erd_outcome outcome =                                                                                             \
+            name(at(bytes), size, at(prefer), text != 0 ? &answer.text : NULL, &answer.length);                                \
+        return handed_on(outcome, answer, text, length);                                                                       \
+    }
+
+#define ON_TWO_REPORTS(name)                                                                                                   \
+    uint32_t exported_##name(address left, uint32_t left_size, address right, uint32_t right_size, address prefer,             \
+                             address text, address length) EXPORTED(#name);                                                    \
+    uint32_t exported_##name(address left, uint32_t left_size, address right, uint32_t right_size, address prefer,             \
+                             address text, address length) {                                                                   \
+        struct answer answer = {NULL, 0};                                                                                      \
+        enum erd_outcome outcome = name(at(left), left_size, at(right), right_size, at(prefer),                                \
+                                        text != 0 ? &answer.text : NULL, &answer.length);                                      \
+        return handed_on(outcome, answer, text, length);                                                                       \
+    }
+
+ON_REPORT(erd_check)
+ON_REPORT(erd_canonical)
+ON_REPORT(erd_check_data)
+ON_TWO_REPORTS(erd_compare)
+ON_TWO_REPORTS(erd_compare_data)
+
+void exported_erd_free(address room) EXPORTED("erd_free");
+void exported_erd_free(address room) {
+    erd_free(at(room));
+}
+
+address exported_erd_version(void) EXPORTED("erd_version");
+address exported_erd_version(void) {
+    return address_of(erd_version());
+}
+
+/* Returns room for the bytes of a report, or 0 where there is none. erd_free takes it back. */
+address exported_erd_malloc(uint32_t size) EXPORTED("erd_malloc");
+address exported_erd_malloc(uint32_t size) {
+    return address_of(malloc(size));
+}
