@@ -1,0 +1,178 @@
+"""What a user does with a mouse: each flow of the page, with files whose answers are known."""
+import base64
+import json
+import re
+import zlib
+
+from session import EXAMPLES, ROOT, SUITE, sha256
+
+SMALL = EXAMPLES / 'small-ballot.json'
+COUNTY = [EXAMPLES / ('county.vendor-%s.json' % vendor) for vendor in 'ab']
+MOST_BYTES = 67108864
+
+
+def run(session):
+    examples(session)
+    one_file(session)
+    faults(session)
+    two_files(session)
+    dropped(session)
+    preferred(session)
+    refused_texts(session)
+    removed(session)
+    printed(session)
+
+
+def examples(session):
+    """The examples, one click away."""
+    wanted = {0: 'These two files define the same ballots', 1: 'These two files do not define the same ballots',
+              2: 'Refused: 3 faults'}
+    for position, verdict in wanted.items():
+        session.fresh()
+        session.browser.all('#examples button')[position].click()
+        session.equal('example %d' % (position + 1), session.verdict(), verdict)
+
+
+def one_file(session):
+    """An accepted file: the verdict, the sums, and the canonical form as a file."""
+    session.equal('an accepted file', session.judged(SMALL), 'Accepted')
+    canonical = (EXAMPLES / 'small-ballot.canonical.json').read_bytes()
+    session.equal('its sums', session.texts('.sum'), [sha256(SMALL.read_bytes()), sha256(canonical)])
+    session.equal('a screen reader is told', session.text('#announcement'), 'Accepted')
+    session.browser.script("document.querySelector('.record .buttons button:last-child').scrollIntoView()")
+    session.click('.record .buttons button:last-child')
+    session.equal('its canonical form', session.downloaded('small-ballot.canonical.json'), canonical)
+
+
+def faults(session):
+    """A refused file: a card for each fault, in order, and the part of the file."""
+    case = SUITE / 'shape-faults-of-the-whole-first-phase'
+    lines = (case / 'check.txt').read_text(encoding='utf-8').splitlines()
+    session.equal('a refused file', session.judged(case / 'input.json'), 'Refused: %d faults' % len(lines))
+    pointers = [line.split(': ')[0] or 'empty: the report itself' for line in lines]
+    session.equal('its pointers', session.texts('.card .place > span:last-child'), pointers[:20])
+    session.click('.faults > p:last-child button')
+    session.equal('the list of faults', session.downloaded('faults.txt'), (case / 'check.txt').read_bytes())
+    one_fault = SMALL.read_text(encoding='utf-8').replace('"VotesAllowed":1', '"VotesAllowed":1.5')
+    session.judged(session.file('one-fault.json', one_fault))
+    session.equal('the part of the file', session.texts('.card mark'), ['"VotesAllowed":1.5'])
+    session.equal('the trail', session.texts('.card .trail li'),
+                  ['election 1 “Test”', 'contest 1 “Governor”', 'member VotesAllowed'])
+
+
+def two_files(session):
+    """Two files: equal ones, the first difference, and the list of all others."""
+    session.fresh()
+    session.choose(0, *COUNTY)
+    session.equal('two files at once', session.verdict(), 'These two files define the same ballots')
+    sums = session.texts('.sum[data-sum="form"]')
+    session.equal('their sums', sums, 2 * [sha256((EXAMPLES / 'county.canonical.json').read_bytes())])
+    changed = COUNTY[1].read_text(encoding='utf-8')
+    for old, new in (('Ingrith Sablewood', 'Ingrid Sablewood'), ('"VotesAllowed":1', '"VotesAllowed":2')):
+        changed = changed.replace(old, new)
+    verdict = session.judged(COUNTY[0], session.file('changed.json', changed))
+    session.equal('two files that differ', verdict, 'These two files do not define the same ballots')
+    session.equal('the first difference', session.text('.sentence'),
+                  'Candidate “Ingrith Sablewood” (local-level K-12) differs in BallotName.')
+    session.equal('both values', session.texts('#first-difference ~ div tbody:last-child td div'),
+                  ['“Ingrith Sablewood”', '“Ingrid Sablewood”'])
+    others = session.texts('.differences summary')
+    session.said('the other differences', '' if len(others) >= 1 and others[0].startswith('Contest ') else repr(others))
+    session.click('.differences summary')
+    session.equal('a value of another difference', session.texts('.differences td div')[:2], ['1', '2'])
+
+
+DROP = """
+    const files = arguments[0].map(({name, data}) => new File([data], name));
+    const transfer = new DataTransfer();
+    files.forEach((file) => transfer.items.add(file));
+    const target = document.querySelector(arguments[1]);
+    for (const kind of ['dragover', 'drop']) {
+        target.dispatchEvent(new DragEvent(kind, {dataTransfer: transfer, bubbles: true, cancelable: true}));
+    }"""
+
+
+def dropped(session):
+    """Files that are dropped on the page, and on one of the two places."""
+    files = [{'name': path.name, 'data': path.read_text(encoding='utf-8')} for path in COUNTY]
+    session.fresh()
+    session.browser.script(DROP, files[:1], 'body')
+    session.equal('one file dropped', session.verdict(), 'Accepted')
+    session.browser.script(DROP, files[1:], 'body')
+    session.equal('another one dropped', session.verdict(), 'These two files define the same ballots')
+    session.browser.script(DROP, [{'name': 'x.json', 'data': '{'}], '[data-slot="1"]')
+    session.equal('one dropped on the second place', session.verdict(), "These two files can't be compared yet")
+    session.browser.script(DROP, files, 'body')
+    session.equal('two files dropped', session.verdict(), 'These two files define the same ballots')
+    session.browser.script(DROP, files + files[:1], 'body')
+    session.equal('three files dropped', session.text('#announcement'), 'Choose one file, or two.')
+    session.said('three files dropped, shown', '' if session.browser.script("return !document.getElementById('files-message').hidden") else 'no message')
+
+
+def preferred(session):
+    """The preferred type of identifier, out of those that the files have."""
+    case = SUITE / 'prefer-key-of-the-preferred-type'
+    session.judged(case / 'left.json', case / 'right.json')
+    session.equal('without a preference', session.text('.sentence'), 'Unit (fips 20) is in left.json only.')
+    session.browser.script("""
+        const select = document.getElementById('prefer');
+        select.value = 'local-level';
+        select.dispatchEvent(new Event('change'));""")
+    session.verdict()
+    session.equal('under the preference', session.text('.sentence'), 'Unit (local-level U1) differs in ExternalIdentifier.')
+    session.equal('the record has the preference', session.texts('.record dd bdi')[-1:], ['local-level'])
+
+
+def refused_texts(session):
+    """Files that are not JSON, and files that are too long or empty."""
+    whole = SMALL.read_bytes()
+    troubles = {
+        'cut short': (whole[:1000], 'The file ends too early.'),
+        'byte order mark': (b'\xef\xbb\xbf' + whole, 'The file begins with a byte order mark'),
+        'UTF-16': (whole.decode().encode('utf-16'), 'The file is encoded as UTF-16.'),
+        'Windows-1252': (whole.replace(b'Governor', b'Gouverneur d\xe9l\xe9gu\xe9'), 'The file has a byte that is not UTF-8.'),
+        'XML': (b'<?xml version="1.0"?><ElectionReport/>', 'This is XML or a web page.'),
+        'a comma too many': (whole.replace(b'}]', b'},]', 1), 'There is a comma before a closing bracket.'),
+        'empty': (b' \n', 'The file is empty.'),
+    }
+    for name, (data, words) in troubles.items():
+        verdict = session.judged(session.file('trouble.json', data))
+        session.equal('not JSON: ' + name, verdict, 'Not JSON')
+        text = session.text('#result section p')
+        session.said('why it is not: ' + name, '' if text.startswith(words) else text)
+    path = session.work / 'long.json'
+    with open(path, 'wb') as file:
+        file.truncate(MOST_BYTES + 1)
+    session.equal('a file that is too long', session.judged(path), 'Too large')
+    path.unlink()
+
+
+def removed(session):
+    """A file that is taken out again."""
+    session.judged(SMALL, COUNTY[0])
+    session.click('#remove-0')
+    session.equal('the first file removed', session.verdict(), 'Accepted')
+    session.equal('the second file is the first now', session.text('#name-0 bdi'), COUNTY[0].name)
+    session.click('#remove-0')
+    session.equal('no file left', session.text('#result'), '')
+
+
+def unpacked(stream):
+    """A part of a PDF, which may be compressed."""
+    try:
+        return zlib.decompress(stream)
+    except zlib.error:
+        return b''
+
+
+def printed(session):
+    """The record is one page, and has what it needs."""
+    session.judged(*COUNTY)
+    pdf = base64.b64decode(session.browser.command('print'))
+    pages = len(re.findall(rb'/Type\s*/Page\b', pdf + b''.join(map(unpacked, re.findall(rb'stream\r?\n(.*?)endstream', pdf, re.S)))))
+    session.said('the printed record is one page', '' if pages == 1 else '%d pages' % pages)
+    labels = session.texts('.record dt')
+    wanted = json.loads((ROOT / 'web' / 'texts.en.json').read_text(encoding='utf-8'))
+    missing = [key for key in ('verdict', 'file1', 'file2', 'fileSum', 'formSum', 'prefer', 'date', 'version')
+               if wanted['record.' + key] not in labels]
+    session.equal('the record has all', missing, [])

@@ -1,0 +1,116 @@
+"""What a user does with the keyboard alone: each flow by Tab, Enter, Space and the arrow keys."""
+from session import EXAMPLES, SUITE
+
+TAB, ENTER, SPACE, SHIFT, DOWN = '\ue004', '\ue007', ' ', '\ue008', '\ue015'
+SMALL = EXAMPLES / 'small-ballot.json'
+COUNTY = [EXAMPLES / ('county.vendor-%s.json' % vendor) for vendor in 'ab']
+MOST_STEPS = 60
+
+
+def run(session):
+    examples(session)
+    files(session)
+    preferred(session)
+    cards(session)
+    saved(session)
+    printed(session)
+    cancelled(session)
+
+
+def step_to(session, selector):
+    """Presses Tab until the element has the focus; tells whether it got it."""
+    for _ in range(MOST_STEPS):
+        session.browser.press(TAB)
+        if session.browser.script('return document.activeElement.matches(arguments[0])', selector):
+            return True
+    return False
+
+
+def typed(session, *paths):
+    """Types names of files into the button that has the focus; the dialogue of the browser is not part of the page."""
+    session.browser.script('return document.activeElement').type('\n'.join(map(str, paths)))
+
+
+def examples(session):
+    """The examples, by Tab and Enter."""
+    session.fresh()
+    step_to(session, '#examples li:nth-child(2) button')
+    session.browser.press(ENTER)
+    session.equal('keyboard: an example', session.verdict(), 'These two files do not define the same ballots')
+    step_to(session, '.differences summary')
+    session.browser.press(ENTER)
+    session.said('keyboard: another difference', '' if session.texts('.differences td') else 'it did not open')
+
+
+def files(session):
+    """Two files, one of them removed again."""
+    session.fresh()
+    step_to(session, '#input-0')
+    typed(session, COUNTY[0])
+    session.equal('keyboard: one file', session.verdict(), 'Accepted')
+    step_to(session, '#input-1')
+    typed(session, COUNTY[1])
+    session.equal('keyboard: two files', session.verdict(), 'These two files define the same ballots')
+    session.browser.press((SHIFT, TAB))
+    session.browser.script('document.activeElement.blur()')
+    step_to(session, '#remove-1')
+    session.browser.press(SPACE)
+    session.equal('keyboard: one removed', session.verdict(), 'Accepted')
+    focus = session.browser.script('return document.activeElement.id')
+    session.equal('keyboard: the focus goes on', focus, 'input-0')
+
+
+def preferred(session):
+    """A preferred type of identifier, by the arrow keys."""
+    case = SUITE / 'prefer-accepted-under-a-preference'
+    prefer = (case / 'prefer').read_text(encoding='utf-8').rstrip('\n')
+    session.equal('keyboard: without a preference', session.judged(case / 'input.json'), 'Refused: 1 fault')
+    step_to(session, '#prefer')
+    place = session.texts('#prefer option').index(prefer)
+    session.browser.press(*[DOWN] * place)
+    session.browser.press(ENTER)
+    session.browser.until('return document.getElementById("prefer").value === arguments[0]', prefer)
+    session.equal('keyboard: under a preference', session.verdict(), 'Accepted')
+
+
+def cards(session):
+    """The explanation of a fault is opened and closed."""
+    session.judged(SUITE / 'shape-faults-of-the-whole-first-phase' / 'input.json')
+    step_to(session, '.card summary')
+    before = session.browser.script('return document.activeElement.parentElement.open')
+    session.browser.press(ENTER)
+    session.equal('keyboard: an explanation', session.browser.script('return document.activeElement.parentElement.open'), not before)
+
+
+def saved(session):
+    """The canonical form is saved."""
+    session.judged(SMALL)
+    (session.work / 'downloads' / 'small-ballot.canonical.json').unlink(missing_ok=True)
+    session.browser.script("document.querySelector('.record').querySelector('button').focus()")
+    step_to(session, '.record button:last-child')
+    session.browser.press(ENTER)
+    canonical = (EXAMPLES / 'small-ballot.canonical.json').read_bytes()
+    session.equal('keyboard: the canonical form', session.downloaded('small-ballot.canonical.json'), canonical)
+
+
+def printed(session):
+    """The button for printing asks the browser to print."""
+    session.judged(SMALL)
+    session.browser.script('window.print = () => { window.printed = true; }')
+    session.browser.script("document.getElementById('verdict').focus()")
+    step_to(session, '.record button')
+    session.browser.press(SPACE)
+    session.equal('keyboard: print', session.browser.script('return window.printed'), True)
+
+
+def cancelled(session):
+    """A judgement is cancelled while it runs."""
+    session.fresh()
+    session.choose(0, session.large)
+    session.browser.until("return document.documentElement.dataset.busy === 'yes'")
+    step_to(session, '#cancel')
+    session.browser.press(ENTER)
+    session.equal('keyboard: cancelled', session.verdict(), 'Cancelled')
+    session.equal('keyboard: the focus after that', session.browser.script('return document.activeElement.id'), 'input-0')
+    session.choose(0, SMALL)
+    session.equal('keyboard: a file after that', session.verdict(), 'Accepted')

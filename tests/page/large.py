@@ -1,0 +1,75 @@
+"""Large files: the page stays alive, tells what it does, and can be stopped; and how fast the answers are."""
+from session import EXAMPLES
+
+COUNTY = EXAMPLES / 'county.vendor-a.json'
+LONGEST_PAUSE = 1000
+
+# Counts the longest time in milliseconds in which the page did nothing else.
+WATCH = """
+    let last = performance.now();
+    window.longestPause = 0;
+    clearInterval(window.watch);
+    window.watch = setInterval(() => {
+        const now = performance.now();
+        window.longestPause = Math.max(window.longestPause, now - last);
+        last = now;
+    }, 10);"""
+
+
+def run(session):
+    alive(session)
+    stages(session)
+    speed(session)
+    no_memory(session)
+
+
+def alive(session):
+    """A file of 25 MB: no long pause, and the right answer."""
+    session.fresh()
+    session.browser.script(WATCH)
+    session.choose(0, session.large)
+    session.equal('25 MB: the verdict', session.verdict(seconds=90), 'Accepted')
+    pause = session.browser.script('return window.longestPause')
+    session.said('25 MB: the page stays alive (%d ms)' % pause, '' if pause < LONGEST_PAUSE else 'a pause of %d ms' % pause)
+    print('        %s: 25 MB in %s ms' % (session.browser.name, milliseconds(session)))
+
+
+def stages(session):
+    """Another file of 25 MB, which is given up: what is done is told, and a button stops it."""
+    session.fresh()
+    session.choose(0, session.large)
+    stage = session.browser.until("""
+        return document.getElementById('progress').hidden ? '' : document.getElementById('stage').textContent;""")
+    session.said('25 MB: the stage', '' if session.large.name in stage or stage == 'Working' else stage)
+    session.click('#cancel')
+    session.equal('25 MB: cancelled', session.verdict(), 'Cancelled')
+    session.choose(0, COUNTY)
+    session.equal('a file after that', session.verdict(), 'Accepted')
+
+
+def speed(session):
+    """The first answer after the page was opened."""
+    session.fresh()
+    session.browser.all('#examples button')[0].click()
+    session.verdict()
+    first = milliseconds(session)
+    session.browser.all('#examples button')[0].click()
+    session.verdict()
+    print('        %s: an example in %s ms, and again in %s ms' % (session.browser.name, first, milliseconds(session)))
+
+
+def milliseconds(session):
+    """How long the last answer took."""
+    return session.browser.script('return document.documentElement.dataset.milliseconds')
+
+
+def no_memory(session):
+    """The page with less memory for the proved code: it says so, and the next file is judged."""
+    if session.poor is None:
+        return
+    session.browser.open(session.poor)
+    session.browser.until('return document.documentElement.dataset.ready')
+    session.choose(0, session.large)
+    session.equal('less memory: the verdict', session.verdict(seconds=60), 'Out of memory')
+    session.choose(0, COUNTY)
+    session.equal('less memory: a file after that', session.verdict(), 'Accepted')

@@ -1,0 +1,23 @@
+"""The pictures of the page for docs/: what a visitor sees first of each answer. They have no date in them."""
+
+# The name of each picture, the example, what stands at its top, its height, and whether it is dark.
+PICTURES = (
+    ('page-same', 0, 'h1', 800, False),
+    ('page-difference', 1, 'h1', 1150, False),
+    ('page-faults', 2, '#result', 900, False),
+    ('page-dark', 1, '#result', 900, True),
+)
+
+
+def run(session, folder):
+    for name, example, top, height, dark in PICTURES:
+        session.fresh()
+        session.browser.script("document.querySelectorAll('#examples button')[arguments[0]].click()", example)
+        session.verdict()
+        session.browser.scheme(dark)
+        session.browser.resize(1000, height)
+        session.browser.script('scrollTo(0, document.querySelector(arguments[0]).getBoundingClientRect().top + scrollY - 20)', top)
+        picture = session.browser.picture()
+        session.said('the picture ' + name, '' if 5_000 < len(picture) < 200_000 else '%d bytes' % len(picture))
+        (folder / (name + '.png')).write_bytes(picture)
+        session.browser.scheme(False)

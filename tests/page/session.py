@@ -1,0 +1,96 @@
+"""The page in a browser, and what the parts of the test have in common."""
+import hashlib
+import pathlib
+import time
+
+from browsers import DriverError
+
+ROOT = pathlib.Path(__file__).resolve().parent.parent.parent
+EXAMPLES = ROOT / 'examples'
+SUITE = ROOT / 'conformance'
+
+
+class Session:
+    """One browser with the page, opened from the disk. Counts cases."""
+
+    def __init__(self, browser, page, work):
+        self.browser = browser
+        self.address = pathlib.Path(page).resolve().as_uri()
+        self.work = pathlib.Path(work)
+        self.passed = 0
+        self.failed = 0
+
+    def said(self, name, why):
+        """One case is done; it is right where `why` is empty."""
+        if why:
+            self.failed += 1
+            print('FAILED  %s: %s: %s' % (self.browser.name, name, why), flush=True)
+        else:
+            self.passed += 1
+            print('ok      %s: %s' % (self.browser.name, name), flush=True)
+
+    def equal(self, name, found, wanted):
+        """One case: two values are equal."""
+        self.said(name, '' if found == wanted else '%r in place of %r' % (found, wanted))
+
+    def part(self, run):
+        """Runs a part of the test. If the browser does not do what it is asked, that is a failure of the part."""
+        try:
+            run(self)
+        except DriverError as error:
+            self.said(getattr(run, '__module__', 'a part'), str(error)[:400])
+
+    def fresh(self):
+        """The page, opened again."""
+        self.browser.resize(1000, 800)
+        self.browser.open(self.address)
+        self.browser.until('return document.documentElement.dataset.ready')
+
+    def file(self, name, data):
+        """A file for the test."""
+        path = self.work / name
+        path.write_bytes(data if isinstance(data, bytes) else data.encode())
+        return path
+
+    def choose(self, side, *paths):
+        """Chooses files as a user does in the dialogue of the browser."""
+        self.browser.one('#input-%d' % side).type('\n'.join(str(path) for path in paths))
+
+    def verdict(self, seconds=20):
+        """Waits for the verdict, and returns its heading."""
+        self.browser.until("return document.documentElement.dataset.busy === 'no' && document.getElementById('verdict') !== null",
+                           seconds=seconds)
+        return self.text('#verdict')
+
+    def text(self, selector):
+        """The text of the first element; empty if there is none."""
+        return self.browser.script('return document.querySelector(arguments[0])?.textContent ?? ""', selector)
+
+    def texts(self, selector):
+        """The texts of all these elements."""
+        return self.browser.script('return [...document.querySelectorAll(arguments[0])].map((one) => one.textContent)', selector)
+
+    def click(self, selector):
+        self.browser.one(selector).click()
+
+    def judged(self, *paths):
+        """The verdict on files that are chosen on a fresh page."""
+        self.fresh()
+        for side, path in enumerate(paths):
+            self.choose(side, path)
+            self.verdict()
+        return self.text('#verdict')
+
+    def downloaded(self, name, seconds=10):
+        """The bytes of a file that the page saved."""
+        path = self.work / 'downloads' / name
+        end = time.monotonic() + seconds
+        while time.monotonic() < end:
+            if path.exists() and path.stat().st_size > 0 and not list(path.parent.glob('*.part')):
+                return path.read_bytes()
+            time.sleep(0.05)
+        return b''
+
+
+def sha256(data):
+    return hashlib.sha256(data).hexdigest()

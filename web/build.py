@@ -1,0 +1,148 @@
+"""Makes the page: one HTML file with everything in it. The same inputs give the same bytes.
+
+usage: build.py WASM [OUTPUT]
+
+WASM is `erd.wasm`. The page goes to OUTPUT, or to out/portable/erd.html.
+"""
+import base64
+import gzip
+import hashlib
+import html
+import json
+import pathlib
+import re
+import sys
+
+# The build leaves no files beside its sources.
+sys.dont_write_bytecode = True
+import fixes  # noqa: E402
+
+ROOT = pathlib.Path(__file__).resolve().parent.parent
+SCRIPTS = ROOT / 'web' / 'scripts'
+LANGUAGE = 'en'
+STYLES = ('style.css', 'results.css', 'print.css')
+EXAMPLES = ('county.vendor-a.json', 'county.vendor-b.json')
+MOST_BYTES = 1_000_000
+
+IMPORT = re.compile(r"^import \{([^}]*)\} from '([^']+)';\n", re.M)
+EXPORT = re.compile(r'^export (?=(?:async )?(?:function\*?|class|const) (\w+))', re.M)
+
+
+class BuildError(Exception):
+    """The modules can't be joined."""
+
+
+def joined(first):
+    """The modules that one of them needs, as one script: each after those that it imports, in a function of its own."""
+    modules = {}
+    add_module((SCRIPTS / first).resolve(), modules)
+    return '(() => {\n"use strict";\n' + ''.join(modules.values()) + '})();\n'
+
+
+def add_module(path, modules):
+    """Adds a module after those that it imports."""
+    if path in modules:
+        return
+    text = path.read_text(encoding='utf-8')
+    for _, place in IMPORT.findall(text):
+        add_module((path.parent / place).resolve(), modules)
+    modules[path] = scoped(path, text)
+
+
+def scoped(path, text):
+    """A module as a constant that has what it exports."""
+    imports = ''.join('const {%s} = %s;\n' % (names.replace(' as ', ': '), constant(path.parent / place))
+                      for names, place in IMPORT.findall(text))
+    names = EXPORT.findall(text)
+    text = without_comments(EXPORT.sub('', IMPORT.sub('', text)))
+    if re.search(r'^(import|export)\b', text, re.M):
+        raise BuildError('%s has an import or export of another form' % path.name)
+    return 'const %s = (() => {\n%s%sreturn {%s};\n})();\n' % (constant(path), imports, text, ', '.join(names))
+
+
+def constant(path):
+    """The constant that stands for a module."""
+    return path.resolve().stem + '_module'
+
+
+def without_comments(text):
+    """The text without the lines that are comments alone."""
+    text = re.sub(r'^ */\*\*.*?\*/\n', '', text, flags=re.M | re.S)
+    return re.sub(r'^ *//.*\n', '', text, flags=re.M).strip() + '\n'
+
+
+def packed(data):
+    """Bytes as a text of base64, compressed. The header of gzip has no time in it."""
+    return base64.b64encode(gzip.compress(data, 9, mtime=0)).decode()
+
+
+def in_script(text):
+    """A script, which must not have what ends or opens an element of its own."""
+    if re.search(r'</script|<script|<!--', text, re.I):
+        raise BuildError('a script has a text that would end it')
+    return '\n' + text
+
+
+def json_text(value):
+    """A value as JSON that can stand in an element `script`."""
+    return json.dumps(value, ensure_ascii=False, separators=(',', ':'), sort_keys=True).replace('<', '\\u003c')
+
+
+def sum_of(text):
+    """How a Content-Security-Policy names an element with this text."""
+    return "'sha256-%s'" % base64.b64encode(hashlib.sha256(text.encode()).digest()).decode()
+
+
+def policy(style, script):
+    """Only this style and this script run, and the worker that the script makes. Nothing may be loaded or sent."""
+    return '; '.join((
+        "default-src 'none'", "script-src %s 'wasm-unsafe-eval'" % sum_of(script), "style-src " + sum_of(style),
+        'worker-src blob:', "connect-src 'none'", "form-action 'none'", "base-uri 'none'",
+    ))
+
+
+def tables(texts):
+    """The tables that the scripts read: texts, fixes and the version."""
+    words = {'texts': texts, 'fixes': fixes.read(ROOT / 'docs' / 'FIXES.md'), 'version': version()}
+    return json_text(words)
+
+
+def version():
+    return (ROOT / 'VERSION').read_text(encoding='utf-8').strip()
+
+
+def page(wasm):
+    """The whole page."""
+    texts = json.loads((ROOT / 'web' / ('texts.%s.json' % LANGUAGE)).read_text(encoding='utf-8'))
+    style = '\n' + '\n'.join((ROOT / 'web' / name).read_text(encoding='utf-8') for name in STYLES)
+    script = in_script(joined('page.mjs'))
+    examples = {name: (ROOT / 'examples' / name).read_text(encoding='utf-8') for name in EXAMPLES}
+    parts = {
+        'language': LANGUAGE,
+        'version': version(),
+        'style': style,
+        'script': script,
+        'policy': html.escape(policy(style, script), quote=False),
+        'worker': in_script(joined('worker.mjs')),
+        'tables': tables(texts),
+        'wasm': packed(wasm),
+        'examples': packed(json.dumps(examples, ensure_ascii=False).encode()),
+    }
+    template = (ROOT / 'web' / 'page.html').read_text(encoding='utf-8')
+    return re.sub(r'\{\{(text:)?([\w.]+)\}\}',
+                  lambda found: html.escape(texts[found[2]]) if found[1] else parts[found[2]], template)
+
+
+def main(words):
+    if len(words) not in (1, 2):
+        sys.exit('usage: build.py WASM [OUTPUT]')
+    output = pathlib.Path(words[1]) if len(words) == 2 else ROOT / 'out' / 'portable' / 'erd.html'
+    made = page(pathlib.Path(words[0]).read_bytes()).encode()
+    if len(made) > MOST_BYTES:
+        raise BuildError('the page has %d bytes, more than %d' % (len(made), MOST_BYTES))
+    output.parent.mkdir(parents=True, exist_ok=True)
+    output.write_bytes(made)
+
+
+if __name__ == '__main__':
+    main(sys.argv[1:])

@@ -1,0 +1,69 @@
+// The page's end of the worker: asks questions, and ends the worker to cancel.
+
+/** The worker was ended before it answered. */
+export class Cancelled extends Error {}
+
+/** A worker, and another one after each that was ended. */
+export class Client {
+    #makeWorker;
+    #start;
+    #worker = null;
+    #waiting = new Map();
+    #number = 0;
+
+    /**
+     * @param {() => Worker} makeWorker
+     * @param {object} start the first question to each worker
+     */
+    constructor(makeWorker, start) {
+        this.#makeWorker = makeWorker;
+        this.#start = start;
+        this.#begin();
+    }
+
+    /** Asks a question. `tell` is told of progress. */
+    ask(kind, question, tell = () => {}) {
+        const number = ++this.#number;
+        return new Promise((resolve, reject) => {
+            this.#waiting.set(number, { resolve, reject, tell });
+            this.#worker.postMessage({ number, kind, question });
+        });
+    }
+
+    /** Ends the worker, with all that it was asked, and begins another one. */
+    cancel() {
+        this.#end(new Cancelled());
+    }
+
+    #begin() {
+        this.#worker = this.#makeWorker();
+        this.#worker.addEventListener('message', ({ data }) => this.#heard(data));
+        this.#worker.addEventListener('error', (event) => this.#end(new Error(event.message || 'the worker has ended')));
+        this.ask('start', this.#start).catch(() => {});
+    }
+
+    #end(error) {
+        this.#worker.terminate();
+        const waiting = [...this.#waiting.values()];
+        this.#waiting.clear();
+        this.#begin();
+        waiting.forEach(({ reject }) => reject(error));
+    }
+
+    #heard({ number, progress, answer, error }) {
+        const waiting = this.#waiting.get(number);
+        if (waiting === undefined) {
+            return;
+        }
+        if (progress !== undefined) {
+            waiting.tell(progress);
+            return;
+        }
+        this.#waiting.delete(number);
+        if (error === undefined) {
+            waiting.resolve(answer);
+        } else {
+            waiting.reject(new Error(error));
+        }
+    }
+}

@@ -1,0 +1,84 @@
+// Why bytes are not JSON, for a reader. That they are not comes from the proved code; this only helps to find out why.
+import { NotJson, Scanner } from './scanner.mjs';
+
+// How files of other kinds begin.
+const BEGINNINGS = [
+    ['byteOrderMark', [0xef, 0xbb, 0xbf]],
+    ['utf16', [0xff, 0xfe]],
+    ['utf16', [0xfe, 0xff]],
+    ['zip', [0x50, 0x4b, 0x03, 0x04]],
+    ['gzip', [0x1f, 0x8b]],
+    ['pdf', [0x25, 0x50, 0x44, 0x46]],
+];
+
+const BLOCK = 1 << 16;
+
+/**
+ * Why the bytes are not JSON, and where they stop being so.
+ * @param {Uint8Array} bytes
+ * @returns {{why: string, at: number | null}} `why` is the key of a text; `at` is null where no place says more
+ */
+export function whyNotJson(bytes) {
+    const kind = BEGINNINGS.find(([, beginning]) => beginning.every((byte, index) => bytes[index] === byte));
+    if (kind !== undefined) {
+        return { why: kind[0], at: null };
+    }
+    if (/^\s*$/.test(beginningOf(bytes))) {
+        return { why: 'empty', at: null };
+    }
+    if (/^\s*</.test(beginningOf(bytes))) {
+        return { why: 'markup', at: null };
+    }
+    const wrong = firstNotUtf8(bytes);
+    return wrong === null ? whereItStops(bytes) : { why: 'notUtf8', at: wrong };
+}
+
+function beginningOf(bytes) {
+    return String.fromCharCode(...bytes.subarray(0, 1000));
+}
+
+function whereItStops(bytes) {
+    try {
+        new Scanner(bytes).whole(null);
+    } catch (error) {
+        if (error instanceof NotJson) {
+            return { why: error.why, at: error.at };
+        }
+        throw error;
+    }
+    return { why: 'unknown', at: null };
+}
+
+// The first byte that can't stand where it does in UTF-8; null if all can.
+function firstNotUtf8(bytes) {
+    const decoder = new TextDecoder('utf-8', { fatal: true, ignoreBOM: true });
+    for (let start = 0; start < bytes.length; start += BLOCK) {
+        const end = Math.min(start + BLOCK, bytes.length);
+        if (!decodes(decoder, bytes.subarray(start, end), end < bytes.length)) {
+            return firstIn(bytes, start);
+        }
+    }
+    return null;
+}
+
+// The block that begins here has the byte, or ends a character that began in the block before.
+function firstIn(bytes, start) {
+    let at = start;
+    while (at > 0 && start - at < 3 && (bytes[at] & 0xc0) === 0x80) {
+        at--;
+    }
+    const decoder = new TextDecoder('utf-8', { fatal: true, ignoreBOM: true });
+    while (at < bytes.length && decodes(decoder, bytes.subarray(at, at + 1), true)) {
+        at++;
+    }
+    return at;
+}
+
+function decodes(decoder, bytes, stream) {
+    try {
+        decoder.decode(bytes, { stream });
+        return true;
+    } catch {
+        return false;
+    }
+}

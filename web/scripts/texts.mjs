@@ -1,0 +1,41 @@
+// The texts of the page, from one table. `web/texts.en.json` is the table in English.
+
+let table = {};
+let plurals = new Intl.PluralRules('en');
+let numbers = new Intl.NumberFormat('en');
+
+/** Takes a table of texts, and the language that it is in. */
+export function useTexts(texts, language) {
+    table = texts;
+    plurals = new Intl.PluralRules(language);
+    numbers = new Intl.NumberFormat(language);
+}
+
+/**
+ * A text of the table. A text may have a form for each plural of the language: `count` chooses it.
+ * @param {string} key
+ * @param {Record<string, string | number>} [values] what stands in place of the names in braces
+ */
+export function say(key, values = {}) {
+    const text = sayIfKnown(key, values);
+    if (text === undefined) {
+        throw new RangeError(`no text has the key ${key}`);
+    }
+    return text;
+}
+
+/** The text, or undefined if the table has none. */
+export function sayIfKnown(key, values = {}) {
+    const entry = Object.hasOwn(table, key) ? table[key] : undefined;
+    const text = typeof entry === 'object' ? entry[plurals.select(values.count)] ?? entry.other : entry;
+    return text?.replace(/\{(\w+)\}/g, (whole, name) => (name in values ? shown(values[name]) : whole));
+}
+
+/** A number as the language writes it. */
+export function numberText(number) {
+    return numbers.format(number);
+}
+
+function shown(value) {
+    return typeof value === 'number' ? numbers.format(value) : value;
+}

@@ -1,0 +1,37 @@
+// The verdict on one file or two, in a heading and a sentence.
+import { element, saidWith, theirs } from './dom.mjs';
+import { say } from './texts.mjs';
+
+const MOST_BYTES = 67108864;
+const TONES = { accepted: 'good', refused: 'bad' };
+
+/**
+ * What the whole answer says.
+ * @returns {{tone: 'good' | 'bad' | 'stop', title: string}}
+ */
+export function verdictOf({ files, comparison }) {
+    if (comparison?.noMemory) {
+        return { tone: 'stop', title: say('verdict.noMemory') };
+    }
+    if (comparison !== null) {
+        return comparison.same ? { tone: 'good', title: say('verdict.same') } : { tone: 'bad', title: say('verdict.different') };
+    }
+    return files.length === 1 ? verdictOfFile(files[0]) : { tone: 'stop', title: say('verdict.notCompared') };
+}
+
+function verdictOfFile({ outcome, faults }) {
+    return { tone: TONES[outcome] ?? 'stop', title: say(`verdict.${outcome}`, { count: faults ?? 0 }) };
+}
+
+/** The banner of a verdict. */
+export function banner({ tone, title }, ...sentences) {
+    return element('div', { class: `banner ${tone}` },
+        element('span', { class: 'sign', 'aria-hidden': 'true' }, { good: '✓', bad: '✗', stop: '!' }[tone]),
+        element('div', {}, element('h2', { id: 'verdict', tabindex: '-1' }, title), ...sentences));
+}
+
+/** A sentence on one file. */
+export function sentenceOn(file, name) {
+    const { outcome, faults, size } = file;
+    return element('p', {}, saidWith(`sentence.${outcome}`, { name: theirs(name) }, { count: faults ?? 0, size, most: MOST_BYTES }));
+}
