@@ -19,10 +19,10 @@ ROOT = pathlib.Path(__file__).resolve().parent.parent
 sys.path.insert(0, str(ROOT / 'reference'))
 sys.dont_write_bytecode = True
 import erd_reference  # noqa: E402
+from reports import CLASS, OF_ELECTIONS as HELD, identifier, ids_in, keys_of, places, texts_in  # noqa: E402
 
-PREFIX = 'ElectionResults.'
 EXAMPLES = ['one-unit', 'small-ballot', 'small-ballot', 'small-ballot', 'two-elections.vendor-a', 'two-elections.vendor-b', 'county.vendor-a']
-TYPES = ['local-level', 'fips', 'other', 'zips']
+TYPES = ['local-level', 'fips', 'other', 'zips', 'Fips', 'fips ', 'check', 'two  words', 'a\nb', 'a=b', '\u00e9', 'e\u0301', '\U00010000']
 CLASSES = sorted(erd_reference.TABLE) + ['Device']
 NAMES = sorted({name for members in erd_reference.MEMBERS.values() for name in members}) + ['Foo', 'Id', 'PersonIds', 'Ids', '@id', '', '~/', 'a\nb', 'Notes']
 # Numbers as they are written: the reader of neither program sees them as Python writes them.
@@ -46,27 +46,6 @@ def written(value, dice):
     return json.dumps(value, ensure_ascii=dice.random() < 0.5)
 
 
-# ---- places of a tree
-
-
-def places(value, found=None):
-    """Each array and object in the value."""
-    found = [] if found is None else found
-    if isinstance(value, (dict, list)):
-        found.append(value)
-        for inner in value.values() if isinstance(value, dict) else value:
-            places(inner, found)
-    return found
-
-
-def keys_of(place):
-    return list(place) if isinstance(place, dict) else list(range(len(place)))
-
-
-def texts_in(value):
-    return [place[key] for place in places(value) for key in keys_of(place) if type(place[key]) is str]
-
-
 # ---- edits
 
 
@@ -88,7 +67,7 @@ def some_value(report, dice):
 def rename(report, dice):
     """Gives each `@id` another text, at references too."""
     salt = dice.choice(['', 'n', '\u00e9', 'z' * 20]) + str(dice.randrange(100))
-    names = {place['@id'] for place in places(report) if isinstance(place, dict) and type(place.get('@id')) is str}
+    names = ids_in(report)
     for place in places(report):
         for key in keys_of(place):
             is_reference = key == '@id' or isinstance(place, list) or key.endswith(('Id', 'Ids'))
@@ -140,13 +119,14 @@ def add_member(report, dice):
 
 def change_class(report, dice):
     place = dice.choice([place for place in places(report) if isinstance(place, dict)])
-    place['@type'] = PREFIX + dice.choice(CLASSES)
+    place['@type'] = CLASS + dice.choice(CLASSES)
 
 
 def add_identifier(report, dice):
     holders = [place for place in places(report) if isinstance(place, dict) and isinstance(place.get('ExternalIdentifier'), list)]
     if holders:
-        entry = {'@type': PREFIX + 'ExternalIdentifier', 'Type': dice.choice(TYPES), 'Value': dice.choice(['1', '2', 'U1', ''])}
+        kind = dice.choice(TYPES)
+        entry = identifier(dice.choice(['1', '2', 'U1', '']), kind)
         if dice.random() < 0.2:
             entry['OtherType'] = dice.choice(TYPES)
         dice.choice(holders)['ExternalIdentifier'].append(entry)
@@ -161,9 +141,6 @@ def move(report, dice):
 
 
 # ---- edits of elections
-
-
-HELD = ['Candidate', 'Contest', 'BallotStyle']
 
 
 def elections_of(report):
@@ -191,7 +168,8 @@ def add_election(report, dice):
         report['Election'].insert(dice.randrange(len(report['Election']) + 1), new)
         for election in [new, *(elections if dice.random() < 0.95 else [])]:
             if not election.get('ExternalIdentifier'):
-                election['ExternalIdentifier'] = [{'@type': PREFIX + 'ExternalIdentifier', 'Type': dice.choice(TYPES), 'Value': 'E' + str(dice.randrange(20))}]
+                kind = dice.choice(TYPES)
+                election['ExternalIdentifier'] = [identifier('E' + str(dice.randrange(20)), kind)]
         for _ in range(dice.randrange(6)):
             move_held(report, dice)
 
@@ -336,12 +314,18 @@ def smallest(case, folder):
     return case
 
 
+def types_in(report):
+    """The types of identifiers in the report, as far as the command line takes them."""
+    kinds = [place.get('Type') for place in places(report) if isinstance(place, dict) and 'Value' in place]
+    return [kind for kind in kinds if type(kind) is str and kind and kind[0] != '-' and '\0' not in kind]
+
+
 def cases(bases, count, dice):
     for _ in range(count):
         command = dice.choice(['check', 'canon', 'compare', 'compare', 'filter'])
         left = edited(with_elections(dice.choice(bases), dice), dice, 3)
         reports = [left, edited(left, dice, 2)] if command == 'compare' else [left]
-        prefer = None if command == 'filter' else dice.choice([None, None, *TYPES])
+        prefer = None if command == 'filter' else dice.choice([None, dice.choice(TYPES), dice.choice(types_in(left) or TYPES)])
         yield Case(command, reports, prefer, dice.random())
 
 

@@ -42,7 +42,30 @@ reason() {
     grep -m 10 -E '(^|: )error|not proved|: no proof' <<< "$1" || tail -n 5 <<< "$1"
 }
 
+# cost CRATE: the processor seconds of its proof from nothing
+cost() {
+    sed -n "s/^| \`$1\` | \([0-9]*\) .*/\1/p" docs/GATE.md
+}
+
+# Says how long this takes, by the processors that there are and the work that is kept. A second processor saves a third of the
+# time, and four save half of it.
+tell() {
+    local crate kept=0 processors sum=0 part
+    processors=$(nproc)
+    part=$((processors >= 4 ? 50 : processors >= 2 ? 67 : 100))
+    for crate in "${crates[@]}"; do
+        if [ -d "crates/$crate/out/incremental" ]; then
+            kept=$((kept + 1))
+        else
+            sum=$((sum + $(cost "$crate")))
+        fi
+    done
+    echo "About $((sum * part / 6000 + 1)) minutes on $processors processors. The proofs of $kept of ${#crates[@]} crates are kept;" \
+        'of these, what has changed is proved again.'
+}
+
 mapfile -t crates < <(order)
+tell
 for i in "${!crates[@]}"; do
     crate=${crates[i]}
     start=$SECONDS

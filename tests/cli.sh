@@ -81,43 +81,17 @@ status=$?
 cp "$work/out" "$work/wanted_out"
 expect 'a long key that many selections name' 0 "$work/wanted_out" ''
 
-# Fault lines go to standard error: of the shape, and of later phases.
-sed 's/pre-election/certified/; s/"VotesAllowed":1/"VotesAllowed":1.5/' examples/small-ballot.json > "$work/shape"
-run "$work/shape"
-expect 'two faults of the shape' 1 "$work/empty" \
-    $'/Election/0/Contest/0/VotesAllowed: not a whole number\n/Status: not pre-election\n'
-
-sed 's/"Value":"U2"/"Value":"U1"/' examples/small-ballot.json > "$work/twins"
+# Fault lines go to standard error.
+sed 's/"Value":"U2"/"Value":"U1"/' "$small" > "$work/twins"
 run "$work/twins"
 expect 'two units with one key' 1 "$work/empty" $'/GpUnit/1: identifier used twice\n'
-
-sed 's/"PersonId":"a16"/"PersonId":"a16","PartyId":"a16"/; s/"BallotName":"Bo"/"BallotName":"Bo","PartyId":"x9"/' \
-    examples/small-ballot.json > "$work/references"
-run "$work/references"
-expect 'two faults of references' 1 "$work/empty" \
-    $'/Election/0/Candidate/1/PartyId: reference to another family\n/Election/0/Candidate/2/PartyId: unresolved reference\n'
-
-line='{"@id":"a15","@type":"ElectionResults.CandidateSelection","IsWriteIn":true}'
-sed "s/\"IsWriteIn\":true}/&,$line/" examples/small-ballot.json > "$work/lines"
-run "$work/lines"
-expect 'two write-in lines with one name' 1 "$work/empty" \
-    $'/Election/0/Contest/0/ContestSelection/3: selection name used twice\n'
-
-"$erd" < "$work/lines" > "$work/out" 2> /dev/full
+"$erd" < "$work/twins" > "$work/out" 2> /dev/full
 status=$?
 : > "$work/err"
 expect 'fault lines on a full device' 3 "$work/empty" ''
 
 run "$work/empty"
 expect 'no bytes' 2 "$work/empty" $'not JSON\n'
-
-head -c -1 "$one" > "$work/short"
-run "$work/short"
-expect 'a report cut short' 2 "$work/empty" $'not JSON\n'
-
-printf '\xff' > "$work/byte"
-run "$work/byte"
-expect 'a byte that is no text' 2 "$work/empty" $'not JSON\n'
 
 size=$(wc -c < "$one")
 { cat "$one"; head -c $((67108864 - size)) /dev/zero | tr '\0' ' '; } > "$work/large"
@@ -181,9 +155,6 @@ expect 'standard error closed, and needed' 3 "$work/empty" ''
 
 . tests/cli_words.sh
 . tests/cli_files.sh
-. tests/cli_rows.sh
-. tests/cli_preferences.sh
-. tests/cli_pairs.sh
 . tests/cli_rearranged.sh
 . tests/cli_many.sh
 
@@ -193,7 +164,7 @@ cmp -s "$one" crates/erd/stdin || why+='crates/erd/stdin differs; '
 cmp -s "$canonical" crates/erd/stdout || why+='crates/erd/stdout differs; '
 for file in one-unit.json one-unit.canonical.json small-ballot.json small-ballot.canonical.json; do
     sed 's/\\/\\\\/g; s/"/\\"/g' "examples/$file" > "$work/literal"
-    grep -qFf "$work/literal" crates/erd_rows/src/vectors.rt || why+="$file is not in erd_rows; "
+    grep -qFf "$work/literal" crates/erd_rows/src/tests/vectors.rt || why+="$file is not in erd_rows; "
 done
 said 'examples are the vectors of the tests' "$why"
 

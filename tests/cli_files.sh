@@ -17,11 +17,26 @@ done
 # Both files are opened before either is read, and the left one is read first.
 stopped 'a missing left file' 'cannot open' compare "$missing" "$one"
 stopped 'a missing right file' 'cannot open' compare "$one" "$missing"
+stopped 'one missing file on both sides' 'cannot open' compare "$missing" "$missing"
+stopped 'an empty name on both sides' 'cannot open' compare '' ''
 stopped 'no JSON on the left, and a missing right file' 'cannot open' compare tests/refuse.c "$missing"
 stopped 'a folder on the left, and a missing right file' 'cannot open' compare examples "$missing"
 stopped 'a folder on the left' 'read failed' compare examples "$one"
 stopped 'a folder on the right' 'read failed' compare "$one" examples
 stopped 'no JSON on the left, and a folder on the right' 'read failed' compare tests/refuse.c examples
+
+# One file on both sides, which is read twice.
+sed 's/pre-election/certified/; s/"VotesAllowed":1/"VotesAllowed":1.5/' "$small" > "$work/refused"
+call compare "$work/refused" "$work/refused"
+expect_text 'one refused file on both sides' 1 \
+    $'left: /Election/0/Contest/0/VotesAllowed: not a whole number\nleft: /Status: not pre-election\n' ''
+call compare --prefer fips "$work/refused" "$work/refused"
+expect_text 'one refused file on both sides, under a preference' 1 \
+    $'left: /Election/0/Contest/0/VotesAllowed: not a whole number\nleft: /Status: not pre-election\n' ''
+call compare tests/refuse.c tests/refuse.c
+expect_text 'one file on both sides that is not JSON' 2 $'left: not JSON\n' ''
+call compare "$small" "$small"
+expect_text 'one accepted file on both sides' 0 $'same\n' ''
 
 # A file without leave to read. Root has leave to read all, so it gives that up.
 bare=()

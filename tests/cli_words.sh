@@ -17,28 +17,59 @@ done
 call check "$one" --help
 expect_part 'help after a file' 0 out 'Usage: erd check [OPTIONS] <FILE>'
 
-# wrong PART WORD ..: these words are a usage fault, and the text about them has the part
+# wrong ERROR USAGE WORD ..: these words are a usage fault, and this is the text about them, where USAGE may be empty
 wrong() {
-    local part=$1
-    shift
+    local text="error: $1"$'\n\n'
+    [ -z "$2" ] || text+="Usage: $2"$'\n\n'
+    text+="For more information, try '--help'."$'\n'
+    shift 2
     call "$@"
-    expect_part "wrong: $*" 3 err "$part"
+    expect_text "wrong: $*" 3 '' "$text"
 }
 
-wrong 'Usage: erd [COMMAND]' nosuch
-wrong 'Usage: erd [COMMAND]' --nosuch
-wrong 'Usage: erd [COMMAND]' --version
-wrong 'Usage: erd [COMMAND]' --check "$one"
-wrong 'Usage: erd [COMMAND]' "$one"
-wrong 'Usage: erd check <FILE>' check
-wrong 'Usage: erd check [OPTIONS] <FILE>' check "$one" "$one"
-wrong 'Usage: erd canon <FILE>' canon
-wrong 'Usage: erd canon [OPTIONS] <FILE>' canon "$one" "$one"
-wrong 'Usage: erd compare <LEFT> <RIGHT>' compare
-wrong 'Usage: erd compare <LEFT> <RIGHT>' compare "$one"
-wrong 'Usage: erd compare [OPTIONS] <LEFT> <RIGHT>' compare "$one" "$one" "$one"
-wrong 'error: ' check -x
-wrong 'error: ' help nosuch
+# hyphen WORD: what is said of a word that is no option and might be a name
+hyphen() {
+    printf "unexpected argument '%s' found\n\n  tip: to pass '%s' as a value, use '-- %s'" "$1" "$1" "$1"
+}
+
+no_value="a value is required for '--prefer <TYPE>' but none was supplied"
+lacking=$'the following required arguments were not provided:\n  '
+any='erd [COMMAND]'
+for word in nosuch "$one" ''; do
+    wrong "unrecognized subcommand '$word'" "$any" "$word"
+done
+wrong $'unrecognized subcommand \'Check\'\n\n  tip: a similar subcommand exists: \'check\'' "$any" Check "$one"
+wrong "unrecognized subcommand 'nosuch'" "$any" help nosuch
+for word in --nosuch --version --check --prefer -x; do
+    wrong "unexpected argument '$word' found" "$any" "$word"
+    wrong "unexpected argument '$word' found" "$any" "$word" "$one"
+done
+for name in check canon; do
+    wrong "$lacking<FILE>" "erd $name <FILE>" "$name"
+    wrong "$lacking<FILE>" "erd $name --prefer <TYPE> <FILE>" "$name" --prefer "$one"
+    wrong "unexpected argument '$one' found" "erd $name [OPTIONS] <FILE>" "$name" "$one" "$one"
+    wrong "$(hyphen -x)" "erd $name [OPTIONS] <FILE>" "$name" -x
+    wrong "$(hyphen --nosuch)" "erd $name [OPTIONS] <FILE>" "$name" --nosuch "$one"
+    wrong "the argument '--prefer <TYPE>' cannot be used multiple times" "erd $name [OPTIONS] <FILE>" \
+        "$name" --prefer fips --prefer fips "$one"
+    wrong "$no_value" '' "$name" --prefer
+    wrong "$no_value" '' "$name" "$one" --prefer
+    wrong "$no_value" '' "$name" --prefer '' "$one"
+done
+wrong "$lacking<LEFT>"$'\n  <RIGHT>' 'erd compare <LEFT> <RIGHT>' compare
+wrong "$lacking<RIGHT>" 'erd compare <LEFT> <RIGHT>' compare "$one"
+wrong "$lacking<RIGHT>" 'erd compare --prefer <TYPE> <LEFT> <RIGHT>' compare --prefer "$one" "$one"
+wrong "unexpected argument '$one' found" 'erd compare [OPTIONS] <LEFT> <RIGHT>' compare "$one" "$one" "$one"
+wrong "$(hyphen -x)" 'erd compare [OPTIONS] <LEFT> <RIGHT>' compare "$one" -x
+wrong "the argument '--prefer <TYPE>' cannot be used multiple times" 'erd compare [OPTIONS] <LEFT> <RIGHT>' \
+    compare --prefer fips --prefer fips "$one" "$one"
+wrong "$no_value" '' compare --prefer
+wrong "$no_value" '' compare --prefer '' "$one" "$one"
+
+# With a report on standard input, too, the filter takes no preference.
+run "$one" --prefer fips
+expect_text 'a preference of the filter' 3 '' \
+    $'error: unexpected argument \'--prefer\' found\n\nUsage: erd [COMMAND]\n\nFor more information, try \'--help\'.\n'
 
 call $'\xff'
 expect_text 'a word that is no text' 3 '' $'the arguments are not text\n'

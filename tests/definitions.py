@@ -1,8 +1,11 @@
-"""Holds docs/DEFINITIONS.md against the definitions in `specs/`.
+"""Holds docs/DEFINITIONS.md against the definitions in `specs/`, and public contracts against `specs/code/`.
 
 The rows of the page are made from the comments that stand before the definitions, and the order of the files is that of
 each `Lib.antt`. What a comment ends with in brackets is its source. With `--write` the rows of the page are written anew;
 what else stands on the page is written by hand.
+
+A reader may skip `specs/code/`: no clause of a public function or trait cites a definition from there, and no other
+definition in `specs/` does.
 """
 
 import pathlib
@@ -11,7 +14,7 @@ import sys
 
 ROOT = pathlib.Path(__file__).resolve().parent.parent
 PAGE = ROOT / 'docs' / 'DEFINITIONS.md'
-CRATES = ['erd_tables', 'erd_check', 'erd_meaning', 'erd_normal', 'erd_compare', 'erd_canon', 'erd_c']
+CRATES = ['erd_tables', 'erd_check', 'erd_meaning', 'erd_normal', 'erd_compare', 'erd_canon', 'erd_program', 'erd_c']
 HEAD = ['| Definition | What it says | From |', '|---|---|---|']
 CODE = 'What private functions answer, step by step; a reader may skip it. What each file says stands in its first lines.'
 
@@ -20,30 +23,46 @@ PROFILE = 'profile'
 SOURCES = {
     'erd_c/Told': 'this project',
     'erd_canon/Bytes.IsNotJson': 'RFC 8259, as `serde_json` reads it',
+    'erd_canon/DataAnswers': 'docs/DATA.md',
+    'erd_canon/DataValues': 'docs/DATA.md',
+    'erd_canon/ReadLines': 'the grammar of `clap`',
+    'erd_canon/Subcommands': 'this project',
+    'erd_canon/Writing': 'this project',
     'erd_check/Faults.is_text': 'RFC 8259, section 3',
     'erd_check/Faults.is_array': 'RFC 8259, section 3',
     'erd_check/Faults.is_object': 'RFC 8259, section 3',
     'erd_check/Faults.is_empty_array': 'RFC 8259, section 3',
     'erd_check/Faults.lacks': 'RFC 8259, section 3',
     'erd_check/Numbers': 'the reading of `serde_json`',
+    'erd_check/Paths': 'this project',
     'erd_check/Trees': 'RFC 8259',
     'erd_check/Trees.IsNumber': 'the reading of `serde_json`',
     'erd_check/Trees.IsShallow': 'the reading of `serde_json`',
     'erd_check/Trees.IsNoDeeper': 'the reading of `serde_json`',
     'erd_check/Values': 'RFC 8259, section 5',
+    'erd_check/Visits': 'this project',
+    'erd_compare/DifferenceData': 'docs/DATA.md',
     'erd_compare/DifferenceLine.key_as_json': 'RFC 8259',
+    'erd_meaning/Hashes': 'this project',
     'erd_meaning/Lookups.id_in': "the standard's rule of references",
     'erd_meaning/Lookups.election_in': 'class Election',
     'erd_meaning/Lookups.FindsId': "the standard's rule of references",
     'erd_meaning/Meaning.Content': 'classes BallotStyle and OrderedHeader',
     'erd_meaning/Meaning.Node': 'classes BallotStyle and OrderedHeader',
+    'erd_meaning/NumberedNames': 'this project',
     'erd_meaning/Objects.has_id': "the standard's rule of references",
     'erd_meaning/Objects.owner_at': "the standard's rule of references",
     'erd_meaning/Objects.is_owned': "the standard's rule of references",
+    'erd_meaning/RankedNames': 'this project',
     'erd_meaning/Records.content_inside': 'classes BallotStyle and OrderedHeader',
     'erd_meaning/Records.is_header_class': 'classes OrderedContest and OrderedHeader',
     'erd_meaning/Records.node_of': 'classes BallotStyle and OrderedHeader',
     'erd_meaning/Records.nodes_of': 'classes BallotStyle and OrderedHeader',
+    'erd_program/Engines': 'this project',
+    'erd_program/Files': 'this project',
+    'erd_program/Messages': 'this project',
+    'erd_program/Program': 'this project',
+    'erd_program/World': 'this project',
     'erd_tables/Classes.class_name': 'the class names of the standard',
     'erd_tables/Classes.text_of_class': 'the name space of the standard',
     'erd_tables/Classes.classes': 'the classes of the standard that the profile covers',
@@ -140,6 +159,25 @@ def made_anew(page):
     return page
 
 
+CODE_IMPORT = re.compile(r'^\s*(?:ghost )?use Rattle\.\w+\.specs\.code\.\w+(?:\.\{([^}]*)\})?', re.M)
+PUBLIC = re.compile(r'^(?: {4})?pub (?:fn|trait) (\w+)(.*?)\n(?: {4})?(?:\{|\}|\{\})$', re.M | re.S)
+
+
+def code_cited():
+    """Where a public contract, or a definition outside `specs/code/`, cites a definition of `specs/code/`."""
+    found = []
+    for path in sorted(ROOT.glob('crates/*/src/**/*.rt')):
+        text = path.read_text(encoding='utf-8')
+        names = {name.strip().split(' as ')[-1] for names in CODE_IMPORT.findall(text) for name in names.split(',') if name}
+        for function in PUBLIC.finditer(text):
+            cited = names & set(re.findall(r'[^\s(){}[\],.]+', function.group(2)))
+            found += [f'{path.relative_to(ROOT)}: {function.group(1)} cites {name}' for name in sorted(cited)]
+    for path in sorted(ROOT.glob('crates/*/specs/*.antt')):
+        if CODE_IMPORT.search(path.read_text(encoding='utf-8')):
+            found.append(f'{path.relative_to(ROOT)} rests on specs/code')
+    return found
+
+
 def main():
     page = PAGE.read_text(encoding='utf-8')
     new = made_anew(page)
@@ -155,8 +193,13 @@ def main():
             print(f'specs/ have, and docs/DEFINITIONS.md has not: {line}')
     agree = page == new
     print(f'{"passed" if agree else "FAILED"}: the definitions of docs/DEFINITIONS.md')
-    print(f'{int(agree)} passed, {int(not agree)} failed')
-    return int(not agree)
+    cited = code_cited()
+    for line in cited:
+        print(line)
+    print(f'{"FAILED" if cited else "passed"}: public contracts can be read without specs/code')
+    passed = int(agree) + int(not cited)
+    print(f'{passed} passed, {2 - passed} failed')
+    return int(passed < 2)
 
 
 if __name__ == '__main__':

@@ -12,166 +12,136 @@ import sys
 import tempfile
 
 from measuring import measured
-
-CLASS = "ElectionResults."
-
-
-def identifier(value, kind="local-level", **more):
-    return {"@type": CLASS + "ExternalIdentifier", "Type": kind, "Value": value, **more}
+from reports import (CLASS, candidate, contest, election, identifier, label, named, ordered_contest, report, selection, style,
+                     translation, unit)
 
 
-def named(class_name, id, value, **more):
-    return {"@id": id, "@type": CLASS + class_name, "ExternalIdentifier": [identifier(value)], **more}
+def report_of(units, **more):
+    """A report whose election is held in the first of these units."""
+    return report(units, "u0", **more)
 
 
-def unit(id, value, **more):
-    return named("ReportingUnit", id, value, Type="county", **more)
+def contest_of(selections, class_name="CandidateContest"):
+    return contest("c", "C", "u0", selections, class_name)
 
 
-def language(content, name="en", **more):
-    return {"@type": CLASS + "LanguageString", "Language": name, "Content": content, **more}
-
-
-def label(texts):
-    return {"@type": CLASS + "InternationalizedText", "Text": texts}
-
-
-def report(units, **election):
-    return {
-        "@type": CLASS + "ElectionReport", "Status": "pre-election", "GpUnit": units,
-        "Election": [{"@type": CLASS + "Election", "Name": "Test", "Type": "general", "StartDate": "2026-11-03",
-                      "EndDate": "2026-11-03", "ElectionScopeId": "u0", **election}],
-    }
-
-
-def contest(selections, class_name="CandidateContest", **more):
-    if class_name == "CandidateContest":
-        more["VotesAllowed"] = 1
-    return named(class_name, "c", "C", Name="C", ElectionDistrictId="u0", ContestSelection=selections, **more)
-
-
-def selection(number, class_name, **more):
-    return {"@id": "s%d" % number, "@type": CLASS + class_name, **more}
-
-
-def style(number, content, **more):
-    return {"@type": CLASS + "BallotStyle", "ExternalIdentifier": [identifier("S%d" % number)], "GpUnitIds": ["u0"],
-            "OrderedContent": content, **more}
+def style_of(number, content):
+    return style("S%d" % number, ["u0"], OrderedContent=content)
 
 
 def candidates(count, key="K%07d"):
-    return [named("Candidate", "k%d" % n, key % n, BallotName="Ann") for n in range(count)]
+    return [candidate("k%d" % n, key % n) for n in range(count)]
 
 
 ONE = [unit("u0", "U0")]
 
 
 def units_rising(n):
-    return report([unit("u%d" % i, "U%07d" % i) for i in range(n)])
+    return report_of([unit("u%d" % i, "U%07d" % i) for i in range(n)])
 
 
 def units_falling(n):
-    return report([unit("u%d" % i, "U%07d" % (n - i)) for i in range(n)])
+    return report_of([unit("u%d" % i, "U%07d" % (n - i)) for i in range(n)])
 
 
 def units_alike(n):
-    return report([unit("u%d" % i, "U" * 200 + "%07d" % (i * 7919 % n)) for i in range(n)])
+    return report_of([unit("u%d" % i, "U" * 200 + "%07d" % (i * 7919 % n)) for i in range(n)])
 
 
 def candidate_selections(n):
-    chosen = [selection(i, "CandidateSelection", CandidateIds=["k%d" % i]) for i in range(n)]
-    return report(ONE, Candidate=candidates(n), Contest=[contest(chosen)])
+    chosen = [selection("s%d" % i, "CandidateSelection", CandidateIds=["k%d" % i]) for i in range(n)]
+    return report_of(ONE, Candidate=candidates(n), Contest=[contest_of(chosen)])
 
 
 def write_ins(n):
-    chosen = [selection(i, "CandidateSelection", IsWriteIn=True, SequenceOrder=i) for i in range(n)]
-    return report(ONE, Contest=[contest(chosen)])
+    chosen = [selection("s%d" % i, "CandidateSelection", IsWriteIn=True, SequenceOrder=i) for i in range(n)]
+    return report_of(ONE, Contest=[contest_of(chosen)])
 
 
 def measure_texts(n):
-    chosen = [selection(i, "BallotMeasureSelection", Selection=label([language("Choice %d" % (n - i))])) for i in range(n)]
-    return report(ONE, Contest=[contest(chosen, "BallotMeasureContest")])
+    chosen = [selection("s%d" % i, "BallotMeasureSelection", Selection=label([translation("Choice %d" % (n - i))])) for i in range(n)]
+    return report_of(ONE, Contest=[contest_of(chosen, "BallotMeasureContest")])
 
 
 def ordered_selections(n):
-    chosen = [selection(i, "CandidateSelection", IsWriteIn=True, SequenceOrder=i) for i in range(n)]
-    listed = {"@type": CLASS + "OrderedContest", "ContestId": "c", "OrderedContestSelectionIds": ["s%d" % i for i in range(n)]}
-    return report(ONE, Contest=[contest(chosen)], BallotStyle=[style(0, [listed])])
+    chosen = [selection("s%d" % i, "CandidateSelection", IsWriteIn=True, SequenceOrder=i) for i in range(n)]
+    listed = ordered_contest("c", OrderedContestSelectionIds=["s%d" % i for i in range(n)])
+    return report_of(ONE, Contest=[contest_of(chosen)], BallotStyle=[style_of(0, [listed])])
 
 
 def references(n):
     units = [unit("u%d" % i, "U%07d" % i) for i in range(n)]
     units[0]["ComposingGpUnitIds"] = ["u%d" % (i * 7919 % (n - 1) + 1) for i in range(n - 1)]
-    return report(units)
+    return report_of(units)
 
 
 def identifiers(n):
     units = [unit("u0", "U0")]
     units[0]["ExternalIdentifier"] = [identifier("U%07d" % (i * 7919 % n)) for i in range(n)]
-    return report(units)
+    return report_of(units)
 
 
 def translations(n):
-    texts = [language("Text %07d" % (i * 7919 % n), "l%d" % i) for i in range(n)]
-    return report(ONE, Contest=[contest([selection(0, "BallotMeasureSelection", Selection=label(texts))], "BallotMeasureContest")])
+    texts = [translation("Text %07d" % (i * 7919 % n), "l%d" % i) for i in range(n)]
+    return report_of(ONE, Contest=[contest_of([selection("s0", "BallotMeasureSelection", Selection=label(texts))], "BallotMeasureContest")])
 
 
 def same_triples(n):
     units = [unit("u0", "U0")]
     units[0]["ExternalIdentifier"] = [identifier("U0", Label="L%07d" % (i * 7919 % n)) for i in range(n)]
-    return report(units)
+    return report_of(units)
 
 
 def unresolved(n):
-    return report([unit("u0", "U0", ComposingGpUnitIds=["w%d" % i for i in range(n)])])
+    return report_of([unit("u0", "U0", ComposingGpUnitIds=["w%d" % i for i in range(n)])])
 
 
 def repeated(n):
-    return report([unit("u0", "U0", ComposingGpUnitIds=["u1"] * n), unit("u1", "U1")])
+    return report_of([unit("u0", "U0", ComposingGpUnitIds=["u1"] * n), unit("u1", "U1")])
 
 
 def foreign(n):
     units = [unit("u0", "U0", ComposingGpUnitIds=["p%d" % i for i in range(n)])]
-    made = report(units)
+    made = report_of(units)
     made["Party"] = [named("Party", "p%d" % i, "P%07d" % i, Name="Blue") for i in range(n)]
     return made
 
 
 def twins(n):
-    return report([unit("u%d" % i, "U0") for i in range(n)])
+    return report_of([unit("u%d" % i, "U0") for i in range(n)])
 
 
 def same_ids(n):
-    return report([unit("u0", "U%07d" % i) for i in range(n)])
+    return report_of([unit("u0", "U%07d" % i) for i in range(n)])
 
 
 def chain(n):
-    return report([unit("u%d" % i, "U%07d" % i, **({"ComposingGpUnitIds": ["u%d" % (i + 1)]} if i + 1 < n else {})) for i in range(n)])
+    return report_of([unit("u%d" % i, "U%07d" % i, **({"ComposingGpUnitIds": ["u%d" % (i + 1)]} if i + 1 < n else {})) for i in range(n)])
 
 
 def styles(n):
-    chosen = [selection(0, "CandidateSelection", IsWriteIn=True)]
-    listed = [{"@type": CLASS + "OrderedContest", "ContestId": "c"}] * 3
-    return report(ONE, Contest=[contest(chosen)], BallotStyle=[style(i, listed) for i in range(n)])
+    chosen = [selection("s0", "CandidateSelection", IsWriteIn=True)]
+    listed = [ordered_contest("c")] * 3
+    return report_of(ONE, Contest=[contest_of(chosen)], BallotStyle=[style_of(i, listed) for i in range(n)])
 
 
 def deep_headers(n):
-    made = report(ONE)
+    made = report_of(ONE)
     made["Header"] = [named("Header", "h", "H", Name="State")]
     content = []
     for _ in range(50):
         content = [{"@type": CLASS + "OrderedHeader", "HeaderId": "h", **({"OrderedContent": content} if content else {})}]
-    made["Election"][0]["BallotStyle"] = [style(i, content) for i in range(max(n // 50, 1))]
+    made["Election"][0]["BallotStyle"] = [style_of(i, content) for i in range(max(n // 50, 1))]
     return made
 
 
 def with_long_keys(n, count, chosen):
     """So many candidates, whose long keys differ only at the end. The selections have these candidates and orders."""
     made = candidates(count)
-    for i, candidate in enumerate(made):
-        candidate["ExternalIdentifier"][0]["Value"] = "K" * (n * 10) + str(i)
-    selections = [selection(i, "CandidateSelection", CandidateIds=ids, SequenceOrder=order) for i, (ids, order) in enumerate(chosen)]
-    return report(ONE, Candidate=made, Contest=[contest(selections)])
+    for i, one in enumerate(made):
+        one["ExternalIdentifier"][0]["Value"] = "K" * (n * 10) + str(i)
+    selections = [selection("s%d" % i, "CandidateSelection", CandidateIds=ids, SequenceOrder=order) for i, (ids, order) in enumerate(chosen)]
+    return report_of(ONE, Candidate=made, Contest=[contest_of(selections)])
 
 
 def long_key(n):
@@ -197,51 +167,50 @@ def long_twins(n):
 def long_contents(n):
     """The contents of a ballot list selections that name one candidate."""
     made = long_key(n)
-    listed = {"@type": CLASS + "OrderedContest", "ContestId": "c", "OrderedContestSelectionIds": ["s%d" % i for i in range(max(n // 10, 1))]}
-    made["Election"][0]["BallotStyle"] = [style(0, [listed])]
+    listed = ordered_contest("c", OrderedContestSelectionIds=["s%d" % i for i in range(max(n // 10, 1))])
+    made["Election"][0]["BallotStyle"] = [style_of(0, [listed])]
     return made
 
 
 def long_labels(n):
     """The contents of a ballot list one selection with a long label and a long identifier again and again."""
-    listed = {"@type": CLASS + "OrderedContest", "ContestId": "c", "OrderedContestSelectionIds": ["s0"] * n}
-    chosen = selection(0, "BallotMeasureSelection", Selection=label([language("L" * (10 * n))]), ExternalIdentifier=[identifier("I" * (10 * n))])
-    return report(ONE, Contest=[contest([chosen], "BallotMeasureContest")], BallotStyle=[style(0, [listed])])
+    listed = ordered_contest("c", OrderedContestSelectionIds=["s0"] * n)
+    chosen = selection("s0", "BallotMeasureSelection", Selection=label([translation("L" * (10 * n))]), ExternalIdentifier=[identifier("I" * (10 * n))])
+    return report_of(ONE, Contest=[contest_of([chosen], "BallotMeasureContest")], BallotStyle=[style_of(0, [listed])])
 
 
 def empty_arrays(n):
-    return report([unit("u%d" % i, "U%07d" % i, ComposingGpUnitIds=[]) for i in range(n)])
+    return report_of([unit("u%d" % i, "U%07d" % i, ComposingGpUnitIds=[]) for i in range(n)])
 
 
 def election_of_many(i, count):
     """An election with four candidates, two contests and two styles. Its second contest names candidates of another election,
     and its styles have a contest of that one."""
     other = (i * 7919 + 1) % count
-    held = report(
-        ONE,
+    return election(
+        "u0",
         ExternalIdentifier=[identifier("E%07d" % i)],
-        Candidate=[named("Candidate", "k%d" % k, "K%07d" % (k * 7919 % (4 * count)), BallotName="Ann") for k in range(4 * i, 4 * i + 4)],
+        Candidate=[candidate("k%d" % k, "K%07d" % (k * 7919 % (4 * count))) for k in range(4 * i, 4 * i + 4)],
         Contest=[contest_of_two(2 * i, 4 * i), contest_of_two(2 * i + 1, 4 * other + 2)],
-        BallotStyle=[style(s, [{"@type": CLASS + "OrderedContest", "ContestId": "c%d" % c} for c in (s, 2 * other)]) for s in (2 * i, 2 * i + 1)])
-    return held["Election"][0]
+        BallotStyle=[style_of(s, [ordered_contest("c%d" % c) for c in (s, 2 * other)]) for s in (2 * i, 2 * i + 1)])
 
 
-def contest_of_two(number, candidate):
+def contest_of_two(number, first):
     """A contest between a candidate and the next one."""
-    chosen = [selection(2 * number + j, "CandidateSelection", CandidateIds=["k%d" % (candidate + j)]) for j in range(2)]
-    return {**contest(chosen), "@id": "c%d" % number, "ExternalIdentifier": [identifier("C%07d" % number)]}
+    chosen = [selection("s%d" % (2 * number + j), "CandidateSelection", CandidateIds=["k%d" % (first + j)]) for j in range(2)]
+    return contest("c%d" % number, "C%07d" % number, "u0", chosen)
 
 
 def elections(n):
     """An election for each twenty of n."""
     count = max(n // 20, 1)
-    return {**report(ONE), "Election": [election_of_many(i, count) for i in range(count)]}
+    return {**report_of(ONE), "Election": [election_of_many(i, count) for i in range(count)]}
 
 
 def twin_elections(n):
     made = elections(n)
-    for election in made["Election"]:
-        election["ExternalIdentifier"] = [identifier("E")]
+    for one in made["Election"]:
+        one["ExternalIdentifier"] = [identifier("E")]
     return made
 
 
@@ -258,7 +227,7 @@ def moved(n):
 
 
 def nothing_common(n):
-    return report([unit("u%d" % i, "U%07d" % i) for i in range(n)]), report([unit("u%d" % i, "V%07d" % i) for i in range(n)])
+    return report_of([unit("u%d" % i, "U%07d" % i) for i in range(n)]), report_of([unit("u%d" % i, "V%07d" % i) for i in range(n)])
 
 
 def last_differs(n):

@@ -30,11 +30,17 @@ there 'the manual page' 644 "$root/share/man/man1/erd.1"
 there 'the completions for bash' 644 "$root/share/bash-completion/completions/erd"
 there 'the completions for zsh' 644 "$root/share/zsh/site-functions/_erd"
 there 'the completions for fish' 644 "$root/share/fish/vendor_completions.d/erd.fish"
-for file in LICENSE-MIT LICENSE-APACHE README.md CHANGELOG.md; do
+for file in LICENSE-MIT LICENSE-APACHE CHANGELOG.md docs/{USING,FIXES,WALKTHROUGH,PROFILE}.md; do
     there "$file" 644 "$root/share/doc/erd/$file"
 done
-for file in examples/*.json; do
+for file in examples/*.json examples/*.jq examples/README.md contrib/*; do
     same_bytes "$file" "$file" "$root/share/doc/erd/$file"
+done
+run python3 tests/cited.py "$root/share/doc/erd"
+expect 'installed pages name installed files' 0
+[ "$status" -eq 0 ] || cat "$work/out"
+for file in $(grep -o 'share/doc/erd/[A-Za-z/.]*[a-z]' docs/erd.1 | sort -u); do
+    said "$file, which the manual page names" "$([ -e "$root/$file" ] || echo 'it is not installed')"
 done
 said 'nothing stands beside the folder that was named' \
     "$(find "$work/root" ! -type d ! -path "$root/*" | head -n 3)"
@@ -78,15 +84,15 @@ completed 'a type after =' 'erd check --prefer=loc\t' check --prefer=local-level
 completed 'a file after a type' 'erd compare --prefer fips left.json r\t' compare --prefer fips left.json right.json
 completed 'nothing of other words' 'erd other r\t' other r
 
-# shell NAME COMMAND ..: where the shell is there, it reads its completions
+# shell NAME COMMAND ..: where the shell can be had, it reads its completions
 shell() {
     local name=$1
     shift
-    if command -v "$name" > /dev/null; then
+    if had "$name"; then
         run "$@"
         expect "$name reads its completions" 0
     else
-        echo "skipped $name reads its completions: there is no $name"
+        echo "skipped $name reads its completions: there is no $name, and it can't be installed here"
     fi
 }
 shell zsh zsh -n packaging/completions/_erd
@@ -94,6 +100,8 @@ shell fish fish --no-execute packaging/completions/erd.fish
 if command -v fish > /dev/null; then
     run fish --no-config -c "source packaging/completions/erd.fish; complete -C 'erd c' | cut -f 1"
     expect_text 'fish completes the subcommands' 0 $'canon\ncheck\ncompare'
+    run fish --no-config -c "source packaging/completions/erd.fish; cd '$work/files'; complete -C 'erd check r' | cut -f 1"
+    expect_text 'fish completes a file' 0 right.json
 fi
 
 # The version.

@@ -6,7 +6,7 @@ import copy
 import json
 import sys
 
-KEYED = ["GpUnit", "Party", "Person", "Office", "Header", "Candidate", "Contest", "BallotStyle"]
+from reports import OF_ELECTIONS, OF_REPORTS, ids_in
 
 
 def renamed(value, ids, ending):
@@ -16,14 +16,6 @@ def renamed(value, ids, ending):
     if isinstance(value, list):
         return [renamed(inner, ids, ending) for inner in value]
     return value + ending if isinstance(value, str) and value in ids else value
-
-
-def ids_in(value):
-    """Every @id in the value."""
-    if isinstance(value, dict):
-        found = {value["@id"]} if "@id" in value else set()
-        return found.union(*map(ids_in, value.values()))
-    return set().union(*map(ids_in, value)) if isinstance(value, list) else set()
 
 
 def copied(entry, ids, number):
@@ -40,7 +32,7 @@ def main():
         report = json.load(file)
     ids = ids_in(report)
     for holder in (report, *report["Election"]):
-        for family in KEYED:
+        for family in OF_REPORTS + OF_ELECTIONS:
             entries = holder.get(family, [])
             more = [copied(entry, ids, number) for number in range(1, copies) for entry in entries]
             if more:

@@ -1,5 +1,5 @@
 #!/usr/bin/env bash
-# Holds the manual page, and the statuses and the first run of the README, against the built program: its subcommands with
+# Holds the manual page, and the statuses of the README, against the built program: its subcommands with
 # what they take, their option, and its exit statuses. One line a case.
 set -u
 cd "$(dirname "$0")/.." || exit 1
@@ -63,14 +63,5 @@ met=$(
     echo 4
 )
 equal 'the statuses of runs' "$numbers" "$(sort -u <<< "$met")"
-
-# The first run of the README: each command after `$ `, and what it writes.
-ln -s "$PWD/examples" "$erd" "$work"
-sed -n '/^```console$/,/^```$/{ /^```/d; p; }' README.md > "$work/first_run"
-while read -r line; do
-    echo "$line"
-    (cd "$work" && PATH=$PWD:$PATH bash -c "${line:2}" < /dev/null 2>&1)
-done < <(grep '^\$ ' "$work/first_run") > "$work/written"
-equal 'the first run of the README' "$(cat "$work/first_run")" "$(cat "$work/written")"
 
 counts

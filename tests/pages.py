@@ -1,8 +1,9 @@
 """Holds what several pages and texts say against the one place that has it: the member table of docs/PROFILE.md against the
-rows of `specs/`, the limit on bytes against the constant of the code, exit statuses against their definition, and what the
-table of reasons names against the code. One line a case that fails, and at the end the counts.
+rows of `specs/`, the limit on bytes against the constant of the code, exit statuses against their definition, what the table
+of reasons names against the code, and links against the pages. One line a case that fails, and at the end the counts.
 """
 
+import os
 import pathlib
 import re
 import sys
@@ -101,7 +102,7 @@ def compare_tables():
 
 def compare_limits():
     limit = int(re.search(r'pub const MOST_BYTES: usize = ([\d_]+);', read('crates/erd_canon/src/devices/source.rt')).group(1).replace('_', ''))
-    pages = sorted({*ROOT.glob('*.md'), *ROOT.glob('docs/*'), *ROOT.glob('bindings/**/*.[ch]'), *ROOT.glob('tests/*.sh'), *ROOT.glob('crates/*/src/**/*.rt'), *ROOT.glob('crates/*/specs/*.antt')})
+    pages = sorted({*ROOT.glob('*.md'), *ROOT.glob('docs/*.md'), *ROOT.glob('docs/*.1'), *ROOT.glob('bindings/**/*.[ch]'), *ROOT.glob('tests/*.sh'), *ROOT.glob('crates/*/src/**/*.rt'), *ROOT.glob('crates/*/specs/*.antt')})
     for page in pages:
         numbers = {int(re.sub('[,_]', '', number)) for number in re.findall(r'\b6\d[,_]?\d{3}[,_]?\d{3}\b', page.read_text(encoding='utf-8'))}
         if numbers:
@@ -163,9 +164,49 @@ def compare_statuses():
     yield 'the statuses of bindings/c/erd.h', statuses, numbers_of(r'^    ERD_\w+ = (\d)', read('bindings/c/erd.h'))
 
 
+# ---- links
+
+
+def pages():
+    """The pages of the repository: those at the top, and those in its folders, apart from what is built."""
+    return {path.relative_to(ROOT) for path in (*ROOT.glob('*.md'), *ROOT.glob('*/*.md'), *ROOT.glob('bindings/*/*.md'))}
+
+
+def anchor(heading):
+    """The anchor that a heading of a page has."""
+    return re.sub(r'[^\w -]', '', heading.lower()).replace(' ', '-')
+
+
+def links(page):
+    """The targets of the links of a page, as paths from the top, each with its anchor."""
+    text = re.sub(r'^```.*?^```$', '', read(page), flags=re.M | re.S)
+    for target in re.findall(r'\]\(((?!https?:)[^)]+)\)', text) + re.findall(r'<img src="([^"]+)"', text):
+        path, _, name = target.partition('#')
+        yield (pathlib.Path(os.path.normpath(page.parent / path)) if path else page), name
+
+
+def compare_links():
+    reached, waiting = set(), [pathlib.Path('README.md')]
+    while waiting:
+        page = waiting.pop()
+        if page not in reached and page.suffix == '.md' and (ROOT / page).exists():
+            reached.add(page)
+            waiting += [path for path, _ in links(page)]
+    yield 'the pages that links lead to from README.md', sorted(map(str, pages())), sorted(map(str, reached))
+    for page in sorted(pages()):
+        broken = []
+        for path, name in links(page):
+            headings = re.findall(r'^#+ (.*)$', read(path), re.M) if path.suffix == '.md' and (ROOT / path).exists() else []
+            if not (ROOT / path).exists() or name and name not in map(anchor, headings):
+                broken.append(f'{path}#{name}')
+        named = re.findall(r'`((?:docs/|conformance/|\.\./)?[A-Z]+\.md|docs/[\w.]+)`', read(page))
+        broken += [name for name in named if not any((ROOT / way).exists() for way in (name, page.parent / name))]
+        yield f'the links of {page} that lead nowhere', [], broken
+
+
 def main():
     passed = failed = 0
-    for name, wanted, found in [*compare_tables(), *compare_limits(), *compare_reasons(), *compare_statuses()]:
+    for name, wanted, found in [*compare_tables(), *compare_limits(), *compare_reasons(), *compare_statuses(), *compare_links()]:
         if wanted == found:
             passed += 1
         else:

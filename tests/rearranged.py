@@ -10,6 +10,8 @@ import json
 import random
 import sys
 
+from reports import CLASS, texts_in
+
 # The members of each class that hold objects of the table, labels too, and those that hold references.
 CONTEST = "ExternalIdentifier Name Abbreviation BallotTitle BallotSubTitle ContestSelection"
 MEASURE = CONTEST + " SummaryText FullText ProStatement ConStatement EffectOfAbstain PassageThreshold"
@@ -61,7 +63,7 @@ ODD = [" ", "\t", "\n", "\0", "\x7f", '"', "\\", "/", "~", "%", "@id", "e\u0301"
 
 def members(entry, table):
     """The members of an object that the table has, with their names."""
-    names = table.get(entry["@type"].removeprefix("ElectionResults."), "").split()
+    names = table.get(entry["@type"].removeprefix(CLASS), "").split()
     return [(name, entry[name]) for name in names if name in entry]
 
 
@@ -74,19 +76,10 @@ def objects(entry):
                 yield from objects(inner)
 
 
-def strings(value):
-    """Every text in the value."""
-    if isinstance(value, dict):
-        value = list(value.values())
-    if isinstance(value, list):
-        return [text for inner in value for text in strings(inner)]
-    return [value] if isinstance(value, str) else []
-
-
 def new_names(report, dice):
     """Another name for each @id, no two alike: names of others, texts that are carried, canonical or odd names."""
     own = [entry["@id"] for entry in objects(report) if "@id" in entry]
-    carried = set(strings(report)).difference(own)
+    carried = set(texts_in(report)).difference(own)
     canonical = [prefix + str(number) for prefix in "gp pa pe of hd ca co cs1- cs2- cs3-".split() for number in range(1, 20)]
     odd = {"".join(dice.choices(ODD, k=dice.randrange(5))) for _ in range(500)}
     pools = [own, carried, canonical, odd]

@@ -82,29 +82,19 @@ done
 program 'a comparison of many units, made small' "$work/empty" 0 "$work/same" '' \
     compare "$work/many/many_units.json" "$work/many/many_units_turned_round.json"
 for name in \
-    refused::refused_canonical \
-    refused::refused_check_bytes \
-    refused::refused_run \
-    refused::refused_check \
-    refused::refused_shape \
-    refused::refused_twin_units \
-    refused::refused_references \
-    refused::refused_write_ins \
-    refused_parts::refused_pointer \
-    refused_parts::refused_push_fault \
-    refused_parts::refused_faults \
-    refused_parts::refused_keys \
-    refused_parts::refused_order \
-    refused_parts::refused_normal_tree \
-    refused_parts::refused_values \
-    refused_comparisons::refused_difference \
-    refused_comparisons::refused_compare_bytes \
-    refused_comparisons::refused_compare \
-    refused_comparisons::refused_compare_of_two_vendors \
-    refused_comparisons::refused_compare_of_faults \
-    refused_lines::refused_comparison \
-    refused_lines::refused_usage \
-    refused_lines::refused_help; do
+    worked::refused_two_vendors \
+    worked::refused_shape \
+    worked::refused_later_phases \
+    worked::refused_difference \
+    worked::refused_preferences \
+    worked::refused_elections \
+    parts::refused_pointer \
+    parts::refused_push_fault \
+    parts::refused_keys \
+    parts::refused_order \
+    parts::refused_values \
+    command_lines::refused_lines \
+    command_lines::refused_help_and_usage; do
     one_test "$name"
 done
 

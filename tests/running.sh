@@ -45,6 +45,34 @@ there() {
     said "$1" "$why"
 }
 
+# listed NAME KEPT FOLDER: the archive of tar on standard input has exactly the modes, owners and paths of a kept list, below FOLDER.
+# With WRITE=yes the list is written anew, to be looked at as a change.
+listed() {
+    tar --list --verbose --numeric-owner --quoting-style=literal | awk -v folder="$3/" '{
+        found = $1 " " $2 " "
+        sub(/^[^ ]+ +[^ ]+ +[^ ]+ [^ ]+ [^ ]+ /, "")
+        print found (index($0, folder) == 1 ? "./" substr($0, length(folder) + 1) : $0)
+    }' | LC_ALL=C sort > "$work/listed"
+    [ -z "${WRITE:-}" ] || cp "$work/listed" "$2"
+    said "$1" "$(diff "$2" "$work/listed" 2>&1 | grep '^[<>]\|^diff' | head -n 5 | tr '\n' ' ')"
+}
+
+# had TOOL: whether the tool is here; where it isn't, root gets the Debian package of this name
+had() {
+    command -v "$1" > /dev/null && return
+    [ "$(id -u)" -eq 0 ] && command -v apt-get > /dev/null || return
+    echo "$1 is missing, and is installed"
+    from_debian "$1" > "$work/apt" 2>&1
+    command -v "$1" > /dev/null
+}
+
+# from_debian PACKAGE: installs the package of Debian
+from_debian() {
+    local -x DEBIAN_FRONTEND=noninteractive
+    apt-get -o DPkg::Lock::Timeout=300 update
+    apt-get -o DPkg::Lock::Timeout=300 install -y --no-install-recommends "$1"
+}
+
 # works NAME PROGRAM EXAMPLES: the program does what it is for, on these examples
 works() {
     run "$2" check "$3/one-unit.json"

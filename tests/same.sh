@@ -1,7 +1,8 @@
 #!/usr/bin/env bash
 # Whether the same source gives the same bytes: compiles the program and the C library once more, in a copy of the repository
-# in another folder, and compares. The libraries below are those that are proved here, so nothing but the two crates on top is
-# proved again; that these libraries have no path and no time is looked up. One line a case.
+# in another folder, and compares. The libraries below are those that are proved here, so at most the two crates on top are
+# proved again, and where packaging/compile.sh has left its verdict on one, it isn't; that these libraries have no path and no
+# time is looked up. One line a case.
 set -u
 cd "$(dirname "$0")/.." || exit 1
 work=$(mktemp -d) || exit 1
@@ -26,10 +27,9 @@ for crate in crates/*/; do
     for part in src specs proofs; do
         [ ! -d "$crate$part" ] || cp -r "$crate$part" "$copy/crates/$name"
     done
-    if [ -d "${crate}out/rlib" ]; then
-        mkdir -p "$copy/crates/$name/out"
-        cp -r "${crate}out/rlib" "$copy/crates/$name/out"
-    fi
+    for kept in rlib checked; do
+        [ ! -d "${crate}out/$kept" ] || { mkdir -p "$copy/crates/$name/out"; cp -r "${crate}out/$kept" "$copy/crates/$name/out"; }
+    done
 done
 
 run "$copy/packaging/compile.sh" erd

@@ -1,0 +1,85 @@
+"""The edits of tests/edits: what they change, and in which functions.
+
+An edit is a file with a line `file: src/a.rt` and then pairs of lines `old: TEXT` and `new: TEXT`. Each old text stands in that
+file exactly once, where the pairs before it were applied. A line `fn: module::name` names the function whose contract has to
+refuse the edit, where what changes stands in no function, or in one that a check calls by another module.
+"""
+import re
+
+IMPL = re.compile(r"impl(<[^>]*>)? (?:(\w[\w:]*)(<[^>]*>)? for )?&?(\w+)(<.*>)? \{")
+FUNCTION = re.compile(r'(    )?(?:pub(?:\(\w+\))? )?(?:unsafe )?(?:extern "C" )?fn (\w+)')
+
+
+class BadEdit(Exception):
+    """An edit that can't be applied, with the reason."""
+
+
+def applied(text, read):
+    """Returns the files that the edit changes, as path to text, and the functions that it changes. `read` gives the text of a
+    path."""
+    path, old, texts, functions, named = None, None, {}, [], []
+    for line in text.splitlines():
+        key, _, value = line.partition(":")
+        value = value.removeprefix(" ")
+        if key == "file":
+            path = value.strip()
+        elif key == "fn":
+            named.append(value.strip())
+        elif key == "old":
+            old = value
+        elif key == "new":
+            whole = texts.get(path) or read(path)
+            at = place_of(old, path, whole)
+            functions.append(function_at(path, whole, at))
+            texts[path] = whole.replace(old, value)
+    if not texts:
+        raise BadEdit("it has no pair of lines 'old:' and 'new:'")
+    return texts, list(dict.fromkeys(named or [it for it in functions if it]))
+
+
+def place_of(old, path, whole):
+    """Returns where the text ends in the file, if it stands there once."""
+    if not old:
+        raise BadEdit("a 'new:' line stands before any 'old:' line")
+    if whole.count(old) != 1:
+        raise BadEdit(f"an 'old:' text is in {path} {whole.count(old)} times, and not once")
+    return whole.index(old) + len(old.rstrip())
+
+
+def module_of(path):
+    """Returns what the names of a source file's functions begin with."""
+    module = path.removeprefix("src/").removesuffix(".rt").replace("/", "::")
+    return "" if module in ("lib", "main") else f"{module}::"
+
+
+def function_at(path, text, at):
+    """Returns the function around this place, as a check writes it below its crate, or None. The text is in the layout of
+    `rt fmt`."""
+    owner, function = "", None
+    for line in text[:at].split("\n"):
+        impl, found = IMPL.match(line), FUNCTION.match(line)
+        if impl:
+            own, trait, of, kind, words = impl.groups()
+            owner = f"{kind}{letters(words, own)}{(trait or '').split('::')[-1]}{letters(of, own)}::"
+        elif line.startswith("}"):
+            owner, function = "", None
+        elif owner and line == "    }":
+            function = None
+        elif found:
+            function = (owner if found[1] else "") + found[2]
+    return function and module_of(path) + function
+
+
+def letters(words, own):
+    """Returns the types of a list such as `<Option<Key>>` without its signs, as the name of an impl has them. The impl's own
+    lifetimes and types, such as those of `<'a, R: Read>`, are left out."""
+    parameters = re.findall(r"[<,] *(\w+)", own or "")
+    return "".join(it for it in re.findall(r"(?<!')\b\w+", words or "") if it not in parameters)
+
+
+def cycle_of(text, module, function):
+    """Returns the function, or where it is in a cycle of calls, the cycle, as its proof files are named. `text` is the file of
+    the module."""
+    name = function.split("::")[-1]
+    found = re.search(r"#\[cycle\((\w+)\)\]\n(?:\s*(?:#|//).*\n)*\s*(?:pub(?:\(\w+\))? )?fn " + name + r"\b", text)
+    return f"{module}+{found[1]}" if found else function

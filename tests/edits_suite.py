@@ -1,0 +1,104 @@
+"""Tries what tests/edits.py makes of an edit and of what a check says, without the prover. One line a case that fails, and at the
+end the counts."""
+import sys
+
+import edit_check
+import edit_files
+
+SOURCE = """//! A file.
+use std::fmt;
+
+/// Counts.
+#[tactic(auto)]
+pub fn counts(text: &str) -> usize
+    ensures { result ≡ length text.now }
+{
+    if text.is_empty() {
+        return 0;
+    }
+    text.len()
+}
+
+impl<'a> PartialEq for Held<'a> {
+    fn eq(&self, other: &Held<'a>) -> bool {
+        self.text == other.text
+    }
+}
+
+impl<'a, R: Read> Source<R> for Option<Key<'a, R>> {
+    pub(crate) fn read(&mut self) -> usize {
+        1
+    }
+}
+
+#[cycle(walk)]
+fn walk(items: &[Value]) -> bool {
+    true
+}
+"""
+LINE = "fn some::a::b::counts: no proof: expected answers in ./proofs/a/b/counts/Answers.antt; `search` did not prove `returns`"
+CALLS = "fn some::a::b::counts: no proof: it calls `some::a::b::other`, which is not proved"
+GOAL = "note: src/a/b.rt:6:1: it is not proved that what the function ensures holds when it returns (`returns`)"
+NAME = "./proofs/a/b/counts/Answers.antt:7:15: error: `returns`: record `Lts.After-len`\n  has no field `len`"
+TYPE = "./proofs/a/b/counts/Answers.antt:7:15: error: `returns`: as printed, the two types first differ"
+INVARIANT = "./proofs/a/b/counts/Invariants.antt:7:15: error: `invariant-loop-at`: as printed, the two types first differ"
+
+
+def function_with(text):
+    return edit_files.function_at("src/a/b.rt", SOURCE, SOURCE.index(text) + len(text))
+
+
+def judged(*lines):
+    """Returns `yes`, `no` or `unseen` for a check that said these lines."""
+    found = edit_check.Checked("\n".join(lines), lambda path: SOURCE)
+    is_refused, why = found.refusal("a::b::counts", "a::b::counts")
+    return "yes" if is_refused else "no" if why else "unseen"
+
+
+def applied(edit):
+    try:
+        return edit_files.applied(edit, lambda path: SOURCE)[1]
+    except edit_files.BadEdit:
+        return "bad"
+
+
+CASES = [
+    ("a function", lambda: function_with("    text.len()"), "a::b::counts"),
+    ("a line after a block", lambda: function_with("return 0;"), "a::b::counts"),
+    ("the contract", lambda: function_with("ensures { result"), "a::b::counts"),
+    ("a method of a trait", lambda: function_with("self.text =="), "a::b::HeldPartialEq::eq"),
+    ("a method of a type with types", lambda: function_with("        1"), "a::b::OptionKeySource::read"),
+    ("no function", lambda: function_with("use std::fmt;"), None),
+    ("a cycle", lambda: edit_files.cycle_of(SOURCE, "a::b::", "a::b::walk"), "a::b::+walk"),
+    ("no cycle", lambda: edit_files.cycle_of(SOURCE, "a::b::", "a::b::counts"), "a::b::counts"),
+    ("the root of a crate", lambda: edit_files.module_of("src/lib.rt"), ""),
+    ("a pair", lambda: applied("file: src/a/b.rt\nold:     text.len()\nnew:     0"), ["a::b::counts"]),
+    ("a named function", lambda: applied("file: src/a/b.rt\nfn: a::c\nold: use std::fmt;\nnew: use std::cmp;"), ["a::c"]),
+    ("a text that stands twice", lambda: applied("file: src/a/b.rt\nold: text\nnew: word"), "bad"),
+    ("a text that stands nowhere", lambda: applied("file: src/a/b.rt\nold: nothing\nnew: word"), "bad"),
+    ("no pair", lambda: applied("file: src/a/b.rt"), "bad"),
+    ("an open goal", lambda: judged(LINE, GOAL), "yes"),
+    ("an answer of another type", lambda: judged(LINE, TYPE), "yes"),
+    ("an open goal beside another call", lambda: judged(CALLS, GOAL), "yes"),
+    ("another call alone", lambda: judged(CALLS), "unseen"),
+    ("nothing", lambda: judged("only=1 proved=0"), "unseen"),
+    ("a goal of another function", lambda: judged(CALLS, GOAL.replace(":6:1", ":16:5")), "unseen"),
+    ("a proof", lambda: judged("fn some::a::b::counts: proved"), "no"),
+    ("a missing name", lambda: judged(LINE, NAME), "no"),
+    ("a missing name beside an open goal", lambda: judged(LINE, GOAL, NAME), "no"),
+    ("an invariant that doesn't fit", lambda: judged(LINE, INVARIANT), "no"),
+]
+
+
+def main():
+    failed = 0
+    for name, found, wanted in CASES:
+        if found() != wanted:
+            failed += 1
+            print(f"FAILED  {name}: {found()!r}, not {wanted!r}")
+    print(f"{len(CASES) - failed} passed, {failed} failed")
+    return failed > 0
+
+
+if __name__ == "__main__":
+    sys.exit(main())
