@@ -64,7 +64,7 @@ print(' '.join(browsers.$browser.missing()))")
         echo "skipped the page in $browser: not installed: $missing"
         continue
     fi
-    off timeout 300 python3 tests/page/run.py "$browser" "$page" "$work/poor.html" "$work/$browser" "$work/pictures" > "$work/$browser.log" 2>&1 &
+    off timeout 1200 python3 tests/page/run.py "$browser" "$page" "$work/poor.html" "$work/$browser" "$work/pictures" > "$work/$browser.log" 2>&1 &
     started+=("$browser")
 done
 wait

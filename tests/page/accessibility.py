@@ -47,7 +47,7 @@ def run(session):
         session.fresh()
         session.browser.script("document.querySelectorAll('#examples button')[arguments[0]].click()", position)
         session.verdict()
-        session.browser.script("document.querySelectorAll('details').forEach((one) => { one.open = true; })")
+        session.open_details()
 
     states = {
         'the start': session.fresh,

@@ -15,7 +15,7 @@ import time
 import urllib.request
 
 ELEMENT = 'element-6066-11e4-a52e-4f735466cecf'
-SECONDS_TO_START = 40
+SECONDS_TO_START = 120
 LEAST_WIDTH = 500
 
 
@@ -82,7 +82,7 @@ class Browser:
             actions += [{'type': 'keyUp', 'value': one} for one in reversed(held)]
         self.command('actions', actions=[{'type': 'key', 'id': 'keyboard', 'actions': actions}])
 
-    def until(self, text, *values, seconds=20):
+    def until(self, text, *values, seconds=60):
         """Waits until the body of a function returns something true, and returns that."""
         end = time.monotonic() + seconds
         while True:
@@ -165,7 +165,7 @@ class Chromium(Browser):
         data = None if method == 'GET' else json.dumps(values or {}).encode()
         request = urllib.request.Request(self.base + path, data, {'Content-Type': 'application/json'}, method=method)
         try:
-            with urllib.request.urlopen(request, timeout=120) as answer:
+            with urllib.request.urlopen(request, timeout=300) as answer:
                 return json.load(answer)['value']
         except urllib.error.HTTPError as error:
             raise DriverError(json.load(error)['value']['message']) from None
@@ -322,7 +322,7 @@ class Firefox(Browser):
 def connected(path):
     """A connection to the port that the file names."""
     with open(path, encoding='utf-8') as file:
-        return socket.create_connection(('127.0.0.1', int(file.read())), timeout=120)
+        return socket.create_connection(('127.0.0.1', int(file.read())), timeout=300)
 
 
 def free_port():

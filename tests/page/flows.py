@@ -30,7 +30,7 @@ def examples(session):
     for position, verdict in wanted.items():
         session.fresh()
         session.browser.all('#examples button')[position].click()
-        session.equal('example %d' % (position + 1), session.verdict(), verdict)
+        session.becomes('example %d' % (position + 1), session.verdict, verdict)
 
 
 def one_file(session):
@@ -64,7 +64,7 @@ def two_files(session):
     """Two files: equal ones, the first difference, and the list of all others."""
     session.fresh()
     session.choose(0, *COUNTY)
-    session.equal('two files at once', session.verdict(), 'These two files define the same ballots')
+    session.becomes('two files at once', session.verdict, 'These two files define the same ballots')
     sums = session.texts('.sum[data-sum="form"]')
     session.equal('their sums', sums, 2 * [sha256((EXAMPLES / 'county.canonical.json').read_bytes())])
     changed = COUNTY[1].read_text(encoding='utf-8')
@@ -79,7 +79,7 @@ def two_files(session):
     others = session.texts('.differences summary')
     session.said('the other differences', '' if len(others) >= 1 and others[0].startswith('Contest ') else repr(others))
     session.click('.differences summary')
-    session.equal('a value of another difference', session.texts('.differences td div')[:2], ['1', '2'])
+    session.becomes('a value of another difference', lambda: session.texts('.differences td div')[:2], ['1', '2'])
 
 
 DROP = """
@@ -97,13 +97,13 @@ def dropped(session):
     files = [{'name': path.name, 'data': path.read_text(encoding='utf-8')} for path in COUNTY]
     session.fresh()
     session.browser.script(DROP, files[:1], 'body')
-    session.equal('one file dropped', session.verdict(), 'Accepted')
+    session.becomes('one file dropped', session.verdict, 'Accepted')
     session.browser.script(DROP, files[1:], 'body')
-    session.equal('another one dropped', session.verdict(), 'These two files define the same ballots')
+    session.becomes('another one dropped', session.verdict, 'These two files define the same ballots')
     session.browser.script(DROP, [{'name': 'x.json', 'data': '{'}], '[data-slot="1"]')
-    session.equal('one dropped on the second place', session.verdict(), "These two files can't be compared yet")
+    session.becomes('one dropped on the second place', session.verdict, "These two files can't be compared yet")
     session.browser.script(DROP, files, 'body')
-    session.equal('two files dropped', session.verdict(), 'These two files define the same ballots')
+    session.becomes('two files dropped', session.verdict, 'These two files define the same ballots')
     session.browser.script(DROP, files + files[:1], 'body')
     session.equal('three files dropped', session.text('#announcement'), 'Choose one file, or two.')
     session.said('three files dropped, shown', '' if session.browser.script("return !document.getElementById('files-message').hidden") else 'no message')
@@ -118,8 +118,8 @@ def preferred(session):
         const select = document.getElementById('prefer');
         select.value = 'local-level';
         select.dispatchEvent(new Event('change'));""")
+    session.becomes('under the preference', lambda: session.text('.sentence'), 'Unit (local-level U1) differs in ExternalIdentifier.')
     session.verdict()
-    session.equal('under the preference', session.text('.sentence'), 'Unit (local-level U1) differs in ExternalIdentifier.')
     session.equal('the record has the preference', session.texts('.record dd bdi')[-1:], ['local-level'])
 
 
@@ -151,10 +151,10 @@ def removed(session):
     """A file that is taken out again."""
     session.judged(SMALL, COUNTY[0])
     session.click('#remove-0')
-    session.equal('the first file removed', session.verdict(), 'Accepted')
+    session.becomes('the first file removed', session.verdict, 'Accepted')
     session.equal('the second file is the first now', session.text('#name-0 bdi'), COUNTY[0].name)
     session.click('#remove-0')
-    session.equal('no file left', session.text('#result'), '')
+    session.becomes('no file left', lambda: session.text('#result'), '')
 
 
 def unpacked(stream):

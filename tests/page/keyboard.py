@@ -26,6 +26,11 @@ def step_to(session, selector):
     return False
 
 
+def focused(session):
+    """The name of the element that has the focus."""
+    return session.browser.script('return document.activeElement.id')
+
+
 def typed(session, *paths):
     """Types names of files into the button that has the focus; the dialogue of the browser is not part of the page."""
     session.browser.script('return document.activeElement').type('\n'.join(map(str, paths)))
@@ -36,10 +41,10 @@ def examples(session):
     session.fresh()
     step_to(session, '#examples li:nth-child(2) button')
     session.browser.press(ENTER)
-    session.equal('keyboard: an example', session.verdict(), 'These two files do not define the same ballots')
+    session.becomes('keyboard: an example', session.verdict, 'These two files do not define the same ballots')
     step_to(session, '.differences summary')
     session.browser.press(ENTER)
-    session.said('keyboard: another difference', '' if session.texts('.differences td') else 'it did not open')
+    session.becomes('keyboard: another difference', lambda: session.texts('.differences td') != [], True)
 
 
 def files(session):
@@ -47,17 +52,16 @@ def files(session):
     session.fresh()
     step_to(session, '#input-0')
     typed(session, COUNTY[0])
-    session.equal('keyboard: one file', session.verdict(), 'Accepted')
+    session.becomes('keyboard: one file', session.verdict, 'Accepted')
     step_to(session, '#input-1')
     typed(session, COUNTY[1])
-    session.equal('keyboard: two files', session.verdict(), 'These two files define the same ballots')
+    session.becomes('keyboard: two files', session.verdict, 'These two files define the same ballots')
     session.browser.press((SHIFT, TAB))
     session.browser.script('document.activeElement.blur()')
     step_to(session, '#remove-1')
     session.browser.press(SPACE)
-    session.equal('keyboard: one removed', session.verdict(), 'Accepted')
-    focus = session.browser.script('return document.activeElement.id')
-    session.equal('keyboard: the focus goes on', focus, 'input-0')
+    session.becomes('keyboard: one removed', session.verdict, 'Accepted')
+    session.becomes('keyboard: the focus goes on', lambda: focused(session), 'input-0')
 
 
 def preferred(session):
@@ -70,16 +74,17 @@ def preferred(session):
     session.browser.press(*[DOWN] * place)
     session.browser.press(ENTER)
     session.browser.until('return document.getElementById("prefer").value === arguments[0]', prefer)
-    session.equal('keyboard: under a preference', session.verdict(), 'Accepted')
+    session.becomes('keyboard: under a preference', session.verdict, 'Accepted')
 
 
 def cards(session):
     """The explanation of a fault is opened and closed."""
     session.judged(SUITE / 'shape-faults-of-the-whole-first-phase' / 'input.json')
     step_to(session, '.card summary')
-    before = session.browser.script('return document.activeElement.parentElement.open')
+    is_open = 'return document.activeElement.parentElement.open'
+    before = session.browser.script(is_open)
     session.browser.press(ENTER)
-    session.equal('keyboard: an explanation', session.browser.script('return document.activeElement.parentElement.open'), not before)
+    session.becomes('keyboard: an explanation', lambda: session.browser.script(is_open), not before)
 
 
 def saved(session):
@@ -100,7 +105,7 @@ def printed(session):
     session.browser.script("document.getElementById('verdict').focus()")
     step_to(session, '.record button')
     session.browser.press(SPACE)
-    session.equal('keyboard: print', session.browser.script('return window.printed'), True)
+    session.becomes('keyboard: print', lambda: session.browser.script('return window.printed'), True)
 
 
 def cancelled(session):
@@ -110,7 +115,7 @@ def cancelled(session):
     session.browser.until("return document.documentElement.dataset.busy === 'yes'")
     step_to(session, '#cancel')
     session.browser.press(ENTER)
-    session.equal('keyboard: cancelled', session.verdict(), 'Cancelled')
-    session.equal('keyboard: the focus after that', session.browser.script('return document.activeElement.id'), 'input-0')
+    session.becomes('keyboard: cancelled', session.verdict, 'Cancelled')
+    session.becomes('keyboard: the focus after that', lambda: focused(session), 'input-0')
     session.choose(0, SMALL)
-    session.equal('keyboard: a file after that', session.verdict(), 'Accepted')
+    session.becomes('keyboard: a file after that', session.verdict, 'Accepted')

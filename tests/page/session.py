@@ -33,6 +33,15 @@ class Session:
         """One case: two values are equal."""
         self.said(name, '' if found == wanted else '%r in place of %r' % (found, wanted))
 
+    def becomes(self, name, tell, wanted, seconds=60):
+        """One case: what the page tells becomes this value. What a key or a click brings about may come a moment later."""
+        end = time.monotonic() + seconds
+        found = tell()
+        while found != wanted and time.monotonic() < end:
+            time.sleep(0.02)
+            found = tell()
+        self.equal(name, found, wanted)
+
     def part(self, run):
         """Runs a part of the test. If the browser does not do what it is asked, that is a failure of the part."""
         try:
@@ -53,10 +62,11 @@ class Session:
         return path
 
     def choose(self, side, *paths):
-        """Chooses files as a user does in the dialogue of the browser."""
+        """Chooses files as a user does in the dialogue of the browser. The old verdict goes, so that nobody takes it for the new one."""
+        self.browser.script("document.getElementById('verdict')?.remove()")
         self.browser.one('#input-%d' % side).type('\n'.join(str(path) for path in paths))
 
-    def verdict(self, seconds=20):
+    def verdict(self, seconds=60):
         """Waits for the verdict, and returns its heading."""
         self.browser.until("return document.documentElement.dataset.busy === 'no' && document.getElementById('verdict') !== null",
                            seconds=seconds)
@@ -70,6 +80,13 @@ class Session:
         """The texts of all these elements."""
         return self.browser.script('return [...document.querySelectorAll(arguments[0])].map((one) => one.textContent)', selector)
 
+    def open_details(self):
+        """Opens all that is closed, and waits until the tables of the differences are there."""
+        self.browser.script("document.querySelectorAll('details').forEach((one) => { one.open = true; })")
+        self.browser.until("""
+            const details = [...document.querySelectorAll('.differences details')];
+            return details.every((one) => one.querySelector('table') !== null);""")
+
     def click(self, selector):
         self.browser.one(selector).click()
 
@@ -81,7 +98,7 @@ class Session:
             self.verdict()
         return self.text('#verdict')
 
-    def downloaded(self, name, seconds=10):
+    def downloaded(self, name, seconds=60):
         """The bytes of a file that the page saved."""
         path = self.work / 'downloads' / name
         end = time.monotonic() + seconds
