@@ -7,6 +7,7 @@ pub mod AllAsked
 pub mod AskedInside
 pub mod FaultsAsked
 pub mod Walks
+pub mod Alone
 pub mod ShapeWalks
 pub mod TableKinds
 pub mod Deciding

@@ -1,5 +1,5 @@
 -- A set of values: one value more, and the value that is tied with a given one.
-use Rattle.std.proofs.Common.{◌≡◌, List, [], ◌∷◌, ◌++◌, Bool, true, false, ◌||◌, true≢false, Some, None, Ordering, Less, Equal, Greater, is_eq, map, find, refl, sym, ap, ◌∙◌}
+use Rattle.std.proofs.Common.{◌≡◌, List, [], ◌∷◌, ◌++◌, Bool, true, false, ◌||◌, true≢false, not, Some, None, Ordering, Less, Equal, Greater, is_eq, map, find, refl, sym, ap, ◌∙◌}
 use Rattle.std.specs.BTreeSet.{insert_key}
 use Rattle.std.specs.Cmp.{Equal-is}
 use Rattle.std.specs.List.{list_any}
@@ -69,6 +69,15 @@ untied d e apart = at (is_same_json d e) refl
     at : (b : Bool) → is_same_json d e ≡ b → b ≡ false
     at false is = refl
     at true is = absurd (true≢false (sym (ap is_eq (same_tied d e is)) ∙ apart))
+
+-- a value that is new is equal to none
+pub new_untied : (vs : List OrderedValue) (d : Data) → true ≡ not (list_any (λ v. is_eq (json_cmp d (data_of v))) vs) → list_any (is_same_json d) (map data_of vs) ≡ false
+new_untied [] d e = refl
+new_untied (w ∷ vs) d e = at (is_eq (json_cmp d (data_of w))) refl (new_untied vs d)
+  where
+    at : (b : Bool) → is_eq (json_cmp d (data_of w)) ≡ b → (true ≡ not (list_any (λ v. is_eq (json_cmp d (data_of v))) vs) → list_any (is_same_json d) (map data_of vs) ≡ false) → list_any (is_same_json d) (map data_of (w ∷ vs)) ≡ false
+    at true is later = let clash : true ≡ false = rw is at e in cc
+    at false is later = rw (untied d (data_of w) is) (later (rw is at e))
 
 -- none is tied
 pub none_tied : (vs : List OrderedValue) (d : Data) → find (λ v. is_eq (json_cmp d (data_of v))) vs ≡ None → list_any (is_same_json d) (map data_of vs) ≡ false

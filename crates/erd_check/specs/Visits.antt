@@ -97,6 +97,10 @@ abbrev mutual
 abbrev pub IsSilent : Telling → Want → Type 0
 IsSilent tells w = (outer owner : Data) (p : List Step) (repeated : Bool) (d : Data) → told_at tells outer owner p w repeated d ≡ []
 
+-- What is told of a value of which this is asked does not depend on whether it equals an earlier entry of its set.
+abbrev pub IsOfValueAlone : Telling → Want → Type 0
+IsOfValueAlone tells w = (outer : Data) (one other : Bool) (d : Data) → tells outer w one d ≡ tells outer w other d
+
 -- `Known` holds of any value of which this is asked, and of the values inside it.
 abbrev pub IsKnownOfAll : (Want → Data → Type 0) → Want → Type 0
 IsKnownOfAll Known w = (d : Data) → IsKnown Known w d

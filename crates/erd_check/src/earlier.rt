@@ -32,8 +32,7 @@ fn equal_before<'a>(alloc: Global, items: &'a [Value]) -> Result<Vec<&'a [Value]
     let mut told = Vec::with_capacity(alloc, items.len())?;
     let mut passed = ValueSet::new(alloc);
     for item in items {
-        told.push(passed.tied_with(item))?;
-        passed.insert(item)?;
+        told.push(passed.insert_tied(item)?)?;
     }
     Ok(told)
 }

@@ -36,6 +36,10 @@ impl Visitor for ShapeJudge {
         true
     }
 
+    fn compares(&self, want: Want) -> bool {
+        is_compared_here(want)
+    }
+
     fn visit(
         &self,
         alloc: Global,

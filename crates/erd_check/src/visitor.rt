@@ -7,7 +7,7 @@ ghost use Rattle.erd_tables.specs.declared.fault.Reason.{Reason};
 ghost use Rattle.erd_check.specs.Trees.{is_same_json};
 ghost use Rattle.erd_check.specs.Wants.{scope_inside};
 ghost use Rattle.erd_check.specs.Paths.{steps_of};
-ghost use Rattle.erd_check.specs.Visits.{faults_of, IsKnownOfAll, IsSilent};
+ghost use Rattle.erd_check.specs.Visits.{faults_of, IsKnownOfAll, IsOfValueAlone, IsSilent};
 ghost use Rattle.erd_check.specs.declared.want.Want.{Want as Asked};
 
 use crate::path::Path;
@@ -32,8 +32,8 @@ pub struct Position<'a> {
 pub struct Visit<'a> {
     /// What the member table asks of the value.
     pub want: Want,
-    /// Earlier entries of the set, if the value is an entry of a set whose entries are compared. One of them is equal to the
-    /// value if and only if any earlier entry of the set is. For other values there are none.
+    /// Earlier entries of the set, if the value is an entry of a set whose entries the visitor compares. One of them is equal
+    /// to the value if and only if any earlier entry of the set is. For other values there are none.
     pub earlier: &'a [Value],
     /// Where the value is.
     pub position: Position<'a>,
@@ -57,6 +57,11 @@ pub trait Visitor {
         ensures thorough { IsTrue (is_thorough self.now) → IsTrue result }
         ensures silent { result ≡ false → IsSilent (tells self.now) want }
         ensures known { result ≡ false → IsKnownOfAll (Known self.now) want };
+
+    /// Returns whether the visitor compares an entry of which this is asked with the earlier entries of its set. If not, what
+    /// it tells of the entry does not depend on them, and the walk looks for no equal entry.
+    fn compares(&self, want: Want) -> bool
+        ensures { result ≡ false → IsOfValueAlone (tells self.now) want };
 
     /// Adds the faults of the value to the end of the list, but not those of the values inside it. `scope` is that
     /// of the members of the value, as `scope_of` returns it.

@@ -1,11 +1,12 @@
 //! The walk over a report.
-ghost use Rattle.std.specs.Prelude.{◌≡◌, ◌++◌, ◌≤◌, ◌&&◌, [], map, take, length, IfOk, IfSome, IsTrue};
+ghost use Rattle.std.specs.Prelude.{◌≡◌, ◌++◌, ◌≤◌, ◌&&◌, List, [], map, take, length, IfOk, IfSome, IsTrue};
 ghost use Rattle.std.specs.List.{list_any};
 ghost use Rattle.std.specs.List.Sorted.{IsStrictlySortedBy};
 ghost use Rattle.std.specs.Option.{option_map_or};
-ghost use Rattle.serde_json.specs.Data.{Data};
+ghost use Rattle.serde_json.specs.Data.{Data, Items};
 ghost use Rattle.serde_json.specs.View.{view, items_view, members_view};
 ghost use Rattle.erd_tables.specs.Texts.{text_cmp};
+ghost use Rattle.erd_tables.specs.declared.place.Step.{Step};
 ghost use Rattle.erd_check.specs.Trees.{is_same_json};
 ghost use Rattle.erd_check.specs.Values.{names};
 ghost use Rattle.erd_check.specs.Wants.{entry_want, is_compared_set};
@@ -102,7 +103,7 @@ fn walk_items<'a, V: Visitor>(
     let Some(entry) = want_of_entry(want) else {
         return Ok(());
     };
-    let is_set = is_set_wanted(want);
+    let is_set = is_set_compared(visitor, want, entry);
     let told = equal_entries(alloc, is_set, &*items)?;
     for (index, item) in items.iter().enumerate() {
         let path = Path::Entry(&*inside.path, index);
@@ -118,6 +119,16 @@ fn walk_items<'a, V: Visitor>(
         walk(alloc, visitor, visit, item, faults)?;
     }
     Ok(())
+}
+
+/// Returns whether the entries of an array are compared with one another: the table asks for a set, and the visitor compares
+/// its entries. If the answer is `false`, the visitor tells the same of them whether they are compared or not.
+fn is_set_compared<V: Visitor>(visitor: &V, want: Want, entry: Want) -> bool
+    ensures { (outer owner : Data) (p : List Step) (ds : Items)
+        → told_of_items (V.tells visitor.now) outer owner p entry result [] ds
+        ≡ told_of_items (V.tells visitor.now) outer owner p entry (is_compared_set want) [] ds }
+{
+    is_set_wanted(want) && visitor.compares(entry)
 }
 
 /// Adds the faults of the members of an object, which have this scope. The path is that of the object.

@@ -63,6 +63,10 @@ impl<'b, 'a> Visitor for ReferenceJudge<'b, 'a> {
         may_have_references(want)
     }
 
+    fn compares(&self, want: Want) -> bool {
+        true
+    }
+
     fn visit(
         &self,
         alloc: Global,
