@@ -8,3 +8,4 @@ pub mod unique
 pub mod ranks
 pub mod examples
 pub mod rearranged
+pub mod same

@@ -1,4 +1,5 @@
 ghost use Rattle.erd_normal.specs.Laws.{NamesAgree, ReferencesAgree, ObjectsAgree, CanonicalFormExists, CanonicalIsUnique, PreferencesAgree, RearrangedMeansTheSame};
+ghost use Rattle.erd_normal.specs.MeansTheSame.{SayingTheSameMeansTheSame};
 
 /// The law that two canonical reports with the same meaning have the same keys, selection names and `@id` texts, in the same
 /// order. The function does nothing.
@@ -40,4 +41,10 @@ pub fn preferences_agree()
 /// and the entries of its sets are reordered. The function does nothing.
 pub fn rearranged_means_the_same()
     ensures law { RearrangedMeansTheSame }
+{}
+
+/// The law that a report means the same as an accepted one if it says the same: that is, if it is the other one but for its
+/// `@id` texts, the order of the entries of its sets, members that may be absent, and its envelope. The function does nothing.
+pub fn saying_the_same_means_the_same()
+    ensures law { SayingTheSameMeansTheSame }
 {}

@@ -6,14 +6,23 @@ mod numbers;
 mod objects;
 mod order;
 mod report;
+mod same_forms;
+mod same_laws;
 mod text;
 mod values;
 
 pub use laws::{
     canonical_form_exists, canonical_is_unique, names_agree, objects_agree, preferences_agree,
-    rearranged_means_the_same, references_agree,
+    rearranged_means_the_same, references_agree, saying_the_same_means_the_same,
 };
 pub use order::compact_text::CompactText;
 pub use order::set_order::SetOrder;
 pub use order::stable_sort::in_order;
 pub use report::canonical_form::{normal_text, normal_tree};
+pub use same_forms::{
+    canonical_says_the_same, meaning_the_same_says_the_same, saying_and_meaning_agree,
+};
+pub use same_laws::{
+    exchanged_says_the_same, rearranged_says_the_same, references_name_the_same,
+    renamed_says_the_same, same_is_accepted, says_back, says_in_turn, says_itself,
+};

@@ -1,0 +1,81 @@
+-- If u says what t says, t says what u says.
+use Rattle.std.proofs.Common.{◌≡◌, List, Option, refl, sym, ap, subst}
+use Rattle.std.specs.List.Sorted.{IsPermutation}
+use Rattle.std.proofs.lemmas.List.Sorted.{IsPermutation-sym}
+use Rattle.serde_json.specs.Data.{Data, Items, no_items, item, Members}
+use Rattle.serde_json.specs.View.{items_of}
+use Rattle.erd_check.specs.Values.{list_of_items}
+use Rattle.erd_check.specs.Wants.{entry_want}
+use Rattle.erd_check.specs.declared.want.Scope.{Scope}
+use Rattle.erd_check.specs.declared.want.Want.{Want}
+use Rattle.erd_check.proofs.Lists.{list_of_items-items_of}
+use Rattle.erd_normal.proofs.lists.Paired.{Paired, none, more}
+use Rattle.erd_normal.specs.SaysTheSame.{Sides, Same, not_asked, a_null, a_flag, a_number, a_text, an_id, a_list, a_set, an_object, SameEntries, no_entry, one_entry, SameMembers, no_member, in_both, left_only, right_only}
+use Rattle.erd_normal.specs.SameLaws.{SaysBack}
+use Rattle.erd_normal.proofs.same.Lists.{follows, permuted_reordered, reordered_permuted}
+use Rattle.erd_normal.proofs.same.Types.{scope_same}
+
+abbrev pub turned : Sides → Sides
+turned m = record { left = m.right; right = m.left; there = m.back; back = m.there }
+
+-- ---- entries as lists
+
+pub entries_paired : (m : Sides) {w : Option Want} {ds es : Items} → SameEntries m w ds es → Paired (Same m w) (list_of_items ds) (list_of_items es)
+entries_paired m no_entry = none
+entries_paired m (one_entry h rest) = more h (entries_paired m rest)
+
+pub paired_entries : (m : Sides) (w : Option Want) {ds es : List Data} → Paired (Same m w) ds es → SameEntries m w (items_of ds) (items_of es)
+paired_entries m w none = no_entry
+paired_entries m w (more h rest) = one_entry h (paired_entries m w rest)
+
+pub paired_flip : {A B : Type 0} {R : A → B → Type 0} {xs : List A} {ys : List B} → Paired R xs ys → Paired (λ y x. R x y) ys xs
+paired_flip none = none
+paired_flip (more r rest) = more r (paired_flip rest)
+
+pub items_again : (ds : Items) → items_of (list_of_items ds) ≡ ds
+items_again no_items = refl
+items_again (item d ds) = ap (item d) (items_again ds)
+
+-- where the entries of the right list are reordered, those of the left one can be
+pub record SetMoved (m : Sides) (w : Option Want) (es ds : Items) : Type 0 where
+  pub moved : Items
+  pub permuted : IsPermutation (list_of_items es) (list_of_items moved)
+  pub entries : SameEntries m w moved ds
+
+pub set_swapped : (m : Sides) (w : Option Want) (ds fs es : Items) → IsPermutation (list_of_items ds) (list_of_items fs) → SameEntries m w es fs → SetMoved m w es ds
+set_swapped m w ds fs es p h =
+    let f = follows (permuted_reordered (list_of_items fs) (list_of_items ds) (IsPermutation-sym (list_of_items ds) (list_of_items fs) p)) (paired_flip (entries_paired m h)) in
+    record {
+      moved = items_of f.new;
+      permuted = subst (IsPermutation (list_of_items es)) (sym (list_of_items-items_of f.new)) (reordered_permuted f.reordered);
+      entries = subst (SameEntries m w (items_of f.new)) (items_again ds) (paired_entries m w (paired_flip f.paired));
+    }
+
+-- ---- the other way round
+
+mutual
+  pub same_back : (m : Sides) {o : Option Want} {d e : Data} → Same m o d e → Same (turned m) o e d
+  same_back m not_asked = not_asked
+  same_back m a_null = a_null
+  same_back m a_flag = a_flag
+  same_back m a_number = a_number
+  same_back m (a_text is) = a_text is
+  same_back m (an_id is h) = an_id is (h.1, h.0)
+  same_back m (a_list is h) = a_list is (entries_back m h)
+  same_back m (a_set {w = w} {ds = ds} {es = es} fs is p h) =
+      let b = set_swapped (turned m) (entry_want w) ds fs es p (entries_back m h) in a_set b.moved is b.permuted b.entries
+  same_back m (an_object {w = w} {ms = ms} {ns = ns} h) =
+      an_object (subst (λ s. SameMembers (turned m) s ns ms) (scope_same m w ms ns h) (members_back m h))
+
+  pub entries_back : (m : Sides) {w : Option Want} {ds es : Items} → SameEntries m w ds es → SameEntries (turned m) w es ds
+  entries_back m no_entry = no_entry
+  entries_back m (one_entry h rest) = one_entry (same_back m h) (entries_back m rest)
+
+  pub members_back : (m : Sides) {s : Scope} {ms ns : Members} → SameMembers m s ms ns → SameMembers (turned m) s ns ms
+  members_back m no_member = no_member
+  members_back m (in_both h rest) = in_both (same_back m h) (members_back m rest)
+  members_back m (left_only h rest) = right_only h (members_back m rest)
+  members_back m (right_only h rest) = left_only h (members_back m rest)
+
+pub says_back : SaysBack
+says_back t u h = record { there = h.back; back = h.there; same = same_back (record { left = t; right = u; there = h.there; back = h.back }) h.same }

@@ -1,0 +1,37 @@
+-- The step for each set of the canonical tree: its entries in rising order, each built anew, say the same as the set, if what is built of
+-- each entry says the same as the entry. And for each list.
+use Rattle.std.proofs.Common.{◌≡◌, List, [], ◌∷◌, map, true, false, Ordering, Some, sym, subst}
+use Rattle.std.specs.List.Sorted.{IsPermutation}
+use Rattle.serde_json.specs.Data.{Data, array, Items}
+use Rattle.serde_json.specs.View.{items_of}
+use Rattle.erd_check.specs.Values.{list_of_items}
+use Rattle.erd_check.specs.Wants.{entry_want, is_table_set}
+use Rattle.erd_check.specs.declared.want.Want.{Want}
+use Rattle.erd_check.proofs.Lists.{list_of_items-items_of}
+use Rattle.erd_check.proofs.Rising.{Has, here, later}
+use Rattle.erd_meaning.specs.SelectionNames.{rising_list}
+use Rattle.erd_meaning.proofs.orders.Reordered.{reordered_back, reordered-has, reordered_rising}
+use Rattle.erd_meaning.proofs.orders.RisingSets.{permuted_rising}
+use Rattle.erd_normal.specs.code.NormalTree.{array_of}
+use Rattle.erd_normal.proofs.lists.Paired.{Paired, none, more}
+use Rattle.erd_normal.specs.SaysTheSame.{Sides, Same, SameEntries, a_list, a_set}
+use Rattle.erd_normal.proofs.same.Back.{items_again, paired_entries}
+
+module _ (m : Sides) (w : Want) (g : Data → Data) where
+  -- what is built of each of these says the same
+  abbrev EachSame : List Data → Type 0
+  EachSame ds = (x : Data) → Has ds x → Same m (entry_want w) x (g x)
+
+  built_entries : (xs : List Data) → EachSame xs → Paired (Same m (entry_want w)) xs (map g xs)
+  built_entries [] each = none
+  built_entries (x ∷ xs) each = more (each x here) (built_entries xs (λ y i. each y (later i)))
+
+  pub set_built : (cmp : Data → Data → Ordering) (ds : Items) → is_table_set w ≡ true → EachSame (list_of_items ds) → Same m (Some w) (array ds) (array_of (map g (rising_list cmp (list_of_items ds))))
+  set_built cmp ds is each =
+      let xs = rising_list cmp (list_of_items ds) in
+      a_set (items_of xs) is (subst (IsPermutation (list_of_items ds)) (sym (list_of_items-items_of xs)) (permuted_rising cmp (list_of_items ds)))
+      (paired_entries m (entry_want w) (built_entries xs (λ x i. each x (reordered-has x (reordered_back (reordered_rising cmp (list_of_items ds))) i))))
+
+  pub list_built : (ds : Items) → is_table_set w ≡ false → EachSame (list_of_items ds) → Same m (Some w) (array ds) (array_of (map g (list_of_items ds)))
+  list_built ds is each =
+      a_list is (subst (λ x. SameEntries m (entry_want w) x (items_of (map g (list_of_items ds)))) (items_again ds) (paired_entries m (entry_want w) (built_entries (list_of_items ds) each)))

@@ -1,0 +1,218 @@
+-- An `@id` that the table asks for is that of an object of a family.
+use Rattle.std.proofs.Common.{◌≡◌, ℕ, List, [], ◌∷◌, flat_map, Bool, true, false, cond, is_some, ◌&&◌, Option, Some, None, option_and_then, option_map, codes, refl, sym, ap, ◌∙◌, subst}
+use Rattle.std.specs.List.{list_all}
+use Rattle.std.specs.Option.{option_map_or}
+use Rattle.std.specs.Str.{bytes_eq}
+use Rattle.serde_json.specs.Data.{Data, string, array, object, Items, Members}
+use Rattle.serde_json.specs.Find.{as_str, get_item, get_member}
+use Rattle.erd_tables.specs.Classes.{family_of_class, family_of_role, role_of_class}
+use Rattle.erd_tables.specs.Rows.{rows_of_class}
+use Rattle.erd_tables.specs.Table.{is_required, kind_of_identity, kind_of_member}
+use Rattle.erd_tables.specs.declared.class.Class.{Class}
+use Rattle.erd_tables.specs.declared.class.Class.TheVariants as class
+use Rattle.erd_tables.specs.declared.class.Family.{Family}
+use Rattle.erd_tables.specs.declared.class.Family.TheVariants as family
+use Rattle.erd_tables.specs.declared.class.Role.{Role}
+use Rattle.erd_tables.specs.declared.class.Role.TheVariants as role
+use Rattle.erd_tables.specs.declared.member.MemberKind.{MemberKind}
+use Rattle.erd_tables.specs.declared.member.MemberKind.TheVariants as kind
+use Rattle.erd_tables.specs.declared.place.Step.{Step}
+use Rattle.erd_tables.specs.declared.place.Step.TheVariants.{Name, At}
+use Rattle.erd_check.specs.Values.{entries_at, entries_of}
+use Rattle.erd_check.specs.Wants.{Asked, asked, asked_at, asked_from, asked_inside, carried_want, class_of_object, entry_want, is_compared_set, is_report_class, is_repeated, member_want, scope_inside, want_of_kind, want_of_name}
+use Rattle.erd_check.specs.declared.want.Scope.TheVariants as scope
+use Rattle.erd_check.specs.declared.want.Want.{Want}
+use Rattle.erd_check.specs.declared.want.Want.TheVariants.{Carried, ClassText, Member, Object, Reference, Status}
+use Rattle.erd_check.proofs.Exact.{both_true, text_exact}
+use Rattle.erd_check.proofs.Rising.{Has}
+use Rattle.erd_check.proofs.TableKinds.{kind_of_id, kind_of_name}
+use Rattle.erd_meaning.proofs.accepted.Standing.{flat-has}
+use Rattle.erd_normal.proofs.built.NormalGets.{class_has_role}
+use Rattle.erd_normal.proofs.rearranged.AskedBack.{entry_has}
+use Rattle.erd_normal.proofs.rearranged.RelatedObjects.{family_values}
+use Rattle.erd_normal.proofs.rearranged.SharedIds.{IsId}
+
+-- ---- where the objects of a family stand
+
+abbrev home_name : Family → List ℕ
+home_name family.Unit = codes "GpUnit"
+home_name family.Party = codes "Party"
+home_name family.Person = codes "Person"
+home_name family.Office = codes "Office"
+home_name family.Header = codes "Header"
+home_name family.Candidate = codes "Candidate"
+home_name family.Contest = codes "Contest"
+home_name family.Style = codes "BallotStyle"
+home_name family.Selection = codes "ContestSelection"
+
+-- objects with this role hold those of the family
+abbrev holds : Role → Family → Bool
+holds role.Report family.Unit = true
+holds role.Report family.Party = true
+holds role.Report family.Person = true
+holds role.Report family.Office = true
+holds role.Report family.Header = true
+holds role.Election family.Candidate = true
+holds role.Election family.Contest = true
+holds role.Election family.Style = true
+holds (role.OfFamily family.Contest) family.Selection = true
+holds r f = false
+
+abbrev is_report_role : Role → Bool
+is_report_role role.Report = true
+is_report_role r = false
+
+-- what the table says of a member of this kind
+abbrev is_home : Class → List ℕ → MemberKind → Bool
+is_home c n (kind.Keyed f) = holds (role_of_class c) f && bytes_eq n (home_name f)
+is_home c n kind.Elections = is_report_role (role_of_class c) && bytes_eq n (codes "Election")
+is_home c n kind.Identity = is_some (family_of_class c) && bytes_eq n (codes "@id")
+is_home c n k = true
+
+home_rows : (c : Class) → list_all (λ row. is_home c row.name row.kind) (rows_of_class c) ≡ true
+home_rows class.ElectionReport = refl
+home_rows c = refl
+
+home_identity : (c : Class) → is_home c (codes "@id") (kind_of_identity c) ≡ true
+home_identity class.ElectionReport = refl
+home_identity c = refl
+
+home : (c : Class) (n : List ℕ) → bytes_eq n (codes "@type") ≡ false → is_home c n (kind_of_member c n) ≡ true
+home c n no_type = at (bytes_eq n (codes "@id")) refl
+  where
+    at : (b : Bool) → bytes_eq n (codes "@id") ≡ b → is_home c n (kind_of_member c n) ≡ true
+    at true is =
+        subst (λ x. is_home c x (kind_of_member c x) ≡ true) (sym (text_exact n (codes "@id") is))
+        (subst (λ k. is_home c (codes "@id") k ≡ true) (sym (kind_of_id c)) (home_identity c))
+    at false is =
+        kind_of_name (λ row. is_home c row.name row.kind) (is_home c n) c n no_type is (home_rows c)
+        (λ m h e. subst (λ x. is_home c x m.kind ≡ true) (sym (text_exact n m.name e)) h) refl refl
+
+-- ---- what a value is, by what is asked of it
+
+abbrev IsPart : Data → Want → Data → Type 0
+IsPart t (Object role.Report) d = d ≡ t
+IsPart t (Object role.Election) d = Has (entries_at (codes "Election") t) d
+IsPart t (Object (role.OfFamily f)) d = Has (family_values f t) d
+IsPart t (Member (kind.Keyed f) required) d = (x : Data) → Has (entries_of d) x → Has (family_values f t) x
+IsPart t (Member kind.Elections required) d = (x : Data) → Has (entries_of d) x → Has (entries_at (codes "Election") t) x
+IsPart t (Member kind.Identity required) d = (s : List ℕ) → d ≡ string s → IsId t s
+IsPart t w d = Unit {0}
+
+found_entry : (name : List ℕ) (ms : Members) (x y : Data) → get_member name ms ≡ Some x → Has (entries_of x) y → Has (entries_at name (object ms)) y
+found_entry name ms x y found h = subst (λ o. Has (option_map_or entries_of o []) y) (sym found) h
+
+same_part : (t x : Data) (w v : Want) → Some w ≡ Some v → IsPart t w x → IsPart t v x
+same_part t x w v e h = let one : w ≡ v = cc in subst (λ z. IsPart t z x) one h
+
+module _ (t : Data) (ms : Members) (x : Data) where
+  top_entry : (name : List ℕ) → object ms ≡ t → get_member name ms ≡ Some x → (y : Data) → Has (entries_of x) y → Has (entries_at name t) y
+  top_entry name part found y h = subst (λ z. Has (entries_at name z) y) part (found_entry name ms x y found h)
+
+  nested_entry : (name : List ℕ) (ds : List Data) → Has ds (object ms) → get_member name ms ≡ Some x → (y : Data) → Has (entries_of x) y → Has (flat_map (entries_at name) ds) y
+  nested_entry name ds part found y h = flat-has (entries_at name) ds (object ms) y part (found_entry name ms x y found h)
+
+  home_entry : (r : Role) (f : Family) → holds r f ≡ true → IsPart t (Object r) (object ms) → get_member (home_name f) ms ≡ Some x → (y : Data) → Has (entries_of x) y → Has (family_values f t) y
+  home_entry role.Report family.Unit p part found = top_entry (codes "GpUnit") part found
+  home_entry role.Report family.Party p part found = top_entry (codes "Party") part found
+  home_entry role.Report family.Person p part found = top_entry (codes "Person") part found
+  home_entry role.Report family.Office p part found = top_entry (codes "Office") part found
+  home_entry role.Report family.Header p part found = top_entry (codes "Header") part found
+  home_entry role.Election family.Candidate p part found = nested_entry (codes "Candidate") (entries_at (codes "Election") t) part found
+  home_entry role.Election family.Contest p part found = nested_entry (codes "Contest") (entries_at (codes "Election") t) part found
+  home_entry role.Election family.Style p part found = nested_entry (codes "BallotStyle") (entries_at (codes "Election") t) part found
+  home_entry (role.OfFamily family.Contest) family.Selection p part found = nested_entry (codes "ContestSelection") (family_values family.Contest t) part found
+  home_entry r f p part found = cc
+
+  elections_part : (r : Role) → is_report_role r ≡ true → IsPart t (Object r) (object ms) → get_member (codes "Election") ms ≡ Some x → (y : Data) → Has (entries_of x) y → Has (entries_at (codes "Election") t) y
+  elections_part role.Report p part found = top_entry (codes "Election") part found
+  elections_part r p part found = cc
+
+  id_part : (r : Role) → is_some (family_of_role r) ≡ true → IsPart t (Object r) (object ms) → get_member (codes "@id") ms ≡ Some x → (s : List ℕ) → x ≡ string s → IsId t s
+  id_part (role.OfFamily f) p part found s e = record { family = f; value = object ms; stands = part; is = ap (option_and_then as_str) (found ∙ ap Some e) }
+  id_part r p part found s e = cc
+
+  -- a member of this kind
+  kind_part : (r : Role) (c : Class) (n : List ℕ) (k : MemberKind) (required : Bool) → role_of_class c ≡ r → is_home c n k ≡ true → IsPart t (Object r) (object ms) → get_member n ms ≡ Some x
+      → IsPart t (want_of_kind k required) x
+  kind_part r c n (kind.One f) required role at part found = tt
+  kind_part r c n kind.Carried required role at part found = tt
+  kind_part r c n (kind.Keyed f) required role at part found =
+      let b = both_true (holds (role_of_class c) f) (bytes_eq n (home_name f)) at in
+      home_entry r f (subst (λ q. holds q f ≡ true) role b.0) part (subst (λ z. get_member z ms ≡ Some x) (text_exact n (home_name f) b.1) found)
+  kind_part r c n kind.Elections required role at part found =
+      let b = both_true (is_report_role (role_of_class c)) (bytes_eq n (codes "Election")) at in
+      elections_part r (subst (λ q. is_report_role q ≡ true) role b.0) part (subst (λ z. get_member z ms ≡ Some x) (text_exact n (codes "Election") b.1) found)
+  kind_part r c n kind.Identity required role at part found =
+      let b = both_true (is_some (family_of_class c)) (bytes_eq n (codes "@id")) at in
+      id_part r (subst (λ q. is_some (family_of_role q) ≡ true) role b.0) part (subst (λ z. get_member z ms ≡ Some x) (text_exact n (codes "@id") b.1) found)
+  kind_part r c n k required role at part found = tt
+
+  member_part : (r : Role) (c : Class) (n : List ℕ) → role_of_class c ≡ r → bytes_eq n (codes "@type") ≡ false → IsPart t (Object r) (object ms) → get_member n ms ≡ Some x → IsPart t (member_want c n) x
+  member_part r c n role no_type part found = at (is_report_class c && bytes_eq n (codes "Status"))
+    where
+      at : (b : Bool) → IsPart t (cond b Status (want_of_kind (kind_of_member c n) (is_required c n))) x
+      at true = tt
+      at false = kind_part r c n (kind_of_member c n) (is_required c n) role (home c n no_type) part found
+
+  class_part : (r : Role) (o : Option Class) (n : List ℕ) (v : Want) → class_of_object r (object ms) ≡ o → IsPart t (Object r) (object ms) → want_of_name (scope.Members r o) n ≡ Some v → get_member n ms ≡ Some x
+      → IsPart t v x
+  class_part r o n v among part asks found = at (bytes_eq n (codes "@type")) refl o among asks
+    where
+      at : (b : Bool) → bytes_eq n (codes "@type") ≡ b → (o : Option Class) → class_of_object r (object ms) ≡ o → cond b (Some (ClassText r)) (option_map (λ c. member_want c n) o) ≡ Some v → IsPart t v x
+      at true is o among e = same_part t x (ClassText r) v e tt
+      at false is None among e = cc
+      at false is (Some c) among e = same_part t x (member_want c n) v e (member_part r c n (class_has_role r c (object ms) among) is part found)
+
+  carried_part : (b : Bool) → IsPart t (cond b (Member kind.StrangeIdentity false) Carried) x
+  carried_part true = tt
+  carried_part false = tt
+
+  name_part : (w : Want) (n : List ℕ) (v : Want) → IsPart t w (object ms) → want_of_name (scope_inside w (object ms)) n ≡ Some v → get_member n ms ≡ Some x → IsPart t v x
+  name_part (Object r) n v part asks found = class_part r (class_of_object r (object ms)) n v refl part asks found
+  name_part (Member kind.Label required) n v part asks found = class_part role.Label (class_of_object role.Label (object ms)) n v refl tt asks found
+  name_part Carried n v part asks found = same_part t x (carried_want n) v asks (carried_part _)
+  name_part w n v part asks found = cc
+
+entry_part : (t : Data) (w : Want) (ds : Items) (i : ℕ) (v : Want) (x : Data) → IsPart t w (array ds) → entry_want w ≡ Some v → get_item i ds ≡ Some x → IsPart t v x
+entry_part t (Member (kind.Keyed f) required) ds i v x part asks found = same_part t x (Object (role.OfFamily f)) v asks (part x (entry_has ds i x found))
+entry_part t (Member kind.Elections required) ds i v x part asks found = same_part t x (Object role.Election) v asks (part x (entry_has ds i x found))
+entry_part t (Member (kind.Many f) required) ds i v x part asks found = same_part t x (Reference f) v asks tt
+entry_part t (Member kind.Identifiers required) ds i v x part asks found = same_part t x (Object role.Identifier) v asks tt
+entry_part t (Member kind.Languages required) ds i v x part asks found = same_part t x (Object role.Language) v asks tt
+entry_part t (Member kind.Content required) ds i v x part asks found = same_part t x (Object role.Content) v asks tt
+entry_part t (Member kind.Ordered required) ds i v x part asks found = same_part t x (Reference family.Selection) v asks tt
+entry_part t Carried ds i v x part asks found = same_part t x Carried v asks tt
+entry_part t w ds i v x part asks found = cc
+
+-- ---- along the place
+
+part_some : (t : Data) (make : Want → Data → Asked) → ((v : Want) (d : Data) → (make v d).want ≡ v) → ((v : Want) (d : Data) → (make v d).value ≡ d) → (o : Option Want) (p : Option Data) (c : Asked)
+    → ((v : Want) (d : Data) → o ≡ Some v → p ≡ Some d → IsPart t v d) → option_and_then (λ v. option_map (make v) p) o ≡ Some c → IsPart t c.want c.value
+part_some t make want value None p c each e = cc
+part_some t make want value (Some v) None c each e = cc
+part_some t make want value (Some v) (Some d) c each e =
+    let one : make v d ≡ c = cc in
+    subst (λ x. IsPart t x.want x.value) one (subst (λ w. IsPart t w (make v d).value) (sym (want v d)) (subst (IsPart t v) (sym (value v d)) (each v d refl refl)))
+
+part_step : (t : Data) (w : Want) (d : Data) (s : Step) (c : Asked) → IsPart t w d → asked_inside w d s ≡ Some c → IsPart t c.want c.value
+part_step t w (object ms) (Name n) c part e =
+    part_some t asked (λ v d. refl) (λ v d. refl) (want_of_name (scope_inside w (object ms)) n) (get_member n ms) c (λ v x asks found. name_part t ms x w n v part asks found) e
+part_step t w (array ds) (At i) c part e =
+    part_some t (λ v d. record { want = v; value = d; repeated = is_compared_set w && is_repeated ds i d }) (λ v d. refl) (λ v d. refl) (entry_want w) (get_item i ds) c
+    (λ v x asks found. entry_part t w ds i v x part asks found) e
+part_step t w d s c part e = cc
+
+part_from : (t : Data) (ss : List Step) (a c : Asked) → IsPart t a.want a.value → asked_from a ss ≡ Some c → IsPart t c.want c.value
+part_from t [] a c part e = let one : a ≡ c = cc in subst (λ x. IsPart t x.want x.value) one part
+part_from t (s ∷ ss) a c part e = at (asked_inside a.want a.value s) refl (λ b. part_from t ss b c)
+  where
+    at : (o : Option Asked) → asked_inside a.want a.value s ≡ o → ((b : Asked) → IsPart t b.want b.value → asked_from b ss ≡ Some c → IsPart t c.want c.value) → IsPart t c.want c.value
+    at None is step = let g : None ≡ Some c = ap (option_and_then (λ b. asked_from b ss)) (sym is) ∙ e in cc
+    at (Some b) is step = step b (part_step t a.want a.value s b part is) (ap (option_and_then (λ b. asked_from b ss)) (sym is) ∙ e)
+
+-- the text where an `@id` is asked for is the `@id` of an object
+pub asked_id : (t : Data) (p : List Step) (a : Asked) (required : Bool) (s : List ℕ) → asked_at t p ≡ Some a → a.want ≡ Member kind.Identity required → a.value ≡ string s → IsId t s
+asked_id t p a required s stands want text =
+    let part : IsPart t (Member kind.Identity required) a.value = subst (λ w. IsPart t w a.value) want (part_from t p (asked (Object role.Report) t) a refl stands) in
+    part s text

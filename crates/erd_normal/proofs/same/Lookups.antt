@@ -1,0 +1,80 @@
+-- What stands under a name in objects that say the same: in both, or it may be absent.
+use Rattle.std.proofs.Common.{◌≡◌, ℕ, List, Option, Some, None, Ordering, Less, Equal, Greater, nat_cmp, refl, sym, ap, ◌∙◌, subst}
+use Rattle.std.specs.Cmp.Lexicographic.{slice_cmp}
+use Rattle.std.specs.Ordering.{match_ordering}
+use Rattle.serde_json.specs.Data.{Data, object, Members, member}
+use Rattle.serde_json.specs.Find.{get_member}
+use Rattle.erd_check.specs.Trees.{AreMembers}
+use Rattle.erd_check.specs.Wants.{scope_inside, want_of_name}
+use Rattle.erd_check.specs.declared.want.Scope.{Scope}
+use Rattle.erd_check.specs.declared.want.Want.{Want}
+use Rattle.erd_check.proofs.Members.{get_member-before}
+use Rattle.erd_check.proofs.Steps.{text_from_equal}
+use Rattle.erd_normal.specs.SaysTheSame.{Sides, MayBeAbsent, Same, an_object, SameMembers, no_member, in_both, left_only, right_only}
+
+-- what stands there may be absent, if anything does
+pub record MayLack (t : Data) (s : Scope) (n : List ℕ) (o : Option Data) : Type 0 where
+  pub each : (d : Data) → o ≡ Some d → MayBeAbsent t s n d
+
+pub lacks_none : (t : Data) (s : Scope) (n : List ℕ) → MayLack t s n None
+lacks_none t s n = record { each = λ d e. cc }
+
+lacks_one : (t : Data) (s : Scope) (n : List ℕ) (d : Data) → MayBeAbsent t s n d → MayLack t s n (Some d)
+lacks_one t s n d h = record { each = λ e is. let same : d ≡ e = cc in subst (MayBeAbsent t s n) same h }
+
+-- values that say the same, or what may be absent on either side
+pub data Aligned (m : Sides) (s : Scope) (n : List ℕ) : Option Data → Option Data → Type 0 where
+  both_there : {d e : Data} → Same m (want_of_name s n) d e → Aligned m s n (Some d) (Some e)
+  not_both : {o p : Option Data} → MayLack m.left s n o → MayLack m.right s n p → Aligned m s n o p
+
+module _ (m : Sides) where
+  right_lacks : (s : Scope) (n : List ℕ) (o p : Option Data) → Aligned m s n o p → o ≡ None → MayLack m.right s n p
+  right_lacks s n (Some d) (Some e) (both_there h) is = cc
+  right_lacks s n o p (not_both h k) is = k
+
+  left_lacks : (s : Scope) (n : List ℕ) (o p : Option Data) → Aligned m s n o p → p ≡ None → MayLack m.left s n o
+  left_lacks s n (Some d) (Some e) (both_there h) is = cc
+  left_lacks s n o p (not_both h k) is = h
+
+  both_at : (s : Scope) (n k : List ℕ) (d e : Data) (ms ns : Members) (o : Ordering) → slice_cmp nat_cmp n k ≡ o → Same m (want_of_name s k) d e
+      → Aligned m s n (get_member n ms) (get_member n ns)
+      → Aligned m s n (match_ordering o (get_member n ms) (Some d) (get_member n ms)) (match_ordering o (get_member n ns) (Some e) (get_member n ns))
+  both_at s n k d e ms ns Less is h rest = rest
+  both_at s n k d e ms ns Equal is h rest = both_there (subst (λ x. Same m (want_of_name s x) d e) (sym (text_from_equal n k is)) h)
+  both_at s n k d e ms ns Greater is h rest = rest
+
+  left_at : (s : Scope) (n k : List ℕ) (d : Data) (ms : Members) (p : Option Data) (o : Ordering) → slice_cmp nat_cmp n k ≡ o → AreMembers (member k d ms) → MayBeAbsent m.left s k d
+      → Aligned m s n (get_member n ms) p → Aligned m s n (match_ordering o (get_member n ms) (Some d) (get_member n ms)) p
+  left_at s n k d ms p Less is tree h rest = rest
+  left_at s n k d ms p Equal is tree h rest =
+      let n_is : n ≡ k = text_from_equal n k is in
+      let gone : get_member n ms ≡ None = ap (λ x. get_member x ms) n_is ∙ get_member-before k ms tree.2 tree.0 in
+      not_both (lacks_one m.left s n d (subst (λ x. MayBeAbsent m.left s x d) (sym n_is) h)) (right_lacks s n (get_member n ms) p rest gone)
+  left_at s n k d ms p Greater is tree h rest = rest
+
+  right_at : (s : Scope) (n k : List ℕ) (e : Data) (ns : Members) (p : Option Data) (o : Ordering) → slice_cmp nat_cmp n k ≡ o → AreMembers (member k e ns) → MayBeAbsent m.right s k e
+      → Aligned m s n p (get_member n ns) → Aligned m s n p (match_ordering o (get_member n ns) (Some e) (get_member n ns))
+  right_at s n k e ns p Less is tree h rest = rest
+  right_at s n k e ns p Equal is tree h rest =
+      let n_is : n ≡ k = text_from_equal n k is in
+      let gone : get_member n ns ≡ None = ap (λ x. get_member x ns) n_is ∙ get_member-before k ns tree.2 tree.0 in
+      not_both (left_lacks s n p (get_member n ns) rest gone) (lacks_one m.right s n e (subst (λ x. MayBeAbsent m.right s x e) (sym n_is) h))
+  right_at s n k e ns p Greater is tree h rest = rest
+
+  pub lookups : {s : Scope} {ms ns : Members} (n : List ℕ) → SameMembers m s ms ns → AreMembers ms → AreMembers ns → Aligned m s n (get_member n ms) (get_member n ns)
+  lookups {s} n no_member left right = not_both (lacks_none m.left s n) (lacks_none m.right s n)
+  lookups n (in_both {s = s} {k = k} {d = d} {e = e} {ms = ms} {ns = ns} h rest) left right =
+      both_at s n k d e ms ns (slice_cmp nat_cmp n k) refl h (lookups n rest left.2 right.2)
+  lookups n (left_only {s = s} {k = k} {d = d} {ms = ms} {ns = ns} h rest) left right =
+      left_at s n k d ms (get_member n ns) (slice_cmp nat_cmp n k) refl left h (lookups n rest left.2 right)
+  lookups n (right_only {s = s} {k = k} {e = e} {ms = ms} {ns = ns} h rest) left right =
+      right_at s n k e ns (get_member n ms) (slice_cmp nat_cmp n k) refl right h (lookups n rest left right.2)
+
+  -- what says the same as an object is one
+  pub record SameObject (w : Want) (ms : Members) (e : Data) : Type 0 where
+    pub members : Members
+    pub is_object : e ≡ object members
+    pub same : SameMembers m (scope_inside w (object ms)) ms members
+
+  pub of_object : (w : Want) (ms : Members) (e : Data) → Same m (Some w) (object ms) e → SameObject w ms e
+  of_object w ms e (an_object {ns = ns} h) = record { members = ns; is_object = refl; same = h }

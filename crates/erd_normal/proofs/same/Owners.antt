@@ -1,0 +1,131 @@
+-- What an `@id` names in a report, and what the text that it stands for names in one that says the same.
+use Rattle.std.proofs.Common.{◌≡◌, ℕ, List, Bool, true, false, Option, Some, None, option_and_then, find, codes, refl, sym, ap, ◌∙◌, subst}
+use Rattle.std.specs.Option.{option_map_or}
+use Rattle.std.specs.Str.{bytes_eq}
+use Rattle.serde_json.specs.Data.{Data, object}
+use Rattle.serde_json.specs.Find.{as_str, get_member}
+use Rattle.erd_tables.specs.Table.{is_required}
+use Rattle.erd_tables.specs.declared.class.Family.{Family}
+use Rattle.erd_tables.specs.declared.class.Role.TheVariants as role
+use Rattle.erd_tables.specs.declared.member.MemberKind.TheVariants as kind
+use Rattle.erd_check.specs.Faults.{NoneOf, ShapeFault}
+use Rattle.erd_check.specs.Trees.{IsTree}
+use Rattle.erd_check.specs.Wants.{scope_inside, want_of_name}
+use Rattle.erd_check.specs.declared.want.Scope.{Scope}
+use Rattle.erd_check.specs.declared.want.Scope.TheVariants as scope
+use Rattle.erd_check.specs.declared.want.Want.{Want}
+use Rattle.erd_check.specs.declared.want.Want.TheVariants.{Member, Object}
+use Rattle.erd_check.proofs.Exact.{text_exact, text_itself}
+use Rattle.erd_check.proofs.ObjectsAt.{ObjectIn}
+use Rattle.erd_check.proofs.Shapes.{Within-root, false_unless}
+use Rattle.erd_check.proofs.TableKinds.{want_by_kind}
+use Rattle.erd_meaning.specs.Accepted.{IsAccepted}
+use Rattle.erd_meaning.specs.Keys.{Preference, key_of}
+use Rattle.erd_meaning.specs.Objects.{has_id, id_of, owner}
+use Rattle.erd_meaning.specs.SelectionNames.{key_named}
+use Rattle.erd_meaning.proofs.accepted.Phases.{no_shape_fault}
+use Rattle.erd_normal.proofs.built.NormalGets.{kind_of_family_id}
+use Rattle.erd_normal.proofs.lists.Matched.{AtMostOne, Both, apart_distinct, matched_find, one_if_apart, said_same}
+use Rattle.erd_normal.proofs.rearranged.RelatedObjects.{family_values}
+use Rattle.erd_normal.proofs.rearranged.RelatedOwners.{owner_found}
+use Rattle.erd_normal.proofs.rearranged.SharedIds.{by_one_id, has_id-is, have_one_id, ids_distinct}
+use Rattle.erd_normal.specs.SaysTheSame.{Sides, StandsFor, IsUnused, MayBeAbsent, an_empty_array, of_the_envelope, an_unused_id, is_array_kind, is_envelope, Same, a_null, a_flag, a_number, a_text, an_id, a_list, a_set, an_object}
+use Rattle.erd_normal.specs.SameLaws.{IsUsed, ReferencesNameTheSame}
+use Rattle.erd_normal.proofs.same.Lookups.{Aligned, both_there, not_both, MayLack}
+use Rattle.erd_normal.proofs.same.Related.{Related, asks_name, family_matched, no_report, object_of, objects_of, related_key}
+
+-- ---- the `@id`s of related objects
+
+-- both have one, or neither has one to which something refers
+pub data IdsAlike (m : Sides) (d e : Data) : Type 0 where
+  two_ids : (a b : List ℕ) → id_of d ≡ Some a → id_of e ≡ Some b → StandsFor m a b → IdsAlike m d e
+  no_ids : ((a : List ℕ) → id_of d ≡ Some a → IsUnused m.left a) → ((b : List ℕ) → id_of e ≡ Some b → IsUnused m.right b) → IdsAlike m d e
+
+unused_of : (t : Data) (s : Scope) (required : Bool) (o : Option Data) → want_of_name s (codes "@id") ≡ Some (Member kind.Identity required) → is_envelope s (codes "@id") ≡ false
+    → MayLack t s (codes "@id") o → (a : List ℕ) → option_and_then as_str o ≡ Some a → IsUnused t a
+unused_of t s required None asks other h a is = cc
+unused_of t s required (Some d) asks other h a is = at (h.each d refl)
+  where
+    at : MayBeAbsent t s (codes "@id") d → IsUnused t a
+    at (an_empty_array k r asked_too array_kind empty) = let e : is_array_kind kind.Identity ≡ true = let same : Some (Member kind.Identity required) ≡ Some (Member k r) = sym asks ∙ asked_too in let one : kind.Identity ≡ k = cc in ap is_array_kind one ∙ array_kind in cc
+    at (of_the_envelope e) = let x : true ≡ false = sym e ∙ other in cc
+    at (an_unused_id id r asked_too text unused) = let one : id ≡ a = let x : Some id ≡ Some a = sym (ap as_str text) ∙ is in cc in subst (IsUnused t) one unused
+
+-- texts of `@id`s that say the same
+texts_same : (m : Sides) (required : Bool) {x y : Data} → Same m (Some (Member kind.Identity required)) x y → (d e : Data) → id_of d ≡ as_str x → id_of e ≡ as_str y → IdsAlike m d e
+texts_same m required a_null d e left right = no_ids (λ a is. let x : None ≡ Some a = sym left ∙ is in cc) (λ b is. let x : None ≡ Some b = sym right ∙ is in cc)
+texts_same m required a_flag d e left right = no_ids (λ a is. let x : None ≡ Some a = sym left ∙ is in cc) (λ b is. let x : None ≡ Some b = sym right ∙ is in cc)
+texts_same m required a_number d e left right = no_ids (λ a is. let x : None ≡ Some a = sym left ∙ is in cc) (λ b is. let x : None ≡ Some b = sym right ∙ is in cc)
+texts_same m required (a_text is) d e left right = cc
+texts_same m required (an_id {s = a} {s' = b} is h) d e left right = two_ids a b left right h
+texts_same m required (a_list is h) d e left right = no_ids (λ a is. let x : None ≡ Some a = sym left ∙ is in cc) (λ b is. let x : None ≡ Some b = sym right ∙ is in cc)
+texts_same m required (a_set fs is p h) d e left right = no_ids (λ a is. let x : None ≡ Some a = sym left ∙ is in cc) (λ b is. let x : None ≡ Some b = sym right ∙ is in cc)
+texts_same m required (an_object h) d e left right = no_ids (λ a is. let x : None ≡ Some a = sym left ∙ is in cc) (λ b is. let x : None ≡ Some b = sym right ∙ is in cc)
+
+ids_found : (m : Sides) (s : Scope) (required : Bool) (o p : Option Data) → want_of_name s (codes "@id") ≡ Some (Member kind.Identity required) → is_envelope s (codes "@id") ≡ false
+    → Aligned m s (codes "@id") o p → (d e : Data) → id_of d ≡ option_and_then as_str o → id_of e ≡ option_and_then as_str p → IdsAlike m d e
+ids_found m s required (Some x) (Some y) asks other (both_there h) d e left right = texts_same m required (subst (λ w. Same m w x y) asks h) d e left right
+ids_found m s required o p asks other (not_both h k) d e left right =
+    no_ids (λ a is. unused_of m.left s required o asks other h a (sym left ∙ is)) (λ b is. unused_of m.right s required p asks other k b (sym right ∙ is))
+
+both_ways : (a b : Bool) → (a ≡ true → b ≡ true) → (b ≡ true → a ≡ true) → a ≡ b
+both_ways true b to from = sym (to refl)
+both_ways false true to from = from refl
+both_ways false false to from = refl
+
+-- texts that stand for one another pass alike, if both are used
+pub has_same : (m : Sides) (s s' : List ℕ) (d e : Data) → StandsFor m s s' → IsUsed m.left s → IsUsed m.right s' → IdsAlike m d e → has_id s d ≡ has_id s' e
+has_same m s s' d e pair left right (two_ids a b is is' ab) =
+    ap (λ o. option_map_or (bytes_eq s) o false) is
+    ∙ both_ways (bytes_eq s a) (bytes_eq s' b)
+    (λ h. let one : s' ≡ b = pair.0 ∙ ap m.there (text_exact s a h) ∙ sym ab.0 in subst (λ x. bytes_eq s' x ≡ true) one (text_itself s'))
+    (λ h. let one : s ≡ a = pair.1 ∙ ap m.back (text_exact s' b h) ∙ sym ab.1 in subst (λ x. bytes_eq s x ≡ true) one (text_itself s))
+    ∙ sym (ap (λ o. option_map_or (bytes_eq s') o false) is')
+has_same m s s' d e pair left right (no_ids none_left none_right) =
+    false_unless (has_id s d) (λ h. none_left s (has_id-is s d h) left.place left.asked left.stands left.reference left.text)
+    ∙ sym (false_unless (has_id s' e) (λ h. none_right s' (has_id-is s' e h) right.place right.asked right.stands right.reference right.text))
+
+module _ (m : Sides) (left_tree : IsTree m.left) (right_tree : IsTree m.right) (π : Preference) (accepted : IsAccepted π m.left) (root : Related m (Object role.Report) m.left m.right) where
+  clean : NoneOf (ShapeFault m.left)
+  clean = no_shape_fault π m.left accepted
+
+  pub ids_alike : (f : Family) (d e : Data) → Related m (Object (role.OfFamily f)) d e → IdsAlike m d e
+  ids_alike f d e r =
+      let o : ObjectIn m.left (role.OfFamily f) d = object_of m left_tree right_tree clean (role.OfFamily f) d e r in
+      let w : Want = Object (role.OfFamily f) in
+      let pair = objects_of m left_tree right_tree w o.ms e (subst (λ x. Related m w x e) o.is_object r) in
+      let kinded = kind_of_family_id o.class f o.role in
+      let asks = asks_name m left_tree right_tree clean (role.OfFamily f) o.class o.ms (codes "@id") kind.Identity o.at.among refl kinded
+      ∙ ap Some (want_by_kind o.class (codes "@id") kind.Identity kinded refl) in
+      let other = ap (λ c. is_envelope (scope.Members (role.OfFamily f) c) (codes "@id")) o.at.among ∙ no_report m left_tree right_tree clean (role.OfFamily f) o.class (codes "@id") o.role (λ is. cc) in
+      let same : o.ms ≡ pair.ms = let x = pair.left_is in cc in
+      ids_found m (scope_inside w (object pair.ms)) (is_required o.class (codes "@id")) (get_member (codes "@id") pair.ms) (get_member (codes "@id") pair.ns)
+      (ap (λ x. want_of_name (scope_inside w (object x)) (codes "@id")) (sym same) ∙ asks)
+      (ap (λ x. is_envelope (scope_inside w (object x)) (codes "@id")) (sym same) ∙ other) (pair.found (codes "@id")) d e
+      (ap id_of o.is_object ∙ ap (λ x. id_of (object x)) same) (ap id_of pair.right_is)
+
+  one_owner : (f : Family) (s : List ℕ) → AtMostOne (has_id s) (family_values f m.left)
+  one_owner f s =
+      one_if_apart (has_id s) (family_values f m.left)
+      (apart_distinct (has_id s) have_one_id (family_values f m.left) (λ x y h k. by_one_id x y s (has_id-is s x h) (has_id-is s y k)) (ids_distinct π m.left accepted f))
+
+  -- what texts that stand for one another name
+  pub owners_related : (f : Family) (s s' : List ℕ) → StandsFor m s s' → IsUsed m.left s → IsUsed m.right s' → Both (Related m (Object (role.OfFamily f))) (owner m.left f s) (owner m.right f s')
+  owners_related f s s' pair left right =
+      subst (λ o. Both (Related m (Object (role.OfFamily f))) o (owner m.right f s')) (sym (owner_found m.left f s))
+      (subst (Both (Related m (Object (role.OfFamily f))) (find (has_id s) (family_values f m.left))) (sym (owner_found m.right f s'))
+      (matched_find (has_id s) (has_id s') (λ x y r. has_same m s s' x y pair left right (ids_alike f x y r)) (family_matched m left_tree right_tree clean root f) (one_owner f s)))
+
+  pub keys_named_same : (f : Family) (s s' : List ℕ) → StandsFor m s s' → IsUsed m.left s → IsUsed m.right s' → key_named π m.left f s ≡ key_named π m.right f s'
+  keys_named_same f s s' pair left right =
+      said_same (key_of π) (key_of π) (λ x y r. related_key m left_tree right_tree clean π f x y r) (owner m.left f s) (owner m.right f s') (owners_related f s s' pair left right)
+
+pub references_name_the_same : ReferencesNameTheSame
+references_name_the_same π t u left_tree right_tree accepted h f s s' left right there back =
+    let m : Sides = record { left = t; right = u; there = h.there; back = h.back } in
+    let root : Related m (Object role.Report) t u = record {
+      left = record { repeated = false; inside = Within-root t };
+      right = record { repeated = false; inside = Within-root u };
+      same = h.same;
+    } in
+    keys_named_same m left_tree right_tree π accepted root f s s' (there, back) left right

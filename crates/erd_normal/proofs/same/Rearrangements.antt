@@ -1,0 +1,77 @@
+-- An exchange is an instance, and so is a renaming.
+use Rattle.std.proofs.Common.{◌≡◌, ℕ, List, map, true, Some, option_map, unwrap_or, Contains, refl, sym, ap, ◌∙◌, subst}
+use Rattle.std.specs.Prelude.{IsTrue}
+use Rattle.std.specs.Str.{bytes_eq}
+use Rattle.serde_json.specs.Data.{Data, string}
+use Rattle.erd_tables.specs.declared.place.Step.{Step}
+use Rattle.erd_tables.specs.declared.class.Role.TheVariants as role
+use Rattle.erd_check.specs.Trees.{IsTree}
+use Rattle.erd_check.specs.Wants.{Asked, asked_at}
+use Rattle.erd_check.specs.declared.want.Want.TheVariants.{Object}
+use Rattle.erd_check.proofs.Exact.{text_exact, text_itself}
+use Rattle.erd_check.proofs.Positions.{has_mapped, map_has}
+use Rattle.erd_check.proofs.Rising.{Has}
+use Rattle.erd_meaning.proofs.accepted.References.{Has-Contains, find-any}
+use Rattle.erd_meaning.proofs.orders.DistinctEntries.{distinct_one}
+use Rattle.erd_meaning.proofs.orders.Sets.{any-has}
+use Rattle.erd_normal.specs.Rearranged.{Renaming, IsRenaming, exchanged, is_id_text, renamed, replaced_text}
+use Rattle.erd_normal.proofs.rearranged.AlikeChanges.{as_it_is, exchanged_alike, renamed_alike}
+use Rattle.erd_normal.specs.SameLaws.{ExchangedSaysTheSame}
+use Rattle.erd_normal.specs.SaysTheSame.{SaysTheSame}
+use Rattle.erd_normal.proofs.same.FromAlike.{alike_says}
+
+pub exchanged_says : ExchangedSaysTheSame
+exchanged_says t p i j tree h = alike_says as_it_is as_it_is t (exchanged p i j t) tree (record { text = λ a s inside is e. refl }) (exchanged_alike t p i j h)
+
+-- ---- renaming
+
+-- the pair that replaces a text
+record Replaces (pairs : Renaming) (s : List ℕ) : Type 0 where
+  pair : List ℕ × List ℕ
+  stands : Has pairs pair
+  old : pair.0 ≡ s
+  new : replaced_text pairs s ≡ pair.1
+
+replacing_pair : (pairs : Renaming) (s : List ℕ) → Has (map (λ (pair : List ℕ × List ℕ). pair.0) pairs) s → Replaces pairs s
+replacing_pair pairs s among =
+    let p = map_has (λ (pair : List ℕ × List ℕ). pair.0) pairs s among in
+    let passes : bytes_eq p.0.0 s ≡ true = subst (λ x. bytes_eq x s ≡ true) (sym p.2) (text_itself s) in
+    let q = find-any (λ pair. bytes_eq pair.0 s) pairs (any-has (λ pair. bytes_eq pair.0 s) pairs p.0 p.1 passes) in
+    record {
+      pair = q.0;
+      stands = q.3;
+      old = text_exact q.0.0 s q.2;
+      new = ap (λ o. unwrap_or (option_map (λ pair. pair.1) o) s) q.1;
+    }
+
+abbrev flipped : List ℕ × List ℕ → List ℕ × List ℕ
+flipped p = (p.1, p.0)
+
+abbrev pub turned_back : Renaming → Renaming
+turned_back pairs = map flipped pairs
+
+firsts_flipped : (pairs : Renaming) (p : List ℕ × List ℕ) → Has pairs p → Has (map (λ (q : List ℕ × List ℕ). q.0) (turned_back pairs)) p.1
+firsts_flipped pairs p h = has_mapped (λ (q : List ℕ × List ℕ). q.0) (turned_back pairs) (flipped p) (has_mapped flipped pairs p h)
+
+equal_texts : (a b : List ℕ) → a ≡ b → bytes_eq a b ≡ true
+equal_texts a b e = subst (λ x. bytes_eq a x ≡ true) e (text_itself a)
+
+comes_back : (t : Data) (pairs : Renaming) → IsRenaming t pairs → (s : List ℕ) → Contains (map (λ (pair : List ℕ × List ℕ). pair.0) pairs) s → replaced_text (turned_back pairs) (replaced_text pairs s) ≡ s
+comes_back t pairs h s among =
+    let p = replacing_pair pairs s (Has-Contains (map (λ (pair : List ℕ × List ℕ). pair.0) pairs) s among) in
+    let q = replacing_pair (turned_back pairs) (replaced_text pairs s) (subst (λ x. Has (map (λ (z : List ℕ × List ℕ). z.0) (turned_back pairs)) x) (sym p.new) (firsts_flipped pairs p.pair p.stands)) in
+    let r = map_has flipped pairs q.pair q.stands in
+    let tied : p.pair.1 ≡ r.0.1 = sym p.new ∙ sym q.old ∙ ap (λ (z : List ℕ × List ℕ). z.0) (sym r.2) in
+    let pair : p.pair ≡ r.0 = distinct_one (λ (z : List ℕ × List ℕ). z.1) bytes_eq pairs h.right p.pair r.0 p.stands r.1 (equal_texts p.pair.1 r.0.1 tied) (equal_texts r.0.1 p.pair.1 (sym tied)) in
+    q.new ∙ ap (λ (z : List ℕ × List ℕ). z.1) (sym r.2) ∙ ap (λ (z : List ℕ × List ℕ). z.0) (sym pair) ∙ p.old
+
+-- each text where an `@id` or a reference is asked for stands on the left of a pair
+abbrev pub CoversTexts : Data → Renaming → Type 0
+CoversTexts t pairs =
+    (p : List Step) (a : Asked) (s : List ℕ) → asked_at t p ≡ Some a → IsTrue (is_id_text a.want) → a.value ≡ string s
+    → Contains (map (λ (pair : List ℕ × List ℕ). pair.0) pairs) s
+
+pub renamed_says : (t : Data) (pairs : Renaming) → IsTree t → CoversTexts t pairs → IsRenaming t pairs → SaysTheSame t (renamed pairs t)
+renamed_says t pairs tree covers h =
+    alike_says (replaced_text pairs) (replaced_text (turned_back pairs)) t (renamed pairs t) tree
+    (record { text = λ a s inside is e. comes_back t pairs h s (covers inside.place a s inside.is is e) }) (renamed_alike pairs (Some (Object role.Report)) t)

@@ -1,0 +1,95 @@
+-- Objects that say the same have the same class, and so the same is asked of their members.
+use Rattle.std.proofs.Common.{◌≡◌, ℕ, List, true, false, Option, Some, option_and_then, Ordering, Less, Equal, Greater, nat_cmp, codes, refl, sym, ap, ◌∙◌, subst}
+use Rattle.std.specs.Cmp.Lexicographic.{slice_cmp}
+use Rattle.std.specs.Ordering.{match_ordering}
+use Rattle.serde_json.specs.Data.{Data, object, Members}
+use Rattle.serde_json.specs.Find.{as_str, get_member}
+use Rattle.erd_tables.specs.Classes.{class_in_role}
+use Rattle.erd_tables.specs.declared.class.Class.TheVariants as class
+use Rattle.erd_tables.specs.declared.class.Role.{Role}
+use Rattle.erd_tables.specs.declared.class.Role.TheVariants as role
+use Rattle.erd_tables.specs.declared.member.MemberKind.TheVariants as kind
+use Rattle.erd_check.specs.Wants.{class_of_object, scope_of_object, want_of_name}
+use Rattle.erd_check.specs.declared.want.Scope.{Scope}
+use Rattle.erd_check.specs.declared.want.Scope.TheVariants as scope
+use Rattle.erd_check.specs.declared.want.Want.{Want}
+use Rattle.erd_check.specs.declared.want.Want.TheVariants.{Carried, ClassText, Member, Object}
+use Rattle.erd_check.proofs.Steps.{text_from_equal}
+use Rattle.erd_normal.specs.Rearranged.{is_id_text}
+use Rattle.erd_normal.specs.SaysTheSame.{Sides, MayBeAbsent, an_empty_array, of_the_envelope, an_unused_id, is_envelope, Same, not_asked, a_null, a_flag, a_number, a_text, an_id, a_list, a_set, an_object, SameMembers, no_member, in_both, left_only, right_only}
+
+-- ---- `@type` is never left out
+
+asks_class : (s : Scope) (w : Want) → want_of_name s (codes "@type") ≡ Some w → ((r : Role) → ClassText r ≡ w → ⊥) → (Carried ≡ w → ⊥) → ⊥
+asks_class scope.Nothing w e h k = cc
+asks_class (scope.Members r c) w e h k = let g : ClassText r ≡ w = cc in absurd (h r g)
+asks_class scope.Carried w e h k = let g : Carried ≡ w = cc in absurd (k g)
+
+no_envelope_type : (s : Scope) → is_envelope s (codes "@type") ≡ true → ⊥
+no_envelope_type (scope.Members r (Some class.ElectionReport)) e = cc
+no_envelope_type s e = cc
+
+pub type_stays : (t : Data) (s : Scope) (d : Data) → MayBeAbsent t s (codes "@type") d → ⊥
+type_stays t s d (an_empty_array k required asks is empty) = asks_class s (Member k required) asks (λ r e. cc) (λ e. cc)
+type_stays t s d (of_the_envelope h) = no_envelope_type s h
+type_stays t s d (an_unused_id id required asks is unused) = asks_class s (Member kind.Identity required) asks (λ r e. cc) (λ e. cc)
+
+type_plain : (s : Scope) (v : Want) → want_of_name s (codes "@type") ≡ Some v → is_id_text v ≡ false
+type_plain scope.Nothing v e = cc
+type_plain (scope.Members r c) v e = let h : ClassText r ≡ v = cc in ap is_id_text (sym h)
+type_plain scope.Carried v e = let h : Carried ≡ v = cc in ap is_id_text (sym h)
+
+-- ---- texts
+
+pub text_same : (m : Sides) {o : Option Want} {d e : Data} → Same m o d e → ((v : Want) → o ≡ Some v → is_id_text v ≡ false) → as_str d ≡ as_str e
+text_same m not_asked plain = refl
+text_same m a_null plain = refl
+text_same m a_flag plain = refl
+text_same m a_number plain = refl
+text_same m (a_text is) plain = refl
+text_same m (an_id {w = w} is h) plain = let e : true ≡ false = sym is ∙ plain w refl in cc
+text_same m (a_list is h) plain = refl
+text_same m (a_set fs is p h) plain = refl
+text_same m (an_object h) plain = refl
+
+-- ---- classes
+
+module _ (m : Sides) where
+  -- a text under `@type`, when it is found among members
+  abbrev type_text : Members → Option (List ℕ)
+  type_text ms = option_and_then as_str (get_member (codes "@type") ms)
+
+  in_both_at : (s : Scope) (k : List ℕ) (d e : Data) (ms ns : Members) (o : Ordering) → slice_cmp nat_cmp (codes "@type") k ≡ o → Same m (want_of_name s k) d e
+      → type_text ms ≡ type_text ns
+      → option_and_then as_str (match_ordering o (get_member (codes "@type") ms) (Some d) (get_member (codes "@type") ms))
+      ≡ option_and_then as_str (match_ordering o (get_member (codes "@type") ns) (Some e) (get_member (codes "@type") ns))
+  in_both_at s k d e ms ns Less is h rest = rest
+  in_both_at s k d e ms ns Equal is h rest =
+      let k_is : codes "@type" ≡ k = text_from_equal (codes "@type") k is in
+      text_same m h (λ v asks. type_plain s v (ap (want_of_name s) k_is ∙ asks))
+  in_both_at s k d e ms ns Greater is h rest = rest
+
+  one_only_at : (t : Data) (s : Scope) (k : List ℕ) (d : Data) (ms ns : Members) (o : Ordering) → slice_cmp nat_cmp (codes "@type") k ≡ o → MayBeAbsent t s k d
+      → type_text ms ≡ type_text ns
+      → option_and_then as_str (match_ordering o (get_member (codes "@type") ms) (Some d) (get_member (codes "@type") ms)) ≡ type_text ns
+  one_only_at t s k d ms ns Less is h rest = rest
+  one_only_at t s k d ms ns Equal is h rest =
+      let k_is : codes "@type" ≡ k = text_from_equal (codes "@type") k is in
+      absurd (type_stays t s d (subst (λ x. MayBeAbsent t s x d) (sym k_is) h))
+  one_only_at t s k d ms ns Greater is h rest = rest
+
+  pub type_same : {s : Scope} {ms ns : Members} → SameMembers m s ms ns → type_text ms ≡ type_text ns
+  type_same no_member = refl
+  type_same (in_both {s = s} {k = k} {d = d} {e = e} {ms = ms} {ns = ns} h rest) = in_both_at s k d e ms ns (slice_cmp nat_cmp (codes "@type") k) refl h (type_same rest)
+  type_same (left_only {s = s} {k = k} {d = d} {ms = ms} {ns = ns} h rest) = one_only_at m.left s k d ms ns (slice_cmp nat_cmp (codes "@type") k) refl h (type_same rest)
+  type_same (right_only {s = s} {k = k} {e = e} {ms = ms} {ns = ns} h rest) = sym (one_only_at m.right s k e ns ms (slice_cmp nat_cmp (codes "@type") k) refl h (sym (type_same rest)))
+
+  pub class_same : {s : Scope} (r : Role) (ms ns : Members) → SameMembers m s ms ns → class_of_object r (object ms) ≡ class_of_object r (object ns)
+  class_same r ms ns h = ap (option_and_then (class_in_role r)) (type_same h)
+
+  -- the same is asked of the members of objects that say the same
+  pub scope_same : {s : Scope} (w : Want) (ms ns : Members) → SameMembers m s ms ns → scope_of_object w (object ms) ≡ scope_of_object w (object ns)
+  scope_same (Object r) ms ns h = ap (scope.Members r) (class_same r ms ns h)
+  scope_same (Member kind.Label required) ms ns h = ap (scope.Members role.Label) (class_same role.Label ms ns h)
+  scope_same Carried ms ns h = refl
+  scope_same w ms ns h = refl

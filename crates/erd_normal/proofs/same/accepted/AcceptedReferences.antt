@@ -1,0 +1,278 @@
+-- A report that says the same as an accepted one has no fault of references, where its envelope has no fault of shape.
+use Rattle.std.proofs.Common.{◌≡◌, ◌⊎◌, inl, inr, ℕ, List, [], Bool, true, false, true≢false, not, ◌&&◌, is_some, Option, Some, None, option_and_then, unwrap_or, codes, refl, sym, ap, ◌∙◌, subst}
+use Rattle.std.specs.List.{list_any}
+use Rattle.std.specs.Option.{option_map_or}
+use Rattle.std.specs.Prelude.{IsSomeAnd, IsTrue}
+use Rattle.std.specs.Str.{bytes_eq}
+use Rattle.serde_json.specs.Data.{Data, string, object, Members}
+use Rattle.serde_json.specs.Find.{as_str, get_member}
+use Rattle.erd_tables.specs.Table.{kind_of_member}
+use Rattle.erd_tables.specs.declared.class.Class.TheVariants as class
+use Rattle.erd_tables.specs.declared.class.Family.{Family}
+use Rattle.erd_tables.specs.declared.class.Family.TheVariants as family
+use Rattle.erd_tables.specs.declared.class.Role.TheVariants as role
+use Rattle.erd_tables.specs.declared.fault.Reason.{Reason}
+use Rattle.erd_tables.specs.declared.fault.Reason.TheVariants as reason
+use Rattle.erd_tables.specs.declared.member.MemberKind.TheVariants as kind
+use Rattle.erd_tables.specs.declared.place.Step.{Step}
+use Rattle.erd_check.specs.Faults.{NoneOf, ShapeFault, is_reference, names_wanted}
+use Rattle.erd_check.specs.Trees.{IsTree}
+use Rattle.erd_check.specs.Values.{entries_at, text_at, text_of}
+use Rattle.erd_check.specs.Wants.{Asked, asked, asked_at, member_want, scope_inside, want_of_name}
+use Rattle.erd_check.specs.declared.want.Scope.{Scope}
+use Rattle.erd_check.specs.declared.want.Scope.TheVariants as scope
+use Rattle.erd_check.specs.declared.want.Want.{Want}
+use Rattle.erd_check.specs.declared.want.Want.TheVariants.{Member, Object, Reference}
+use Rattle.erd_check.proofs.ObjectsAt.{ObjectIn}
+use Rattle.erd_check.proofs.Positions.{all_by_entry}
+use Rattle.erd_check.proofs.Rising.{Has, all-Has}
+use Rattle.erd_check.proofs.Shapes.{Within}
+use Rattle.erd_meaning.specs.Accepted.{IsAccepted}
+use Rattle.erd_meaning.specs.Keys.{Preference}
+use Rattle.erd_meaning.specs.LaterFaults.{ReferenceFault, is_of_other_family, is_other_selection, is_reference_fault, is_selection_in, is_unresolved}
+use Rattle.erd_meaning.specs.Objects.{has_id, owner}
+use Rattle.erd_meaning.specs.Records.{class_of_node}
+use Rattle.erd_meaning.proofs.accepted.Phases.{no_shape_fault}
+use Rattle.erd_normal.proofs.canonical.ChosenEntries.{IsChosen, contest_named, entries_chosen, list_name}
+use Rattle.erd_normal.proofs.canonical.NormalNames.{Refers, reference_refers}
+use Rattle.erd_normal.proofs.canonical.NoReferenceFaults.{IsListed, none_elsewhere}
+use Rattle.erd_normal.proofs.canonical.ReferenceLists.{IsListSound}
+use Rattle.erd_normal.proofs.canonical.ReferencesBuilt.{and_no, names_sound}
+use Rattle.erd_normal.proofs.lists.Matched.{Both, both, Matched, matched_any, matched_back}
+use Rattle.erd_normal.specs.SameLaws.{HasSoundEnvelope, IsUsed}
+use Rattle.erd_normal.specs.SaysTheSame.{Sides, StandsFor, Same}
+use Rattle.erd_normal.proofs.same.FromAlike.{Stands}
+use Rattle.erd_normal.proofs.same.InTurn.{OtherText, id_text}
+use Rattle.erd_normal.proofs.same.Lookups.{Aligned, both_there, not_both, MayLack}
+use Rattle.erd_normal.proofs.same.Owners.{has_same, ids_alike, owners_related}
+use Rattle.erd_normal.proofs.same.Related.{Objects, Related, member_stands, no_report, object_of, objects_of, related_array, selections_matched}
+use Rattle.erd_normal.proofs.same.accepted.AbsentMembers.{IsSound, is_lone}
+use Rattle.erd_normal.proofs.same.accepted.AskedAgain.{AskedAgain, asked_again, none_repeated}
+use Rattle.erd_normal.proofs.same.accepted.RequiredMembers.{required_stays}
+
+-- what is no reference has no fault of this kind
+no_reference : (u : Data) (a : Asked) (w : Want) → a.want ≡ w → is_reference w ≡ false → (r : Reason) → is_reference_fault u a r ≡ false
+no_reference u a w e other reason.Repeated = ap (λ x. a.repeated && is_reference x) e ∙ ap (λ b. a.repeated && b) other ∙ and_no a.repeated
+no_reference u a (Reference f) e other reason.Unresolved = cc
+no_reference u a (Reference f) e other reason.WrongFamily = cc
+no_reference u a w e other reason.Unresolved = ap (λ x. is_unresolved u x a.value) e
+no_reference u a w e other reason.WrongFamily = ap (λ x. is_of_other_family u x a.value) e
+no_reference u a w e other r = refl
+
+which_reference : (w : Want) → is_reference w ≡ true → (f : Family) × (w ≡ Reference f)
+which_reference (Reference f) e = (f, refl)
+which_reference w e = cc
+
+used : (t : Data) (f : Family) (d : Data) (s : List ℕ) → Stands t (Reference f) d → d ≡ string s → IsUsed t s
+used t f d s stands text = record {
+  place = stands.inside.place;
+  asked = record { want = Reference f; value = d; repeated = stands.repeated };
+  stands = stands.inside.is;
+  reference = refl;
+  text = text;
+}
+
+module _ (m : Sides) (left_tree : IsTree m.left) (right_tree : IsTree m.right) (π : Preference) (accepted : IsAccepted π m.left) (sound : HasSoundEnvelope m.right)
+    (root : Related m (Object role.Report) m.left m.right) where
+  clean : NoneOf (ShapeFault m.left)
+  clean = no_shape_fault π m.left accepted
+
+  -- ---- each reference
+
+  -- a reference of the left report, and the one that stands for it in the right one
+  record RefersToo (f : Family) (d e : Data) : Type 0 where
+    id : List ℕ
+    text : d ≡ string id
+    other : List ℕ
+    other_text : e ≡ string other
+    pair : StandsFor m id other
+    left_used : IsUsed m.left id
+    right_used : IsUsed m.right other
+    target : Data
+    owned : owner m.left f id ≡ Some target
+    right_target : Data
+    right_owned : owner m.right f other ≡ Some right_target
+    related : Related m (Object (role.OfFamily f)) target right_target
+
+  record Owned (f : Family) (other : List ℕ) (o : Data) : Type 0 where
+    object : Data
+    named : owner m.right f other ≡ Some object
+    related : Related m (Object (role.OfFamily f)) o object
+
+  owned_too : (f : Family) (id other : List ℕ) (o : Data) → StandsFor m id other → IsUsed m.left id → IsUsed m.right other → owner m.left f id ≡ Some o → Owned f other o
+  owned_too f id other o pair left right e = at (owner m.left f id) (owner m.right f other) e refl (owners_related m left_tree right_tree π accepted root f id other pair left right)
+    where
+      at : (p q : Option Data) → p ≡ Some o → owner m.right f other ≡ q → Both (Related m (Object (role.OfFamily f))) p q → Owned f other o
+      at None q same is k = cc
+      at (Some x) None same is k = elim k [ ]
+      at (Some x) (Some y) same is (both k) = let one : x ≡ o = cc in record { object = y; named = is; related = subst (λ z. Related m (Object (role.OfFamily f)) z y) one k }
+
+  first_asked : (f : Family) (d : Data) (b : Bool) → Within m.left (record { want = Reference f; value = d; repeated = b }) → Within m.left (asked (Reference f) d)
+  first_asked f d b inside =
+      subst (λ r. Within m.left (record { want = Reference f; value = d; repeated = r })) (none_repeated π m.left accepted (record { want = Reference f; value = d; repeated = b }) inside) inside
+
+  refers_too : (f : Family) (d e : Data) → Related m (Reference f) d e → RefersToo f d e
+  refers_too f d e r =
+      let x : Refers m.left f d = reference_refers π m.left accepted f d (first_asked f d r.left.repeated r.left.inside) in
+      let o = id_text m x.0 r.same refl x.1 in
+      let left = used m.left f d x.0 r.left x.1 in
+      let right = used m.right f e o.other r.right o.is in
+      let y = owned_too f x.0 o.other x.2.0 o.pair left right x.2.1 in
+      record {
+        id = x.0;
+        text = x.1;
+        other = o.other;
+        other_text = o.is;
+        pair = o.pair;
+        left_used = left;
+        right_used = right;
+        target = x.2.0;
+        owned = x.2.1;
+        right_target = y.object;
+        right_owned = y.named;
+        related = y.related;
+      }
+
+  -- what is asked again, as two values that are related
+  related_again : (b : Asked) (w : Want) → b.want ≡ w → Within m.right b → (from : AskedAgain m b) → Related m w from.of.value b.value
+  related_again b w is inside from = record {
+    left = record { repeated = from.of.repeated; inside = subst (λ x. Within m.left (record { want = x; value = from.of.value; repeated = from.of.repeated })) (from.want ∙ is) from.inside };
+    right = record { repeated = b.repeated; inside = subst (λ x. Within m.right (record { want = x; value = b.value; repeated = b.repeated })) is inside };
+    same = subst (λ x. Same m (Some x) from.of.value b.value) is from.same;
+  }
+
+  reference_sound : (b : Asked) (f : Family) → b.want ≡ Reference f → Within m.right b → AskedAgain m b → (r : Reason) → is_reference_fault m.right b r ≡ false
+  reference_sound b f is inside from r =
+      let s = refers_too f from.of.value b.value (related_again b (Reference f) is inside from) in
+      let here = (names_sound m.right f s.other s.right_target b.repeated from.first s.right_owned).sound r in
+      subst (λ w. is_reference_fault m.right (record { want = w; value = b.value; repeated = b.repeated }) r ≡ false) (sym is)
+      (subst (λ v. is_reference_fault m.right (record { want = Reference f; value = v; repeated = b.repeated }) r ≡ false) (sym s.other_text) here)
+
+  -- what is asked for in a reference or in a ballot is asked again
+  again : (b : Asked) → is_lone b.want ≡ false → AskedAgain m b ⊎ IsSound b → AskedAgain m b
+  again b bound (inl from) = from
+  again b bound (inr alone) = absurd (true≢false (sym alone.lone ∙ bound))
+
+  asked_too : (p : List Step) (b : Asked) → asked_at m.right p ≡ Some b → is_lone b.want ≡ false → AskedAgain m b
+  asked_too p b e bound = again b bound (asked_again m left_tree right_tree π accepted sound root.same p b e)
+
+  sound_asked : (p : List Step) (b : Asked) → asked_at m.right p ≡ Some b → (r : Reason) → is_reference_fault m.right b r ≡ false
+  sound_asked p b e r = at (is_reference b.want) refl
+    where
+      at : (c : Bool) → is_reference b.want ≡ c → is_reference_fault m.right b r ≡ false
+      at true is = let f = which_reference b.want is in reference_sound b f.0 f.1 (record { place = p; is = e }) (asked_too p b e (ap is_lone f.1)) r
+      at false is = no_reference m.right b b.want refl is r
+
+  -- ---- the lists of ballots
+
+  -- a selection of a contest is one of the related contest
+  chosen_too : (id other : List ℕ) (d e : Data) → StandsFor m id other → IsUsed m.left id → IsUsed m.right other → Related m (Object (role.OfFamily family.Contest)) d e
+      → is_selection_in d id ≡ is_selection_in e other
+  chosen_too id other d e pair left right r =
+      matched_any (has_id id) (has_id other)
+      (λ x y k. has_same m id other x y pair left right (ids_alike m left_tree right_tree π accepted root family.Selection x y k))
+      (selections_matched m left_tree right_tree clean root d e r)
+
+  -- what stands under a name in the left object, and must stand there, has one that says the same in the right object
+  standing : (s : Scope) (n : List ℕ) (w : Want) (v : Data) (o p : Option Data) → want_of_name s n ≡ Some w → o ≡ Some v → Aligned m s n o p → (MayLack m.left s n o → ⊥)
+      → (y : Data) × (p ≡ Some y) × Same m (Some w) v y
+  standing s n w v (Some d) (Some e) asks is (both_there h) stays =
+      let one : d ≡ v = cc in (e, refl, subst (λ z. Same m (Some w) z e) one (subst (λ x. Same m x d e) asks h))
+  standing s n w v o p asks is (not_both l r) stays = absurd (stays l)
+
+  module _ (d e : Data) (r : Related m (Object role.Content) d e) (among : class_of_node e ≡ Some class.OrderedContest) where
+    abbrev ballot : Want
+    ballot = Object role.Content
+
+    o : ObjectIn m.left role.Content d
+    o = object_of m left_tree right_tree clean role.Content d e r
+
+    pair : Objects m left_tree right_tree ballot (object o.ms) e
+    pair = objects_of m left_tree right_tree ballot o.ms e (subst (λ x. Related m ballot x e) o.is_object r)
+
+    members_same : o.ms ≡ pair.ms
+    members_same = let x = pair.left_is in cc
+
+    scopes : scope_inside ballot (object o.ms) ≡ scope_inside ballot (object pair.ns)
+    scopes = ap (λ x. scope_inside ballot (object x)) members_same ∙ pair.scopes
+
+    here : class_of_node (object o.ms) ≡ Some class.OrderedContest
+    here = let classes : class_of_node (object o.ms) ≡ class_of_node (object pair.ns) = let x : scope.Members role.Content (class_of_node (object o.ms)) ≡ scope.Members role.Content (class_of_node (object pair.ns)) = scopes in cc in classes ∙ sym (ap class_of_node pair.right_is) ∙ among
+
+    class_is : o.class ≡ class.OrderedContest
+    class_is = let h : Some o.class ≡ Some class.OrderedContest = sym o.at.among ∙ here in cc
+
+    -- the reference to the contest
+    contest : (v : Data) × (get_member (codes "ContestId") o.ms ≡ Some v) × Refers m.left family.Contest v
+    contest = contest_named π m.left accepted o.ms o.at.inside here
+
+    asks_contest : want_of_name (scope_inside ballot (object o.ms)) (codes "ContestId") ≡ Some (Reference family.Contest)
+    asks_contest = ap (λ c. want_of_name (scope.Members role.Content c) (codes "ContestId")) here
+
+    contest_too : (y : Data) × (get_member (codes "ContestId") pair.ns ≡ Some y) × Same m (Some (Reference family.Contest)) contest.0 y
+    contest_too =
+        standing (scope_inside ballot (object o.ms)) (codes "ContestId") (Reference family.Contest) contest.0 (get_member (codes "ContestId") o.ms) (get_member (codes "ContestId") pair.ns) asks_contest contest.1
+        (subst (λ x. Aligned m (scope_inside ballot (object x)) (codes "ContestId") (get_member (codes "ContestId") x) (get_member (codes "ContestId") pair.ns)) (sym members_same) (pair.found (codes "ContestId")))
+        (required_stays m.left clean (asked ballot (object o.ms)) o.ms (codes "ContestId") o.at.inside refl
+        (ap (λ c. list_any (bytes_eq (codes "ContestId")) (names_wanted (scope.Members role.Content c))) here))
+
+    contest_text : OtherText m contest.2.0 contest_too.0
+    contest_text = id_text m contest.2.0 contest_too.2 refl contest.2.1
+
+    left_stands : Stands m.left ballot (object o.ms)
+    left_stands = record { repeated = false; inside = o.at.inside }
+
+    kin : Owned family.Contest contest_text.other contest.2.2.0
+    kin =
+        owned_too family.Contest contest.2.0 contest_text.other contest.2.2.0 contest_text.pair
+        (used m.left family.Contest contest.0 contest.2.0 (member_stands m.left ballot o.ms left_stands (codes "ContestId") (Reference family.Contest) contest.0 asks_contest contest.1) contest.2.1)
+        (used m.right family.Contest contest_too.0 contest_text.other
+        (member_stands m.right ballot pair.ns pair.right (codes "ContestId") (Reference family.Contest) contest_too.0 (ap (λ s. want_of_name s (codes "ContestId")) (sym scopes) ∙ asks_contest) contest_too.1) contest_text.is)
+        contest.2.2.1
+
+    named : owner m.right family.Contest (text_at (codes "ContestId") e) ≡ Some kin.object
+    named =
+        ap (λ x. owner m.right family.Contest (text_at (codes "ContestId") x)) pair.right_is
+        ∙ ap (λ x. owner m.right family.Contest (unwrap_or (option_and_then as_str x) [])) (contest_too.1 ∙ ap Some contest_text.is) ∙ kin.named
+
+    -- the lists
+    lists : Matched (Related m (Reference family.Selection)) (entries_at list_name d) (entries_at list_name e)
+    lists =
+        related_array m left_tree right_tree clean role.Content d e o r list_name kind.Ordered (Member kind.Ordered false) (Reference family.Selection) refl
+        (ap (λ c. kind_of_member c list_name) class_is) (ap (λ c. member_want c list_name) class_is) refl
+        (no_report m left_tree right_tree clean role.Content o.class list_name o.role (λ x. cc))
+
+    entry_of_contest : (y : Data) → Has (entries_at list_name e) y → is_other_selection m.right e (Reference family.Selection) y ≡ false
+    unfolding contest
+    entry_of_contest y h =
+        let x = matched_back y lists h in
+        let s : RefersToo family.Selection x.0 y = refers_too family.Selection x.0 y x.2 in
+        let chosen : IsChosen π m.left accepted o.ms o.at.inside here x.0 =
+        all-Has (IsChosen π m.left accepted o.ms o.at.inside here) (entries_at list_name (object o.ms)) x.0 (entries_chosen π m.left accepted o.ms o.at.inside here) (subst (λ z. Has (entries_at list_name z) x.0) o.is_object x.1) in
+        let inside : is_selection_in kin.object s.other ≡ true =
+        sym (chosen_too s.id s.other contest.2.2.0 kin.object s.pair s.left_used s.right_used kin.related)
+        ∙ sym (ap (λ z. is_selection_in contest.2.2.0 (text_of z)) s.text) ∙ chosen.1 in
+        ap (is_other_selection m.right e (Reference family.Selection)) s.other_text
+        ∙ ap (λ z. is_some (owner m.right family.Selection s.other) && option_map_or (λ c. not (is_selection_in c s.other)) z false) named
+        ∙ ap (λ b. is_some (owner m.right family.Selection s.other) && not b) inside ∙ and_no (is_some (owner m.right family.Selection s.other))
+
+    list_sound : IsListSound m.right e
+    list_sound = all_by_entry (λ y. is_other_selection m.right e (Reference family.Selection) y ≡ false) (entries_at list_name e) entry_of_contest
+
+  listed : (p : List Step) (b : Asked) → asked_at m.right p ≡ Some b → IsListed m.right b
+  listed p b e = record {
+    sound = λ is among. list_sound _ b.value (related_again b (Object role.Content) is (record { place = p; is = e }) (asked_too p b e (ap is_lone is))) among;
+  }
+
+  -- ---- the report
+
+  by_asked : (p : List Step) (r : Reason) → IsSomeAnd (asked_at m.right p) (λ a. IsTrue (is_reference_fault m.right a r)) → ⊥
+  by_asked p r h = at (asked_at m.right p) refl h
+    where
+      at : (o : Option Asked) → asked_at m.right p ≡ o → IsSomeAnd o (λ a. IsTrue (is_reference_fault m.right a r)) → ⊥
+      at None is h = h
+      at (Some b) is h = true≢false (sym h ∙ sound_asked p b is r)
+
+  pub same_references : NoneOf (ReferenceFault m.right)
+  same_references p reason.SelectionOfOtherContest h = none_elsewhere m.right listed p h
+  same_references p r h = by_asked p r h

@@ -1,0 +1,193 @@
+-- A report that says the same as an accepted one has no fault of shape, where its envelope has none.
+use Rattle.std.proofs.Common.{◌≡◌, ◌⊎◌, inl, inr, ℕ, List, length, Bool, true, false, true≢false, not, ◌&&◌, ◌||◌, Option, Some, None, codes, is_none, is_some, refl, sym, ap, ap₂, ◌∙◌, subst}
+use Rattle.std.specs.List.{list_any}
+use Rattle.std.specs.Option.{option_map_or}
+use Rattle.std.specs.Prelude.{IsTrue, IsSomeAnd, ◌==◌}
+use Rattle.std.specs.Str.{bytes_eq}
+use Rattle.serde_json.specs.Data.{Data, null, number, string, array, object, Members}
+use Rattle.serde_json.specs.Find.{as_bool, as_number, get_member, is_float}
+use Rattle.erd_tables.specs.Classes.{class_in_role}
+use Rattle.erd_tables.specs.declared.class.Role.TheVariants as role
+use Rattle.erd_tables.specs.declared.fault.Reason.{Reason}
+use Rattle.erd_tables.specs.declared.fault.Reason.TheVariants as reason
+use Rattle.erd_tables.specs.declared.member.MemberKind.{MemberKind}
+use Rattle.erd_tables.specs.declared.member.MemberKind.TheVariants as kind
+use Rattle.erd_check.specs.Faults.{NoneOf, ShapeFault, has_kind, has_wanted_kind, is_array, is_empty_array, is_object, is_other_status, is_outside, is_reference, is_shape_fault, is_text, is_wrong_class, lacks, names_wanted, wants_entry, wants_whole}
+use Rattle.erd_check.specs.Trees.{IsTree}
+use Rattle.erd_check.specs.Values.{list_of_items}
+use Rattle.erd_check.specs.Wants.{Asked, asked_at, is_elections, scope_inside}
+use Rattle.erd_check.specs.declared.want.Want.{Want}
+use Rattle.erd_check.specs.declared.want.Want.TheVariants.{Carried, ClassText, Member, Object, Reference, Status}
+use Rattle.erd_check.proofs.Shapes.{Within, faultless, within-tree}
+use Rattle.erd_meaning.specs.Accepted.{IsAccepted}
+use Rattle.erd_meaning.specs.Keys.{Preference}
+use Rattle.erd_meaning.proofs.accepted.Phases.{no_shape_fault}
+use Rattle.erd_normal.specs.Rearranged.{is_id_text}
+use Rattle.erd_normal.proofs.lists.Matched.{matched_length}
+use Rattle.erd_normal.specs.SameLaws.{HasSoundEnvelope}
+use Rattle.erd_normal.specs.SaysTheSame.{Sides, Same, a_null, a_flag, a_number, a_text, an_id, a_list, a_set, an_object, SameMembers}
+use Rattle.erd_normal.proofs.same.Lookups.{Aligned, both_there, not_both, MayLack, lookups}
+use Rattle.erd_normal.proofs.same.Related.{entries_matched}
+use Rattle.erd_normal.proofs.same.Types.{scope_same, text_same}
+use Rattle.erd_normal.proofs.same.accepted.AbsentMembers.{IsSound}
+use Rattle.erd_normal.proofs.same.accepted.AskedAgain.{AskedAgain, asked_again}
+use Rattle.erd_normal.proofs.same.accepted.RequiredMembers.{required_stays}
+
+-- ---- tests of values that say the same
+
+module _ (m : Sides) (w : Want) where
+  -- a test that sees no more than the kind of a JSON value, truth values, numbers and how long an array is
+  abbrev SeesKind : {A : Type 0} → (Data → A) → Type 0
+  SeesKind test = ((s s' : List ℕ) → test (string s) ≡ test (string s')) × ((ds es : _) → length (list_of_items ds) ≡ length (list_of_items es) → test (array ds) ≡ test (array es))
+      × ((ms ns : _) → test (object ms) ≡ test (object ns))
+
+  pub same_kind : {A : Type 0} (test : Data → A) → SeesKind test → (d e : Data) → Same m (Some w) d e → test d ≡ test e
+  same_kind test sees d e a_null = refl
+  same_kind test sees d e a_flag = refl
+  same_kind test sees d e a_number = refl
+  same_kind test sees d e (a_text is) = refl
+  same_kind test sees d e (an_id {s = s} {s' = s'} is h) = sees.0 s s'
+  same_kind test sees d e (a_list {ds = ds} {es = es} is h) = sees.1 ds es (matched_length (entries_matched m w (a_list is h)))
+  same_kind test sees d e (a_set {ds = ds} {es = es} fs is p h) = sees.1 ds es (matched_length (entries_matched m w (a_set fs is p h)))
+  same_kind test sees d e (an_object {ms = ms} {ns = ns} h) = sees.2 ms ns
+
+  same_is_text : (d e : Data) → Same m (Some w) d e → is_text d ≡ is_text e
+  same_is_text = same_kind is_text (λ s s'. refl, λ ds es l. refl, λ ms ns. refl)
+
+  same_is_array : (d e : Data) → Same m (Some w) d e → is_array d ≡ is_array e
+  same_is_array = same_kind is_array (λ s s'. refl, λ ds es l. refl, λ ms ns. refl)
+
+  same_is_object : (d e : Data) → Same m (Some w) d e → is_object d ≡ is_object e
+  same_is_object = same_kind is_object (λ s s'. refl, λ ds es l. refl, λ ms ns. refl)
+
+  same_flag : (d e : Data) → Same m (Some w) d e → as_bool d ≡ as_bool e
+  same_flag = same_kind as_bool (λ s s'. refl, λ ds es l. refl, λ ms ns. refl)
+
+  same_number : (d e : Data) → Same m (Some w) d e → as_number d ≡ as_number e
+  same_number = same_kind as_number (λ s s'. refl, λ ds es l. refl, λ ms ns. refl)
+
+  same_empty : (d e : Data) → Same m (Some w) d e → is_empty_array d ≡ is_empty_array e
+  same_empty = same_kind is_empty_array (λ s s'. refl, λ ds es l. ap (λ n. n == 0) l, λ ms ns. refl)
+
+-- ---- faults, but for members that are lacking
+
+kind_same : (m : Sides) (k : MemberKind) (required : Bool) (d e : Data) → Same m (Some (Member k required)) d e → has_kind k d ≡ has_kind k e
+kind_same m kind.Identity required d e h = same_is_text m (Member kind.Identity required) d e h
+kind_same m kind.Word required d e h = same_is_text m (Member kind.Word required) d e h
+kind_same m kind.Label required d e h =
+    ap₂ ◌||◌ (same_is_text m (Member kind.Label required) d e h) (same_is_object m (Member kind.Label required) d e h)
+kind_same m kind.Flag required d e h = ap is_some (same_flag m (Member kind.Flag required) d e h)
+kind_same m kind.Whole required d e h = ap is_some (same_number m (Member kind.Whole required) d e h)
+kind_same m (kind.Many f) required d e h = same_is_array m (Member (kind.Many f) required) d e h
+kind_same m kind.Identifiers required d e h = same_is_array m (Member kind.Identifiers required) d e h
+kind_same m kind.Languages required d e h = same_is_array m (Member kind.Languages required) d e h
+kind_same m (kind.Keyed f) required d e h = same_is_array m (Member (kind.Keyed f) required) d e h
+kind_same m kind.Elections required d e h = same_is_array m (Member kind.Elections required) d e h
+kind_same m kind.Content required d e h = same_is_array m (Member kind.Content required) d e h
+kind_same m kind.Ordered required d e h = same_is_array m (Member kind.Ordered required) d e h
+kind_same m k required d e h = refl
+
+wanted_same : (m : Sides) (w : Want) (d e : Data) → Same m (Some w) d e → has_wanted_kind w d ≡ has_wanted_kind w e
+wanted_same m (Object r) d e h = same_is_object m (Object r) d e h
+wanted_same m (ClassText r) d e h = same_is_text m (ClassText r) d e h
+wanted_same m (Reference f) d e h = same_is_text m (Reference f) d e h
+wanted_same m Status d e h = same_is_text m Status d e h
+wanted_same m (Member k required) d e h = kind_same m k required d e h
+wanted_same m Carried d e h = refl
+
+class_text_same : (m : Sides) (w : Want) (d e : Data) → Same m (Some w) d e → is_wrong_class w d ≡ is_wrong_class w e
+class_text_same m (ClassText r) d e h =
+    ap (λ o. option_map_or (λ s. is_none (class_in_role r s)) o false) (text_same m h (λ v is. let one : ClassText r ≡ v = cc in ap is_id_text (sym one)))
+class_text_same m w d e h = refl
+
+status_same : (m : Sides) (w : Want) (d e : Data) → Same m (Some w) d e → is_other_status w d ≡ is_other_status w e
+status_same m Status d e h =
+    ap (λ o. option_map_or (λ s. not (bytes_eq s (codes "pre-election"))) o false) (text_same m h (λ v is. let one : Status ≡ v = cc in ap is_id_text (sym one)))
+status_same m w d e h = refl
+
+-- what repeats an earlier value, and what lacks a member, is judged apart
+abbrev is_apart : Reason → Bool
+is_apart reason.Repeated = true
+is_apart (reason.MissingMember name) = true
+is_apart r = false
+
+fault_same : (m : Sides) (w : Want) (d e : Data) (b c : Bool) (r : Reason) → is_apart r ≡ false → Same m (Some w) d e
+    → is_shape_fault (record { want = w; value = d; repeated = b }) r ≡ is_shape_fault (record { want = w; value = e; repeated = c }) r
+fault_same m w d e b c reason.WrongKind other h = ap not (wanted_same m w d e h)
+fault_same m w d e b c (reason.MissingMember name) other h = cc
+fault_same m w d e b c reason.WrongClassText other h = class_text_same m w d e h
+fault_same m w d e b c reason.NotWhole other h = ap (λ o. wants_whole w && option_map_or is_float o false) (same_number m w d e h)
+fault_same m w d e b c reason.OutsideProfile other h = ap (λ x. is_outside w && not x) (same_empty m w d e h)
+fault_same m w d e b c reason.NotPreElection other h = status_same m w d e h
+fault_same m w d e b c reason.ElectionCount other h = ap (λ x. is_elections w && x) (same_empty m w d e h)
+fault_same m w d e b c reason.EmptyArray other h = ap (λ x. wants_entry w && x) (same_empty m w d e h)
+fault_same m w d e b c reason.Repeated other h = cc
+fault_same m w d e b c r other h = refl
+
+-- ---- the report
+
+-- as `and` says it
+and_clear : (a b : Bool) → (a ≡ true → b ≡ false) → a && b ≡ false
+and_clear true b h = h refl
+and_clear false b h = refl
+
+module _ (m : Sides) (left_tree : IsTree m.left) (right_tree : IsTree m.right) (π : Preference) (accepted : IsAccepted π m.left) (sound : HasSoundEnvelope m.right) where
+  clean : NoneOf (ShapeFault m.left)
+  clean = no_shape_fault π m.left accepted
+
+  -- a member that is wanted stands in the right object, since it stands in the left one
+  aligned_stands : (a : Asked) (ms : Members) (n : List ℕ) (o p : Option Data) → Within m.left a → a.value ≡ object ms → list_any (bytes_eq n) (names_wanted (scope_inside a.want (object ms))) ≡ true
+      → get_member n ms ≡ o → Aligned m (scope_inside a.want (object ms)) n o p → is_none p ≡ false
+  aligned_stands a ms n (Some d) (Some e) inside value named found (both_there h) = refl
+  aligned_stands a ms n o p inside value named found (not_both l r) =
+      absurd (required_stays m.left clean a ms n inside value named (subst (MayLack m.left (scope_inside a.want (object ms)) n) (sym found) l))
+
+  object_lacks : (a : Asked) (ms ns : Members) (n : List ℕ) → Within m.left a → a.value ≡ object ms → IsTree (object ns) → SameMembers m (scope_inside a.want (object ms)) ms ns
+      → list_any (bytes_eq n) (names_wanted (scope_inside a.want (object ns))) && lacks (object ns) n ≡ false
+  object_lacks a ms ns n inside value tree h =
+      let left : IsTree (object ms) = subst IsTree value (within-tree m.left a left_tree inside) in
+      let scopes = scope_same m a.want ms ns h in
+      and_clear (list_any (bytes_eq n) (names_wanted (scope_inside a.want (object ns)))) (lacks (object ns) n)
+      (λ named. aligned_stands a ms n (get_member n ms) (get_member n ns) inside value (ap (λ s. list_any (bytes_eq n) (names_wanted s)) scopes ∙ named) refl (lookups m n h left tree))
+
+  none_lacks : (a : Asked) (w : Want) (d e : Data) (n : List ℕ) → Within m.left a → a.want ≡ w → a.value ≡ d → IsTree e → Same m (Some w) d e → list_any (bytes_eq n) (names_wanted (scope_inside w e)) && lacks e n ≡ false
+  none_lacks a w d e n inside want value tree a_null = refl
+  none_lacks a w d e n inside want value tree a_flag = refl
+  none_lacks a w d e n inside want value tree a_number = refl
+  none_lacks a w d e n inside want value tree (a_text is) = refl
+  none_lacks a w d e n inside want value tree (an_id is h) = refl
+  none_lacks a w d e n inside want value tree (a_list is h) = refl
+  none_lacks a w d e n inside want value tree (a_set fs is p h) = refl
+  none_lacks a w d e n inside want value tree (an_object {ms = ms} {ns = ns} h) =
+      subst (λ x. list_any (bytes_eq n) (names_wanted (scope_inside x (object ns))) && lacks (object ns) n ≡ false) want
+      (object_lacks a ms ns n inside value tree (subst (λ x. SameMembers m (scope_inside x (object ms)) ms ns) (sym want) h))
+
+  same_asked : (a : Asked) (w : Want) → a.want ≡ w → (r : Reason) → is_shape_fault a r ≡ false → is_shape_fault (record { want = w; value = a.value; repeated = a.repeated }) r ≡ false
+  same_asked a w e r h = subst (λ x. is_shape_fault (record { want = x; value = a.value; repeated = a.repeated }) r ≡ false) e h
+
+  no_fault_at : (b : Asked) (r : Reason) → Within m.right b → AskedAgain m b → is_shape_fault b r ≡ false
+  no_fault_at b r inside from = at (is_apart r) refl
+    where
+      apart : (r : Reason) → is_apart r ≡ true → is_shape_fault b r ≡ false
+      apart reason.Repeated e = ap (λ x. x && not (is_reference b.want)) from.first
+      apart (reason.MissingMember n) e = none_lacks from.of b.want from.of.value b.value n from.inside from.want refl (within-tree m.right b right_tree inside) from.same
+      apart r e = cc
+
+      at : (c : Bool) → is_apart r ≡ c → is_shape_fault b r ≡ false
+      at true is = apart r is
+      at false is =
+          sym (fault_same m b.want from.of.value b.value from.of.repeated b.repeated r is from.same)
+          ∙ same_asked from.of b.want from.want r (faultless m.left clean from.of r from.inside)
+
+  -- no value of the right report has a fault of shape
+  pub same_shape : Same m (Some (Object role.Report)) m.left m.right → NoneOf (ShapeFault m.right)
+  same_shape same p r h = at (asked_at m.right p) refl h
+    where
+      no_fault : (b : Asked) → Within m.right b → AskedAgain m b ⊎ IsSound b → is_shape_fault b r ≡ false
+      no_fault b inside (inl from) = no_fault_at b r inside from
+      no_fault b inside (inr alone) = alone.no_fault r
+
+      at : (o : Option Asked) → asked_at m.right p ≡ o → IsSomeAnd o (λ a. IsTrue (is_shape_fault a r)) → ⊥
+      at None is h = h
+      at (Some b) is h =
+          true≢false (sym h ∙ no_fault b (record { place = p; is = is }) (asked_again m left_tree right_tree π accepted sound same p b is))

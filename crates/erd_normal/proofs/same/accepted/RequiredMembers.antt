@@ -1,0 +1,180 @@
+-- A member that an object must have is none that may be absent, in a report without a fault of shape.
+use Rattle.std.proofs.Common.{◌≡◌, ℕ, List, Bool, true, false, true≢false, cond, not, ◌&&◌, ◌||◌, Option, Some, None, codes, refl, sym, ap, ◌∙◌, subst}
+use Rattle.std.specs.List.{list_all, list_any}
+use Rattle.std.specs.Str.{bytes_eq}
+use Rattle.serde_json.specs.Data.{Data, array, object, no_items, Members}
+use Rattle.serde_json.specs.Find.{get, get_member}
+use Rattle.erd_tables.specs.Rows.{Row, rows_of_class}
+use Rattle.erd_tables.specs.Table.{is_envelope_name, is_required, kind_of_identity, kind_of_member, required_names}
+use Rattle.erd_tables.specs.declared.class.Class.{Class}
+use Rattle.erd_tables.specs.declared.class.Class.TheVariants as class
+use Rattle.erd_tables.specs.declared.class.Role.{Role}
+use Rattle.erd_tables.specs.declared.fault.Reason.TheVariants as reason
+use Rattle.erd_tables.specs.declared.member.MemberKind.{MemberKind}
+use Rattle.erd_tables.specs.declared.member.MemberKind.TheVariants as kind
+use Rattle.erd_tables.specs.declared.place.Step.TheVariants.{Name}
+use Rattle.erd_check.specs.Faults.{NoneOf, ShapeFault, names_wanted}
+use Rattle.erd_check.specs.Wants.{Asked, asked, is_report_class, member_want, scope_inside, want_of_kind, want_of_name}
+use Rattle.erd_check.specs.declared.want.Scope.{Scope}
+use Rattle.erd_check.specs.declared.want.Scope.TheVariants as scope
+use Rattle.erd_check.specs.declared.want.Want.{Want}
+use Rattle.erd_check.specs.declared.want.Want.TheVariants.{Carried, ClassText, Member, Status}
+use Rattle.erd_check.proofs.Exact.{both_true, text_exact, text_itself}
+use Rattle.erd_check.proofs.Rising.{Has, here, later}
+use Rattle.erd_check.proofs.Shapes.{Within, Within-step, faultless, lacks_none}
+use Rattle.erd_check.proofs.TableKinds.{kind_of_id, kind_of_name, want_unless_status}
+use Rattle.erd_meaning.proofs.orders.Sets.{any-has, has-any}
+use Rattle.erd_normal.specs.SaysTheSame.{MayBeAbsent, an_empty_array, of_the_envelope, an_unused_id, is_array_kind, is_envelope}
+use Rattle.erd_normal.proofs.same.Lookups.{MayLack}
+use Rattle.erd_normal.proofs.same.Types.{type_stays}
+
+-- ---- the names that a class requires
+
+passes : {A : Type 0} (P : A → Bool) (xs : List A) (x : A) → list_all P xs ≡ true → Has xs x → P x ≡ true
+passes P xs x all (here {xs = ys}) = (both_true (P x) (list_all P ys) all).0
+passes P xs x all (later {y = y} {xs = ys} h) = passes P ys x (both_true (P y) (list_all P ys) all).1 h
+
+-- what holds of each name of a list holds of one that is among them
+named_passes : (P : List ℕ → Bool) (n : List ℕ) (ns : List (List ℕ)) → list_all P ns ≡ true → list_any (bytes_eq n) ns ≡ true → P n ≡ true
+named_passes P n ns all among =
+    let x = has-any (bytes_eq n) ns among in subst (λ y. P y ≡ true) (sym (text_exact n x.0 x.2)) (passes P ns x.0 all x.1)
+
+same_either_way : (a b : List ℕ) → bytes_eq a b ≡ true → bytes_eq b a ≡ true
+same_either_way a b h = subst (λ x. bytes_eq x a ≡ true) (text_exact a b h) (text_itself a)
+
+pub required_if_named : (c : Class) (n : List ℕ) → list_any (bytes_eq n) (required_names c) ≡ true → is_required c n ≡ true
+required_if_named c n h =
+    let x = has-any (bytes_eq n) (required_names c) h in any-has (λ r. bytes_eq r n) (required_names c) x.0 x.1 (same_either_way n x.0 x.2)
+
+pub named_if_required : (c : Class) (n : List ℕ) → is_required c n ≡ true → list_any (bytes_eq n) (required_names c) ≡ true
+named_if_required c n h =
+    let x = has-any (λ r. bytes_eq r n) (required_names c) h in any-has (bytes_eq n) (required_names c) x.0 x.1 (same_either_way x.0 n x.2)
+
+-- ---- what the table says of them
+
+-- an empty array of this kind is refused where it is required
+abbrev pub refuses_empty : MemberKind → Bool
+refuses_empty (kind.Many f) = true
+refuses_empty kind.Languages = true
+refuses_empty kind.Elections = true
+refuses_empty k = false
+
+abbrev is_due_kind : MemberKind → Bool
+is_due_kind kind.Identity = false
+is_due_kind k = not (is_array_kind k) || refuses_empty k
+
+-- a member that may be required: no `@id`, no member of the envelope, and no array that may be empty
+abbrev is_due : Class → List ℕ → Bool
+is_due c n = is_due_kind (kind_of_member c n) && not (is_report_class c && is_envelope_name n)
+
+all_due : (c : Class) → list_all (is_due c) (required_names c) ≡ true
+all_due class.ElectionReport = refl
+all_due c = refl
+
+due : (c : Class) (n : List ℕ) → list_any (bytes_eq n) (required_names c) ≡ true → (is_due_kind (kind_of_member c n) ≡ true) × (not (is_report_class c && is_envelope_name n) ≡ true)
+due c n h = both_true (is_due_kind (kind_of_member c n)) (not (is_report_class c && is_envelope_name n)) (named_passes (is_due c) n (required_names c) (all_due c) h)
+
+abbrev is_elections_kind : MemberKind → Bool
+is_elections_kind kind.Elections = true
+is_elections_kind k = false
+
+abbrev asks_elections : Class → Row → Bool
+asks_elections c row = not (is_elections_kind row.kind) || is_required c row.name
+
+elections_in_rows : (c : Class) → list_all (asks_elections c) (rows_of_class c) ≡ true
+elections_in_rows class.ElectionReport = refl
+elections_in_rows c = refl
+
+no_elections_id : (c : Class) → kind_of_identity c ≡ kind.Elections → ⊥
+no_elections_id class.ElectionReport e = cc
+no_elections_id c e = cc
+
+-- the array of elections is required
+pub elections_required : (c : Class) (n : List ℕ) → bytes_eq n (codes "@type") ≡ false → kind_of_member c n ≡ kind.Elections → is_required c n ≡ true
+elections_required c n no_type is = at (bytes_eq n (codes "@id")) refl
+  where
+    at : (b : Bool) → bytes_eq n (codes "@id") ≡ b → is_required c n ≡ true
+    at true same = absurd (no_elections_id c (sym (kind_of_id c) ∙ ap (kind_of_member c) (sym (text_exact n (codes "@id") same)) ∙ is))
+    at false other =
+        subst (λ k. not (is_elections_kind k) || is_required c n ≡ true) is
+        (kind_of_name (asks_elections c) (λ k. not (is_elections_kind k) || is_required c n) c n no_type other (elections_in_rows c)
+        (λ m h e. subst (λ x. not (is_elections_kind m.kind) || is_required c x ≡ true) (sym (text_exact n m.name e)) h) refl refl)
+
+-- ---- what is asked of a member
+
+want_parts : (q : MemberKind) (b : Bool) (k : MemberKind) (required : Bool) → want_of_kind q b ≡ Member k required → (q ≡ k) × (b ≡ required)
+want_parts (kind.One f) b k required e = cc
+want_parts kind.Carried b k required e = cc
+want_parts q b k required e = (cc, cc)
+
+-- a member of this kind in an object of this class
+pub record MemberOf (c : Class) (n : List ℕ) (k : MemberKind) (required : Bool) : Type 0 where
+  pub no_type : bytes_eq n (codes "@type") ≡ false
+  pub kind_is : kind_of_member c n ≡ k
+  pub required_is : is_required c n ≡ required
+
+pub member_of : (r : Role) (c : Class) (n : List ℕ) (k : MemberKind) (required : Bool) → want_of_name (scope.Members r (Some c)) n ≡ Some (Member k required) → MemberOf c n k required
+member_of r c n k required asks = at (bytes_eq n (codes "@type")) refl (is_report_class c && bytes_eq n (codes "Status")) refl
+  where
+    at : (b : Bool) → bytes_eq n (codes "@type") ≡ b → (s : Bool) → (is_report_class c && bytes_eq n (codes "Status")) ≡ s → MemberOf c n k required
+    at true is s status = let g : Some (ClassText r) ≡ Some (Member k required) = rw is at asks in cc
+    at false is true status =
+        let g : Some Status ≡ Some (Member k required) = sym (ap Some (ap (λ b. cond b Status (want_of_kind (kind_of_member c n) (is_required c n))) status))
+        ∙ sym (ap (λ b. cond b (Some (ClassText r)) (Some (member_want c n))) is) ∙ asks in
+        cc
+    at false is false status =
+        let g : Some (member_want c n) ≡ Some (Member k required) = sym (ap (λ b. cond b (Some (ClassText r)) (Some (member_want c n))) is) ∙ asks in
+        let h : member_want c n ≡ Member k required = cc in
+        let parts = want_parts (kind_of_member c n) (is_required c n) k required (sym (want_unless_status c n status) ∙ h) in
+        record { no_type = is; kind_is = parts.0; required_is = parts.1 }
+
+-- ---- no required member may be absent
+
+module _ (t : Data) (clean : NoneOf (ShapeFault t)) where
+  refused : (k : MemberKind) → refuses_empty k ≡ true → Within t (asked (Member k true) (array no_items)) → ⊥
+  refused (kind.Many f) h inside = true≢false (faultless t clean (asked (Member (kind.Many f) true) (array no_items)) reason.EmptyArray inside)
+  refused kind.Languages h inside = true≢false (faultless t clean (asked (Member kind.Languages true) (array no_items)) reason.EmptyArray inside)
+  refused kind.Elections h inside = true≢false (faultless t clean (asked (Member kind.Elections true) (array no_items)) reason.ElectionCount inside)
+  refused k h inside = cc
+
+  due_array : (k : MemberKind) → is_due_kind k ≡ true → is_array_kind k ≡ true → refuses_empty k ≡ true
+  due_array kind.Identity h is_array = cc
+  due_array k h is_array = subst (λ b. not b || refuses_empty k ≡ true) is_array h
+
+  in_envelope : (r : Role) (c : Class) (n : List ℕ) → is_envelope (scope.Members r (Some c)) n ≡ true → not (is_report_class c && is_envelope_name n) ≡ true → ⊥
+  in_envelope r class.ElectionReport n h apart = let e : false ≡ true = sym (ap not h) ∙ apart in cc
+  in_envelope r c n h apart = cc
+
+  stays_in_class : (r : Role) (c : Class) (n : List ℕ) (d : Data) → list_any (bytes_eq n) (required_names c) ≡ true
+      → ((v : Want) → want_of_name (scope.Members r (Some c)) n ≡ Some v → Within t (asked v d)) → MayBeAbsent t (scope.Members r (Some c)) n d → ⊥
+  stays_in_class r c n d named inside (an_empty_array k required asks is empty) =
+      let m = member_of r c n k required asks in
+      let must : required ≡ true = sym m.required_is ∙ required_if_named c n named in
+      refused k (due_array k (subst (λ x. is_due_kind x ≡ true) m.kind_is (due c n named).0) is)
+      (subst (λ x. Within t (asked (Member k true) x)) empty (subst (λ x. Within t (asked (Member k x) d)) must (inside (Member k required) asks)))
+  stays_in_class r c n d named inside (of_the_envelope h) = in_envelope r c n h (due c n named).1
+  stays_in_class r c n d named inside (an_unused_id id required asks is unused) =
+      let m = member_of r c n kind.Identity required asks in
+      true≢false (sym (due c n named).0 ∙ ap is_due_kind m.kind_is)
+
+  stays_in : (s : Scope) (n : List ℕ) (d : Data) → list_any (bytes_eq n) (names_wanted s) ≡ true → ((v : Want) → want_of_name s n ≡ Some v → Within t (asked v d)) → MayBeAbsent t s n d → ⊥
+  stays_in (scope.Members r (Some c)) n d named inside h = stays_in_class r c n d named inside h
+  stays_in (scope.Members r None) n d named inside h =
+      type_stays t (scope.Members r None) d (subst (λ y. MayBeAbsent t (scope.Members r None) y d) (text_exact n (codes "@type") (at (bytes_eq n (codes "@type")) named)) h)
+    where
+      at : (b : Bool) → b || false ≡ true → b ≡ true
+      at true e = refl
+      at false e = cc
+  stays_in scope.Nothing n d named inside h = cc
+  stays_in scope.Carried n d named inside h = cc
+
+  -- an object has each member that it must have, and none of these may be absent
+  pub required_stays : (a : Asked) (ms : Members) (n : List ℕ) → Within t a → a.value ≡ object ms → list_any (bytes_eq n) (names_wanted (scope_inside a.want (object ms))) ≡ true
+      → MayLack t (scope_inside a.want (object ms)) n (get_member n ms) → ⊥
+  required_stays a ms n inside value named lacks = at (get_member n ms) refl lacks
+    where
+      at : (o : Option Data) → get_member n ms ≡ o → MayLack t (scope_inside a.want (object ms)) n o → ⊥
+      at None found h = lacks_none t clean a n inside (ap (λ x. list_any (bytes_eq n) (names_wanted (scope_inside a.want x))) value ∙ named) (ap (get n) value ∙ found)
+      at (Some d) found h =
+          stays_in (scope_inside a.want (object ms)) n d named
+          (λ v asks. Within-step t a (asked v d) (Name n) inside (rw (value, asks, found) refl)) (h.each d refl)

@@ -1,0 +1,191 @@
+-- A report that says the same as an accepted one means the same.
+use mathlib.Core.Path.{fun_ext}
+use Rattle.std.proofs.Common.{◌≡◌, ℕ, List, Bool, true, false, is_eq, Option, Some, None, option_and_then, find, codes, refl, sym, ap, ◌∙◌, subst}
+use Rattle.std.specs.Option.{option_cmp}
+use Rattle.std.specs.Ordering.{eq_by_cmp}
+use Rattle.std.specs.Str.{bytes_eq}
+use Rattle.serde_json.specs.Data.{Data}
+use Rattle.serde_json.specs.Find.{get}
+use Rattle.erd_tables.specs.Classes.{role_of_class}
+use Rattle.erd_tables.specs.Table.{is_required, kind_of_member}
+use Rattle.erd_tables.specs.declared.class.Class.{Class}
+use Rattle.erd_tables.specs.declared.class.Class.TheVariants as class
+use Rattle.erd_tables.specs.declared.class.Family.{Family}
+use Rattle.erd_tables.specs.declared.class.Family.TheVariants as family
+use Rattle.erd_tables.specs.declared.class.Role.{Role}
+use Rattle.erd_tables.specs.declared.class.Role.TheVariants as role
+use Rattle.erd_tables.specs.declared.member.MemberKind.TheVariants as kind
+use Rattle.erd_check.specs.Faults.{NoneOf, ShapeFault}
+use Rattle.erd_check.specs.Trees.{IsTree}
+use Rattle.erd_check.specs.Values.{entries_at, entries_of}
+use Rattle.erd_check.specs.declared.want.Want.TheVariants.{Member, Object}
+use Rattle.erd_check.proofs.Entries.{entries_in}
+use Rattle.erd_check.proofs.ObjectsAt.{election_class, report_class}
+use Rattle.erd_check.proofs.Positions.{map_has}
+use Rattle.erd_check.proofs.Rising.{Has}
+use Rattle.erd_check.proofs.Shapes.{Within-root}
+use Rattle.erd_check.proofs.TableKinds.{want_by_kind}
+use Rattle.erd_meaning.specs.Accepted.{IsAccepted}
+use Rattle.erd_meaning.specs.Keys.{Preference, has_keys}
+use Rattle.erd_meaning.specs.Meaning.{a_selection_map}
+use Rattle.erd_meaning.specs.NameParts.{NameParts}
+use Rattle.erd_meaning.specs.Objects.{objects}
+use Rattle.erd_meaning.specs.Records.{is_in_envelope, meaning, member_of_class, member_value, object_record, plain_member, selection_map, selection_record, unless_empty}
+use Rattle.erd_meaning.specs.SelectionNames.{name_cmp}
+use Rattle.erd_meaning.proofs.accepted.Phases.{no_shape_fault}
+use Rattle.erd_meaning.proofs.meanings.HeldValues.{Held, held_of, held_values}
+use Rattle.erd_meaning.proofs.meanings.SelectionKinds.{is_selections, selections_family, selections_kind, selections_name}
+use Rattle.erd_normal.specs.MeansTheSame.{SayingTheSameMeansTheSame}
+use Rattle.erd_normal.specs.code.NormalTree.{by_name}
+use Rattle.erd_normal.proofs.lists.Matched.{AtMostOne, Matched, apart_distinct, matched_find, matched_within, one_if_apart, said_same}
+use Rattle.erd_normal.proofs.meaning.MatchedMeanings.{HeldAlike, MeanOne, held_matched, matched_meaning}
+use Rattle.erd_normal.proofs.meaning.MeantKinds.{flat_no_selections, is_flat_class, kind_is_flat}
+use Rattle.erd_normal.proofs.meaning.MeantObjects.{is_named, named_tied, plain_members, record_alike}
+use Rattle.erd_normal.proofs.rearranged.RelatedObjects.{family_values}
+use Rattle.erd_normal.proofs.rearranged.SharedIds.{placed_value}
+use Rattle.erd_normal.specs.SaysTheSame.{Sides, SaysTheSame, is_array_kind}
+use Rattle.erd_normal.proofs.same.Related.{Related, elections_matched, no_report, related_election_key, related_key}
+use Rattle.erd_normal.proofs.same.means.Members.{BothObjects, MeansNothing, is_absent, is_empty, is_identity, is_outside, TwoReports, Told, both_told, none_told, both_objects, envelope_is, told_entries, unless_empty_same}
+use Rattle.erd_normal.proofs.same.means.Names.{name_alike}
+use Rattle.erd_normal.proofs.same.means.Records.{plain_alike, selection_alike}
+use Rattle.erd_normal.proofs.same.means.Selections.{Kin, chosen, chosen_matched, left_distinct}
+
+module _ (m : Sides) (π : Preference) (g : TwoReports m π) where
+  clean : NoneOf (ShapeFault m.left)
+  clean = no_shape_fault π m.left g.accepted
+
+  -- an object that is not the report has no envelope
+  no_envelope : (r : Role) (c : Class) (name : List ℕ) → role_of_class c ≡ r → (r ≡ role.Report → ⊥) → is_in_envelope c name ≡ false
+  no_envelope r c name is other = sym (envelope_is r c name) ∙ no_report m g.left_tree g.right_tree clean r c name is other
+
+  -- ---- the selections of a contest
+
+  module _ (d e : Data) (k : Kin m π g family.Contest d e) where
+    one_named : (name : NameParts) → AtMostOne (is_named π m.left name) (chosen m π g d)
+    one_named name =
+        one_if_apart (is_named π m.left name) (chosen m π g d)
+        (apart_distinct (is_named π m.left name) (eq_by_cmp (by_name π m.left)) (chosen m π g d) (λ x y h i. ap is_eq (named_tied π m.left name x y h i)) (left_distinct m π g d e k))
+
+    maps_same : selection_map π m.left (chosen m π g d) ≡ selection_map π m.right (chosen m π g e)
+    maps_same = fun_ext (λ name.
+        said_same (selection_record π m.left) (selection_record π m.right) (selection_alike m π g)
+        (find (is_named π m.left name) (chosen m π g d)) (find (is_named π m.right name) (chosen m π g e))
+        (matched_find (is_named π m.left name) (is_named π m.right name) (λ x y r. ap (λ n. is_eq (option_cmp name_cmp n (Some name))) (name_alike m π g x y r))
+        (chosen_matched m π g d e k) (one_named name)))
+
+    nothing_chosen : (t : Data) (c : Class) (name : List ℕ) (o : Option Data) → kind_of_member c name ≡ kind.Keyed family.Selection → is_in_envelope c name ≡ false → MeansNothing c name o
+        → option_and_then (λ v. unless_empty (a_selection_map (selection_map π t (entries_of v))) v) o ≡ None
+    nothing_chosen t c name o is inside (is_absent h) = ap (option_and_then (λ v. unless_empty (a_selection_map (selection_map π t (entries_of v))) v)) h
+    nothing_chosen t c name o is inside (is_empty listed h) = ap (option_and_then (λ v. unless_empty (a_selection_map (selection_map π t (entries_of v))) v)) h
+    nothing_chosen t c name o is inside (is_identity h) = cc
+    nothing_chosen t c name o is inside (is_outside h) = let no : true ≡ false = sym h ∙ inside in cc
+
+    selections_same : (c : Class) (o p : Option Data) → kind_of_member c (codes "ContestSelection") ≡ kind.Keyed family.Selection → is_in_envelope c (codes "ContestSelection") ≡ false
+        → get (codes "ContestSelection") d ≡ o → get (codes "ContestSelection") e ≡ p → Told m c (codes "ContestSelection") o p
+        → option_and_then (λ v. unless_empty (a_selection_map (selection_map π m.left (entries_of v))) v) o ≡ option_and_then (λ v. unless_empty (a_selection_map (selection_map π m.right (entries_of v))) v) p
+    selections_same c (Some v) (Some w) listed inside is its (both_told r) =
+        unless_empty_same m _ _ _ v w r.same
+        (ap a_selection_map (sym (ap (λ o. selection_map π m.left (entries_in o)) is) ∙ maps_same ∙ ap (λ o. selection_map π m.right (entries_in o)) its))
+    selections_same c o p listed inside is its (none_told k l) =
+        nothing_chosen m.left c (codes "ContestSelection") o listed inside k ∙ sym (nothing_chosen m.right c (codes "ContestSelection") p listed inside l)
+
+  -- ---- objects
+
+  plain_at : (r : Role) (d e : Data) (o : BothObjects m r d e) (name : List ℕ) → is_selections (kind_of_member o.class name) ≡ false → member_of_class π m.left d o.class name ≡ member_of_class π m.right e o.class name
+  plain_at r d e o name other =
+      plain_members π m.right m.left (kind_of_member o.class name) (get name e) (get name d) (plain_member π m.right e o.class name) (plain_member π m.left d o.class name) other
+      (plain_alike m π g o.class name d e o.members)
+
+  member_alike : (f : Family) (d e : Data) → Kin m π g f d e → (o : BothObjects m (role.OfFamily f) d e) (name : List ℕ) → member_of_class π m.left d o.class name ≡ member_of_class π m.right e o.class name
+  member_alike f d e k o name = at (is_selections (kind_of_member o.class name)) refl
+    where
+      at : (b : Bool) → is_selections (kind_of_member o.class name) ≡ b → member_of_class π m.left d o.class name ≡ member_of_class π m.right e o.class name
+      at false other = plain_at (role.OfFamily f) d e o name other
+      at true is =
+          let its_name = codes "ContestSelection" in
+          let same : name ≡ its_name = selections_name o.class name is in
+          let listed : is_selections (kind_of_member o.class its_name) ≡ true = subst (λ n. is_selections (kind_of_member o.class n) ≡ true) same is in
+          let contest : f ≡ family.Contest = selections_family o.class f o.role listed in
+          let its : kind_of_member o.class its_name ≡ kind.Keyed family.Selection = selections_kind (kind_of_member o.class its_name) listed in
+          subst (λ n. member_of_class π m.left d o.class n ≡ member_of_class π m.right e o.class n) (sym same)
+          (ap (λ x. member_value π m.left x (get its_name d) (plain_member π m.left d o.class its_name)) its
+          ∙ selections_same d e (subst (λ h. Kin m π g h d e) contest k) o.class (get its_name d) (get its_name e) its
+          (no_envelope (role.OfFamily f) o.class its_name o.role (λ h. cc)) refl refl (o.members its_name refl)
+          ∙ sym (ap (λ x. member_value π m.right x (get its_name e) (plain_member π m.right e o.class its_name)) its))
+
+  object_alike : (f : Family) (d e : Data) → Kin m π g f d e → object_record π m.left (role.OfFamily f) d ≡ object_record π m.right (role.OfFamily f) e
+  object_alike f d e k =
+      let o : BothObjects m (role.OfFamily f) d e = both_objects m g.left_tree g.right_tree clean (role.OfFamily f) d e k.related in
+      record_alike (member_of_class π m.left d) (member_of_class π m.right e) (role.OfFamily f) d e o.class o.left o.right (member_alike f d e k o)
+
+  -- the report and the elections have no selections of their own
+  flat_alike : (r : Role) → ((c : Class) → role_of_class c ≡ r → is_flat_class c ≡ true) → (d e : Data) → Related m (Object r) d e → object_record π m.left r d ≡ object_record π m.right r e
+  flat_alike r flat d e k =
+      let o : BothObjects m r d e = both_objects m g.left_tree g.right_tree clean r d e k in
+      record_alike (member_of_class π m.left d) (member_of_class π m.right e) r d e o.class o.left o.right
+      (λ name. plain_at r d e o name (flat_no_selections (kind_of_member o.class name) (kind_is_flat o.class name (flat o.class o.role))))
+
+  -- ---- families
+
+  -- the objects of an array in two objects of a class
+  keyed_entries : (r : Role) (c : Class) → ((a : Class) → role_of_class a ≡ r → a ≡ c) → (f : Family) (name : List ℕ) → bytes_eq name (codes "@type") ≡ false → kind_of_member c name ≡ kind.Keyed f
+      → is_in_envelope c name ≡ false → (d e : Data) → Related m (Object r) d e → Matched (Related m (Object (role.OfFamily f))) (entries_at name d) (entries_at name e)
+  keyed_entries r c only f name other keyed inside d e k =
+      let o : BothObjects m r d e = both_objects m g.left_tree g.right_tree clean r d e k in
+      let one : o.class ≡ c = only o.class o.role in
+      told_entries m c name (Member (kind.Keyed f) (is_required c name)) (Object (role.OfFamily f)) (get name d) (get name e) (want_by_kind c name (kind.Keyed f) keyed refl) refl
+      (ap is_array_kind keyed) inside (subst (λ x. Told m x name (get name d) (get name e)) one (o.members name other))
+
+  abbrev Means : Family → Held → Held → Type 0
+  Means f = HeldAlike (MeanOne π m.left m.right (role.OfFamily f))
+
+  held_alike : (f : Family) (a b : Held) → Has (held_values π f m.left) a → HeldAlike (Related m (Object (role.OfFamily f))) a b → Means f a b
+  held_alike f a b h same =
+      let o = map_has (held_of π m.left) (objects f m.left) a h in
+      let k : Kin m π g f a.1 b.1 = record { stands = subst (Has (family_values f m.left)) (ap (λ (x : Held). x.1) o.2) (placed_value f m.left o.0 o.1); related = same.1 } in
+      (same.0, record { keys = related_key m g.left_tree g.right_tree clean π f a.1 b.1 same.1; records = object_alike f a.1 b.1 k })
+
+  -- related objects stand in related elections
+  families_alike : (f : Family) → has_keys f ≡ true → Matched (Means f) (held_values π f m.left) (held_values π f m.right)
+  families_alike f keyed =
+      matched_within (Means f) (held_alike f)
+      (held_matched π m.left m.right (Related m (Object role.Election)) (λ h. Related m (Object (role.OfFamily h))) (elections_matched m g.left_tree g.right_tree clean g.root)
+      (λ d e h r. related_election_key m g.left_tree g.right_tree clean π d e r)
+      (λ h name other outside listed. keyed_entries role.Report class.ElectionReport report_class h name other listed outside m.left m.right g.root)
+      (λ h name other listed d e i r. keyed_entries role.Election class.Election election_class h name other listed refl d e r)
+      f keyed)
+
+  -- ---- the whole
+
+  flat_report : (c : Class) → role_of_class c ≡ role.Report → is_flat_class c ≡ true
+  flat_report c is = ap is_flat_class (report_class c is)
+
+  flat_election : (c : Class) → role_of_class c ≡ role.Election → is_flat_class c ≡ true
+  flat_election c is = ap is_flat_class (election_class c is)
+
+  elections_alike : Matched (MeanOne π m.left m.right role.Election) (entries_at (codes "Election") m.left) (entries_at (codes "Election") m.right)
+  elections_alike =
+      matched_within (MeanOne π m.left m.right role.Election)
+      (λ d e h r. record { keys = related_election_key m g.left_tree g.right_tree clean π d e r; records = flat_alike role.Election flat_election d e r })
+      (elections_matched m g.left_tree g.right_tree clean g.root)
+
+  pub meaning_alike : meaning π m.left ≡ meaning π m.right
+  meaning_alike = matched_meaning π m.left m.right g.accepted (flat_alike role.Report flat_report m.left m.right g.root) elections_alike families_alike
+
+-- the two reports of functions of texts by which they say the same
+pub two_reports : (π : Preference) (t u : Data) (h : SaysTheSame t u) → IsTree t → IsTree u → IsAccepted π t
+    → TwoReports (record { left = t; right = u; there = h.there; back = h.back }) π
+two_reports π t u h left right accepted = record {
+  left_tree = left;
+  right_tree = right;
+  accepted = accepted;
+  root = record {
+    left = record { repeated = false; inside = Within-root t };
+    right = record { repeated = false; inside = Within-root u };
+    same = h.same;
+  };
+}
+
+pub saying_the_same_means_the_same : SayingTheSameMeansTheSame
+saying_the_same_means_the_same π t u left right accepted h =
+    sym (meaning_alike (record { left = t; right = u; there = h.there; back = h.back }) π (two_reports π t u h left right accepted))

@@ -1,0 +1,249 @@
+-- What stands under a name in two related objects: values that are related, or nothing that means anything.
+use Rattle.std.proofs.Common.{◌≡◌, ℕ, List, [], length, Bool, true, false, ◌&&◌, Option, Some, None, codes, refl, sym, ap, ◌∙◌, subst, arith}
+use Rattle.std.specs.Option.{option_map_or}
+use Rattle.std.specs.Str.{bytes_eq}
+use Rattle.serde_json.specs.Data.{Data, null, boolean, number, string, array, object, Items, no_items, item, Members}
+use Rattle.serde_json.specs.Find.{get, get_member}
+use Rattle.erd_tables.specs.Classes.{role_of_class}
+use Rattle.erd_tables.specs.Table.{is_required, kind_of_member}
+use Rattle.erd_tables.specs.declared.class.Class.{Class}
+use Rattle.erd_tables.specs.declared.class.Class.TheVariants as class
+use Rattle.erd_tables.specs.declared.class.Role.{Role}
+use Rattle.erd_tables.specs.declared.class.Role.TheVariants as role
+use Rattle.erd_tables.specs.declared.member.MemberKind.{MemberKind}
+use Rattle.erd_tables.specs.declared.member.MemberKind.TheVariants as kind
+use Rattle.erd_tables.specs.declared.place.Step.TheVariants.{Name, At}
+use Rattle.erd_check.specs.Faults.{NoneOf, ShapeFault}
+use Rattle.erd_check.specs.Trees.{IsTree}
+use Rattle.erd_check.specs.Values.{entries_of, list_of_items}
+use Rattle.erd_check.specs.Wants.{Asked, asked, class_of_object, entry_want, is_compared_set, is_repeated, is_report_class, member_want, scope_inside, want_of_kind, want_of_name}
+use Rattle.erd_check.specs.declared.want.Scope.TheVariants as scope
+use Rattle.erd_check.specs.declared.want.Want.{Want}
+use Rattle.erd_check.specs.declared.want.Want.TheVariants.{Member, Object, Status}
+use Rattle.erd_check.proofs.Entries.{list_of_items-place}
+use Rattle.erd_check.proofs.ObjectsAt.{ObjectIn, object_in}
+use Rattle.erd_check.proofs.Rising.{Has}
+use Rattle.erd_check.proofs.Shapes.{AsksObject, Within-step, asked_inside_object, of_label, of_role, unrepeated, within-tree}
+use Rattle.erd_check.proofs.TableKinds.{want_unless_status}
+use Rattle.erd_meaning.specs.Accepted.{IsAccepted}
+use Rattle.erd_meaning.specs.Keys.{Preference}
+use Rattle.erd_meaning.specs.Records.{is_in_envelope, unless_empty}
+use Rattle.erd_normal.proofs.lists.Matched.{Matched, matched_length, matched_none}
+use Rattle.erd_normal.proofs.rearranged.PlainValues.{is_plain}
+use Rattle.erd_normal.specs.SaysTheSame.{Sides, MayBeAbsent, an_empty_array, of_the_envelope, an_unused_id, is_array_kind, is_envelope, Same, a_null, a_flag, a_number, a_text, an_id, a_list, a_set, an_object, SameMembers}
+use Rattle.erd_normal.proofs.same.FromAlike.{Stands}
+use Rattle.erd_normal.proofs.same.Lookups.{Aligned, both_there, not_both, MayLack, lookups, of_object}
+use Rattle.erd_normal.proofs.same.Related.{Related, entries_matched, matched_within_both}
+use Rattle.erd_normal.proofs.same.Steady.{is_steady_kind, steady_same}
+use Rattle.erd_normal.proofs.same.Types.{class_same}
+
+-- two trees that say the same, the left one an accepted report
+pub record TwoReports (m : Sides) (π : Preference) : Type 0 where
+  pub left_tree : IsTree m.left
+  pub right_tree : IsTree m.right
+  pub accepted : IsAccepted π m.left
+  pub root : Related m (Object role.Report) m.left m.right
+
+-- ---- what may be absent
+
+-- nothing stands there, or what has no meaning
+pub data MeansNothing (c : Class) (name : List ℕ) (o : Option Data) : Type 0 where
+  is_absent : o ≡ None → MeansNothing c name o
+  is_empty : is_array_kind (kind_of_member c name) ≡ true → o ≡ Some (array no_items) → MeansNothing c name o
+  is_identity : kind_of_member c name ≡ kind.Identity → MeansNothing c name o
+  is_outside : is_in_envelope c name ≡ true → MeansNothing c name o
+
+kind_of_want : (k l : MemberKind) (q required : Bool) → want_of_kind k q ≡ Member l required → k ≡ l
+kind_of_want (kind.One f) l q required e = cc
+kind_of_want kind.Carried l q required e = cc
+kind_of_want k l q required e = cc
+
+kind_from_want : (c : Class) (name : List ℕ) (k : MemberKind) (required : Bool) → member_want c name ≡ Member k required → kind_of_member c name ≡ k
+kind_from_want c name k required e = at (is_report_class c && bytes_eq name (codes "Status")) refl
+  where
+    at : (b : Bool) → (is_report_class c && bytes_eq name (codes "Status")) ≡ b → kind_of_member c name ≡ k
+    at true is = let g : Status ≡ Member k required = rw is at e in cc
+    at false is = kind_of_want (kind_of_member c name) k (is_required c name) required (sym (want_unless_status c name is) ∙ e)
+
+pub asked_of_name : (r : Role) (c : Class) (name : List ℕ) → bytes_eq name (codes "@type") ≡ false → want_of_name (scope.Members r (Some c)) name ≡ Some (member_want c name)
+asked_of_name r c name other = rw other refl
+
+kind_asked : (r : Role) (c : Class) (name : List ℕ) (k : MemberKind) (required : Bool) → bytes_eq name (codes "@type") ≡ false
+    → want_of_name (scope.Members r (Some c)) name ≡ Some (Member k required) → kind_of_member c name ≡ k
+kind_asked r c name k required other asks =
+    kind_from_want c name k required (let g : Some (member_want c name) ≡ Some (Member k required) = sym (asked_of_name r c name other) ∙ asks in cc)
+
+pub envelope_is : (r : Role) (c : Class) (name : List ℕ) → is_envelope (scope.Members r (Some c)) name ≡ is_in_envelope c name
+envelope_is r class.ElectionReport name = refl
+envelope_is r c name = refl
+
+-- what may be absent means nothing
+pub absent_nothing : (t : Data) (r : Role) (c : Class) (name : List ℕ) (d : Data) → bytes_eq name (codes "@type") ≡ false → MayBeAbsent t (scope.Members r (Some c)) name d → MeansNothing c name (Some d)
+absent_nothing t r c name d other (an_empty_array k required asks is empty) =
+    is_empty (ap is_array_kind (kind_asked r c name k required other asks) ∙ is) (ap Some empty)
+absent_nothing t r c name d other (of_the_envelope h) = is_outside (sym (envelope_is r c name) ∙ h)
+absent_nothing t r c name d other (an_unused_id id required asks is unused) = is_identity (kind_asked r c name kind.Identity required other asks)
+
+lacking_nothing : (t : Data) (r : Role) (c : Class) (name : List ℕ) (o : Option Data) → bytes_eq name (codes "@type") ≡ false → MayLack t (scope.Members r (Some c)) name o → MeansNothing c name o
+lacking_nothing t r c name None other h = is_absent refl
+lacking_nothing t r c name (Some d) other h = absent_nothing t r c name d other (h.each d refl)
+
+-- a steady member means something, if it stands there
+pub steady_nothing : (c : Class) (name : List ℕ) (o : Option Data) → is_steady_kind (kind_of_member c name) ≡ true → is_in_envelope c name ≡ false → MeansNothing c name o → o ≡ None
+steady_nothing c name o steady inside (is_absent e) = e
+steady_nothing c name o steady inside (is_empty k e) = absurd (apart (kind_of_member c name) steady k)
+  where
+    apart : (k : MemberKind) → is_steady_kind k ≡ true → is_array_kind k ≡ true → ⊥
+    apart kind.Identity h is = cc
+    apart (kind.Many f) h is = cc
+    apart (kind.Keyed f) h is = cc
+    apart kind.Identifiers h is = cc
+    apart kind.Languages h is = cc
+    apart kind.Elections h is = cc
+    apart kind.Content h is = cc
+    apart kind.Ordered h is = cc
+    apart kind.Outside h is = cc
+    apart k h is = cc
+steady_nothing c name o steady inside (is_identity e) = let g : false ≡ true = sym (ap is_steady_kind e) ∙ steady in cc
+steady_nothing c name o steady inside (is_outside e) = let g : true ≡ false = sym e ∙ inside in cc
+
+-- what means nothing has no entries
+pub nothing_empty : (c : Class) (name : List ℕ) (o : Option Data) → is_array_kind (kind_of_member c name) ≡ true → is_in_envelope c name ≡ false → MeansNothing c name o → option_map_or entries_of o [] ≡ []
+nothing_empty c name o listed inside (is_absent e) = ap (λ x. option_map_or entries_of x []) e
+nothing_empty c name o listed inside (is_empty k e) = ap (λ x. option_map_or entries_of x []) e
+nothing_empty c name o listed inside (is_identity e) = let g : true ≡ false = sym listed ∙ ap is_array_kind e in cc
+nothing_empty c name o listed inside (is_outside e) = let g : true ≡ false = sym e ∙ inside in cc
+
+-- ---- entries of values
+
+pub entry_there : (t : Data) (w v : Want) (d : Data) → entry_want w ≡ Some v → Stands t w d → (x : Data) → Has (entries_of d) x → Stands t v x
+entry_there t w v (array ds) asks st x h =
+    let j = list_of_items-place ds x h in
+    let a : Asked = record { want = w; value = array ds; repeated = st.repeated } in
+    let b : Asked = record { want = v; value = x; repeated = is_compared_set w && is_repeated ds j.0 x } in
+    record { repeated = is_compared_set w && is_repeated ds j.0 x; inside = Within-step t a b (At j.0) st.inside (rw (asks, j.1) refl) }
+entry_there t w v null asks st x h = elim h [ ]
+entry_there t w v (boolean b) asks st x h = elim h [ ]
+entry_there t w v (number n) asks st x h = elim h [ ]
+entry_there t w v (string s) asks st x h = elim h [ ]
+entry_there t w v (object ms) asks st x h = elim h [ ]
+
+empty_by_length : {V : Type 0} (v : V) (ds es : Items) → length (list_of_items ds) ≡ length (list_of_items es) → unless_empty v (array ds) ≡ unless_empty v (array es)
+empty_by_length v no_items no_items e = refl
+empty_by_length v no_items (item d es) e = absurd (omega arith)
+empty_by_length v (item d ds) no_items e = absurd (omega arith)
+empty_by_length v (item d ds) (item f es) e = refl
+
+module _ (m : Sides) where
+  -- the entries of related values are related
+  pub related_entries_of : (w u : Want) (d e : Data) → entry_want w ≡ Some u → Related m w d e → Matched (Related m u) (entries_of d) (entries_of e)
+  related_entries_of w u d e asks r =
+      matched_within_both (Related m u)
+      (λ x y i j h. record {
+        left = entry_there m.left w u d asks r.left x i;
+        right = entry_there m.right w u e asks r.right y j;
+        same = subst (λ o. Same m o x y) asks h;
+      })
+      (entries_matched m w r.same)
+
+  empty_alike : {V : Type 0} (v : V) (w : Want) {d e : Data} → Same m (Some w) d e → unless_empty v d ≡ unless_empty v e
+  empty_alike v w a_null = refl
+  empty_alike v w a_flag = refl
+  empty_alike v w a_number = refl
+  empty_alike v w (a_text is) = refl
+  empty_alike v w (an_id is h) = refl
+  empty_alike v w (a_list {ds = ds} {es = es} is h) = empty_by_length v ds es (matched_length (entries_matched m w (a_list is h)))
+  empty_alike v w (a_set {ds = ds} {es = es} fs is p h) = empty_by_length v ds es (matched_length (entries_matched m w (a_set fs is p h)))
+  empty_alike v w (an_object h) = refl
+
+  -- a meaning that both have, or neither
+  pub unless_empty_same : {V : Type 0} (w : Want) (v x : V) (d e : Data) → Same m (Some w) d e → v ≡ x → unless_empty v d ≡ unless_empty x e
+  unless_empty_same w v x d e h same = ap (λ z. unless_empty z d) same ∙ empty_alike x w h
+
+  -- ---- members
+
+  -- related values, or nothing that means anything on either side
+  pub data Told (c : Class) (name : List ℕ) : Option Data → Option Data → Type 0 where
+    both_told : {d e : Data} → Related m (member_want c name) d e → Told c name (Some d) (Some e)
+    none_told : {o p : Option Data} → MeansNothing c name o → MeansNothing c name p → Told c name o p
+
+  abbrev pub HaveMembers : Class → Data → Data → Type 0
+  HaveMembers c d e = (name : List ℕ) → bytes_eq name (codes "@type") ≡ false → Told c name (get name d) (get name e)
+
+  pub member_there : (t : Data) (w : Want) (r : Role) (c : Class) (ms : Members) (name : List ℕ) (d : Data) → AsksObject w r → class_of_object r (object ms) ≡ Some c → bytes_eq name (codes "@type") ≡ false
+      → Stands t w (object ms) → get_member name ms ≡ Some d → Stands t (member_want c name) d
+  member_there t w r c ms name d h among other st found =
+      record {
+        repeated = false;
+        inside = Within-step t (record { want = w; value = object ms; repeated = st.repeated }) (asked (member_want c name) d) (Name name) st.inside
+            (asked_inside_object w r ms c name d h among other found);
+      }
+
+  -- two objects of one class
+  module _ (w : Want) (r : Role) (c : Class) (ms ns : Members) (h : AsksObject w r) (left_class : class_of_object r (object ms) ≡ Some c) (right_class : class_of_object r (object ns) ≡ Some c)
+      (left : Stands m.left w (object ms)) (right : Stands m.right w (object ns)) where
+    told_at : (name : List ℕ) → bytes_eq name (codes "@type") ≡ false → (o p : Option Data) → get_member name ms ≡ o → get_member name ns ≡ p → Aligned m (scope.Members r (Some c)) name o p → Told c name o p
+    told_at name other (Some x) (Some y) found there (both_there same) =
+        both_told (record {
+          left = member_there m.left w r c ms name x h left_class other left found;
+          right = member_there m.right w r c ns name y h right_class other right there;
+          same = subst (λ o. Same m o x y) (asked_of_name r c name other) same;
+        })
+    told_at name other o p found there (not_both k l) = none_told (lacking_nothing m.left r c name o other k) (lacking_nothing m.right r c name p other l)
+
+  scope_known : (w : Want) (r : Role) (c : Class) (ms ns : Members) → AsksObject w r → class_of_object r (object ms) ≡ Some c → SameMembers m (scope_inside w (object ms)) ms ns
+      → SameMembers m (scope.Members r (Some c)) ms ns
+  scope_known w r c ms ns of_role among h = subst (λ o. SameMembers m (scope.Members r o) ms ns) among h
+  scope_known w r c ms ns of_label among h = subst (λ o. SameMembers m (scope.Members r o) ms ns) among h
+
+  pub stands_tree : (t : Data) (w : Want) (d : Data) → IsTree t → Stands t w d → IsTree d
+  stands_tree t w d tree st = within-tree t (record { want = w; value = d; repeated = st.repeated }) tree st.inside
+
+  -- the class of two objects, and their members
+  pub record BothObjects (r : Role) (d e : Data) : Type 0 where
+    pub class : Class
+    pub role : role_of_class class ≡ r
+    pub left : class_of_object r d ≡ Some class
+    pub right : class_of_object r e ≡ Some class
+    pub members : HaveMembers class d e
+
+  module _ (left_tree : IsTree m.left) (right_tree : IsTree m.right) where
+    pub both_members : (w : Want) (r : Role) (c : Class) (ms ns : Members) → AsksObject w r → class_of_object r (object ms) ≡ Some c → SameMembers m (scope_inside w (object ms)) ms ns
+        → Stands m.left w (object ms) → Stands m.right w (object ns) → HaveMembers c (object ms) (object ns)
+    both_members w r c ms ns h among same left right name other =
+        let k = scope_known w r c ms ns h among same in
+        told_at w r c ms ns h among (sym (class_same m r ms ns k) ∙ among) left right name other (get_member name ms) (get_member name ns) refl refl
+        (lookups m name k (stands_tree m.left w (object ms) left_tree left) (stands_tree m.right w (object ns) right_tree right))
+
+    pub both_objects : NoneOf (ShapeFault m.left) → (r : Role) (d e : Data) → Related m (Object r) d e → BothObjects r d e
+    both_objects clean r d e related =
+        let o : ObjectIn m.left r d = object_in m.left clean r d (unrepeated m.left clean (Object r) d related.left.repeated refl related.left.inside) in
+        let rel : Related m (Object r) (object o.ms) e = subst (λ x. Related m (Object r) x e) o.is_object related in
+        let p = of_object m (Object r) o.ms e rel.same in
+        let same : SameMembers m (scope.Members r (Some o.class)) o.ms p.members = scope_known (Object r) r o.class o.ms p.members of_role o.at.among p.same in
+        record {
+          class = o.class;
+          role = o.role;
+          left = ap (class_of_object r) o.is_object ∙ o.at.among;
+          right = ap (class_of_object r) p.is_object ∙ sym (class_same m r o.ms p.members same) ∙ o.at.among;
+          members = subst (λ x. HaveMembers o.class x e) (sym o.is_object)
+              (subst (HaveMembers o.class (object o.ms)) (sym p.is_object)
+              (both_members (Object r) r o.class o.ms p.members of_role o.at.among p.same rel.left (subst (Stands m.right (Object r)) p.is_object rel.right)));
+        }
+
+  -- ---- what is known of members by their kinds
+
+  -- a plain member that never may be absent is the same
+  pub told_plain : (c : Class) (name : List ℕ) (o p : Option Data) → is_plain (member_want c name) ≡ true → is_steady_kind (kind_of_member c name) ≡ true → is_in_envelope c name ≡ false
+      → Told c name o p → o ≡ p
+  told_plain c name (Some d) (Some e) plain steady inside (both_told r) =
+      ap Some (steady_same m (λ v asks. let g : member_want c name ≡ v = cc in ap is_plain (sym g) ∙ plain) r.same)
+  told_plain c name o p plain steady inside (none_told k l) = steady_nothing c name o steady inside k ∙ sym (steady_nothing c name p steady inside l)
+
+  -- the entries of an array are related
+  pub told_entries : (c : Class) (name : List ℕ) (w u : Want) (o p : Option Data) → member_want c name ≡ w → entry_want w ≡ Some u → is_array_kind (kind_of_member c name) ≡ true → is_in_envelope c name ≡ false
+      → Told c name o p → Matched (Related m u) (option_map_or entries_of o []) (option_map_or entries_of p [])
+  told_entries c name w u (Some d) (Some e) asks entries listed inside (both_told r) = related_entries_of w u d e entries (subst (λ x. Related m x d e) asks r)
+  told_entries c name w u o p asks entries listed inside (none_told k l) =
+      subst (λ x. Matched (Related m u) x (option_map_or entries_of p [])) (sym (nothing_empty c name o listed inside k))
+      (subst (Matched (Related m u) []) (sym (nothing_empty c name p listed inside l)) (matched_none _))

@@ -1,0 +1,100 @@
+-- Selections that say the same have one name.
+use Rattle.std.proofs.Common.{◌≡◌, ℕ, List, true, false, Option, Some, option_and_then, option_map, unwrap_or, codes, refl, sym, ap, ◌∙◌}
+use Rattle.serde_json.specs.Data.{Data}
+use Rattle.serde_json.specs.Find.{as_bool, as_integer, as_number, get}
+use Rattle.serde_json.specs.Written.{compact_text}
+use Rattle.erd_tables.specs.Table.{kind_of_member}
+use Rattle.erd_tables.specs.declared.class.Class.{Class}
+use Rattle.erd_tables.specs.declared.class.Class.TheVariants as class
+use Rattle.erd_tables.specs.declared.class.Family.TheVariants as family
+use Rattle.erd_tables.specs.declared.class.Role.TheVariants as role
+use Rattle.erd_tables.specs.declared.member.MemberKind.TheVariants as kind
+use Rattle.erd_check.specs.Faults.{NoneOf, ShapeFault}
+use Rattle.erd_check.specs.Values.{entries_at}
+use Rattle.erd_check.specs.Wants.{member_want}
+use Rattle.erd_check.specs.declared.want.Want.TheVariants.{Member, Object, Reference}
+use Rattle.erd_meaning.specs.Keys.{Preference, key_cmp}
+use Rattle.erd_meaning.specs.Records.{is_in_envelope}
+use Rattle.erd_meaning.specs.SelectionNames.{is_write_in, keys_of_selection, label_of_selection, name_in_class, name_named, name_of, order_of_selection, rising_list, selection_role, with_rising_text}
+use Rattle.erd_meaning.specs.Objects.{owner}
+use Rattle.erd_meaning.proofs.accepted.Phases.{no_shape_fault}
+use Rattle.erd_normal.proofs.lists.Matched.{said_same}
+use Rattle.erd_normal.proofs.rearranged.PlainValues.{is_plain}
+use Rattle.erd_normal.specs.SaysTheSame.{Sides, StandsFor}
+use Rattle.erd_normal.specs.SameLaws.{IsUsed}
+use Rattle.erd_normal.proofs.same.Owners.{owners_related}
+use Rattle.erd_normal.proofs.same.Related.{Related, related_key}
+use Rattle.erd_normal.proofs.same.Steady.{is_steady_kind}
+use Rattle.erd_normal.proofs.same.means.Labels.{label_text_alike}
+use Rattle.erd_normal.proofs.same.means.Members.{BothObjects, HaveMembers, TwoReports, Told, both_told, none_told, both_objects, steady_nothing, told_entries, told_plain}
+use Rattle.erd_normal.proofs.same.means.References.{keys_list_alike}
+
+module _ (m : Sides) (π : Preference) (g : TwoReports m π) where
+  clean : NoneOf (ShapeFault m.left)
+  clean = no_shape_fault π m.left g.accepted
+
+  -- ---- the six parts
+
+  keys_same : (c : Class) (d e : Data) → HaveMembers m c d e → rising_list key_cmp (keys_of_selection π m.left c d) ≡ rising_list key_cmp (keys_of_selection π m.right c e)
+  keys_same class.CandidateSelection d e h =
+      let name = codes "CandidateIds" in
+      keys_list_alike m π g family.Candidate (entries_at name d) (entries_at name e)
+      (told_entries m class.CandidateSelection name (Member (kind.Many family.Candidate) false) (Reference family.Candidate) (get name d) (get name e) refl refl refl refl (h name refl))
+  keys_same class.PartySelection d e h =
+      let name = codes "PartyIds" in
+      keys_list_alike m π g family.Party (entries_at name d) (entries_at name e)
+      (told_entries m class.PartySelection name (Member (kind.Many family.Party) true) (Reference family.Party) (get name d) (get name e) refl refl refl refl (h name refl))
+  keys_same c d e h = refl
+
+  write_in_same : (c : Class) (d e : Data) → HaveMembers m c d e → is_write_in c d ≡ is_write_in c e
+  write_in_same class.CandidateSelection d e h =
+      let name = codes "IsWriteIn" in
+      ap (λ o. unwrap_or (option_and_then as_bool o) false) (told_plain m class.CandidateSelection name (get name d) (get name e) refl refl refl (h name refl))
+  write_in_same c d e h = refl
+
+  plain_order : (c : Class) → is_plain (member_want c (codes "SequenceOrder")) ≡ true
+  plain_order class.ElectionReport = refl
+  plain_order c = refl
+
+  steady_order : (c : Class) → is_steady_kind (kind_of_member c (codes "SequenceOrder")) ≡ true
+  steady_order class.ElectionReport = refl
+  steady_order c = refl
+
+  order_inside : (c : Class) → is_in_envelope c (codes "SequenceOrder") ≡ false
+  order_inside class.ElectionReport = refl
+  order_inside c = refl
+
+  order_same : (c : Class) (d e : Data) → HaveMembers m c d e → order_of_selection d ≡ order_of_selection e
+  order_same c d e h =
+      let name = codes "SequenceOrder" in
+      ap (λ o. option_and_then as_integer (option_and_then as_number o)) (told_plain m c name (get name d) (get name e) (plain_order c) (steady_order c) (order_inside c) (h name refl))
+
+  text_same : (o p : Option Data) → Told m class.BallotMeasureSelection (codes "Selection") o p → option_map (λ v. compact_text (with_rising_text v)) o ≡ option_map (λ v. compact_text (with_rising_text v)) p
+  text_same (Some d) (Some e) (both_told r) = ap Some (label_text_alike m π g true d e r)
+  text_same o p (none_told k l) =
+      let c = class.BallotMeasureSelection in
+      ap (option_map (λ v. compact_text (with_rising_text v))) (steady_nothing c (codes "Selection") o refl refl k ∙ sym (steady_nothing c (codes "Selection") p refl refl l))
+
+  label_same : (c : Class) (d e : Data) → HaveMembers m c d e → label_of_selection c d ≡ label_of_selection c e
+  label_same class.BallotMeasureSelection d e h = text_same (get (codes "Selection") d) (get (codes "Selection") e) (h (codes "Selection") refl)
+  label_same c d e h = refl
+
+  -- ---- names
+
+  pub name_alike : (d e : Data) → Related m (Object (role.OfFamily family.Selection)) d e → name_of π m.left d ≡ name_of π m.right e
+  name_alike d e r =
+      let o : BothObjects m selection_role d e = both_objects m g.left_tree g.right_tree clean selection_role d e r in
+      let keys = keys_same o.class d e o.members in
+      let write_in = write_in_same o.class d e o.members in
+      let order = order_same o.class d e o.members in
+      let label = label_same o.class d e o.members in
+      let identifier = related_key m g.left_tree g.right_tree clean π family.Selection d e r in
+      let same : name_in_class π m.left o.class d ≡ name_in_class π m.right o.class e =
+      λ i. record { class = o.class; keys = keys i; write_in = write_in i; order = order i; label = label i; identifier = identifier i } in
+      ap (option_map (λ c. name_in_class π m.left c d)) o.left ∙ ap Some same ∙ sym (ap (option_map (λ c. name_in_class π m.right c e)) o.right)
+
+  -- texts that stand for one another name selections of one name
+  pub name_named_alike : (s s' : List ℕ) → StandsFor m s s' → IsUsed m.left s → IsUsed m.right s' → name_named π m.left s ≡ name_named π m.right s'
+  name_named_alike s s' pair l r =
+      said_same (name_of π m.left) (name_of π m.right) name_alike (owner m.left family.Selection s) (owner m.right family.Selection s')
+      (owners_related m g.left_tree g.right_tree π g.accepted g.root family.Selection s s' pair l r)

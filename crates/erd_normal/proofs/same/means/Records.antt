@@ -1,0 +1,132 @@
+-- Objects that say the same have one record.
+use Rattle.std.proofs.Common.{◌≡◌, ℕ, List, Bool, true, false, ◌&&◌, cond, Option, Some, None, option_and_then, codes, refl, sym, ap, ◌∙◌, subst}
+use Rattle.std.specs.Str.{bytes_eq}
+use Rattle.serde_json.specs.Data.{Data, array, no_items}
+use Rattle.serde_json.specs.Find.{get}
+use Rattle.erd_tables.specs.Table.{is_required, kind_of_member}
+use Rattle.erd_tables.specs.declared.class.Class.{Class}
+use Rattle.erd_tables.specs.declared.class.Class.TheVariants as class
+use Rattle.erd_tables.specs.declared.class.Family.TheVariants as family
+use Rattle.erd_tables.specs.declared.class.Role.TheVariants as role
+use Rattle.erd_tables.specs.declared.member.MemberKind.{MemberKind}
+use Rattle.erd_tables.specs.declared.member.MemberKind.TheVariants as kind
+use Rattle.erd_check.specs.Faults.{NoneOf, ShapeFault}
+use Rattle.erd_check.specs.Values.{entries_of}
+use Rattle.erd_check.specs.Wants.{is_report_class, member_want, want_of_kind}
+use Rattle.erd_check.specs.declared.want.Want.{Want}
+use Rattle.erd_check.specs.declared.want.Want.TheVariants.{Carried, Member, Object, Reference, Status}
+use Rattle.erd_check.proofs.Exact.{text_exact}
+use Rattle.erd_check.proofs.TableKinds.{want_unless_status}
+use Rattle.erd_meaning.specs.Keys.{Preference}
+use Rattle.erd_meaning.specs.Meaning.{a_content, a_json, a_json_set, a_key, a_key_set, a_label}
+use Rattle.erd_meaning.specs.Records.{is_in_envelope, plain_member, plain_value, selection_record}
+use Rattle.erd_meaning.specs.SelectionNames.{selection_role}
+use Rattle.erd_meaning.proofs.accepted.Phases.{no_shape_fault}
+use Rattle.erd_meaning.proofs.meanings.SelectionKinds.{kind_of_type}
+use Rattle.erd_normal.proofs.lists.Matched.{matched_equal}
+use Rattle.erd_normal.proofs.meaning.MeantObjects.{record_alike}
+use Rattle.erd_normal.proofs.meaning.MeantValues.{nothing_of}
+use Rattle.erd_normal.proofs.meaning.RisingMeanings.{json_set-reordered}
+use Rattle.erd_normal.proofs.rearranged.PlainValues.{is_plain}
+use Rattle.erd_normal.specs.SaysTheSame.{Sides, Same, is_array_kind}
+use Rattle.erd_normal.proofs.same.Related.{Related}
+use Rattle.erd_normal.proofs.same.Steady.{steady_same}
+use Rattle.erd_normal.proofs.same.means.Contents.{content_alike}
+use Rattle.erd_normal.proofs.same.means.Labels.{label_alike}
+use Rattle.erd_normal.proofs.same.means.Members.{BothObjects, HaveMembers, MeansNothing, is_absent, is_empty, is_identity, is_outside, TwoReports, Told, both_told, none_told, both_objects, related_entries_of, unless_empty_same}
+use Rattle.erd_normal.proofs.same.means.References.{key_alike, keys_set_alike}
+
+-- ---- what means nothing
+
+empty_means_nothing : (π : Preference) (t : Data) (k : MemberKind) → is_array_kind k ≡ true → plain_value π t k (array no_items) ≡ None
+empty_means_nothing π t (kind.Many f) is = refl
+empty_means_nothing π t (kind.Keyed f) is = refl
+empty_means_nothing π t kind.Identifiers is = refl
+empty_means_nothing π t kind.Languages is = refl
+empty_means_nothing π t kind.Elections is = refl
+empty_means_nothing π t kind.Content is = refl
+empty_means_nothing π t kind.Ordered is = refl
+empty_means_nothing π t kind.Outside is = refl
+empty_means_nothing π t k is = cc
+
+nothing_meant : (π : Preference) (t : Data) (c : Class) (name : List ℕ) (o : Option Data) → is_in_envelope c name ≡ false → MeansNothing c name o → option_and_then (plain_value π t (kind_of_member c name)) o ≡ None
+nothing_meant π t c name o inside (is_absent e) = ap (option_and_then (plain_value π t (kind_of_member c name))) e
+nothing_meant π t c name o inside (is_empty listed e) =
+    ap (option_and_then (plain_value π t (kind_of_member c name))) e ∙ empty_means_nothing π t (kind_of_member c name) listed
+nothing_meant π t c name o inside (is_identity e) = ap (λ k. option_and_then (plain_value π t k) o) e ∙ nothing_of (plain_value π t kind.Identity) o (λ x. refl)
+nothing_meant π t c name o inside (is_outside e) = let g : true ≡ false = sym e ∙ inside in cc
+
+status_word : (c : Class) (name : List ℕ) → (is_report_class c && bytes_eq name (codes "Status")) ≡ true → kind_of_member c name ≡ kind.Word
+status_word class.ElectionReport name is = ap (kind_of_member class.ElectionReport) (text_exact name (codes "Status") is)
+status_word c name is = cc
+
+-- a value of which nothing is asked that may be absent or written in another way
+plain_same : (m : Sides) (w : Want) (d e : Data) → is_plain w ≡ true → Same m (Some w) d e → d ≡ e
+plain_same m w d e plain h = steady_same m (λ v asks. let g : w ≡ v = cc in ap is_plain (sym g) ∙ plain) h
+
+module _ (m : Sides) (π : Preference) (g : TwoReports m π) where
+  clean : NoneOf (ShapeFault m.left)
+  clean = no_shape_fault π m.left g.accepted
+
+  -- ---- values
+
+  value_same : (k : MemberKind) (required : Bool) (d e : Data) → Related m (want_of_kind k required) d e → plain_value π m.left k d ≡ plain_value π m.right k e
+  value_same kind.Word required d e r = ap (λ x. Some (a_json x)) (plain_same m (Member kind.Word required) d e refl r.same)
+  value_same kind.Flag required d e r = ap (λ x. Some (a_json x)) (plain_same m (Member kind.Flag required) d e refl r.same)
+  value_same kind.Whole required d e r = ap (λ x. Some (a_json x)) (plain_same m (Member kind.Whole required) d e refl r.same)
+  value_same kind.Carried required d e r = ap (λ x. Some (a_json x)) (plain_same m Carried d e refl r.same)
+  value_same kind.Label required d e r = ap (λ x. Some (a_label x)) (label_alike m π g required d e r)
+  value_same (kind.One f) required d e r = ap (λ x. Some (a_key x)) (key_alike m π g f d e r)
+  value_same (kind.Many f) required d e r =
+      let w : Want = Member (kind.Many f) required in
+      unless_empty_same m w _ _ d e r.same (ap a_key_set (keys_set_alike m π g f (entries_of d) (entries_of e) (related_entries_of m w (Reference f) d e refl r)))
+  value_same kind.Identifiers required d e r =
+      let w : Want = Member kind.Identifiers required in
+      unless_empty_same m w _ _ d e r.same
+      (ap a_json_set (json_set-reordered (matched_equal (λ x y h. plain_same m (Object role.Identifier) x y refl h.same) (related_entries_of m w (Object role.Identifier) d e refl r))))
+  value_same kind.Languages required d e r =
+      let w : Want = Member kind.Languages required in
+      unless_empty_same m w _ _ d e r.same
+      (ap a_json_set (json_set-reordered (matched_equal (λ x y h. plain_same m (Object role.Language) x y refl h.same) (related_entries_of m w (Object role.Language) d e refl r))))
+  value_same kind.Content required d e r = unless_empty_same m (Member kind.Content required) _ _ d e r.same (ap a_content (content_alike m π g required d e r))
+  value_same k required d e r = refl
+
+  -- ---- members
+
+  module _ (c : Class) (name : List ℕ) where
+    abbrev k : MemberKind
+    k = kind_of_member c name
+
+    both_same : (b : Bool) → (is_report_class c && bytes_eq name (codes "Status")) ≡ b → (d e : Data) → Related m (member_want c name) d e → plain_value π m.left k d ≡ plain_value π m.right k e
+    both_same true status d e r =
+        let asks : member_want c name ≡ Status = rw status refl in
+        let word : k ≡ kind.Word = status_word c name status in
+        ap (λ x. plain_value π m.left x d) word ∙ ap (λ x. Some (a_json x)) (plain_same m (member_want c name) d e (ap is_plain asks) r.same) ∙ sym (ap (λ x. plain_value π m.right x e) word)
+    both_same false status d e r = value_same k (is_required c name) d e (subst (λ w. Related m w d e) (want_unless_status c name status) r)
+
+    found_same : (o p : Option Data) → is_in_envelope c name ≡ false → Told m c name o p → option_and_then (plain_value π m.left k) o ≡ option_and_then (plain_value π m.right k) p
+    found_same (Some d) (Some e) inside (both_told r) = both_same (is_report_class c && bytes_eq name (codes "Status")) refl d e r
+    found_same o p inside (none_told l n) = nothing_meant π m.left c name o inside l ∙ sym (nothing_meant π m.right c name p inside n)
+
+    -- `@type` means nothing by itself
+    type_same : (d e : Data) → bytes_eq name (codes "@type") ≡ true → option_and_then (plain_value π m.left k) (get name d) ≡ option_and_then (plain_value π m.right k) (get name e)
+    type_same d e is =
+        let typed : k ≡ kind.ClassText = ap (kind_of_member c) (text_exact name (codes "@type") is) ∙ kind_of_type c in
+        ap (λ x. option_and_then (plain_value π m.left x) (get name d)) typed ∙ nothing_of (plain_value π m.left kind.ClassText) (get name d) (λ x. refl)
+        ∙ sym (ap (λ x. option_and_then (plain_value π m.right x) (get name e)) typed ∙ nothing_of (plain_value π m.right kind.ClassText) (get name e) (λ x. refl))
+
+    pub plain_alike : (d e : Data) → HaveMembers m c d e → plain_member π m.left d c name ≡ plain_member π m.right e c name
+    plain_alike d e h = at (is_in_envelope c name) refl (bytes_eq name (codes "@type")) refl
+      where
+        at : (a : Bool) → is_in_envelope c name ≡ a → (b : Bool) → bytes_eq name (codes "@type") ≡ b
+            → cond a None (option_and_then (plain_value π m.left k) (get name d)) ≡ cond a None (option_and_then (plain_value π m.right k) (get name e))
+        at true inside b typed = refl
+        at false inside true typed = type_same d e typed
+        at false inside false typed = found_same (get name d) (get name e) inside (h name typed)
+
+  -- ---- selections
+
+  pub selection_alike : (d e : Data) → Related m (Object (role.OfFamily family.Selection)) d e → selection_record π m.left d ≡ selection_record π m.right e
+  selection_alike d e r =
+      let o : BothObjects m selection_role d e = both_objects m g.left_tree g.right_tree clean selection_role d e r in
+      record_alike (plain_member π m.left d) (plain_member π m.right e) selection_role d e o.class o.left o.right (λ name. plain_alike o.class name d e o.members)

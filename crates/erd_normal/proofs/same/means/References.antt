@@ -1,0 +1,95 @@
+-- References of two reports that say the same name objects with one key.
+use Rattle.std.proofs.Common.{◌≡◌, ℕ, List, [], ◌∷◌, map, Option, Some, option_and_then, unwrap_or, refl, ap, ap₂, ◌∙◌, subst}
+use Rattle.serde_json.specs.Data.{Data, null, boolean, number, string, array, object, Items}
+use Rattle.serde_json.specs.Find.{as_str}
+use Rattle.erd_tables.specs.declared.class.Family.{Family}
+use Rattle.erd_check.specs.Faults.{NoneOf, ShapeFault}
+use Rattle.erd_check.specs.Values.{list_of_items}
+use Rattle.erd_check.specs.declared.want.Want.{Want}
+use Rattle.erd_check.specs.declared.want.Want.TheVariants.{Reference}
+use Rattle.erd_check.proofs.Rising.{Has, here, later}
+use Rattle.erd_check.proofs.Shapes.{wanted_within}
+use Rattle.erd_meaning.specs.Keys.{Preference, key_cmp}
+use Rattle.erd_meaning.specs.Records.{key_set}
+use Rattle.erd_meaning.specs.SelectionNames.{key_named, keys_named, rising_list}
+use Rattle.erd_meaning.proofs.accepted.Phases.{no_shape_fault}
+use Rattle.erd_normal.proofs.lists.Matched.{Matched, paired_kept}
+use Rattle.erd_normal.proofs.lists.RisingAgain.{rising_keys_named-reordered}
+use Rattle.erd_normal.proofs.meaning.RisingMeanings.{keys_named-reordered}
+use Rattle.erd_normal.specs.SaysTheSame.{Sides, StandsFor, Same, a_null, a_flag, a_number, a_text, an_id, a_list, a_set, an_object, SameEntries, no_entry, one_entry}
+use Rattle.erd_normal.specs.SameLaws.{IsUsed}
+use Rattle.erd_normal.proofs.same.FromAlike.{Stands}
+use Rattle.erd_normal.proofs.same.Owners.{keys_named_same}
+use Rattle.erd_normal.proofs.same.Related.{Related}
+use Rattle.erd_normal.proofs.same.means.Members.{TwoReports}
+
+-- a reference is in use
+used : (t : Data) (f : Family) (s : List ℕ) → Stands t (Reference f) (string s) → IsUsed t s
+used t f s st = record {
+  place = st.inside.place;
+  asked = record { want = Reference f; value = string s; repeated = st.repeated };
+  stands = st.inside.is;
+  reference = refl;
+  text = refl;
+}
+
+module _ (m : Sides) (f : Family) {A : Type 0} (left right : List ℕ → Option A)
+    (alike : (s s' : List ℕ) → StandsFor m s s' → IsUsed m.left s → IsUsed m.right s' → left s ≡ right s') where
+  texts_alike : {d e : Data} → Same m (Some (Reference f)) d e → Stands m.left (Reference f) d → Stands m.right (Reference f) e → option_and_then left (as_str d) ≡ option_and_then right (as_str e)
+  texts_alike a_null l r = refl
+  texts_alike a_flag l r = refl
+  texts_alike a_number l r = refl
+  texts_alike (a_text is) l r = cc
+  texts_alike (an_id {s = s} {s' = s'} is pair) l r = alike s s' pair (used m.left f s l) (used m.right f s' r)
+  texts_alike (a_list is h) l r = refl
+  texts_alike (a_set fs is p h) l r = refl
+  texts_alike (an_object h) l r = refl
+
+  -- what is said alike of texts that stand for one another is said alike of references
+  pub said_alike : (d e : Data) → Related m (Reference f) d e → option_and_then left (as_str d) ≡ option_and_then right (as_str e)
+  said_alike d e r = texts_alike r.same r.left r.right
+
+  -- and of those in a list, one by one
+  pub said_in_turn : {o : Option Want} {ds es : Items} → o ≡ Some (Reference f) → SameEntries m o ds es → ((x : Data) → Has (list_of_items ds) x → Stands m.left (Reference f) x)
+      → ((x : Data) → Has (list_of_items es) x → Stands m.right (Reference f) x)
+      → map (λ r. option_and_then left (as_str r)) (list_of_items ds) ≡ map (λ r. option_and_then right (as_str r)) (list_of_items es)
+  said_in_turn asks no_entry l r = refl
+  said_in_turn asks (one_entry {d = d} {e = e} h rest) l r =
+      ap₂ ◌∷◌ (said_alike d e (record { left = l d here; right = r e here; same = subst (λ o. Same m o d e) asks h }))
+      (said_in_turn asks rest (λ x i. l x (later i)) (λ x i. r x (later i)))
+
+module _ (m : Sides) (π : Preference) (g : TwoReports m π) where
+  clean : NoneOf (ShapeFault m.left)
+  clean = no_shape_fault π m.left g.accepted
+
+  named_alike : (f : Family) (s s' : List ℕ) → StandsFor m s s' → IsUsed m.left s → IsUsed m.right s' → key_named π m.left f s ≡ key_named π m.right f s'
+  named_alike f s s' pair l r = keys_named_same m g.left_tree g.right_tree π g.accepted g.root f s s' pair l r
+
+  -- a reference names an object with the same key
+  pub key_alike : (f : Family) (d e : Data) → Related m (Reference f) d e → option_and_then (key_named π m.left f) (as_str d) ≡ option_and_then (key_named π m.right f) (as_str e)
+  key_alike f d e r = said_alike m f (key_named π m.left f) (key_named π m.right f) (named_alike f) d e r
+
+  pub keys_set_alike : (f : Family) (xs ys : List Data) → Matched (Related m (Reference f)) xs ys → key_set (keys_named π m.left f xs) ≡ key_set (keys_named π m.right f ys)
+  keys_set_alike f xs ys h =
+      ap key_set (paired_kept (λ r. option_and_then (key_named π m.left f) (as_str r)) (λ r. option_and_then (key_named π m.right f) (as_str r)) (key_alike f) h.paired)
+      ∙ keys_named-reordered π m.right f h.reordered
+
+  pub keys_list_alike : (f : Family) (xs ys : List Data) → Matched (Related m (Reference f)) xs ys → rising_list key_cmp (keys_named π m.left f xs) ≡ rising_list key_cmp (keys_named π m.right f ys)
+  keys_list_alike f xs ys h =
+      ap (rising_list key_cmp) (paired_kept (λ r. option_and_then (key_named π m.left f) (as_str r)) (λ r. option_and_then (key_named π m.right f) (as_str r)) (key_alike f) h.paired)
+      ∙ rising_keys_named-reordered π m.right f h.reordered
+
+  -- a reference is a text
+  key_of_text : (f : Family) {d e : Data} → Same m (Some (Reference f)) d e → Stands m.left (Reference f) d → Stands m.right (Reference f) e
+      → key_named π m.left f (unwrap_or (as_str d) []) ≡ key_named π m.right f (unwrap_or (as_str e) [])
+  key_of_text f a_null l r = let x = wanted_within m.left clean (record { want = Reference f; value = null; repeated = l.repeated }) l.inside in cc
+  key_of_text f (a_flag {b = b}) l r = let x = wanted_within m.left clean (record { want = Reference f; value = boolean b; repeated = l.repeated }) l.inside in cc
+  key_of_text f (a_number {n = n}) l r = let x = wanted_within m.left clean (record { want = Reference f; value = number n; repeated = l.repeated }) l.inside in cc
+  key_of_text f (a_text is) l r = cc
+  key_of_text f (an_id {s = s} {s' = s'} is pair) l r = named_alike f s s' pair (used m.left f s l) (used m.right f s' r)
+  key_of_text f (a_list {ds = ds} is h) l r = let x = wanted_within m.left clean (record { want = Reference f; value = array ds; repeated = l.repeated }) l.inside in cc
+  key_of_text f (a_set fs is p h) l r = cc
+  key_of_text f (an_object {ms = ms} h) l r = let x = wanted_within m.left clean (record { want = Reference f; value = object ms; repeated = l.repeated }) l.inside in cc
+
+  pub key_alike_text : (f : Family) (d e : Data) → Related m (Reference f) d e → key_named π m.left f (unwrap_or (as_str d) []) ≡ key_named π m.right f (unwrap_or (as_str e) [])
+  key_alike_text f d e r = key_of_text f r.same r.left r.right

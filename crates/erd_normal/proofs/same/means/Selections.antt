@@ -1,0 +1,85 @@
+-- No contest of a report that says the same as an accepted one has two selections of one name.
+use Rattle.std.proofs.Common.{◌≡◌, List, true, is_eq, Some, codes, sym, ap, ap₂, ◌∙◌, subst}
+use Rattle.std.proofs.lemmas.Cmp.{on_total, tied_itself}
+use Rattle.std.specs.Cmp.Lexicographic.{options_total}
+use Rattle.std.specs.List.{IsDistinct}
+use Rattle.std.specs.Option.{option_cmp}
+use Rattle.std.specs.Ordering.{eq_by_cmp}
+use Rattle.serde_json.specs.Data.{Data}
+use Rattle.erd_tables.specs.declared.class.Family.{Family}
+use Rattle.erd_tables.specs.declared.class.Family.TheVariants as family
+use Rattle.erd_tables.specs.declared.class.Role.TheVariants as role
+use Rattle.erd_tables.specs.declared.fault.Reason.TheVariants as reason
+use Rattle.erd_tables.specs.declared.place.Step.{Step}
+use Rattle.erd_check.specs.Faults.{NoneOf, ShapeFault}
+use Rattle.erd_check.specs.Values.{entries_at}
+use Rattle.erd_check.specs.declared.want.Want.TheVariants.{Object}
+use Rattle.erd_check.proofs.Rising.{Has}
+use Rattle.erd_meaning.specs.Keys.{Preference}
+use Rattle.erd_meaning.specs.LaterFaults.{RepeatsName, SelectionFault}
+use Rattle.erd_meaning.specs.NameParts.{NameParts}
+use Rattle.erd_meaning.specs.Objects.{contests, selections_of_contest}
+use Rattle.erd_meaning.specs.SelectionNames.{name_cmp, name_of}
+use Rattle.erd_meaning.specs.code.Orders.{name_cmp_total}
+use Rattle.erd_meaning.proofs.accepted.Phases.{no_shape_fault}
+use Rattle.erd_meaning.proofs.accepted.References.{Has-Contains}
+use Rattle.erd_meaning.proofs.accepted.Skeleton.{values-placed_entries}
+use Rattle.erd_meaning.proofs.orders.DistinctEntries.{distinct_one}
+use Rattle.erd_normal.specs.code.NormalTree.{by_name}
+use Rattle.erd_normal.proofs.canonical.DistinctObjects.{selection_values_distinct}
+use Rattle.erd_normal.proofs.lists.Matched.{Matched, distinct_matched, even_order, matched_back, matched_within}
+use Rattle.erd_normal.proofs.rearranged.RearrangedIdentity.{not_before_itself}
+use Rattle.erd_normal.proofs.rearranged.RelatedObjects.{family_values}
+use Rattle.erd_normal.proofs.rearranged.SharedIds.{placed_value, value_placed}
+use Rattle.erd_normal.specs.SaysTheSame.{Sides}
+use Rattle.erd_normal.proofs.same.Related.{Related, family_matched, selections_matched}
+use Rattle.erd_normal.proofs.same.means.Members.{TwoReports}
+use Rattle.erd_normal.proofs.same.means.Names.{name_alike}
+
+module _ (m : Sides) (π : Preference) (g : TwoReports m π) where
+  clean : NoneOf (ShapeFault m.left)
+  clean = no_shape_fault π m.left g.accepted
+
+  -- an object of the family, and one that is related to it
+  pub record Kin (f : Family) (d e : Data) : Type 0 where
+    pub stands : Has (family_values f m.left) d
+    pub related : Related m (Object (role.OfFamily f)) d e
+
+  kin_matched : (f : Family) → Matched (Kin f) (family_values f m.left) (family_values f m.right)
+  kin_matched f = matched_within (Kin f) (λ x y h r. record { stands = h; related = r }) (family_matched m g.left_tree g.right_tree clean g.root f)
+
+  abbrev pub chosen : Data → List Data
+  chosen d = entries_at (codes "ContestSelection") d
+
+  pub chosen_matched : (d e : Data) → Kin family.Contest d e → Matched (Related m (Object (role.OfFamily family.Selection))) (chosen d) (chosen e)
+  chosen_matched d e k = selections_matched m g.left_tree g.right_tree clean g.root d e k.related
+
+  -- the names of the selections of a contest are all different
+  pub left_distinct : (d e : Data) → Kin family.Contest d e → IsDistinct (eq_by_cmp (by_name π m.left)) (chosen d)
+  left_distinct d e k =
+      let o = value_placed family.Contest m.left d k.stands in
+      subst (λ z. IsDistinct (eq_by_cmp (by_name π m.left)) (chosen z)) o.2 (selection_values_distinct π m.left g.accepted o.0 o.1)
+
+  names_distinct : (d e : Data) → Kin family.Contest d e → IsDistinct (eq_by_cmp (by_name π m.right)) (chosen e)
+  names_distinct d e k =
+      distinct_matched (eq_by_cmp (by_name π m.left)) (eq_by_cmp (by_name π m.right)) (even_order (by_name π m.right) (on_total (name_of π m.right) (options_total name_cmp_total)))
+      (λ x x' y y' i j r r' h. ap₂ (λ a b. is_eq (option_cmp name_cmp a b)) (name_alike m π g x y r) (name_alike m π g x' y' r') ∙ h)
+      (chosen_matched d e k) (left_distinct d e k)
+
+  same_name : (n : NameParts) (d e : Data) → name_of π m.right d ≡ Some n → name_of π m.right e ≡ Some n → eq_by_cmp (by_name π m.right) d e ≡ true
+  same_name n d e a b = ap₂ (λ k l. is_eq (option_cmp name_cmp k l)) a b ∙ ap is_eq (tied_itself name_cmp_total n)
+
+  no_twin_name : (p : List Step) → RepeatsName π m.right p → ⊥
+  no_twin_name p r =
+      let b = matched_back r.contest.value (kin_matched family.Contest) (placed_value family.Contest m.right r.contest (Has-Contains (contests m.right) r.contest r.contest_stands)) in
+      let os = selections_of_contest r.contest in
+      let one : r.earlier ≡ r.later =
+      distinct_one (λ o. o.value) (eq_by_cmp (by_name π m.right)) os
+      (subst (IsDistinct (eq_by_cmp (by_name π m.right))) (sym (values-placed_entries (codes "ContestSelection") r.contest)) (names_distinct b.0 r.contest.value b.2)) r.earlier r.later
+      (Has-Contains os r.earlier r.earlier_stands) (Has-Contains os r.later r.later_stands)
+      (same_name r.name r.earlier.value r.later.value r.earlier_name r.later_name) (same_name r.name r.later.value r.earlier.value r.later_name r.earlier_name) in
+      not_before_itself r.earlier r.later one r.before
+
+  pub no_selection_fault : NoneOf (SelectionFault π m.right)
+  no_selection_fault p reason.TwinSelection h = no_twin_name p h
+  no_selection_fault p r h = h

@@ -1,0 +1,224 @@
+-- The canonical `@id` of each object of a report. It tells objects apart, and two functions lead from the `@id` texts of the report
+-- to the canonical ones and back.
+use Rattle.std.proofs.Common.{◌≡◌, ⊎_elim, decimal, ◌<◌, ◌+◌, ◌^◌, ℕ, List, [], ◌∷◌, ◌++◌, map, flat_map, find, length, unwrap_or, true, false, Option, Some, None, option_map, Equal, is_eq, is_some, refl, sym, ap, ◌∙◌, subst, arith}
+use Rattle.std.proofs.lemmas.Cmp.{tied_back}
+use Rattle.std.proofs.lemmas.List.{length-map}
+use Rattle.std.specs.Cmp.Lexicographic.{options_total}
+use Rattle.std.specs.List.{IsDistinct}
+use Rattle.std.specs.Option.{option_map_or}
+use Rattle.std.specs.Ordering.{eq_by_cmp}
+use Rattle.std.specs.Str.{bytes_eq}
+use Rattle.serde_json.specs.Data.{Data}
+use Rattle.erd_tables.specs.declared.class.Family.{Family}
+use Rattle.erd_tables.specs.declared.class.Family.TheVariants as family
+use Rattle.erd_tables.specs.declared.class.Role.TheVariants as role
+use Rattle.erd_check.specs.Wants.{Asked, asked}
+use Rattle.erd_check.specs.declared.want.Want.TheVariants.{Object}
+use Rattle.erd_check.proofs.Exact.{text_exact, text_itself}
+use Rattle.erd_check.proofs.Positions.{has_mapped, map_has, same_in_some}
+use Rattle.erd_check.proofs.Rising.{Has, all-Has, here, later}
+use Rattle.erd_meaning.specs.Accepted.{IsAccepted}
+use Rattle.erd_meaning.specs.Keys.{Preference, has_keys, key_of}
+use Rattle.erd_meaning.specs.Lookups.{rank_of}
+use Rattle.erd_meaning.specs.Objects.{IsBounded, Placed, contests, has_id, id_of, objects, selections_of_contest}
+use Rattle.erd_meaning.specs.SelectionNames.{name_of}
+use Rattle.erd_meaning.specs.code.Orders.{key_cmp_total, name_cmp_total}
+use Rattle.erd_meaning.proofs.accepted.HeldObjects.{has-append, has-flat}
+use Rattle.erd_meaning.proofs.accepted.References.{find-any}
+use Rattle.erd_meaning.proofs.accepted.Standing.{append-has, flat-has, has-append_left, has_id-Some, has_id-from, one_object, stands}
+use Rattle.erd_meaning.proofs.orders.DistinctEntries.{distinct_one}
+use Rattle.erd_meaning.proofs.orders.Sets.{any-has}
+use Rattle.erd_normal.specs.Canonical.{canonical_id, id_prefix}
+use Rattle.erd_normal.specs.code.NormalTree.{by_key, by_name, id_of_key, id_of_selection, normal_tree, rank_of_name}
+use Rattle.erd_normal.proofs.canonical.Bounds.{few_selections}
+use Rattle.erd_normal.proofs.canonical.CanonicalIds.{canonical_id_exact, selection_id_apart}
+use Rattle.erd_normal.proofs.canonical.ContestSelections.{one_contest}
+use Rattle.erd_normal.proofs.canonical.DistinctObjects.{selection_values_distinct, values_distinct}
+use Rattle.erd_normal.proofs.canonical.RisingReports.{by_key_total, by_name_total}
+use Rattle.erd_normal.proofs.canonical.SelectionIds.{listed, selection_values}
+use Rattle.erd_normal.proofs.canonical.SelectionTexts.{canonical_selection_id_exact}
+use Rattle.erd_normal.proofs.canonical.SetsInOrder.{prefixed_keys}
+use Rattle.erd_normal.proofs.lists.KeyedRanks.{rank_exact, rank_low}
+use Rattle.erd_normal.proofs.throughout.ThroughoutMembers.{is_prefixed}
+use Rattle.erd_normal.specs.SaysTheSame.{Sides, StandsFor}
+
+-- ---- the canonical `@id` of an object
+
+-- the object of the family has this `@id` in the report that is built
+pub data NewId (π : Preference) (t : Data) (f : Family) (o : Placed) (id : List ℕ) : Type 0 where
+  of_family : has_keys f ≡ true → Has (objects f t) o → id_of_key π t f (key_of π o.value) ≡ Some id → NewId π t f o id
+  of_contest : (contest : Placed) → f ≡ family.Selection → Has (objects family.Contest t) contest → Has (selections_of_contest contest) o
+      → id ≡ id_of_selection π t contest.value o.value → NewId π t f o id
+
+module _ (π : Preference) (t : Data) (accepted : IsAccepted π t) where
+  pub stands_new : (f : Family) (o : Placed) (id : List ℕ) → NewId π t f o id → Has (objects f t) o
+  stands_new f o id (of_family keyed h is) = h
+  stands_new f o id (of_contest contest is h k its) = subst (λ g. Has (objects g t) o) (sym is) (flat-has selections_of_contest (contests t) contest o h k)
+
+  -- an object is of one family
+  pub one_family : (f g : Family) (o : Placed) → Has (objects f t) o → Has (objects g t) o → f ≡ g
+  one_family f g o h k =
+      let both : Some (asked (Object (role.OfFamily f)) o.value) ≡ Some (asked (Object (role.OfFamily g)) o.value) = sym (stands π t accepted f o h) ∙ stands π t accepted g o k in
+      let one : asked (Object (role.OfFamily f)) o.value ≡ asked (Object (role.OfFamily g)) o.value = same_in_some _ _ both in
+      let wants : Object (role.OfFamily f) ≡ Object (role.OfFamily g) = ap (λ (a : Asked). a.want) one in
+      cc
+
+  never_keyed : (f : Family) → has_keys f ≡ true → f ≡ family.Selection → ⊥
+  never_keyed f keyed is = let x : false ≡ true = ap has_keys (sym is) ∙ keyed in cc
+
+  -- an object has one canonical `@id`
+  pub new_once : (f g : Family) (o : Placed) (id id' : List ℕ) → NewId π t f o id → NewId π t g o id' → id ≡ id'
+  new_once f g o id id' (of_family keyed h is) (of_family keyed' h' is') =
+      same_in_some id id' (sym is ∙ ap (λ x. id_of_key π t x (key_of π o.value)) (one_family f g o h h') ∙ is')
+  new_once f g o id id' (of_family keyed h is) (of_contest c sel in_c of_c its) =
+      absurd (never_keyed f keyed (one_family f g o h (stands_new g o id' (of_contest c sel in_c of_c its)) ∙ sel))
+  new_once f g o id id' (of_contest c sel in_c of_c its) (of_family keyed h is) =
+      absurd (never_keyed g keyed (one_family g f o h (stands_new f o id (of_contest c sel in_c of_c its)) ∙ sel))
+  new_once f g o id id' (of_contest c sel in_c of_c its) (of_contest d sel' in_d of_d its') =
+      its ∙ ap (λ x. id_of_selection π t x.value o.value) (one_contest π t accepted c d o in_c in_d of_c of_d) ∙ sym its'
+
+  -- ---- it tells objects apart
+
+  one_ranked : (f : Family) → has_keys f ≡ true → (o p : Placed) → Has (objects f t) o → Has (objects f t) p → rank_of π t f (key_of π o.value) ≡ rank_of π t f (key_of π p.value) → o ≡ p
+  one_ranked f keyed o p in_o in_p same =
+      let tied : by_key π o.value p.value ≡ Equal = rank_exact (λ (x : Placed). key_of π x.value) (options_total key_cmp_total) (objects f t) o p in_o in_p same in
+      distinct_one (λ (x : Placed). x.value) (eq_by_cmp (by_key π)) (objects f t) (values_distinct π t accepted f keyed) o p in_o in_p (ap is_eq tied)
+      (ap is_eq (tied_back (by_key_total π) o.value p.value tied))
+
+  in_values : (c o : Placed) → Has (selections_of_contest c) o → Has (selection_values c) o.value
+  in_values c o h = subst (λ xs. Has xs o.value) (listed c) (has_mapped (λ (x : Placed). x.value) (selections_of_contest c) o h)
+
+  one_named_rank : (c o p : Placed) → Has (objects family.Contest t) c → Has (selections_of_contest c) o → Has (selections_of_contest c) p
+      → rank_of_name π t (selection_values c) (name_of π t o.value) ≡ rank_of_name π t (selection_values c) (name_of π t p.value) → o ≡ p
+  one_named_rank c o p in_c of_o of_p same =
+      let tied : by_name π t o.value p.value ≡ Equal =
+      rank_exact (name_of π t) (options_total name_cmp_total) (selection_values c) o.value p.value (in_values c o of_o) (in_values c p of_p) same in
+      distinct_one (λ (x : Placed). x.value) (eq_by_cmp (by_name π t)) (selections_of_contest c) (subst (IsDistinct (eq_by_cmp (by_name π t))) (sym (listed c)) (selection_values_distinct π t accepted c in_c)) o p of_o of_p (ap is_eq tied)
+      (ap is_eq (tied_back (by_name_total π t) o.value p.value tied))
+
+  module _ (bounded : IsBounded t) where
+    low_rank : (f : Family) (o : Placed) → Has (objects f t) o → rank_of π t f (key_of π o.value) + 1 < 2 ^ 64
+    low_rank f o h =
+        let low : rank_of π t f (key_of π o.value) < length (objects f t) = rank_low (λ (x : Placed). key_of π x.value) (options_total key_cmp_total) (objects f t) o h in
+        let few : length (objects f t) < 2 ^ 64 = bounded.few f in
+        omega (arith, low, few)
+
+    low_name : (c o : Placed) → Has (objects family.Contest t) c → Has (selections_of_contest c) o → rank_of_name π t (selection_values c) (name_of π t o.value) + 1 < 2 ^ 64
+    low_name c o in_c of_c =
+        let low : rank_of_name π t (selection_values c) (name_of π t o.value) < length (selection_values c) = rank_low (name_of π t) (options_total name_cmp_total) (selection_values c) o.value (in_values c o of_c) in
+        let few : length (selections_of_contest c) < 2 ^ 64 = few_selections t bounded c in_c in
+        let same : length (selections_of_contest c) ≡ length (selection_values c) = sym (length-map (selections_of_contest c) (λ o. o.value)) ∙ ap length (listed c) in
+        omega (arith, low, few, same)
+
+    pub new_exact : (f g : Family) (o p : Placed) (id : List ℕ) → NewId π t f o id → NewId π t g p id → o ≡ p
+    new_exact f g o p id (of_family keyed h is) (of_family keyed' k its) =
+        let n = canonical_id_exact f g _ _ id (low_rank f o h) (low_rank g p k) is its in
+        one_ranked f keyed o p h (subst (λ x. Has (objects x t) p) (sym n.0) k) (n.1 ∙ ap (λ x. rank_of π t x (key_of π p.value)) (sym n.0))
+    new_exact f g o p id (of_family keyed h is) (of_contest c sel in_c of_c its) = absurd (selection_id_apart f _ _ _ (is ∙ ap Some its))
+    new_exact f g o p id (of_contest c sel in_c of_c its) (of_family keyed h is) = absurd (selection_id_apart g _ _ _ (is ∙ ap Some its))
+    new_exact f g o p id (of_contest c sel in_c of_c its) (of_contest d sel' in_d of_d its') =
+        let n = canonical_selection_id_exact _ _ _ _ (low_rank family.Contest c in_c) (low_name c o in_c of_c) (low_rank family.Contest d in_d) (low_name d p in_d of_d) (sym its ∙ its') in
+        let one : c ≡ d = one_ranked family.Contest refl c d in_c in_d n.0 in
+        one_named_rank c o p in_c of_c (subst (λ x. Has (selections_of_contest x) p) (sym one) of_d) (n.1 ∙ ap (λ x. rank_of_name π t (selection_values x) (name_of π t p.value)) (sym one))
+
+-- ---- the objects with their canonical `@id`s
+
+-- the families whose objects have `@id`s by their ranks alone
+abbrev prefixed_families : List Family
+prefixed_families = family.Unit ∷ family.Party ∷ family.Person ∷ family.Office ∷ family.Header ∷ family.Candidate ∷ family.Contest ∷ []
+
+prefixed_listed : (f : Family) → is_prefixed f ≡ true → Has prefixed_families f
+prefixed_listed family.Unit h = here
+prefixed_listed family.Party h = later here
+prefixed_listed family.Person h = later (later here)
+prefixed_listed family.Office h = later (later (later here))
+prefixed_listed family.Header h = later (later (later (later here)))
+prefixed_listed family.Candidate h = later (later (later (later (later here))))
+prefixed_listed family.Contest h = later (later (later (later (later (later here)))))
+prefixed_listed f h = cc
+
+abbrev family_objects : Preference → Data → Family → List (Placed × List ℕ)
+family_objects π t f = map (λ o. (o, unwrap_or (id_of_key π t f (key_of π o.value)) [])) (objects f t)
+
+abbrev contest_objects : Preference → Data → Placed → List (Placed × List ℕ)
+contest_objects π t c = map (λ o. (o, id_of_selection π t c.value o.value)) (selections_of_contest c)
+
+abbrev named_objects : Preference → Data → List (Placed × List ℕ)
+named_objects π t = flat_map (family_objects π t) prefixed_families ++ flat_map (contest_objects π t) (contests t)
+
+-- what the canonical report calls the object that has this `@id`, and what the report calls the one with this canonical `@id`
+abbrev pub new_text : Preference → Data → List ℕ → List ℕ
+new_text π t s = option_map_or (λ (x : Placed × List ℕ). x.1) (find (λ (x : Placed × List ℕ). has_id s x.0.value) (named_objects π t)) []
+
+abbrev pub old_text : Preference → Data → List ℕ → List ℕ
+old_text π t s = option_map_or (λ (x : Placed × List ℕ). unwrap_or (id_of x.0.value) []) (find (λ (x : Placed × List ℕ). bytes_eq x.1 s) (named_objects π t)) []
+
+abbrev pub sides : Preference → Data → Sides
+sides π t = record { left = t; right = normal_tree π t; there = new_text π t; back = old_text π t }
+
+has_letters : (f : Family) (i : ℕ) (id : List ℕ) → canonical_id f i ≡ Some id → is_prefixed f ≡ true
+has_letters f i id = at (id_prefix f)
+  where
+    at : (o : Option (List ℕ)) → option_map (λ letters. letters ++ decimal (i + 1)) o ≡ Some id → is_some o ≡ true
+    at None e = cc
+    at (Some letters) e = refl
+
+pub some_again : (o : Option (List ℕ)) → is_some o ≡ true → o ≡ Some (unwrap_or o [])
+some_again None h = cc
+some_again (Some s) h = refl
+
+pub has_canonical : (f : Family) (i : ℕ) → is_prefixed f ≡ true → is_some (canonical_id f i) ≡ true
+has_canonical f i = at (id_prefix f)
+  where
+    at : (o : Option (List ℕ)) → is_some o ≡ true → is_some (option_map (λ letters. letters ++ decimal (i + 1)) o) ≡ true
+    at None h = cc
+    at (Some letters) h = refl
+
+module _ (π : Preference) (t : Data) where
+  in_list : (f : Family) (o : Placed) (id : List ℕ) → NewId π t f o id → Has (named_objects π t) (o, id)
+  in_list f o id (of_family keyed h is) =
+      has-append_left (flat_map (family_objects π t) prefixed_families) (flat_map (contest_objects π t) (contests t)) (o, id)
+      (flat-has (family_objects π t) prefixed_families f (o, id) (prefixed_listed f (has_letters f _ id is))
+      (subst (λ x. Has (family_objects π t f) (o, x)) (ap (λ x. unwrap_or x []) is) (has_mapped (λ (x : Placed). (x, unwrap_or (id_of_key π t f (key_of π x.value)) [])) (objects f t) o h)))
+  in_list f o id (of_contest c sel in_c of_c its) =
+      append-has (flat_map (family_objects π t) prefixed_families) (flat_map (contest_objects π t) (contests t)) (o, id)
+      (flat-has (contest_objects π t) (contests t) c (o, id) in_c
+      (subst (λ x. Has (contest_objects π t c) (o, x)) (sym its) (has_mapped (λ (x : Placed). (x, id_of_selection π t c.value x.value)) (selections_of_contest c) o of_c)))
+
+  from_family : (x : Placed × List ℕ) → Has (flat_map (family_objects π t) prefixed_families) x → (f : Family) × NewId π t f x.0 x.1
+  from_family x h =
+      let f = has-flat (family_objects π t) prefixed_families x h in
+      let o = map_has (λ (y : Placed). (y, unwrap_or (id_of_key π t f.0 (key_of π y.value)) [])) (objects f.0 t) x f.2 in
+      let named : is_prefixed f.0 ≡ true = all-Has (λ g. is_prefixed g ≡ true) prefixed_families f.0 (refl, (refl, (refl, (refl, (refl, (refl, (refl, tt))))))) f.1 in
+      (f.0, subst (λ (z : Placed × List ℕ). NewId π t f.0 z.0 z.1) o.2 (of_family (prefixed_keys f.0 named) o.1 (some_again (id_of_key π t f.0 (key_of π o.0.value)) (has_canonical f.0 _ named))))
+
+  from_contest : (x : Placed × List ℕ) → Has (flat_map (contest_objects π t) (contests t)) x → (f : Family) × NewId π t f x.0 x.1
+  from_contest x h =
+      let c = has-flat (contest_objects π t) (contests t) x h in
+      let o = map_has (λ (y : Placed). (y, id_of_selection π t c.0.value y.value)) (selections_of_contest c.0) x c.2 in
+      (family.Selection, subst (λ (z : Placed × List ℕ). NewId π t family.Selection z.0 z.1) o.2 (of_contest c.0 refl c.1 o.1 refl))
+
+  from_list : (x : Placed × List ℕ) → Has (named_objects π t) x → (f : Family) × NewId π t f x.0 x.1
+  from_list x h = ⊎_elim (from_family x) (from_contest x) (has-append (flat_map (family_objects π t) prefixed_families) (flat_map (contest_objects π t) (contests t)) x h)
+
+  module _ (accepted : IsAccepted π t) (bounded : IsBounded t) where
+    text_there : (f : Family) (o : Placed) (s id : List ℕ) → NewId π t f o id → id_of o.value ≡ Some s → new_text π t s ≡ id
+    text_there f o s id new e =
+        let xs = named_objects π t in
+        let x = find-any (λ (y : Placed × List ℕ). has_id s y.0.value) xs (any-has (λ (y : Placed × List ℕ). has_id s y.0.value) xs (o, id) (in_list f o id new) (has_id-from s o.value e)) in
+        let y = from_list x.0 x.3 in
+        let one : x.0.0 ≡ o = one_object π t accepted y.0 f x.0.0 o s (stands_new π t accepted y.0 x.0.0 x.0.1 y.1) (stands_new π t accepted f o id new) (has_id-Some s x.0.0.value x.2) e in
+        ap (λ z. option_map_or (λ (y : Placed × List ℕ). y.1) z []) x.1 ∙ new_once π t accepted y.0 f o x.0.1 id (subst (λ z. NewId π t y.0 z x.0.1) one y.1) new
+
+    text_back : (f : Family) (o : Placed) (s id : List ℕ) → NewId π t f o id → id_of o.value ≡ Some s → old_text π t id ≡ s
+    text_back f o s id new e =
+        let xs = named_objects π t in
+        let x = find-any (λ (y : Placed × List ℕ). bytes_eq y.1 id) xs (any-has (λ (y : Placed × List ℕ). bytes_eq y.1 id) xs (o, id) (in_list f o id new) (text_itself id)) in
+        let y = from_list x.0 x.3 in
+        let same : x.0.1 ≡ id = text_exact x.0.1 id x.2 in
+        let one : x.0.0 ≡ o = new_exact π t accepted bounded y.0 f x.0.0 o id (subst (NewId π t y.0 x.0.0) same y.1) new in
+        ap (λ z. option_map_or (λ (y : Placed × List ℕ). unwrap_or (id_of y.0.value) []) z []) x.1 ∙ ap (λ z. unwrap_or (id_of z.value) []) one ∙ ap (λ z. unwrap_or z []) e
+
+    -- the `@id` of an object stands for its canonical one
+    pub stands_for : (f : Family) (o : Placed) (s id : List ℕ) → NewId π t f o id → id_of o.value ≡ Some s → StandsFor (sides π t) s id
+    stands_for f o s id new e = (sym (text_there f o s id new e), sym (text_back f o s id new e))

@@ -1,0 +1,138 @@
+-- The canonical tree says what the report says.
+use Rattle.std.proofs.Common.{◌≡◌, ℕ, List, map, Bool, true, false, if◌then◌else◌, Option, Some, None, refl, sym, ap, ◌∙◌, subst}
+use Rattle.serde_json.specs.Data.{Data, array, object, Members}
+use Rattle.serde_json.specs.Find.{get, get_member}
+use Rattle.erd_tables.specs.Table.{is_envelope_name, kind_of_member}
+use Rattle.erd_tables.specs.declared.class.Class.TheVariants as class
+use Rattle.erd_tables.specs.declared.class.Family.{Family}
+use Rattle.erd_tables.specs.declared.class.Role.TheVariants as role
+use Rattle.erd_tables.specs.declared.member.MemberKind.{MemberKind}
+use Rattle.erd_tables.specs.declared.member.MemberKind.TheVariants as kind
+use Rattle.erd_check.specs.Faults.{NoneOf, ShapeFault}
+use Rattle.erd_check.specs.Trees.{IsTree}
+use Rattle.erd_check.specs.Values.{entries_of, list_of_items}
+use Rattle.erd_check.specs.Wants.{asked, want_of_kind}
+use Rattle.erd_check.specs.declared.want.Want.TheVariants.{Member, Object}
+use Rattle.erd_check.proofs.ObjectsAt.{ObjectAt}
+use Rattle.erd_check.proofs.Rising.{Has}
+use Rattle.erd_check.proofs.Shapes.{Within, within-tree}
+use Rattle.erd_check.proofs.TableKinds.{kind_of_class}
+use Rattle.erd_meaning.specs.Accepted.{IsAccepted}
+use Rattle.erd_meaning.specs.Keys.{Preference, has_keys}
+use Rattle.erd_meaning.specs.Objects.{IsBounded, objects}
+use Rattle.erd_meaning.specs.SelectionNames.{rising_list}
+use Rattle.erd_meaning.proofs.accepted.Phases.{no_shape_fault}
+use Rattle.erd_meaning.proofs.accepted.Skeleton.{Skeleton, election_object, election_within, skeleton_of_shape}
+use Rattle.erd_normal.specs.code.NormalTree.{array_of, by_key, normal_election, normal_election_value, normal_report_value, normal_tree, normal_value}
+use Rattle.erd_normal.proofs.built.BuiltObjects.{built_election, built_report, election_builder, no_name}
+use Rattle.erd_normal.proofs.built.FamilyNames.{election_part, elections_name, family_name, keyed_name, report_part}
+use Rattle.erd_normal.proofs.built.NormalTrees.{normal_election-tree, normal_tree-tree}
+use Rattle.erd_normal.proofs.lists.ListParts.{IsPart}
+use Rattle.erd_normal.specs.SaysTheSame.{Sides, Same, SaysTheSame, of_the_envelope}
+use Rattle.erd_normal.proofs.same.Built.{set_built}
+use Rattle.erd_normal.proofs.same.Lookups.{MayLack, not_both}
+use Rattle.erd_normal.proofs.same.normal.NewIds.{new_text, old_text, sides}
+use Rattle.erd_normal.proofs.same.normal.SaidObjects.{KeepsType, in_class, objects_said, said_object}
+use Rattle.erd_normal.proofs.same.normal.SaidValues.{Said, is_simple_kind, kept, said_member, said_unless, said_value}
+
+-- a member of the election
+abbrev is_election_kind : MemberKind → Bool
+is_election_kind (kind.Keyed f) = has_keys f
+is_election_kind k = is_simple_kind k
+
+-- a member of the report
+abbrev is_report_kind : MemberKind → Bool
+is_report_kind (kind.Keyed f) = has_keys f
+is_report_kind kind.Elections = true
+is_report_kind k = is_simple_kind k
+
+-- a member of the envelope may be absent
+envelope_lacks : (t : Data) (name : List ℕ) (o : Option Data) → is_envelope_name name ≡ true → MayLack t (in_class role.Report class.ElectionReport) name o
+envelope_lacks t name o is = record { each = λ d e. of_the_envelope is }
+
+module _ (π : Preference) (t : Data) (accepted : IsAccepted π t) (tree : IsTree t) (bounded : IsBounded t) where
+  abbrev m : Sides
+  m = sides π t
+
+  abbrev clean : NoneOf (ShapeFault t)
+  clean = no_shape_fault π t accepted
+
+  abbrev s : Skeleton t
+  s = skeleton_of_shape t clean
+
+  -- ---- the elections
+
+  election_type : KeepsType (election_builder π t) no_name
+  election_type = record { plain = refl; stays = λ v. refl }
+
+  election_member : (k : MemberKind) (required : Bool) (d : Data) → is_election_kind k ≡ true → ((f : Family) → k ≡ kind.Keyed f → IsPart (entries_of d) (map (λ o. o.value) (objects f t)))
+      → Within t (asked (want_of_kind k required) d) → Said m (want_of_kind k required) d (normal_election_value π t k d)
+  election_member (kind.Keyed f) required d is held w = said_unless m (kind.Keyed f) required d _ refl (objects_said π t accepted tree bounded f is required d (held f refl) w)
+  election_member k required d is held w = said_value π t accepted tree bounded k required d is w
+
+  election_with : (d : Data) → Has (list_of_items s.es) d → (this : (ms : Members) × (d ≡ object ms) × ObjectAt t (Object role.Election) role.Election class.Election ms)
+      → Same m (Some (Object role.Election)) d (normal_election π t d)
+  election_with d h this =
+      subst (λ x. Same m (Some (Object role.Election)) x (normal_election π t d)) (sym this.1)
+      (said_object m t clean (election_builder π t) no_name election_type role.Election class.Election this.0 (normal_election π t d) (built_election π t clean tree this.0 d this.1 this.2)
+      (subst IsTree this.1 whole) (normal_election-tree π t d whole) (λ name is. cc)
+      (λ name from other no found inside. said_member m t (election_builder π t) class.Election name from inside
+      (λ required within. election_member (kind_of_member class.Election name) required from (kind_of_class is_election_kind class.Election name other refl refl refl refl) (family name from found) within) refl))
+    where
+      whole : IsTree d
+      whole = within-tree t (asked (Object role.Election) d) tree (election_within t s d h)
+
+      family : (name : List ℕ) (from : Data) → get_member name this.0 ≡ Some from → (f : Family) → kind_of_member class.Election name ≡ kind.Keyed f → IsPart (entries_of from) (map (λ o. o.value) (objects f t))
+      family name from stands f is =
+          let named : name ≡ family_name f = keyed_name class.Election name f is in
+          election_part t s d this.0 h this.1 f from (ap (kind_of_member class.Election) (sym named) ∙ is) (ap (λ n. get_member n this.0) (sym named) ∙ stands)
+
+  elections_said : (required : Bool) (d : Data) → d ≡ array s.es → Same m (Some (Member kind.Elections required)) d (array_of (map (normal_election π t) (rising_list (by_key π) (entries_of d))))
+  elections_said required d is =
+      subst (λ x. Same m (Some (Member kind.Elections required)) x (array_of (map (normal_election π t) (rising_list (by_key π) (entries_of x))))) (sym is)
+      (set_built m (Member kind.Elections required) (normal_election π t) (by_key π) s.es refl (λ x h. election_with x h (election_object t clean x (election_within t s x h))))
+
+  -- ---- the report
+
+  report_type : KeepsType (normal_report_value π t) is_envelope_name
+  report_type = record { plain = refl; stays = λ v. refl }
+
+  outside : (name : List ℕ) (k : MemberKind) (required : Bool) (d : Data) → is_simple_kind k ≡ true → (b : Bool) → b ≡ false → Within t (asked (want_of_kind k required) d)
+      → Said m (want_of_kind k required) d (if b then None else normal_value π t k d)
+  outside name k required d simple true is w = cc
+  outside name k required d simple false is w = said_value π t accepted tree bounded k required d simple w
+
+  report_member : (name : List ℕ) (k : MemberKind) (required : Bool) (d : Data) → is_report_kind k ≡ true → is_envelope_name name ≡ false
+      → ((f : Family) → k ≡ kind.Keyed f → IsPart (entries_of d) (map (λ o. o.value) (objects f t))) → (k ≡ kind.Elections → d ≡ array s.es)
+      → Within t (asked (want_of_kind k required) d) → Said m (want_of_kind k required) d (normal_report_value π t name k d)
+  report_member name (kind.Keyed f) required d is other held are w = said_unless m (kind.Keyed f) required d _ refl (objects_said π t accepted tree bounded f is required d (held f refl) w)
+  report_member name kind.Elections required d is other held are w = kept (elections_said required d (are refl))
+  report_member name k required d is other held are w = outside name k required d is (is_envelope_name name) other w
+
+  word_stays : (name : List ℕ) (d : Data) → is_envelope_name name ≡ false → normal_report_value π t name kind.Word d ≡ Some d
+  word_stays name d other = rw other refl
+
+  pub report_said : Same m (Some (Object role.Report)) t (normal_tree π t)
+  report_said =
+      subst (λ x. Same m (Some (Object role.Report)) x (normal_tree π t)) (sym s.is_object)
+      (said_object m t clean (normal_report_value π t) is_envelope_name report_type role.Report class.ElectionReport s.ms (normal_tree π t) (built_report π t clean tree s)
+      (subst IsTree s.is_object tree) (normal_tree-tree π t tree)
+      (λ name is. not_both (envelope_lacks t name (get_member name s.ms) is) (envelope_lacks (normal_tree π t) name (get name (normal_tree π t)) is))
+      (λ name from other inside_envelope found inside. said_member m t (normal_report_value π t) class.ElectionReport name from inside
+      (λ required within. report_member name (kind_of_member class.ElectionReport name) required from (kind_of_class is_report_kind class.ElectionReport name other refl refl refl refl) inside_envelope (family name from found)
+      (listed name from found) within)
+      (word_stays name from inside_envelope)))
+    where
+      family : (name : List ℕ) (from : Data) → get_member name s.ms ≡ Some from → (f : Family) → kind_of_member class.ElectionReport name ≡ kind.Keyed f → IsPart (entries_of from) (map (λ o. o.value) (objects f t))
+      family name from stands f is =
+          let named : name ≡ family_name f = keyed_name class.ElectionReport name f is in
+          report_part t s f from (ap (kind_of_member class.ElectionReport) (sym named) ∙ is) (ap (λ n. get_member n s.ms) (sym named) ∙ stands)
+
+      listed : (name : List ℕ) (from : Data) → get_member name s.ms ≡ Some from → kind_of_member class.ElectionReport name ≡ kind.Elections → from ≡ array s.es
+      listed name from stands is =
+          let x : Some from ≡ Some (array s.es) = sym stands ∙ ap (λ n. get_member n s.ms) (elections_name class.ElectionReport name is) ∙ s.listed in
+          let same : from ≡ array s.es = cc in same
+
+  -- the canonical tree says what the report says
+  pub normal_tree_says : SaysTheSame t (normal_tree π t)
+  normal_tree_says = record { there = new_text π t; back = old_text π t; same = report_said }

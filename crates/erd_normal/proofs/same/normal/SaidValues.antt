@@ -1,0 +1,220 @@
+-- What is built of the value of a member without objects says what the value says, and where nothing is built of it, it is an empty array.
+use Rattle.std.proofs.Common.{◌≡◌, ℕ, List, [], ◌∷◌, map, Bool, true, false, ◌&&◌, if◌then◌else◌, Option, Some, None, Ordering, codes, refl, sym, ap, ◌∙◌, subst}
+use Rattle.std.proofs.lemmas.List.{map-id}
+use Rattle.std.specs.Option.{option_map_or}
+use Rattle.std.specs.Str.{bytes_eq}
+use Rattle.serde_json.specs.Data.{Data, string, array, object, Items, no_items, item, Members, put}
+use Rattle.serde_json.specs.Find.{get, get_member}
+use Rattle.erd_tables.specs.Table.{is_required, kind_of_member}
+use Rattle.erd_tables.specs.declared.class.Class.{Class}
+use Rattle.erd_tables.specs.declared.class.Class.TheVariants as class
+use Rattle.erd_tables.specs.declared.class.Family.{Family}
+use Rattle.erd_tables.specs.declared.class.Family.TheVariants as family
+use Rattle.erd_tables.specs.declared.class.Role.TheVariants as role
+use Rattle.erd_tables.specs.declared.fault.Reason.TheVariants as reason
+use Rattle.erd_tables.specs.declared.member.MemberKind.{MemberKind}
+use Rattle.erd_tables.specs.declared.member.MemberKind.TheVariants as kind
+use Rattle.erd_check.specs.Faults.{is_empty_array}
+use Rattle.erd_check.specs.Trees.{IsTree}
+use Rattle.erd_check.specs.Values.{entries_at, entries_of, list_of_items, text_of}
+use Rattle.erd_check.specs.Wants.{asked, entry_want, is_report_class, is_table_set, member_want, want_of_kind, want_of_name}
+use Rattle.erd_check.specs.declared.want.Scope.{Scope}
+use Rattle.erd_check.specs.declared.want.Scope.TheVariants as scope
+use Rattle.erd_check.specs.declared.want.Want.{Want}
+use Rattle.erd_check.specs.declared.want.Want.TheVariants.{Carried, Member, Object, Reference, Status}
+use Rattle.erd_check.proofs.Entries.{array_from}
+use Rattle.erd_check.proofs.Exact.{both_true, text_exact}
+use Rattle.erd_check.proofs.Rising.{all-Has}
+use Rattle.erd_check.proofs.Shapes.{Within, faultless, not_false, wanted_within, within-tree}
+use Rattle.erd_check.proofs.TableKinds.{want_unless_status}
+use Rattle.erd_meaning.specs.Accepted.{IsAccepted}
+use Rattle.erd_meaning.specs.Keys.{Preference}
+use Rattle.erd_meaning.specs.Objects.{IsBounded}
+use Rattle.erd_meaning.specs.SelectionNames.{compact_cmp, rising_list, with_rising_text}
+use Rattle.erd_meaning.proofs.accepted.Phases.{no_shape_fault}
+use Rattle.erd_normal.specs.code.NormalTree.{array_of, normal_id, normal_reference, normal_selection_reference, normal_value, reference_cmp, unless_no_entry}
+use Rattle.erd_normal.proofs.built.AskedMembers.{entries_asked, label_texts, status_kind}
+use Rattle.erd_normal.proofs.built.BuiltFrom.{Builder}
+use Rattle.erd_normal.proofs.built.NormalEntries.{no_entry}
+use Rattle.erd_normal.proofs.built.NormalGets.{get_label-other, get_label-text}
+use Rattle.erd_normal.proofs.built.NormalTrees.{with_rising_text-tree}
+use Rattle.erd_normal.proofs.canonical.NormalNames.{Refers, reference_refers, references_refer}
+use Rattle.erd_normal.proofs.rearranged.PlainValues.{is_plain, plain_of_kind}
+use Rattle.erd_normal.proofs.throughout.ThroughoutMembers.{BuiltLabel, built_label, is_prefixed}
+use Rattle.erd_normal.specs.SaysTheSame.{Sides, MayBeAbsent, Same, a_text, an_id, an_object, an_empty_array, is_array_kind, SameMembers}
+use Rattle.erd_normal.proofs.same.Built.{list_built, set_built}
+use Rattle.erd_normal.proofs.same.Labels.{asked_beside, in_label, plain_beside}
+use Rattle.erd_normal.proofs.same.LabelsBack.{plain_self}
+use Rattle.erd_normal.proofs.same.Lookups.{Aligned, MayLack, both_there, not_both, lacks_none}
+use Rattle.erd_normal.proofs.same.Merged.{merged}
+use Rattle.erd_normal.proofs.same.normal.NewIds.{sides}
+use Rattle.erd_normal.proofs.same.normal.NewReferences.{pair_of, renamed_reference, renamed_selection}
+
+-- ---- what is built of a value
+
+-- what may be absent
+pub lacks_this : (t : Data) (s : Scope) (name : List ℕ) (d : Data) → MayBeAbsent t s name d → MayLack t s name (Some d)
+lacks_this t s name d h = record { each = λ e is. let same : d ≡ e = cc in subst (MayBeAbsent t s name) same h }
+
+-- a value says the same, or there is none and the value before is an empty array
+pub data Said (m : Sides) (w : Want) (d : Data) : Option Data → Type 0 where
+  kept : {v : Data} → Same m (Some w) d v → Said m w d (Some v)
+  dropped : (k : MemberKind) (required : Bool) → w ≡ Member k required → is_array_kind k ≡ true → d ≡ array no_items → Said m w d None
+
+-- under a name of which this is asked
+pub aligned_said : (m : Sides) (s : Scope) (name : List ℕ) (w : Want) (d : Data) (o : Option Data) → want_of_name s name ≡ Some w → Said m w d o → Aligned m s name (Some d) o
+aligned_said m s name w d (Some v) asks (kept h) = both_there (subst (λ x. Same m x d v) (sym asks) h)
+aligned_said m s name w d None asks (dropped k required is in_array empty) =
+    not_both (lacks_this m.left s name d (an_empty_array k required (asks ∙ ap Some is) in_array empty)) (lacks_none m.right s name)
+
+empty_is : (d : Data) → is_empty_array d ≡ true → d ≡ array no_items
+empty_is (array no_items) h = refl
+empty_is (array (item d ds)) h = let none : d ∷ list_of_items ds ≡ [] = no_entry (array (item d ds)) h in cc
+empty_is d h = cc
+
+-- nothing is built of an empty array
+pub said_unless : (m : Sides) (k : MemberKind) (required : Bool) (d v : Data) → is_array_kind k ≡ true → Same m (Some (Member k required)) d v → Said m (Member k required) d (unless_no_entry d v)
+said_unless m k required d v in_array h = at (is_empty_array d) refl
+  where
+    at : (b : Bool) → is_empty_array d ≡ b → Said m (Member k required) d (if b then None else Some v)
+    at true is = dropped k required refl in_array (empty_is d is)
+    at false is = kept h
+
+pub plain_one : (m : Sides) (w : Want) (d : Data) → is_plain w ≡ true → Same m (Some w) d d
+plain_one m w d plain = plain_self m (Some w) d (λ v e. let same : w ≡ v = cc in ap is_plain (sym same) ∙ plain)
+
+-- a member of the class, if texts stay
+pub said_member : (m : Sides) (t : Data) (value_of : Builder) (c : Class) (name : List ℕ) (d : Data) → Within t (asked (member_want c name) d)
+    → ((required : Bool) → Within t (asked (want_of_kind (kind_of_member c name) required) d) → Said m (want_of_kind (kind_of_member c name) required) d (value_of name (kind_of_member c name) d))
+    → (value_of name kind.Word d ≡ Some d) → Said m (member_want c name) d (value_of name (kind_of_member c name) d)
+said_member m t value_of c name d w built word = at (is_report_class c && bytes_eq name (codes "Status")) refl
+  where
+    at : (b : Bool) → (is_report_class c && bytes_eq name (codes "Status")) ≡ b → Said m (member_want c name) d (value_of name (kind_of_member c name) d)
+    at true is =
+        let both = both_true (is_report_class c) (bytes_eq name (codes "Status")) is in
+        let a_word : kind_of_member c name ≡ kind.Word = ap (kind_of_member c) (text_exact name (codes "Status") both.1) ∙ status_kind c both.0 in
+        let want : member_want c name ≡ Status = rw is refl in
+        subst (λ x. Said m x d (value_of name (kind_of_member c name) d)) (sym want)
+        (subst (Said m Status d) (sym (ap (λ k. value_of name k d) a_word ∙ word)) (kept (plain_one m Status d refl)))
+    at false is =
+        let want : member_want c name ≡ want_of_kind (kind_of_member c name) (is_required c name) = want_unless_status c name is in
+        subst (λ x. Said m x d (value_of name (kind_of_member c name) d)) (sym want) (built (is_required c name) (subst (λ x. Within t (asked x d)) want w))
+
+-- a set whose entries are put in order and stay
+set_kept : (m : Sides) (w : Want) (cmp : Data → Data → Ordering) (ds : Items) → is_table_set w ≡ true → ((d : Data) → Same m (entry_want w) d d) → Same m (Some w) (array ds) (array_of (rising_list cmp (list_of_items ds)))
+set_kept m w cmp ds is each =
+    subst (λ xs. Same m (Some w) (array ds) (array_of xs)) (map-id (rising_list cmp (list_of_items ds))) (set_built m w (λ x. x) cmp ds is (λ x h. each x))
+
+-- ---- labels
+
+module _ (m : Sides) (t : Data) where
+  label_other : (name : List ℕ) (o : Option Data) → bytes_eq name (codes "Text") ≡ false → Aligned m in_label name o o
+  label_other name None other = not_both (lacks_none m.left in_label name) (lacks_none m.right in_label name)
+  label_other name (Some d) other =
+      both_there (plain_self m (want_of_name in_label name) d
+      (λ v asks. asked_beside is_plain name refl (λ e. plain_of_kind (kind_of_member class.InternationalizedText name) (is_required class.InternationalizedText name) (plain_beside name e other)) v asks))
+
+  label_text_kept : (texts : Items) (o p : Option Data) → o ≡ Some (array texts) → p ≡ Some (array_of (rising_list compact_cmp (list_of_items texts))) → Aligned m in_label (codes "Text") o p
+  label_text_kept texts o p is its =
+      subst (λ x. Aligned m in_label (codes "Text") x p) (sym is) (subst (Aligned m in_label (codes "Text") (Some (array texts))) (sym its)
+      (both_there (set_kept m (Member kind.Languages true) compact_cmp texts refl (λ d. plain_one m (Object role.Language) d refl))))
+
+  label_said : (ms : Members) (ns : Members) → (texts : Items) → get_member (codes "Text") ms ≡ Some (array texts) → get_member (codes "Text") ns ≡ Some (array_of (rising_list compact_cmp (list_of_items texts)))
+      → ((name : List ℕ) → bytes_eq name (codes "Text") ≡ false → get_member name ns ≡ get_member name ms) → IsTree (object ms) → IsTree (object ns) → SameMembers m in_label ms ns
+  label_said ms ns texts stands built others tree tree' = merged m in_label ms ns tree tree' (λ name. at name (bytes_eq name (codes "Text")) refl)
+    where
+      at : (name : List ℕ) (b : Bool) → bytes_eq name (codes "Text") ≡ b → Aligned m in_label name (get_member name ms) (get_member name ns)
+      at name true is = subst (λ n. Aligned m in_label n (get_member n ms) (get_member n ns)) (sym (text_exact name (codes "Text") is)) (label_text_kept texts (get_member (codes "Text") ms) (get_member (codes "Text") ns) stands built)
+      at name false is = subst (Aligned m in_label name (get_member name ms)) (sym (others name is)) (label_other name (get_member name ms) is)
+
+-- the members of a label with its translations in rising order
+abbrev rising_members : Members → Members
+rising_members ms = put (codes "Text") (array_of (rising_list compact_cmp (entries_at (codes "Text") (object ms)))) ms
+
+-- ---- by kind
+
+-- a member that is no `@id`, holds no objects, and refers to none by itself that has no prefix
+abbrev pub is_simple_kind : MemberKind → Bool
+is_simple_kind kind.ClassText = false
+is_simple_kind kind.Identity = false
+is_simple_kind (kind.One f) = is_prefixed f
+is_simple_kind (kind.Many f) = is_prefixed f
+is_simple_kind (kind.Keyed f) = false
+is_simple_kind kind.Elections = false
+is_simple_kind kind.Content = false
+is_simple_kind k = true
+
+module _ (π : Preference) (t : Data) (accepted : IsAccepted π t) (tree : IsTree t) (bounded : IsBounded t) where
+  abbrev m : Sides
+  m = sides π t
+
+  label : (required : Bool) (d : Data) → Within t (asked (Member kind.Label required) d) → Same m (Some (Member kind.Label required)) d (with_rising_text d)
+  label required (object ms) w =
+      let clean = no_shape_fault π t accepted in
+      let texts = label_texts t clean required ms w in
+      let l : BuiltLabel t ms = built_label t clean required ms w in
+      let whole : IsTree (object ms) = within-tree t (asked (Member kind.Label required) (object ms)) tree w in
+      let built : get (codes "Text") (with_rising_text (object ms)) ≡ Some (array_of (rising_list compact_cmp (list_of_items texts.0))) =
+      get_label-text (object ms) refl ∙ ap (λ o. Some (array_of (rising_list compact_cmp (option_map_or entries_of o [])))) texts.1 in
+      an_object (subst (λ x. SameMembers m (scope.Members role.Label x) ms (rising_members ms)) (sym l.kept)
+      (label_said m t ms (rising_members ms) texts.0 texts.1 built (λ name other. get_label-other name (object ms) other) whole (with_rising_text-tree (object ms) whole)))
+  label required (string s) w = a_text refl
+  label required d w = let x : false ≡ true = wanted_within t (no_shape_fault π t accepted) (asked (Member kind.Label required) d) w in cc
+
+  reference : (f : Family) → is_prefixed f ≡ true → (d : Data) → Refers t f d → Same m (Some (Reference f)) d (normal_reference π t f d)
+  reference f named d r =
+      subst (λ x. Same m (Some (Reference f)) x (normal_reference π t f d)) (sym r.1)
+      (an_id refl (pair_of π t accepted tree bounded r.0 (normal_id π t f (text_of d)) (renamed_reference π t accepted tree bounded f named d r)))
+
+  selection_reference : (d : Data) → Refers t family.Selection d → Same m (Some (Reference family.Selection)) d (normal_selection_reference π t d)
+  selection_reference d r =
+      subst (λ x. Same m (Some (Reference family.Selection)) x (normal_selection_reference π t d)) (sym r.1)
+      (an_id refl (pair_of π t accepted tree bounded r.0 (text_of (normal_selection_reference π t d)) (renamed_selection π t accepted tree bounded d r)))
+
+  -- the value is an array
+  pub with_array : (w : Want) (d : Data) (f : Data → Data) → (d' : (ds : Items) × (d ≡ array ds)) → Within t (asked w d) → ((ds : Items) → Within t (asked w (array ds)) → Same m (Some w) (array ds) (f (array ds))) → Same m (Some w) d (f d)
+  with_array w d f ds inside each = subst (λ x. Same m (Some w) x (f x)) (sym ds.1) (each ds.0 (subst (λ x. Within t (asked w x)) ds.1 inside))
+
+  references : (f : Family) → is_prefixed f ≡ true → (required : Bool) (d : Data) → Within t (asked (Member (kind.Many f) required) d)
+      → Same m (Some (Member (kind.Many f) required)) d (array_of (map (normal_reference π t f) (rising_list (reference_cmp π t f) (entries_of d))))
+  references f named required d w =
+      with_array (Member (kind.Many f) required) d (λ x. array_of (map (normal_reference π t f) (rising_list (reference_cmp π t f) (entries_of x))))
+      (array_from d (wanted_within t (no_shape_fault π t accepted) (asked (Member (kind.Many f) required) d) w)) w
+      (λ ds inside. set_built m (Member (kind.Many f) required) (normal_reference π t f) (reference_cmp π t f) ds refl
+      (λ x h. reference f named x (all-Has (Refers t f) (list_of_items ds) x (references_refer π t accepted f required ds inside) h)))
+
+  identifiers : (required : Bool) (d : Data) → Within t (asked (Member kind.Identifiers required) d) → Same m (Some (Member kind.Identifiers required)) d (array_of (rising_list compact_cmp (entries_of d)))
+  identifiers required d w =
+      with_array (Member kind.Identifiers required) d (λ x. array_of (rising_list compact_cmp (entries_of x)))
+      (array_from d (wanted_within t (no_shape_fault π t accepted) (asked (Member kind.Identifiers required) d) w)) w
+      (λ ds inside. set_kept m (Member kind.Identifiers required) compact_cmp ds refl (λ x. plain_one m (Object role.Identifier) x refl))
+
+  languages : (required : Bool) (d : Data) → Within t (asked (Member kind.Languages required) d) → Same m (Some (Member kind.Languages required)) d (array_of (rising_list compact_cmp (entries_of d)))
+  languages required d w =
+      with_array (Member kind.Languages required) d (λ x. array_of (rising_list compact_cmp (entries_of x)))
+      (array_from d (wanted_within t (no_shape_fault π t accepted) (asked (Member kind.Languages required) d) w)) w
+      (λ ds inside. set_kept m (Member kind.Languages required) compact_cmp ds refl (λ x. plain_one m (Object role.Language) x refl))
+
+  ordered : (required : Bool) (d : Data) → Within t (asked (Member kind.Ordered required) d) → Same m (Some (Member kind.Ordered required)) d (array_of (map (normal_selection_reference π t) (entries_of d)))
+  ordered required d w =
+      with_array (Member kind.Ordered required) d (λ x. array_of (map (normal_selection_reference π t) (entries_of x)))
+      (array_from d (wanted_within t (no_shape_fault π t accepted) (asked (Member kind.Ordered required) d) w)) w
+      (λ ds inside. list_built m (Member kind.Ordered required) (normal_selection_reference π t) ds refl
+      (λ x h. selection_reference x (reference_refers π t accepted family.Selection x
+      (all-Has (λ e. Within t (asked (Reference family.Selection) e)) (list_of_items ds) x (entries_asked t (Member kind.Ordered required) (Reference family.Selection) ds refl refl inside) h))))
+
+  pub said_value : (k : MemberKind) (required : Bool) (d : Data) → is_simple_kind k ≡ true → Within t (asked (want_of_kind k required) d) → Said m (want_of_kind k required) d (normal_value π t k d)
+  said_value kind.Label required d simple w = kept (label required d w)
+  said_value (kind.One f) required d simple w = kept (reference f simple d (reference_refers π t accepted f d w))
+  said_value (kind.Many f) required d simple w = said_unless m (kind.Many f) required d _ refl (references f simple required d w)
+  said_value kind.Identifiers required d simple w = said_unless m kind.Identifiers required d _ refl (identifiers required d w)
+  said_value kind.Languages required d simple w = said_unless m kind.Languages required d _ refl (languages required d w)
+  said_value kind.Ordered required d simple w = said_unless m kind.Ordered required d _ refl (ordered required d w)
+  said_value kind.Identity required d simple w = cc
+  said_value kind.Outside required d simple w = dropped kind.Outside required refl refl (empty_is d (not_false (is_empty_array d) (faultless t (no_shape_fault π t accepted) (asked (Member kind.Outside required) d) reason.OutsideProfile w)))
+  said_value (kind.Keyed f) required d simple w = cc
+  said_value kind.Elections required d simple w = cc
+  said_value kind.Content required d simple w = cc
+  said_value kind.ClassText required d simple w = cc
+  said_value kind.Carried required d simple w = kept (plain_one m Carried d refl)
+  said_value k required d simple w = kept (plain_one m (Member k required) d refl)

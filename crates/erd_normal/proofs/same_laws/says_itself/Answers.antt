@@ -1,0 +1,5 @@
+use Rattle.erd_normal.proofs.same.Basics.{says_itself}
+use Rattle.erd_normal.proofs.same_laws.says_itself.Goals as goal
+
+pub returns : goal.returns
+returns c = record { law = says_itself }

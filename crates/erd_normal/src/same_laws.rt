@@ -1,0 +1,44 @@
+ghost use Rattle.erd_normal.specs.SameLaws.{ExchangedSaysTheSame, RearrangedSaysTheSame, ReferencesNameTheSame, RenamedSaysTheSame, SameIsAccepted, SaysBack, SaysInTurn, SaysItself};
+
+/// The law that each report says what it says. The function does nothing.
+pub fn says_itself()
+    ensures law { SaysItself }
+{}
+
+/// The law that a report is said the same by each report that says the same. The function does nothing.
+pub fn says_back()
+    ensures law { SaysBack }
+{}
+
+/// The law that what says the same as a report that says the same says the same. The function does nothing.
+pub fn says_in_turn()
+    ensures law { SaysInTurn }
+{}
+
+/// The law that a report with two entries of a set exchanged says the same. The function does nothing.
+pub fn exchanged_says_the_same()
+    ensures law { ExchangedSaysTheSame }
+{}
+
+/// The law that an accepted report says the same after its `@id` texts are renamed consistently. The function does nothing.
+pub fn renamed_says_the_same()
+    ensures law { RenamedSaysTheSame }
+{}
+
+/// The law that each rearrangement of an accepted report says the same: any number of renamings and exchanges. The function
+/// does nothing.
+pub fn rearranged_says_the_same()
+    ensures law { RearrangedSaysTheSame }
+{}
+
+/// The law that, in two reports that say the same, references that stand for one another name objects with one key. The
+/// function does nothing.
+pub fn references_name_the_same()
+    ensures law { ReferencesNameTheSame }
+{}
+
+/// The law that a tree that says the same as an accepted report is accepted, if its envelope has no fault of shape and no two
+/// of its objects have one `@id`. The function does nothing.
+pub fn same_is_accepted()
+    ensures law { SameIsAccepted }
+{}
