@@ -4,7 +4,8 @@ use Rattle.serde_json.specs.Data.{Data}
 use Rattle.erd_meaning.specs.Keys.{Preference}
 use Rattle.erd_meaning.specs.Records.{meaning}
 use Rattle.erd_compare.specs.declared.difference.Difference.{Difference}
-use Rattle.erd_canon.specs.Bytes.{IsAcceptedReport, IsCanonicalBytes}
+use Rattle.erd_normal.specs.SaysTheSame.{SaysTheSame}
+use Rattle.erd_canon.specs.Bytes.{IsAcceptedReport, IsCanonicalBytes, IsTreeOf}
 use Rattle.erd_canon.specs.Headline.{IsOwnForm, KeepsForm, TellsMeanings}
 
 -- Two reports have equal canonical bytes if and only if they mean the same.
@@ -23,3 +24,7 @@ SameFormWhenRearranged = (π : Preference) (b c : List ℕ) → IsCanonicalBytes
 abbrev pub AgreesUnderEach : List ℕ → List ℕ → Option Difference → Type 0
 AgreesUnderEach left right found =
     (ρ : Preference) (t u : Data) → IsAcceptedReport ρ left t → IsAcceptedReport ρ right u → (found ≡ None) ↔ (meaning ρ t ≡ meaning ρ u)
+
+-- The answer is none if and only if the right report says the same as the left one.
+abbrev pub TellsWhatIsSaid : List ℕ → List ℕ → Option Difference → Type 0
+TellsWhatIsSaid left right found = (t u : Data) → IsTreeOf left t → IsTreeOf right u → (found ≡ None) ↔ SaysTheSame t u

@@ -35,6 +35,8 @@ pub fn canonical(alloc: Global, bytes: &[u8]) -> Result<Vec<u8>, Refusal>
 ///
 /// - They are an accepted report, and mean what the given report means.
 /// - Two reports have equal canonical bytes if and only if they mean the same.
+/// - They have equal canonical bytes if and only if they say the same: one is the other but for its `@id` texts, the order of
+///   the entries of its sets, members that may be absent, and its envelope.
 /// - Canonical bytes are their own canonical bytes, and have no others.
 /// - Renaming identifiers in the report or reordering its sets changes no byte.
 ///
@@ -54,6 +56,8 @@ pub fn canonical_with(alloc: Global, bytes: &[u8], prefer: Option<&str>) -> Resu
 {
     let tree = tree_of(alloc, bytes)?;
     let report = accepted(alloc, &tree, prefer)?;
+    // read for `headline`: the tree is one that a call is handed
+    let _tree = report.tree();
     let text = normal_text(alloc, &report)?;
     Ok(text)
 }

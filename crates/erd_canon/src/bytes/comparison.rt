@@ -3,7 +3,7 @@ ghost use Rattle.std.specs.Option.{option_copied};
 ghost use Rattle.serde_json.specs.View.{view};
 ghost use Rattle.erd_check.specs.Trees.{IsShallow};
 ghost use Rattle.erd_meaning.specs.Keys.{Preference};
-ghost use Rattle.erd_canon.specs.ByteLaws.{AgreesUnderEach};
+ghost use Rattle.erd_canon.specs.ByteLaws.{AgreesUnderEach, TellsWhatIsSaid};
 ghost use Rattle.erd_canon.specs.Bytes.{IsTreeOf};
 ghost use Rattle.erd_canon.specs.EngineTexts.{IsComparison};
 ghost use Rattle.erd_canon.specs.Refused.{IsSomeReport, RefusedSide};
@@ -14,8 +14,8 @@ use erd_compare::{Difference, first_difference};
 use serde_json::Value;
 use std::alloc::Global;
 
-/// Returns the first difference between the meanings of two reports, or `None` if and only if they mean the same. There is
-/// no preferred type of identifier. `compare_bytes_with` takes a preference.
+/// Returns the first difference between the meanings of two reports, or `None` if and only if they mean the same, and so if and
+/// only if they say the same. There is no preferred type of identifier. `compare_bytes_with` takes a preference.
 ///
 /// # Errors
 ///
@@ -29,6 +29,7 @@ use std::alloc::Global;
 /// ```
 pub fn compare_bytes(alloc: Global, left: &[u8], right: &[u8]) -> Result<Option<Difference>, Side>
     ensures ok { IfOk result (IsComparison None left.now right.now) }
+    ensures said { IfOk result (TellsWhatIsSaid left.now right.now) }
     ensures agree { IfOk result (AgreesUnderEach left.now right.now) }
     ensures refused { IfErr result (RefusedSide None left.now right.now) }
 {
@@ -36,7 +37,8 @@ pub fn compare_bytes(alloc: Global, left: &[u8], right: &[u8]) -> Result<Option<
 }
 
 /// Returns the first difference between the meanings of two reports under a preferred type of identifier, or under none.
-/// Returns `None` if and only if they mean the same.
+/// Returns `None` if and only if they mean the same. They do if and only if they say the same: one is the other but for its
+/// `@id` texts, the order of the entries of its sets, members that may be absent, and its envelope.
 ///
 /// The right report is checked only if the left report is accepted. Each is refused for the same reasons as by
 /// `canonical_with`. If both are accepted, they mean the same under this preference if and only if they mean the same under
@@ -60,6 +62,7 @@ pub fn compare_bytes_with(
     prefer: Option<&str>,
 ) -> Result<Option<Difference>, Side>
     ensures ok { IfOk result (IsComparison (option_copied prefer.entry) left.now right.now) }
+    ensures said { IfOk result (TellsWhatIsSaid left.now right.now) }
     ensures agree { IfOk result (AgreesUnderEach left.now right.now) }
     ensures refused { IfErr result (RefusedSide (option_copied prefer.entry) left.now right.now) }
 {
@@ -73,7 +76,7 @@ pub fn compare_bytes_with(
         Ok(report) => report,
         Err(error) => return Err(Side::Right(Refusal::from(error))),
     };
-    // read for `agree`: each tree is one that a call is handed
+    // read for `said` and `agree`: each tree is one that a call is handed
     let _left = left_report.tree();
     let _right = right_report.tree();
     match first_difference(alloc, &left_report, &right_report) {
