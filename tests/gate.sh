@@ -48,8 +48,8 @@ if left "$program"; then
     left "$tests" && programs+=('tests/refusals.sh')
     lane "${pages[@]}" "${programs[@]}"
     lane 'tests/edits.py --gate'
-    lane 'tests/library.sh' 'tests/portable.sh' 'tests/calling.sh' 'tests/javascript.sh' 'tests/python.sh' 'tests/page.sh' \
-        'tests/package.sh' 'tests/release.sh' 'tests/same.sh'
+    lane 'tests/library.sh' 'tests/portable.sh' 'tests/fuzz.sh' 'tests/calling.sh' 'tests/javascript.sh' 'tests/python.sh' \
+        'tests/page.sh' 'tests/package.sh' 'tests/release.sh' 'tests/same.sh'
 else
     lane "${pages[@]}"
 fi
