@@ -1,7 +1,7 @@
 # `make erd` proves and builds the program, `make demo` shows its first run, and `make try FILE=..` runs it on a file with no
 # proof; `make test` is the gate; `make edits` tries all wrong bodies, of which the gate tries some; `make agree` compares the
 # program with the reference program on N random reports and pairs, and `make fuzz` hands the C library inputs by chance; `make
-# bench` and `make bench-hostile` measure the program.
+# bench`, `make bench-instructions` and `make bench-hostile` measure the program.
 # `make install` and `make uninstall` put it on this machine and take it away; `make deb` and `make release` make files to hand
 # on; `make library` makes the C library, `make portable` the library for other machines, `make page` the page, and `make same`
 # builds again and compares. docs/INSTALL.md describes these.
@@ -32,7 +32,7 @@ needs = @for tool in $(1); do \
     command -v $$tool > /dev/null || { echo "make: $$tool is missing" >&2; exit 1; }; \
 done
 
-.PHONY: demo try test edits agree bench bench-hostile fuzz install uninstall deb tarball release library portable page javascript same
+.PHONY: demo try test edits agree bench bench-instructions bench-hostile round-trip fuzz install uninstall deb tarball release library portable page javascript same
 
 erd: $(SOURCES)
 	$(call needs,rt cc cmp)
@@ -59,14 +59,23 @@ agree: erd
 	$(call needs,python3)
 	@python3 tests/agree.py $(or $(N),2000) $(SEED)
 
-bench: erd
-	$(call needs,rt python3)
-	@cd crates/round_trip && rt run < stdin > ../../out/round_trip.log 2>&1
+bench: erd round-trip
+	$(call needs,python3)
 	@python3 tests/bench.py
 
-bench-hostile: erd
+bench-instructions: erd round-trip
+	$(call needs,python3 valgrind)
+	@python3 tests/instructions.py --original
+
+bench-hostile: erd round-trip
 	$(call needs,python3)
 	@python3 tests/hostile.py
+
+# The program beside which erd is measured.
+round-trip:
+	$(call needs,rt)
+	@mkdir -p out
+	@cd crates/round_trip && rt run < stdin > ../../out/round_trip.log 2>&1
 
 # MINUTES=.. is how long, in place of the one minute of the gate.
 fuzz: library

@@ -1,8 +1,8 @@
 """Measures the built program on realistic reports of four sizes, and prints the tables of docs/PERFORMANCE.md.
 
-Each report is the county example, in which each object stands many times, with names and keys of its own. Beside `erd` run
-a proved program that only reads the file by serde_json and writes it again, `jq -S -c .` where there is a jq, and Python's
-json. RUNS is how often each is run, in turn with the others; the median processor time counts.
+tests/ballots.py makes the reports. Beside `erd` run a proved program that only reads the file by serde_json and writes it again,
+the same in Rust with the original serde_json where Debian's package librust-serde-json-dev and cargo are there, `jq -S -c .` where
+there is a jq, and Python's json. RUNS is how often each is run, in turn with the others; the median processor time counts.
 """
 import math
 import os
@@ -11,38 +11,36 @@ import subprocess
 import sys
 import tempfile
 
-from measuring import measured
+from measuring import ROUND_TRIP, measured, original
 
-COPIES = [16, 64, 256, 960]
-ROUND_TRIP = "crates/round_trip/out/round_trip"
+STYLES = [100, 400, 1600, 6000]
 PYTHON_ROUND_TRIP = """import json, sys
 with open(sys.argv[1], encoding="utf-8") as file:
     report = json.load(file)
 sys.stdout.write(json.dumps(report, sort_keys=True, ensure_ascii=False, separators=(",", ":")))"""
 
 
-def report_of(copies, vendor, folder):
-    """The path of a larger report."""
-    path = os.path.join(folder, vendor + str(copies))
+def report_of(styles, vendor, folder):
+    """The path of a report with so many styles."""
+    path = os.path.join(folder, vendor)
     with open(path, "wb") as file:
-        subprocess.run([sys.executable, "tests/larger.py", str(copies), "examples/county." + vendor + ".json"], stdout=file, check=True)
+        subprocess.run([sys.executable, "tests/ballots.py", str(styles), vendor], stdout=file, check=True)
     return path
 
 
-def measure(copies, folder, runs):
-    """The size in MB, and for each program its time and memory."""
-    left, right = report_of(copies, "vendor-a", folder), report_of(copies, "vendor-b", folder)
+def measure(styles, folder, runs, reader):
+    """The size in bytes, and for each program its time and memory. The reader is the program of the original, or none."""
+    left, right = report_of(styles, "a", folder), report_of(styles, "b", folder)
     commands = {"read and write": ([ROUND_TRIP], left)}
+    if reader:
+        commands["the original"] = ([reader], left)
     for words in (["check", left], ["canon", left], ["compare", left, right]):
         commands["erd " + words[0]] = (["./erd"] + words, None)
     if shutil.which("jq"):
         commands["jq -S -c ."] = (["jq", "-S", "-c", ".", left], None)
     commands["Python's json"] = ([sys.executable, "-c", PYTHON_ROUND_TRIP, left], None)
     found = measured(commands, runs)
-    size = os.path.getsize(left)
-    os.remove(left)
-    os.remove(right)
-    return size, found
+    return os.path.getsize(left), found
 
 
 def table(title, sizes, rows, number):
@@ -58,8 +56,9 @@ def main():
     runs = int(os.environ.get("RUNS", "5"))
     sizes, rows = [], []
     with tempfile.TemporaryDirectory() as folder:
-        for copies in COPIES:
-            size, found = measure(copies, folder, runs)
+        reader = original(folder)
+        for styles in STYLES:
+            size, found = measure(styles, folder, runs, reader)
             sizes.append(size)
             rows.append(found)
     unit = "read and write"

@@ -44,6 +44,7 @@ if left "$program"; then
         'conformance/run ./erd'
         'tests/limits.sh'
         'tests/install.sh'
+        'python3 tests/instructions.py'
     )
     left "$tests" && programs+=('tests/refusals.sh')
     lane "${pages[@]}" "${programs[@]}"

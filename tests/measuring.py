@@ -1,7 +1,15 @@
-"""What the benchmarks share: processor time and peak memory of one run of a program, and ratios of them."""
+"""What the benchmarks share: processor time, peak memory and instructions of one run of a program, and the programs beside `erd`."""
+import glob
 import os
+import re
+import shutil
 import statistics
+import subprocess
 import sys
+import tempfile
+
+# Reads a value by serde_json and writes it again, without freeing it: proved, over the kit's serde_json, which `erd` has too.
+ROUND_TRIP = "crates/round_trip/out/round_trip"
 
 
 def run(command, stdin=None):
@@ -32,3 +40,49 @@ def measured(commands, runs, statuses=(0,)):
                 sys.exit("bench: " + " ".join(command) + ": status " + str(status))
             found[name].append((time, memory))
     return {name: tuple(statistics.median(values) for values in zip(*each)) for name, each in found.items()}
+
+
+def instructions(command, stdin=None, statuses=(0,)):
+    """The instructions of one run, as callgrind of valgrind counts them. Other work on the machine does not change them."""
+    with tempfile.NamedTemporaryFile() as log, open(stdin or os.devnull, "rb") as given:
+        counter = ["valgrind", "--tool=callgrind", "--callgrind-out-file=/dev/null", "--log-file=" + log.name]
+        ran = subprocess.run(counter + command, stdin=given, stdout=subprocess.DEVNULL, stderr=subprocess.DEVNULL, check=False)
+        counted = re.search(r"Collected : (\d+)", log.read().decode())
+    if counted is None or ran.returncode not in statuses:
+        sys.exit("bench: " + " ".join(command) + " under valgrind: status " + str(ran.returncode))
+    return int(counted.group(1))
+
+
+# ---- the original
+
+CRATES = "/usr/share/cargo/registry"
+MANIFEST = '[package]\nname = "original"\nversion = "1.0.0"\nedition = "2021"\n[dependencies]\nserde_json = "1"\n'
+PROGRAM = """use std::io::{Read, Write};
+fn main() {
+    let mut bytes = Vec::new();
+    std::io::stdin().read_to_end(&mut bytes).unwrap();
+    let tree: serde_json::Value = serde_json::from_slice(&bytes).unwrap();
+    let text = serde_json::to_vec(&tree).unwrap();
+    std::mem::forget(tree);
+    std::io::stdout().write_all(&text).unwrap();
+}
+"""
+
+
+def original(folder):
+    """The path of a program in Rust that reads and writes by the original serde_json of Debian's package, or none where that or cargo
+    is missing."""
+    if not shutil.which("cargo") or not glob.glob(CRATES + "/serde_json-*"):
+        return None
+    home = os.path.join(folder, "original")
+    os.makedirs(os.path.join(home, "src"))
+    os.makedirs(os.path.join(home, ".cargo"))
+    for name, text in (("Cargo.toml", MANIFEST), ("src/main.rs", PROGRAM),
+                       (".cargo/config.toml", '[source.crates-io]\nreplace-with = "debian"\n[source.debian]\ndirectory = "%s"\n' % CRATES)):
+        with open(os.path.join(home, name), "w", encoding="utf-8") as file:
+            file.write(text)
+    built = subprocess.run(["cargo", "build", "--release", "--offline", "--quiet"], cwd=home, capture_output=True, text=True, check=False)
+    if built.returncode != 0:
+        print("without the original serde_json: " + built.stderr.strip()[-300:], file=sys.stderr)
+        return None
+    return os.path.join(home, "target", "release", "original")
