@@ -1,264 +1,24 @@
-"""Measures the built program on reports that are meant to be slow, each at two sizes four times apart.
+"""Measures the built program on reports that are meant to be slow (tests/shapes.py), each at two sizes four times apart.
 
-Prints for each shape and each command the processor time at the larger size, and the exponent of growth. SIZE is the number
-of entries at the smaller size, or a part of it where an entry is large: at the larger size there are a thousand elections.
-RUNS is how often each command runs; the median processor time counts.
-Words are the names of the shapes to try.
+Prints for each shape and each command the processor time at the larger size, and the exponent of growth; then, where there is a
+valgrind, the instructions in place of the time, at two sizes that are a fifth of those: how many times those of a read and write of
+the left report they are, and their exponent. SIZE is the number of entries at the smaller size, or a part of it where an entry is
+large: at the larger size there are a thousand elections. RUNS is how often each command runs; the median processor time counts.
+Words are the names of the shapes to try, and `times` or `instructions` for one of the two tables.
 """
 import json
 import math
 import os
+import shutil
 import sys
 import tempfile
 
-from measuring import measured
-from reports import (CLASS, candidate, contest, election, identifier, label, named, ordered_contest, report, selection, style,
-                     translation, unit)
-
-
-def report_of(units, **more):
-    """A report whose election is held in the first of these units."""
-    return report(units, "u0", **more)
-
-
-def contest_of(selections, class_name="CandidateContest"):
-    return contest("c", "C", "u0", selections, class_name)
-
-
-def style_of(number, content):
-    return style("S%d" % number, ["u0"], OrderedContent=content)
-
-
-def candidates(count, key="K%07d"):
-    return [candidate("k%d" % n, key % n) for n in range(count)]
-
-
-ONE = [unit("u0", "U0")]
-
-
-def units_rising(n):
-    return report_of([unit("u%d" % i, "U%07d" % i) for i in range(n)])
-
-
-def units_falling(n):
-    return report_of([unit("u%d" % i, "U%07d" % (n - i)) for i in range(n)])
-
-
-def units_alike(n):
-    return report_of([unit("u%d" % i, "U" * 200 + "%07d" % (i * 7919 % n)) for i in range(n)])
-
-
-def candidate_selections(n):
-    chosen = [selection("s%d" % i, "CandidateSelection", CandidateIds=["k%d" % i]) for i in range(n)]
-    return report_of(ONE, Candidate=candidates(n), Contest=[contest_of(chosen)])
-
-
-def write_ins(n):
-    chosen = [selection("s%d" % i, "CandidateSelection", IsWriteIn=True, SequenceOrder=i) for i in range(n)]
-    return report_of(ONE, Contest=[contest_of(chosen)])
-
-
-def measure_texts(n):
-    chosen = [selection("s%d" % i, "BallotMeasureSelection", Selection=label([translation("Choice %d" % (n - i))])) for i in range(n)]
-    return report_of(ONE, Contest=[contest_of(chosen, "BallotMeasureContest")])
-
-
-def ordered_selections(n):
-    chosen = [selection("s%d" % i, "CandidateSelection", IsWriteIn=True, SequenceOrder=i) for i in range(n)]
-    listed = ordered_contest("c", OrderedContestSelectionIds=["s%d" % i for i in range(n)])
-    return report_of(ONE, Contest=[contest_of(chosen)], BallotStyle=[style_of(0, [listed])])
-
-
-def references(n):
-    units = [unit("u%d" % i, "U%07d" % i) for i in range(n)]
-    units[0]["ComposingGpUnitIds"] = ["u%d" % (i * 7919 % (n - 1) + 1) for i in range(n - 1)]
-    return report_of(units)
-
-
-def identifiers(n):
-    units = [unit("u0", "U0")]
-    units[0]["ExternalIdentifier"] = [identifier("U%07d" % (i * 7919 % n)) for i in range(n)]
-    return report_of(units)
-
-
-def translations(n):
-    texts = [translation("Text %07d" % (i * 7919 % n), "l%d" % i) for i in range(n)]
-    return report_of(ONE, Contest=[contest_of([selection("s0", "BallotMeasureSelection", Selection=label(texts))], "BallotMeasureContest")])
-
-
-def same_triples(n):
-    units = [unit("u0", "U0")]
-    units[0]["ExternalIdentifier"] = [identifier("U0", Label="L%07d" % (i * 7919 % n)) for i in range(n)]
-    return report_of(units)
-
-
-def unresolved(n):
-    return report_of([unit("u0", "U0", ComposingGpUnitIds=["w%d" % i for i in range(n)])])
-
-
-def repeated(n):
-    return report_of([unit("u0", "U0", ComposingGpUnitIds=["u1"] * n), unit("u1", "U1")])
-
-
-def foreign(n):
-    units = [unit("u0", "U0", ComposingGpUnitIds=["p%d" % i for i in range(n)])]
-    made = report_of(units)
-    made["Party"] = [named("Party", "p%d" % i, "P%07d" % i, Name="Blue") for i in range(n)]
-    return made
-
-
-def twins(n):
-    return report_of([unit("u%d" % i, "U0") for i in range(n)])
-
-
-def same_ids(n):
-    return report_of([unit("u0", "U%07d" % i) for i in range(n)])
-
-
-def chain(n):
-    return report_of([unit("u%d" % i, "U%07d" % i, **({"ComposingGpUnitIds": ["u%d" % (i + 1)]} if i + 1 < n else {})) for i in range(n)])
-
-
-def styles(n):
-    chosen = [selection("s0", "CandidateSelection", IsWriteIn=True)]
-    listed = [ordered_contest("c")] * 3
-    return report_of(ONE, Contest=[contest_of(chosen)], BallotStyle=[style_of(i, listed) for i in range(n)])
-
-
-def deep_headers(n):
-    made = report_of(ONE)
-    made["Header"] = [named("Header", "h", "H", Name="State")]
-    content = []
-    for _ in range(50):
-        content = [{"@type": CLASS + "OrderedHeader", "HeaderId": "h", **({"OrderedContent": content} if content else {})}]
-    made["Election"][0]["BallotStyle"] = [style_of(i, content) for i in range(max(n // 50, 1))]
-    return made
-
-
-def with_long_keys(n, count, chosen):
-    """So many candidates, whose long keys differ only at the end. The selections have these candidates and orders."""
-    made = candidates(count)
-    for i, one in enumerate(made):
-        one["ExternalIdentifier"][0]["Value"] = "K" * (n * 10) + str(i)
-    selections = [selection("s%d" % i, "CandidateSelection", CandidateIds=ids, SequenceOrder=order) for i, (ids, order) in enumerate(chosen)]
-    return report_of(ONE, Candidate=made, Contest=[contest_of(selections)])
-
-
-def long_key(n):
-    return with_long_keys(n, 1, [(["k0"], i) for i in range(max(n // 10, 1))])
-
-
-def long_keys(n):
-    """Each selection names one of two candidates, in no order."""
-    count = max(n // 10, 1)
-    return with_long_keys(n, 2, [(["k%d" % (i * 7919 % 13 % 2)], i * 7919 % count) for i in range(count)])
-
-
-def long_tickets(n):
-    """Each selection names two candidates."""
-    return with_long_keys(n, 2, [(["k1", "k0"], i) for i in range(max(n // 10, 1))])
-
-
-def long_twins(n):
-    """Each selection has the same name."""
-    return with_long_keys(n, 1, [(["k0"], 1)] * max(n // 10, 1))
-
-
-def long_contents(n):
-    """The contents of a ballot list selections that name one candidate."""
-    made = long_key(n)
-    listed = ordered_contest("c", OrderedContestSelectionIds=["s%d" % i for i in range(max(n // 10, 1))])
-    made["Election"][0]["BallotStyle"] = [style_of(0, [listed])]
-    return made
-
-
-def long_labels(n):
-    """The contents of a ballot list one selection with a long label and a long identifier again and again."""
-    listed = ordered_contest("c", OrderedContestSelectionIds=["s0"] * n)
-    chosen = selection("s0", "BallotMeasureSelection", Selection=label([translation("L" * (10 * n))]), ExternalIdentifier=[identifier("I" * (10 * n))])
-    return report_of(ONE, Contest=[contest_of([chosen], "BallotMeasureContest")], BallotStyle=[style_of(0, [listed])])
-
-
-def empty_arrays(n):
-    return report_of([unit("u%d" % i, "U%07d" % i, ComposingGpUnitIds=[]) for i in range(n)])
-
-
-def election_of_many(i, count):
-    """An election with four candidates, two contests and two styles. Its second contest names candidates of another election,
-    and its styles have a contest of that one."""
-    other = (i * 7919 + 1) % count
-    return election(
-        "u0",
-        ExternalIdentifier=[identifier("E%07d" % i)],
-        Candidate=[candidate("k%d" % k, "K%07d" % (k * 7919 % (4 * count))) for k in range(4 * i, 4 * i + 4)],
-        Contest=[contest_of_two(2 * i, 4 * i), contest_of_two(2 * i + 1, 4 * other + 2)],
-        BallotStyle=[style_of(s, [ordered_contest("c%d" % c) for c in (s, 2 * other)]) for s in (2 * i, 2 * i + 1)])
-
-
-def contest_of_two(number, first):
-    """A contest between a candidate and the next one."""
-    chosen = [selection("s%d" % (2 * number + j), "CandidateSelection", CandidateIds=["k%d" % (first + j)]) for j in range(2)]
-    return contest("c%d" % number, "C%07d" % number, "u0", chosen)
-
-
-def elections(n):
-    """An election for each twenty of n."""
-    count = max(n // 20, 1)
-    return {**report_of(ONE), "Election": [election_of_many(i, count) for i in range(count)]}
-
-
-def twin_elections(n):
-    made = elections(n)
-    for one in made["Election"]:
-        one["ExternalIdentifier"] = [identifier("E")]
-    return made
-
-
-def elections_moved(n):
-    right = elections(n)
-    right["Election"].reverse()
-    return elections(n), right
-
-
-def moved(n):
-    right = units_rising(n)
-    right["GpUnit"].reverse()
-    return units_rising(n), right
-
-
-def nothing_common(n):
-    return report_of([unit("u%d" % i, "U%07d" % i) for i in range(n)]), report_of([unit("u%d" % i, "V%07d" % i) for i in range(n)])
-
-
-def last_differs(n):
-    right = units_rising(n)
-    right["GpUnit"][-1]["Type"] = "state"
-    return units_rising(n), right
-
-
-def every_second(n):
-    right = units_rising(n)
-    right["GpUnit"] = right["GpUnit"][::2]
-    return units_rising(n), right
-
-
-def long_references_moved(n):
-    right = references(n)
-    right["GpUnit"][0]["ComposingGpUnitIds"].reverse()
-    return references(n), right
-
-
-def selections_moved(n):
-    right = candidate_selections(n)
-    right["Election"][0]["Contest"][0]["ContestSelection"].reverse()
-    return candidate_selections(n), right
-
-
-SINGLE = [units_rising, units_falling, units_alike, candidate_selections, write_ins, measure_texts, ordered_selections, references,
-          identifiers, translations, same_triples, unresolved, repeated, foreign, twins, same_ids, chain, styles, deep_headers,
-          long_key, long_keys, long_tickets, long_twins, long_contents, long_labels,
-          empty_arrays, elections, twin_elections]
-PAIRS = [moved, nothing_common, last_differs, every_second, long_references_moved, selections_moved, elections_moved]
+import shapes
+from measuring import ROUND_TRIP, instructions, measured
+
+TABLES = {"times", "instructions"}
+# Some shapes are refused, and some pairs differ.
+STATUSES = (0, 1)
 
 
 def written(value, folder, name):
@@ -269,34 +29,61 @@ def written(value, folder, name):
 
 
 def runs_of(shape, n, folder):
-    """The commands to measure on a shape, by their names."""
-    if shape in PAIRS:
-        left, right = shape(n)
-        return {"compare": ["./erd", "compare", written(left, folder, "left"), written(right, folder, "right")]}
+    """The commands to measure on a shape, by their names, and the left report."""
+    if shape in shapes.PAIRS:
+        left, right = (written(side, folder, name) for side, name in zip(shape(n), ("left", "right")))
+        return {"compare": ["./erd", "compare", left, right]}, left
     path = written(shape(n), folder, "one")
-    return {"check": ["./erd", "check", path], "canon": ["./erd", "canon", path], "compare": ["./erd", "compare", path, path]}
+    return {"check": ["./erd", "check", path], "canon": ["./erd", "canon", path], "compare": ["./erd", "compare", path, path]}, path
 
 
-def medians(shape, n, folder, runs):
-    """The time and the memory of each command. Some shapes are refused, and some pairs differ."""
-    commands = {name: (command, None) for name, command in runs_of(shape, n, folder).items()}
-    return measured(commands, runs, (0, 1))
+def exponent(small, large, least):
+    """The power of the size with which a cost grew."""
+    return math.log(max(large, least) / max(small, least)) / math.log(4)
+
+
+def times(shape, n, folder, runs):
+    """The processor time of each command."""
+    commands, _ = runs_of(shape, n, folder)
+    return {name: time for name, (time, _) in measured({name: (words, None) for name, words in commands.items()}, runs, STATUSES).items()}
+
+
+def counts(shape, n, folder):
+    """The instructions of each command, and those of a read and write."""
+    commands, left = runs_of(shape, n, folder)
+    return {name: instructions(words, None, STATUSES) for name, words in commands.items()}, instructions([ROUND_TRIP], left)
+
+
+def print_times(chosen, size, runs, folder):
+    print("| Shape | Command | Seconds | Exponent |")
+    print("|---|---|---:|---:|")
+    for shape in chosen:
+        small, large = times(shape, size, folder, runs), times(shape, 4 * size, folder, runs)
+        for name in small:
+            print("| `%s` | `%s` | %.2f | %.2f |" % (shape.__name__, name, large[name], exponent(small[name], large[name], 0.001)), flush=True)
+    print()
+
+
+def print_counts(chosen, size, folder):
+    print("| Shape | Command | Instructions over a read and write | Exponent |")
+    print("|---|---|---:|---:|")
+    for shape in chosen:
+        (small, _), (large, base) = counts(shape, size, folder), counts(shape, 4 * size, folder)
+        for name in small:
+            print("| `%s` | `%s` | %.1f | %.2f |" % (shape.__name__, name, large[name] / base, exponent(small[name], large[name], 1)), flush=True)
 
 
 def main():
     size = int(os.environ.get("SIZE", "5000"))
     runs = int(os.environ.get("RUNS", "3"))
-    words = sys.argv[1:]
-    print("| Shape | Command | Seconds | Exponent |")
-    print("|---|---|---:|---:|")
+    tables = TABLES & set(sys.argv[1:]) or TABLES
+    words = set(sys.argv[1:]) - TABLES
+    chosen = [shape for shape in shapes.SINGLE + shapes.PAIRS if not words or shape.__name__ in words]
     with tempfile.TemporaryDirectory() as folder:
-        for shape in SINGLE + PAIRS:
-            if words and shape.__name__ not in words:
-                continue
-            small, large = medians(shape, size, folder, runs), medians(shape, 4 * size, folder, runs)
-            for name in small:
-                exponent = math.log(max(large[name][0], 0.001) / max(small[name][0], 0.001)) / math.log(4)
-                print("| %s | %s | %.2f | %.2f |" % (shape.__name__, name, large[name][0], exponent), flush=True)
+        if "times" in tables:
+            print_times(chosen, size, runs, folder)
+        if "instructions" in tables and shutil.which("valgrind"):
+            print_counts(chosen, max(size // 5, 1), folder)
 
 
 main()
