@@ -169,3 +169,27 @@ done
 why=''
 cmp -s "$work/preferred_a" "$work/preferred_b" || why='they differ'
 said 'two elections in that order: the same bytes for both vendors' "$why"
+
+# non_blocking READS|WRITES WORD ..: the program with one end of a pipe that does not block, as standard input or output. The pipe
+# stays empty, or nobody reads it before the program has ended. What it wrote into the pipe is in $work/out.
+non_blocking() {
+    python3 - "$erd" "$@" > "$work/out" 2> "$work/err" << 'END'
+import os, subprocess, sys
+reader, writer = os.pipe()
+for end in (reader, writer):
+    os.set_blocking(end, False)
+streams = {'stdin': reader} if sys.argv[2] == 'READS' else {'stdin': subprocess.DEVNULL, 'stdout': writer}
+status = subprocess.run([sys.argv[1], *sys.argv[3:]], **streams, check=False).returncode
+os.close(writer)
+while (some := os.read(reader, 1 << 20)):
+    os.write(1, some)
+sys.exit(status)
+END
+    status=$?
+}
+non_blocking READS
+expect_text 'a non-blocking standard input with nothing to read' 3 '' $'read failed\n'
+"$erd" canon examples/county-general.json > "$work/form" 2> "$work/err"
+non_blocking WRITES canon examples/county-general.json
+head -c 65536 "$work/form" > "$work/front"
+expect 'a non-blocking pipe as standard output, that is full' 3 "$work/front" $'write failed\n'
