@@ -87,6 +87,7 @@ said 'they reach the proved code' "$([ "${reached#cov: }" -gt 3000 ] 2> /dev/nul
 
 # A fuzzer that finds nothing may be one that looks at nothing.
 if [ -z "${MINUTES:-}" ]; then
+    : > "$made/planted.log"
     python3 tests/fuzz/planted.py tests/edits/erd/exchanges_the_sides.edit > "$made/planted.c"
     built planted "$made/planted.c" >> "$made/build.log" 2>&1 && tried planted 20 1 planted-findings "$made/seeds"
     status=$?
