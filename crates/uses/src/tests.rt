@@ -28,17 +28,30 @@ fn text<T: Drop, E: std::error::Error>(found: Result<T, E>) -> InlineText<64> {
 }
 
 #[test]
-fn bytes(rt: HostRuntime) -> Result<(), Fail> {
+fn same_bytes(rt: HostRuntime) -> Result<(), Fail> {
     let alloc = rt.alloc();
-    let (one, other) = (REPORT.as_bytes(), OTHER_SPELLING.as_bytes());
-    assert!(rt; is_same(alloc, one, other)?);
+    let one = REPORT.as_bytes();
+    assert!(rt; is_same(alloc, one, OTHER_SPELLING.as_bytes())?);
     assert!(rt; !is_same(alloc, one, OTHER_NAME.as_bytes())?);
-    assert_eq!(rt; fault_lines(alloc, one)?.as_str(), "");
+    Ok(())
+}
+
+#[test]
+fn lines_of_faults(rt: HostRuntime) -> Result<(), Fail> {
+    let alloc = rt.alloc();
+    assert_eq!(rt; fault_lines(alloc, REPORT.as_bytes())?.as_str(), "");
     assert_eq!(rt;
         fault_lines(alloc, BARE.as_bytes())?.as_str(),
         ": missing member Election\n: missing member Status\n"
     );
-    assert!(rt; difference_line(alloc, one, other)?.is_none());
+    Ok(())
+}
+
+#[test]
+fn lines_of_differences(rt: HostRuntime) -> Result<(), Fail> {
+    let alloc = rt.alloc();
+    let one = REPORT.as_bytes();
+    assert!(rt; difference_line(alloc, one, OTHER_SPELLING.as_bytes())?.is_none());
     let Some(line) = difference_line(alloc, one, OTHER_NAME.as_bytes())? else {
         return Err(Fail::from("no difference"));
     };
@@ -47,19 +60,26 @@ fn bytes(rt: HostRuntime) -> Result<(), Fail> {
 }
 
 #[test]
-fn trees(rt: HostRuntime) -> Result<(), Fail> {
+fn canonical_trees(rt: HostRuntime) -> Result<(), Fail> {
+    let alloc = rt.alloc();
+    let tree = Value::from_str(alloc, OTHER_SPELLING)?;
+    let (form, candidates) = canonical_tree(alloc, &tree)?;
+    assert_eq!(rt; form.to_string(alloc)?.as_str(), CANONICAL);
+    assert_eq!(rt; candidates, 0);
+    Ok(())
+}
+
+#[test]
+fn same_trees(rt: HostRuntime) -> Result<(), Fail> {
     let alloc = rt.alloc();
     let one = Value::from_str(alloc, REPORT)?;
     let other = Value::from_str(alloc, OTHER_SPELLING)?;
-    let (form, candidates) = canonical_tree(alloc, &other)?;
-    assert_eq!(rt; form.to_string(alloc)?.as_str(), CANONICAL);
-    assert_eq!(rt; candidates, 0);
     assert!(rt; is_same_tree(alloc, &one, &other)?);
     Ok(())
 }
 
 #[test]
-fn errors(rt: HostRuntime) -> Result<(), Fail> {
+fn errors(rt: HostRuntime) {
     let alloc = rt.alloc();
     let one = REPORT.as_bytes();
     let said = text(is_same(alloc, one, b"no JSON"));
@@ -68,6 +88,11 @@ fn errors(rt: HostRuntime) -> Result<(), Fail> {
     assert_eq!(rt; said.as_str(), "right: the report has faults: 2");
     let said = text(difference_line(alloc, b"", one));
     assert_eq!(rt; said.as_str(), "left: not JSON");
+}
+
+#[test]
+fn errors_of_trees(rt: HostRuntime) -> Result<(), Fail> {
+    let alloc = rt.alloc();
     let tree = Value::from_str(alloc, "[]")?;
     let said = text(canonical_tree(alloc, &tree));
     assert_eq!(rt; said.as_str(), "the report has faults: 1");

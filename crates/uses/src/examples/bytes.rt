@@ -4,18 +4,39 @@ use erd_canon::{
     Refusal, Side, canonical, canonical_with, check_bytes, check_bytes_with, compare_bytes,
     compare_bytes_with,
 };
-use erd_compare::Part;
+use erd_compare::{Difference, Part};
+use std::alloc::Global;
+use std::process::Abort;
 use std::test::Fail;
 
 #[test]
-fn bytes(rt: HostRuntime) -> Result<(), Fail> {
+fn canonical_forms(rt: HostRuntime) -> Result<(), Fail> {
     let alloc = rt.alloc();
     let (one, other) = (REPORT.as_bytes(), OTHER_SPELLING.as_bytes());
     assert!(rt; canonical(alloc, one)? == canonical(alloc, other)?);
+    Ok(())
+}
+
+#[test]
+fn canonical_form_under_a_preference(rt: HostRuntime) -> Result<(), Fail> {
+    let alloc = rt.alloc();
+    let one = REPORT.as_bytes();
     let form = canonical_with(alloc, one, Some("fips"))?;
     assert_eq!(rt; form.as_slice(), CANONICAL.as_bytes());
+    Ok(())
+}
+
+#[test]
+fn accepted(rt: HostRuntime) {
+    let alloc = rt.alloc();
+    let one = REPORT.as_bytes();
     assert!(rt; check_bytes(alloc, one).is_ok());
     assert!(rt; check_bytes_with(alloc, one, Some("fips")).is_ok());
+}
+
+#[test]
+fn refused(rt: HostRuntime) -> Result<(), Fail> {
+    let alloc = rt.alloc();
     let Err(Refusal::Faults(faults)) = check_bytes(alloc, BARE.as_bytes()) else {
         return Err(Fail::from("a report without an election"));
     };
@@ -24,17 +45,32 @@ fn bytes(rt: HostRuntime) -> Result<(), Fail> {
 }
 
 #[test]
-fn comparisons(rt: HostRuntime) -> Result<(), Fail> {
+fn same(rt: HostRuntime) -> Result<(), Fail> {
+    let (alloc, one) = (rt.alloc(), REPORT.as_bytes());
+    assert!(rt; compare_bytes(alloc, one, one)?.is_none());
+    Ok(())
+}
+
+#[test]
+fn different(rt: HostRuntime) -> Result<(), Fail> {
     let alloc = rt.alloc();
     let (one, other) = (REPORT.as_bytes(), OTHER_NAME.as_bytes());
-    assert!(rt; compare_bytes(alloc, one, one)?.is_none());
     let difference = compare_bytes(alloc, one, other)?.ok_or("no difference")?;
     assert_eq!(rt; difference.part, Part::Election);
+    line_of_difference(&rt, alloc, &difference)
+}
+
+fn line_of_difference(rt: &impl Abort, alloc: Global, difference: &Difference) -> Result<(), Fail> {
     assert_eq!(rt;
         difference.line(alloc)?.as_str(),
         "election: member \"Name\""
     );
+    Ok(())
+}
+
+#[test]
+fn half_compared(rt: HostRuntime) {
+    let (alloc, one) = (rt.alloc(), REPORT.as_bytes());
     let half = compare_bytes_with(alloc, one, "{".as_bytes(), Some("fips"));
     assert!(rt; matches!(half, Err(Side::Right(Refusal::NotJson))));
-    Ok(())
 }

@@ -4,17 +4,23 @@ use erd_canon::{
     Outcome, ReadFrom, Request, RunFault, Sink, Source, WriteTo, command_line, run_canon,
     run_canon_with, run_check, run_check_with, run_compare, run_compare_with, write_out,
 };
+use std::alloc::{AllocError, Global};
 use std::test::Fail;
 
 #[test]
-fn engines(rt: HostRuntime) -> Result<(), Fail> {
+fn check(rt: HostRuntime) -> Result<(), Fail> {
     let alloc = rt.alloc();
     let mut reader = ReadFrom::of(REPORT.as_bytes());
     let mut out = WriteTo::of(Vec::new(alloc));
     let outcome = run_check(alloc, &mut reader, &mut out)?;
     assert_eq!(rt; outcome, Outcome::Good);
     assert_eq!(rt; out.writer.as_slice(), "accepted\n".as_bytes());
+    Ok(())
+}
 
+#[test]
+fn canon(rt: HostRuntime) -> Result<(), Fail> {
+    let alloc = rt.alloc();
     let mut reader = ReadFrom::of(REPORT.as_bytes());
     let mut out = WriteTo::of(Vec::new(alloc));
     let mut err = WriteTo::of(Vec::new(alloc));
@@ -22,7 +28,12 @@ fn engines(rt: HostRuntime) -> Result<(), Fail> {
     assert_eq!(rt; outcome.status(), 0);
     assert_eq!(rt; out.writer.as_slice(), CANONICAL.as_bytes());
     assert!(rt; !reader.failed() && !out.failed());
+    Ok(())
+}
 
+#[test]
+fn compare(rt: HostRuntime) -> Result<(), Fail> {
+    let alloc = rt.alloc();
     let mut left = ReadFrom::of(REPORT.as_bytes());
     let mut right = ReadFrom::of(OTHER_NAME.as_bytes());
     let mut out = WriteTo::of(Vec::new(alloc));
@@ -36,16 +47,20 @@ fn engines(rt: HostRuntime) -> Result<(), Fail> {
 }
 
 #[test]
-fn engines_under_a_preference(rt: HostRuntime) -> Result<(), Fail> {
-    let alloc = rt.alloc();
-    let prefer = Some("local-level");
+fn check_under_a_preference(rt: HostRuntime) -> Result<(), Fail> {
+    let (alloc, prefer) = (rt.alloc(), Some("local-level"));
     let mut reader = ReadFrom::of(REPORT.as_bytes());
     let mut out = WriteTo::of(Vec::new(alloc));
     assert_eq!(rt;
         run_check_with(alloc, &mut reader, &mut out, prefer)?,
         Outcome::Good
     );
+    Ok(())
+}
 
+#[test]
+fn canon_under_a_preference(rt: HostRuntime) -> Result<(), Fail> {
+    let (alloc, prefer) = (rt.alloc(), Some("local-level"));
     let mut reader = ReadFrom::of(REPORT.as_bytes());
     let mut out = WriteTo::of(Vec::new(alloc));
     let mut err = WriteTo::of(Vec::new(alloc));
@@ -53,11 +68,14 @@ fn engines_under_a_preference(rt: HostRuntime) -> Result<(), Fail> {
         run_canon_with(alloc, &mut reader, &mut out, &mut err, prefer)?,
         Outcome::Good
     );
+    Ok(())
+}
 
-    let (mut left, mut right) = (
-        ReadFrom::of(REPORT.as_bytes()),
-        ReadFrom::of(REPORT.as_bytes()),
-    );
+#[test]
+fn compare_under_a_preference(rt: HostRuntime) -> Result<(), Fail> {
+    let (alloc, prefer) = (rt.alloc(), Some("local-level"));
+    let mut left = ReadFrom::of(REPORT.as_bytes());
+    let mut right = ReadFrom::of(REPORT.as_bytes());
     let mut out = WriteTo::of(Vec::new(alloc));
     assert_eq!(rt;
         run_compare_with(alloc, &mut left, &mut right, &mut out, prefer)?,
@@ -68,26 +86,39 @@ fn engines_under_a_preference(rt: HostRuntime) -> Result<(), Fail> {
 }
 
 #[test]
-fn devices(rt: HostRuntime) -> Result<(), Fail> {
+fn sources(rt: HostRuntime) {
     let mut source = ReadFrom::of("abc".as_bytes());
     let mut buffer = [0; 2];
     assert_eq!(rt; source.read(&mut buffer).ok(), Some(2));
+}
+
+#[test]
+fn sinks(rt: HostRuntime) {
     let mut sink = WriteTo::of(Vec::new(rt.alloc()));
     assert_eq!(rt; sink.write("abc".as_bytes()).ok(), Some(3));
     assert!(rt; write_out(&mut sink, "def".as_bytes()).is_ok());
     assert!(rt; sink.flush().is_ok());
+}
+
+#[test]
+fn faults_of_runs(rt: HostRuntime) {
     assert_eq!(rt; RunFault::Memory.status(), 4);
     assert_eq!(rt; RunFault::Memory.words(), "no memory");
-    Ok(())
+}
+
+// The words of a command line, the first of which is the name of the program.
+fn line_of(alloc: Global) -> Result<Vec<String>, AllocError> {
+    let mut words = Vec::new(alloc);
+    for word in ["erd", "check", "--prefer", "fips", "county.json"] {
+        words.push(String::from_str(alloc, word)?)?;
+    }
+    Ok(words)
 }
 
 #[test]
 fn lines(rt: HostRuntime) -> Result<(), Fail> {
     let alloc = rt.alloc();
-    let mut words = Vec::new(alloc);
-    for word in ["erd", "check", "--prefer", "fips", "county.json"] {
-        words.push(String::from_str(alloc, word)?)?;
-    }
+    let words = line_of(alloc)?;
     let Request::Check(file, prefer) = command_line(alloc, &words)? else {
         return Err(Fail::from("another request"));
     };

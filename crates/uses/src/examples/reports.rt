@@ -1,7 +1,8 @@
 //! Examples of `erd_meaning`, `erd_normal` and `erd_compare`.
+use crate::report_of;
 use erd_check::{same_json, shape};
 use erd_compare::first_difference;
-use erd_meaning::{Key, NumberedName, Report, key_of, resolve, resolve_with};
+use erd_meaning::{Key, NumberedName, Report, SelectionName, key_of, resolve, resolve_with};
 use erd_normal::{CompactText, SetOrder, in_order, normal_text, normal_tree};
 use erd_tables::{Family, Text};
 use serde_json::Value;
@@ -35,34 +36,66 @@ fn positions(rt: &impl Abort, tree: &Value, report: &Report) -> Result<(), Fail>
         )
     );
     assert!(rt; report.election_key(0).is_none());
+    Ok(())
+}
+
+// What the report has of the objects of a family.
+fn objects(rt: &impl Abort, report: &Report) {
     assert_eq!(rt; report.election_of(Family::Candidate, 0), Some(0));
     assert_eq!(rt; report.count(Family::Selection), 2);
     assert!(rt; report.object(Family::Candidate, 0).is_some());
     assert!(rt; report.object(Family::Candidate, 1).is_none());
-    Ok(())
+    assert_eq!(rt; report.target("k1"), Some((Family::Candidate, 0)));
+    assert_eq!(rt; report.first_selection(0), 0);
 }
 
-// What the report finds by keys, names and `@id` texts.
-fn look_ups(rt: &impl Abort, alloc: Global, report: &Report) -> Result<(), Fail> {
+// What the report finds by keys.
+fn keys(rt: &impl Abort, alloc: Global, report: &Report) -> Result<(), Fail> {
     let county = key(alloc, "fips", "20")?;
     assert_eq!(rt; report.key_at(Family::Unit, 0), Some(&county));
     assert_eq!(rt; report.find(Family::Unit, &county), Some(0));
-    assert_eq!(rt; report.target("k1"), Some((Family::Candidate, 0)));
+    Ok(())
+}
+
+fn rising_keys(rt: &impl Abort, alloc: Global, report: &Report) -> Result<(), Fail> {
+    assert_eq!(rt; report.rising_keys(alloc, Family::Unit)?.len(), 1);
+    Ok(())
+}
+
+// What the report finds by names.
+fn names(rt: &impl Abort, alloc: Global, report: &Report) -> Result<(), Fail> {
     let (contest, name) = report.selection_at(1).ok_or("no write-in line")?;
     assert_eq!(rt; contest, 0);
     assert_eq!(rt; report.find_selection(contest, name), Some(1));
+    copies(rt, alloc, name)
+}
+
+fn copies(rt: &impl Abort, alloc: Global, name: &SelectionName) -> Result<(), Fail> {
     assert!(rt; name.try_clone(alloc)? == *name);
     let numbered = NumberedName::lent(name, Vec::new(alloc));
     assert!(rt; numbered == NumberedName::lent(name, Vec::new(alloc)));
-    assert_eq!(rt; report.first_selection(0), 0);
+    Ok(())
+}
+
+// The names with the ranks of the keys in them.
+fn ranks(rt: &impl Abort, report: &Report) -> Result<(), Fail> {
     let (_, ranked) = report.ranked_name_at(0).ok_or("no selection")?;
     assert_eq!(rt; ranked.family(), Family::Candidate);
     assert_eq!(rt; ranked.ranks().first(), Some(&0));
     let (_, write_in) = report.ranked_name_at(1).ok_or("no write-in line")?;
+    let (_, name) = report.selection_at(1).ok_or("no write-in line")?;
     assert!(rt; write_in.name() == name);
     assert_eq!(rt; write_in.compare(ranked), Ordering::Less);
-    assert_eq!(rt; report.rising_keys(alloc, Family::Unit)?.len(), 1);
     Ok(())
+}
+
+fn look_ups(rt: &impl Abort, alloc: Global, tree: &Value, report: &Report) -> Result<(), Fail> {
+    positions(rt, tree, report)?;
+    objects(rt, report);
+    keys(rt, alloc, report)?;
+    rising_keys(rt, alloc, report)?;
+    names(rt, alloc, report)?;
+    ranks(rt, report)
 }
 
 #[test]
@@ -72,12 +105,44 @@ fn reports(rt: HostRuntime) -> Result<(), Fail> {
     let shaped = shape(alloc, &tree)?;
     assert!(rt; same_json(shaped.tree(), &tree));
     let report = resolve(alloc, shaped)?;
-    positions(&rt, &tree, &report)?;
-    look_ups(&rt, alloc, &report)?;
+    look_ups(&rt, alloc, &tree, &report)
+}
+
+#[test]
+fn forms(rt: HostRuntime) -> Result<(), Fail> {
+    let alloc = rt.alloc();
+    let tree = Value::from_str(alloc, BALLOT)?;
+    let report = report_of(alloc, &tree)?;
     let form = normal_tree(alloc, &report)?;
     let text = normal_text(alloc, &report)?;
     assert_eq!(rt; text.as_slice(), form.to_string(alloc)?.as_bytes());
+    Ok(())
+}
+
+#[test]
+fn differences(rt: HostRuntime) -> Result<(), Fail> {
+    let alloc = rt.alloc();
+    let tree = Value::from_str(alloc, BALLOT)?;
+    let report = report_of(alloc, &tree)?;
     assert!(rt; first_difference(alloc, &report, &report)?.is_none());
+    Ok(())
+}
+
+// The key that a preference gives the unit, and the one that it has without it.
+fn preferred_key(rt: &impl Abort, alloc: Global, report: &Report) -> Result<(), Fail> {
+    assert_eq!(rt;
+        report.key_at(Family::Unit, 0),
+        Some(&key(alloc, "local-level", "U1")?)
+    );
+    let county = report.object(Family::Unit, 0).ok_or("no unit")?;
+    least_key(rt, alloc, county)
+}
+
+fn least_key(rt: &impl Abort, alloc: Global, county: &Value) -> Result<(), Fail> {
+    assert_eq!(rt;
+        key_of(alloc, county, None)?,
+        Some(key(alloc, "fips", "20")?)
+    );
     Ok(())
 }
 
@@ -87,16 +152,7 @@ fn preferences(rt: HostRuntime) -> Result<(), Fail> {
     let tree = Value::from_str(alloc, BALLOT)?;
     let report = resolve_with(alloc, shape(alloc, &tree)?, Some("local-level"))?;
     assert_eq!(rt; report.preference(), Some("local-level"));
-    assert_eq!(rt;
-        report.key_at(Family::Unit, 0),
-        Some(&key(alloc, "local-level", "U1")?)
-    );
-    let county = report.object(Family::Unit, 0).ok_or("no unit")?;
-    assert_eq!(rt;
-        key_of(alloc, county, None)?,
-        Some(key(alloc, "fips", "20")?)
-    );
-    Ok(())
+    preferred_key(&rt, alloc, &report)
 }
 
 #[test]
@@ -104,9 +160,29 @@ fn orders(rt: HostRuntime) -> Result<(), Fail> {
     let alloc = rt.alloc();
     let (one, other) = (key(alloc, "fips", "20")?, key(alloc, "local-level", "U1")?);
     assert_eq!(rt; one.order(&other), Ordering::Less);
+    Ok(())
+}
+
+#[test]
+fn copies_of_keys(rt: HostRuntime) -> Result<(), Fail> {
+    let alloc = rt.alloc();
+    let one = key(alloc, "fips", "20")?;
     assert!(rt; one.try_clone(alloc)? == one);
+    Ok(())
+}
+
+#[test]
+fn sorted_keys(rt: HostRuntime) -> Result<(), Fail> {
+    let alloc = rt.alloc();
+    let (one, other) = (key(alloc, "fips", "20")?, key(alloc, "local-level", "U1")?);
     let sorted = in_order(alloc, vec![in alloc; (other, 2), (one, 1)]?)?;
     assert_eq!(rt; sorted.first().map(|pair| pair.1), Some(1));
+    Ok(())
+}
+
+#[test]
+fn compact_texts(rt: HostRuntime) -> Result<(), Fail> {
+    let alloc = rt.alloc();
     let value = Value::from_str(alloc, r#"{ "a": [1, 2] }"#)?;
     let text = CompactText::of(alloc, &value)?;
     assert_eq!(rt; text.order(&text), Ordering::Equal);

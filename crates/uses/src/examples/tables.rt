@@ -4,6 +4,8 @@ use erd_tables::{
     class_of, family_of, is_envelope, is_reference_form, is_required_member, member_kind, pointer,
     required, role_of, type_text,
 };
+use std::alloc::{AllocError, Global};
+use std::process::Abort;
 use std::test::Fail;
 
 #[test]
@@ -42,27 +44,68 @@ fn members(rt: HostRuntime) {
 }
 
 #[test]
-fn places(rt: HostRuntime) -> Result<(), Fail> {
+fn texts(rt: HostRuntime) -> Result<(), Fail> {
     let alloc = rt.alloc();
     let name = Text::of(String::from_str(alloc, "GpUnit")?);
     assert_eq!(rt; name.as_str(), "GpUnit");
+    Ok(())
+}
+
+// The place of the eleventh unit.
+fn place_of_unit(alloc: Global) -> Result<Place, AllocError> {
+    let name = Text::of(String::from_str(alloc, "GpUnit")?);
     let place = Place::of(vec![in alloc; Step::Name(name), Step::At(10)]?);
+    Ok(place)
+}
+
+// What the place has.
+fn steps(rt: &impl Abort, place: &Place) {
     assert_eq!(rt; place.len(), 2);
     assert!(rt; !place.is_empty());
     assert!(rt; matches!(place.step(1), Some(Step::At(10))));
     assert_eq!(rt; place.iter().count(), 2);
+}
+
+#[test]
+fn places(rt: HostRuntime) -> Result<(), Fail> {
+    let alloc = rt.alloc();
+    let place = place_of_unit(alloc)?;
+    steps(&rt, &place);
     assert_eq!(rt; pointer(alloc, &place)?.as_str(), "/GpUnit/10");
-    let fault = Fault {
-        place,
+    Ok(())
+}
+
+// One fault, whose place has two steps.
+fn fault_of_unit(alloc: Global) -> Result<Fault, AllocError> {
+    Ok(Fault {
+        place: place_of_unit(alloc)?,
         reason: Reason::DuplicateId,
-    };
+    })
+}
+
+#[test]
+fn fault_lines(rt: HostRuntime) -> Result<(), Fail> {
+    let alloc = rt.alloc();
+    let fault = fault_of_unit(alloc)?;
     assert_eq!(rt; fault.line(alloc)?.as_str(), "/GpUnit/10: @id used twice");
-    let list = FaultList::of(vec![in alloc; fault]?);
+    Ok(())
+}
+
+// What the list of one fault has.
+fn faults(rt: &impl Abort, list: &FaultList) {
     assert_eq!(rt; list.len(), 1);
     assert!(rt; !list.is_empty());
     assert!(rt; list.get(1).is_none());
     for fault in list.iter() {
         assert_eq!(rt; fault.place.len(), 2);
     }
+}
+
+#[test]
+fn fault_lists(rt: HostRuntime) -> Result<(), Fail> {
+    let alloc = rt.alloc();
+    let fault = fault_of_unit(alloc)?;
+    let list = FaultList::of(vec![in alloc; fault]?);
+    faults(&rt, &list);
     Ok(())
 }
