@@ -11,6 +11,7 @@ mod keys;
 mod later_rows;
 mod look_ups;
 mod names;
+mod orders;
 mod pair_calls;
 mod parts;
 mod places;

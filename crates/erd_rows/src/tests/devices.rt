@@ -10,6 +10,7 @@ use crate::tests::vectors::{
 use crate::tests::writers::{ExpectedWriter, FailingWriter, FullWriter};
 use erd_canon::{MOST_BYTES, Outcome, RunFault, Sink, Source};
 use std::alloc::Global;
+use std::process::Abort;
 use std::test::Fail;
 
 // A writer of the text, or of nothing where the run fails.
@@ -37,22 +38,27 @@ fn check_of_long(alloc: Global, blanks: usize, wanted: Result<Outcome, RunFault>
     run.answer == wanted && run.out.writer.is_whole()
 }
 
+fn long(rt: &impl Abort, alloc: Global, blanks: usize, wanted: Result<Outcome, RunFault>) {
+    assert!(rt;
+        canon_of_long(alloc, blanks, wanted),
+        "canon with {blanks} blanks"
+    );
+    assert!(rt;
+        check_of_long(alloc, blanks, wanted),
+        "check with {blanks} blanks"
+    );
+}
+
 #[test]
 fn largest_input(rt: HostRuntime) {
     let room = MOST_BYTES.saturating_sub(ONE_UNIT.len());
-    for (blanks, wanted) in [
-        (room, Ok(Outcome::Good)),
-        (room.saturating_add(1), Err(RunFault::TooLong)),
-    ] {
-        assert!(rt;
-            canon_of_long(rt.alloc(), blanks, wanted),
-            "canon with {blanks} blanks"
-        );
-        assert!(rt;
-            check_of_long(rt.alloc(), blanks, wanted),
-            "check with {blanks} blanks"
-        );
-    }
+    long(&rt, rt.alloc(), room, Ok(Outcome::Good));
+    long(
+        &rt,
+        rt.alloc(),
+        room.saturating_add(1),
+        Err(RunFault::TooLong),
+    );
 }
 
 // What a run should answer if the read after this many reads fails, of a report whose reads are this many.
@@ -93,24 +99,25 @@ fn check_reads(alloc: Global, report: &str, good_reads: usize) -> bool {
         && run.out.writer.is_whole()
 }
 
+fn reads(rt: &impl Abort, alloc: Global, report: &str, form: &str) {
+    for good_reads in 0..reads_of(report).saturating_add(1) {
+        assert!(rt;
+            canon_reads(alloc, report, form, good_reads),
+            "canon at {good_reads}"
+        );
+        assert!(rt;
+            check_reads(alloc, report, good_reads),
+            "check at {good_reads}"
+        );
+    }
+}
+
 // A failure at each read, also at the one that would have reached the end.
 #[test]
 fn each_read_fails(rt: HostRuntime) {
-    for (report, form) in [
-        (ONE_UNIT, ONE_UNIT_CANONICAL),
-        (SMALL_BALLOT, SMALL_BALLOT_CANONICAL),
-    ] {
-        for good_reads in 0..reads_of(report).saturating_add(1) {
-            assert!(rt;
-                canon_reads(rt.alloc(), report, form, good_reads),
-                "canon at {good_reads}"
-            );
-            assert!(rt;
-                check_reads(rt.alloc(), report, good_reads),
-                "check at {good_reads}"
-            );
-        }
-    }
+    let alloc = rt.alloc();
+    reads(&rt, alloc, ONE_UNIT, ONE_UNIT_CANONICAL);
+    reads(&rt, alloc, SMALL_BALLOT, SMALL_BALLOT_CANONICAL);
 }
 
 // If a read of the left reader fails, the right one is not read.
@@ -221,98 +228,133 @@ fn compare_writes(alloc: Global, refused: &str, good_writes: usize, all: usize) 
         && is_used_rightly(&run.out.writer, good_writes, all)
 }
 
-// A failure at each write of one byte.
-#[test]
-fn each_write_fails(rt: HostRuntime) -> Result<(), Fail> {
-    let alloc = rt.alloc();
-    let all = ONE_UNIT_CANONICAL.len();
+fn writes_of_form(rt: &impl Abort, alloc: Global, all: usize) {
     for good_writes in 0..all.saturating_add(1) {
         assert!(rt;
             canon_writes(alloc, good_writes, all),
             "canon at {good_writes}"
         );
     }
-    let refused = made(alloc, (Base::SmallBallot, THREE_SHAPE_FAULT_EDITS))?;
-    let refused = refused.as_str();
-    let all = THREE_SHAPE_FAULT_LINES.len();
-    // Three lines, each after `left: `.
-    let sided = all.saturating_add(18);
-    for good_writes in 0..sided.saturating_add(1) {
+}
+
+fn writes_of_faults(rt: &impl Abort, alloc: Global, refused: &str, all: usize) {
+    for good_writes in 0..all.saturating_add(1) {
         assert!(rt;
-            compare_writes(alloc, refused, good_writes, sided),
+            check_writes(alloc, refused, good_writes, all),
+            "check at {good_writes}"
+        );
+        assert!(rt;
+            error_writes(alloc, refused, good_writes, all),
+            "err at {good_writes}"
+        );
+    }
+}
+
+fn writes_beside(rt: &impl Abort, alloc: Global, refused: &str, all: usize) {
+    for good_writes in 0..all.saturating_add(1) {
+        assert!(rt;
+            compare_writes(alloc, refused, good_writes, all),
             "compare at {good_writes}"
         );
-        if good_writes <= all {
-            assert!(rt;
-                check_writes(alloc, refused, good_writes, all),
-                "check at {good_writes}"
-            );
-            assert!(rt;
-                error_writes(alloc, refused, good_writes, all),
-                "err at {good_writes}"
-            );
-        }
     }
+}
+
+// A failure at each write of one byte.
+#[test]
+fn each_write_fails(rt: HostRuntime) -> Result<(), Fail> {
+    let alloc = rt.alloc();
+    writes_of_form(&rt, alloc, ONE_UNIT_CANONICAL.len());
+    let refused = made(alloc, (Base::SmallBallot, THREE_SHAPE_FAULT_EDITS))?;
+    let all = THREE_SHAPE_FAULT_LINES.len();
+    writes_of_faults(&rt, alloc, refused.as_str(), all);
+    // Three lines, each after `left: `.
+    writes_beside(&rt, alloc, refused.as_str(), all.saturating_add(18));
     Ok(())
 }
 
-// Each writer is flushed once. A flush that fails ends the run.
-#[test]
-fn each_flush_fails(rt: HostRuntime) {
-    let one = ONE_UNIT.as_bytes();
+fn canon_flushes(rt: &impl Abort, alloc: Global, one: &[u8]) {
     let (out, err) = (FailingWriter::at_flush(), FailingWriter::after(0));
-    let run = canon_run(rt.alloc(), PLAIN, one, out, err);
+    let run = canon_run(alloc, PLAIN, one, out, err);
     assert!(rt; run.answer == Err(RunFault::Write) && run.out.failed());
     assert_eq!(rt; run.out.writer.taken, ONE_UNIT_CANONICAL.len());
     assert_eq!(rt; run.out.writer.flushes, 1);
     assert_eq!(rt; run.err.writer.flushes, 0);
+}
 
+fn error_flushes(rt: &impl Abort, alloc: Global, one: &[u8]) {
     let (out, err) = (FailingWriter::after(usize::MAX), FailingWriter::at_flush());
-    let run = canon_run(rt.alloc(), PLAIN, one, out, err);
+    let run = canon_run(alloc, PLAIN, one, out, err);
     assert!(rt; run.answer == Err(RunFault::Write) && run.err.failed());
     assert_eq!(rt; run.out.writer.flushes, 1);
     assert_eq!(rt; run.err.writer.flushes, 1);
     assert_eq!(rt; run.err.writer.writes, 0);
+}
 
-    let run = check_run(rt.alloc(), PLAIN, one, FailingWriter::at_flush());
+fn check_flushes(rt: &impl Abort, alloc: Global, one: &[u8]) {
+    let run = check_run(alloc, PLAIN, one, FailingWriter::at_flush());
     assert!(rt; run.answer == Err(RunFault::Write) && run.out.failed());
     assert_eq!(rt; run.out.writer.taken, ACCEPTED.len());
     assert_eq!(rt; run.out.writer.flushes, 1);
+}
 
-    let run = compare_run(rt.alloc(), PLAIN, one, one, FailingWriter::at_flush());
+fn compare_flushes(rt: &impl Abort, alloc: Global, one: &[u8]) {
+    let run = compare_run(alloc, PLAIN, one, one, FailingWriter::at_flush());
     assert!(rt; run.answer == Err(RunFault::Write) && run.out.failed());
     assert_eq!(rt; run.out.writer.taken, SAME.len());
     assert_eq!(rt; run.out.writer.flushes, 1);
 }
 
+// Each writer is flushed once. A flush that fails ends the run.
+#[test]
+fn each_flush_fails(rt: HostRuntime) {
+    let (alloc, one) = (rt.alloc(), ONE_UNIT.as_bytes());
+    canon_flushes(&rt, alloc, one);
+    error_flushes(&rt, alloc, one);
+    check_flushes(&rt, alloc, one);
+    compare_flushes(&rt, alloc, one);
+}
+
+fn canon_into_nothing(rt: &impl Abort, alloc: Global, report: &[u8]) {
+    let run = canon_run(alloc, PLAIN, report, FullWriter, FullWriter);
+    assert!(rt; run.answer == Err(RunFault::Write) && run.out.failed() != run.err.failed());
+}
+
+fn lines_into_nothing(rt: &impl Abort, alloc: Global, report: &[u8]) {
+    let run = check_run(alloc, PLAIN, report, FullWriter);
+    assert!(rt; run.answer == Err(RunFault::Write) && run.out.failed());
+    let run = compare_run(alloc, PLAIN, report, report, FullWriter);
+    assert!(rt; run.answer == Err(RunFault::Write) && run.out.failed());
+}
+
 // A writer that takes no byte of a slice that is not empty has failed. It is the first writer of a run, or the second.
 #[test]
 fn writers_that_take_nothing(rt: HostRuntime) -> Result<(), Fail> {
-    let refused = made(rt.alloc(), (Base::SmallBallot, THREE_SHAPE_FAULT_EDITS))?;
-    for report in [ONE_UNIT, refused.as_str()] {
-        let run = canon_run(rt.alloc(), PLAIN, report.as_bytes(), FullWriter, FullWriter);
-        assert!(rt; run.answer == Err(RunFault::Write) && run.out.failed() != run.err.failed());
+    let (alloc, one) = (rt.alloc(), ONE_UNIT.as_bytes());
+    canon_into_nothing(&rt, alloc, one);
+    lines_into_nothing(&rt, alloc, one);
+    let refused = made(alloc, (Base::SmallBallot, THREE_SHAPE_FAULT_EDITS))?;
+    canon_into_nothing(&rt, alloc, refused.as_bytes());
+    Ok(())
+}
+
+const WORDS: &[(RunFault, &str)] = &[
+    (RunFault::TooLong, "too long"),
+    (RunFault::Read, "read failed"),
+    (RunFault::Write, "write failed"),
+    (RunFault::Memory, "no memory"),
+];
+
+fn words_are(rt: &impl Abort, alloc: Global, table: &[(RunFault, &str)]) -> Result<(), Fail> {
+    for (fault, words) in table {
+        let text = fault.to_string(alloc)?;
+        assert_eq!(rt; text.as_str(), *words);
+        assert_eq!(rt; fault.words(), *words);
     }
-    let one = ONE_UNIT.as_bytes();
-    let run = check_run(rt.alloc(), PLAIN, one, FullWriter);
-    assert!(rt; run.answer == Err(RunFault::Write) && run.out.failed());
-    let run = compare_run(rt.alloc(), PLAIN, one, one, FullWriter);
-    assert!(rt; run.answer == Err(RunFault::Write) && run.out.failed());
     Ok(())
 }
 
 // The displayed text of a fault is its words.
 #[test]
 fn words(rt: HostRuntime) -> Result<(), Fail> {
-    for (fault, words) in [
-        (RunFault::TooLong, "too long"),
-        (RunFault::Read, "read failed"),
-        (RunFault::Write, "write failed"),
-        (RunFault::Memory, "no memory"),
-    ] {
-        let text = fault.to_string(rt.alloc())?;
-        assert_eq!(rt; text.as_str(), words);
-        assert_eq!(rt; fault.words(), words);
-    }
-    Ok(())
+    words_are(&rt, rt.alloc(), WORDS)
 }

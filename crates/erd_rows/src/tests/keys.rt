@@ -1,4 +1,4 @@
-//! Keys: which identifier of an object is its key, and the order of keys and of compact texts.
+//! Keys: which identifier of an object is its key.
 use crate::tests::answers::{Answer, right_if};
 use crate::tests::edits::{Base, edited, made, spelled};
 use crate::tests::preferred_rows::TWO_UNITS;
@@ -7,14 +7,13 @@ use crate::tests::rows::taking;
 use crate::tests::vectors::{LOCAL, ONE_UNIT, UNIT};
 use crate::tests::worked::ORDERS;
 use erd_meaning::{Key, Report};
-use erd_normal::{CompactText, SetOrder, in_order};
 use erd_tables::{Family, Text};
-use serde_json::Value;
 use std::alloc::{AllocError, Global};
+use std::process::Abort;
 use std::test::Fail;
 
 // An identifier: `Type`, `OtherType` (empty if absent) and `Value`.
-type Identifier<'a> = (&'a str, &'a str, &'a str);
+pub type Identifier<'a> = (&'a str, &'a str, &'a str);
 
 // Identifiers of one unit, and its key under each preference. The order of the identifiers has no meaning.
 type Keyed = (
@@ -249,39 +248,84 @@ fn keys_are(
     Ok(true)
 }
 
-#[test]
-fn keys_of_units(rt: HostRuntime) -> Result<(), Fail> {
-    let alloc = rt.alloc();
+// Whether the unit of a report has its key under each preference.
+fn unit_is_keyed(
+    alloc: Global,
+    report: &str,
+    wanted: &[(Option<&str>, Identifier)],
+) -> Result<bool, Fail> {
+    for (prefer, key) in wanted {
+        if !keys_are(alloc, report, *prefer, &[*key])? {
+            return Ok(false);
+        }
+    }
+    Ok(true)
+}
+
+// Whether a unit with these identifiers in this order has its key. The report of one unit has `own` in their place.
+fn is_keyed(
+    alloc: Global,
+    own: &str,
+    (entries, wanted): Keyed,
+    order: &[usize],
+) -> Result<bool, Fail> {
+    let array = identifiers(alloc, entries, order)?;
+    let report = edited(alloc, ONE_UNIT, own, array.as_str())?;
+    unit_is_keyed(alloc, report.as_str(), wanted)
+}
+
+fn all_are_keyed(
+    rt: &impl Abort,
+    alloc: Global,
+    table: &[Keyed],
+    orders: &[[usize; 3]],
+) -> Result<(), Fail> {
     let own = spelled(alloc, "#U1&")?;
-    for (index, (entries, wanted)) in KEYS.iter().enumerate() {
-        for order in ORDERS {
-            let array = identifiers(alloc, entries, &order)?;
-            let report = edited(alloc, ONE_UNIT, own.as_str(), array.as_str())?;
-            for (prefer, key) in *wanted {
-                let is_right = keys_are(alloc, report.as_str(), *prefer, &[*key])?;
-                assert!(rt; is_right, "identifiers {index}");
-            }
+    for (index, keyed) in table.iter().enumerate() {
+        for order in orders {
+            assert!(rt;
+                is_keyed(alloc, own.as_str(), *keyed, order)?,
+                "identifiers {index}"
+            );
         }
     }
     Ok(())
 }
 
-// The keys of two units with two identifiers each.
+#[test]
+fn keys_of_units(rt: HostRuntime) -> Result<(), Fail> {
+    all_are_keyed(&rt, rt.alloc(), KEYS, &ORDERS)
+}
+
+const BY_FIPS: &[Identifier] = &[("fips", "", "20"), ("fips", "", "10")];
+
+const BY_LOCAL: &[Identifier] = &[("local-level", "", "U1"), ("local-level", "", "U2")];
+
+// The keys of two units with two identifiers each, under each preference.
+const KEYS_OF_TWO: &[(Option<&str>, &[Identifier])] = &[
+    (None, BY_FIPS),
+    (Some("nosuch"), BY_FIPS),
+    (Some("fips"), BY_FIPS),
+    (LOCAL, BY_LOCAL),
+];
+
+fn units_are_keyed(
+    rt: &impl Abort,
+    alloc: Global,
+    report: &str,
+    table: &[(Option<&str>, &[Identifier])],
+) -> Result<(), Fail> {
+    for (prefer, wanted) in table {
+        assert!(rt; keys_are(alloc, report, *prefer, wanted)?);
+    }
+    Ok(())
+}
+
 #[test]
 fn keys_of_two_units(rt: HostRuntime) -> Result<(), Fail> {
     let alloc = rt.alloc();
     let report = made(alloc, (Base::OneUnit, &[(UNIT, TWO_UNITS)]))?;
-    let fips: &[Identifier] = &[("fips", "", "20"), ("fips", "", "10")];
-    let local: &[Identifier] = &[("local-level", "", "U1"), ("local-level", "", "U2")];
-    for (prefer, wanted) in [
-        (None, fips),
-        (Some("nosuch"), fips),
-        (Some("fips"), fips),
-        (LOCAL, local),
-    ] {
-        assert!(rt; keys_are(alloc, report.as_str(), prefer, wanted)?);
-    }
-    Ok(())
+    units_are_keyed(&rt, alloc, report.as_str(), KEYS_OF_TWO)
 }
 
 // The key made of these three texts.
@@ -290,78 +334,4 @@ pub fn key(alloc: Global, kind: &str, other: &str, value: &str) -> Result<Key, A
     let other = Text::of(String::from_str(alloc, other)?);
     let value = Text::of(String::from_str(alloc, value)?);
     Ok(Key { kind, other, value })
-}
-
-// The positions of these keys in their order.
-fn positions_in_order(alloc: Global, keys: &[Identifier]) -> Result<Vec<usize>, AllocError> {
-    let mut pairs = Vec::new(alloc);
-    for (index, (kind, other, value)) in keys.iter().enumerate() {
-        let key = key(alloc, kind, other, value)?;
-        pairs.push((key.try_clone(alloc)?, index))?;
-    }
-    let mut positions = Vec::new(alloc);
-    for pair in in_order(alloc, pairs)?.iter() {
-        positions.push(pair.1)?;
-    }
-    Ok(positions)
-}
-
-// Keys are ordered part by part, by bytes. Pairs with equal keys keep their order and their number.
-#[test]
-fn keys_in_order(rt: HostRuntime) -> Result<(), Fail> {
-    let two: &[Identifier] = &[("b", "", "1"), ("a", "", "2")];
-    let eight: &[Identifier] = &[
-        ("b", "", "9"),
-        ("a", "x", "1"),
-        ("b", "", "10"),
-        ("a", "", "2"),
-        ("a", "x", "1"),
-        ("", "z", "3"),
-        ("a", "x", ""),
-        ("a", "x", "1"),
-    ];
-    let none: &[Identifier] = &[];
-    let wanted: [&[usize]; 3] = [&[1, 0], &[5, 3, 6, 1, 4, 7, 2, 0], &[]];
-    for (keys, wanted) in [two, eight, none].iter().zip(wanted.iter()) {
-        let found = positions_in_order(rt.alloc(), keys)?;
-        assert!(rt; found.as_slice() == *wanted);
-    }
-    Ok(())
-}
-
-// Values in the order of their compact texts, which is that of their bytes.
-const RISING: [&str; 13] = [
-    r#""""#,
-    r#" "A""#,
-    r#""a""#,
-    r#""\uffff""#,
-    r#""\ud800\udc00""#,
-    "-1",
-    "10",
-    "9",
-    "[]",
-    "false",
-    "null",
-    r#"{ "a": 1, "b": 2 }"#,
-    r#"{"b":0}"#,
-];
-
-fn compact(alloc: Global, text: &str) -> Result<CompactText, Fail> {
-    let value = Value::from_str(alloc, text)?;
-    Ok(CompactText::of(alloc, &value)?)
-}
-
-#[test]
-fn compact_texts_in_order(rt: HostRuntime) -> Result<(), Fail> {
-    for (index, text) in RISING.iter().enumerate() {
-        let one = compact(rt.alloc(), text)?;
-        for (other_index, other) in RISING.iter().enumerate() {
-            let other = compact(rt.alloc(), other)?;
-            assert!(rt;
-                one.order(&other) == index.cmp(&other_index),
-                "{index} and {other_index}"
-            );
-        }
-    }
-    Ok(())
 }

@@ -8,6 +8,7 @@ use erd_meaning::{Key, Report};
 use erd_tables::Family;
 use serde_json::Value;
 use std::alloc::Global;
+use std::process::Abort;
 use std::test::Fail;
 
 // An object of the small ballot: its family, its position there, its `@id`, and the value of its key. Empty texts for none.
@@ -51,9 +52,9 @@ fn is_there(report: &Report, (family, index, id, value): Object) -> bool {
     is_named && is_keyed
 }
 
-// Whether the family has this many objects.
-fn has_count(report: &Report, family: Family) -> bool {
-    let count = OBJECTS.iter().filter(|it| it.0 == family).count();
+// Whether the family has as many objects as are listed here.
+fn has_count(report: &Report, family: Family, objects: &[Object]) -> bool {
+    let count = objects.iter().filter(|it| it.0 == family).count();
     report.count(family) == count
         && report.object(family, count).is_none()
         && report.key_at(family, count).is_none()
@@ -82,10 +83,20 @@ fn has_root(report: &Report) -> bool {
         && candidate.is_some_and(|key| report.find(Family::Party, key).is_none())
 }
 
+fn are_there(report: &Report, objects: &[Object]) -> bool {
+    objects.iter().all(|object| is_there(report, *object))
+}
+
+fn have_counts(report: &Report, families: &[Family], objects: &[Object]) -> bool {
+    families
+        .iter()
+        .all(|family| has_count(report, *family, objects))
+}
+
 fn look_up(report: &Report) -> Answer {
-    let are_there = OBJECTS.iter().all(|object| is_there(report, *object));
-    let have_counts = FAMILIES.iter().all(|family| has_count(report, *family));
-    right_if(are_there && have_counts && has_root(report))
+    right_if(
+        are_there(report, OBJECTS) && have_counts(report, &FAMILIES, OBJECTS) && has_root(report),
+    )
 }
 
 #[test]
@@ -95,8 +106,10 @@ fn look_ups(rt: HostRuntime) -> Result<(), Fail> {
     Ok(())
 }
 
-// The keys of families in rising order: the values, and the positions of the objects.
-const RISING: &[(Family, &[(&str, usize)])] = &[
+// The keys of a family in rising order: the values, and the positions of the objects.
+type Rising = (Family, &'static [(&'static str, usize)]);
+
+const RISING: &[Rising] = &[
     (Family::Unit, &[("U1", 1), ("U2", 0)]),
     (Family::Party, &[("P1", 0)]),
     (Family::Candidate, &[("K1", 1), ("K2", 2), ("K3", 0)]),
@@ -125,23 +138,25 @@ fn rise(alloc: Global, report: &Report, family: Family, wanted: &[(&str, usize)]
     right_if(rising.len() == wanted.len())
 }
 
-// The small ballot lists neither its units nor its candidates in the order of their keys.
-#[test]
-fn rising_keys(rt: HostRuntime) -> Result<(), Fail> {
-    let alloc = rt.alloc();
-    for (family, wanted) in RISING {
-        let answer = on_text(
-            alloc,
-            SMALL_BALLOT,
-            |report| rise(alloc, report, *family, wanted),
-        )?;
+fn all_rise(rt: &impl Abort, alloc: Global, text: &str, table: &[Rising]) -> Result<(), Fail> {
+    for (family, wanted) in table {
+        let answer = on_text(alloc, text, |report| rise(alloc, report, *family, wanted))?;
         assert!(rt; answer == Answer::Right);
     }
     Ok(())
 }
 
+// The small ballot lists neither its units nor its candidates in the order of their keys.
+#[test]
+fn rising_keys(rt: HostRuntime) -> Result<(), Fail> {
+    all_rise(&rt, rt.alloc(), SMALL_BALLOT, RISING)
+}
+
+// A family, a position, and the election that holds the object there.
+type Held = (Family, usize, Option<usize>);
+
 // For each election its key's value and, for objects, the election that holds them.
-fn are_elections(report: &Report, keys: &[&str], held: &[(Family, usize, Option<usize>)]) -> bool {
+fn are_elections(report: &Report, keys: &[&str], held: &[Held]) -> bool {
     for (index, value) in keys.iter().enumerate() {
         if report.election_at(index).is_none() || !has_value(report.election_key(index), value) {
             return false;
@@ -157,18 +172,30 @@ fn are_elections(report: &Report, keys: &[&str], held: &[(Family, usize, Option<
         && report.election_key(keys.len()).is_none()
 }
 
+// Whether the elections of this text have these keys and hold these objects.
+fn elections_are(alloc: Global, text: &str, keys: &[&str], held: &[Held]) -> Result<bool, Fail> {
+    let answer = on_text(
+        alloc,
+        text,
+        |report| right_if(are_elections(report, keys, held)),
+    )?;
+    Ok(answer == Answer::Right)
+}
+
+const HELD_BY_ONE: &[Held] = &[
+    (Family::Candidate, 2, Some(0)),
+    (Family::Candidate, 3, None),
+    (Family::Contest, 1, Some(0)),
+    (Family::Style, 0, Some(0)),
+    (Family::Unit, 0, None),
+    (Family::Selection, 0, None),
+];
+
 // A sole election holds candidates, contests and styles, and no other objects. It may have no key.
 #[test]
 fn look_ups_of_the_election(rt: HostRuntime) -> Result<(), Fail> {
     let alloc = rt.alloc();
-    let held = [
-        (Family::Candidate, 2, Some(0)),
-        (Family::Candidate, 3, None),
-        (Family::Contest, 1, Some(0)),
-        (Family::Style, 0, Some(0)),
-        (Family::Unit, 0, None),
-        (Family::Selection, 0, None),
-    ];
+    assert!(rt; elections_are(alloc, SMALL_BALLOT, &[""], HELD_BY_ONE)?);
     let text = made(
         alloc,
         (
@@ -176,31 +203,24 @@ fn look_ups_of_the_election(rt: HostRuntime) -> Result<(), Fail> {
             &[("\"StartDate\"", "#E1&,\"StartDate\"")],
         ),
     )?;
-    for (text, key) in [(SMALL_BALLOT, ""), (text.as_str(), "E1")] {
-        let answer = on_text(alloc, text, |report| {
-            right_if(are_elections(report, &[key], &held))
-        })?;
-        assert!(rt; answer == Answer::Right);
-    }
+    assert!(rt; elections_are(alloc, text.as_str(), &["E1"], HELD_BY_ONE)?);
     Ok(())
 }
+
+const HELD_BY_TWO: &[Held] = &[
+    (Family::Contest, 0, Some(0)),
+    (Family::Contest, 1, Some(1)),
+    (Family::Contest, 2, Some(1)),
+    (Family::Contest, 3, None),
+    (Family::Unit, 0, None),
+    (Family::Candidate, 0, None),
+];
 
 // Which election holds a contest, and its key.
 #[test]
 fn contests_of_two_elections(rt: HostRuntime) -> Result<(), Fail> {
     let alloc = rt.alloc();
-    let held = [
-        (Family::Contest, 0, Some(0)),
-        (Family::Contest, 1, Some(1)),
-        (Family::Contest, 2, Some(1)),
-        (Family::Contest, 3, None),
-        (Family::Unit, 0, None),
-        (Family::Candidate, 0, None),
-    ];
     let text = made(alloc, (Base::OneUnit, &[(ELECTION, CONTESTS)]))?;
-    let answer = on_text(alloc, text.as_str(), |report| {
-        right_if(are_elections(report, &["E2", "E1"], &held))
-    })?;
-    assert!(rt; answer == Answer::Right);
+    assert!(rt; elections_are(alloc, text.as_str(), &["E2", "E1"], HELD_BY_TWO)?);
     Ok(())
 }

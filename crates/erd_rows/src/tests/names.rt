@@ -9,6 +9,7 @@ use erd_meaning::{Report, SelectionName};
 use erd_normal::in_order;
 use erd_tables::Family;
 use std::alloc::{AllocError, Global};
+use std::process::Abort;
 use std::test::Fail;
 
 // For each selection, the position of its contest and the rank of its name among all names. Equal names have the same rank.
@@ -284,16 +285,26 @@ pub fn on_text<F: Fn(&Report) -> Answer>(
     on_report(alloc, &asked, then)
 }
 
-#[test]
-fn names_of_selections(rt: HostRuntime) -> Result<(), Fail> {
-    for (index, (report, ranked)) in NAMES.iter().enumerate() {
-        let report = made(rt.alloc(), *report)?;
-        let answer = on_text(rt.alloc(), report.as_str(), |report| {
-            right_if(have_ranks(report, ranked))
-        })?;
-        assert!(rt; answer == Answer::Right, "report {index}");
+fn is_ranked_so(alloc: Global, (report, ranked): (Edited, Ranked)) -> Result<bool, Fail> {
+    let report = made(alloc, report)?;
+    let answer = on_text(
+        alloc,
+        report.as_str(),
+        |report| right_if(have_ranks(report, ranked)),
+    )?;
+    Ok(answer == Answer::Right)
+}
+
+fn all_are_ranked(rt: &impl Abort, alloc: Global, table: &[(Edited, Ranked)]) -> Result<(), Fail> {
+    for (index, row) in table.iter().enumerate() {
+        assert!(rt; is_ranked_so(alloc, *row)?, "report {index}");
     }
     Ok(())
+}
+
+#[test]
+fn names_of_selections(rt: HostRuntime) -> Result<(), Fail> {
+    all_are_ranked(&rt, rt.alloc(), NAMES)
 }
 
 // The positions of the selections in the order of their names.

@@ -119,22 +119,37 @@ fn compact(alloc: Global, value: &Value, wanted: &CompactText) -> Answer {
     }
 }
 
-#[test]
-fn refused_values(rt: HostRuntime) -> Result<(), Fail> {
-    let alloc = rt.alloc();
-    let value = Value::from_str(alloc, SMALL_BALLOT)?;
+// The value 1, and the value of this text.
+fn two_entries(alloc: Global, text: &str) -> Result<Vec<Value>, Fail> {
     let mut entries = Vec::new(alloc);
-    for text in ["1", SMALL_BALLOT] {
-        entries.push(Value::from_str(alloc, text)?)?;
-    }
-    each_refused(alloc, "ValueSet::of", |alloc| {
-        has_entry(alloc, entries.as_slice(), &value)
-    })?;
-    each_refused(alloc, "ValueSet::insert", |alloc| inserted(alloc, &value))?;
-    let wanted = CompactText::of(alloc, &value)?;
+    entries.push(Value::from_str(alloc, "1")?)?;
+    entries.push(Value::from_str(alloc, text)?)?;
+    Ok(entries)
+}
+
+fn refused_sets(alloc: Global, entries: &[Value], value: &Value) -> Result<(), Fail> {
+    each_refused(
+        alloc,
+        "ValueSet::of",
+        |alloc| has_entry(alloc, entries, value),
+    )?;
+    each_refused(alloc, "ValueSet::insert", |alloc| inserted(alloc, value))
+}
+
+fn refused_texts(alloc: Global, value: &Value) -> Result<(), Fail> {
+    let wanted = CompactText::of(alloc, value)?;
     each_refused(
         alloc,
         "CompactText::of",
-        |alloc| compact(alloc, &value, &wanted),
+        |alloc| compact(alloc, value, &wanted),
     )
+}
+
+#[test]
+fn refused_values(rt: HostRuntime) -> Result<(), Fail> {
+    let alloc = rt.alloc();
+    let entries = two_entries(alloc, SMALL_BALLOT)?;
+    let value = Value::from_str(alloc, SMALL_BALLOT)?;
+    refused_sets(alloc, entries.as_slice(), &value)?;
+    refused_texts(alloc, &value)
 }

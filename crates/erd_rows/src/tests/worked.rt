@@ -12,6 +12,7 @@ use crate::tests::rows::{all_hold, form_is, is_itself, taking, tell};
 use crate::tests::runs::PLAIN;
 use crate::tests::vectors::{ONE_UNIT, SMALL_BALLOT, SMALL_BALLOT_CANONICAL};
 use std::alloc::{AllocError, Global};
+use std::process::Abort;
 use std::test::Fail;
 
 // Each table has a function of its own, so that what is proved of one does not hold the rows of another.
@@ -124,29 +125,37 @@ fn is_no_json(alloc: Global, report: &[u8]) -> bool {
     report_answer(alloc, ReportCall::CheckBytes, &asked) == Answer::Right
 }
 
-// A report cut short at any byte.
-#[test]
-fn cut_short(rt: HostRuntime) -> Result<(), Fail> {
-    let mut rest = SMALL_BALLOT.as_bytes();
-    for _ in 0..rest.len() {
+fn cuts(rt: &impl Abort, alloc: Global, report: &[u8]) -> Result<(), Fail> {
+    let mut rest = report;
+    for _ in 0..report.len() {
         let (_, shorter) = rest.split_last().ok_or("no bytes")?;
         let length = shorter.len();
-        assert!(rt; is_no_json(rt.alloc(), shorter), "cut at {length}");
+        assert!(rt; is_no_json(alloc, shorter), "cut at {length}");
         rest = shorter;
     }
     Ok(())
+}
+
+// A report cut short at any byte.
+#[test]
+fn cut_short(rt: HostRuntime) -> Result<(), Fail> {
+    cuts(&rt, rt.alloc(), SMALL_BALLOT.as_bytes())
+}
+
+fn bytes_of_no_text(rt: &impl Abort, alloc: Global, report: &mut [u8]) {
+    for index in 0..report.len() {
+        let own = report[index];
+        report[index] = b'\xff';
+        assert!(rt; is_no_json(alloc, report), "at {index}");
+        report[index] = own;
+    }
 }
 
 // A report with any byte replaced by FF.
 #[test]
 fn a_byte_of_no_text(rt: HostRuntime) -> Result<(), Fail> {
     let mut report = ONE_UNIT.as_bytes().to_vec(rt.alloc())?;
-    for index in 0..report.len() {
-        let own = report[index];
-        report[index] = b'\xff';
-        assert!(rt; is_no_json(rt.alloc(), report.as_slice()), "at {index}");
-        report[index] = own;
-    }
+    bytes_of_no_text(&rt, rt.alloc(), &mut report);
     Ok(())
 }
 
@@ -185,67 +194,78 @@ fn joined(alloc: Global, texts: &[&str], order: &[usize]) -> Result<String, Allo
     spelled(alloc, whole.as_str())
 }
 
-#[test]
-fn every_order_of_candidates_and_selections(rt: HostRuntime) -> Result<(), Fail> {
-    let alloc = rt.alloc();
-    let own_candidates = joined(alloc, &CANDIDATES, &ORDERS[0])?;
-    let own_selections = joined(alloc, &SELECTIONS, &ORDERS[0])?;
+fn orders_of_selections(alloc: Global, report: &str, own: &str) -> Result<(), Fail> {
     for order in ORDERS {
-        let candidates = joined(alloc, &CANDIDATES, &order)?;
-        let report = edited(
+        let selections = joined(alloc, &SELECTIONS, &order)?;
+        let report = edited(alloc, report, own, selections.as_str())?;
+        form_is(
             alloc,
-            SMALL_BALLOT,
-            own_candidates.as_str(),
-            candidates.as_str(),
+            "orders",
+            None,
+            report.as_str(),
+            SMALL_BALLOT_CANONICAL,
         )?;
-        for order in ORDERS {
-            let selections = joined(alloc, &SELECTIONS, &order)?;
-            let report = edited(
-                alloc,
-                report.as_str(),
-                own_selections.as_str(),
-                selections.as_str(),
-            )?;
-            form_is(
-                alloc,
-                "orders",
-                None,
-                report.as_str(),
-                SMALL_BALLOT_CANONICAL,
-            )?;
-        }
     }
     Ok(())
 }
 
-// Adds two thousand units, the j-th with the value N and 10,000 - j, so that the last of the input is the first of the
-// canonical form.
+fn orders_of_candidates(alloc: Global, report: &str, own: &str) -> Result<(), Fail> {
+    let own_selections = joined(alloc, &SELECTIONS, &ORDERS[0])?;
+    for order in ORDERS {
+        let candidates = joined(alloc, &CANDIDATES, &order)?;
+        let report = edited(alloc, report, own, candidates.as_str())?;
+        orders_of_selections(alloc, report.as_str(), own_selections.as_str())?;
+    }
+    Ok(())
+}
+
 #[test]
-fn two_thousand_units(rt: HostRuntime) -> Result<(), Fail> {
+fn every_order_of_candidates_and_selections(rt: HostRuntime) -> Result<(), Fail> {
     let alloc = rt.alloc();
+    let own = joined(alloc, &CANDIDATES, &ORDERS[0])?;
+    orders_of_candidates(alloc, SMALL_BALLOT, own.as_str())
+}
+
+// Two thousand units, each after a comma. The j-th has the value N and 10,000 - j.
+fn many_units(alloc: Global) -> Result<String, Fail> {
     let mut units = String::new(alloc);
-    let mut forms = String::new(alloc);
     for number in 1..2001usize {
         let value = 10_000 - number;
         let unit = format!(in alloc;
             ",{{\"@id\":\"w{number}\",\"@type\":\"%ReportingUnit\",\"Type\":\"county\",#N{value}&}}"
         )?;
         units.push_str(unit.as_str())?;
+    }
+    Ok(spelled(alloc, units.as_str())?)
+}
+
+// The canonical form of these units, each before a comma.
+fn many_forms(alloc: Global) -> Result<String, Fail> {
+    let mut forms = String::new(alloc);
+    for number in 1..2001usize {
         let value = 7_999 + number;
         let form = format!(in alloc;
             "{{\"@id\":\"gp{number}\",\"@type\":\"%ReportingUnit\",#N{value}&,\"Type\":\"county\"}},"
         )?;
         forms.push_str(form.as_str())?;
     }
-    let units = spelled(alloc, units.as_str())?;
-    let forms = spelled(alloc, forms.as_str())?;
+    Ok(spelled(alloc, forms.as_str())?)
+}
+
+// The report of one unit with two thousand units more.
+fn of_many_units(alloc: Global) -> Result<String, Fail> {
+    let units = many_units(alloc)?;
     let report = edited(
         alloc,
         ONE_UNIT,
         "}]}],\"Election\"",
         "}]}UNITS],\"Election\"",
     )?;
-    let report = edited(alloc, report.as_str(), "UNITS", units.as_str())?;
+    edited(alloc, report.as_str(), "UNITS", units.as_str())
+}
+
+fn form_of_many_units(alloc: Global) -> Result<String, Fail> {
+    let forms = many_forms(alloc)?;
     let last = made(
         alloc,
         (
@@ -254,13 +274,16 @@ fn two_thousand_units(rt: HostRuntime) -> Result<(), Fail> {
         ),
     )?;
     let forms = format!(in alloc; "\"GpUnit\":[{forms}")?;
-    let form = edited(alloc, last.as_str(), "\"GpUnit\":[", forms.as_str())?;
-    form_is(
-        alloc,
-        "two_thousand_units",
-        None,
-        report.as_str(),
-        form.as_str(),
-    )?;
-    is_itself(alloc, "two_thousand_units", report.as_str())
+    edited(alloc, last.as_str(), "\"GpUnit\":[", forms.as_str())
+}
+
+// The last unit of the input is the first of the canonical form.
+#[test]
+fn two_thousand_units(rt: HostRuntime) -> Result<(), Fail> {
+    let alloc = rt.alloc();
+    let report = of_many_units(alloc)?;
+    let form = form_of_many_units(alloc)?;
+    let (name, report) = ("two_thousand_units", report.as_str());
+    form_is(alloc, name, None, report, form.as_str())?;
+    is_itself(alloc, name, report)
 }
