@@ -40,6 +40,7 @@ if left "$program"; then
         'python3 tests/examples.py'
         'tests/contrib.sh'
         'python3 tests/agree.py 500'
+        'python3 tests/says_the_same.py'
         'python3 tests/preferences.py'
         'conformance/run ./erd'
         'tests/limits.sh'

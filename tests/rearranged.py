@@ -81,23 +81,34 @@ def new_names(report, dice):
     own = [entry["@id"] for entry in objects(report) if "@id" in entry]
     carried = set(texts_in(report)).difference(own)
     canonical = [prefix + str(number) for prefix in "gp pa pe of hd ca co cs1- cs2- cs3-".split() for number in range(1, 20)]
-    odd = {"".join(dice.choices(ODD, k=dice.randrange(5))) for _ in range(500)}
+    odd = {"".join(dice.choices(ODD, k=dice.randrange(5))) for _ in range(20 + 2 * len(own))}
     pools = [own, carried, canonical, odd]
-    pool = dice.choice(pools + [set().union(*pools)])
+    pool = dice.choice([pool for pool in pools + [set().union(*pools)] if len(pool) >= len(own)])
     return dict(zip(own, dice.sample(sorted(pool), len(own))))
 
 
-def rearrange(report, dice):
-    """Gives each object another name, and shuffles each set."""
+def rename(report, dice):
+    """Gives each object another name."""
     names = new_names(report, dice)
-    for entry in list(objects(report)):
+    for entry in objects(report):
         if "@id" in entry:
             entry["@id"] = names[entry["@id"]]
         for name, member in members(entry, REFERENCES):
             entry[name] = [names[text] for text in member] if isinstance(member, list) else names[member]
+
+
+def shuffle(report, dice):
+    """Shuffles each set."""
+    for entry in list(objects(report)):
         for name, member in members(entry, HOLDS) + members(entry, REFERENCES):
             if isinstance(member, list) and name not in LISTS:
-                dice.shuffle(entry[name])
+                dice.shuffle(member)
+
+
+def rearrange(report, dice):
+    """Gives each object another name, and shuffles each set."""
+    rename(report, dice)
+    shuffle(report, dice)
 
 
 def exchange(lists, dice):
@@ -166,4 +177,5 @@ def main():
             json.dump(report, file, ensure_ascii=dice.random() < 0.5)
 
 
-main()
+if __name__ == "__main__":
+    main()
