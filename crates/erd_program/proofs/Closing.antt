@@ -9,9 +9,13 @@ pub twice : {A : Type 0} (a b c : List A) (x y : A) → b ≡ a ++ x ∷ [] → 
 twice a b c x y p q = q ∙ (ap (λ l. l ++ y ∷ []) p ∙ append_assoc a (x ∷ []) (y ∷ []))
 
 -- what opening two files gave
-pub both_opened : {R : Type 0} (a b c : List (List ℕ × R)) (left right : List ℕ) (x y u v : R) → b ≡ a ++ (left, x) ∷ [] → c ≡ b ++ (right, y) ∷ [] → x ≡ u → y ≡ v
-    → c ≡ a ++ (left, u) ∷ (right, v) ∷ []
-both_opened a b c left right x y u v p q is_u is_v = twice a b c (left, x) (right, y) p q ∙ ap₂ (λ x y. a ++ (left, x) ∷ (right, y) ∷ []) is_u is_v
+pub both_opened : {R : Type 0} (a b : List (List ℕ × R)) (left right : List ℕ) (x y u v : R) → b ≡ a ++ (left, x) ∷ (right, y) ∷ [] → x ≡ u → y ≡ v
+    → b ≡ a ++ (left, u) ∷ (right, v) ∷ []
+both_opened a b left right x y u v p is_u is_v = p ∙ ap₂ (λ x y. a ++ (left, x) ∷ (right, y) ∷ []) is_u is_v
+
+-- beside which file another one was opened
+pub one_beside : {R : Type 0} (a b : List (List ℕ × R)) (name : List ℕ) (x u : R) → b ≡ a ++ (name, x) ∷ [] → x ≡ u → b ≡ a ++ (name, u) ∷ []
+one_beside a b name x u p is_u = p ∙ ap (λ x. a ++ (name, x) ∷ []) is_u
 
 pub checked_from : {F File I O E : Type 0} {known : Outside F File I O E} {π : Preference} {name : List ℕ} {file : File} {status : ℕ} {a b c : List (List ℕ × File)} {out : BeforeAfter O} {err : BeforeAfter E}
     → b ≡ a → IsFileChecked known π name file status (between b c) out err → IsFileChecked known π name file status (between a c) out err

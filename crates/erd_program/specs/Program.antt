@@ -24,7 +24,8 @@ LeavesInput world = world.after.input ≡ world.before.input
 abbrev pub LeavesFiles : {F I O E : Type 0} → BeforeAfter (World F I O E) → Type 0
 LeavesFiles world = world.after.files ≡ world.before.files
 
--- The program did what the request asks for.
+-- The program did what the request asks for. For `compare`, the left file was opened first, and it was still as opening it gave
+-- it when the right file was opened: neither was read before both were opened.
 abbrev pub IsDone : {F File I O E : Type 0} → Outside F File I O E → Request → ℕ → BeforeAfter (World F I O E) → Type 0
 IsDone known Filter status world =
     LeavesFiles world
@@ -45,6 +46,7 @@ IsDone {File = File} known (Compare left right prefer) status world =
     LeavesInput world
     × ((a : Result File WorldFault) × (b : Result File WorldFault)
     × (known.opened world.after.files ≡ known.opened world.before.files ++ (left, a) ∷ (right, b) ∷ [])
+    × (known.beside world.after.files ≡ known.beside world.before.files ++ (right, a) ∷ [])
     × IsCompareAnswer known prefer left right a b status (between (known.closed world.before.files) (known.closed world.after.files))
     (between world.before.out world.after.out) (between world.before.err world.after.err))
 

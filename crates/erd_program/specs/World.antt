@@ -18,10 +18,12 @@ pub record Writer (W : Type 0) : Type 0 where
   pub is_flushed : W → Bool
   pub flushes : W → ℕ
 
--- What is known of the outside: the files that were opened, each with its name and what opening it gave, the files that were
--- closed, each with its name and as it was then, and the streams.
+-- What is known of the outside: the files that were opened, each with its name and what opening it gave; the names that were
+-- opened beside another file, each with what opening that file gave, as it was then; the files that were closed, each with its
+-- name and as it was then; and the streams.
 pub record Outside (F File I O E : Type 0) : Type 0 where
   pub opened : F → List (List ℕ × Result File WorldFault)
+  pub beside : F → List (List ℕ × Result File WorldFault)
   pub closed : F → List (List ℕ × File)
   pub file : Reader File
   pub input : Reader I
@@ -42,8 +44,8 @@ abbrev pub writer : {W : Type 0} → (W → Option (List ℕ)) → (W → Bool) 
 writer contents has_failed is_flushed flushes = record { contents = contents; has_failed = has_failed; is_flushed = is_flushed; flushes = flushes }
 
 -- What is known of the outside, by its parts.
-abbrev pub outside : {F File I O E : Type 0} → (F → List (List ℕ × Result File WorldFault)) → (F → List (List ℕ × File)) → Reader File → Reader I → Writer O → Writer E → Outside F File I O E
-outside opened closed file input out err = record { opened = opened; closed = closed; file = file; input = input; out = out; err = err }
+abbrev pub outside : {F File I O E : Type 0} → (F → List (List ℕ × Result File WorldFault)) → (F → List (List ℕ × Result File WorldFault)) → (F → List (List ℕ × File)) → Reader File → Reader I → Writer O → Writer E → Outside F File I O E
+outside opened beside closed file input out err = record { opened = opened; beside = beside; closed = closed; file = file; input = input; out = out; err = err }
 
 -- A value before and after, by its parts.
 abbrev pub between : {A : Type 0} → A → A → BeforeAfter A

@@ -1,10 +1,10 @@
-ghost use Rattle.std.specs.Prelude.{◌≡◌, ◌++◌, ◌∷◌, [], Result, false};
+ghost use Rattle.std.specs.Prelude.{◌≡◌, ◌++◌, ◌∷◌, [], Result, IfOk, false};
 ghost use Rattle.std.specs.Option.{option_copied};
 ghost use Rattle.erd_program.specs.declared.files.WorldFault.{WorldFault};
 ghost use Rattle.erd_program.specs.Files.{AreFilesCompared, IsCanonAnswer, IsCheckAnswer, IsCompareAnswer, IsFileCanonicalised, IsFileChecked, IsInputCanonicalised};
 ghost use Rattle.erd_program.specs.World.{between, outside, reader, writer};
 
-use crate::files::Files;
+use crate::files::{Files, WorldFault};
 use crate::messages::{ended, refused};
 use crate::world::World;
 use erd_canon::{FileName, Sink, Source, run_canon_with, run_check_with, run_compare_with};
@@ -22,7 +22,7 @@ pub(crate) fn filter<F: Files, I: Source, O: Sink, E: Sink>(
     requires out_works { O.has_failed world.old.out ≡ false }
     requires err_works { E.has_failed world.old.err ≡ false }
     ensures files { world.new.files ≡ world.old.files }
-    ensures done { IsInputCanonicalised (outside F.opened F.closed (reader F.File.remaining F.File.has_failed F.File.reads F.File.given)
+    ensures done { IsInputCanonicalised (outside F.opened F.beside F.closed (reader F.File.remaining F.File.has_failed F.File.reads F.File.given)
         (reader I.remaining I.has_failed I.reads I.given) (writer O.contents O.has_failed O.is_flushed O.flushes)
         (writer E.contents E.has_failed E.is_flushed E.flushes))
         result (between world.old.input world.new.input) (between world.old.out world.new.out)
@@ -50,7 +50,7 @@ pub(crate) fn check<F: Files, I: Source, O: Sink, E: Sink>(
     ensures input { world.new.input ≡ world.old.input }
     ensures done { (given : Result F.File WorldFault)
         × (F.opened world.new.files ≡ F.opened world.old.files ++ (name.now, given) ∷ [])
-        × IsCheckAnswer (outside F.opened F.closed (reader F.File.remaining F.File.has_failed F.File.reads F.File.given)
+        × IsCheckAnswer (outside F.opened F.beside F.closed (reader F.File.remaining F.File.has_failed F.File.reads F.File.given)
         (reader I.remaining I.has_failed I.reads I.given) (writer O.contents O.has_failed O.is_flushed O.flushes)
         (writer E.contents E.has_failed E.is_flushed E.flushes))
         (option_copied prefer.entry) name.now given result (between (F.closed world.old.files) (F.closed world.new.files))
@@ -75,7 +75,7 @@ fn check_file<F: Files, I: Source, O: Sink, E: Sink>(
     requires err_works { E.has_failed world.old.err ≡ false }
     ensures input { world.new.input ≡ world.old.input }
     ensures opened { F.opened world.new.files ≡ F.opened world.old.files }
-    ensures done { IsFileChecked (outside F.opened F.closed (reader F.File.remaining F.File.has_failed F.File.reads F.File.given)
+    ensures done { IsFileChecked (outside F.opened F.beside F.closed (reader F.File.remaining F.File.has_failed F.File.reads F.File.given)
         (reader I.remaining I.has_failed I.reads I.given) (writer O.contents O.has_failed O.is_flushed O.flushes)
         (writer E.contents E.has_failed E.is_flushed E.flushes))
         (option_copied prefer.entry) name.now file result (between (F.closed world.old.files) (F.closed world.new.files))
@@ -98,7 +98,7 @@ pub(crate) fn canon<F: Files, I: Source, O: Sink, E: Sink>(
     ensures input { world.new.input ≡ world.old.input }
     ensures done { (given : Result F.File WorldFault)
         × (F.opened world.new.files ≡ F.opened world.old.files ++ (name.now, given) ∷ [])
-        × IsCanonAnswer (outside F.opened F.closed (reader F.File.remaining F.File.has_failed F.File.reads F.File.given)
+        × IsCanonAnswer (outside F.opened F.beside F.closed (reader F.File.remaining F.File.has_failed F.File.reads F.File.given)
         (reader I.remaining I.has_failed I.reads I.given) (writer O.contents O.has_failed O.is_flushed O.flushes)
         (writer E.contents E.has_failed E.is_flushed E.flushes))
         (option_copied prefer.entry) name.now given result (between (F.closed world.old.files) (F.closed world.new.files))
@@ -123,7 +123,7 @@ fn canon_file<F: Files, I: Source, O: Sink, E: Sink>(
     requires err_works { E.has_failed world.old.err ≡ false }
     ensures input { world.new.input ≡ world.old.input }
     ensures opened { F.opened world.new.files ≡ F.opened world.old.files }
-    ensures done { IsFileCanonicalised (outside F.opened F.closed (reader F.File.remaining F.File.has_failed F.File.reads F.File.given)
+    ensures done { IsFileCanonicalised (outside F.opened F.beside F.closed (reader F.File.remaining F.File.has_failed F.File.reads F.File.given)
         (reader I.remaining I.has_failed I.reads I.given) (writer O.contents O.has_failed O.is_flushed O.flushes)
         (writer E.contents E.has_failed E.is_flushed E.flushes))
         (option_copied prefer.entry) name.now file result (between (F.closed world.old.files) (F.closed world.new.files))
@@ -147,14 +147,14 @@ pub(crate) fn compare<F: Files, I: Source, O: Sink, E: Sink>(
     ensures input { world.new.input ≡ world.old.input }
     ensures done { (a b : Result F.File WorldFault)
         × (F.opened world.new.files ≡ F.opened world.old.files ++ (left.now, a) ∷ (right.now, b) ∷ [])
-        × IsCompareAnswer (outside F.opened F.closed (reader F.File.remaining F.File.has_failed F.File.reads F.File.given)
+        × (F.beside world.new.files ≡ F.beside world.old.files ++ (right.now, a) ∷ [])
+        × IsCompareAnswer (outside F.opened F.beside F.closed (reader F.File.remaining F.File.has_failed F.File.reads F.File.given)
         (reader I.remaining I.has_failed I.reads I.given) (writer O.contents O.has_failed O.is_flushed O.flushes)
         (writer E.contents E.has_failed E.is_flushed E.flushes))
         (option_copied prefer.entry) left.now right.now a b result (between (F.closed world.old.files)
         (F.closed world.new.files)) (between world.old.out world.new.out) (between world.old.err world.new.err) }
 {
-    let left_file = world.files.open(left);
-    let right_file = world.files.open(right);
+    let (left_file, right_file) = open_both(&mut world.files, left, right);
     match (left_file, right_file) {
         (Ok(left_file), Ok(right_file)) => {
             compare_files(alloc, world, (left, left_file), (right, right_file), prefer)
@@ -171,6 +171,23 @@ pub(crate) fn compare<F: Files, I: Source, O: Sink, E: Sink>(
     }
 }
 
+// Opens both files, the left one first, and reads neither.
+fn open_both<F: Files>(
+    files: &mut F,
+    left: &FileName,
+    right: &FileName,
+) -> (Result<F::File, WorldFault>, Result<F::File, WorldFault>)
+    ensures opened { F.opened files.new ≡ F.opened files.old ++ (left.now, result.0) ∷ (right.now, result.1) ∷ [] }
+    ensures beside { F.beside files.new ≡ F.beside files.old ++ (right.now, result.0) ∷ [] }
+    ensures closed { F.closed files.new ≡ F.closed files.old }
+    ensures left_works { IfOk result.0 (λ file. F.File.has_failed file ≡ false) }
+    ensures right_works { IfOk result.1 (λ file. F.File.has_failed file ≡ false) }
+{
+    let left_file = files.open(left);
+    let right_file = files.open_beside(right, &left_file);
+    (left_file, right_file)
+}
+
 // Compares the open files and closes them. Each comes with its name.
 fn compare_files<F: Files, I: Source, O: Sink, E: Sink>(
     alloc: Global,
@@ -185,7 +202,8 @@ fn compare_files<F: Files, I: Source, O: Sink, E: Sink>(
     requires err_works { E.has_failed world.old.err ≡ false }
     ensures input { world.new.input ≡ world.old.input }
     ensures opened { F.opened world.new.files ≡ F.opened world.old.files }
-    ensures done { AreFilesCompared (outside F.opened F.closed (reader F.File.remaining F.File.has_failed F.File.reads F.File.given)
+    ensures beside { F.beside world.new.files ≡ F.beside world.old.files }
+    ensures done { AreFilesCompared (outside F.opened F.beside F.closed (reader F.File.remaining F.File.has_failed F.File.reads F.File.given)
         (reader I.remaining I.has_failed I.reads I.given) (writer O.contents O.has_failed O.is_flushed O.flushes)
         (writer E.contents E.has_failed E.is_flushed E.flushes))
         (option_copied prefer.entry) left.entry.0.now right.entry.0.now left.entry.1 right.entry.1

@@ -62,6 +62,9 @@ pub trait Files {
     // The names that were opened, in their order, each with what opening it gave.
     ghost opened: { Self → List (List ℕ × Result Self.File WorldFault) };
 
+    // The names that were opened beside another file, in their order, each with what opening that file gave, as it was then.
+    ghost beside: { Self → List (List ℕ × Result Self.File WorldFault) };
+
     // The files that were closed, in their order, each with its name and as it was then.
     ghost closed: { Self → List (List ℕ × Self.File) };
 
@@ -73,11 +76,28 @@ pub trait Files {
     /// - `WorldFault::Memory` if out of memory.
     fn open(&mut self, name: &FileName) -> Result<Self::File, WorldFault>
         ensures opened { opened self.new ≡ opened self.old ++ (name.now, result) ∷ [] }
+        ensures beside { beside self.new ≡ beside self.old }
+        ensures closed { closed self.new ≡ closed self.old }
+        ensures works { IfOk result (λ file. Self.File.has_failed file ≡ false) };
+
+    /// Opens the file with this name beside another one, of which it keeps in mind how it is now.
+    ///
+    /// # Errors
+    ///
+    /// As `open`.
+    fn open_beside(
+        &mut self,
+        name: &FileName,
+        other: &Result<Self::File, WorldFault>,
+    ) -> Result<Self::File, WorldFault>
+        ensures opened { opened self.new ≡ opened self.old ++ (name.now, result) ∷ [] }
+        ensures beside { beside self.new ≡ beside self.old ++ (name.now, other.now) ∷ [] }
         ensures closed { closed self.new ≡ closed self.old }
         ensures works { IfOk result (λ file. Self.File.has_failed file ≡ false) };
 
     /// Closes the file that was opened by this name.
     fn close(&mut self, name: &FileName, file: Self::File)
         ensures closed { closed self.new ≡ closed self.old ++ (name.now, file) ∷ [] }
-        ensures opened { opened self.new ≡ opened self.old };
+        ensures opened { opened self.new ≡ opened self.old }
+        ensures beside { beside self.new ≡ beside self.old };
 }

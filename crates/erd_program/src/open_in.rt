@@ -7,6 +7,7 @@ use std::fs;
 pub struct OpenIn<'a, R: fs::Files> {
     files: &'a R,
     opened: Log<FileName, Result<ReadFrom<R::File>, WorldFault>>,
+    beside: Log<FileName, Result<ReadFrom<R::File>, WorldFault>>,
     closed: Log<FileName, ReadFrom<R::File>>,
 }
 
@@ -16,6 +17,7 @@ impl<'a, R: fs::Files> OpenIn<'a, R> {
         OpenIn {
             files,
             opened: Log::new(),
+            beside: Log::new(),
             closed: Log::new(),
         }
     }
@@ -26,6 +28,8 @@ impl<R: fs::Files> Files for OpenIn<'_, R> {
 
     ghost opened = { λ s. s.opened.items };
 
+    ghost beside = { λ s. s.beside.items };
+
     ghost closed = { λ s. s.closed.items };
 
     fn open(&mut self, name: &FileName) -> Result<ReadFrom<R::File>, WorldFault> {
@@ -35,6 +39,15 @@ impl<R: fs::Files> Files for OpenIn<'_, R> {
         };
         self.opened = self.opened.and(name, &given);
         given
+    }
+
+    fn open_beside(
+        &mut self,
+        name: &FileName,
+        other: &Result<ReadFrom<R::File>, WorldFault>,
+    ) -> Result<ReadFrom<R::File>, WorldFault> {
+        self.beside = self.beside.and(name, other);
+        self.open(name)
     }
 
     fn close(&mut self, name: &FileName, file: ReadFrom<R::File>) {

@@ -28,7 +28,7 @@ pub fn run_program<F: Files, I: Source, O: Sink, E: Sink>(
     requires input_works { I.has_failed world.old.input ≡ false }
     requires out_works { O.has_failed world.old.out ≡ false }
     requires err_works { E.has_failed world.old.err ≡ false }
-    ensures { IsProgramRun (outside F.opened F.closed (reader F.File.remaining F.File.has_failed F.File.reads F.File.given)
+    ensures { IsProgramRun (outside F.opened F.beside F.closed (reader F.File.remaining F.File.has_failed F.File.reads F.File.given)
         (reader I.remaining I.has_failed I.reads I.given) (writer O.contents O.has_failed O.is_flushed O.flushes)
         (writer E.contents E.has_failed E.is_flushed E.flushes))
         (words_given (λ all. map string_bytes all.items) words) result (between world.old world.new) }
@@ -48,7 +48,7 @@ fn answered<F: Files, I: Source, O: Sink, E: Sink>(
     requires input_works { I.has_failed world.old.input ≡ false }
     requires out_works { O.has_failed world.old.out ≡ false }
     requires err_works { E.has_failed world.old.err ≡ false }
-    ensures { IsAnswered (outside F.opened F.closed (reader F.File.remaining F.File.has_failed F.File.reads F.File.given)
+    ensures { IsAnswered (outside F.opened F.beside F.closed (reader F.File.remaining F.File.has_failed F.File.reads F.File.given)
         (reader I.remaining I.has_failed I.reads I.given) (writer O.contents O.has_failed O.is_flushed O.flushes)
         (writer E.contents E.has_failed E.is_flushed E.flushes))
         (map string_bytes words.now) result (between world.old world.new) }
@@ -68,7 +68,7 @@ fn done<F: Files, I: Source, O: Sink, E: Sink>(
     requires input_works { I.has_failed world.old.input ≡ false }
     requires out_works { O.has_failed world.old.out ≡ false }
     requires err_works { E.has_failed world.old.err ≡ false }
-    ensures { IsDone (outside F.opened F.closed (reader F.File.remaining F.File.has_failed F.File.reads F.File.given)
+    ensures { IsDone (outside F.opened F.beside F.closed (reader F.File.remaining F.File.has_failed F.File.reads F.File.given)
         (reader I.remaining I.has_failed I.reads I.given) (writer O.contents O.has_failed O.is_flushed O.flushes)
         (writer E.contents E.has_failed E.is_flushed E.flushes))
         request.now result (between world.old world.new) }

@@ -119,6 +119,7 @@ impl Write for Page {
 struct Shelf {
     good: Good,
     opened: Log<FileName, Result<ReadFrom<TextReader>, WorldFault>>,
+    beside: Log<FileName, Result<ReadFrom<TextReader>, WorldFault>>,
     closed: Log<FileName, ReadFrom<TextReader>>,
 }
 
@@ -142,6 +143,8 @@ impl Files for Shelf {
 
     ghost opened = { λ s. s.opened.items };
 
+    ghost beside = { λ s. s.beside.items };
+
     ghost closed = { λ s. s.closed.items };
 
     fn open(&mut self, name: &FileName) -> Result<ReadFrom<TextReader>, WorldFault> {
@@ -152,6 +155,15 @@ impl Files for Shelf {
         self.good.opens = self.good.opens.saturating_sub(1);
         self.opened = self.opened.and(name, &given);
         given
+    }
+
+    fn open_beside(
+        &mut self,
+        name: &FileName,
+        other: &Result<ReadFrom<TextReader>, WorldFault>,
+    ) -> Result<ReadFrom<TextReader>, WorldFault> {
+        self.beside = self.beside.and(name, other);
+        self.open(name)
     }
 
     fn close(&mut self, name: &FileName, file: ReadFrom<TextReader>) {
@@ -188,6 +200,7 @@ pub fn run(alloc: Global, line: Result<&str, WorldFault>, good: Good) -> Result<
         files: Shelf {
             good,
             opened: Log::new(),
+            beside: Log::new(),
             closed: Log::new(),
         },
         input: ReadFrom::of(reader(REPORT, good)),
