@@ -7,6 +7,7 @@ cd "$(dirname "$0")/.." || exit 1
 . tests/parts.sh
 program=crates/erd/out/erd
 tests=crates/erd_rows/out/erd_rows_tests
+program_tests=crates/erd_program/out/erd_program_tests
 
 # left FILE: whether `rt ci` has left what it built; if not, that is a failure
 left() {
@@ -14,7 +15,7 @@ left() {
 }
 
 # What `rt ci` has proved, compiled and run is what the scripts run, so nothing older may stand there.
-rm -f "$program" "$tests"
+rm -f "$program" "$tests" "$program_tests"
 part rt ci
 
 # A check of wrong bodies for each processor, where there are 4 GB of memory for it.
@@ -47,7 +48,7 @@ if left "$program"; then
         'tests/install.sh'
         'python3 tests/instructions.py'
     )
-    left "$tests" && programs+=('tests/refusals.sh')
+    left "$tests" && left "$program_tests" && programs+=('tests/refusals.sh')
     lane "${pages[@]}" "${programs[@]}"
     lane 'tests/edits.py --gate'
     lane 'tests/library.sh' 'tests/portable.sh' 'tests/fuzz.sh' 'tests/calling.sh' 'tests/javascript.sh' 'tests/python.sh' \

@@ -1,8 +1,11 @@
 //! Runs of the program over a world in memory. What they write was worked out from the README.
 use crate::WorldFault;
+use crate::tests::refusing::each_refused;
 use crate::tests::world::{Ended, GOOD, Good, REPORT, run};
+use std::alloc::Global;
 use std::test::Fail;
 
+mod refusing;
 mod world;
 
 const NOTHING: &str = "";
@@ -10,17 +13,30 @@ const NOTHING: &str = "";
 // A line, the status that it ends with, and what it writes to standard output and to standard error.
 type Row = (&'static str, u8, &'static str, &'static str);
 
-const ROWS: [Row; 16] = [
+const ROWS: &[Row] = &[
     ("erd", 0, REPORT, NOTHING),
     ("erd canon one", 0, REPORT, NOTHING),
     ("erd canon --prefer fips one", 0, REPORT, NOTHING),
     ("erd canon empty", 1, NOTHING, ": missing member @type\n"),
     ("erd canon text", 2, NOTHING, "not JSON\n"),
     ("erd check one", 0, "accepted\n", NOTHING),
+    ("erd check --prefer fips other", 0, "accepted\n", NOTHING),
     ("erd check empty", 1, ": missing member @type\n", NOTHING),
     ("erd check text", 2, "not JSON\n", NOTHING),
     ("erd compare one one", 0, "same\n", NOTHING),
     ("erd compare one other", 1, DIFFERENCE, NOTHING),
+    (
+        "erd compare --prefer fips other other",
+        0,
+        "same\n",
+        NOTHING,
+    ),
+    (
+        "erd compare --prefer fips one other",
+        1,
+        DIFFERENCE,
+        NOTHING,
+    ),
     (
         "erd compare one empty",
         1,
@@ -38,39 +54,63 @@ const DIFFERENCE: &str = "unit [\"local-level\",\"\",\"U1\"]: member \"Type\"\n"
 
 // Whether the run ended so.
 fn is(found: &Ended, status: u8, out: &str, err: &str) -> bool {
-    found.status == status
-        && found.out.text() == out.as_bytes()
-        && found.err.text() == err.as_bytes()
+    found.is(status, out.as_bytes(), err.as_bytes())
 }
 
-#[test]
-fn rows(rt: HostRuntime) -> Result<(), Fail> {
-    for (line, status, out, err) in ROWS {
-        let found = run(rt.alloc(), Ok(line), GOOD)?;
-        assert!(rt; is(&found, status, out, err), "at {line}");
+// Runs each line, with memory and with each request for memory refused in turn.
+fn all_end_so(alloc: Global, rows: &[Row]) -> Result<(), Fail> {
+    for (line, status, out, err) in rows {
+        let found = run(alloc, Ok(line), GOOD);
+        if !is(&found, *status, out, err) {
+            return Err(Fail::from(format!(in alloc; "at {line}")?));
+        }
+        each_refused(alloc, line, &found)?;
     }
     Ok(())
 }
 
-// Help, usage, and arguments that the system does not give.
 #[test]
-fn no_request(rt: HostRuntime) -> Result<(), Fail> {
-    let alloc = rt.alloc();
-    let help = run(alloc, Ok("erd --help"), GOOD)?;
-    assert!(rt;
-        help.status == 0
-            && help.err.text().is_empty()
-            && help.out.text().starts_with("Puts ".as_bytes())
-    );
-    let usage = run(alloc, Ok("erd check"), GOOD)?;
-    assert!(rt;
-        usage.status == 3
-            && usage.out.text().is_empty()
-            && usage.err.text().starts_with("error: ".as_bytes())
-    );
-    let refused = run(alloc, Err(WorldFault::Refused), GOOD)?;
+fn refused_rows(rt: HostRuntime) -> Result<(), Fail> {
+    all_end_so(rt.alloc(), ROWS)
+}
+
+// A line that asks for help or is wrong, the status that it ends with, and how what it writes to standard output and to standard
+// error begins.
+const HELP_AND_USAGE: &[Row] = &[
+    ("erd --help", 0, "Puts ", NOTHING),
+    ("erd help compare", 0, "Reads ", NOTHING),
+    ("erd check", 3, NOTHING, "error: "),
+    ("erd nosuch", 3, NOTHING, "error: "),
+];
+
+// Whether the text begins so, and is empty if nothing is wanted.
+fn begins(text: &[u8], wanted: &str) -> bool {
+    text.starts_with(wanted.as_bytes()) && text.is_empty() == wanted.is_empty()
+}
+
+fn all_begin_so(alloc: Global, rows: &[Row]) -> Result<(), Fail> {
+    for (line, status, out, err) in rows {
+        let found = run(alloc, Ok(line), GOOD);
+        let is_so = begins(found.out.text(), out) && begins(found.err.text(), err);
+        if found.status != *status || !is_so {
+            return Err(Fail::from(format!(in alloc; "at {line}")?));
+        }
+        each_refused(alloc, line, &found)?;
+    }
+    Ok(())
+}
+
+#[test]
+fn refused_help_and_usage(rt: HostRuntime) -> Result<(), Fail> {
+    all_begin_so(rt.alloc(), HELP_AND_USAGE)
+}
+
+// The system does not give the arguments.
+#[test]
+fn no_words(rt: HostRuntime) -> Result<(), Fail> {
+    let refused = run(rt.alloc(), Err(WorldFault::Refused), GOOD);
     assert!(rt; is(&refused, 3, NOTHING, "the arguments are not text\n"));
-    let memory = run(alloc, Err(WorldFault::Memory), GOOD)?;
+    let memory = run(rt.alloc(), Err(WorldFault::Memory), GOOD);
     assert!(rt; is(&memory, 4, NOTHING, "no memory\n"));
     Ok(())
 }
@@ -89,22 +129,22 @@ const LINES: [(&str, usize, usize); 5] = [
 fn each_call_fails(rt: HostRuntime) -> Result<(), Fail> {
     for (line, opens, reads) in LINES {
         for opens in 0..opens {
-            let found = run(rt.alloc(), Ok(line), Good { opens, ..GOOD })?;
+            let found = run(rt.alloc(), Ok(line), Good { opens, ..GOOD });
             assert!(rt;
                 is(&found, 3, NOTHING, "cannot open\n"),
                 "at {line}, {opens}"
             );
         }
         for reads in 0..reads {
-            let found = run(rt.alloc(), Ok(line), Good { reads, ..GOOD })?;
+            let found = run(rt.alloc(), Ok(line), Good { reads, ..GOOD });
             assert!(rt;
                 is(&found, 3, NOTHING, "read failed\n"),
                 "at {line}, {reads}"
             );
         }
-        let whole = run(rt.alloc(), Ok(line), GOOD)?;
+        let whole = run(rt.alloc(), Ok(line), GOOD);
         for calls in 0..40 {
-            let found = run(rt.alloc(), Ok(line), Good { out: calls, ..GOOD })?;
+            let found = run(rt.alloc(), Ok(line), Good { out: calls, ..GOOD });
             let is_part = whole.out.text().starts_with(found.out.text());
             let fails = found.status == 3 && found.err.text() == "write failed\n".as_bytes();
             let is_whole = found.status == whole.status && found.out.text() == whole.out.text();
@@ -123,11 +163,11 @@ const UNTOLD: [&str; 3] = ["erd check none", "erd nosuch", "erd canon text"];
 #[test]
 fn each_message_fails(rt: HostRuntime) -> Result<(), Fail> {
     for line in UNTOLD {
-        let none = run(rt.alloc(), Ok(line), Good { err: 0, ..GOOD })?;
+        let none = run(rt.alloc(), Ok(line), Good { err: 0, ..GOOD });
         assert!(rt; is(&none, 3, NOTHING, NOTHING), "at {line}");
     }
     // What is left of the lines, and then nothing more.
-    let canon = run(rt.alloc(), Ok("erd canon empty"), Good { err: 1, ..GOOD })?;
+    let canon = run(rt.alloc(), Ok("erd canon empty"), Good { err: 1, ..GOOD });
     assert!(rt; is(&canon, 3, NOTHING, ": missing member @type\n"));
     Ok(())
 }

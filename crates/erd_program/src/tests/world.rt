@@ -190,10 +190,17 @@ pub struct Ended {
     pub err: Page,
 }
 
+impl Ended {
+    /// Whether the run has ended with this status and these texts.
+    pub fn is(&self, status: u8, out: &[u8], err: &[u8]) -> bool {
+        self.status == status && self.out.text() == out && self.err.text() == err
+    }
+}
+
 /// Runs the program on the words of a line, in a world with a report on standard input.
-pub fn run(alloc: Global, line: Result<&str, WorldFault>, good: Good) -> Result<Ended, AllocError> {
+pub fn run(alloc: Global, line: Result<&str, WorldFault>, good: Good) -> Ended {
     let words = match line {
-        Ok(line) => Ok(words_of(alloc, line)?),
+        Ok(line) => words_of(alloc, line).map_err(WorldFault::from),
         Err(fault) => Err(fault),
     };
     let mut world = World {
@@ -208,13 +215,14 @@ pub fn run(alloc: Global, line: Result<&str, WorldFault>, good: Good) -> Result<
         err: WriteTo::of(Page::empty(good.err)),
     };
     let status = run_program(alloc, words, &mut world);
-    Ok(Ended {
+    Ended {
         status,
         out: world.out.writer,
         err: world.err.writer,
-    })
+    }
 }
 
+// The words of the line.
 fn words_of(alloc: Global, line: &str) -> Result<Vec<String>, AllocError> {
     let mut words = Vec::new(alloc);
     for word in line.split(' ') {
