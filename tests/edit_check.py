@@ -28,11 +28,17 @@ class Checked:
         self.goals = collections.defaultdict(list)
         self.misfits = collections.defaultdict(list)
         for note in filter(None, map(NOTE.match, said.splitlines())):
-            self.goals[at_line(sources, note[1], int(note[2]))].append(note[3])
+            self.goals[self.as_checked(at_line(sources, note[1], int(note[2])))].append(note[3])
         for path, file, error in ERROR.findall(said):
             if not FOLLOWS.search(error):
                 is_misfit = file == "Invariants" or NAMES.search(error)
                 (self.misfits if is_misfit else self.goals)[path.replace("/", "::")].append(error.replace("\n ", ""))
+
+    def as_checked(self, function):
+        """Returns the function as the check names it: a method outside the module of its type has the name of that module."""
+        method = re.search(r"[A-Z]\w*::\w+$", function or "")
+        named = [it for it in self.lines if method and f"::{it}".endswith(f"::{method[0]}")]
+        return named[0] if function not in self.lines and len(named) == 1 else function
 
     def unread_in(self, paths):
         """Returns whether an error of the compiler names one of these files."""

@@ -35,10 +35,18 @@ impl<'a, R: Read> Source<R> for Option<Key<'a, R>> {
 fn walk(items: &[Value]) -> bool {
     true
 }
+
+impl Outer {
+    pub fn size(&self) -> usize {
+        2
+    }
+}
 """
 LINE = "fn some::a::b::counts: no proof: expected answers in ./proofs/a/b/counts/Answers.antt; `search` did not prove `returns`"
 CALLS = "fn some::a::b::counts: no proof: it calls `some::a::b::other`, which is not proved"
 GOAL = "note: src/a/b.rt:6:1: it is not proved that what the function ensures holds when it returns (`returns`)"
+METHOD = "fn some::outer::Outer::size: no proof: expected answers in ./proofs/outer/Outer/size/Answers.antt"
+METHOD_GOAL = GOAL.replace(":6:1", ":33:5")
 NAME = "./proofs/a/b/counts/Answers.antt:7:15: error: `returns`: record `Lts.After-len`\n  has no field `len`"
 TYPE = "./proofs/a/b/counts/Answers.antt:7:15: error: `returns`: as printed, the two types first differ"
 INVARIANT = "./proofs/a/b/counts/Invariants.antt:7:15: error: `invariant-loop-at`: as printed, the two types first differ"
@@ -48,10 +56,10 @@ def function_with(text):
     return edit_files.function_at("src/a/b.rt", SOURCE, SOURCE.index(text) + len(text))
 
 
-def judged(*lines):
+def judged(*lines, function="a::b::counts"):
     """Returns `yes`, `no` or `unseen` for a check that said these lines."""
     found = edit_check.Checked("\n".join(lines), lambda path: SOURCE)
-    is_refused, why = found.refusal("a::b::counts", "a::b::counts")
+    is_refused, why = found.refusal(function, function)
     return "yes" if is_refused else "no" if why else "unseen"
 
 
@@ -83,6 +91,7 @@ CASES = [
     ("another call alone", lambda: judged(CALLS), "unseen"),
     ("nothing", lambda: judged("only=1 proved=0"), "unseen"),
     ("a goal of another function", lambda: judged(CALLS, GOAL.replace(":6:1", ":16:5")), "unseen"),
+    ("a method outside its type's module", lambda: judged(METHOD, METHOD_GOAL, function="outer::Outer::size"), "yes"),
     ("a proof", lambda: judged("fn some::a::b::counts: proved"), "no"),
     ("a missing name", lambda: judged(LINE, NAME), "no"),
     ("a missing name beside an open goal", lambda: judged(LINE, GOAL, NAME), "no"),
