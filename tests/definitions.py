@@ -43,6 +43,7 @@ SOURCES = {
     'erd_check/Visits': 'this project',
     'erd_compare/DifferenceData': 'docs/DATA.md',
     'erd_compare/DifferenceLine.key_as_json': 'RFC 8259',
+    'erd_meaning/Families': 'this project',
     'erd_meaning/Hashes': 'this project',
     'erd_meaning/Lookups.id_in': "the standard's rule of references",
     'erd_meaning/Lookups.election_in': 'class Election',

@@ -255,8 +255,8 @@ impl<'a> Report<'a> {
         self.objects().key_at(family, index)
     }
 
-    /// Returns the keys of the objects of the family in rising order, each with the position of its object. It sorts them,
-    /// except those of candidates and parties: these are sorted when the report is resolved.
+    /// Returns the keys of the objects of the family in rising order, each with the position of its object. They are sorted
+    /// when the report is resolved.
     ///
     /// # Errors
     ///

@@ -10,28 +10,29 @@ ghost use Rattle.erd_meaning.specs.code.Shown.{shown};
 use crate::keys::key::Key;
 use crate::keys::shared_key::SharedKey;
 use crate::objects::key_order::{KeyOrder, key_order};
-use crate::objects::rising_keys::{keys_at, rising_keys};
+use crate::objects::per_family::PerFamily;
+use crate::objects::rising_keys::keys_at;
 use crate::objects::table::ObjectTable;
 use erd_tables::{Class, Family};
 use serde_json::Value;
 use std::alloc::{AllocError, Global};
 use std::marker::Model;
 
-/// The objects of a report, with the order of the candidates and that of the parties by their keys. Names of selections are
-/// compared by the ranks in these orders. Contracts see the objects.
+/// The objects of a report, with the order of each family by keys. Names of selections are compared by the ranks in the orders
+/// of the candidates and the parties. Contracts see the objects.
 #[derive(Debug, Drop)]
 pub(crate) struct RankedObjects<'a> {
     table: ObjectTable<'a>,
-    candidates: KeyOrder,
-    parties: KeyOrder,
+    orders: PerFamily<KeyOrder>,
 }
 
 impl<'a> Model for RankedObjects<'a> {
     ghost use Rattle.std.specs.Prelude.{List, map};
     ghost use Rattle.std.specs.Coded.{codes};
     ghost use Rattle.serde_json.specs.contracts.value.Value as tree_value;
-    ghost use Rattle.erd_tables.specs.declared.class.Family.TheVariants as family;
+    ghost use Rattle.erd_tables.specs.declared.class.Family.{Family};
     ghost use Rattle.erd_meaning.specs.declared.objects.object.Object.{Object};
+    ghost use Rattle.erd_meaning.specs.Families.{entry_of};
     ghost use Rattle.erd_meaning.specs.code.RanksAmong.{IsKeyOrder};
     ghost use Rattle.erd_meaning.specs.code.Shown.{shown};
 
@@ -41,22 +42,16 @@ impl<'a> Model for RankedObjects<'a> {
 
     ghost view = { λ r. r.table };
 
-    ghost invariant = { λ r. IsKeyOrder (map shown r.table) family.Candidate r.candidates.positions.items r.candidates.ranks.items
-        × IsKeyOrder (map shown r.table) family.Party r.parties.positions.items r.parties.ranks.items };
+    ghost invariant = { λ r. (f : Family) → IsKeyOrder (map shown r.table) f (entry_of r.orders f).positions.items (entry_of r.orders f).ranks.items };
 }
 
 impl<'a> RankedObjects<'a> {
-    /// Returns the objects, with the orders of candidates and parties by key.
+    /// Returns the objects, with the order of each family by keys.
     pub(crate) fn of(alloc: Global, table: ObjectTable<'a>) -> Result<RankedObjects<'a>, AllocError>
         ensures { IfOk result (λ ranked. ranked ≡ table.entry) }
     {
-        let candidates = key_order(alloc, &table, Family::Candidate)?;
-        let parties = key_order(alloc, &table, Family::Party)?;
-        Ok(RankedObjects {
-            table,
-            candidates,
-            parties,
-        })
+        let orders = PerFamily::of(|family| key_order(alloc, &table, family))?;
+        Ok(RankedObjects { table, orders })
     }
 
     /// Returns the objects.
@@ -105,14 +100,10 @@ impl<'a> RankedObjects<'a> {
     fn ranks(&self, class: Class) -> &[usize]
         ensures { AreRanks (map shown self.now) (family_chosen class) result.now }
     {
-        match class {
-            Class::PartySelection => &self.parties.ranks,
-            _ => &self.candidates.ranks,
-        }
+        &self.orders.get(family_chosen(class)).ranks
     }
 
-    /// Returns the keys of the objects of the family in rising order, each with the position of its object. Those of
-    /// candidates and of parties are sorted already.
+    /// Returns the keys of the objects of the family in rising order, each with the position of its object.
     pub(crate) fn rising_keys(
         &self,
         alloc: Global,
@@ -120,12 +111,8 @@ impl<'a> RankedObjects<'a> {
     ) -> Result<Vec<(Option<&Key>, usize)>, AllocError>
         ensures { IfOk result (λ rising. seen_keys rising.items ≡ rising_keys_among (map shown self.now) family) }
     {
-        let sorted = match family {
-            Family::Candidate => &self.candidates.positions,
-            Family::Party => &self.parties.positions,
-            _ => return rising_keys(alloc, &self.table, family),
-        };
-        keys_at(alloc, &self.table, family, sorted)
+        let positions = &self.orders.get(family).positions;
+        keys_at(alloc, &self.table, family, positions)
     }
 }
 

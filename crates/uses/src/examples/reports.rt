@@ -2,7 +2,7 @@
 use crate::report_of;
 use erd_check::{same_json, shape};
 use erd_compare::first_difference;
-use erd_meaning::{Key, NumberedName, Report, SelectionName, key_of, resolve, resolve_with};
+use erd_meaning::{Key, NumberedName, PerFamily, Report, SelectionName, key_of, resolve, resolve_with};
 use erd_normal::{CompactText, SetOrder, in_order, normal_text, normal_tree};
 use erd_tables::{Family, Text};
 use serde_json::Value;
@@ -47,6 +47,13 @@ fn objects(rt: &impl Abort, report: &Report) {
     assert!(rt; report.object(Family::Candidate, 1).is_none());
     assert_eq!(rt; report.target("k1"), Some((Family::Candidate, 0)));
     assert_eq!(rt; report.first_selection(0), 0);
+}
+
+// One value for each family.
+fn counts(rt: &impl Abort, report: &Report) -> Result<(), Fail> {
+    let counts = PerFamily::of(|family| Ok(report.count(family)))?;
+    assert_eq!(rt; *counts.get(Family::Selection), 2);
+    Ok(())
 }
 
 // What the report finds by keys.

@@ -1,10 +1,12 @@
 use Rattle.std.specs.Option.{option_copied}
-use Rattle.std.proofs.Common.{subst}
+use Rattle.std.proofs.Common.{List, map, ap, ◌∙◌, subst}
 use Rattle.std.proofs.lemmas.Result.{err_from_is_err_and}
 use Rattle.serde_json.specs.View.{view}
 use Rattle.serde_json.specs.declared.value.Value.{Value}
 use Rattle.erd_check.specs.Refusals.{RefusedFor}
 use Rattle.erd_meaning.specs.Accepted.{IsAccepted, IsFault}
+use Rattle.erd_meaning.specs.code.Shown.{shown}
+use Rattle.erd_meaning.specs.declared.objects.object.Object.{Object}
 use Rattle.erd_meaning.proofs.accepted.Phases.{accepted_by_phases}
 use Rattle.erd_meaning.proofs.refused.Refused.{refused_for_identity, refused_for_references, refused_for_selections}
 use Rattle.erd_meaning.proofs.report.resolving.resolve_with.Goals as goal
@@ -40,3 +42,17 @@ returns-clause-accepted c =
     subst (λ (v : Value). IsAccepted (option_copied c.args.prefer) (view v)) c.tree-tree.ensures.tree
     (accepted_by_phases (option_copied c.args.prefer) (view c.tree-tree.result.now) c.tree-tree.ensures.faultless c.in_ok-objects.ensures.identified c.in_ok-check_references.ensures.referred
     c.in_ok-names.ensures.told_apart)
+
+pub indexed-requires-clause-resolved : goal.indexed-requires-clause-resolved
+indexed-requires-clause-resolved c = record {
+  faultless = c.tree-tree.ensures.faultless;
+  shallow = c.tree-tree.ensures.nests;
+  is_tree = c.tree-tree.ensures.is_tree;
+  whole = c.tree-tree.ensures.whole;
+  fits = c.tree-tree.ensures.fits;
+  identified = c.in_ok-objects.ensures.identified;
+  referred = c.in_ok-check_references.ensures.referred;
+  told_apart = c.in_ok-names.ensures.told_apart;
+  kept = ap (λ (os : List Object). map shown os) c.in_ok-objects-2.ensures ∙ c.in_ok-objects.ensures.kept;
+  named = c.in_ok-names.ensures.named;
+}
