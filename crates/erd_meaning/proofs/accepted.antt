@@ -5,3 +5,4 @@ pub mod References
 pub mod Skeleton
 pub mod Standing
 pub mod KeyedElections
+pub mod DistinctKeys

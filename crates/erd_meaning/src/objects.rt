@@ -2,11 +2,10 @@
 
 pub(crate) mod election_table;
 pub(crate) mod holders;
-mod key_order;
 pub(crate) mod object;
 pub(crate) mod object_walk;
+pub(crate) mod order;
 pub(crate) mod per_family;
 pub(crate) mod places;
 pub(crate) mod ranked_objects;
-mod rising_keys;
 pub(crate) mod table;

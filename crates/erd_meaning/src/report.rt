@@ -23,6 +23,7 @@ use crate::names::selection_name::SelectionName;
 use crate::names::sought_name::SoughtName;
 use crate::objects::election_table::ElectionTable;
 use crate::objects::holders::Holders;
+use crate::objects::order::Order;
 use crate::objects::ranked_objects::RankedObjects;
 use crate::objects::table::ObjectTable;
 use erd_check::values::entries_at;
@@ -56,10 +57,11 @@ pub(crate) struct Indexes<'a> {
     pub(crate) elections: Elections<'a>,
 }
 
-/// The keys of the elections of a report, and which election contains which object.
+/// The keys of the elections of a report, their order by these, and which election contains which object.
 #[derive(Debug, Drop)]
 pub(crate) struct Elections<'a> {
     pub(crate) keys: ElectionTable<'a>,
+    pub(crate) order: Order,
     pub(crate) holders: Holders,
 }
 

@@ -2,7 +2,7 @@
 pub mod Bounds
 pub mod CanonicalIds
 pub mod SelectionTexts
-pub mod DistinctObjects
+pub mod DistinctSelections
 pub mod DistinctSets
 pub mod RisingReports
 pub mod NormalKeys

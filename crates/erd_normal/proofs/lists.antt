@@ -1,7 +1,6 @@
 -- Lists in rising order, and what is found in them.
 pub mod FilteredRising
 pub mod RisingAgain
-pub mod RisingRanks
 pub mod NumbersInOrder
 pub mod StableSorts
 pub mod StableRising

@@ -15,7 +15,7 @@ use Rattle.erd_tables.specs.declared.class.Family.{Family}
 use Rattle.erd_tables.specs.declared.class.Role.{Role}
 use Rattle.erd_tables.specs.declared.class.Role.TheVariants as role
 use Rattle.erd_meaning.specs.Keys.{Preference, key_cmp}
-use Rattle.erd_meaning.specs.code.RanksAmong.{positioned}
+use Rattle.erd_meaning.specs.code.KeyOrders.{positioned}
 use Rattle.erd_meaning.specs.Lookups.{rising_keys}
 use Rattle.erd_meaning.specs.Objects.{Placed}
 use Rattle.erd_meaning.specs.SelectionNames.{rising_list}

@@ -113,7 +113,7 @@ module _ (π : Preference) (t : Data) (c : IsComparable π t) (f : Family) (keye
   kept d = rw keyed
 
   identified : (i : ℕ) (o : Placed) → slice_get (objects f t) i ≡ Some o → (k : Key) × (key_of π o.value ≡ Some k)
-  identified i o at = has_identifier π t c.accepted f o keyed (has_at (objects f t) i o at)
+  identified i o at = has_identifier π t (no_identity_fault π t c.accepted) f o keyed (has_at (objects f t) i o at)
 
   apart_in_family : AreApart π (objects f t)
   apart_in_family i j o p at there same =
@@ -161,7 +161,7 @@ module _ (π : Preference) (t : Data) (c : IsComparable π t) where
   apart_elections i j o p at there same = by_key (key_of π o.value) refl
     where
       sole : (b : Bool) → has_several t ≡ b → key_of π o.value ≡ None → i ≡ j
-      sole true is none = let its = election_has_identifier π t c.accepted is o (has_at (elections t) i o at) in let clash : None ≡ Some its.0 = sym none ∙ its.1 in absurd (cc clash)
+      sole true is none = let its = election_has_identifier π t (no_identity_fault π t c.accepted) is o (has_at (elections t) i o at) in let clash : None ≡ Some its.0 = sym none ∙ its.1 in absurd (cc clash)
       sole false is none = omega (arith, few (length (elections t)) is, low_at (elections t) i o at, low_at (elections t) j p there)
 
       by_key : (k : Option Key) → key_of π o.value ≡ k → i ≡ j

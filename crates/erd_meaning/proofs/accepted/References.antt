@@ -9,13 +9,14 @@ use Rattle.erd_tables.specs.declared.place.Step.TheVariants.{At, Name}
 use Rattle.erd_tables.specs.declared.class.Family.TheVariants as family
 use Rattle.erd_tables.specs.declared.class.Role.TheVariants as role
 use Rattle.erd_tables.specs.declared.fault.Reason.TheVariants as reason
+use Rattle.erd_check.specs.Faults.{NoneOf}
 use Rattle.erd_check.specs.Wants.{Asked, asked_at, asked}
 use Rattle.erd_check.proofs.Rising.{Has, here, later}
 use Rattle.erd_check.specs.declared.want.Want.TheVariants.{Reference}
 use Rattle.erd_check.proofs.Shapes.{Within, false_unless, not_within, true_unless}
 use Rattle.erd_meaning.specs.declared.keys.key.Key.{Key}
 use Rattle.erd_meaning.specs.Accepted.{IsAccepted}
-use Rattle.erd_meaning.specs.LaterFaults.{is_reference_fault, is_selection_in}
+use Rattle.erd_meaning.specs.LaterFaults.{IdentityFault, is_reference_fault, is_selection_in}
 use Rattle.erd_meaning.specs.Objects.{Placed, has_id, is_owned, objects, owner}
 use Rattle.erd_meaning.specs.SelectionNames.{key_named}
 use Rattle.erd_meaning.specs.Keys.{Preference, has_keys, key_of}
@@ -96,11 +97,11 @@ option_map-Some f None y e = cc
 option_map-Some f (Some x) y e = (x, refl, cc)
 
 -- an object of a family that is named by keys has one
-pub has_identifier : (π : Preference) (t : Data) → IsAccepted π t → (f : Family) (o : Placed) → has_keys f ≡ true → Has (objects f t) o → (k : Key) × (key_of π o.value ≡ Some k)
-has_identifier π t accepted f o keyed h = at (key_of π o.value) refl
+pub has_identifier : (π : Preference) (t : Data) → NoneOf (IdentityFault π t) → (f : Family) (o : Placed) → has_keys f ≡ true → Has (objects f t) o → (k : Key) × (key_of π o.value ≡ Some k)
+has_identifier π t none f o keyed h = at (key_of π o.value) refl
   where
     at : (k : Option Key) → key_of π o.value ≡ k → (l : Key) × (key_of π o.value ≡ Some l)
-    at None e = absurd (no_identity_fault π t accepted o.place reason.NoIdentifier (record { role = role.OfFamily f; needed = keyed; placed = o; stands = Contains-Has (objects f t) o h; place = refl; keyless = e }))
+    at None e = absurd (none o.place reason.NoIdentifier (record { role = role.OfFamily f; needed = keyed; placed = o; stands = Contains-Has (objects f t) o h; place = refl; keyless = e }))
     at (Some k) e = (k, e)
 
 -- a reference names an object that has a key
@@ -108,5 +109,5 @@ pub resolves : (π : Preference) (t : Data) → IsAccepted π t → (f : Family)
 resolves π t accepted f r keyed w =
     let o = owned π t accepted f r w in
     let x = option_map-Some (λ x. x.value) (find (λ x. has_id r x.value) (objects f t)) o.0 o.1 in
-    let k = has_identifier π t accepted f x.0 keyed (find-Some (λ x. has_id r x.value) (objects f t) x.0 x.1).0 in
+    let k = has_identifier π t (no_identity_fault π t accepted) f x.0 keyed (find-Some (λ x. has_id r x.value) (objects f t) x.0 x.1).0 in
     (k.0, ap (option_and_then (key_of π)) o.1 ∙ ap (key_of π) (sym x.2) ∙ k.1)

@@ -7,6 +7,10 @@ use Rattle.std.specs.List.Sorted.{IsPartitionedBy, IsSorted, IsStable, ties}
 use Rattle.std.specs.Ordering.{is_lt}
 use Rattle.erd_meaning.specs.SelectionNames.{rising_list, with_inserted}
 
+-- pairs by their keys
+abbrev pub by_first : {K T : Type 0} → (K → K → Ordering) → K × T → K × T → Ordering
+by_first cmp a b = cmp a.0 b.0
+
 -- ---- lists in order
 
 module _ {A : Type 0} (cmp : A → A → Ordering) (order : IsTotalOrder cmp) where

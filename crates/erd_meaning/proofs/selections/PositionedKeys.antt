@@ -1,25 +1,30 @@
--- The keys of a family with their positions: one more, in rising order, and the ranks that are counted among them.
-use Rattle.std.proofs.Common.{◌≡◌, ◌+◌, ◌<◌, ◌++◌, ℕ, List, [], ◌∷◌, suc, length, filter, map, cond, Bool, true, false, Ordering, Option, Some, None, is_lt, option_and_then, option_map, slice_get, take, refl, sym, ap, ap₂, ◌∙◌, arith}
+-- Keys with their positions: one more, in rising order, and those of a family with their ranks.
+use Rattle.std.proofs.Common.{◌≡◌, ◌+◌, ◌<◌, ◌++◌, ℕ, zero, suc, inl, inr, List, [], ◌∷◌, length, filter, map, cond, Bool, true, false, Ordering, Option, Some, None, is_lt, option_and_then, option_map, slice_get, take, refl, sym, ap, ap₂, ◌∙◌, arith}
 use Rattle.std.proofs.lemmas.List.{length-map, length-take, map-append, take_more}
 use Rattle.std.proofs.lemmas.Option.{get_or_from_slice_get, slice_get-map}
-use Rattle.std.specs.List.{AllByRecursion, enumerate_from}
+use Rattle.std.proofs.lemmas.Simd.{map-map}
+use Rattle.std.specs.List.{AllByRecursion, IsDistinct, enumerate_from}
 use Rattle.std.specs.Option.{option_cmp, option_copied}
+use Rattle.std.specs.Ordering.{eq_by_cmp}
+use Rattle.erd_check.proofs.Order.{In}
 use Rattle.erd_check.proofs.Positions.{all_weakened}
 use Rattle.erd_tables.specs.declared.class.Family.{Family}
 use Rattle.serde_json.specs.Data.{Data}
 use Rattle.erd_meaning.specs.Keys.{Preference, key_cmp, key_of_family_object}
 use Rattle.erd_meaning.specs.Lookups.{rising_keys}
 use Rattle.erd_meaning.specs.Objects.{Placed, objects}
-use Rattle.erd_meaning.specs.code.RanksAmong.{key_at_among, lent_key_cmp, positioned, rank_among, rising_keys_among, seen_keys}
+use Rattle.erd_meaning.specs.code.KeyOrders.{IsOrder, family_keys, keys_seen, lent_key_cmp, positioned, rank_in_keys, seen_keys}
+use Rattle.erd_meaning.specs.code.RanksAmong.{AreRanks, key_at_among, rising_keys_among}
 use Rattle.erd_meaning.specs.SelectionNames.{rising_list}
 use Rattle.erd_meaning.specs.code.ObjectLookups.{those_of}
 use Rattle.erd_meaning.specs.code.ObjectWalk.{Kept}
 use Rattle.erd_meaning.specs.declared.keys.key.Key.{Key}
+use Rattle.erd_meaning.specs.declared.objects.order.Order.{Order}
 use denote.Ref.{Bor}
 use Rattle.erd_meaning.proofs.finding.OneObject.{at_low}
-use Rattle.erd_meaning.proofs.orders.Counted.{count-rising, count_map}
+use Rattle.erd_meaning.proofs.orders.Counted.{count_map}
 use Rattle.erd_meaning.proofs.orders.RisingAlike.{all_rising}
-use Rattle.erd_meaning.proofs.orders.RisingLists.{rising_list_map}
+use Rattle.erd_meaning.proofs.orders.RisingLists.{by_first, rising_list_map}
 use Rattle.erd_meaning.proofs.selections.RankedKeys.{copied_cmp}
 
 -- a borrowed key with a position
@@ -65,20 +70,78 @@ all_positioned {K} all (k ∷ ks) i same =
     let here : slice_get all i ≡ Some k = let none : i ≡ i + 0 = omega arith in ap (slice_get all) none ∙ sym (same 0) in
     (here, all_positioned all ks (i + 1) (λ j. let next : i + suc j ≡ i + 1 + j = omega arith in same (suc j) ∙ ap (slice_get all) next))
 
+pub length_positioned : {K : Type 0} (n : ℕ) (ks : List K) → length (positioned n ks) ≡ length ks
+length_positioned n [] = refl
+length_positioned n (k ∷ ks) = ap suc (length_positioned (n + 1) ks)
+
+-- what stands at a position
+pub record KeyAt {K : Type 0} (n : ℕ) (ks : List K) (p : K × ℕ) : Type 0 where
+  pub index : ℕ
+  pub at : slice_get ks index ≡ Some p.0
+  pub is : p.1 ≡ n + index
+
+pub key_positioned : {K : Type 0} (n : ℕ) (ks : List K) (p : K × ℕ) → In p (positioned n ks) → KeyAt n ks p
+key_positioned n [] p i = absurd i
+key_positioned n (k ∷ ks) p (inl e) = let count : n ≡ n + 0 = omega arith in record { index = 0; at = ap (λ x. Some x.0) e; is = sym (ap (λ x. x.1) e) ∙ count }
+key_positioned n (k ∷ ks) p (inr i) =
+    let rest = key_positioned (n + 1) ks p i in
+    let count : (n + 1) + rest.index ≡ n + suc rest.index = omega arith in
+    record { index = suc rest.index; at = rest.at; is = rest.is ∙ count }
+
+-- keys of one position are one
+pub one_positioned_at : {K : Type 0} (ks : List K) (p q : K × ℕ) → In p (positioned 0 ks) → In q (positioned 0 ks) → p.1 ≡ q.1 → p ≡ q
+one_positioned_at ks p q a b e =
+    let x = key_positioned 0 ks p a in
+    let y = key_positioned 0 ks q b in
+    let here : p.1 ≡ 0 + x.index = x.is in
+    let there : q.1 ≡ 0 + y.index = y.is in
+    let one : x.index ≡ y.index = omega (arith, e) in
+    let same : Some p.0 ≡ Some q.0 = sym x.at ∙ (ap (slice_get ks) one ∙ y.at) in
+    let keys : p.0 ≡ q.0 = cc in
+    λ i. (keys i, e i)
+
+-- each key stands at its position
+pub stands_positioned : {K : Type 0} (n : ℕ) (ks : List K) (i : ℕ) (k : K) → slice_get ks i ≡ Some k → slice_get (positioned n ks) i ≡ Some (k, n + i)
+stands_positioned n [] i k e = absurd (cc)
+stands_positioned n (x ∷ ks) zero k e =
+    let same : x ≡ k = cc in
+    let count : n ≡ n + 0 = omega arith in
+    ap (λ y. Some (y, n)) same ∙ ap (λ m. Some (k, m)) count
+stands_positioned n (x ∷ ks) (suc i) k e = let count : (n + 1) + i ≡ n + suc i = omega arith in stands_positioned (n + 1) ks i k e ∙ ap (λ m. Some (k, m)) count
+
+others_apart : {K : Type 0} (cmp : K → K → Ordering) (k : K) (m n : ℕ) (ks : List K) → AllByRecursion (λ x. eq_by_cmp cmp k x ≡ false) ks → AllByRecursion (λ q. eq_by_cmp (by_first cmp) (k, m) q ≡ false) (positioned n ks)
+others_apart cmp k m n [] h = tt
+others_apart cmp k m n (x ∷ ks) h = (h.0, others_apart cmp k m (n + 1) ks h.1)
+
+-- distinct keys stay distinct beside their positions
+pub apart_positioned : {K : Type 0} (cmp : K → K → Ordering) (n : ℕ) (ks : List K) → IsDistinct (eq_by_cmp cmp) ks → IsDistinct (eq_by_cmp (by_first cmp)) (positioned n ks)
+unfolding IsDistinct
+apart_positioned cmp n [] h = tt
+apart_positioned cmp n (k ∷ ks) h = (others_apart cmp k n (n + 1) ks h.0, apart_positioned cmp (n + 1) ks h.1)
+
 -- ---- one more key
 
-pub one_positioned : (os : List Kept) (i : ℕ) (keys : List KeyEntry) (key : Option (Bor Key)) → i < length os → seen_keys keys ≡ positioned 0 (map (λ k. k.key) (take i os))
-    → option_copied key ≡ option_and_then (λ k. k.key) (slice_get os i) → seen_keys (keys ++ (key, i) ∷ []) ≡ positioned 0 (map (λ k. k.key) (take (i + 1) os))
-one_positioned os i keys key low before is =
-    let there = at_low os i low in
-    let o = there.0 in
-    let here : option_copied key ≡ o.key = is ∙ ap (option_and_then (λ (k : Kept). k.key)) there.1 in
-    let taken = map (λ (k : Kept). k.key) (take i os) in
-    let long : i ≡ 0 + length taken = omega (arith, low, length-map {A = Kept} {B = Option Key}, length-take {A = Kept}) in
+pub one_positioned : (ks : List (Option Key)) (i : ℕ) (keys : List KeyEntry) (key : Option (Bor Key)) → i < length ks → seen_keys keys ≡ positioned 0 (take i ks)
+    → option_copied key ≡ option_and_then (λ k. k) (slice_get ks i) → seen_keys (keys ++ (key, i) ∷ []) ≡ positioned 0 (take (i + 1) ks)
+one_positioned ks i keys key low before is =
+    let there = at_low ks i low in
+    let k = there.0 in
+    let here : option_copied key ≡ k = is ∙ ap (option_and_then (λ (l : Option Key). l)) there.1 in
+    let long : i ≡ 0 + length (take i ks) = omega (arith, low, length-take {A = Option Key}) in
     map-append {A = KeyEntry} (λ p. (option_copied p.0, p.1)) keys ((key, i) ∷ [])
-    ∙ ap₂ (λ (xs : List KeyPosition) x. xs ++ x ∷ []) before (ap₂ (λ (k : Option Key) n. (k, n)) here long)
-    ∙ sym (positioned-append 0 taken o.key)
-    ∙ ap (positioned 0) (sym (map-append (λ (k : Kept). k.key) (take i os) (o ∷ [])) ∙ ap (map (λ (k : Kept). k.key)) (sym (take_more os i o low ∙ ap (λ (k : Kept). take i os ++ k ∷ []) (get_or_from_slice_get os i o o there.1))))
+    ∙ ap₂ (λ (xs : List KeyPosition) x. xs ++ x ∷ []) before (ap₂ (λ (l : Option Key) n. (l, n)) here long)
+    ∙ sym (positioned-append 0 (take i ks) k)
+    ∙ ap (positioned 0) (sym (take_more ks i k low ∙ ap (λ (l : Option Key). take i ks ++ l ∷ []) (get_or_from_slice_get ks i k k there.1)))
+
+-- the key of the object at a position
+pub key_of_those : (os : List Kept) (i : ℕ) → option_and_then (λ (k : Kept). k.key) (slice_get os i) ≡ option_and_then (λ (k : Option Key). k) (slice_get (map (λ (k : Kept). k.key) os) i)
+key_of_those [] i = refl
+key_of_those (o ∷ os) zero = refl
+key_of_those (o ∷ os) (suc i) = key_of_those os i
+
+-- keys that stand with their positions, without these
+pub keys_placed : (keys : List KeyEntry) (ks : List (Option Key)) → seen_keys keys ≡ positioned 0 ks → keys_seen keys ≡ ks
+keys_placed keys ks are = sym (map-map (λ (p : KeyPosition). p.0) (λ (p : KeyEntry). (option_copied p.0, p.1)) keys) ∙ ap (map (λ (p : KeyPosition). p.0)) are ∙ positioned_keys 0 ks
 
 -- ---- in rising order
 
@@ -92,10 +155,7 @@ rising_seen keys =
     ∙ rising_list_map see (λ a b. option_cmp key_cmp a.0 b.0) keys
 
 module _ (ks : List Kept) (f : Family) where
-  abbrev own_keys : List (Option Key)
-  own_keys = map (λ (k : Kept). k.key) (those_of f ks)
-
-  key_there : (i : ℕ) (key : Option Key) → slice_get own_keys i ≡ Some key → key ≡ key_at_among ks f i
+  key_there : (i : ℕ) (key : Option Key) → slice_get (family_keys ks f) i ≡ Some key → key ≡ key_at_among ks f i
   key_there i key e = at (slice_get (those_of f ks) i) (sym (slice_get-map (λ (k : Kept). k.key) (those_of f ks) i) ∙ e)
     where
       at : (o : Option Kept) → option_map (λ (k : Kept). k.key) o ≡ Some key → key ≡ option_and_then (λ (k : Kept). k.key) o
@@ -105,8 +165,8 @@ module _ (ks : List Kept) (f : Family) where
   -- each key is that of the object at its position
   pub each_there : AllByRecursion (λ (p : KeyPosition). p.0 ≡ key_at_among ks f p.1) (rising_keys_among ks f)
   each_there =
-      all_rising (λ (p : KeyPosition). p.0 ≡ key_at_among ks f p.1) (λ a b. option_cmp key_cmp a.0 b.0) (positioned 0 own_keys)
-      (all_weakened (λ (p : KeyPosition). slice_get own_keys p.1 ≡ Some p.0) (λ (p : KeyPosition). p.0 ≡ key_at_among ks f p.1) (positioned 0 own_keys) (λ p e. key_there p.1 p.0 e) (all_positioned own_keys own_keys 0 (λ j. let none : j ≡ 0 + j = omega arith in ap (slice_get own_keys) none)))
+      all_rising (λ (p : KeyPosition). p.0 ≡ key_at_among ks f p.1) (λ a b. option_cmp key_cmp a.0 b.0) (positioned 0 (family_keys ks f))
+      (all_weakened (λ (p : KeyPosition). slice_get (family_keys ks f) p.1 ≡ Some p.0) (λ (p : KeyPosition). p.0 ≡ key_at_among ks f p.1) (positioned 0 (family_keys ks f)) (λ p e. key_there p.1 p.0 e) (all_positioned (family_keys ks f) (family_keys ks f) 0 (λ j. let none : j ≡ 0 + j = omega arith in ap (slice_get (family_keys ks f)) none)))
 
   -- the positions give the keys back
   pub from_positions : map (λ i. (key_at_among ks f i, i)) (map (λ (p : KeyPosition). p.1) (rising_keys_among ks f)) ≡ rising_keys_among ks f
@@ -116,30 +176,11 @@ module _ (ks : List Kept) (f : Family) where
       at [] h = refl
       at (p ∷ ps) h = ap₂ (λ (k : Option Key) (rest : List KeyPosition). (k, p.1) ∷ rest) (sym h.0) (at ps h.1)
 
-  -- as many of the sorted keys are less than a key as its rank says
-  pub rank_counted : (rising : List KeyEntry) (key : Option (Bor Key)) → seen_keys rising ≡ rising_keys_among ks f
-      → length (filter (λ p. is_lt (lent_key_cmp p.0 key)) rising) ≡ rank_among ks f (option_copied key)
-  rank_counted rising key seen =
-      let less = λ (k : Option Key). is_lt (option_cmp key_cmp k (option_copied key)) in
-      ap (λ (test : KeyEntry → Bool). length (filter test rising)) (λ i p. is_lt (copied_cmp p.0 key i))
-      ∙ sym (count_map see (λ p. less p.0) rising)
-      ∙ ap (λ (ps : List KeyPosition). length (filter (λ p. less p.0) ps)) seen
-      ∙ count-rising (λ a b. option_cmp key_cmp a.0 b.0) (λ (p : KeyPosition). less p.0) (positioned 0 own_keys)
-      ∙ count_positioned less 0 own_keys
-      ∙ count_map (λ (k : Kept). k.key) less (those_of f ks)
-
-  -- the rank of one more object
-  pub one_rank : (rising : List KeyEntry) (ranks : List ℕ) (i : ℕ) (key : Option (Bor Key)) (r : ℕ) → seen_keys rising ≡ rising_keys_among ks f → i < length (those_of f ks)
-      → ranks ≡ map (λ k. rank_among ks f k.key) (take i (those_of f ks)) → option_copied key ≡ option_and_then (λ k. k.key) (slice_get (those_of f ks) i)
-      → r ≡ length (filter (λ p. is_lt (lent_key_cmp p.0 key)) rising) → ranks ++ r ∷ [] ≡ map (λ k. rank_among ks f k.key) (take (i + 1) (those_of f ks))
-  one_rank rising ranks i key r seen low before is counted =
-      let os = those_of f ks in
-      let there = at_low os i low in
-      let o = there.0 in
-      let here : option_copied key ≡ o.key = is ∙ ap (option_and_then (λ (k : Kept). k.key)) there.1 in
-      ap₂ (λ (ns : List ℕ) n. ns ++ n ∷ []) before (counted ∙ rank_counted rising key seen ∙ ap (rank_among ks f) here)
-      ∙ sym (map-append (λ (k : Kept). rank_among ks f k.key) (take i os) (o ∷ []))
-      ∙ ap (map (λ (k : Kept). rank_among ks f k.key)) (sym (take_more os i o low ∙ ap (λ (k : Kept). take i os ++ k ∷ []) (get_or_from_slice_get os i o o there.1)))
+  -- the ranks that an order has are those of the objects
+  pub ranks_of_order : (order : Order) → IsOrder (family_keys ks f) order → AreRanks ks f order.ranks.items
+  ranks_of_order order is =
+      is.ranked ∙ map-map (rank_in_keys (family_keys ks f)) (λ (k : Kept). k.key) (those_of f ks)
+      ∙ ap (λ (rank : Kept → ℕ). map rank (those_of f ks)) (λ i k. count_map (λ (l : Kept). l.key) (λ l. is_lt (option_cmp key_cmp l k.key)) (those_of f ks) i)
 
 -- ---- of a report
 

@@ -25,7 +25,8 @@ use Rattle.erd_meaning.specs.code.ObjectIndexes.{number_of_key, rank}
 use Rattle.erd_meaning.specs.code.ObjectLookups.{is_keyed, is_of_family, keeps_id, those_of}
 use Rattle.erd_meaning.specs.code.ObjectWalk.{Kept, same_key}
 use Rattle.erd_meaning.specs.code.Orders.{key_cmp_total}
-use Rattle.erd_meaning.specs.code.RanksAmong.{AreRanks, IsRanked, has_keys_among, is_key_among, lent_key_cmp, rank_among, ranked_key, ranked_name_among, ranked_parts}
+use Rattle.erd_meaning.specs.code.KeyOrders.{lent_key_cmp}
+use Rattle.erd_meaning.specs.code.RanksAmong.{AreRanks, IsRanked, has_keys_among, is_key_among, rank_among, ranked_key, ranked_name_among, ranked_parts}
 use Rattle.erd_meaning.specs.RankedNames.{RankedParts, family_chosen}
 use Rattle.erd_meaning.specs.declared.keys.key.Key.{Key}
 use denote.Ref.{Bor}

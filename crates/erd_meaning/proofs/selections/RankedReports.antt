@@ -10,7 +10,8 @@ use Rattle.erd_tables.specs.declared.class.Class.TheVariants as class
 use Rattle.erd_tables.specs.declared.class.Family.{Family}
 use Rattle.erd_check.proofs.Order.{In-all}
 use Rattle.erd_meaning.specs.Keys.{Preference, has_keys, key_cmp, key_of}
-use Rattle.erd_meaning.specs.code.RanksAmong.{AllAreRanked, IsRanked, names_of, positioned, rank_among, ranked_parts, rising_keys_among}
+use Rattle.erd_meaning.specs.code.KeyOrders.{positioned}
+use Rattle.erd_meaning.specs.code.RanksAmong.{AllAreRanked, IsRanked, names_of, rank_among, ranked_parts, rising_keys_among}
 use Rattle.erd_meaning.specs.Lookups.{rank_of, rising_keys}
 use Rattle.erd_meaning.specs.NameParts.{NameParts}
 use Rattle.erd_meaning.specs.SelectionNames.{rising_list}

@@ -1,9 +1,9 @@
 -- Names of selections with the ranks of their keys among the objects that the program keeps. They do not define the profile:
 -- `RankedKeys` proves that equal ranks mean equal keys, and `RankedReports` that the names are those of `RankedNames`.
-use Rattle.std.specs.Prelude.{◌≡◌, ◌+◌, ℕ, List, [], ◌∷◌, ◌++◌, Bool, true, false, ◌&&◌, ◌==◌, Option, Some, is_some, filter, length, map, option_and_then, option_map}
+use Rattle.std.specs.Prelude.{◌≡◌, ℕ, List, [], ◌∷◌, ◌++◌, Bool, true, false, ◌&&◌, ◌==◌, Option, Some, is_some, filter, length, map, option_and_then, option_map}
 use Rattle.std.specs.Hash.{HashWrites, usize}
 use Rattle.std.specs.List.{AllByRecursion, list_all, slice_get}
-use Rattle.std.specs.Option.{option_cmp, option_copied}
+use Rattle.std.specs.Option.{option_cmp}
 use Rattle.std.specs.Ordering.{eq_by_cmp, is_lt, nat_cmp, ordering_then}
 use Rattle.std.specs.declared.cmp.Ordering.{Ordering}
 use Rattle.serde_json.specs.Data.{Data}
@@ -13,6 +13,7 @@ use Rattle.erd_meaning.specs.NameParts.{NameParts}
 use Rattle.erd_meaning.specs.Objects.{IsObject, Placed}
 use Rattle.erd_meaning.specs.SelectionNames.{name_cmp, rising_list}
 use Rattle.erd_meaning.specs.Hashes.{name_writes}
+use Rattle.erd_meaning.specs.code.KeyOrders.{family_keys, positioned}
 use Rattle.erd_meaning.specs.code.NamesAmong.{name_among}
 use Rattle.erd_meaning.specs.RankedNames.{PlacedName, RankedParts, family_chosen, ranked_name_cmp}
 use Rattle.erd_meaning.specs.code.ObjectIndexes.{number_of_key}
@@ -20,18 +21,12 @@ use Rattle.erd_meaning.specs.code.ObjectLookups.{those_of}
 use Rattle.erd_meaning.specs.code.ObjectWalk.{Kept}
 use Rattle.erd_meaning.specs.code.SelectionWalk.{NumberedName}
 use Rattle.erd_meaning.specs.declared.keys.key.Key.{Key}
-use denote.Ref.{Bor}
 
 -- ---- ranks
 
 -- The number of objects of the family whose keys are less than this one.
 abbrev pub rank_among : List Kept → Family → Option Key → ℕ
 rank_among ks f key = length (filter (λ k. is_lt (option_cmp key_cmp k.key key)) (those_of f ks))
-
--- The keys with their positions. The first stands at position i.
-abbrev pub positioned : {K : Type 0} → ℕ → List K → List (K × ℕ)
-positioned i [] = []
-positioned i (k ∷ ks) = (k, i) ∷ positioned (i + 1) ks
 
 -- These are the ranks of the objects of the family, in the order of the report.
 abbrev pub AreRanks : List Kept → Family → List ℕ → Type 0
@@ -43,20 +38,7 @@ key_at_among ks f i = option_and_then (λ k. k.key) (slice_get (those_of f ks) i
 
 -- The keys of the objects of the family in rising order, each with the position of its object.
 abbrev pub rising_keys_among : List Kept → Family → List (Option Key × ℕ)
-rising_keys_among ks f = rising_list (λ a b. option_cmp key_cmp a.0 b.0) (positioned 0 (map (λ k. k.key) (those_of f ks)))
-
--- The positions are those of the objects of the family in the order of their keys, and these are the ranks of the objects.
-pub record IsKeyOrder (ks : List Kept) (f : Family) (positions ranks : List ℕ) : Type 0 where
-  pub positions_rise : positions ≡ map (λ p. p.1) (rising_keys_among ks f)
-  pub ranked : AreRanks ks f ranks
-
--- Borrowed keys with positions, as contracts see them.
-abbrev pub seen_keys : List (Option (Bor Key) × ℕ) → List (Option Key × ℕ)
-seen_keys ps = map (λ p. (option_copied p.0, p.1)) ps
-
--- Borrowed keys are compared by what they point to. None is less than any.
-abbrev pub lent_key_cmp : Option (Bor Key) → Option (Bor Key) → Ordering
-lent_key_cmp = option_cmp (λ k l. key_cmp k.now l.now)
+rising_keys_among ks f = rising_list (λ a b. option_cmp key_cmp a.0 b.0) (positioned 0 (family_keys ks f))
 
 -- A key with its rank.
 abbrev pub ranked_key : List Kept → Family → Key → ℕ × Key

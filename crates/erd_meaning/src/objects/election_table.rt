@@ -1,12 +1,14 @@
-ghost use Rattle.std.specs.Prelude.{◌≡◌, ◌++◌, ◌∷◌, [], IfOk, OnErr, OnOk, option_and_then};
+ghost use Rattle.std.specs.Prelude.{◌≡◌, ◌++◌, ◌∷◌, [], length, IfOk, OnErr, OnOk, option_and_then};
 ghost use Rattle.std.specs.List.{list_any, slice_get};
 ghost use Rattle.std.specs.Option.{option_copied};
 ghost use Rattle.erd_meaning.specs.code.ElectionKeys.{is_seen, seen_with};
+ghost use Rattle.erd_meaning.specs.code.KeyOrders.{AreDistinct, IsOrder, positioned, seen_keys};
 ghost use Rattle.erd_meaning.specs.code.ObjectWalk.{same_key};
 
 use crate::keys::key::Key;
 use crate::keys::shared_key::SharedKey;
 use crate::keys::triple::Triple;
+use crate::objects::order::Order;
 use indexmap::IndexSet;
 use std::alloc::{AllocError, Global};
 use std::fmt;
@@ -62,6 +64,13 @@ impl<'a> ElectionTable<'a> {
         Ok(known)
     }
 
+    /// Returns the number of elections.
+    fn len(&self) -> usize
+        ensures { result ≡ length self.now }
+    {
+        self.keys.len()
+    }
+
     /// Returns the key of the election at the position, if there is such an election and it has a key.
     pub(crate) fn key_at(&self, index: usize) -> Option<&Key>
         ensures { option_copied result ≡ option_and_then (λ k. k) (slice_get self.now index) }
@@ -70,6 +79,26 @@ impl<'a> ElectionTable<'a> {
             Some(shared) => Some(shared.key()),
             None => None,
         }
+    }
+
+    /// Returns the order of the elections by their keys. No two are equal.
+    pub(crate) fn order(&self, alloc: Global) -> Result<Order, AllocError>
+        requires distinct { AreDistinct self.now }
+        ensures { IfOk result (IsOrder self.now) }
+    {
+        Order::of(alloc, self.lent_keys(alloc)?)
+    }
+
+    /// Returns the keys of the elections with their positions.
+    fn lent_keys(&self, alloc: Global) -> Result<Vec<(Option<&Key>, usize)>, AllocError>
+        ensures { IfOk result (λ keys. seen_keys keys.items ≡ positioned 0 self.now) }
+    {
+        let count = self.len();
+        let mut keys = Vec::with_capacity(alloc, count)?;
+        for index in 0..count {
+            keys.push((self.key_at(index), index))?;
+        }
+        Ok(keys)
     }
 }
 

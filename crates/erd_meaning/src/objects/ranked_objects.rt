@@ -1,17 +1,19 @@
-ghost use Rattle.std.specs.Prelude.{◌≡◌, map, option_and_then, option_map, if◌then◌else◌, slice_get, None, Some, IfOk};
+ghost use Rattle.std.specs.Prelude.{◌≡◌, true, map, option_and_then, option_map, if◌then◌else◌, slice_get, None, Some, IfOk};
 ghost use Rattle.serde_json.specs.Find.{as_str};
 ghost use Rattle.serde_json.specs.View.{view};
+ghost use Rattle.erd_meaning.specs.Families.{entry_of};
+ghost use Rattle.erd_meaning.specs.Keys.{has_keys};
+ghost use Rattle.erd_meaning.specs.code.KeyOrders.{HaveDistinctKeys, IsOrder, family_keys, positioned, rising_positions, seen_keys};
 ghost use Rattle.erd_meaning.specs.code.NamesAmong.{key_among};
 ghost use Rattle.erd_meaning.specs.code.ObjectLookups.{those_of};
-ghost use Rattle.erd_meaning.specs.code.RanksAmong.{AreRanks, is_key_among, rank_among, ranked_key, rising_keys_among, seen_keys};
+ghost use Rattle.erd_meaning.specs.code.RanksAmong.{is_key_among, key_at_among, rank_among, ranked_key, rising_keys_among};
 ghost use Rattle.erd_meaning.specs.RankedNames.{family_chosen};
 ghost use Rattle.erd_meaning.specs.code.Shown.{shown};
 
 use crate::keys::key::Key;
 use crate::keys::shared_key::SharedKey;
-use crate::objects::key_order::{KeyOrder, key_order};
+use crate::objects::order::{Order, in_rising_order};
 use crate::objects::per_family::PerFamily;
-use crate::objects::rising_keys::keys_at;
 use crate::objects::table::ObjectTable;
 use erd_tables::{Class, Family};
 use serde_json::Value;
@@ -23,17 +25,18 @@ use std::marker::Model;
 #[derive(Debug, Drop)]
 pub(crate) struct RankedObjects<'a> {
     table: ObjectTable<'a>,
-    orders: PerFamily<KeyOrder>,
+    orders: PerFamily<Order>,
 }
 
 impl<'a> Model for RankedObjects<'a> {
-    ghost use Rattle.std.specs.Prelude.{List, map};
+    ghost use Rattle.std.specs.Prelude.{◌≡◌, List, map, true};
     ghost use Rattle.std.specs.Coded.{codes};
     ghost use Rattle.serde_json.specs.contracts.value.Value as tree_value;
     ghost use Rattle.erd_tables.specs.declared.class.Family.{Family};
-    ghost use Rattle.erd_meaning.specs.declared.objects.object.Object.{Object};
     ghost use Rattle.erd_meaning.specs.Families.{entry_of};
-    ghost use Rattle.erd_meaning.specs.code.RanksAmong.{IsKeyOrder};
+    ghost use Rattle.erd_meaning.specs.Keys.{has_keys};
+    ghost use Rattle.erd_meaning.specs.declared.objects.object.Object.{Object};
+    ghost use Rattle.erd_meaning.specs.code.KeyOrders.{IsOrder, family_keys};
     ghost use Rattle.erd_meaning.specs.code.Shown.{shown};
 
     ghost Value = { List Object };
@@ -42,15 +45,16 @@ impl<'a> Model for RankedObjects<'a> {
 
     ghost view = { λ r. r.table };
 
-    ghost invariant = { λ r. (f : Family) → IsKeyOrder (map shown r.table) f (entry_of r.orders f).positions.items (entry_of r.orders f).ranks.items };
+    ghost invariant = { λ r. (f : Family) → has_keys f ≡ true → IsOrder (family_keys (map shown r.table) f) (entry_of r.orders f) };
 }
 
 impl<'a> RankedObjects<'a> {
-    /// Returns the objects, with the order of each family by keys.
+    /// Returns the objects, with the order of each family by keys. No two objects of a family have one key.
     pub(crate) fn of(alloc: Global, table: ObjectTable<'a>) -> Result<RankedObjects<'a>, AllocError>
+        requires distinct { HaveDistinctKeys (map shown table) }
         ensures { IfOk result (λ ranked. ranked ≡ table.entry) }
     {
-        let orders = PerFamily::of(|family| key_order(alloc, &table, family))?;
+        let orders = PerFamily::of(|family| order_of(alloc, &table, family))?;
         Ok(RankedObjects { table, orders })
     }
 
@@ -59,6 +63,23 @@ impl<'a> RankedObjects<'a> {
         ensures { result.now ≡ self.now }
     {
         &self.table
+    }
+
+    /// Returns the positions of the objects of the family in the order of their keys.
+    pub(crate) fn rising(&self, family: Family) -> &[usize]
+        requires keyed { has_keys family ≡ true }
+        ensures { result.now ≡ rising_positions (family_keys (map shown self.now) family) }
+    {
+        &self.orders.get(family).rising
+    }
+
+    /// Returns the rank of the object of the family at the position, if there is such an object: the number of objects of the
+    /// family with lesser keys.
+    pub(crate) fn rank_at(&self, family: Family, position: usize) -> Option<usize>
+        requires keyed { has_keys family ≡ true }
+        ensures { result ≡ option_map (λ k. rank_among (map shown self.now) family k.key) (slice_get (those_of family (map shown self.now)) position) }
+    {
+        self.orders.get(family).rank_at(position)
     }
 
     /// Returns the key of the object that a reference in a selection of the class names, with its rank. Returns `None` if
@@ -82,8 +103,9 @@ impl<'a> RankedObjects<'a> {
         ensures { option_map (λ r. (r.0, r.1.now)) result ≡ option_map (ranked_key (map shown self.now) (family_chosen class))
             (option_and_then (λ k. k.key) (slice_get (those_of (family_chosen class) (map shown self.now)) index)) }
     {
-        let key = self.table.shared_key_at(family_chosen(class), index)?;
-        let rank = rank_at(self.ranks(class), index)?;
+        let family = family_chosen(class);
+        let key = self.table.shared_key_at(family, index)?;
+        let rank = self.rank_at(family, index)?;
         Some((rank, key))
     }
 
@@ -92,18 +114,13 @@ impl<'a> RankedObjects<'a> {
         ensures { result ≡ (if is_key_among (map shown self.now) (family_chosen class) key.now
             then Some (rank_among (map shown self.now) (family_chosen class) (Some key.now)) else None) }
     {
-        let index = self.table.position_of_key(family_chosen(class), key)?;
-        rank_at(self.ranks(class), index)
+        let family = family_chosen(class);
+        let index = self.table.position_of_key(family, key)?;
+        self.rank_at(family, index)
     }
 
-    /// Returns the ranks of the objects that a selection of the class is for.
-    fn ranks(&self, class: Class) -> &[usize]
-        ensures { AreRanks (map shown self.now) (family_chosen class) result.now }
-    {
-        &self.orders.get(family_chosen(class)).ranks
-    }
-
-    /// Returns the keys of the objects of the family in rising order, each with the position of its object.
+    /// Returns the keys of the objects of the family in rising order, each with the position of its object. Selections have
+    /// no keys, and stand in the order of the report.
     pub(crate) fn rising_keys(
         &self,
         alloc: Global,
@@ -111,16 +128,54 @@ impl<'a> RankedObjects<'a> {
     ) -> Result<Vec<(Option<&Key>, usize)>, AllocError>
         ensures { IfOk result (λ rising. seen_keys rising.items ≡ rising_keys_among (map shown self.now) family) }
     {
-        let positions = &self.orders.get(family).positions;
-        keys_at(alloc, &self.table, family, positions)
+        match family {
+            Family::Selection => in_rising_order(keys_of_family(alloc, &self.table, family)?),
+            _ => keys_at(alloc, &self.table, family, self.rising(family)),
+        }
     }
 }
 
-/// Returns the rank at the position, if there is one.
-fn rank_at(ranks: &[usize], index: usize) -> Option<usize>
-    ensures { result ≡ slice_get ranks.now index }
+/// Returns the order of the objects of the family by their keys. That of the selections, which have no keys, is empty.
+fn order_of(alloc: Global, objects: &ObjectTable, family: Family) -> Result<Order, AllocError>
+    requires distinct { HaveDistinctKeys (map shown objects.now) }
+    ensures { IfOk result (λ order. has_keys family ≡ true → IsOrder (family_keys (map shown objects.now) family) order) }
 {
-    ranks.get(index).copied()
+    match family {
+        Family::Selection => Order::of(alloc, Vec::new(alloc)),
+        _ => Order::of(alloc, keys_of_family(alloc, objects, family)?),
+    }
+}
+
+/// Returns the keys of the objects of the family with their positions, in the order of the report.
+fn keys_of_family<'b>(
+    alloc: Global,
+    objects: &'b ObjectTable,
+    family: Family,
+) -> Result<Vec<(Option<&'b Key>, usize)>, AllocError>
+    ensures { IfOk result (λ keys. seen_keys keys.items ≡ positioned 0 (family_keys (map shown objects.now) family)) }
+{
+    let count = objects.count(family);
+    let mut keys = Vec::with_capacity(alloc, count)?;
+    for index in 0..count {
+        keys.push((objects.key_at(family, index), index))?;
+    }
+    Ok(keys)
+}
+
+/// Returns the keys of the objects of the family at the positions, each with its position.
+fn keys_at<'b>(
+    alloc: Global,
+    objects: &'b ObjectTable,
+    family: Family,
+    positions: &[usize],
+) -> Result<Vec<(Option<&'b Key>, usize)>, AllocError>
+    ensures { IfOk result (λ keys. seen_keys keys.items ≡ map (λ i. (key_at_among (map shown objects.now) family i, i)) positions.now) }
+{
+    let mut keys = Vec::with_capacity(alloc, positions.len())?;
+    for position in positions {
+        keys.push((objects.key_at(family, *position), *position))?;
+    }
+    Ok(keys)
 }
 
 /// Returns the family of the objects that a selection of the class is for. Only candidates and parties have selections.

@@ -101,10 +101,12 @@ fn indexed<'a>(
     ensures tree { IfOk result (λ r. r.tree ≡ tree.now) }
     ensures prefer { IfOk result (λ r. r.prefer ≡ keys.now) }
 {
+    let order = elections.order(keys.alloc)?;
     let holders = Holders::of(keys.alloc, tree)?;
     let prefer = preference_of(keys)?;
     let elections = Elections {
         keys: elections,
+        order,
         holders,
     };
     let indexes = Indexes {

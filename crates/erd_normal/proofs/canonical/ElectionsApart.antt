@@ -49,7 +49,7 @@ module _ (π : Preference) where
     none_keyless e several h none =
         let b = matched_back e.value m (has_mapped (λ (x : Placed). x.value) (elections u) e h) in
         let o = map_has (λ (x : Placed). x.value) (elections t) b.0 b.1 in
-        let k = election_has_identifier π t accepted (sym as_many ∙ several) o.0 o.1 in
+        let k = election_has_identifier π t (no_identity_fault π t accepted) (sym as_many ∙ several) o.0 o.1 in
         let same : key_of π o.0.value ≡ None = ap (key_of π) o.2 ∙ b.2 ∙ none in
         let h : Some k.0 ≡ None = sym k.1 ∙ same in
         cc

@@ -19,7 +19,7 @@ use Rattle.erd_meaning.specs.Objects.{IsBounded, Placed, contests, id_of, needs_
 use Rattle.erd_meaning.proofs.accepted.References.{Contains-Has, Has-Contains, has_identifier}
 use Rattle.erd_meaning.specs.declared.keys.key.Key.{Key}
 use Rattle.erd_meaning.proofs.accepted.HeldObjects.{has-flat}
-use Rattle.erd_meaning.proofs.accepted.Phases.{no_shape_fault}
+use Rattle.erd_meaning.proofs.accepted.Phases.{no_identity_fault, no_shape_fault}
 use Rattle.erd_meaning.proofs.accepted.Skeleton.{election_entries, skeleton_of_shape, values-placed_entries}
 use Rattle.erd_meaning.specs.Lookups.{rank_of}
 use Rattle.erd_normal.specs.code.NormalTree.{normal_tree}
@@ -59,7 +59,7 @@ module _ (π : Preference) (t : Data) (accepted : IsAccepted π t) (tree : IsTre
     has_key_built o in_o none =
         let from = object_from π t accepted tree f keyed o in_o in
         let c : IsClassed f from.0.value = object_classed π t accepted tree f from.0 from.1 in
-        let k = has_identifier π t accepted f from.0 keyed from.1 in
+        let k = has_identifier π t (no_identity_fault π t accepted) f from.0 keyed from.1 in
         let h : Some k.0 ≡ None = sym k.1 ∙ sym (key_of_object π π t f c.0 from.0.value c.2 c.1) ∙ ap (key_of π) from.2 ∙ none in
         cc
 

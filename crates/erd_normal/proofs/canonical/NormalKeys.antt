@@ -21,7 +21,7 @@ use Rattle.erd_meaning.specs.Keys.{Preference, has_keys, key_cmp, key_of}
 use Rattle.erd_meaning.specs.Objects.{Placed, id_of, objects}
 use Rattle.erd_meaning.specs.code.Orders.{key_cmp_total}
 use Rattle.erd_meaning.specs.declared.keys.key.Key.{Key}
-use Rattle.erd_meaning.proofs.accepted.Phases.{no_shape_fault}
+use Rattle.erd_meaning.proofs.accepted.Phases.{no_identity_fault, no_shape_fault}
 use Rattle.erd_meaning.proofs.accepted.Standing.{stands}
 use Rattle.erd_normal.specs.Canonical.{canonical_id}
 use Rattle.erd_meaning.specs.Lookups.{rank_of}
@@ -30,12 +30,12 @@ use Rattle.erd_normal.proofs.lists.BuiltLists.{all_map}
 use Rattle.erd_meaning.proofs.orders.DistinctEntries.{distinct_one}
 use Rattle.erd_normal.proofs.lists.KeyedRanks.{rank_exact, rank_low}
 use Rattle.erd_normal.proofs.lists.Matched.{Matched, distinct_matched, even_order, matched_back, matched_count, matched_length, matched_on, matched_within}
-use Rattle.erd_normal.proofs.lists.RisingRanks.{rank_map}
+use Rattle.erd_meaning.proofs.orders.RisingRanks.{rank_map}
 use Rattle.erd_normal.proofs.built.LeastKeys.{key_of_object}
 use Rattle.erd_normal.proofs.built.NormalGets.{id_of_object}
 use Rattle.erd_normal.proofs.built.NormalObjects.{IsBuilt, objects_matched, values_of}
 use Rattle.erd_check.proofs.Positions.{all_by_entry, has_mapped, map_has}
-use Rattle.erd_normal.proofs.canonical.DistinctObjects.{values_distinct}
+use Rattle.erd_meaning.proofs.accepted.DistinctKeys.{values_distinct}
 use Rattle.erd_normal.proofs.canonical.RisingReports.{by_key_total}
 
 -- an object of a family: it has a class, and is a tree
@@ -92,7 +92,7 @@ module _ (π : Preference) (t : Data) (accepted : IsAccepted π t) (tree : IsTre
     built_distinct : IsDistinct (eq_by_cmp (by_key π)) (values_of f (normal_tree π t))
     built_distinct =
         distinct_matched (eq_by_cmp (by_key π)) (eq_by_cmp (by_key π)) (even_order (by_key π) (by_key_total π))
-        (λ d d' e e' i j is is' h. ap₂ (λ k l. is_eq (option_cmp key_cmp k l)) (key_built d e i is) (key_built d' e' j is') ∙ h) matched (values_distinct π t accepted f keyed)
+        (λ d d' e e' i j is is' h. ap₂ (λ k l. is_eq (option_cmp key_cmp k l)) (key_built d e i is) (key_built d' e' j is') ∙ h) matched (values_distinct π t (no_identity_fault π t accepted) f keyed)
 
     -- objects of the report that is built with keys of one rank are one
     pub one_ranked_built : (o p : Placed) → Has (objects f (normal_tree π t)) o → Has (objects f (normal_tree π t)) p

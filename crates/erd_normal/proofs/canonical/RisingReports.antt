@@ -28,13 +28,15 @@ use Rattle.erd_normal.specs.Canonical.{canonical_id, canonical_selection_id}
 use Rattle.erd_meaning.specs.Lookups.{rank_of}
 use Rattle.erd_normal.specs.code.NormalTree.{by_key, by_name, id_of_key, id_of_selection, rank_of_name, reference_cmp}
 use Rattle.erd_normal.proofs.texts.CompactTexts.{compact_exact}
-use Rattle.erd_normal.proofs.canonical.DistinctObjects.{elections_distinct, selection_values_distinct, values_distinct}
+use Rattle.erd_meaning.proofs.accepted.Phases.{no_identity_fault}
+use Rattle.erd_meaning.proofs.accepted.DistinctKeys.{elections_distinct, values_distinct}
+use Rattle.erd_normal.proofs.canonical.DistinctSelections.{selection_values_distinct}
 use Rattle.erd_normal.proofs.canonical.DistinctSets.{json_values_distinct, references_distinct}
 use Rattle.erd_normal.proofs.texts.FittingNumbers.{entry-fitting}
 use Rattle.erd_normal.proofs.unique.Labels.{identifier_simple, language_simple}
 use Rattle.erd_normal.proofs.lists.ListParts.{IsPart, part_distinct}
 use Rattle.erd_meaning.proofs.orders.RisingOrders.{rising_strictly}
-use Rattle.erd_normal.proofs.lists.RisingRanks.{rank_by_at, rank_map}
+use Rattle.erd_meaning.proofs.orders.RisingRanks.{rank_by_at, rank_map}
 
 pub by_key_total : (π : Preference) → IsTotalOrder (by_key π)
 by_key_total π = on_total (key_of π) (options_total key_cmp_total)
@@ -52,19 +54,19 @@ pub objects_rise : (π : Preference) (t : Data) → IsAccepted π t → (f : Fam
     → IsStrictlySortedBy (option_cmp key_cmp) (map (key_of π) (rising_list (by_key π) ds))
 objects_rise π t accepted f keyed ds part =
     sorted_map (key_of π) (by_key π) (option_cmp key_cmp) (λ x y h. h) (rising_list (by_key π) ds)
-    (rising_strictly (by_key_total π) ds (part_distinct (eq_by_cmp (by_key π)) ds (map (λ o. o.value) (objects f t)) part (values_distinct π t accepted f keyed)))
+    (rising_strictly (by_key_total π) ds (part_distinct (eq_by_cmp (by_key π)) ds (map (λ o. o.value) (objects f t)) part (values_distinct π t (no_identity_fault π t accepted) f keyed)))
 
 -- the elections
 pub elections_rise : (π : Preference) (t : Data) → IsAccepted π t → IsStrictlySortedBy (option_cmp key_cmp) (map (key_of π) (rising_list (by_key π) (entries_at (codes "Election") t)))
 elections_rise π t accepted =
     sorted_map (key_of π) (by_key π) (option_cmp key_cmp) (λ x y h. h) (rising_list (by_key π) (entries_at (codes "Election") t))
-    (rising_strictly (by_key_total π) (entries_at (codes "Election") t) (elections_distinct π t accepted))
+    (rising_strictly (by_key_total π) (entries_at (codes "Election") t) (elections_distinct π t (no_identity_fault π t accepted)))
 
 -- the object at a position has that rank
 pub object_ranks : (π : Preference) (t : Data) → IsAccepted π t → (f : Family) (i : ℕ) (d : Data) → has_keys f ≡ true → slice_get (rising_list (by_key π) (map (λ o. o.value) (objects f t))) i ≡ Some d → rank_of π t f (key_of π d) ≡ i
 object_ranks π t accepted f i d keyed e =
     sym (rank_map (λ (o : Placed). o.value) (key_of π) (option_cmp key_cmp) (key_of π d) (objects f t))
-    ∙ rank_by_at (key_of π) (option_cmp key_cmp) (options_total key_cmp_total) (map (λ o. o.value) (objects f t)) i d (values_distinct π t accepted f keyed) e
+    ∙ rank_by_at (key_of π) (option_cmp key_cmp) (options_total key_cmp_total) (map (λ o. o.value) (objects f t)) i d (values_distinct π t (no_identity_fault π t accepted) f keyed) e
 
 -- the `@id` of the object at a position
 pub object_ids : (π : Preference) (t : Data) → IsAccepted π t → (f : Family) (i : ℕ) (d : Data) → has_keys f ≡ true → slice_get (rising_list (by_key π) (map (λ o. o.value) (objects f t))) i ≡ Some d → id_of_key π t f (key_of π d) ≡ canonical_id f i

@@ -5,14 +5,10 @@ use Rattle.std.proofs.lemmas.List.Elements.{filter_agree}
 use Rattle.std.specs.Cmp.{IsTotalOrder}
 use Rattle.std.specs.List.{filter}
 use Rattle.std.specs.List.Sorted.{ties}
-use Rattle.erd_meaning.proofs.orders.RisingLists.{rising_from_sort, rising_list_map}
+use Rattle.erd_meaning.proofs.orders.RisingLists.{by_first, rising_from_sort, rising_list_map}
 use Rattle.erd_meaning.specs.SelectionNames.{rising_list}
 use Rattle.erd_normal.proofs.lists.StableSorts.{tie_by_key}
 use Rattle.erd_normal.specs.StableOrder.{IsStablySorted, pairs_of}
-
--- pairs by their keys
-abbrev pub by_first : {K T : Type 0} → (K → K → Ordering) → K × T → K × T → Ordering
-by_first cmp a b = cmp a.0 b.0
 
 pub rising_from_stable : {K T : Type 0} (cmp : K → K → Ordering) → IsTotalOrder cmp → (old new : List (K × T)) → IsStablySorted cmp old new → new ≡ rising_list (by_first cmp) old
 rising_from_stable {K} {T} cmp total old new h =

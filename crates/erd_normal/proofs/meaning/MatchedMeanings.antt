@@ -27,7 +27,8 @@ use Rattle.erd_meaning.proofs.meanings.HeldValues.{Held, held_by, held_in_electi
 use Rattle.erd_meaning.proofs.meanings.WholeMeanings.{same_meaning}
 use Rattle.erd_meaning.proofs.orders.EqualNames.{equal_keys, options_exact}
 use Rattle.erd_normal.specs.code.NormalTree.{by_key}
-use Rattle.erd_normal.proofs.canonical.DistinctObjects.{elections_distinct, objects_distinct}
+use Rattle.erd_meaning.proofs.accepted.Phases.{no_identity_fault}
+use Rattle.erd_meaning.proofs.accepted.DistinctKeys.{elections_distinct, objects_distinct}
 use Rattle.erd_meaning.proofs.orders.DistinctEntries.{distinct_map}
 use Rattle.erd_normal.proofs.lists.FoundBuilt.{find_values}
 use Rattle.erd_normal.proofs.lists.Matched.{AtMostOne, Matched, apart_distinct, matched_find, matched_flat, matched_mapped, one_if_apart, said_same}
@@ -47,13 +48,13 @@ module _ (π : Preference) (t : Data) (accepted : IsAccepted π t) where
   one_election : (k : Option Key) → AtMostOne (is_of_key π k) (entries_at (codes "Election") t)
   one_election k =
       one_if_apart (is_of_key π k) (entries_at (codes "Election") t)
-      (apart_distinct (is_of_key π k) (eq_by_cmp (by_key π)) (entries_at (codes "Election") t) (λ x y h i. ap is_eq (keys_tied π k x y h i)) (elections_distinct π t accepted))
+      (apart_distinct (is_of_key π k) (eq_by_cmp (by_key π)) (entries_at (codes "Election") t) (λ x y h i. ap is_eq (keys_tied π k x y h i)) (elections_distinct π t (no_identity_fault π t accepted)))
 
   one_object : (f : Family) → has_keys f ≡ true → (k : Option Key) → AtMostOne (λ (h : Held). is_of_key π k h.1) (held_values π f t)
   one_object f keyed k =
       one_if_apart (λ (h : Held). is_of_key π k h.1) (held_values π f t)
       (apart_distinct (λ (h : Held). is_of_key π k h.1) (λ (g h : Held). eq_by_cmp (by_key π) g.1 h.1) (held_values π f t) (λ x y h i. ap is_eq (keys_tied π k x.1 y.1 h i))
-      (distinct_map (held_of π t) (λ (g h : Held). eq_by_cmp (by_key π) g.1 h.1) (objects f t) (objects_distinct π t accepted f keyed)))
+      (distinct_map (held_of π t) (λ (g h : Held). eq_by_cmp (by_key π) g.1 h.1) (objects f t) (objects_distinct π t (no_identity_fault π t accepted) f keyed)))
 
 -- ---- what is found by a key
 

@@ -50,7 +50,7 @@ use Rattle.erd_normal.proofs.built.NormalGets.{class_of_built, class_of_built_se
 use Rattle.erd_normal.proofs.unique.Records.{record_with-Some}
 use Rattle.erd_check.proofs.Positions.{all_by_entry}
 use Rattle.erd_meaning.proofs.orders.RisingSets.{length-rising}
-use Rattle.erd_normal.proofs.canonical.DistinctObjects.{selection_values_distinct}
+use Rattle.erd_normal.proofs.canonical.DistinctSelections.{selection_values_distinct}
 use Rattle.std.proofs.lemmas.List.{length-map}
 
 -- ---- records

@@ -11,9 +11,10 @@ use Rattle.erd_meaning.specs.Keys.{Preference, has_keys, key_cmp, key_of}
 use Rattle.erd_meaning.specs.Objects.{Placed, objects}
 use Rattle.erd_meaning.specs.code.Orders.{key_cmp_total}
 use Rattle.erd_meaning.specs.declared.keys.key.Key.{Key}
-use Rattle.erd_normal.proofs.canonical.DistinctObjects.{values_distinct}
+use Rattle.erd_meaning.proofs.accepted.Phases.{no_identity_fault}
+use Rattle.erd_meaning.proofs.accepted.DistinctKeys.{values_distinct}
 use Rattle.erd_meaning.proofs.orders.DistinctEntries.{distinct_map}
-use Rattle.erd_normal.proofs.lists.RisingRanks.{rank_map}
+use Rattle.erd_meaning.proofs.orders.RisingRanks.{rank_map}
 use Rattle.erd_normal.proofs.ranks.KeyPlaces.{place_is}
 use Rattle.erd_normal.proofs.ranks.RisingTables.{numbers_of}
 use Rattle.erd_normal.specs.code.Building.{AreNumbers, numbered}
@@ -39,7 +40,7 @@ module _ (π : Preference) (t : Data) (accepted : IsAccepted π t) (f : Family) 
       ap (λ ms. slice_get ms i)
       (numbers ∙ numbers_of (option_cmp key_cmp) (key_of π) value rising values (is ∙ ap (λ ds. rising_table (option_cmp key_cmp) (key_of π) ds) (values_kept f t keyed)))
       ∙ (place_is (option_cmp key_cmp) (options_total key_cmp_total) (map (key_of π) values) i k
-      (distinct_map (key_of π) (eq_by_cmp (option_cmp key_cmp)) values (values_distinct π t accepted f keyed))
+      (distinct_map (key_of π) (eq_by_cmp (option_cmp key_cmp)) values (values_distinct π t (no_identity_fault π t accepted) f keyed))
       (key_at i o at)
       ∙ ap (λ n. Some (n + 1))
       (rank_map (key_of π) (λ key. key) (option_cmp key_cmp) k values ∙ rank_map (λ (o : Placed). o.value) (key_of π) (option_cmp key_cmp) k (objects f t)))

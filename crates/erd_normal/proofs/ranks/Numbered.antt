@@ -8,24 +8,12 @@ use Rattle.std.specs.List.Sorted.{IsStrictlySortedBy}
 use Rattle.std.specs.Ordering.{eq_by_cmp}
 use Rattle.erd_check.proofs.Order.{In, In-all, all_from_In}
 use Rattle.erd_meaning.specs.SelectionNames.{rising_list}
+use Rattle.erd_meaning.proofs.orders.PlacesPut.{set_here, set_other}
 use Rattle.erd_meaning.proofs.orders.RisingOrders.{rising_strictly}
-use Rattle.erd_normal.proofs.lists.RisingRanks.{rank_in, stands_at_rank}
+use Rattle.erd_meaning.proofs.orders.RisingRanks.{rank_in, stands_at_rank}
 use Rattle.erd_meaning.proofs.orders.RisingSets.{In-rising, length-rising}
-use Rattle.erd_normal.proofs.lists.StableRising.{by_first}
+use Rattle.erd_meaning.proofs.orders.RisingLists.{by_first}
 use Rattle.erd_normal.specs.code.Building.{numbered}
-
-set_other : (ns : List ℕ) (i j n : ℕ) → (i ≡ j → ⊥) → slice_get (slice_set ns i n) j ≡ slice_get ns j
-set_other [] zero j n other = refl
-set_other [] (suc i) j n other = refl
-set_other (m ∷ ns) zero zero n other = absurd (other refl)
-set_other (m ∷ ns) zero (suc j) n other = refl
-set_other (m ∷ ns) (suc i) zero n other = refl
-set_other (m ∷ ns) (suc i) (suc j) n other = set_other ns i j n (λ e. other (ap suc e))
-
-set_here : (ns : List ℕ) (i n : ℕ) → i < length ns → slice_get (slice_set ns i n) i ≡ Some n
-set_here [] i n low = absurd (omega arith)
-set_here (m ∷ ns) zero n low = refl
-set_here (m ∷ ns) (suc i) n low = set_here ns i n (omega arith)
 
 module _ {K : Type 0} where
   untouched : (ps : List (K × ℕ)) (r : ℕ) (ns : List ℕ) (i : ℕ) → AllByRecursion (λ p. p.1 ≡ i → ⊥) ps → slice_get (numbered r ps ns) i ≡ slice_get ns i

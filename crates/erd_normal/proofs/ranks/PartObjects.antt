@@ -22,7 +22,8 @@ use Rattle.erd_meaning.specs.code.Orders.{key_cmp_total}
 use Rattle.erd_meaning.specs.declared.keys.key.Key.{Key}
 use Rattle.erd_normal.proofs.lists.FilteredRising.{all_kept, filter_rising}
 use Rattle.erd_normal.proofs.lists.NumberedKept.{kept_map, kept_numbered}
-use Rattle.erd_normal.proofs.lists.StableRising.{by_first, map_after}
+use Rattle.erd_meaning.proofs.orders.RisingLists.{by_first}
+use Rattle.erd_normal.proofs.lists.StableRising.{map_after}
 use Rattle.erd_normal.proofs.ranks.FamilyNumbers.{values_kept}
 use Rattle.erd_normal.proofs.ranks.RisingTables.{IsOfValue, keys_of_values, values_sorted}
 use Rattle.erd_normal.specs.code.ElectionParts.{objects_of_part, part_at}

@@ -8,15 +8,14 @@ use Rattle.serde_json.specs.Data.{Data}
 use Rattle.erd_check.proofs.Order.{In}
 use Rattle.erd_tables.specs.declared.class.Family.{Family}
 use Rattle.erd_meaning.specs.Keys.{Preference, has_keys, key_cmp, key_of}
-use Rattle.erd_meaning.specs.code.RanksAmong.{positioned}
+use Rattle.erd_meaning.specs.code.KeyOrders.{positioned}
 use Rattle.erd_meaning.specs.Lookups.{rising_keys}
 use Rattle.erd_meaning.specs.Objects.{Placed, objects}
 use Rattle.erd_meaning.specs.SelectionNames.{rising_list}
 use Rattle.erd_meaning.specs.declared.keys.key.Key.{Key}
 use Rattle.erd_meaning.proofs.finding.OneObject.{in_at}
-use Rattle.erd_meaning.proofs.orders.RisingLists.{rising_list_map}
+use Rattle.erd_meaning.proofs.orders.RisingLists.{by_first, rising_list_map}
 use Rattle.erd_meaning.proofs.selections.PositionedKeys.{KeyEntry, KeyPosition, rising_positioned}
-use Rattle.erd_normal.proofs.lists.StableRising.{by_first}
 use Rattle.erd_normal.proofs.ranks.FamilyNumbers.{values_kept}
 use Rattle.erd_normal.proofs.ranks.RisingTables.{keyed_places, place_in, stands_in}
 use Rattle.erd_normal.specs.code.KeyRanks.{keyed_from, keyed_value, rising_objects, rising_table}

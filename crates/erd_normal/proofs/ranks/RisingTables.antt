@@ -6,14 +6,14 @@ use Rattle.std.specs.Cmp.{IsTotalOrder}
 use Rattle.std.specs.List.{AllByRecursion, enumerate_from}
 use Rattle.serde_json.specs.Data.{Data}
 use Rattle.erd_check.proofs.Order.{In}
-use Rattle.erd_meaning.proofs.orders.RisingLists.{rising_list_map}
+use Rattle.erd_meaning.proofs.orders.RisingLists.{by_first, rising_list_map}
 use Rattle.erd_meaning.specs.SelectionNames.{rising_list}
 use Rattle.erd_meaning.proofs.orders.RisingSets.{In-rising}
-use Rattle.erd_normal.proofs.lists.StableRising.{by_first, map_after, map_back, rising_from_stable}
+use Rattle.erd_normal.proofs.lists.StableRising.{map_after, map_back, rising_from_stable}
 use Rattle.erd_normal.specs.StableOrder.{IsStablySorted}
 use Rattle.erd_normal.specs.code.Building.{numbered}
 use Rattle.erd_normal.specs.code.KeyRanks.{keyed_from, keyed_value, places_by, places_of, rising_table}
-use Rattle.erd_meaning.specs.code.RanksAmong.{positioned}
+use Rattle.erd_meaning.specs.code.KeyOrders.{positioned}
 
 -- a key with its position, and a key with its value
 abbrev pub place_in : {K V : Type 0} → K × (ℕ × V) → K × ℕ

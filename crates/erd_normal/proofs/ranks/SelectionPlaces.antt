@@ -18,11 +18,11 @@ use Rattle.erd_meaning.specs.Objects.{Placed, contests, objects, selections_of_c
 use Rattle.erd_meaning.specs.code.Orders.{name_cmp_total}
 use Rattle.erd_meaning.specs.SelectionNames.{name_cmp, name_of}
 use Rattle.erd_meaning.proofs.orders.DistinctEntries.{distinct_map}
-use Rattle.erd_normal.proofs.canonical.DistinctObjects.{selection_values_distinct}
+use Rattle.erd_normal.proofs.canonical.DistinctSelections.{selection_values_distinct}
 use Rattle.erd_normal.proofs.ranks.KeyPlaces.{length_places, place_is}
 use Rattle.erd_normal.proofs.ranks.RisingTables.{numbers_under}
 use Rattle.erd_normal.proofs.lists.NumberedParts.{in_part}
-use Rattle.erd_normal.proofs.lists.RisingRanks.{rank_map}
+use Rattle.erd_meaning.proofs.orders.RisingRanks.{rank_map}
 use Rattle.erd_meaning.proofs.orders.RisingSets.{has_from_In}
 use Rattle.erd_normal.specs.code.Building.{numbered}
 use Rattle.erd_normal.specs.code.KeyRanks.{named_value, numbers_in_contest, rising_in_contest}

@@ -27,7 +27,7 @@ use Rattle.erd_meaning.specs.code.Orders.{key_cmp_total}
 use Rattle.erd_meaning.proofs.accepted.Phases.{no_identity_fault, no_shape_fault}
 use Rattle.erd_meaning.proofs.accepted.References.{Contains-Has, Has-Contains, option_map-Some}
 use Rattle.erd_normal.specs.code.NormalTree.{by_key}
-use Rattle.erd_normal.proofs.canonical.DistinctObjects.{values_distinct}
+use Rattle.erd_meaning.proofs.accepted.DistinctKeys.{values_distinct}
 use Rattle.erd_normal.proofs.canonical.ElectionsApart.{election_values, none_keyless, one_election}
 use Rattle.erd_meaning.proofs.orders.DistinctEntries.{distinct_one}
 use Rattle.erd_normal.proofs.lists.Matched.{IsEven, Matched, distinct_matched, even_order, matched_back, matched_within}
@@ -78,7 +78,7 @@ module _ (π : Preference) (ρ : List ℕ → List ℕ) (t u : Data) (alike : Al
   keys_distinct f keyed =
       distinct_matched (eq_by_cmp (by_key π)) (eq_by_cmp (by_key π)) (same_key_even π)
       (λ x x' y y' i j r r' h. ap₂ (λ k l. is_eq (option_cmp key_cmp k l)) (related_key ρ t clean π f x y r) (related_key ρ t clean π f x' y' r') ∙ h)
-      (matched f) (subst (IsDistinct (eq_by_cmp (by_key π))) (object_values f t) (values_distinct π t accepted f keyed))
+      (matched f) (subst (IsDistinct (eq_by_cmp (by_key π))) (object_values f t) (values_distinct π t (no_identity_fault π t accepted) f keyed))
 
   -- related elections have one key
   elections_matched : Matched (λ d e. key_of π d ≡ key_of π e) (election_values t) (election_values u)

@@ -34,7 +34,7 @@ use Rattle.erd_meaning.specs.SelectionNames.{name_cmp}
 use Rattle.erd_meaning.proofs.accepted.Phases.{no_shape_fault}
 use Rattle.erd_meaning.proofs.meanings.HeldValues.{Held, held_of, held_values}
 use Rattle.erd_normal.specs.code.NormalTree.{by_name}
-use Rattle.erd_normal.proofs.canonical.DistinctObjects.{selection_values_distinct}
+use Rattle.erd_normal.proofs.canonical.DistinctSelections.{selection_values_distinct}
 use Rattle.erd_normal.proofs.lists.Matched.{AtMostOne, Both, both, neither, Matched, apart_distinct, matched_find, matched_within, one_if_apart, said_same}
 use Rattle.erd_normal.proofs.meaning.MatchedMeanings.{HeldAlike, MeanOne, held_matched, matched_meaning}
 use Rattle.erd_meaning.proofs.meanings.SelectionKinds.{is_selections, selections_family, selections_kind, selections_name}

@@ -19,7 +19,7 @@ use Rattle.erd_meaning.specs.Objects.{Placed, elections, objects, placed_entries
 use Rattle.erd_meaning.specs.Records.{meaning, member_of_class, object_record, placed_record, placed_with_key, record_in_election, records_of}
 use Rattle.erd_meaning.specs.declared.keys.key.Key.{Key}
 use Rattle.erd_meaning.proofs.accepted.HeldObjects.{held_by_none, held_key_in}
-use Rattle.erd_meaning.proofs.accepted.Phases.{no_shape_fault}
+use Rattle.erd_meaning.proofs.accepted.Phases.{no_identity_fault, no_shape_fault}
 use Rattle.erd_meaning.proofs.accepted.References.{find-Some, has_identifier}
 use Rattle.erd_meaning.proofs.accepted.Skeleton.{Skeleton, election_object, skeleton}
 use Rattle.erd_meaning.proofs.accepted.Standing.{one_keyed, stands}
@@ -90,12 +90,12 @@ module _ (π : Preference) (t : Data) (canonical : IsCanonical π t) (f : Family
   -- one object has a key
   one_of_key : (k : Option Key) (o p : Placed) → Has (objects f t) o → Has (objects f t) p → of_key k o ≡ true → of_key k p ≡ true → o ≡ p
   one_of_key k o p i j a b =
-      let l = has_identifier π t canonical.accepted f o h i in
+      let l = has_identifier π t (no_identity_fault π t canonical.accepted) f o h i in
       let same : key_at π p ≡ key_at π o = options_exact key_cmp equal_keys (key_at π p) k b ∙ sym (options_exact key_cmp equal_keys (key_at π o) k a) in
       one_keyed π t canonical.accepted f o p l.0 h i j l.1 (same ∙ l.1)
 
   none_keyless : find (of_key None) (objects f t) ≡ None
-  none_keyless = find-None (of_key None) (objects f t) (λ o i. let l = has_identifier π t canonical.accepted f o h i in ap (λ k. is_eq (maybe_cmp k None)) l.1)
+  none_keyless = find-None (of_key None) (objects f t) (λ o i. let l = has_identifier π t (no_identity_fault π t canonical.accepted) f o h i in ap (λ k. is_eq (maybe_cmp k None)) l.1)
 
   -- what is found by both keys is found by its own, and held by an election of the other
   found_by_keys : (e k : Option Key) → find (has_key placed_cmp (λ o. Some (placed_key π t o)) (e, k)) (objects f t) ≡ option_and_then (kept_if (λ o. is_eq (maybe_cmp (election_key_of π t o) e)) (of_key k)) (find (of_key k) (objects f t))

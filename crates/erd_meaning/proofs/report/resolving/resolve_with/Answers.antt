@@ -1,12 +1,14 @@
 use Rattle.std.specs.Option.{option_copied}
-use Rattle.std.proofs.Common.{List, map, ap, ◌∙◌, subst}
+use Rattle.std.proofs.Common.{List, map, sym, ap, ◌∙◌, subst}
 use Rattle.std.proofs.lemmas.Result.{err_from_is_err_and}
 use Rattle.serde_json.specs.View.{view}
 use Rattle.serde_json.specs.declared.value.Value.{Value}
 use Rattle.erd_check.specs.Refusals.{RefusedFor}
 use Rattle.erd_meaning.specs.Accepted.{IsAccepted, IsFault}
+use Rattle.erd_meaning.specs.code.KeyOrders.{HaveDistinctKeys}
 use Rattle.erd_meaning.specs.code.Shown.{shown}
 use Rattle.erd_meaning.specs.declared.objects.object.Object.{Object}
+use Rattle.erd_meaning.proofs.accepted.DistinctKeys.{kept_distinct}
 use Rattle.erd_meaning.proofs.accepted.Phases.{accepted_by_phases}
 use Rattle.erd_meaning.proofs.refused.Refused.{refused_for_identity, refused_for_references, refused_for_selections}
 use Rattle.erd_meaning.proofs.report.resolving.resolve_with.Goals as goal
@@ -42,6 +44,9 @@ returns-clause-accepted c =
     subst (λ (v : Value). IsAccepted (option_copied c.args.prefer) (view v)) c.tree-tree.ensures.tree
     (accepted_by_phases (option_copied c.args.prefer) (view c.tree-tree.result.now) c.tree-tree.ensures.faultless c.in_ok-objects.ensures.identified c.in_ok-check_references.ensures.referred
     c.in_ok-names.ensures.told_apart)
+
+pub of-requires : goal.of-requires
+of-requires c = record { distinct = subst HaveDistinctKeys (sym c.in_ok-objects.ensures.kept) (kept_distinct (option_copied c.args.prefer) (view c.tree-tree.result.now) c.in_ok-objects.ensures.identified) }
 
 pub indexed-requires-clause-resolved : goal.indexed-requires-clause-resolved
 indexed-requires-clause-resolved c = record {

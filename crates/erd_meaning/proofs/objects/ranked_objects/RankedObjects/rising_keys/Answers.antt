@@ -1,19 +1,33 @@
-use Rattle.std.proofs.Common.{◌≡◌, List, map, ap, ◌∙◌}
+use Rattle.std.proofs.Common.{◌≡◌, List, map, sym, ap, ◌∙◌}
 use Rattle.std.proofs.lemmas.Result.{IfOk-weaker}
-use Rattle.erd_meaning.specs.code.RanksAmong.{key_at_among, rising_keys_among, seen_keys}
+use Rattle.std.specs.Option.{option_cmp}
+use Rattle.erd_meaning.specs.Keys.{key_cmp}
+use Rattle.erd_meaning.specs.SelectionNames.{rising_list}
+use Rattle.erd_meaning.specs.code.KeyOrders.{lent_key_cmp, seen_keys}
+use Rattle.erd_meaning.specs.code.RanksAmong.{key_at_among, rising_keys_among}
 use Rattle.erd_meaning.specs.code.Shown.{shown}
-use Rattle.erd_meaning.specs.declared.objects.key_order.KeyOrder.{KeyOrder}
 use Rattle.erd_meaning.specs.declared.objects.object.Object.{Object}
-use Rattle.erd_meaning.proofs.selections.PositionedKeys.{KeyPosition, from_positions}
+use Rattle.erd_meaning.proofs.selections.PositionedKeys.{KeyPosition, from_positions, rising_seen}
 use Rattle.erd_meaning.proofs.objects.ranked_objects.RankedObjects.rising_keys.Goals as goal
 
-pub returns : goal.returns
-returns c =
-    let ks = map shown c.self.inside.table in
+pub returns-in_ok-keys_of_family-in-Selection : goal.returns-in_ok-keys_of_family-in-Selection
+returns-in_ok-keys_of_family-in-Selection c =
     let f = c.args.family in
-    let kept : c.deref.result.now ≡ map (λ (p : KeyPosition). p.1) (rising_keys_among ks f) =
-    c.deref.ensures.value ∙ (ap (λ (o : KeyOrder). o.positions.items) c.get.ensures ∙ (c.self.invariant f).positions_rise) in
-    IfOk-weaker c.keys_at.result (λ keys. seen_keys keys.items ≡ map (λ i. (key_at_among ks f i, i)) c.deref.result.now)
+    let keys = c.in_ok-keys_of_family-in-Selection.field-0.items in
+    IfOk-weaker c.in_rising_order.result (λ rising. rising.items ≡ rising_list (λ a b. lent_key_cmp a.0 b.0) keys)
+    (λ rising. seen_keys rising.items ≡ rising_keys_among (map shown c.args.self.now) f)
+    (λ rising is. ap (λ es. seen_keys es) is ∙ rising_seen keys
+    ∙ ap (λ (ps : List KeyPosition). rising_list (λ a b. option_cmp key_cmp a.0 b.0) ps) c.in_ok-keys_of_family-in-Selection.ensures
+    ∙ ap (λ (os : List Object). rising_keys_among (map shown os) f) c.self.view_is)
+    c.in_rising_order.ensures
+
+pub returns-in_default : goal.returns-in_default
+returns-in_default c =
+    let f = c.args.family in
+    let ks = map shown c.self.inside.table in
+    let positions : c.rising.result.now ≡ map (λ (p : KeyPosition). p.1) (rising_keys_among ks f) =
+    c.rising.ensures ∙ ap (λ (os : List Object). map (λ (p : KeyPosition). p.1) (rising_keys_among (map shown os) f)) (sym c.self.view_is) in
+    IfOk-weaker c.keys_at.result (λ keys. seen_keys keys.items ≡ map (λ i. (key_at_among ks f i, i)) c.rising.result.now)
     (λ keys. seen_keys keys.items ≡ rising_keys_among (map shown c.args.self.now) f)
-    (λ keys is. is ∙ ap (map (λ i. (key_at_among ks f i, i))) kept ∙ from_positions ks f ∙ ap (λ (js : List Object). rising_keys_among (map shown js) f) c.self.view_is)
+    (λ keys is. is ∙ ap (map (λ i. (key_at_among ks f i, i))) positions ∙ from_positions ks f ∙ ap (λ (os : List Object). rising_keys_among (map shown os) f) c.self.view_is)
     c.keys_at.ensures

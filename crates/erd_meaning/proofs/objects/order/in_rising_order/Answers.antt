@@ -1,16 +1,13 @@
 use Rattle.std.proofs.Common.{rules}
 use Rattle.std.proofs.lemmas.Cmp.{on_total}
 use Rattle.std.proofs.lemmas.List.Sorted.{answers_always}
-use Rattle.erd_meaning.specs.code.RanksAmong.{lent_key_cmp}
+use Rattle.erd_meaning.specs.code.KeyOrders.{lent_key_cmp}
 use Rattle.erd_meaning.proofs.orders.RisingLists.{rising_from_sort}
 use Rattle.erd_meaning.proofs.selections.RankedKeys.{lent_key_cmp_total}
-use Rattle.erd_meaning.proofs.objects.rising_keys.in_rising_order.Goals as goal
+use Rattle.erd_meaning.proofs.objects.order.in_rising_order.Goals as goal
 
-pub returns-clause-rising : goal.returns-clause-rising
-returns-clause-rising c =
+pub returns : goal.returns
+returns c =
     rising_from_sort (λ a b. lent_key_cmp a.0 b.0) (on_total (λ a. a.0) lent_key_cmp_total) c.args.keys.items c.sort_by_key.new.self.items
     (c.in_ok-sort_by_key.ensures.sorted (λ a. a.0) (answers_always _ _ _ (λ f a r g called. search rules)))
     (c.in_ok-sort_by_key.ensures.stable (λ a. a.0) (answers_always _ _ _ (λ f a r g called. search rules)))
-
-pub returns-clause-sorted : goal.returns-clause-sorted
-returns-clause-sorted c = c.in_ok-sort_by_key.ensures.sorted (λ a. a.0) (answers_always _ _ _ (λ f a r g called. search rules))

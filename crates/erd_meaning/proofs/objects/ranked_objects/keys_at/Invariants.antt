@@ -1,7 +1,8 @@
 use Rattle.std.proofs.Common.{◌≡◌, map, take}
-use Rattle.erd_meaning.specs.code.RanksAmong.{key_at_among, seen_keys}
+use Rattle.erd_meaning.specs.code.KeyOrders.{seen_keys}
+use Rattle.erd_meaning.specs.code.RanksAmong.{key_at_among}
 use Rattle.erd_meaning.specs.code.Shown.{shown}
-use Rattle.erd_meaning.proofs.objects.rising_keys.keys_at.Given as goal
+use Rattle.erd_meaning.proofs.objects.ranked_objects.keys_at.Given as goal
 
 abbrev pub invariant-loop-position : goal.invariant-loop-position
 invariant-loop-position l = seen_keys l.keys.items ≡ map (λ i. (key_at_among (map shown l.objects) l.family i, i)) (take l.position-index l.positions)

@@ -1,0 +1,85 @@
+-- In a report without faults of identity no two objects of a family and no two elections have one key.
+use Rattle.std.proofs.Common.{◌≡◌, ℕ, List, map, length, Bool, true, false, nat_lt, cond, codes, Some, None, option_and_then, is_eq, slice_get, refl, sym, ap, ap₂, ◌∙◌, subst, arith}
+use Rattle.std.proofs.lemmas.Bool.{ltb-false}
+use Rattle.std.proofs.lemmas.Option.{slice_get_within}
+use Rattle.std.proofs.lemmas.Simd.{map-map}
+use Rattle.std.specs.Cmp.{Equal-is}
+use Rattle.std.specs.List.{IsDistinct}
+use Rattle.std.specs.Option.{option_cmp}
+use Rattle.std.specs.Ordering.{eq_by_cmp}
+use Rattle.serde_json.specs.Data.{Data}
+use Rattle.erd_tables.specs.declared.class.Family.{Family}
+use Rattle.erd_check.specs.Faults.{NoneOf}
+use Rattle.erd_check.specs.Values.{entries_at}
+use Rattle.erd_meaning.specs.Keys.{Preference, has_keys, key_cmp, key_of, key_of_family_object}
+use Rattle.erd_meaning.specs.LaterFaults.{IdentityFault}
+use Rattle.erd_meaning.specs.Lookups.{key_in}
+use Rattle.erd_meaning.specs.Objects.{Placed, elections, has_several, objects, report_of}
+use Rattle.erd_meaning.specs.code.KeyOrders.{AreDistinct, HaveDistinctKeys}
+use Rattle.erd_meaning.specs.code.ObjectWalk.{Kept, election_keys, kept, kept_objects}
+use Rattle.erd_meaning.specs.code.Orders.{key_cmp_exact}
+use Rattle.erd_meaning.specs.declared.keys.key.Key.{Key}
+use Rattle.erd_meaning.proofs.accepted.KeyedElections.{election_has_identifier}
+use Rattle.erd_meaning.proofs.accepted.References.{has_identifier}
+use Rattle.erd_meaning.proofs.accepted.Skeleton.{values-placed_entries}
+use Rattle.erd_meaning.proofs.finding.Lookups.{those_kept}
+use Rattle.erd_meaning.proofs.finding.OneObject.{in_at, one_key}
+use Rattle.erd_meaning.proofs.finding.TwinElections.{one_election_key}
+use Rattle.erd_meaning.proofs.orders.DistinctEntries.{distinct_from_one_place, distinct_map}
+use Rattle.erd_meaning.proofs.orders.RisingSets.{has_from_In}
+
+-- the test whether two values have one key
+abbrev has_one_key : Preference → Data → Data → Bool
+has_one_key π d e = eq_by_cmp (option_cmp key_cmp) (key_of π d) (key_of π e)
+
+module _ (π : Preference) (t : Data) (none : NoneOf (IdentityFault π t)) where
+  -- ---- objects
+
+  key_at : (f : Family) (i : ℕ) (o : Placed) (k : Key) → has_keys f ≡ true → slice_get (objects f t) i ≡ Some o → key_of π o.value ≡ Some k → key_in π f t i ≡ Some k
+  key_at f i o k keyed a e = ap (option_and_then (λ (o : Placed). key_of_family_object π f o.value)) a ∙ ap (λ b. cond b (key_of π o.value) None) keyed ∙ e
+
+  pub objects_distinct : (f : Family) → has_keys f ≡ true → IsDistinct (λ (o p : Placed). has_one_key π o.value p.value) (objects f t)
+  objects_distinct f keyed = distinct_from_one_place (λ (o p : Placed). has_one_key π o.value p.value) (objects f t) (λ i j o p a b e.
+      let k = has_identifier π t none f o keyed (has_from_In o (objects f t) (in_at (objects f t) i o a)) in
+      let l = has_identifier π t none f p keyed (has_from_In p (objects f t) (in_at (objects f t) j p b)) in
+      let same : k.0 ≡ l.0 = key_cmp_exact k.0 l.0 ((Equal-is (key_cmp k.0 l.0)).0 (sym (ap₂ (λ x y. is_eq (option_cmp key_cmp x y)) k.1 l.1) ∙ e)) in
+      one_key π t f k.0 i j none (key_at f i o k.0 keyed a k.1) (key_at f j p k.0 keyed b (l.1 ∙ ap Some (sym same))))
+
+  -- the values of a family's objects
+  pub values_distinct : (f : Family) → has_keys f ≡ true → IsDistinct (has_one_key π) (map (λ o. o.value) (objects f t))
+  values_distinct f keyed = distinct_map (λ (o : Placed). o.value) (has_one_key π) (objects f t) (objects_distinct f keyed)
+
+  -- the keys of the objects that are kept
+  pub kept_distinct : HaveDistinctKeys (kept_objects π t)
+  kept_distinct f keyed =
+      subst AreDistinct
+      (sym (ap (map (λ (k : Kept). k.key)) (those_kept π f t) ∙ map-map (λ (k : Kept). k.key) (λ (o : Placed). kept π f o.value) (objects f t)))
+      (distinct_map (λ (o : Placed). key_of_family_object π f o.value) (eq_by_cmp (option_cmp key_cmp)) (objects f t)
+      (subst (λ b. IsDistinct (λ (o p : Placed). eq_by_cmp (option_cmp key_cmp) (cond b (key_of π o.value) None) (cond b (key_of π p.value) None)) (objects f t)) (sym keyed) (objects_distinct f keyed)))
+
+  -- ---- elections
+
+  -- an election of a report that has one
+  only_place : {A : Type 0} (xs : List A) (i : ℕ) (x : A) → nat_lt 1 (length xs) ≡ false → slice_get xs i ≡ Some x → i ≡ 0
+  only_place xs i x few found = let h = slice_get_within xs i x found in let l = ltb-false 1 (length xs) few in omega arith
+
+  one_election_place : (several : Bool) → has_several t ≡ several → (i j : ℕ) (d e : Placed) → slice_get (elections t) i ≡ Some d → slice_get (elections t) j ≡ Some e
+      → has_one_key π d.value e.value ≡ true → i ≡ j
+  one_election_place true is i j d e at there h =
+      let k = election_has_identifier π t none is d (has_from_In d (elections t) (in_at (elections t) i d at)) in
+      let l = election_has_identifier π t none is e (has_from_In e (elections t) (in_at (elections t) j e there)) in
+      let same : k.0 ≡ l.0 = key_cmp_exact k.0 l.0 ((Equal-is (key_cmp k.0 l.0)).0 (sym (ap₂ (λ x y. is_eq (option_cmp key_cmp x y)) k.1 l.1) ∙ h)) in
+      one_election_key π t none i j d e k.0 at there k.1 (l.1 ∙ ap Some (sym same))
+  one_election_place false is i j d e at there h = only_place (elections t) i d is at ∙ sym (only_place (elections t) j e is there)
+
+  placed_distinct : IsDistinct (λ (d e : Placed). has_one_key π d.value e.value) (elections t)
+  placed_distinct = distinct_from_one_place (λ (d e : Placed). has_one_key π d.value e.value) (elections t) (one_election_place (has_several t) refl)
+
+  -- no two elections have one key, and none are two without
+  pub elections_distinct : IsDistinct (has_one_key π) (entries_at (codes "Election") t)
+  elections_distinct =
+      subst (IsDistinct (has_one_key π)) (values-placed_entries (codes "Election") (report_of t))
+      (distinct_map (λ (e : Placed). e.value) (has_one_key π) (elections t) placed_distinct)
+
+  pub election_keys_distinct : AreDistinct (election_keys π t)
+  election_keys_distinct = distinct_map (λ (e : Placed). key_of π e.value) (eq_by_cmp (option_cmp key_cmp)) (elections t) placed_distinct

@@ -1,0 +1,22 @@
+use Rattle.std.proofs.Common.{List, map, option_map, slice_get, ap, ◌∙◌}
+use Rattle.std.proofs.lemmas.Option.{slice_get-map}
+use Rattle.erd_meaning.specs.Families.{entry_of}
+use Rattle.erd_meaning.specs.code.ObjectLookups.{those_of}
+use Rattle.erd_meaning.specs.code.ObjectWalk.{Kept}
+use Rattle.erd_meaning.specs.code.RanksAmong.{rank_among}
+use Rattle.erd_meaning.specs.code.Shown.{shown}
+use Rattle.erd_meaning.specs.declared.objects.object.Object.{Object}
+use Rattle.erd_meaning.specs.declared.objects.order.Order.{Order}
+use Rattle.erd_meaning.proofs.selections.PositionedKeys.{ranks_of_order}
+use Rattle.erd_meaning.proofs.objects.ranked_objects.RankedObjects.rank_at.Goals as goal
+
+pub returns : goal.returns
+returns c =
+    let f = c.args.family in
+    let i = c.args.position in
+    let ks = map shown c.self.inside.table in
+    c.rank_at.ensures
+    ∙ ap (λ (order : Order). slice_get order.ranks.items i) c.get.ensures
+    ∙ ap (λ ranks. slice_get ranks i) (ranks_of_order ks f (entry_of c.self.inside.orders f) (c.self.invariant f c.requires.keyed))
+    ∙ slice_get-map (λ (k : Kept). rank_among ks f k.key) (those_of f ks) i
+    ∙ ap (λ (os : List Object). option_map (λ (k : Kept). rank_among (map shown os) f k.key) (slice_get (those_of f (map shown os)) i)) c.self.view_is

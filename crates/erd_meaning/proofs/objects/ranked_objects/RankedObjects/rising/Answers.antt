@@ -1,0 +1,11 @@
+use Rattle.std.proofs.Common.{List, map, ap, ◌∙◌}
+use Rattle.erd_meaning.specs.code.KeyOrders.{family_keys, rising_positions}
+use Rattle.erd_meaning.specs.code.Shown.{shown}
+use Rattle.erd_meaning.specs.declared.objects.object.Object.{Object}
+use Rattle.erd_meaning.specs.declared.objects.order.Order.{Order}
+use Rattle.erd_meaning.proofs.objects.ranked_objects.RankedObjects.rising.Goals as goal
+
+pub returns : goal.returns
+returns c =
+    c.deref.ensures.value ∙ ap (λ (order : Order). order.rising.items) c.get.ensures ∙ (c.self.invariant c.args.family c.requires.keyed).rises
+    ∙ ap (λ (os : List Object). rising_positions (family_keys (map shown os) c.args.family)) c.self.view_is
