@@ -27,6 +27,15 @@ rising_keys π t f =
     rising_list (λ a b. option_cmp key_cmp a.0 b.0)
     (map (λ p. (key_of_family_object π f p.1.value, p.0)) (enumerate_from 0 (objects f t)))
 
+-- The number of elections of the report whose keys are less than this one.
+abbrev pub election_rank_of : Preference → Data → Option Key → ℕ
+election_rank_of π t k = length (filter (λ e. is_lt (option_cmp key_cmp (key_of π e.value) k)) (elections t))
+
+-- The keys of the elections in rising order, each with the position of its election.
+abbrev pub rising_election_keys : Preference → Data → List (Option Key × ℕ)
+rising_election_keys π t =
+    rising_list (λ a b. option_cmp key_cmp a.0 b.0) (map (λ p. (key_of π p.1.value, p.0)) (enumerate_from 0 (elections t)))
+
 -- The `@id` of the object at this position of its family, or none if there is no such object or it has no `@id`.
 abbrev pub id_in : Family → Data → ℕ → Option (List ℕ)
 id_in f t i = option_and_then (λ o. id_of o.value) (slice_get (objects f t) i)

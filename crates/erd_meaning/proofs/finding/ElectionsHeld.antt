@@ -1,9 +1,11 @@
 -- The elections of a report by position: their values, their keys, and which one holds an object.
-use Rattle.std.proofs.Common.{◌≡◌, ◌<◌, ◌+◌, arith, ℕ, zero, suc, List, [], ◌∷◌, ◌++◌, length, map, false, codes, replicate, Option, Some, None, option_and_then, option_map, refl, sym, ap, ap₂, ◌∙◌}
+use Rattle.std.proofs.Common.{◌≡◌, ◌<◌, ◌+◌, arith, ℕ, zero, suc, List, [], ◌∷◌, ◌++◌, length, map, false, codes, replicate, Option, Some, None, is_lt, option_and_then, option_map, refl, sym, ap, ap₂, ◌∙◌}
 use Rattle.std.specs.List.{flat_map, slice_get}
 use Rattle.std.specs.Str.{bytes_eq}
 use Rattle.std.proofs.lemmas.List.{length-map, map-append}
 use Rattle.std.proofs.lemmas.Option.{slice_get-map}
+use Rattle.std.proofs.lemmas.Simd.{map-map}
+use Rattle.std.specs.Option.{option_cmp}
 use Rattle.serde_json.specs.Data.{Data, no_items}
 use Rattle.serde_json.specs.View.{view}
 use Rattle.serde_json.specs.declared.value.Value.{Value}
@@ -14,18 +16,28 @@ use Rattle.erd_tables.specs.declared.place.Step.TheVariants.{At, Name}
 use Rattle.erd_check.specs.Faults.{NoneOf, ShapeFault}
 use Rattle.erd_check.specs.Values.{entries_at}
 use Rattle.erd_check.proofs.Entries.{list_of_items_exact}
-use Rattle.erd_meaning.specs.Keys.{Preference, key_of}
-use Rattle.erd_meaning.specs.Lookups.{election_in, election_key_in}
+use Rattle.erd_meaning.specs.Keys.{Preference, key_cmp, key_of}
+use Rattle.erd_meaning.specs.Lookups.{election_in, election_key_in, election_rank_of}
 use Rattle.erd_meaning.specs.Objects.{Placed, election_of_place, elections, placed_entries, placed_from}
 use Rattle.erd_meaning.specs.code.ElectionKeys.{held_from}
 use Rattle.erd_meaning.specs.code.Holding.{AreHeld, held}
+use Rattle.erd_meaning.specs.code.KeyOrders.{rank_in_keys}
 use Rattle.erd_meaning.specs.code.ObjectWalk.{election_keys}
 use Rattle.erd_meaning.specs.declared.keys.key.Key.{Key}
 use Rattle.erd_meaning.specs.declared.objects.holders.Holders.{Holders}
 use Rattle.erd_meaning.proofs.accepted.Skeleton.{election_entries, skeleton_of_shape, values-placed_from}
 use Rattle.erd_meaning.proofs.meanings.HeldValues.{mapped_then}
+use Rattle.erd_meaning.proofs.orders.Counted.{count_map}
 
 -- ---- by position
+
+-- the rank of the election at a position
+pub election_rank : (π : Preference) (t : Data) (ranks : List ℕ) (i : ℕ) → ranks ≡ map (rank_in_keys (election_keys π t)) (election_keys π t)
+    → slice_get ranks i ≡ option_map (λ e. election_rank_of π t (key_of π e.value)) (slice_get (elections t) i)
+election_rank π t ranks i are =
+    ap (λ ns. slice_get ns i) (are ∙ map-map (rank_in_keys (election_keys π t)) (λ (e : Placed). key_of π e.value) (elections t))
+    ∙ slice_get-map (λ (e : Placed). rank_in_keys (election_keys π t) (key_of π e.value)) (elections t) i
+    ∙ ap (λ (rank : Placed → ℕ). option_map rank (slice_get (elections t) i)) (λ j e. count_map (λ (d : Placed). key_of π d.value) (λ l. is_lt (option_cmp key_cmp l (key_of π e.value))) (elections t) j)
 
 -- there are as many objects as values in the array
 pub as_many : (p : List Step) (vs : List Value) {ds : List Data} → map view vs ≡ ds → length vs ≡ length (placed_from p 0 ds)

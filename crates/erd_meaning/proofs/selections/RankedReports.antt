@@ -1,5 +1,5 @@
 -- The names that a report keeps with ranks are those of its selections, with the ranks of their keys in the report.
-use Rattle.std.proofs.Common.{◌≡◌, ℕ, List, map, filter, length, cond, true, is_lt, Option, Some, None, option_map, slice_get, refl, sym, ap, ◌∙◌}
+use Rattle.std.proofs.Common.{◌≡◌, ℕ, List, map, filter, length, cond, true, is_lt, Option, Some, None, option_and_then, option_map, slice_get, refl, sym, ap, ◌∙◌}
 use Rattle.std.proofs.lemmas.Option.{slice_get-map}
 use Rattle.std.proofs.lemmas.Simd.{map-map}
 use Rattle.std.specs.Option.{option_cmp}
@@ -9,13 +9,14 @@ use Rattle.erd_tables.specs.declared.class.Class.{Class}
 use Rattle.erd_tables.specs.declared.class.Class.TheVariants as class
 use Rattle.erd_tables.specs.declared.class.Family.{Family}
 use Rattle.erd_check.proofs.Order.{In-all}
-use Rattle.erd_meaning.specs.Keys.{Preference, has_keys, key_cmp, key_of}
+use Rattle.erd_meaning.specs.Keys.{Preference, has_keys, key_cmp, key_of, key_of_family_object}
 use Rattle.erd_meaning.specs.code.KeyOrders.{positioned}
 use Rattle.erd_meaning.specs.code.RanksAmong.{AllAreRanked, IsRanked, names_of, rank_among, ranked_parts, rising_keys_among}
-use Rattle.erd_meaning.specs.Lookups.{rank_of, rising_keys}
+use Rattle.erd_meaning.specs.Lookups.{key_in, rank_of, rising_keys}
 use Rattle.erd_meaning.specs.NameParts.{NameParts}
 use Rattle.erd_meaning.specs.SelectionNames.{rising_list}
 use Rattle.erd_meaning.specs.Objects.{Placed, objects}
+use Rattle.erd_meaning.specs.code.ObjectLookups.{those_of}
 use Rattle.erd_meaning.specs.code.ObjectWalk.{Kept, kept}
 use Rattle.erd_meaning.specs.RankedNames.{PlacedName, RankedParts, family_chosen, ranked_name, ranked_selection_in}
 use Rattle.erd_meaning.specs.code.Resolved.{IsResolved}
@@ -23,9 +24,11 @@ use Rattle.erd_meaning.specs.code.SelectionWalk.{NumberedName}
 use Rattle.erd_meaning.specs.code.Shown.{shown}
 use Rattle.erd_meaning.specs.declared.keys.key.Key.{Key}
 use Rattle.erd_meaning.specs.declared.objects.object.Object.{Object}
+use Rattle.erd_meaning.proofs.accepted.References.{has_identifier}
 use Rattle.erd_meaning.proofs.finding.Lookups.{those_shown}
 use Rattle.erd_meaning.proofs.finding.OneObject.{in_at}
 use Rattle.erd_meaning.proofs.orders.Counted.{count_map}
+use Rattle.erd_meaning.proofs.orders.RisingSets.{has_from_In}
 use Rattle.erd_meaning.proofs.selections.PositionedKeys.{rising_positioned}
 
 -- the objects that selections are for have keys
@@ -45,6 +48,25 @@ module _ (π : Preference) (v : Value) (os : List Object) (names : List Numbered
       ap (λ (keys : List (Option Key)). rising_list (λ a b. option_cmp key_cmp a.0 b.0) (positioned 0 keys))
       (ap (map (λ (k : Kept). k.key)) (those_shown π v os names f r) ∙ map-map (λ (k : Kept). k.key) (λ (o : Placed). kept π f o.value) (objects f (view v)))
       ∙ rising_positioned π (view v) f
+
+  -- the rank of the object at a position
+  pub rank_same_at : (f : Family) → has_keys f ≡ true → (i : ℕ)
+      → option_map (λ (k : Kept). rank_among (map shown os) f k.key) (slice_get (those_of f (map shown os)) i) ≡ option_map (λ k. rank_of π (view v) f (Some k)) (key_in π f (view v) i)
+  rank_same_at f keyed i =
+      ap (λ ks. option_map rank (slice_get ks i)) (those_shown π v os names f r)
+      ∙ ap (option_map rank) (slice_get-map (λ (o : Placed). kept π f o.value) (objects f (view v)) i)
+      ∙ at (slice_get (objects f (view v)) i) refl
+    where
+      rank : Kept → ℕ
+      rank k = rank_among (map shown os) f k.key
+
+      at : (o : Option Placed) → slice_get (objects f (view v)) i ≡ o
+          → option_map rank (option_map (λ (o : Placed). kept π f o.value) o) ≡ option_map (λ k. rank_of π (view v) f (Some k)) (option_and_then (λ (o : Placed). key_of_family_object π f o.value) o)
+      at None is = refl
+      at (Some o) is =
+          let its = has_identifier π (view v) r.identified f o keyed (has_from_In o (objects f (view v)) (in_at (objects f (view v)) i o is)) in
+          let same : key_of_family_object π f o.value ≡ Some its.0 = ap (λ b. cond b (key_of π o.value) None) keyed ∙ its.1 in
+          ap (λ key. Some (rank_among (map shown os) f key)) same ∙ ap Some (rank_same f keyed (Some its.0)) ∙ sym (ap (option_map (λ k. rank_of π (view v) f (Some k))) same)
 
   ranked_same : (n : NameParts) → ranked_parts (map shown os) n ≡ ranked_name π (view v) n
   ranked_same n i = record { name = n; ranks = map (λ key. rank_same (family_chosen n.class) (chosen_keyed n.class) (Some key) i) n.keys }

@@ -69,6 +69,14 @@ fn rising_keys(rt: &impl Abort, alloc: Global, report: &Report) -> Result<(), Fa
     Ok(())
 }
 
+// The positions of objects and elections in the order of their keys.
+fn orders(rt: &impl Abort, report: &Report) {
+    assert_eq!(rt; report.rising(Family::Unit).first(), Some(&0));
+    assert_eq!(rt; report.rank_at(Family::Candidate, 0), Some(0));
+    assert_eq!(rt; report.rising_elections().first(), Some(&0));
+    assert_eq!(rt; report.election_rank_at(0), Some(0));
+}
+
 // What the report finds by names.
 fn names(rt: &impl Abort, alloc: Global, report: &Report) -> Result<(), Fail> {
     let (contest, name) = report.selection_at(1).ok_or("no write-in line")?;
@@ -99,6 +107,8 @@ fn ranks(rt: &impl Abort, report: &Report) -> Result<(), Fail> {
 fn look_ups(rt: &impl Abort, alloc: Global, tree: &Value, report: &Report) -> Result<(), Fail> {
     positions(rt, tree, report)?;
     objects(rt, report);
+    counts(rt, report)?;
+    orders(rt, report);
     keys(rt, alloc, report)?;
     rising_keys(rt, alloc, report)?;
     names(rt, alloc, report)?;
