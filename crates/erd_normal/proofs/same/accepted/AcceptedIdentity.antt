@@ -26,7 +26,7 @@ use Rattle.erd_meaning.proofs.accepted.Phases.{no_identity_fault, no_shape_fault
 use Rattle.erd_meaning.proofs.accepted.References.{Contains-Has, Has-Contains}
 use Rattle.erd_meaning.proofs.orders.DistinctEntries.{distinct_one}
 use Rattle.erd_normal.specs.code.NormalTree.{by_key}
-use Rattle.erd_normal.proofs.canonical.DistinctObjects.{values_distinct}
+use Rattle.erd_meaning.proofs.accepted.DistinctKeys.{values_distinct}
 use Rattle.erd_normal.proofs.canonical.ElectionsApart.{election_values, none_keyless, one_election}
 use Rattle.erd_normal.proofs.lists.Matched.{IsEven, Matched, distinct_matched, even_order, matched_back, matched_within}
 use Rattle.erd_normal.proofs.rearranged.RearrangedIdentity.{not_before_itself}
@@ -68,7 +68,7 @@ module _ (m : Sides) (left_tree : IsTree m.left) (right_tree : IsTree m.right) (
   keys_distinct f keyed =
       distinct_matched (eq_by_cmp (by_key π)) (eq_by_cmp (by_key π)) (same_key_even π)
       (λ x x' y y' i j r r' h. ap₂ (λ k l. is_eq (option_cmp key_cmp k l)) (kin_key f x y r) (kin_key f x' y' r') ∙ h)
-      (matched f) (subst (IsDistinct (eq_by_cmp (by_key π))) (object_values f m.left) (values_distinct π m.left accepted f keyed))
+      (matched f) (subst (IsDistinct (eq_by_cmp (by_key π))) (object_values f m.left) (values_distinct π m.left (no_identity_fault π m.left accepted) f keyed))
 
   -- elections that say the same have one key
   elections_alike : Matched (λ d e. key_of π d ≡ key_of π e) (election_values m.left) (election_values m.right)

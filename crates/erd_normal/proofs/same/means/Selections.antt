@@ -26,7 +26,7 @@ use Rattle.erd_meaning.proofs.accepted.References.{Has-Contains}
 use Rattle.erd_meaning.proofs.accepted.Skeleton.{values-placed_entries}
 use Rattle.erd_meaning.proofs.orders.DistinctEntries.{distinct_one}
 use Rattle.erd_normal.specs.code.NormalTree.{by_name}
-use Rattle.erd_normal.proofs.canonical.DistinctObjects.{selection_values_distinct}
+use Rattle.erd_normal.proofs.canonical.DistinctSelections.{selection_values_distinct}
 use Rattle.erd_normal.proofs.lists.Matched.{Matched, distinct_matched, even_order, matched_back, matched_within}
 use Rattle.erd_normal.proofs.rearranged.RearrangedIdentity.{not_before_itself}
 use Rattle.erd_normal.proofs.rearranged.RelatedObjects.{family_values}

@@ -33,7 +33,9 @@ use Rattle.erd_normal.specs.code.NormalTree.{by_key, by_name, id_of_key, id_of_s
 use Rattle.erd_normal.proofs.canonical.Bounds.{few_selections}
 use Rattle.erd_normal.proofs.canonical.CanonicalIds.{canonical_id_exact, selection_id_apart}
 use Rattle.erd_normal.proofs.canonical.ContestSelections.{one_contest}
-use Rattle.erd_normal.proofs.canonical.DistinctObjects.{selection_values_distinct, values_distinct}
+use Rattle.erd_meaning.proofs.accepted.DistinctKeys.{values_distinct}
+use Rattle.erd_meaning.proofs.accepted.Phases.{no_identity_fault}
+use Rattle.erd_normal.proofs.canonical.DistinctSelections.{selection_values_distinct}
 use Rattle.erd_normal.proofs.canonical.RisingReports.{by_key_total, by_name_total}
 use Rattle.erd_normal.proofs.canonical.SelectionIds.{listed, selection_values}
 use Rattle.erd_normal.proofs.canonical.SelectionTexts.{canonical_selection_id_exact}
@@ -82,7 +84,7 @@ module _ (π : Preference) (t : Data) (accepted : IsAccepted π t) where
   one_ranked : (f : Family) → has_keys f ≡ true → (o p : Placed) → Has (objects f t) o → Has (objects f t) p → rank_of π t f (key_of π o.value) ≡ rank_of π t f (key_of π p.value) → o ≡ p
   one_ranked f keyed o p in_o in_p same =
       let tied : by_key π o.value p.value ≡ Equal = rank_exact (λ (x : Placed). key_of π x.value) (options_total key_cmp_total) (objects f t) o p in_o in_p same in
-      distinct_one (λ (x : Placed). x.value) (eq_by_cmp (by_key π)) (objects f t) (values_distinct π t accepted f keyed) o p in_o in_p (ap is_eq tied)
+      distinct_one (λ (x : Placed). x.value) (eq_by_cmp (by_key π)) (objects f t) (values_distinct π t (no_identity_fault π t accepted) f keyed) o p in_o in_p (ap is_eq tied)
       (ap is_eq (tied_back (by_key_total π) o.value p.value tied))
 
   in_values : (c o : Placed) → Has (selections_of_contest c) o → Has (selection_values c) o.value
