@@ -6,7 +6,8 @@ usage: says_the_same.py [COUNT [SEED]]
 The left report of a pair is an example or a case of `conformance/` with random edits. The right one is the left one with
 changes that count for nothing, or its canonical form: the answer is to be `same`. Or it has one small edit as well: the
 answer is to be anything but `same`. Or it has edits at random, or is another report. COUNT pairs, or 2,000, have two accepted
-reports; on each of them the two ideas have to agree. Each pair is a case. Half of them are compared under a preference.
+reports; on each of them the two ideas have to agree. About half of them are compared under a preference. The other idea also
+has to give the answers of `conformance/`. Each pair is a case.
 """
 import copy
 import json
@@ -19,6 +20,8 @@ from changes import CHANGES, EDITS, change_all, edit, exchange_members
 from relation import says_the_same
 
 SAME, OTHER, ANY = "same", "not same", "any answer"
+# What an answer begins with that does not go with its status.
+STATUS = "status "
 FAILURES_AT_MOST = 5
 SMALL = [name for name in EXAMPLES if name != "county.vendor-a"]
 
@@ -113,23 +116,36 @@ def pairs(dice, folder):
 def answer_of(left, right, prefer, dice, folder):
     inputs = [json.dumps(report, ensure_ascii=dice.random() < 0.5).encode("utf-8") for report in (left, right)]
     status, out, err = by_erd("compare", inputs, prefer, folder)
-    return out.decode("utf-8").rstrip("\n") if status in (0, 1) and not err else f"status {status}: {err}"
+    answer = out.decode("utf-8").removesuffix("\n")
+    return answer if status == int(answer != SAME) and not err else f"{STATUS}{status}: {answer} {err}"
 
 
 def failure_of(kind, left, right, answer):
     """What is wrong with the answer, if anything is."""
     wanted = PAIRS[kind][1]
-    if wanted != ANY and (answer == SAME) != (wanted == SAME):
+    if answer.startswith(STATUS) or wanted != ANY and (answer == SAME) != (wanted == SAME):
         return f"is to be {wanted}"
     if not answer.startswith("right: ") and says_the_same(left, right) != (answer == SAME):
         return "differs from the other idea"
     return None
 
 
+def conformance_failures():
+    """The cases of `conformance/` with two accepted reports, each with what is wrong with the other idea there, if anything is."""
+    for path in sorted((ROOT / "conformance").glob("*/compare.txt")):
+        answer = path.read_text(encoding="utf-8").removesuffix("\n")
+        if not answer.startswith(("left: ", "right: ")):
+            left, right = (json.loads((path.parent / name).read_text(encoding="utf-8")) for name in ("left.json", "right.json"))
+            yield path.parent.name, says_the_same(left, right) != (answer == SAME)
+
+
 def main():
     count = int(sys.argv[1]) if len(sys.argv) > 1 else 2000
     dice = random.Random(int(sys.argv[2]) if len(sys.argv) > 2 else 1729)
     told = {kind: {"the same": 0, "not": 0, "with the right one refused": 0} for kind in PAIRS}
+    conformance = list(conformance_failures())
+    for name in [name for name, is_wrong in conformance if is_wrong]:
+        print(f"FAILED: the other idea on conformance/{name}")
     compared = failed = 0
     with tempfile.TemporaryDirectory() as folder:
         for kind, left, right, prefer in pairs(dice, folder):
@@ -147,7 +163,9 @@ def main():
                 break
     for kind, numbers in told.items():
         print(f"{kind}: " + ", ".join(f"{number} {name}" for name, number in numbers.items() if number))
-    print(f"{sum(sum(numbers.values()) for numbers in told.values()) - failed} passed, {failed} failed")
+    total = len(conformance) + sum(sum(numbers.values()) for numbers in told.values())
+    failed += sum(is_wrong for _, is_wrong in conformance)
+    print(f"{total - failed} passed, {failed} failed")
     return int(failed > 0)
 
 
