@@ -1,15 +1,16 @@
 """The changes of an accepted report that count for nothing (docs/PROFILE.md), and small edits of it of which each counts."""
 import json
 
+from pages import table_of_page
 from rearranged import objects, rename, shuffle
 from relation import ENVELOPE, REFERENCES, SETS, TABLE, class_of, is_envelope, kind_of
-from pages import table_of_page
 from reports import CLASS, identifier, ids_in, texts_in
 
 REQUIRED = {name: required for name, (required, _) in table_of_page().items()}
 ARRAYS = SETS + ["content", "ordered", "outside"]
 # The classes whose objects have no `@id`.
-UNNAMED = ["ElectionReport", "Election", "OrderedContest", "OrderedHeader", "ExternalIdentifier", "InternationalizedText", "LanguageString"]
+UNNAMED = ["ElectionReport", "Election", "OrderedContest", "OrderedHeader", "ExternalIdentifier", "InternationalizedText",
+           "LanguageString"]
 WORDS = ["", "x", "canonical", "2026-11-03", "\u00e9", "\U0001f5f3", "@id", "gp1"]
 NUMBERS = [0, 1, -1, 2**64 - 1, -2**63]
 # Names that no class lists, and some that only other classes list.
