@@ -79,7 +79,9 @@ def listed(entry, *kinds):
 
 
 def other_text(entry, _):
-    return [(name, value + "x") for name, value in listed(entry, "word", "label") if isinstance(value, str)]
+    """Texts with a letter or a space more, or with capitals for small letters."""
+    return [(name, other) for name, value in listed(entry, "word", "label") if isinstance(value, str)
+            for other in (value + "x", value + " ", value.swapcase()) if other != value]
 
 
 def other_identifier(entry, _):
