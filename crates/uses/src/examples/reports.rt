@@ -2,7 +2,9 @@
 use crate::report_of;
 use erd_check::{same_json, shape};
 use erd_compare::first_difference;
-use erd_meaning::{Key, NumberedName, PerFamily, Report, SelectionName, key_of, resolve, resolve_with};
+use erd_meaning::{
+    Key, NumberedName, PerFamily, Report, SelectionName, key_of, resolve, resolve_with,
+};
 use erd_normal::{CompactText, SetOrder, in_order, normal_text, normal_tree};
 use erd_tables::{Family, Text};
 use serde_json::Value;
@@ -70,7 +72,7 @@ fn rising_keys(rt: &impl Abort, alloc: Global, report: &Report) -> Result<(), Fa
 }
 
 // The positions of objects and elections in the order of their keys.
-fn orders(rt: &impl Abort, report: &Report) {
+fn places(rt: &impl Abort, report: &Report) {
     assert_eq!(rt; report.rising(Family::Unit).first(), Some(&0));
     assert_eq!(rt; report.rank_at(Family::Candidate, 0), Some(0));
     assert_eq!(rt; report.rising_elections().first(), Some(&0));
@@ -108,7 +110,7 @@ fn look_ups(rt: &impl Abort, alloc: Global, tree: &Value, report: &Report) -> Re
     positions(rt, tree, report)?;
     objects(rt, report);
     counts(rt, report)?;
-    orders(rt, report);
+    places(rt, report);
     keys(rt, alloc, report)?;
     rising_keys(rt, alloc, report)?;
     names(rt, alloc, report)?;
