@@ -3,8 +3,4 @@ pub mod RisingMeanings
 pub mod RisingLabels
 pub mod MatchedMeanings
 pub mod MeantKinds
-pub mod MeantValues
-pub mod MeantContents
-pub mod MeantObjects
-pub mod MeantReports
-pub mod NormalMeaning
+pub mod AlikeRecords

@@ -22,6 +22,7 @@ pub mod Labels
 pub mod Built
 pub mod LabelsBack
 pub mod IdsOfObjects
+pub mod Refers
 pub mod Renamed
 pub mod RearrangedReports
 pub mod means

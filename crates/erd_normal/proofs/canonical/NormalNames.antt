@@ -1,8 +1,8 @@
 -- The name of a selection that is built is the name of the selection, under each preference.
-use Rattle.std.proofs.Common.{◌≡◌, ℕ, List, [], ◌∷◌, map, Bool, Option, Some, None, option_and_then, option_map, unwrap_or, codes, true, false, refl, sym, ap, ap₂, ◌∙◌, subst}
+use Rattle.std.proofs.Common.{◌≡◌, ℕ, List, [], ◌∷◌, map, Option, Some, None, option_and_then, option_map, unwrap_or, codes, true, false, refl, sym, ap, ap₂, ◌∙◌, subst}
 use Rattle.std.specs.List.{AllByRecursion, cons_option}
 use Rattle.std.specs.Str.{bytes_eq}
-use Rattle.serde_json.specs.Data.{Data, string, array, object, Items, Members}
+use Rattle.serde_json.specs.Data.{Data, object, Members}
 use Rattle.serde_json.specs.Find.{as_bool, as_integer, as_number, as_str, get, get_member}
 use Rattle.serde_json.specs.Written.{compact_text}
 use Rattle.erd_tables.specs.Classes.{role_of_class}
@@ -13,26 +13,24 @@ use Rattle.erd_tables.specs.declared.class.Family.{Family}
 use Rattle.erd_tables.specs.declared.class.Family.TheVariants as family
 use Rattle.erd_tables.specs.declared.class.Role.{Role}
 use Rattle.erd_tables.specs.declared.member.MemberKind.TheVariants as kind
-use Rattle.erd_tables.specs.declared.place.Step.TheVariants.{At}
 use Rattle.erd_check.specs.declared.want.Want.{Want}
-use Rattle.erd_check.specs.declared.want.Want.TheVariants.{Member, Object, Reference}
+use Rattle.erd_check.specs.declared.want.Want.TheVariants.{Member, Object}
 use Rattle.erd_check.specs.Trees.{IsTree}
 use Rattle.erd_check.specs.Values.{list_of_items, entries_at}
-use Rattle.erd_check.specs.Wants.{asked, is_repeated}
-use Rattle.erd_check.proofs.Entries.{array_from, string_from_text}
+use Rattle.erd_check.specs.Wants.{asked}
+use Rattle.erd_check.proofs.Entries.{array_from}
 use Rattle.erd_check.proofs.ObjectsAt.{ObjectAt, ObjectIn, object_in}
 use Rattle.erd_check.proofs.Rising.{Has}
-use Rattle.erd_check.proofs.Shapes.{Within, Within-step, wanted_within, within-tree}
+use Rattle.erd_check.proofs.Shapes.{Within, wanted_within, within-tree}
 use Rattle.erd_meaning.specs.Accepted.{IsAccepted}
 use Rattle.erd_meaning.specs.Keys.{Preference, has_keys, key_cmp}
-use Rattle.erd_meaning.specs.Objects.{IsBounded, Placed, contests, objects, owner, selections_of_contest}
+use Rattle.erd_meaning.specs.Objects.{IsBounded, Placed, contests, objects, selections_of_contest}
 use Rattle.erd_meaning.specs.SelectionNames.{is_write_in, key_named, keys_named, keys_of_selection, label_of_selection, name_in_class, name_of, order_of_selection, rising_list, selection_role, with_rising_text}
 use Rattle.erd_meaning.proofs.accepted.Phases.{no_shape_fault}
-use Rattle.erd_meaning.proofs.accepted.References.{owned, unrepeated_reference}
 use Rattle.erd_meaning.proofs.accepted.Standing.{flat-has, stands}
 use Rattle.erd_normal.specs.Canonical.{id_prefix}
 use Rattle.erd_normal.specs.code.NormalTree.{normal_label, normal_value, normal_reference, normal_selection, normal_tree, reference_cmp}
-use Rattle.erd_normal.proofs.built.AskedMembers.{AskedAs, all_items, asked_as}
+use Rattle.erd_normal.proofs.built.AskedMembers.{AskedAs, asked_as}
 use Rattle.erd_normal.proofs.lists.BuiltLists.{all_rising}
 use Rattle.erd_normal.proofs.built.LeastKeys.{key_of_selection}
 use Rattle.erd_normal.proofs.built.NormalEntries.{selection_references}
@@ -40,25 +38,11 @@ use Rattle.erd_normal.proofs.built.NormalGets.{class_has_role, class_of_built_se
 use Rattle.erd_normal.proofs.canonical.NormalOwners.{key_named_built}
 use Rattle.erd_normal.proofs.lists.RisingAgain.{rising_keys_named}
 use Rattle.erd_normal.proofs.meaning.RisingLabels.{with_rising_text_once}
+use Rattle.erd_normal.proofs.same.Refers.{Refers, references_refer}
 
 -- ---- references of a report
 
--- a text that names an object of the family
-abbrev pub Refers : Data → Family → Data → Type 0
-Refers t f d = (s : List ℕ) × (d ≡ string s) × ((o : Data) × (owner t f s ≡ Some o))
-
 module _ (π : Preference) (t : Data) (accepted : IsAccepted π t) where
-  pub reference_refers : (f : Family) (d : Data) → Within t (asked (Reference f) d) → Refers t f d
-  reference_refers f d w =
-      let s = string_from_text d (wanted_within t (no_shape_fault π t accepted) (asked (Reference f) d) w) in
-      (s.0, s.1, owned π t accepted f s.0 (subst (λ x. Within t (asked (Reference f) x)) s.1 w))
-
-  pub references_refer : (f : Family) (r : Bool) (ds : Items) → Within t (asked (Member (kind.Many f) r) (array ds)) → AllByRecursion (Refers t f) (list_of_items ds)
-  references_refer f r ds w =
-      all_items (Refers t f) ds
-      (λ i d e. reference_refers f d (unrepeated_reference π t accepted f d (is_repeated ds i d)
-      (Within-step t (asked (Member (kind.Many f) r) (array ds)) (record { want = Reference f; value = d; repeated = is_repeated ds i d }) (At i) w (rw e refl))))
-
   -- the references in an array of an object
   pub member_refers : (f : Family) (w : Want) (q : Role) (c : Class) (ms : Members) → ObjectAt t w q c ms → (name : List ℕ) → kind_of_member c name ≡ kind.Many f
       → AllByRecursion (Refers t f) (entries_at name (object ms))
@@ -69,7 +53,7 @@ module _ (π : Preference) (t : Data) (accepted : IsAccepted π t) where
       at (Some v) e =
           let x : AskedAs t (kind.Many f) v = subst (λ k. AskedAs t k v) is (asked_as t (no_shape_fault π t accepted) w q c ms a name v e) in
           let ds = array_from v (wanted_within t (no_shape_fault π t accepted) (asked (Member (kind.Many f) x.0) v) x.1) in
-          let all : AllByRecursion (Refers t f) (list_of_items ds.0) = references_refer f x.0 ds.0 (subst (λ y. Within t (asked (Member (kind.Many f) x.0) y)) ds.1 x.1) in
+          let all : AllByRecursion (Refers t f) (list_of_items ds.0) = references_refer π t accepted f x.0 ds.0 (subst (λ y. Within t (asked (Member (kind.Many f) x.0) y)) ds.1 x.1) in
           rw (e, ds.1) all
 
 -- ---- keys

@@ -1,6 +1,6 @@
--- An `@id` names at most one selection of the report that is built, and a reference that is built names what is built of
--- the selection that the reference names.
-use Rattle.std.proofs.Common.{◌≡◌, ◌<◌, ◌+◌, ◌^◌, ℕ, List, [], map, length, Some, option_and_then, option_map, codes, slice_get, refl, sym, ap, ◌∙◌, subst, arith}
+-- An `@id` names at most one selection of the report that is built, and a reference to a selection is built to the canonical
+-- `@id` of the one that it names.
+use Rattle.std.proofs.Common.{◌≡◌, ◌<◌, ◌+◌, ◌^◌, ℕ, List, [], map, length, Some, codes, slice_get, refl, sym, ap, ◌∙◌, subst, arith}
 use Rattle.std.proofs.lemmas.List.{length-map}
 use Rattle.std.specs.Option.{option_map_or}
 use Rattle.serde_json.specs.Data.{Data}
@@ -10,19 +10,13 @@ use Rattle.erd_check.proofs.Rising.{Has}
 use Rattle.erd_meaning.specs.Accepted.{IsAccepted}
 use Rattle.erd_meaning.specs.Keys.{Preference}
 use Rattle.erd_check.specs.Values.{entries_at, text_of}
-use Rattle.erd_meaning.specs.Objects.{IsBounded, Placed, contests, has_id, id_of, objects, owner, selections_of_contest}
-use Rattle.erd_meaning.specs.SelectionNames.{name_named, name_of, rising_list}
-use Rattle.erd_meaning.proofs.accepted.References.{find-any}
-use Rattle.erd_meaning.proofs.orders.Sets.{any-has}
+use Rattle.erd_meaning.specs.Objects.{IsBounded, Placed, id_of, objects, owner, selections_of_contest}
+use Rattle.erd_meaning.specs.SelectionNames.{rising_list}
 use Rattle.erd_meaning.proofs.accepted.Skeleton.{values-placed_entries}
-use Rattle.erd_meaning.proofs.accepted.HeldObjects.{has-flat}
-use Rattle.erd_meaning.proofs.accepted.Standing.{flat-has, has_id-Some, has_id-from}
 use Rattle.erd_normal.specs.code.NormalTree.{by_name, id_of_selection, normal_object, normal_selection, normal_selection_reference, normal_tree, selection_with}
 use Rattle.erd_normal.proofs.canonical.Bounds.{few_selections}
 use Rattle.erd_normal.proofs.lists.FoundInParts.{FoundSelection, owner_found}
-use Rattle.erd_normal.proofs.built.NormalGets.{id_of_built_selection}
-use Rattle.erd_normal.proofs.canonical.NormalKeys.{IsClassed, built_stands, object_classed, object_from, one_ranked_built, rank_counted}
-use Rattle.erd_normal.proofs.canonical.NormalNames.{name_built}
+use Rattle.erd_normal.proofs.canonical.NormalKeys.{IsClassed, object_classed, object_from, one_ranked_built, rank_counted}
 use Rattle.erd_normal.proofs.built.NormalObjects.{selections_built}
 use Rattle.erd_normal.proofs.canonical.NormalSelections.{selection_ids}
 use Rattle.erd_normal.proofs.canonical.SelectionTexts.{canonical_selection_id_exact}
@@ -88,25 +82,6 @@ module _ (π : Preference) (t : Data) (accepted : IsAccepted π t) (tree : IsTre
         let one : c ≡ d = one_ranked_built π t accepted tree family.Contest refl c d in_c in_d n.0 in
         (one, same_in_some o q (sym j.1 ∙ ap (λ x. slice_get (selections_of_contest x) j.0) one ∙ ap (slice_get (selections_of_contest d)) n.1 ∙ l.1))
 
-    -- a selection of the report that is built owns its `@id`
-    pub owner_of_selection : (p q : Placed) (id : List ℕ) → Has (objects family.Contest (normal_tree π t)) p → Has (selections_of_contest p) q → id_of q.value ≡ Some id → owner (normal_tree π t) family.Selection id ≡ Some q.value
-    owner_of_selection p q id in_p in_q e =
-        let xs : List Placed = objects family.Selection (normal_tree π t) in
-        let there : Has xs q = flat-has selections_of_contest (contests (normal_tree π t)) p q in_p in_q in
-        let x = find-any (λ (o : Placed). has_id id o.value) xs (any-has (λ (o : Placed). has_id id o.value) xs q there (has_id-from id q.value e)) in
-        let c = has-flat selections_of_contest (contests (normal_tree π t)) x.0 x.3 in
-        let one = one_selection c.0 p x.0 q c.1 in_p c.2 in_q (has_id-Some id x.0.value x.2 ∙ sym e) in
-        ap (option_map (λ (o : Placed). o.value)) x.1 ∙ ap (λ (o : Placed). Some o.value) one.1
-
-    pub owner_of_selection_built : (contest o : Placed) → Has (objects family.Contest t) contest → Has (selections_of_contest contest) o
-        → owner (normal_tree π t) family.Selection (id_of_selection π t contest.value o.value) ≡ Some (normal_selection π t contest.value o.value)
-    owner_of_selection_built contest o of_report of_contest =
-        let p = built_stands π t accepted tree family.Contest refl contest of_report in
-        let q = selection_stands contest p.0 of_report (sym p.2) o of_contest in
-        let k : IsClassed family.Selection o.value = object_classed π t accepted tree family.Selection o (flat-has selections_of_contest (contests t) contest o of_report of_contest) in
-        let id : id_of q.0.value ≡ Some (id_of_selection π t contest.value o.value) = ap id_of q.2 ∙ id_of_built_selection π t contest.value k.0 o.value k.2 k.1 in
-        owner_of_selection p.0 q.0 (id_of_selection π t contest.value o.value) p.1 q.1 id ∙ ap Some q.2
-
     -- ---- references
 
     module _ (r d : Data) (owned : owner t family.Selection (text_of r) ≡ Some d) where
@@ -118,17 +93,3 @@ module _ (π : Preference) (t : Data) (accepted : IsAccepted π t) (tree : IsTre
       text_built =
           ap (λ x. option_map_or (λ (c : Placed). option_map_or (λ (o : Placed). id_of_selection π t c.value o.value) (selection_with (text_of r) c) []) x []) named.contest_is
           ∙ ap (λ x. option_map_or (λ (o : Placed). id_of_selection π t named.contest.value o.value) x []) named.selection_is
-
-      -- a reference that is built names what is built of the selection
-      pub owner_of_reference : owner (normal_tree π t) family.Selection (text_of (normal_selection_reference π t r)) ≡ Some (normal_selection π t named.contest.value named.selection.value)
-      owner_of_reference =
-          ap (owner (normal_tree π t) family.Selection) text_built ∙ owner_of_selection_built named.contest named.selection named.of_report named.of_contest
-
--- the selection has the name of the one that the reference names, under each preference, whichever the tree is built under
-module _ (π ρ : Preference) (t : Data) (accepted : IsAccepted π t) (tree : IsTree t) (bounded : IsBounded t) where
-  pub name_named_built : (r d : Data) → owner t family.Selection (text_of r) ≡ Some d → name_named ρ (normal_tree π t) (text_of (normal_selection_reference π t r)) ≡ name_named ρ t (text_of r)
-  name_named_built r d owned =
-      let s : FoundSelection t (text_of r) d = named π t accepted tree bounded r d owned in
-      ap (option_and_then (name_of ρ (normal_tree π t))) (owner_of_reference π t accepted tree bounded r d owned)
-      ∙ name_built π ρ t accepted tree bounded s.contest s.selection s.of_report s.of_contest
-      ∙ ap (name_of ρ t) s.value ∙ sym (ap (option_and_then (name_of ρ t)) owned)

@@ -36,9 +36,11 @@ use Rattle.erd_normal.proofs.texts.FittingNumbers.{within-fitting}
 use Rattle.erd_normal.proofs.built.LeastKeys.{key_of_election, key_of_object}
 use Rattle.erd_normal.proofs.built.NormalObjects.{election_classed}
 use Rattle.erd_normal.proofs.canonical.NormalKeys.{IsClassed, values_classed}
-use Rattle.erd_normal.proofs.canonical.NormalNames.{Refers, name_built_within, reference_key_built, references_refer}
+use Rattle.erd_normal.proofs.canonical.NormalNames.{name_built_within, reference_key_built}
 use Rattle.erd_normal.proofs.lists.ListParts.{IsPart, part_has}
 use Rattle.erd_normal.proofs.canonical.RisingReports.{elections_rise, identifiers_rise, languages_rise, objects_rise, references_rise, selections_rise}
+use Rattle.erd_normal.proofs.same.Refers.{Refers, references_refer}
+use Rattle.erd_normal.proofs.same.normal.NewIds.{prefixed_keys}
 use Rattle.erd_normal.proofs.throughout.ThroughoutMembers.{HoldsOfMembers, built_references, is_prefixed}
 use Rattle.erd_normal.proofs.throughout.ThroughoutObjects.{HoldsOfObjects}
 use Rattle.erd_normal.proofs.throughout.ThroughoutReports.{HoldsOfBuilt, holds_of_built}
@@ -71,12 +73,7 @@ keyed_rises : (π : Preference) (u : Data) (f : Family) (ds : List Data) → has
 keyed_rises π u family.Selection ds keyed h = cc
 keyed_rises π u f ds keyed h = h
 
--- a family whose objects have `@id` texts by their ranks has keys
-pub prefixed_keys : (f : Family) → is_prefixed f ≡ true → has_keys f ≡ true
-prefixed_keys family.Selection h = cc
-prefixed_keys f h = refl
-
-pub letters_of : (f : Family) → is_prefixed f ≡ true → (letters : List ℕ) × (id_prefix f ≡ Some letters)
+letters_of : (f : Family) → is_prefixed f ≡ true → (letters : List ℕ) × (id_prefix f ≡ Some letters)
 letters_of f = at (id_prefix f)
   where
     at : (o : Option (List ℕ)) → is_some o ≡ true → (letters : List ℕ) × (o ≡ Some letters)
@@ -148,7 +145,7 @@ module _ (π : Preference) (t : Data) (accepted : IsAccepted π t) (tree : IsTre
         ap (λ x. option_and_then (key_named π t f) (as_str x)) all.0.1 ∙ ap (λ x. key_named π t f (text_of x)) (sym all.0.1) in
         ap₂ (λ k ks. k ∷ ks) (reference_key_built π π t accepted tree bounded f letters d keyed prefix all.0 ∙ said) (keys_named_kept f letters keyed prefix ds all.1)
 
-    pub references_rising : (f : Family) → is_prefixed f ≡ true → (required : Bool) (d : Data) → Within t (asked (Member (kind.Many f) required) d)
+    references_rising : (f : Family) → is_prefixed f ≡ true → (required : Bool) (d : Data) → Within t (asked (Member (kind.Many f) required) d)
         → IsStrictlySortedBy (option_cmp key_cmp) (keys_referred π (normal_tree π t) f (built_references π t f d))
     references_rising f named required d w =
         let ds = array_from d (wanted_within t (no_shape_fault π t accepted) (asked (Member (kind.Many f) required) d) w) in

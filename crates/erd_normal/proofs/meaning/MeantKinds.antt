@@ -1,22 +1,26 @@
--- Which kinds the table gives members of objects: references to families whose objects have `@id` texts, and the selections of contests alone.
+-- Which kinds the table gives members of objects: the order of a ballot and the selections of contests stand in few classes.
 use Rattle.std.proofs.Common.{◌≡◌, ℕ, List, Bool, true, false, is_some, if◌then◌else◌, codes, refl, ap, ◌∙◌}
 use Rattle.std.specs.List.{list_all}
 use Rattle.std.specs.Str.{bytes_eq}
-use Rattle.erd_tables.specs.Classes.{family_of_class, role_of_class}
+use Rattle.erd_tables.specs.Classes.{family_of_class}
 use Rattle.erd_tables.specs.Rows.{rows_of_class}
 use Rattle.erd_tables.specs.Table.{kind_of_identity, kind_of_member}
 use Rattle.erd_tables.specs.declared.class.Class.{Class}
 use Rattle.erd_tables.specs.declared.class.Class.TheVariants as class
 use Rattle.erd_tables.specs.declared.class.Family.TheVariants as family
-use Rattle.erd_tables.specs.declared.class.Role.TheVariants as role
 use Rattle.erd_tables.specs.declared.member.MemberKind.{MemberKind}
 use Rattle.erd_tables.specs.declared.member.MemberKind.TheVariants as kind
 use Rattle.erd_check.proofs.Exact.{text_exact}
 use Rattle.erd_check.proofs.TableKinds.{kind_of_class}
 use Rattle.erd_meaning.proofs.meanings.SelectionKinds.{is_selections, kind_of_type}
-use Rattle.erd_normal.proofs.meaning.MeantValues.{is_flat, refers_well}
 
--- ---- references
+-- ---- kinds
+
+-- a member of this kind is neither the order of a ballot nor the selections of a contest
+abbrev pub is_flat : MemberKind → Bool
+is_flat kind.Content = false
+is_flat (kind.Keyed family.Selection) = false
+is_flat k = true
 
 identity_flat : (c : Class) → is_flat (kind_of_identity c) ≡ true
 identity_flat c = at (is_some (family_of_class c))
@@ -24,17 +28,6 @@ identity_flat c = at (is_some (family_of_class c))
     at : (b : Bool) → is_flat (if b then kind.Identity else kind.StrangeIdentity) ≡ true
     at true = refl
     at false = refl
-
-identity_well : (c : Class) → refers_well (kind_of_identity c) ≡ true
-identity_well c = at (is_some (family_of_class c))
-  where
-    at : (b : Bool) → refers_well (if b then kind.Identity else kind.StrangeIdentity) ≡ true
-    at true = refl
-    at false = refl
-
-rows_well : (c : Class) → list_all (λ m. refers_well m.kind) (rows_of_class c) ≡ true
-rows_well class.ElectionReport = refl
-rows_well c = refl
 
 -- what holds of the kinds of a class holds of a member's, whatever its name
 by_rows : (P : MemberKind → Bool) (c : Class) (name : List ℕ) → list_all (λ m. P m.kind) (rows_of_class c) ≡ true → P kind.ClassText ≡ true → P (kind_of_identity c) ≡ true → P kind.StrangeReference ≡ true
@@ -44,9 +37,6 @@ by_rows P c name lines typed id reference carried = at (bytes_eq name (codes "@t
     at : (b : Bool) → bytes_eq name (codes "@type") ≡ b → P (kind_of_member c name) ≡ true
     at true is = ap (λ n. P (kind_of_member c n)) (text_exact name (codes "@type") is) ∙ ap P (kind_of_type c) ∙ typed
     at false is = kind_of_class P c name is lines id reference carried
-
-pub kind_refers_well : (c : Class) (name : List ℕ) → refers_well (kind_of_member c name) ≡ true
-kind_refers_well c name = by_rows refers_well c name (rows_well c) refl (identity_well c) refl refl
 
 -- ---- classes that have no ballot's order and no selections
 
@@ -68,12 +58,6 @@ rows_flat c e = cc
 
 pub kind_is_flat : (c : Class) (name : List ℕ) → is_flat_class c ≡ true → is_flat (kind_of_member c name) ≡ true
 kind_is_flat c name flat = by_rows is_flat c name (rows_flat c flat) refl (identity_flat c) refl refl
-
-pub selection_class_flat : (c : Class) → role_of_class c ≡ role.OfFamily family.Selection → is_flat_class c ≡ true
-selection_class_flat class.CandidateSelection e = refl
-selection_class_flat class.BallotMeasureSelection e = refl
-selection_class_flat class.PartySelection e = refl
-selection_class_flat c e = cc
 
 -- ---- the selections of a contest
 

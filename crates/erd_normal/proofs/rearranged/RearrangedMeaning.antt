@@ -39,7 +39,7 @@ use Rattle.erd_normal.proofs.lists.Matched.{AtMostOne, Both, both, neither, Matc
 use Rattle.erd_normal.proofs.meaning.MatchedMeanings.{HeldAlike, MeanOne, held_matched, matched_meaning}
 use Rattle.erd_meaning.proofs.meanings.SelectionKinds.{is_selections, selections_family, selections_kind, selections_name}
 use Rattle.erd_normal.proofs.meaning.MeantKinds.{flat_no_selections, is_flat_class, kind_is_flat}
-use Rattle.erd_normal.proofs.meaning.MeantObjects.{is_named, named_tied, plain_members, record_alike}
+use Rattle.erd_normal.proofs.meaning.AlikeRecords.{is_named, named_tied, plain_members, record_alike}
 use Rattle.erd_normal.proofs.rearranged.Alike.{Alike}
 use Rattle.erd_normal.proofs.rearranged.RelatedMembers.{Related}
 use Rattle.erd_normal.proofs.rearranged.RelatedNames.{related_name}

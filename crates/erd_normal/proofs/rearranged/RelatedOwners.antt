@@ -19,7 +19,7 @@ use Rattle.erd_meaning.specs.SelectionNames.{key_named}
 use Rattle.erd_meaning.proofs.accepted.Phases.{no_shape_fault}
 use Rattle.erd_meaning.proofs.accepted.References.{find-Some}
 use Rattle.erd_meaning.proofs.accepted.Standing.{flat-has}
-use Rattle.erd_normal.proofs.canonical.NormalNames.{Refers, reference_refers}
+use Rattle.erd_normal.proofs.same.Refers.{Refers, reference_refers}
 use Rattle.erd_normal.proofs.lists.FoundBuilt.{AreApart, find_values}
 use Rattle.erd_normal.proofs.lists.Matched.{Both, both, Matched, apart_distinct, matched_any, matched_find, matched_within, one_if_apart}
 use Rattle.erd_normal.proofs.rearranged.Alike.{Alike}

@@ -29,8 +29,7 @@ use Rattle.erd_meaning.specs.SelectionNames.{selection_role}
 use Rattle.erd_meaning.proofs.accepted.Phases.{no_shape_fault}
 use Rattle.erd_meaning.proofs.meanings.SelectionKinds.{kind_of_type}
 use Rattle.erd_normal.proofs.lists.Matched.{Both, both, neither, matched_equal}
-use Rattle.erd_normal.proofs.meaning.MeantObjects.{member_alike, record_alike}
-use Rattle.erd_normal.proofs.meaning.MeantValues.{nothing_of}
+use Rattle.erd_normal.proofs.meaning.AlikeRecords.{member_alike, nothing_of, record_alike}
 use Rattle.erd_normal.proofs.meaning.RisingMeanings.{json_set-reordered}
 use Rattle.erd_normal.proofs.rearranged.Alike.{Alike}
 use Rattle.erd_normal.proofs.rearranged.AlikeParts.{alike_class_of}

@@ -3,7 +3,7 @@ use Rattle.std.proofs.Common.{◌≡◌, ℕ, List, map, true, Contains, refl, s
 use Rattle.serde_json.specs.Data.{Data, string}
 use Rattle.erd_tables.specs.declared.class.Family.{Family}
 use Rattle.erd_tables.specs.declared.member.MemberKind.TheVariants as kind
-use Rattle.erd_check.specs.Wants.{Asked, asked}
+use Rattle.erd_check.specs.Wants.{Asked}
 use Rattle.erd_check.specs.declared.want.Want.{Want}
 use Rattle.erd_check.specs.declared.want.Want.TheVariants.{Member, Reference}
 use Rattle.erd_check.proofs.Shapes.{Within}
@@ -12,7 +12,7 @@ use Rattle.erd_meaning.specs.Keys.{Preference}
 use Rattle.erd_meaning.specs.Objects.{id_of, objects}
 use Rattle.erd_meaning.proofs.accepted.References.{Contains-Has, unrepeated_reference}
 use Rattle.erd_normal.specs.Rearranged.{IsRenaming, Renaming, is_id_text}
-use Rattle.erd_normal.proofs.canonical.NormalNames.{reference_refers}
+use Rattle.erd_normal.proofs.same.Refers.{reference_refers}
 use Rattle.erd_normal.proofs.rearranged.RelatedOwners.{owned_id}
 use Rattle.erd_normal.proofs.rearranged.SharedIds.{IsId, value_placed}
 use Rattle.erd_normal.specs.SameLaws.{RenamedSaysTheSame}

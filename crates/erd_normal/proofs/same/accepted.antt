@@ -5,5 +5,7 @@ pub mod EnvelopePlaces
 pub mod AskedAgain
 pub mod AcceptedShape
 pub mod AcceptedIdentity
+pub mod SoundReferences
+pub mod ListedSelections
 pub mod AcceptedReferences
 pub mod Accepted

@@ -82,7 +82,7 @@ report_word π t name k d v is e = at (is_envelope_name name) (ap (λ q. normal_
     at false e = let same : d ≡ v = cc in same
 
 -- what holds of the name of each row holds of a name that a row has
-row_named : (P : List ℕ → Type 0) (rows : List Row) (name : List ℕ) → AllByRecursion (λ row. P row.name) rows → is_some (kind_in_rows rows name) ≡ true → P name
+pub row_named : (P : List ℕ → Type 0) (rows : List Row) (name : List ℕ) → AllByRecursion (λ row. P row.name) rows → is_some (kind_in_rows rows name) ≡ true → P name
 row_named P [] name all named = cc
 row_named P (row ∷ rows) name all named = at (bytes_eq name row.name) refl (row_named P rows name all.1)
   where

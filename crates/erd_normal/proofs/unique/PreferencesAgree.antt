@@ -9,7 +9,7 @@ use Rattle.erd_normal.specs.Laws.{IsGiven, PreferencesAgree}
 use Rattle.erd_normal.specs.code.NormalTree.{normal_tree}
 use Rattle.erd_normal.proofs.built.NormalTrees.{normal_tree-tree}
 use Rattle.erd_normal.proofs.canonical.NormalFormsOnly.{form_built, only_form_built}
-use Rattle.erd_normal.proofs.meaning.NormalMeaning.{same_meaning_built}
+use Rattle.erd_normal.proofs.canonical.NormalForms.{same_meaning_built}
 
 -- a report as a call is handed it, which is accepted under two preferences
 pub record IsGivenUnder (π ρ : Preference) (t : Data) : Type 0 where

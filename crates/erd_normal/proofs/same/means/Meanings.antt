@@ -40,7 +40,7 @@ use Rattle.erd_normal.specs.code.NormalTree.{by_name}
 use Rattle.erd_normal.proofs.lists.Matched.{AtMostOne, Matched, apart_distinct, matched_find, matched_within, one_if_apart, said_same}
 use Rattle.erd_normal.proofs.meaning.MatchedMeanings.{HeldAlike, MeanOne, held_matched, matched_meaning}
 use Rattle.erd_normal.proofs.meaning.MeantKinds.{flat_no_selections, is_flat_class, kind_is_flat}
-use Rattle.erd_normal.proofs.meaning.MeantObjects.{is_named, named_tied, plain_members, record_alike}
+use Rattle.erd_normal.proofs.meaning.AlikeRecords.{is_named, named_tied, plain_members, record_alike}
 use Rattle.erd_normal.proofs.rearranged.RelatedObjects.{family_values}
 use Rattle.erd_normal.proofs.rearranged.SharedIds.{placed_value}
 use Rattle.erd_normal.specs.SaysTheSame.{Sides, SaysTheSame, is_array_kind}

@@ -24,8 +24,7 @@ use Rattle.erd_meaning.specs.SelectionNames.{selection_role}
 use Rattle.erd_meaning.proofs.accepted.Phases.{no_shape_fault}
 use Rattle.erd_meaning.proofs.meanings.SelectionKinds.{kind_of_type}
 use Rattle.erd_normal.proofs.lists.Matched.{matched_equal}
-use Rattle.erd_normal.proofs.meaning.MeantObjects.{record_alike}
-use Rattle.erd_normal.proofs.meaning.MeantValues.{nothing_of}
+use Rattle.erd_normal.proofs.meaning.AlikeRecords.{nothing_of, record_alike}
 use Rattle.erd_normal.proofs.meaning.RisingMeanings.{json_set-reordered}
 use Rattle.erd_normal.proofs.rearranged.PlainValues.{is_plain}
 use Rattle.erd_normal.specs.SaysTheSame.{Sides, Same, is_array_kind}

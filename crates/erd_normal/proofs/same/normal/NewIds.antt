@@ -39,7 +39,6 @@ use Rattle.erd_normal.proofs.canonical.DistinctSelections.{selection_values_dist
 use Rattle.erd_normal.proofs.canonical.RisingReports.{by_key_total, by_name_total}
 use Rattle.erd_normal.proofs.canonical.SelectionIds.{listed, selection_values}
 use Rattle.erd_normal.proofs.canonical.SelectionTexts.{canonical_selection_id_exact}
-use Rattle.erd_normal.proofs.canonical.SetsInOrder.{prefixed_keys}
 use Rattle.erd_normal.proofs.lists.KeyedRanks.{rank_exact, rank_low}
 use Rattle.erd_normal.proofs.throughout.ThroughoutMembers.{is_prefixed}
 use Rattle.erd_normal.specs.SaysTheSame.{Sides, StandsFor}
@@ -124,6 +123,11 @@ module _ (π : Preference) (t : Data) (accepted : IsAccepted π t) where
         one_named_rank c o p in_c of_c (subst (λ x. Has (selections_of_contest x) p) (sym one) of_d) (n.1 ∙ ap (λ x. rank_of_name π t (selection_values x) (name_of π t p.value)) (sym one))
 
 -- ---- the objects with their canonical `@id`s
+
+-- a family whose objects have `@id` texts by their ranks has keys
+pub prefixed_keys : (f : Family) → is_prefixed f ≡ true → has_keys f ≡ true
+prefixed_keys family.Selection h = cc
+prefixed_keys f h = refl
 
 -- the families whose objects have `@id`s by their ranks alone
 abbrev prefixed_families : List Family

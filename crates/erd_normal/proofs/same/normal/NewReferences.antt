@@ -37,9 +37,8 @@ use Rattle.erd_meaning.proofs.accepted.Phases.{no_shape_fault}
 use Rattle.erd_meaning.proofs.accepted.References.{owned, unrepeated_reference}
 use Rattle.erd_meaning.proofs.accepted.Standing.{one_object, owned_by}
 use Rattle.erd_normal.specs.code.NormalTree.{id_of_key, normal_id, normal_reference, normal_selection_reference, normal_tree, reference_cmp}
-use Rattle.erd_normal.proofs.canonical.NormalNames.{Refers, reference_refers, references_refer}
+use Rattle.erd_normal.proofs.same.Refers.{Refers, reference_refers, references_refer}
 use Rattle.erd_normal.proofs.canonical.SelectionIds.{text_built}
-use Rattle.erd_normal.proofs.canonical.SetsInOrder.{prefixed_keys}
 use Rattle.erd_normal.proofs.lists.BuiltLists.{all_map, all_rising, entry_holds}
 use Rattle.erd_normal.proofs.lists.FoundInParts.{FoundSelection, owner_found}
 use Rattle.erd_normal.proofs.throughout.ThroughoutMembers.{HoldsOfMembers, built_references, is_prefixed}
@@ -47,7 +46,7 @@ use Rattle.erd_normal.proofs.throughout.ThroughoutObjects.{HoldsOfObjects}
 use Rattle.erd_normal.proofs.throughout.ThroughoutReports.{HoldsOfBuilt, holds_of_built}
 use Rattle.erd_normal.proofs.throughout.ThroughoutValues.{is_apart}
 use Rattle.erd_normal.specs.SaysTheSame.{IsUnused, StandsFor}
-use Rattle.erd_normal.proofs.same.normal.NewIds.{NewId, has_canonical, new_exact, of_contest, of_family, one_family, sides, some_again, stands_for}
+use Rattle.erd_normal.proofs.same.normal.NewIds.{NewId, has_canonical, new_exact, of_contest, of_family, one_family, prefixed_keys, sides, some_again, stands_for}
 
 -- ---- references of the report
 

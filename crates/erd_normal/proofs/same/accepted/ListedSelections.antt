@@ -1,4 +1,4 @@
--- The report that is built has no fault of references.
+-- Where each list of references to selections holds selections of the contest that its object names, none is of another contest.
 use Rattle.std.proofs.Common.{◌≡◌, ℕ, zero, suc, List, [], ◌∷◌, ◌++◌, Option, Some, None, option_and_then, option_map, Bool, true, false, ◌&&◌, true≢false, refl, sym, ap, ◌∙◌, subst}
 use Rattle.std.specs.List.{AllByRecursion}
 use Rattle.std.specs.Option.{option_map_or}
@@ -10,41 +10,28 @@ use Rattle.erd_tables.specs.declared.class.Class.TheVariants as class
 use Rattle.erd_tables.specs.declared.class.Family.TheVariants as family
 use Rattle.erd_tables.specs.declared.class.Role.{Role}
 use Rattle.erd_tables.specs.declared.class.Role.TheVariants as role
-use Rattle.erd_tables.specs.declared.fault.Reason.TheVariants as reason
 use Rattle.erd_tables.specs.declared.member.MemberKind.TheVariants as kind
 use Rattle.erd_tables.specs.declared.place.Step.{Step}
 use Rattle.erd_tables.specs.declared.place.Step.TheVariants.{Name, At}
 use Rattle.erd_check.specs.declared.want.Want.{Want}
 use Rattle.erd_check.specs.declared.want.Want.TheVariants.{Object, Reference, Member, Carried}
-use Rattle.erd_check.specs.Faults.{NoneOf}
-use Rattle.erd_check.specs.Trees.{IsTree}
 use Rattle.erd_check.specs.Values.{entries_of, list_of_items, entries_at}
 use Rattle.erd_check.specs.Wants.{Asked, asked, asked_at, asked_from, asked_inside, asked_of_member, class_of_object, entry_want, is_compared_set, is_repeated, member_want, scope_inside, want_of_name}
-use Rattle.erd_meaning.specs.Keys.{Preference}
-use Rattle.erd_meaning.specs.Accepted.{IsAccepted}
-use Rattle.erd_meaning.specs.Objects.{IsBounded}
-use Rattle.erd_meaning.specs.LaterFaults.{NamesOtherContest, ReferenceFault, is_other_selection, is_reference_fault}
+use Rattle.erd_meaning.specs.LaterFaults.{NamesOtherContest, is_other_selection}
 use Rattle.erd_meaning.specs.Records.{class_of_node}
-use Rattle.erd_meaning.proofs.accepted.Phases.{no_shape_fault}
-use Rattle.erd_normal.specs.code.NormalTree.{normal_tree}
 use Rattle.erd_normal.proofs.built.NormalGets.{class_has_role}
-use Rattle.erd_normal.proofs.canonical.ReferenceLists.{IsListSound, list_sound}
 use Rattle.erd_normal.proofs.canonical.ChosenEntries.{list_name}
-use Rattle.erd_normal.proofs.canonical.ReferencesBuilt.{references_sound}
-use Rattle.erd_normal.proofs.throughout.ThroughoutMembers.{HoldsOfMembers}
-use Rattle.erd_normal.proofs.throughout.ThroughoutObjects.{HoldsOfObjects}
-use Rattle.erd_normal.proofs.throughout.ThroughoutReports.{HoldsOfBuilt, holds_of_built, none_found}
-use Rattle.erd_normal.proofs.throughout.ThroughoutValues.{is_apart}
 use Rattle.erd_check.proofs.Options.{and_then-Some}
 
 -- ---- the lists of a report
 
+-- the entries of the list of an object that names one contest are selections of it
+abbrev pub IsListSound : Data → Data → Type 0
+IsListSound u d = AllByRecursion (λ e. is_other_selection u d (Reference family.Selection) e ≡ false) (entries_at list_name d)
+
 -- the list of an object that names one contest holds selections of it
 pub record IsListed (u : Data) (a : Asked) : Type 0 where
   pub sound : a.want ≡ Object role.Content → class_of_node a.value ≡ Some class.OrderedContest → IsListSound u a.value
-
-unlisted : (u : Data) (w : Want) (d : Data) (b : Bool) → (w ≡ Object role.Content → ⊥) → IsListed u (record { want = w; value = d; repeated = b })
-unlisted u w d b other = record { sound = λ e among. absurd (other e) }
 
 -- ---- the steps into a list
 
@@ -180,50 +167,3 @@ none_elsewhere u listed p h =
     item_holds (λ e. is_other_selection u h.ordered_contest.value (Reference family.Selection) e ≡ false) entry.items h.position h.entry.value
     (subst (AllByRecursion (λ e. is_other_selection u h.ordered_contest.value (Reference family.Selection) e ≡ false)) entries all) entry.found in
     true≢false (sym h.elsewhere ∙ ap (λ w. is_other_selection u h.ordered_contest.value w h.entry.value) wants ∙ here)
-
--- ---- the report that is built
-
-module _ (π : Preference) (t : Data) (accepted : IsAccepted π t) (tree : IsTree t) (bounded : IsBounded t) where
-  abbrev u : Data
-  u = normal_tree π t
-
-  members : HoldsOfMembers π t (IsListed u)
-  members = record {
-    kept = λ a w apart. record { sound = λ e among. absurd (true≢false (sym apart ∙ ap is_apart e)) };
-    class_text = λ r c text named. unlisted u _ _ false (λ e. cc);
-    label = λ required d w. unlisted u _ _ false (λ e. cc);
-    one = λ f named d w. unlisted u _ _ false (λ e. cc);
-    many = λ f named required d w full. unlisted u _ _ false (λ e. cc);
-    many_entry = λ f named required d w i e found. unlisted u _ _ _ (λ e. cc);
-    identifiers = λ required d w full. unlisted u _ _ false (λ e. cc);
-    languages = λ required d w full. unlisted u _ _ false (λ e. cc);
-    ordered = λ required d w full. unlisted u _ _ false (λ e. cc);
-    ordered_entry = λ e w. unlisted u _ _ false (λ e. cc);
-  }
-
-  parts : HoldsOfObjects π t (IsListed u)
-  parts = record {
-    members = members;
-    identity = λ required id. unlisted u _ _ false (λ e. cc);
-    content = λ required d w full. unlisted u _ _ false (λ e. cc);
-    node = λ d w. record { sound = λ e among. list_sound π t accepted tree bounded d w among };
-    selections = λ contest required d of_report stands w full. unlisted u _ _ false (λ e. cc);
-    selection = λ contest d w. unlisted u _ _ false (λ e. let x : role.OfFamily family.Selection ≡ role.Content = cc in cc);
-    object = λ f d w. unlisted u _ _ false (λ e. let x : role.OfFamily f ≡ role.Content = cc in cc);
-  }
-
-  built : HoldsOfBuilt π t (IsListed u)
-  built = record {
-    parts = parts;
-    word = λ required text. unlisted u _ _ false (λ e. cc);
-    whole = λ required n. unlisted u _ _ false (λ e. cc);
-    keyed = λ f keyed required d w all full. unlisted u _ _ false (λ e. cc);
-    elections = λ required d w is. unlisted u _ _ false (λ e. cc);
-    election = λ d w. unlisted u _ _ false (λ e. let x : role.Election ≡ role.Content = cc in cc);
-    report = unlisted u _ _ false (λ e. let x : role.Report ≡ role.Content = cc in cc);
-  }
-
-  -- the report that is built has no fault of references
-  pub no_reference_fault_built : NoneOf (ReferenceFault (normal_tree π t))
-  no_reference_fault_built p reason.SelectionOfOtherContest h = none_elsewhere (normal_tree π t) (λ p a e. holds_of_built π t (no_shape_fault π t accepted) tree (IsListed u) built p a e) p h
-  no_reference_fault_built p r h = none_found (normal_tree π t) (is_reference_fault (normal_tree π t)) (references_sound π t accepted tree bounded) p r h

@@ -1,0 +1,47 @@
+-- A reference that names an object of its family, and repeats none of its set, has no fault by itself.
+use Rattle.std.proofs.Common.{◌≡◌, ℕ, List, Some, is_some, is_none, Bool, true, false, not, ◌&&◌, refl, ap}
+use Rattle.serde_json.specs.Data.{Data, string}
+use Rattle.erd_tables.specs.Classes.{families}
+use Rattle.erd_tables.specs.declared.class.Family.{Family}
+use Rattle.erd_tables.specs.declared.class.Family.TheVariants as family
+use Rattle.erd_tables.specs.declared.fault.Reason.{Reason}
+use Rattle.erd_tables.specs.declared.fault.Reason.TheVariants as reason
+use Rattle.erd_check.specs.declared.want.Want.TheVariants.{Reference}
+use Rattle.erd_check.specs.Wants.{Asked}
+use Rattle.erd_check.proofs.Rising.{Has, here, later}
+use Rattle.erd_meaning.specs.LaterFaults.{is_reference_fault}
+use Rattle.erd_meaning.specs.Objects.{is_owned, owner}
+use Rattle.erd_meaning.proofs.orders.Sets.{any-has}
+
+-- it has no fault of references by itself
+pub record IsSoundIn (u : Data) (a : Asked) : Type 0 where
+  pub sound : (r : Reason) → is_reference_fault u a r ≡ false
+
+-- the second of two tests fails
+pub and_no : (b : Bool) → b && false ≡ false
+and_no true = refl
+and_no false = refl
+
+listed_family : (f : Family) → Has families f
+listed_family family.Unit = here
+listed_family family.Party = later here
+listed_family family.Person = later (later here)
+listed_family family.Office = later (later (later here))
+listed_family family.Header = later (later (later (later here)))
+listed_family family.Candidate = later (later (later (later (later here))))
+listed_family family.Contest = later (later (later (later (later (later here)))))
+listed_family family.Style = later (later (later (later (later (later (later here))))))
+listed_family family.Selection = later (later (later (later (later (later (later (later here)))))))
+
+-- a reference that names an object of the family, and repeats none
+pub names_sound : (u : Data) (f : Family) (s : List ℕ) (o : Data) (b : Bool) → b ≡ false → owner u f s ≡ Some o → IsSoundIn u (record { want = Reference f; value = string s; repeated = b })
+names_sound u f s o b first owned = record { sound = at }
+  where
+    known : is_owned u s ≡ true
+    known = any-has (λ g. is_some (owner u g s)) families f (listed_family f) (ap is_some owned)
+
+    at : (r : Reason) → is_reference_fault u (record { want = Reference f; value = string s; repeated = b }) r ≡ false
+    at reason.Repeated = ap (λ x. x && true) first
+    at reason.Unresolved = ap not known
+    at reason.WrongFamily = ap (λ x. is_none x && is_owned u s) owned
+    at r = refl
