@@ -7,14 +7,13 @@ pub mod DistinctSets
 pub mod RisingReports
 pub mod NormalKeys
 pub mod NormalSelections
-pub mod NormalOwners
 pub mod ElectionsApart
 pub mod DistinctIds
 pub mod SoundEnvelope
 pub mod SelectionIds
-pub mod NormalNames
 pub mod ContestSelections
 pub mod NoEmptyArrays
+pub mod KeptNames
 pub mod SetsInOrder
 pub mod ChosenEntries
 pub mod NormalCanonical

@@ -1,6 +1,5 @@
--- The report that is built means what the report means.
+-- What makes two reports mean the same: records, sets and matched objects.
 pub mod RisingMeanings
-pub mod RisingLabels
 pub mod MatchedMeanings
 pub mod MeantKinds
 pub mod AlikeRecords

@@ -10,7 +10,6 @@ use Rattle.erd_tables.specs.Table.{kind_of_member}
 use Rattle.erd_tables.specs.declared.class.Class.{Class}
 use Rattle.erd_tables.specs.declared.class.Class.TheVariants as class
 use Rattle.erd_tables.specs.declared.class.Family.{Family}
-use Rattle.erd_tables.specs.declared.class.Family.TheVariants as family
 use Rattle.erd_tables.specs.declared.class.Role.TheVariants as role
 use Rattle.erd_tables.specs.declared.member.MemberKind.TheVariants as kind
 use Rattle.erd_check.specs.Faults.{NoneOf, ShapeFault}
@@ -20,10 +19,10 @@ use Rattle.erd_meaning.specs.Keys.{Preference, key_of, key_of_identifiers, tripl
 use Rattle.erd_check.specs.Values.{entries_at}
 use Rattle.erd_meaning.specs.code.ChosenKeys.{choice_cmp, choice_of, choice_of_two}
 use Rattle.erd_meaning.proofs.orders.ChoiceOrder.{choice_cmp_exact, choice_cmp_total, key_is_choice}
-use Rattle.erd_meaning.specs.SelectionNames.{compact_cmp, rising_list, selection_role}
+use Rattle.erd_meaning.specs.SelectionNames.{compact_cmp, rising_list}
 use Rattle.erd_meaning.specs.declared.keys.key.Key.{Key}
-use Rattle.erd_normal.specs.code.NormalTree.{normal_election, normal_object, normal_selection}
-use Rattle.erd_normal.proofs.built.NormalEntries.{entries_of_identifiers, identifiers_of_election, selection_identifiers}
+use Rattle.erd_normal.specs.code.NormalTree.{normal_election, normal_object}
+use Rattle.erd_normal.proofs.built.NormalEntries.{entries_of_identifiers, identifiers_of_election}
 use Rattle.erd_normal.proofs.built.NormalGets.{class_has_role}
 use Rattle.erd_meaning.proofs.orders.Reordered.{Reordered, reordered_rising, whole-reordered}
 
@@ -138,10 +137,3 @@ pub key_of_election : (π ρ : Preference) (t : Data) → NoneOf (ShapeFault t) 
     → key_of ρ (normal_election π t d) ≡ key_of ρ d
 key_of_election π ρ t clean whole d tree among =
     ap (key_of_identifiers ρ) (identifiers_of_election π t clean whole d tree among) ∙ key_of_identifiers-rising ρ compact_cmp (entries_at (codes "ExternalIdentifier") d)
-
--- and of a selection
-pub key_of_selection : (π ρ : Preference) (t contest : Data) (c : Class) (d : Data) → IsTree d → class_of_object selection_role d ≡ Some c → key_of ρ (normal_selection π t contest d) ≡ key_of ρ d
-key_of_selection π ρ t contest c d tree among =
-    ap (key_of_identifiers ρ)
-    (selection_identifiers π t contest c d tree among (codes "ExternalIdentifier") refl (kind_of_identifiers c family.Selection (class_has_role selection_role c d among)))
-    ∙ key_of_identifiers-rising ρ compact_cmp (entries_at (codes "ExternalIdentifier") d)

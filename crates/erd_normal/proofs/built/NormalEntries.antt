@@ -17,9 +17,9 @@ use Rattle.erd_check.specs.Values.{entries_of, list_of_items, entries_at}
 use Rattle.erd_check.specs.Wants.{class_of_object}
 use Rattle.erd_check.proofs.Entries.{entries_in}
 use Rattle.erd_meaning.specs.Keys.{Preference}
-use Rattle.erd_meaning.specs.SelectionNames.{compact_cmp, rising_list, selection_role}
-use Rattle.erd_normal.specs.code.NormalTree.{array_of, by_key, by_name, normal_election, normal_object, normal_reference, normal_report_value, normal_selection, normal_tree, reference_cmp, unless_no_entry}
-use Rattle.erd_normal.proofs.built.NormalGets.{get_election, get_object, get_selection}
+use Rattle.erd_meaning.specs.SelectionNames.{compact_cmp, rising_list}
+use Rattle.erd_normal.specs.code.NormalTree.{array_of, by_key, by_name, normal_election, normal_object, normal_report_value, normal_selection, normal_tree, unless_no_entry}
+use Rattle.erd_normal.proofs.built.NormalGets.{get_election, get_object}
 use Rattle.erd_normal.proofs.built.NormalReports.{get_report}
 use Rattle.erd_check.proofs.Lists.{list_of_items-items_of}
 
@@ -46,7 +46,7 @@ entries_of_built g none None = sym none
 entries_of_built g none (Some d) = entries_unless g none d
 
 -- the entries at a name of what is built, where those of the array there are arranged in one way
-pub entries_built : (g : List Data → List Data) → g [] ≡ [] → (name : List ℕ) (d e : Data) → get name e ≡ option_and_then (λ v. unless_no_entry v (array_of (g (entries_of v)))) (get name d)
+entries_built : (g : List Data → List Data) → g [] ≡ [] → (name : List ℕ) (d e : Data) → get name e ≡ option_and_then (λ v. unless_no_entry v (array_of (g (entries_of v)))) (get name d)
     → entries_at name e ≡ g (entries_at name d)
 entries_built g none name d e is = ap entries_in is ∙ entries_of_built g none (get name d)
 
@@ -59,16 +59,6 @@ module _ (π : Preference) (t : Data) (f : Family) (c : Class) (d : Data) (tree 
   pub entries_of_selections : kind_of_member c name ≡ kind.Keyed family.Selection → entries_at name (normal_object π t f d) ≡ map (normal_selection π t d) (rising_list (by_name π t) (entries_at name d))
   entries_of_selections is =
       entries_built (λ ds. map (normal_selection π t d) (rising_list (by_name π t) ds)) refl name d (normal_object π t f d) (get_object π t f c d tree among name other ∙ rw is refl)
-
--- ---- of a selection
-
-module _ (π : Preference) (t contest : Data) (c : Class) (d : Data) (tree : IsTree d) (among : class_of_object selection_role d ≡ Some c) (name : List ℕ) (other : bytes_eq name (codes "@id") ≡ false) where
-  pub selection_identifiers : kind_of_member c name ≡ kind.Identifiers → entries_at name (normal_selection π t contest d) ≡ rising_list compact_cmp (entries_at name d)
-  selection_identifiers is = entries_built (rising_list compact_cmp) refl name d (normal_selection π t contest d) (get_selection π t contest c d tree among name other ∙ rw is refl)
-
-  pub selection_references : (q : Family) → kind_of_member c name ≡ kind.Many q → entries_at name (normal_selection π t contest d) ≡ map (normal_reference π t q) (rising_list (reference_cmp π t q) (entries_at name d))
-  selection_references q is =
-      entries_built (λ ds. map (normal_reference π t q) (rising_list (reference_cmp π t q) ds)) refl name d (normal_selection π t contest d) (get_selection π t contest c d tree among name other ∙ rw is refl)
 
 -- ---- of the report and the election
 

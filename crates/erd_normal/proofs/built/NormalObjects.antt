@@ -45,7 +45,7 @@ abbrev pub IsBuilt : Preference → Data → Family → Data → Data → Type 0
 IsBuilt π t f d e = normal_object π t f d ≡ e
 
 -- what is built of objects, in the order of their keys
-pub matched_built : (π : Preference) (t : Data) (f : Family) (ds : List Data) → Matched (IsBuilt π t f) ds (built_objects π t f ds)
+matched_built : (π : Preference) (t : Data) (f : Family) (ds : List Data) → Matched (IsBuilt π t f) ds (built_objects π t f ds)
 matched_built π t f ds = matched_then (matched_map (normal_object π t f) ds) (reordered_map (normal_object π t f) (reordered_rising (by_key π) ds))
 
 module _ (π : Preference) (t : Data) (clean : NoneOf (ShapeFault t)) (tree : IsTree t) where
@@ -57,7 +57,7 @@ module _ (π : Preference) (t : Data) (clean : NoneOf (ShapeFault t)) (tree : Is
       (matched_built π t f (map (λ o. o.value) (placed_entries name (report_of t))))
 
   -- each election is built of one
-  pub elections_matched : Matched (λ d e. normal_election π t d ≡ e) (map (λ o. o.value) (elections t)) (map (λ o. o.value) (elections (normal_tree π t)))
+  elections_matched : Matched (λ d e. normal_election π t d ≡ e) (map (λ o. o.value) (elections t)) (map (λ o. o.value) (elections (normal_tree π t)))
   elections_matched =
       let name = codes "Election" in
       let built : List Data = map (λ o. o.value) (elections (normal_tree π t)) in

@@ -18,7 +18,7 @@ use Rattle.erd_normal.proofs.built.NormalMembers.{get_normal}
 use Rattle.erd_meaning.specs.Keys.{Preference}
 
 -- the class of a report
-pub class_of_report : (t : Data) → NoneOf (ShapeFault t) → class_of_object role.Report t ≡ Some class.ElectionReport
+class_of_report : (t : Data) → NoneOf (ShapeFault t) → class_of_object role.Report t ≡ Some class.ElectionReport
 class_of_report t clean = let s : Skeleton t = skeleton_of_shape t clean in ap (class_of_object role.Report) s.is_object ∙ s.report.among
 
 -- the members of the report that is built, by those of the report

@@ -80,7 +80,7 @@ module _ (π : Preference) (t : Data) (clean : NoneOf (ShapeFault t)) (tree : Is
       at (Member k required) d b q w apart e = apart_full k required d apart (unrepeated t clean (Member k required) d b refl w)
       at want d b q w apart e = cc
 
-  pub members : HoldsOfMembers π t IsNotEmpty
+  members : HoldsOfMembers π t IsNotEmpty
   members = record {
     kept = kept_full;
     class_text = λ r c text named. full_value _ refl;
@@ -105,7 +105,7 @@ module _ (π : Preference) (t : Data) (clean : NoneOf (ShapeFault t)) (tree : Is
     object = λ f d w. record { full = λ k e. cc };
   }
 
-  pub full_elections : (required : Bool) (d : Data) → Within t (asked (Member kind.Elections required) d) → is_empty_array (array_of (map (normal_election π t) (rising_list (by_key π) (entries_of d)))) ≡ false
+  full_elections : (required : Bool) (d : Data) → Within t (asked (Member kind.Elections required) d) → is_empty_array (array_of (map (normal_election π t) (rising_list (by_key π) (entries_of d)))) ≡ false
   full_elections required d w =
       let a : Asked = asked (Member kind.Elections required) d in
       full_list d (normal_election π t) (rising_list (by_key π)) (length-rising (by_key π)) (wanted_within t clean a w) (faultless t clean a reason.ElectionCount w)

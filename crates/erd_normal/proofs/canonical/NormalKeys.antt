@@ -29,7 +29,7 @@ use Rattle.erd_normal.specs.code.NormalTree.{by_key, normal_object, normal_tree}
 use Rattle.erd_normal.proofs.lists.BuiltLists.{all_map}
 use Rattle.erd_meaning.proofs.orders.DistinctEntries.{distinct_one}
 use Rattle.erd_normal.proofs.lists.KeyedRanks.{rank_exact, rank_low}
-use Rattle.erd_normal.proofs.lists.Matched.{Matched, distinct_matched, even_order, matched_back, matched_count, matched_length, matched_on, matched_within}
+use Rattle.erd_normal.proofs.lists.Matched.{Matched, distinct_matched, even_order, matched_back, matched_count, matched_length, matched_within}
 use Rattle.erd_meaning.proofs.orders.RisingRanks.{rank_map}
 use Rattle.erd_normal.proofs.built.LeastKeys.{key_of_object}
 use Rattle.erd_normal.proofs.built.NormalGets.{id_of_object}
@@ -63,13 +63,6 @@ module _ (π : Preference) (t : Data) (accepted : IsAccepted π t) (tree : IsTre
         let d = matched_back p.value matched (has_mapped (λ (x : Placed). x.value) (objects f (normal_tree π t)) p h) in
         let o = map_has (λ (x : Placed). x.value) (objects f t) d.0 d.1 in
         (o.0, o.1, ap (normal_object π t f) o.2 ∙ d.2)
-
-    -- what is built of an object stands in the report that is built
-    pub built_stands : (o : Placed) → Has (objects f t) o → (p : Placed) × Has (objects f (normal_tree π t)) p × (p.value ≡ normal_object π t f o.value)
-    built_stands o h =
-        let e = matched_on o.value matched (has_mapped (λ (x : Placed). x.value) (objects f t) o h) in
-        let p = map_has (λ (x : Placed). x.value) (objects f (normal_tree π t)) e.0 e.1 in
-        (p.0, p.1, p.2 ∙ sym e.2)
 
     pub as_many : length (objects f (normal_tree π t)) ≡ length (objects f t)
     as_many = sym (length-map (objects f (normal_tree π t)) (λ o. o.value)) ∙ sym (matched_length matched) ∙ length-map (objects f t) (λ o. o.value)

@@ -1,6 +1,6 @@
 -- An `@id` names at most one selection of the report that is built, and a reference to a selection is built to the canonical
 -- `@id` of the one that it names.
-use Rattle.std.proofs.Common.{◌≡◌, ◌<◌, ◌+◌, ◌^◌, ℕ, List, [], map, length, Some, codes, slice_get, refl, sym, ap, ◌∙◌, subst, arith}
+use Rattle.std.proofs.Common.{◌≡◌, ◌<◌, ◌+◌, ◌^◌, ℕ, List, [], map, length, Some, codes, slice_get, refl, sym, ap, ◌∙◌, arith}
 use Rattle.std.proofs.lemmas.List.{length-map}
 use Rattle.std.specs.Option.{option_map_or}
 use Rattle.serde_json.specs.Data.{Data}
@@ -20,8 +20,8 @@ use Rattle.erd_normal.proofs.canonical.NormalKeys.{IsClassed, object_classed, ob
 use Rattle.erd_normal.proofs.built.NormalObjects.{selections_built}
 use Rattle.erd_normal.proofs.canonical.NormalSelections.{selection_ids}
 use Rattle.erd_normal.proofs.canonical.SelectionTexts.{canonical_selection_id_exact}
-use Rattle.erd_check.proofs.Positions.{same_in_some, has_mapped, map_has, position_of, position_low}
-use Rattle.erd_meaning.proofs.orders.RisingSets.{rising_has, length-rising}
+use Rattle.erd_check.proofs.Positions.{same_in_some, position_of, position_low}
+use Rattle.erd_meaning.proofs.orders.RisingSets.{length-rising}
 
 -- ---- what stands in the report that is built
 
@@ -38,19 +38,10 @@ counted contest = sym (length-map (selections_of_contest contest) (λ o. o.value
 module _ (π : Preference) (t : Data) (accepted : IsAccepted π t) (tree : IsTree t) where
   module _ (contest p : Placed) (of_report : Has (objects family.Contest t) contest) (is : normal_object π t family.Contest contest.value ≡ p.value) where
     -- the selections of a contest that is built
-    pub selections_there : selection_values p ≡ map (normal_selection π t contest.value) (rising_list (by_name π t) (selection_values contest))
+    selections_there : selection_values p ≡ map (normal_selection π t contest.value) (rising_list (by_name π t) (selection_values contest))
     selections_there =
         let k : IsClassed family.Contest contest.value = object_classed π t accepted tree family.Contest contest of_report in
         ap (entries_at (codes "ContestSelection")) (sym is) ∙ selections_built π t k.0 contest.value k.2 k.1
-
-    pub selection_stands : (o : Placed) → Has (selections_of_contest contest) o → (q : Placed) × Has (selections_of_contest p) q × (q.value ≡ normal_selection π t contest.value o.value)
-    selection_stands o h =
-        let value : Has (selection_values contest) o.value = subst (λ xs. Has xs o.value) (listed contest) (has_mapped (λ (x : Placed). x.value) (selections_of_contest contest) o h) in
-        let es : List Data = rising_list (by_name π t) (selection_values contest) in
-        let there : Has (map (normal_selection π t contest.value) es) (normal_selection π t contest.value o.value) =
-        has_mapped (normal_selection π t contest.value) es o.value (rising_has (by_name π t) (selection_values contest) o.value value) in
-        map_has (λ (x : Placed). x.value) (selections_of_contest p) (normal_selection π t contest.value o.value)
-        (subst (λ xs. Has xs (normal_selection π t contest.value o.value)) (sym selections_there ∙ sym (listed p)) there)
 
     pub as_many_selections : length (selections_of_contest p) ≡ length (selections_of_contest contest)
     as_many_selections =
@@ -86,7 +77,7 @@ module _ (π : Preference) (t : Data) (accepted : IsAccepted π t) (tree : IsTre
 
     module _ (r d : Data) (owned : owner t family.Selection (text_of r) ≡ Some d) where
       -- the contest and the selection that the reference names
-      abbrev pub named : FoundSelection t (text_of r) d
+      abbrev named : FoundSelection t (text_of r) d
       named = owner_found t (text_of r) d owned
 
       pub text_built : text_of (normal_selection_reference π t r) ≡ id_of_selection π t named.contest.value named.selection.value

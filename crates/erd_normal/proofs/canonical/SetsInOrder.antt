@@ -1,10 +1,10 @@
 -- Each set of the table rises in the report that is built.
-use Rattle.std.proofs.Common.{◌≡◌, ℕ, List, [], ◌∷◌, map, Option, Some, None, option_and_then, is_some, Bool, true, codes, refl, sym, ap, ap₂, ◌∙◌, subst}
+use Rattle.std.proofs.Common.{◌≡◌, List, [], ◌∷◌, map, Some, Bool, true, false, codes, refl, sym, ap, ap₂, ◌∙◌, subst}
 use Rattle.std.specs.List.{AllByRecursion}
 use Rattle.std.specs.List.Sorted.{IsStrictlySortedBy}
 use Rattle.std.specs.Option.{option_cmp, option_map_or}
 use Rattle.serde_json.specs.Data.{Data, array}
-use Rattle.serde_json.specs.Find.{as_str, get}
+use Rattle.serde_json.specs.Find.{get}
 use Rattle.erd_tables.specs.declared.class.Class.TheVariants as class
 use Rattle.erd_tables.specs.declared.class.Family.{Family}
 use Rattle.erd_tables.specs.declared.class.Family.TheVariants as family
@@ -12,12 +12,12 @@ use Rattle.erd_tables.specs.declared.class.Role.TheVariants as role
 use Rattle.erd_tables.specs.declared.member.MemberKind.{MemberKind}
 use Rattle.erd_tables.specs.declared.member.MemberKind.TheVariants as kind
 use Rattle.erd_check.specs.declared.want.Want.{Want}
-use Rattle.erd_check.specs.declared.want.Want.TheVariants.{Member, Object}
-use Rattle.erd_check.specs.Faults.{NoneOf, ShapeFault, is_array}
+use Rattle.erd_check.specs.declared.want.Want.TheVariants.{Member, Object, Reference}
+use Rattle.erd_check.specs.Faults.{NoneOf, ShapeFault}
 use Rattle.erd_check.specs.Numbers.{HasFittingNumbers}
 use Rattle.erd_check.specs.Trees.{IsTree}
 use Rattle.erd_check.specs.Values.{entries_of, list_of_items, entries_at, text_of}
-use Rattle.erd_check.specs.Wants.{Asked, asked, class_of_object}
+use Rattle.erd_check.specs.Wants.{Asked, asked, class_of_object, entry_want}
 use Rattle.erd_check.proofs.Entries.{array_from}
 use Rattle.erd_check.proofs.Rising.{Has, all-Has}
 use Rattle.erd_check.proofs.Shapes.{Within, wanted_within, within-tree}
@@ -27,16 +27,19 @@ use Rattle.erd_meaning.specs.Keys.{Preference, has_keys, key_cmp, key_of}
 use Rattle.erd_meaning.specs.Objects.{IsBounded, Placed, objects}
 use Rattle.erd_meaning.specs.SelectionNames.{compact_cmp, key_named, name_cmp, name_of, rising_list, selection_role}
 use Rattle.erd_meaning.proofs.accepted.Phases.{no_shape_fault}
+use Rattle.erd_meaning.proofs.orders.RisingSets.{has_rising}
 use Rattle.erd_meaning.proofs.accepted.Skeleton.{Skeleton, election_entries, skeleton_of_shape}
-use Rattle.erd_normal.specs.Canonical.{AreSetsInOrder, RisesAs, id_prefix, keys_of, keys_referred, kind_wanted}
-use Rattle.erd_normal.specs.code.NormalTree.{array_of, by_key, by_name, normal_election, normal_object, normal_objects, normal_reference, normal_selection, normal_tree, reference_cmp}
-use Rattle.erd_normal.proofs.built.AskedMembers.{entries_asked}
+use Rattle.erd_normal.specs.Canonical.{AreSetsInOrder, RisesAs, keys_of, keys_referred, kind_wanted}
+use Rattle.erd_normal.specs.code.NormalTree.{array_of, by_key, by_name, normal_election, normal_object, normal_objects, normal_selection, normal_tree, reference_cmp}
 use Rattle.erd_normal.proofs.lists.BuiltLists.{all_rising}
 use Rattle.erd_normal.proofs.texts.FittingNumbers.{within-fitting}
 use Rattle.erd_normal.proofs.built.LeastKeys.{key_of_election, key_of_object}
 use Rattle.erd_normal.proofs.built.NormalObjects.{election_classed}
 use Rattle.erd_normal.proofs.canonical.NormalKeys.{IsClassed, values_classed}
-use Rattle.erd_normal.proofs.canonical.NormalNames.{name_built_within, reference_key_built}
+use Rattle.erd_normal.proofs.canonical.KeptNames.{keys_named_kept, names_kept}
+use Rattle.erd_normal.proofs.canonical.SelectionIds.{selection_values}
+use Rattle.erd_normal.proofs.same.FromAlike.{Stands}
+use Rattle.erd_normal.proofs.same.Related.{entry_stands}
 use Rattle.erd_normal.proofs.lists.ListParts.{IsPart, part_has}
 use Rattle.erd_normal.proofs.canonical.RisingReports.{elections_rise, identifiers_rise, languages_rise, objects_rise, references_rise, selections_rise}
 use Rattle.erd_normal.proofs.same.Refers.{Refers, references_refer}
@@ -49,12 +52,15 @@ use Rattle.erd_check.proofs.Lists.{list_of_items-items_of}
 
 -- ---- what has to hold of a value
 
--- the entries of a value rise, if a member is asked for
+-- the entries of a value rise, if a member is asked for, and the value stands in the report
 pub record IsRisingIn (π : Preference) (u : Data) (a : Asked) : Type 0 where
-  pub rises : (k : MemberKind) → kind_wanted a.want ≡ Some k → RisesAs π u k (entries_of a.value)
+  pub rises : (k : MemberKind) → kind_wanted a.want ≡ Some k → Within u a → RisesAs π u k (entries_of a.value)
+
+standing_value : (π : Preference) (u : Data) (k : MemberKind) (required : Bool) (d : Data) → (Within u (asked (Member k required) d) → RisesAs π u k (entries_of d)) → IsRisingIn π u (asked (Member k required) d)
+standing_value π u k required d h = record { rises = λ q e w. let same : k ≡ q = cc in subst (λ x. RisesAs π u x (entries_of d)) same (h w) }
 
 rising_value : (π : Preference) (u : Data) (k : MemberKind) (required : Bool) (d : Data) → RisesAs π u k (entries_of d) → IsRisingIn π u (asked (Member k required) d)
-rising_value π u k required d h = record { rises = λ q e. let same : k ≡ q = cc in subst (λ x. RisesAs π u x (entries_of d)) same h }
+rising_value π u k required d h = standing_value π u k required d (λ w. h)
 
 apart_rises : (π : Preference) (u : Data) (k : MemberKind) (required : Bool) (ds : List Data) → is_apart (Member k required) ≡ true → RisesAs π u k ds
 apart_rises π u kind.Identity required ds h = tt
@@ -73,12 +79,9 @@ keyed_rises : (π : Preference) (u : Data) (f : Family) (ds : List Data) → has
 keyed_rises π u family.Selection ds keyed h = cc
 keyed_rises π u f ds keyed h = h
 
-letters_of : (f : Family) → is_prefixed f ≡ true → (letters : List ℕ) × (id_prefix f ≡ Some letters)
-letters_of f = at (id_prefix f)
-  where
-    at : (o : Option (List ℕ)) → is_some o ≡ true → (letters : List ℕ) × (o ≡ Some letters)
-    at None h = cc
-    at (Some letters) h = (letters, refl)
+-- the entries of an array that is built stand where it does
+built_stand : (u : Data) (w v : Want) (es : List Data) → entry_want w ≡ Some v → Within u (asked w (array_of es)) → (e : Data) → Has es e → Stands u v e
+built_stand u w v es asks inside e h = entry_stands u w v (array_of es) asks (record { repeated = false; inside = inside }) e (subst (λ xs. Has xs e) (sym (list_of_items-items_of es)) h)
 
 -- ---- the parts that are built
 
@@ -131,45 +134,34 @@ module _ (π : Preference) (t : Data) (accepted : IsAccepted π t) (tree : IsTre
       subst (λ x. IsStrictlySortedBy compact_cmp (rising_list compact_cmp (entries_of x))) (sym ds.1)
       (languages_rise π t accepted required ds.0 inside (within-tree t (asked (Member kind.Languages required) (array ds.0)) tree inside) (within-fitting t (asked (Member kind.Languages required) (array ds.0)) fits inside))
 
-  -- each entry of an array of objects is asked for
-  objects_asked : (f : Family) (required : Bool) (d : Data) → is_array d ≡ true → Within t (asked (Member (kind.Keyed f) required) d) → AllByRecursion (λ e. Within t (asked (Object (role.OfFamily f)) e)) (entries_of d)
-  objects_asked f required (array ds) is w = entries_asked t (Member (kind.Keyed f) required) (Object (role.OfFamily f)) ds refl refl w
-  objects_asked f required d is w = cc
-
   module _ (bounded : IsBounded t) where
-    keys_named_kept : (f : Family) (letters : List ℕ) → has_keys f ≡ true → id_prefix f ≡ Some letters → (ds : List Data) → AllByRecursion (Refers t f) ds
-        → keys_referred π (normal_tree π t) f (map (normal_reference π t f) ds) ≡ map (λ d. key_named π t f (text_of d)) ds
-    keys_named_kept f letters keyed prefix [] all = refl
-    keys_named_kept f letters keyed prefix (d ∷ ds) all =
-        let said : option_and_then (key_named π t f) (as_str d) ≡ key_named π t f (text_of d) =
-        ap (λ x. option_and_then (key_named π t f) (as_str x)) all.0.1 ∙ ap (λ x. key_named π t f (text_of x)) (sym all.0.1) in
-        ap₂ (λ k ks. k ∷ ks) (reference_key_built π π t accepted tree bounded f letters d keyed prefix all.0 ∙ said) (keys_named_kept f letters keyed prefix ds all.1)
-
     references_rising : (f : Family) → is_prefixed f ≡ true → (required : Bool) (d : Data) → Within t (asked (Member (kind.Many f) required) d)
-        → IsStrictlySortedBy (option_cmp key_cmp) (keys_referred π (normal_tree π t) f (built_references π t f d))
-    references_rising f named required d w =
-        let ds = array_from d (wanted_within t (no_shape_fault π t accepted) (asked (Member (kind.Many f) required) d) w) in
+        → Within (normal_tree π t) (asked (Member (kind.Many f) required) (array_of (built_references π t f d))) → IsStrictlySortedBy (option_cmp key_cmp) (keys_referred π (normal_tree π t) f (built_references π t f d))
+    references_rising f named required d w built =
+        let ds = array_from d (wanted_within t clean (asked (Member (kind.Many f) required) d) w) in
         let inside : Within t (asked (Member (kind.Many f) required) (array ds.0)) = subst (λ x. Within t (asked (Member (kind.Many f) required) x)) ds.1 w in
-        let letters = letters_of f named in
-        let all : AllByRecursion (Refers t f) (rising_list (reference_cmp π t f) (list_of_items ds.0)) =
-        all_rising (Refers t f) (reference_cmp π t f) (list_of_items ds.0) (references_refer π t accepted f required ds.0 inside) in
-        subst (λ x. IsStrictlySortedBy (option_cmp key_cmp) (keys_referred π (normal_tree π t) f (built_references π t f x))) (sym ds.1)
-        (subst (IsStrictlySortedBy (option_cmp key_cmp)) (sym (keys_named_kept f letters.0 (prefixed_keys f named) letters.1 (rising_list (reference_cmp π t f) (list_of_items ds.0)) all))
+        let rising : List Data = rising_list (reference_cmp π t f) (entries_of d) in
+        subst (IsStrictlySortedBy (option_cmp key_cmp))
+        (sym (keys_named_kept π t accepted tree bounded f named rising
+        (λ x h.
+        let there : Has (list_of_items ds.0) x = subst (λ y. Has (entries_of y) x) ds.1 (has_rising (reference_cmp π t f) (entries_of d) x h) in
+        record {
+          refers = all-Has (Refers t f) (list_of_items ds.0) x (references_refer π t accepted f required ds.0 inside) there;
+          asked = entry_stands t (Member (kind.Many f) required) (Reference f) (array ds.0) refl (record { repeated = false; inside = inside }) x there;
+        })
+        (built_stand (normal_tree π t) (Member (kind.Many f) required) (Reference f) (built_references π t f d) refl built)))
+        (subst (λ y. IsStrictlySortedBy (option_cmp key_cmp) (map (λ x. key_named π t f (text_of x)) (rising_list (reference_cmp π t f) (entries_of y)))) (sym ds.1)
         (references_rise π t accepted f (prefixed_keys f named) required ds.0 inside))
 
-    names_kept : (contest : Data) (ds : List Data) → AllByRecursion (λ e. Within t (asked (Object selection_role) e)) ds → map (name_of π (normal_tree π t)) (map (normal_selection π t contest) ds) ≡ map (name_of π t) ds
-    names_kept contest [] all = refl
-    names_kept contest (d ∷ ds) all = ap₂ (λ n ns. n ∷ ns) (name_built_within π π t accepted tree bounded contest d all.0) (names_kept contest ds all.1)
-
     selections_rising : (contest : Placed) (required : Bool) (d : Data) → Has (objects family.Contest t) contest → get (codes "ContestSelection") contest.value ≡ Some d
-        → Within t (asked (Member (kind.Keyed family.Selection) required) d)
+        → Within (normal_tree π t) (asked (Member (kind.Keyed family.Selection) required) (array_of (map (normal_selection π t contest.value) (rising_list (by_name π t) (entries_of d)))))
         → IsStrictlySortedBy (option_cmp name_cmp) (map (name_of π (normal_tree π t)) (map (normal_selection π t contest.value) (rising_list (by_name π t) (entries_of d))))
-    selections_rising contest required d of_report stands w =
+    selections_rising contest required d of_report stands built =
         let es : List Data = entries_of d in
-        let listed : entries_at (codes "ContestSelection") contest.value ≡ es = ap (λ o. option_map_or entries_of o []) stands in
-        let all : AllByRecursion (λ e. Within t (asked (Object selection_role) e)) es =
-        objects_asked family.Selection required d (wanted_within t (no_shape_fault π t accepted) (asked (Member (kind.Keyed family.Selection) required) d) w) w in
-        subst (IsStrictlySortedBy (option_cmp name_cmp)) (sym (names_kept contest.value (rising_list (by_name π t) es) (all_rising (λ e. Within t (asked (Object selection_role) e)) (by_name π t) es all)))
+        let listed : selection_values contest ≡ es = ap (λ o. option_map_or entries_of o []) stands in
+        subst (IsStrictlySortedBy (option_cmp name_cmp))
+        (sym (names_kept π t accepted tree bounded contest of_report (rising_list (by_name π t) es) (λ x h. subst (λ xs. Has xs x) (sym listed) (has_rising (by_name π t) es x h))
+        (built_stand (normal_tree π t) (Member (kind.Keyed family.Selection) required) (Object selection_role) (map (normal_selection π t contest.value) (rising_list (by_name π t) es)) refl built)))
         (subst (λ xs. IsStrictlySortedBy (option_cmp name_cmp) (map (name_of π t) (rising_list (by_name π t) xs))) listed (selections_rise π t accepted contest of_report))
 
 -- ---- the report that is built
@@ -180,14 +172,15 @@ module _ (π : Preference) (t : Data) (accepted : IsAccepted π t) (tree : IsTre
 
   members : HoldsOfMembers π t (IsRisingIn π u)
   members = record {
-    kept = λ a w apart. record { rises = λ k e. kept_rises π u a.want a.value k apart e };
-    class_text = λ r c text named. record { rises = λ k e. cc };
+    kept = λ a w apart. record { rises = λ k e x. kept_rises π u a.want a.value k apart e };
+    class_text = λ r c text named. record { rises = λ k e x. cc };
     label = λ required d w. rising_value π u kind.Label required _ tt;
-    one = λ f named d w. record { rises = λ k e. cc };
+    one = λ f named d w. record { rises = λ k e x. cc };
     many = λ f named required d w full.
-        rising_value π u (kind.Many f) required (array_of (built_references π t f d))
-        (subst (λ xs. IsStrictlySortedBy (option_cmp key_cmp) (keys_referred π u f xs)) (sym (list_of_items-items_of (built_references π t f d))) (references_rising π t accepted tree bounded f named required d w));
-    many_entry = λ f named required d w i e found. record { rises = λ k h. cc };
+        standing_value π u (kind.Many f) required (array_of (built_references π t f d))
+        (λ built. subst (λ xs. IsStrictlySortedBy (option_cmp key_cmp) (keys_referred π u f xs)) (sym (list_of_items-items_of (built_references π t f d)))
+        (references_rising π t accepted tree bounded f named required d w built));
+    many_entry = λ f named required d w i e found. record { rises = λ k h x. cc };
     identifiers = λ required d w full.
         rising_value π u kind.Identifiers required (array_of (rising_list compact_cmp (entries_of d)))
         (subst (IsStrictlySortedBy compact_cmp) (sym (list_of_items-items_of (rising_list compact_cmp (entries_of d)))) (identifiers_rising π t accepted tree fits required d w));
@@ -195,7 +188,7 @@ module _ (π : Preference) (t : Data) (accepted : IsAccepted π t) (tree : IsTre
         rising_value π u kind.Languages required (array_of (rising_list compact_cmp (entries_of d)))
         (subst (IsStrictlySortedBy compact_cmp) (sym (list_of_items-items_of (rising_list compact_cmp (entries_of d)))) (languages_rising π t accepted tree fits required d w));
     ordered = λ required d w full. rising_value π u kind.Ordered required _ tt;
-    ordered_entry = λ e w. record { rises = λ k h. cc };
+    ordered_entry = λ e w. record { rises = λ k h x. cc };
   }
 
   parts : HoldsOfObjects π t (IsRisingIn π u)
@@ -203,13 +196,14 @@ module _ (π : Preference) (t : Data) (accepted : IsAccepted π t) (tree : IsTre
     members = members;
     identity = λ required id. rising_value π u kind.Identity required _ tt;
     content = λ required d w full. rising_value π u kind.Content required _ tt;
-    node = λ d w. record { rises = λ k e. cc };
+    node = λ d w. record { rises = λ k e x. cc };
     selections = λ contest required d of_report stands w full.
         let ds : List Data = map (normal_selection π t contest.value) (rising_list (by_name π t) (entries_of d)) in
-        rising_value π u (kind.Keyed family.Selection) required (array_of ds)
-        (subst (λ xs. IsStrictlySortedBy (option_cmp name_cmp) (map (name_of π u) xs)) (sym (list_of_items-items_of ds)) (selections_rising π t accepted tree bounded contest required d of_report stands w));
-    selection = λ contest d w. record { rises = λ k e. cc };
-    object = λ f d w. record { rises = λ k e. cc };
+        standing_value π u (kind.Keyed family.Selection) required (array_of ds)
+        (λ built. subst (λ xs. IsStrictlySortedBy (option_cmp name_cmp) (map (name_of π u) xs)) (sym (list_of_items-items_of ds))
+        (selections_rising π t accepted tree bounded contest required d of_report stands built));
+    selection = λ contest d w. record { rises = λ k e x. cc };
+    object = λ f d w. record { rises = λ k e x. cc };
   }
 
   built : HoldsOfBuilt π t (IsRisingIn π u)
@@ -222,10 +216,10 @@ module _ (π : Preference) (t : Data) (accepted : IsAccepted π t) (tree : IsTre
         let ds : List Data = map (normal_election π t) (rising_list (by_key π) (entries_of d)) in
         rising_value π u kind.Elections required (array_of ds)
         (subst (λ xs. IsStrictlySortedBy (option_cmp key_cmp) (keys_of π xs)) (sym (list_of_items-items_of ds)) (elections_rising π t accepted tree (entries_of d) is));
-    election = λ d w. record { rises = λ k e. cc };
-    report = record { rises = λ k e. cc };
+    election = λ d w. record { rises = λ k e x. cc };
+    report = record { rises = λ k e x. cc };
   }
 
   -- the sets of the report that is built rise
   pub sets_in_order_built : AreSetsInOrder π (normal_tree π t)
-  sets_in_order_built p a k e want = (holds_of_built π t (no_shape_fault π t accepted) tree (IsRisingIn π u) built p a e).rises k want
+  sets_in_order_built p a k e want = (holds_of_built π t (no_shape_fault π t accepted) tree (IsRisingIn π u) built p a e).rises k want (record { place = p; is = e })

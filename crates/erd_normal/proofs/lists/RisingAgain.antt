@@ -1,5 +1,5 @@
 -- A list in the order of an exact comparison is the same, in whichever order its entries came.
-use Rattle.std.proofs.Common.{◌≡◌, List, filter_map, Option, Some, None, option_and_then, Ordering, refl, sym}
+use Rattle.std.proofs.Common.{◌≡◌, List, filter_map, Option, Some, None, option_and_then, Ordering, refl}
 use Rattle.std.specs.Cmp.{IsTotalOrder}
 use Rattle.std.specs.List.{cons_option}
 use Rattle.std.proofs.lemmas.Map.Lookups.{CmpEqualImpliesEq}
@@ -10,7 +10,7 @@ use Rattle.erd_meaning.specs.Keys.{Preference, key_cmp}
 use Rattle.erd_meaning.proofs.orders.InsertedValues.{inserted_exchange}
 use Rattle.erd_meaning.specs.code.Orders.{key_cmp_exact, key_cmp_total}
 use Rattle.erd_meaning.specs.SelectionNames.{key_named, keys_named, rising_list, with_inserted}
-use Rattle.erd_meaning.proofs.orders.Reordered.{Reordered, reordered_rising, whole-reordered}
+use Rattle.erd_meaning.proofs.orders.Reordered.{Reordered, whole-reordered}
 
 module _ {A : Type 0} {cmp : A → A → Ordering} (order : IsTotalOrder cmp) (exact : CmpEqualImpliesEq cmp) where
   abbrev with_kept : Option A → List A → List A
@@ -33,13 +33,6 @@ module _ {A : Type 0} {cmp : A → A → Ordering} (order : IsTotalOrder cmp) (e
 
   pub rising-reordered : {xs ys : List A} → Reordered xs ys → rising_list cmp xs ≡ rising_list cmp ys
   rising-reordered h = whole-reordered (rising_list cmp) (with_inserted cmp) (λ x xs. refl) (inserted_exchange order exact) h
-
-  pub rising_kept_again : {B : Type 0} (f : B → Option A) (other : B → B → Ordering) (xs : List B) → rising_list cmp (filter_map f (rising_list other xs)) ≡ rising_list cmp (filter_map f xs)
-  rising_kept_again f other xs = sym (rising_kept-reordered f (reordered_rising other xs))
-
--- the keys that references name, in rising order, in whichever order the references came
-pub rising_keys_named : (π : Preference) (t : Data) (f : Family) (other : Data → Data → Ordering) (ds : List Data) → rising_list key_cmp (keys_named π t f (rising_list other ds)) ≡ rising_list key_cmp (keys_named π t f ds)
-rising_keys_named π t f other ds = rising_kept_again key_cmp_total key_cmp_exact (λ r. option_and_then (key_named π t f) (as_str r)) other ds
 
 pub rising_keys_named-reordered : (π : Preference) (t : Data) (f : Family) {ds es : List Data} → Reordered ds es → rising_list key_cmp (keys_named π t f ds) ≡ rising_list key_cmp (keys_named π t f es)
 rising_keys_named-reordered π t f h = rising_kept-reordered key_cmp_total key_cmp_exact (λ r. option_and_then (key_named π t f) (as_str r)) h

@@ -40,7 +40,7 @@ use Rattle.erd_normal.proofs.built.PutMembers.{put_elsewhere}
 use Rattle.erd_normal.proofs.lists.Matched.{Both, both, neither, matched_equal}
 use Rattle.erd_meaning.proofs.orders.Reordered.{Reordered, no_entry, reordered_map}
 use Rattle.erd_normal.proofs.lists.RisingAgain.{rising-reordered}
-use Rattle.erd_normal.proofs.meaning.RisingLabels.{put_twice}
+use Rattle.erd_normal.proofs.built.PutMembers.{put_twice}
 use Rattle.erd_normal.proofs.meaning.RisingMeanings.{json_set-reordered}
 use Rattle.erd_normal.proofs.rearranged.Alike.{Alike, AlikeMembers}
 use Rattle.erd_normal.proofs.rearranged.AlikeParts.{alike_member, alike_tree}

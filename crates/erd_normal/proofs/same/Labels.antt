@@ -33,7 +33,7 @@ use Rattle.erd_meaning.proofs.orders.Reordered.{Reordered, no_entry, reordered_m
 use Rattle.erd_normal.proofs.built.PutMembers.{put_elsewhere}
 use Rattle.erd_normal.proofs.lists.Matched.{matched_equal}
 use Rattle.erd_normal.proofs.lists.RisingAgain.{rising-reordered}
-use Rattle.erd_normal.proofs.meaning.RisingLabels.{put_twice}
+use Rattle.erd_normal.proofs.built.PutMembers.{put_twice}
 use Rattle.erd_normal.proofs.rearranged.PlainValues.{is_plain, is_plain_kind, plain_of_kind}
 use Rattle.erd_normal.specs.SaysTheSame.{Sides, MayBeAbsent, Same, SameMembers}
 use Rattle.erd_normal.proofs.same.Lookups.{Aligned, both_there, not_both, MayLack, lookups, of_object}

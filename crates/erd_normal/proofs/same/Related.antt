@@ -99,7 +99,7 @@ pub record Related (m : Sides) (w : Want) (d e : Data) : Type 0 where
   pub right : Stands m.right w e
   pub same : Same m (Some w) d e
 
-entry_stands : (t : Data) (w v : Want) (d : Data) → entry_want w ≡ Some v → Stands t w d → (x : Data) → Has (entries_of d) x → Stands t v x
+pub entry_stands : (t : Data) (w v : Want) (d : Data) → entry_want w ≡ Some v → Stands t w d → (x : Data) → Has (entries_of d) x → Stands t v x
 entry_stands t w v (array ds) asks st x h =
     let j = list_of_items-place ds x h in
     let a : Asked = record { want = w; value = array ds; repeated = st.repeated } in

@@ -88,7 +88,7 @@ type_text r c d v among stands = at v (subst (λ o. option_and_then (class_in_ro
     at v e = cc
 
 -- references that are built are texts
-pub built_texts : (π : Preference) (t : Data) (f : Family) (ds : List Data) → AllByRecursion (λ x. (s : List ℕ) × (x ≡ string s)) (map (normal_reference π t f) ds)
+built_texts : (π : Preference) (t : Data) (f : Family) (ds : List Data) → AllByRecursion (λ x. (s : List ℕ) × (x ≡ string s)) (map (normal_reference π t f) ds)
 built_texts π t f [] = tt
 built_texts π t f (x ∷ xs) = ((normal_id π t f (text_of x), refl), built_texts π t f xs)
 

@@ -1,7 +1,6 @@
 -- What holds of all that is asked in the report that is built: it is enough that it holds of each part that is built, by the value that it is built of.
-use Rattle.std.proofs.Common.{◌≡◌, ℕ, List, [], ◌∷◌, map, Option, Some, None, is_some, IsSomeAnd, Bool, true, false, true≢false, if◌then◌else◌, codes, refl, sym, ap, ◌∙◌, subst}
+use Rattle.std.proofs.Common.{◌≡◌, ℕ, List, [], ◌∷◌, map, Some, None, is_some, Bool, true, false, if◌then◌else◌, codes, refl, sym, ap, ◌∙◌, subst}
 use Rattle.std.specs.List.{AllByRecursion}
-use Rattle.std.specs.Prelude.{IsTrue}
 use Rattle.std.specs.Str.{bytes_eq}
 use Rattle.serde_json.specs.Data.{Data, string, number, unsigned, array, object, Members}
 use Rattle.serde_json.specs.Find.{get, get_member}
@@ -10,7 +9,6 @@ use Rattle.erd_tables.specs.Table.{is_envelope_name, kind_in_rows, kind_of_membe
 use Rattle.erd_tables.specs.declared.class.Class.TheVariants as class
 use Rattle.erd_tables.specs.declared.class.Family.{Family}
 use Rattle.erd_tables.specs.declared.class.Role.TheVariants as role
-use Rattle.erd_tables.specs.declared.fault.Reason.{Reason}
 use Rattle.erd_tables.specs.declared.member.MemberKind.{MemberKind}
 use Rattle.erd_tables.specs.declared.member.MemberKind.TheVariants as kind
 use Rattle.erd_tables.specs.declared.place.Step.{Step}
@@ -248,12 +246,3 @@ module _ (π : Preference) (t : Data) (clean : NoneOf (ShapeFault t)) (tree : Is
   -- it holds of whatever is asked at a place of the report that is built
   pub holds_of_built : (p : List Step) (a : Asked) → asked_at (normal_tree π t) p ≡ Some a → P a
   holds_of_built p a e = throughout_report.each p a e
-
--- a test that nothing passes which is asked for finds nothing at any place
-pub none_found : (u : Data) (is_fault : Asked → Reason → Bool) → ((p : List Step) (a : Asked) (r : Reason) → asked_at u p ≡ Some a → is_fault a r ≡ false) → (p : List Step) (r : Reason)
-    → IsSomeAnd (asked_at u p) (λ a. IsTrue (is_fault a r)) → ⊥
-none_found u is_fault none p r = at (asked_at u p) refl
-  where
-    at : (o : Option Asked) → asked_at u p ≡ o → IsSomeAnd o (λ a. IsTrue (is_fault a r)) → ⊥
-    at None is h = h
-    at (Some a) is h = true≢false (sym h ∙ none p a r is)

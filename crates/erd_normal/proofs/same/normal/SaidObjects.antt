@@ -206,7 +206,7 @@ module _ (π : Preference) (t : Data) (accepted : IsAccepted π t) (tree : IsTre
   plain_type : KeepsType (plain_builder π t) is_id
   plain_type = record { plain = refl; stays = λ v. refl }
 
-  selection_said : (contest o : Placed) → Has (objects family.Contest t) contest → Has (selections_of_contest contest) o
+  pub selection_said : (contest o : Placed) → Has (objects family.Contest t) contest → Has (selections_of_contest contest) o
       → Same m (Some (Object selection_role)) o.value (normal_selection π t contest.value o.value)
   selection_said contest o of_report of_c =
       subst (λ x. Same m (Some (Object selection_role)) x (normal_selection π t contest.value o.value)) (sym i.is_object)

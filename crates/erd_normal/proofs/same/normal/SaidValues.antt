@@ -161,8 +161,8 @@ module _ (π : Preference) (t : Data) (accepted : IsAccepted π t) (tree : IsTre
   label required (string s) w = a_text refl
   label required d w = let x : false ≡ true = wanted_within t (no_shape_fault π t accepted) (asked (Member kind.Label required) d) w in cc
 
-  reference : (f : Family) → is_prefixed f ≡ true → (d : Data) → Refers t f d → Same m (Some (Reference f)) d (normal_reference π t f d)
-  reference f named d r =
+  pub reference_said : (f : Family) → is_prefixed f ≡ true → (d : Data) → Refers t f d → Same m (Some (Reference f)) d (normal_reference π t f d)
+  reference_said f named d r =
       subst (λ x. Same m (Some (Reference f)) x (normal_reference π t f d)) (sym r.1)
       (an_id refl (pair_of π t accepted tree bounded r.0 (normal_id π t f (text_of d)) (renamed_reference π t accepted tree bounded f named d r)))
 
@@ -181,7 +181,7 @@ module _ (π : Preference) (t : Data) (accepted : IsAccepted π t) (tree : IsTre
       with_array (Member (kind.Many f) required) d (λ x. array_of (map (normal_reference π t f) (rising_list (reference_cmp π t f) (entries_of x))))
       (array_from d (wanted_within t (no_shape_fault π t accepted) (asked (Member (kind.Many f) required) d) w)) w
       (λ ds inside. set_built m (Member (kind.Many f) required) (normal_reference π t f) (reference_cmp π t f) ds refl
-      (λ x h. reference f named x (all-Has (Refers t f) (list_of_items ds) x (references_refer π t accepted f required ds inside) h)))
+      (λ x h. reference_said f named x (all-Has (Refers t f) (list_of_items ds) x (references_refer π t accepted f required ds inside) h)))
 
   identifiers : (required : Bool) (d : Data) → Within t (asked (Member kind.Identifiers required) d) → Same m (Some (Member kind.Identifiers required)) d (array_of (rising_list compact_cmp (entries_of d)))
   identifiers required d w =
@@ -205,7 +205,7 @@ module _ (π : Preference) (t : Data) (accepted : IsAccepted π t) (tree : IsTre
 
   pub said_value : (k : MemberKind) (required : Bool) (d : Data) → is_simple_kind k ≡ true → Within t (asked (want_of_kind k required) d) → Said m (want_of_kind k required) d (normal_value π t k d)
   said_value kind.Label required d simple w = kept (label required d w)
-  said_value (kind.One f) required d simple w = kept (reference f simple d (reference_refers π t accepted f d w))
+  said_value (kind.One f) required d simple w = kept (reference_said f simple d (reference_refers π t accepted f d w))
   said_value (kind.Many f) required d simple w = said_unless m (kind.Many f) required d _ refl (references f simple required d w)
   said_value kind.Identifiers required d simple w = said_unless m kind.Identifiers required d _ refl (identifiers required d w)
   said_value kind.Languages required d simple w = said_unless m kind.Languages required d _ refl (languages required d w)

@@ -1,0 +1,90 @@
+-- What is built of references names objects with their keys, and what is built of selections has their names, where it stands
+-- in the report that is built.
+use Rattle.std.proofs.Common.{◌≡◌, List, [], ◌∷◌, map, option_and_then, true, false, refl, sym, ap, ap₂, ◌∙◌, subst}
+use Rattle.serde_json.specs.Data.{Data}
+use Rattle.serde_json.specs.Find.{as_str}
+use Rattle.erd_tables.specs.declared.class.Family.{Family}
+use Rattle.erd_tables.specs.declared.class.Family.TheVariants as family
+use Rattle.erd_check.specs.Trees.{IsTree}
+use Rattle.erd_check.specs.Values.{text_of}
+use Rattle.erd_check.specs.declared.want.Want.TheVariants.{Object, Reference}
+use Rattle.erd_check.proofs.Positions.{map_has}
+use Rattle.erd_check.proofs.Rising.{Has, here, later}
+use Rattle.erd_meaning.specs.Accepted.{IsAccepted}
+use Rattle.erd_meaning.specs.Keys.{Preference}
+use Rattle.erd_meaning.specs.Objects.{IsBounded, Placed, contests, objects, selections_of_contest}
+use Rattle.erd_meaning.specs.SelectionNames.{key_named, name_of, selection_role}
+use Rattle.erd_meaning.proofs.accepted.Standing.{flat-has, stands}
+use Rattle.erd_normal.specs.Canonical.{keys_referred}
+use Rattle.erd_normal.specs.SaysTheSame.{Sides}
+use Rattle.erd_normal.specs.code.NormalTree.{normal_reference, normal_selection, normal_tree}
+use Rattle.erd_normal.proofs.built.NormalTrees.{normal_tree-tree}
+use Rattle.erd_normal.proofs.canonical.SelectionIds.{listed, selection_values}
+use Rattle.erd_normal.proofs.same.FromAlike.{Stands}
+use Rattle.erd_normal.proofs.same.Refers.{Refers}
+use Rattle.erd_normal.proofs.same.means.Meanings.{two_reports}
+use Rattle.erd_normal.proofs.same.means.Members.{TwoReports}
+use Rattle.erd_normal.proofs.same.means.Names.{name_alike}
+use Rattle.erd_normal.proofs.same.means.References.{key_alike}
+use Rattle.erd_normal.proofs.same.normal.NewIds.{new_text, old_text, sides}
+use Rattle.erd_normal.proofs.same.normal.SaidObjects.{selection_said}
+use Rattle.erd_normal.proofs.same.normal.SaidReports.{report_said}
+use Rattle.erd_normal.proofs.same.normal.SaidValues.{reference_said}
+use Rattle.erd_normal.proofs.throughout.ThroughoutMembers.{is_prefixed}
+
+module _ (π : Preference) (t : Data) (accepted : IsAccepted π t) (tree : IsTree t) (bounded : IsBounded t) where
+  abbrev m : Sides
+  m = sides π t
+
+  both : TwoReports m π
+  both = two_reports π t (normal_tree π t) (record { there = new_text π t; back = old_text π t; same = report_said π t accepted tree bounded }) tree (normal_tree-tree π t tree) accepted
+
+  -- ---- references
+
+  -- the text names an object of the report, and is a reference there
+  pub record IsReference (f : Family) (d : Data) : Type 0 where
+    pub refers : Refers t f d
+    pub asked : Stands t (Reference f) d
+
+  key_kept : (f : Family) → is_prefixed f ≡ true → (d : Data) → IsReference f d → Stands (normal_tree π t) (Reference f) (normal_reference π t f d)
+      → option_and_then (key_named π (normal_tree π t) f) (as_str (normal_reference π t f d)) ≡ key_named π t f (text_of d)
+  key_kept f named d r built =
+      sym (key_alike m π both f d (normal_reference π t f d) (record { left = r.asked; right = built; same = reference_said π t accepted tree bounded f named d r.refers }))
+      ∙ ap (λ x. option_and_then (key_named π t f) (as_str x)) r.refers.1 ∙ ap (λ x. key_named π t f (text_of x)) (sym r.refers.1)
+
+  pub keys_named_kept : (f : Family) → is_prefixed f ≡ true → (ds : List Data) → ((d : Data) → Has ds d → IsReference f d)
+      → ((e : Data) → Has (map (normal_reference π t f) ds) e → Stands (normal_tree π t) (Reference f) e)
+      → keys_referred π (normal_tree π t) f (map (normal_reference π t f) ds) ≡ map (λ d. key_named π t f (text_of d)) ds
+  keys_named_kept f named [] left right = refl
+  keys_named_kept f named (d ∷ ds) left right =
+      ap₂ (λ k ks. k ∷ ks) (key_kept f named d (left d here) (right (normal_reference π t f d) here)) (keys_named_kept f named ds (λ x h. left x (later h)) (λ x h. right x (later h)))
+
+  -- ---- selections
+
+  module _ (contest : Placed) (of_report : Has (objects family.Contest t) contest) where
+    built_name : (o : Placed) → Has (selections_of_contest contest) o → Stands (normal_tree π t) (Object selection_role) (normal_selection π t contest.value o.value)
+        → name_of π (normal_tree π t) (normal_selection π t contest.value o.value) ≡ name_of π t o.value
+    built_name o h built =
+        sym (name_alike m π both o.value (normal_selection π t contest.value o.value)
+        (record {
+          left = record {
+            repeated = false;
+            inside = record { place = o.place; is = stands π t accepted family.Selection o (flat-has selections_of_contest (contests t) contest o of_report h) };
+          };
+          right = built;
+          same = selection_said π t accepted tree bounded contest o of_report h;
+        }))
+
+    name_kept : (d : Data) → Has (selection_values contest) d → Stands (normal_tree π t) (Object selection_role) (normal_selection π t contest.value d)
+        → name_of π (normal_tree π t) (normal_selection π t contest.value d) ≡ name_of π t d
+    name_kept d h =
+        let o = map_has (λ (x : Placed). x.value) (selections_of_contest contest) d (subst (λ xs. Has xs d) (sym (listed contest)) h) in
+        subst (λ x. Stands (normal_tree π t) (Object selection_role) (normal_selection π t contest.value x) → name_of π (normal_tree π t) (normal_selection π t contest.value x) ≡ name_of π t x) o.2
+        (built_name o.0 o.1)
+
+    pub names_kept : (ds : List Data) → ((d : Data) → Has ds d → Has (selection_values contest) d)
+        → ((e : Data) → Has (map (normal_selection π t contest.value) ds) e → Stands (normal_tree π t) (Object selection_role) e)
+        → map (name_of π (normal_tree π t)) (map (normal_selection π t contest.value) ds) ≡ map (name_of π t) ds
+    names_kept [] left right = refl
+    names_kept (d ∷ ds) left right =
+        ap₂ (λ n ns. n ∷ ns) (name_kept d (left d here) (right (normal_selection π t contest.value d) here)) (names_kept ds (λ x h. left x (later h)) (λ x h. right x (later h)))
