@@ -1,4 +1,4 @@
--- The members of an object that is built come from members of the object that it is built of, and required ones are never dropped.
+-- The members of an object that is built come from members of the object that it is built of.
 use Rattle.std.proofs.Common.{◌≡◌, ◌⊎◌, inl, inr, ℕ, List, Option, Some, None, option_and_then, Bool, true, false, ◌&&◌, codes, refl, sym, ap, ◌∙◌, subst}
 use Rattle.std.specs.Str.{bytes_eq}
 use Rattle.serde_json.specs.Data.{Data, Members}

@@ -55,7 +55,7 @@ module _ (π : Preference) (t : Data) (accepted : IsAccepted π t) (tree : IsTre
   both_selections o p id in_o in_p e h =
       let c = has-flat selections_of_contest (contests (normal_tree π t)) o in_o in
       let d = has-flat selections_of_contest (contests (normal_tree π t)) p in_p in
-      (one_selection π t accepted tree bounded c.0 d.0 o p c.1 d.1 c.2 d.2 (e ∙ sym h)).1
+      one_selection π t accepted tree bounded c.0 d.0 o p c.1 d.1 c.2 d.2 (e ∙ sym h)
 
   -- two objects with one `@id` are one
   one_object_built : (f g : Family) (o p : Placed) (id : List ℕ) → Has (objects f (normal_tree π t)) o → Has (objects g (normal_tree π t)) p → id_of o.value ≡ Some id → id_of p.value ≡ Some id → o ≡ p

@@ -59,9 +59,9 @@ module _ (π : Preference) (t : Data) (accepted : IsAccepted π t) (tree : IsTre
         let same : length (selections_of_contest p) ≡ length (selections_of_contest contest.0) = as_many_selections contest.0 p contest.1 contest.2 in
         omega (arith, low, few, same)
 
-    -- two selections with one `@id` are one, of one contest
+    -- two selections with one `@id` are one
     pub one_selection : (c d o q : Placed) → Has (objects family.Contest (normal_tree π t)) c → Has (objects family.Contest (normal_tree π t)) d → Has (selections_of_contest c) o → Has (selections_of_contest d) q
-        → id_of o.value ≡ id_of q.value → (c ≡ d) × (o ≡ q)
+        → id_of o.value ≡ id_of q.value → o ≡ q
     one_selection c d o q in_c in_d in_o in_q same =
         let j = position_of (selections_of_contest c) o in_o in
         let l = position_of (selections_of_contest d) q in_q in
@@ -71,7 +71,7 @@ module _ (π : Preference) (t : Data) (accepted : IsAccepted π t) (tree : IsTre
         let n = canonical_selection_id_exact _ j.0 _ l.0 (rank_counted π t accepted tree family.Contest refl few c in_c) (selection_low c in_c j.0 o j.1)
         (rank_counted π t accepted tree family.Contest refl few d in_d) (selection_low d in_d l.0 q l.1) (same_in_some _ _ (sym first ∙ same ∙ second)) in
         let one : c ≡ d = one_ranked_built π t accepted tree family.Contest refl c d in_c in_d n.0 in
-        (one, same_in_some o q (sym j.1 ∙ ap (λ x. slice_get (selections_of_contest x) j.0) one ∙ ap (slice_get (selections_of_contest d)) n.1 ∙ l.1))
+        same_in_some o q (sym j.1 ∙ ap (λ x. slice_get (selections_of_contest x) j.0) one ∙ ap (slice_get (selections_of_contest d)) n.1 ∙ l.1)
 
     -- ---- references
 
