@@ -1,20 +1,9 @@
--- A rearranged report is accepted as it was, and means the same.
+-- A rearranged report is accepted as it was, says the same and so means the same.
 pub mod Alike
 pub mod AlikeParts
 pub mod AlikeChanges
-pub mod PlainValues
-pub mod AskedBack
-pub mod RearrangedShape
 pub mod RelatedMembers
 pub mod RelatedObjects
-pub mod SharedIds
-pub mod RearrangedIdentity
-pub mod RelatedOwners
-pub mod RearrangedReferences
-pub mod RelatedLabels
-pub mod RelatedNames
-pub mod RearrangedSelections
-pub mod RelatedContents
-pub mod RelatedRecords
-pub mod RearrangedMeaning
+pub mod RearrangedEnvelope
+pub mod RearrangedIds
 pub mod RearrangedReports

@@ -1,6 +1,8 @@
 -- The reports that say the same: what `SaysTheSame` holds of.
 pub mod Basics
 pub mod Lists
+pub mod FamilyValues
+pub mod SharedIds
 pub mod Types
 pub mod Back
 pub mod FromAlike
@@ -24,7 +26,6 @@ pub mod LabelsBack
 pub mod IdsOfObjects
 pub mod Refers
 pub mod Renamed
-pub mod RearrangedReports
 pub mod means
 pub mod accepted
 pub mod normal

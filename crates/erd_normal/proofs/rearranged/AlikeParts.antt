@@ -1,23 +1,16 @@
 -- What stands in values that are alike, part by part.
-use Rattle.std.proofs.Common.{◌≡◌, ℕ, List, [], ◌∷◌, Bool, true, false, cond, Option, Some, None, option_and_then, Ordering, Less, Equal, Greater, nat_cmp, codes, refl, sym, ap, ◌∙◌, subst}
+use Rattle.std.proofs.Common.{◌≡◌, ℕ, List, [], ◌∷◌, Bool, true, false, Option, Some, None, Ordering, Less, Equal, Greater, nat_cmp, refl, sym, subst}
 use Rattle.std.specs.Cmp.Lexicographic.{slice_cmp}
 use Rattle.std.specs.Ordering.{match_ordering}
 use Rattle.serde_json.specs.Data.{Data, null, boolean, number, string, array, object, Items, no_items, item, Members, no_members, member}
-use Rattle.serde_json.specs.Find.{as_str, get_member}
-use Rattle.erd_tables.specs.Classes.{class_in_role}
-use Rattle.erd_tables.specs.declared.class.Role.{Role}
-use Rattle.erd_tables.specs.declared.class.Role.TheVariants as role
-use Rattle.erd_tables.specs.declared.member.MemberKind.TheVariants as kind
+use Rattle.serde_json.specs.Find.{get_member}
 use Rattle.erd_check.specs.Trees.{AreMembers, AreTrees, IsBeforeFirst, IsTree}
 use Rattle.erd_check.specs.Values.{list_of_items}
-use Rattle.erd_check.specs.Wants.{class_of_object, entry_want, is_table_set, scope_inside, scope_of_object, want_of_name}
+use Rattle.erd_check.specs.Wants.{entry_want, is_table_set, scope_inside, want_of_name}
 use Rattle.erd_check.specs.declared.want.Scope.{Scope}
-use Rattle.erd_check.specs.declared.want.Scope.TheVariants as scope
 use Rattle.erd_check.specs.declared.want.Want.{Want}
-use Rattle.erd_check.specs.declared.want.Want.TheVariants.{Carried, ClassText, Member, Object}
 use Rattle.erd_check.proofs.Rising.{Has, here, later}
 use Rattle.erd_check.proofs.Steps.{text_from_equal}
-use Rattle.erd_normal.specs.Rearranged.{is_id_text}
 use Rattle.erd_normal.proofs.lists.Matched.{Both, both, neither, Matched}
 use Rattle.erd_normal.proofs.lists.Paired.{Paired, none, more}
 use Rattle.erd_meaning.proofs.orders.Reordered.{Reordered, reordered_back, reordered_self, reordered-has}
@@ -32,21 +25,6 @@ alike_unasked ρ (number n) e h = h
 alike_unasked ρ (string s) e h = h
 alike_unasked ρ (array ds) e h = h
 alike_unasked ρ (object ms) e h = h
-
--- ---- texts
-
--- what is no `@id` and no reference stays
-pub alike_text : (ρ : List ℕ → List ℕ) (w : Want) (d e : Data) → is_id_text w ≡ false → Alike ρ (Some w) d e → as_str d ≡ as_str e
-alike_text ρ w null e not_id h = ap as_str h
-alike_text ρ w (boolean b) e not_id h = ap as_str h
-alike_text ρ w (number n) e not_id h = ap as_str h
-alike_text ρ w (string s) e not_id h = sym (ap as_str h ∙ ap (λ b. Some (cond b (ρ s) s)) not_id)
-alike_text ρ w (array ds) e not_id h = sym (ap as_str h.2)
-alike_text ρ w (object ms) e not_id h = sym (ap as_str h.1)
-
-pub alike_text_unasked : (ρ : List ℕ → List ℕ) (o : Option Want) (d e : Data) → ((w : Want) → o ≡ Some w → is_id_text w ≡ false) → Alike ρ o d e → as_str d ≡ as_str e
-alike_text_unasked ρ None d e not_id h = ap as_str (alike_unasked ρ d e h)
-alike_text_unasked ρ (Some w) d e not_id h = alike_text ρ w d e (not_id w refl) h
 
 -- ---- members
 
@@ -63,53 +41,6 @@ alike_member ρ s no_members ns h n = subst (λ x. Both (Alike ρ (want_of_name 
 alike_member ρ s (member k d ms) ns h n =
     subst (λ x. Both (Alike ρ (want_of_name s n)) (get_member n (member k d ms)) (get_member n x)) (sym h.2)
     (found_at ρ s n k d h.0 ms h.1 _ refl h.3 (alike_member ρ s ms h.1 h.4 n))
-
--- ---- classes
-
--- a scope in which `@type` is no `@id` and no reference
-abbrev TypeIsPlain : Scope → Type 0
-TypeIsPlain s = (v : Want) → want_of_name s (codes "@type") ≡ Some v → is_id_text v ≡ false
-
-type_plain : (s : Scope) → TypeIsPlain s
-type_plain scope.Nothing v e = cc
-type_plain (scope.Members r c) v e = let h : ClassText r ≡ v = cc in ap is_id_text (sym h)
-type_plain scope.Carried v e = let h : Carried ≡ v = cc in ap is_id_text (sym h)
-
-text_found : (R : Data → Data → Type 0) (o p : Option Data) → ((d e : Data) → R d e → as_str d ≡ as_str e) → Both R o p → option_and_then as_str o ≡ option_and_then as_str p
-text_found R None None same neither = refl
-text_found R None (Some e) same h = elim h [ ]
-text_found R (Some d) None same h = elim h [ ]
-text_found R (Some d) (Some e) same (both r) = same d e r
-
-pub alike_class : (ρ : List ℕ → List ℕ) (s : Scope) (r : Role) (ms ns : Members) → AlikeMembers ρ s ms ns → class_of_object r (object ms) ≡ class_of_object r (object ns)
-alike_class ρ s r ms ns h =
-    ap (option_and_then (class_in_role r))
-    (text_found (Alike ρ (want_of_name s (codes "@type"))) (get_member (codes "@type") ms) (get_member (codes "@type") ns)
-    (λ d e. alike_text_unasked ρ (want_of_name s (codes "@type")) d e (type_plain s))
-    (alike_member ρ s ms ns h (codes "@type")))
-
-pub alike_class_of : (ρ : List ℕ → List ℕ) (w : Want) (r : Role) (d e : Data) → Alike ρ (Some w) d e → class_of_object r d ≡ class_of_object r e
-alike_class_of ρ w r null e h = ap (class_of_object r) h
-alike_class_of ρ w r (boolean b) e h = ap (class_of_object r) h
-alike_class_of ρ w r (number n) e h = ap (class_of_object r) h
-alike_class_of ρ w r (string s) e h = sym (ap (class_of_object r) h)
-alike_class_of ρ w r (array ds) e h = sym (ap (class_of_object r) h.2)
-alike_class_of ρ w r (object ms) e h = alike_class ρ (scope_inside w (object ms)) r ms h.0 h.2 ∙ sym (ap (class_of_object r) h.1)
-
--- the same is asked of the members of values that are alike
-scope_alike : (ρ : List ℕ → List ℕ) (s : Scope) (w : Want) (ms ns : Members) → AlikeMembers ρ s ms ns → scope_of_object w (object ms) ≡ scope_of_object w (object ns)
-scope_alike ρ s (Object r) ms ns h = ap (scope.Members r) (alike_class ρ s r ms ns h)
-scope_alike ρ s (Member kind.Label required) ms ns h = ap (scope.Members role.Label) (alike_class ρ s role.Label ms ns h)
-scope_alike ρ s Carried ms ns h = refl
-scope_alike ρ s w ms ns h = refl
-
-pub alike_scope : (ρ : List ℕ → List ℕ) (w : Want) (d e : Data) → Alike ρ (Some w) d e → scope_inside w d ≡ scope_inside w e
-alike_scope ρ w null e h = ap (scope_inside w) h
-alike_scope ρ w (boolean b) e h = ap (scope_inside w) h
-alike_scope ρ w (number n) e h = ap (scope_inside w) h
-alike_scope ρ w (string s) e h = sym (ap (scope_inside w) h)
-alike_scope ρ w (array ds) e h = sym (ap (scope_inside w) h.2)
-alike_scope ρ w (object ms) e h = scope_alike ρ (scope_inside w (object ms)) w ms h.0 h.2 ∙ sym (ap (scope_inside w) h.1)
 
 -- ---- entries
 

@@ -12,8 +12,8 @@ use Rattle.erd_tables.specs.declared.class.Role.TheVariants as role
 use Rattle.erd_tables.specs.declared.member.MemberKind.TheVariants as kind
 use Rattle.erd_tables.specs.declared.place.Step.TheVariants.{At}
 use Rattle.erd_check.specs.Faults.{NoneOf, ShapeFault}
-use Rattle.erd_check.specs.Values.{entries_at, entries_of, list_of_items}
-use Rattle.erd_check.specs.Wants.{asked, is_table_set, class_of_object, entry_want, is_compared_set, member_want, scope_inside, want_of_name}
+use Rattle.erd_check.specs.Values.{entries_at, entries_of}
+use Rattle.erd_check.specs.Wants.{asked, class_of_object, entry_want, is_compared_set, member_want, scope_inside, want_of_name}
 use Rattle.erd_check.specs.declared.want.Scope.TheVariants as scope
 use Rattle.erd_check.specs.declared.want.Want.{Want}
 use Rattle.erd_check.specs.declared.want.Want.TheVariants.{ClassText, Member, Object}
@@ -23,11 +23,9 @@ use Rattle.erd_check.proofs.Rising.{Has}
 use Rattle.erd_check.proofs.Shapes.{AsksObject, Within, Within-step, member_within, of_label, of_role}
 use Rattle.erd_check.proofs.TableKinds.{want_by_kind}
 use Rattle.erd_normal.specs.Rearranged.{is_id_text}
-use Rattle.erd_normal.proofs.lists.Matched.{Both, both, neither, Matched, matched_none, matched_within, paired_within}
-use Rattle.erd_normal.proofs.lists.Paired.{Paired, none}
+use Rattle.erd_normal.proofs.lists.Matched.{Both, both, neither, Matched, matched_none, matched_within}
 use Rattle.erd_normal.proofs.rearranged.Alike.{Alike}
-use Rattle.erd_normal.proofs.rearranged.PlainValues.{in_order}
-use Rattle.erd_normal.proofs.rearranged.AlikeParts.{alike_array, alike_entries, alike_member}
+use Rattle.erd_normal.proofs.rearranged.AlikeParts.{alike_array, alike_member}
 
 -- ---- arrays
 
@@ -41,17 +39,6 @@ module _ (ρ : List ℕ → List ℕ) where
   alike_listed w (array ds) e h =
       subst (λ x. Matched (Alike ρ (entry_want w)) (entries_of (array ds)) (entries_of x)) (sym h.2) (alike_array ρ w ds h.1 (subst (Alike ρ (Some w) (array ds)) h.2 h))
   alike_listed w (object ms) e h = subst (λ x. Matched (Alike ρ (entry_want w)) [] (entries_of x)) (sym h.1) (matched_none _)
-
-  -- the entries of a list are alike one by one
-  pub alike_ordered : (w : Want) (d e : Data) → is_table_set w ≡ false → Alike ρ (Some w) d e → Paired (Alike ρ (entry_want w)) (entries_of d) (entries_of e)
-  alike_ordered w null e list h = subst (λ x. Paired (Alike ρ (entry_want w)) [] (entries_of x)) h none
-  alike_ordered w (boolean b) e list h = subst (λ x. Paired (Alike ρ (entry_want w)) [] (entries_of x)) h none
-  alike_ordered w (number n) e list h = subst (λ x. Paired (Alike ρ (entry_want w)) [] (entries_of x)) h none
-  alike_ordered w (string s) e list h = subst (λ x. Paired (Alike ρ (entry_want w)) [] (entries_of x)) (sym h) none
-  alike_ordered w (array ds) e list h =
-      subst (λ x. Paired (Alike ρ (entry_want w)) (entries_of (array ds)) (entries_of x)) (sym h.2)
-      (subst (Paired (Alike ρ (entry_want w)) (list_of_items ds)) (in_order (is_table_set w) h.0 (list_of_items h.1) list h.4) (alike_entries ρ (entry_want w) ds h.0 h.3))
-  alike_ordered w (object ms) e list h = subst (λ x. Paired (Alike ρ (entry_want w)) [] (entries_of x)) (sym h.1) none
 
 -- ---- values of a report
 
@@ -76,20 +63,6 @@ module _ (ρ : List ℕ → List ℕ) (t : Data) where
   related_entries w v d e asks apart r =
       matched_within (Related ρ t v) (λ x y h k. record { inside = entry_inside w v d asks apart r.inside x h; is_alike = k })
       (subst (λ o. Matched (Alike ρ o) (entries_of d) (entries_of e)) asks (alike_listed ρ w d e r.is_alike))
-
-  -- the entries of lists, one by one
-  pub related_ordered : (w v : Want) (d e : Data) → entry_want w ≡ Some v → is_compared_set w ≡ false → is_table_set w ≡ false → Related ρ t w d e → Paired (Related ρ t v) (entries_of d) (entries_of e)
-  related_ordered w v d e asks apart list r =
-      paired_within (Related ρ t v) (λ x y h k. record { inside = entry_inside w v d asks apart r.inside x h; is_alike = k })
-      (subst (λ o. Paired (Alike ρ o) (entries_of d) (entries_of e)) asks (alike_ordered ρ w d e list r.is_alike))
-
-  -- of a list that may be absent
-  pub related_list : (w v : Want) (o p : Option Data) → entry_want w ≡ Some v → is_compared_set w ≡ false → is_table_set w ≡ false → Both (Related ρ t w) o p
-      → Paired (Related ρ t v) (option_map_or entries_of o []) (option_map_or entries_of p [])
-  related_list w v None None asks apart list neither = none
-  related_list w v (Some d) (Some e) asks apart list (both r) = related_ordered w v d e asks apart list r
-  related_list w v None (Some e) asks apart list k = elim k [ ]
-  related_list w v (Some d) None asks apart list k = elim k [ ]
 
   -- of an array that may be absent
   pub related_listed : (w v : Want) (o p : Option Data) → entry_want w ≡ Some v → is_compared_set w ≡ false → Both (Related ρ t w) o p

@@ -1,7 +1,6 @@
--- The objects of a report and those of one that is alike to it: those of each family are matched, related objects have one key, and `@id`s that are
--- one but for the function of texts.
-use Rattle.std.proofs.Common.{◌≡◌, ℕ, List, [], map, flat_map, Bool, false, Option, Some, None, option_and_then, option_map, codes, refl, ap, ◌∙◌, subst}
-use Rattle.std.specs.Option.{option_map_or}
+-- The objects of a report and those of one that is alike to it: those of each family are matched, and related objects have `@id`s that are one but for
+-- the function of texts.
+use Rattle.std.proofs.Common.{◌≡◌, ℕ, List, flat_map, Bool, false, Option, Some, None, option_and_then, option_map, codes, refl, ap, ◌∙◌, subst}
 use Rattle.std.specs.Str.{bytes_eq}
 use Rattle.serde_json.specs.Data.{Data}
 use Rattle.serde_json.specs.Find.{as_str, get}
@@ -13,54 +12,18 @@ use Rattle.erd_tables.specs.declared.class.Role.{Role}
 use Rattle.erd_tables.specs.declared.class.Role.TheVariants as role
 use Rattle.erd_tables.specs.declared.member.MemberKind.TheVariants as kind
 use Rattle.erd_check.specs.Faults.{NoneOf, ShapeFault}
-use Rattle.erd_check.specs.Values.{entries_at, entries_of}
+use Rattle.erd_check.specs.Values.{entries_at}
 use Rattle.erd_check.specs.declared.want.Want.TheVariants.{Member, Object}
 use Rattle.erd_check.proofs.ObjectsAt.{ObjectIn, election_class, object_in, report_class}
 use Rattle.erd_check.proofs.Shapes.{Within-root}
 use Rattle.erd_check.proofs.TableKinds.{want_by_kind}
-use Rattle.erd_meaning.specs.Keys.{Preference, key_of}
-use Rattle.erd_meaning.specs.Objects.{contests, elections, id_of, objects, placed_entries, report_of}
-use Rattle.erd_meaning.proofs.accepted.Skeleton.{values-placed_entries, values-placed_flat}
+use Rattle.erd_meaning.specs.Objects.{id_of}
 use Rattle.erd_meaning.proofs.accepted.Standing.{contest_selections}
-use Rattle.erd_normal.proofs.built.LeastKeys.{key_of_identifiers-reordered, kind_of_identifiers}
 use Rattle.erd_normal.proofs.built.NormalGets.{kind_of_family_id}
-use Rattle.erd_normal.proofs.lists.Matched.{Both, both, neither, Matched, matched_equal, matched_flat}
-use Rattle.erd_meaning.proofs.orders.Reordered.{Reordered, no_entry}
+use Rattle.erd_normal.proofs.lists.Matched.{Both, both, neither, Matched, matched_flat}
 use Rattle.erd_normal.proofs.rearranged.Alike.{Alike}
-use Rattle.erd_normal.proofs.rearranged.PlainValues.{alike_plain}
-use Rattle.erd_normal.proofs.rearranged.RelatedMembers.{Related, alike_listed, related_array, related_id_text, related_in, related_listed}
-
--- ---- values without their places
-
--- the values of the objects of a family
-abbrev pub family_values : Family → Data → List Data
-family_values family.Unit t = entries_at (codes "GpUnit") t
-family_values family.Party t = entries_at (codes "Party") t
-family_values family.Person t = entries_at (codes "Person") t
-family_values family.Office t = entries_at (codes "Office") t
-family_values family.Header t = entries_at (codes "Header") t
-family_values family.Candidate t = flat_map (entries_at (codes "Candidate")) (entries_at (codes "Election") t)
-family_values family.Contest t = flat_map (entries_at (codes "Contest")) (entries_at (codes "Election") t)
-family_values family.Style t = flat_map (entries_at (codes "BallotStyle")) (entries_at (codes "Election") t)
-family_values family.Selection t = flat_map (entries_at (codes "ContestSelection")) (flat_map (entries_at (codes "Contest")) (entries_at (codes "Election") t))
-
-pub election_values_are : (t : Data) → map (λ o. o.value) (elections t) ≡ entries_at (codes "Election") t
-election_values_are t = values-placed_entries (codes "Election") (report_of t)
-
-values_in_elections : (t : Data) (name : List ℕ) → map (λ o. o.value) (flat_map (placed_entries name) (elections t)) ≡ flat_map (entries_at name) (entries_at (codes "Election") t)
-values_in_elections t name = values-placed_flat name (elections t) ∙ ap (flat_map (entries_at name)) (election_values_are t)
-
-pub object_values : (f : Family) (t : Data) → map (λ o. o.value) (objects f t) ≡ family_values f t
-object_values family.Unit t = values-placed_entries (codes "GpUnit") (report_of t)
-object_values family.Party t = values-placed_entries (codes "Party") (report_of t)
-object_values family.Person t = values-placed_entries (codes "Person") (report_of t)
-object_values family.Office t = values-placed_entries (codes "Office") (report_of t)
-object_values family.Header t = values-placed_entries (codes "Header") (report_of t)
-object_values family.Candidate t = values_in_elections t (codes "Candidate")
-object_values family.Contest t = values_in_elections t (codes "Contest")
-object_values family.Style t = values_in_elections t (codes "BallotStyle")
-object_values family.Selection t =
-    values-placed_flat (codes "ContestSelection") (contests t) ∙ ap (flat_map (entries_at (codes "ContestSelection"))) (values_in_elections t (codes "Contest"))
+use Rattle.erd_normal.proofs.rearranged.RelatedMembers.{Related, related_array, related_id_text, related_in, related_listed}
+use Rattle.erd_normal.proofs.same.FamilyValues.{family_values}
 
 -- ---- objects that are related
 
@@ -68,35 +31,7 @@ module _ (ρ : List ℕ → List ℕ) (t : Data) (clean : NoneOf (ShapeFault t))
   abbrev RelatedIn : Role → Data → Data → Type 0
   RelatedIn r = Related ρ t (Object r)
 
-  identified : (required : Bool) (o p : Option Data) → Both (Related ρ t (Member kind.Identifiers required)) o p
-      → Reordered (option_map_or entries_of o []) (option_map_or entries_of p [])
-  identified required None None neither = no_entry
-  identified required (Some d) (Some e) (both r) =
-      matched_equal (λ x y h. alike_plain ρ (Object role.Identifier) x y refl h) (alike_listed ρ (Member kind.Identifiers required) d e r.is_alike)
-  identified required None (Some e) h = elim h [ ]
-  identified required (Some d) None h = elim h [ ]
-
-  -- related objects of a family have one key
-  pub related_key : (π : Preference) (f : Family) (d e : Data) → RelatedIn (role.OfFamily f) d e → key_of π d ≡ key_of π e
-  related_key π f d e r =
-      let o : ObjectIn t (role.OfFamily f) d = object_in t clean (role.OfFamily f) d r.inside in
-      let name = codes "ExternalIdentifier" in
-      key_of_identifiers-reordered π (entries_at name d) (entries_at name e)
-      (identified (is_required o.class name) (get name d) (get name e)
-      (subst (λ w. Both (Related ρ t w) (get name d) (get name e)) (want_by_kind o.class name kind.Identifiers (kind_of_identifiers o.class f o.role) refl)
-      (related_in ρ t clean (role.OfFamily f) d e o r name refl)))
-
-  -- and so have related elections, if they have one
-  pub related_election_key : (π : Preference) (d e : Data) → RelatedIn role.Election d e → key_of π d ≡ key_of π e
-  related_election_key π d e r =
-      let o : ObjectIn t role.Election d = object_in t clean role.Election d r.inside in
-      let name = codes "ExternalIdentifier" in
-      key_of_identifiers-reordered π (entries_at name d) (entries_at name e)
-      (identified (is_required o.class name) (get name d) (get name e)
-      (subst (λ w. Both (Related ρ t w) (get name d) (get name e)) (want_by_kind o.class name kind.Identifiers (ap (λ c. kind_of_member c name) (election_class o.class o.role)) refl)
-      (related_in ρ t clean role.Election d e o r name refl)))
-
-  -- and the same `@id` but for the function of texts
+  -- related objects of a family have the same `@id` but for the function of texts
   ids_found : (required : Bool) (o p : Option Data) → Both (Related ρ t (Member kind.Identity required)) o p → option_and_then as_str p ≡ option_map ρ (option_and_then as_str o)
   ids_found required None None neither = refl
   ids_found required (Some d) (Some e) (both r) = related_id_text ρ (Member kind.Identity required) d e refl r.is_alike

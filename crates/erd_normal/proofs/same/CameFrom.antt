@@ -14,7 +14,7 @@ use Rattle.erd_check.specs.declared.want.Want.TheVariants.{Object}
 use Rattle.erd_check.proofs.Entries.{list_of_items-place}
 use Rattle.erd_check.proofs.Shapes.{Within, Within-root, Within-step, within-tree}
 use Rattle.erd_normal.proofs.lists.Matched.{Matched, matched_back}
-use Rattle.erd_normal.proofs.rearranged.AskedBack.{entry_has}
+use Rattle.erd_normal.proofs.same.Lists.{entry_has}
 use Rattle.erd_normal.specs.SaysTheSame.{Sides, Same, an_object, a_list, a_set, SameMembers}
 use Rattle.erd_normal.proofs.same.Lookups.{Aligned, both_there, not_both, lookups}
 use Rattle.erd_normal.proofs.same.Places.{no_reference_absent}

@@ -28,9 +28,9 @@ use Rattle.erd_check.proofs.Rising.{Has}
 use Rattle.erd_check.proofs.TableKinds.{kind_of_id, kind_of_name}
 use Rattle.erd_meaning.proofs.accepted.Standing.{flat-has}
 use Rattle.erd_normal.proofs.built.NormalGets.{class_has_role}
-use Rattle.erd_normal.proofs.rearranged.AskedBack.{entry_has}
-use Rattle.erd_normal.proofs.rearranged.RelatedObjects.{family_values}
-use Rattle.erd_normal.proofs.rearranged.SharedIds.{IsId}
+use Rattle.erd_normal.proofs.same.FamilyValues.{family_values}
+use Rattle.erd_normal.proofs.same.Lists.{entry_has}
+use Rattle.erd_normal.proofs.same.SharedIds.{IsId}
 
 -- ---- where the objects of a family stand
 

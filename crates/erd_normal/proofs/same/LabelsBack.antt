@@ -17,7 +17,6 @@ use Rattle.erd_check.proofs.Exact.{text_exact}
 use Rattle.erd_meaning.specs.Meaning.{Label, JsonMap, JsonSet, translated, untranslated}
 use Rattle.erd_meaning.specs.Records.{json_set, label_beside_text, label_of}
 use Rattle.erd_meaning.proofs.orders.Reordered.{Reordered}
-use Rattle.erd_normal.proofs.rearranged.PlainValues.{is_plain, plain_of_kind}
 use Rattle.erd_normal.specs.SaysTheSame.{Sides, Same, not_asked, a_null, a_flag, a_number, a_text, a_list, a_set, an_object, SameEntries, no_entry, one_entry, SameMembers, no_member, in_both}
 use Rattle.erd_normal.proofs.same.ByKeys.{ApartBy}
 use Rattle.erd_normal.proofs.same.Labels.{asked_beside, in_label, plain_beside}
@@ -25,7 +24,7 @@ use Rattle.erd_normal.proofs.same.Lists.{reordered_permuted}
 use Rattle.erd_normal.proofs.same.Lookups.{Aligned, both_there, not_both, lacks_none}
 use Rattle.erd_normal.proofs.same.Merged.{merged}
 use Rattle.erd_normal.proofs.same.SetsBack.{AreSound, itself, json_sets_reordered}
-use Rattle.erd_normal.proofs.same.Steady.{AllIn, AllPlain, plain_entry, plain_list, plain_no_id, plain_scope}
+use Rattle.erd_normal.proofs.same.Steady.{AllIn, AllPlain, plain_entry, plain_list, plain_no_id, plain_scope, is_plain, plain_of_kind}
 
 -- what is plain says what it says, whatever the functions of texts
 mutual

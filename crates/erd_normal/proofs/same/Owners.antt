@@ -26,9 +26,8 @@ use Rattle.erd_meaning.specs.SelectionNames.{key_named}
 use Rattle.erd_meaning.proofs.accepted.Phases.{no_shape_fault}
 use Rattle.erd_normal.proofs.built.NormalGets.{kind_of_family_id}
 use Rattle.erd_normal.proofs.lists.Matched.{AtMostOne, Both, apart_distinct, matched_find, one_if_apart, said_same}
-use Rattle.erd_normal.proofs.rearranged.RelatedObjects.{family_values}
-use Rattle.erd_normal.proofs.rearranged.RelatedOwners.{owner_found}
-use Rattle.erd_normal.proofs.rearranged.SharedIds.{by_one_id, has_id-is, have_one_id, ids_distinct}
+use Rattle.erd_normal.proofs.same.FamilyValues.{family_values}
+use Rattle.erd_normal.proofs.same.SharedIds.{owner_found, by_one_id, has_id-is, have_one_id, ids_distinct}
 use Rattle.erd_normal.specs.SaysTheSame.{Sides, StandsFor, IsUnused, MayBeAbsent, an_empty_array, of_the_envelope, an_unused_id, is_array_kind, is_envelope, Same, a_null, a_flag, a_number, a_text, an_id, a_list, a_set, an_object}
 use Rattle.erd_normal.specs.SameLaws.{IsUsed, ReferencesNameTheSame}
 use Rattle.erd_normal.proofs.same.Lookups.{Aligned, both_there, not_both, MayLack}

@@ -20,9 +20,8 @@ use Rattle.erd_check.specs.declared.want.Scope.TheVariants as scope
 use Rattle.erd_check.specs.declared.want.Want.{Want}
 use Rattle.erd_check.specs.declared.want.Want.TheVariants.{ClassText, Member, Object, Reference}
 use Rattle.erd_check.proofs.Exact.{both_true, text_exact}
-use Rattle.erd_normal.proofs.rearranged.PlainValues.{is_plain, is_plain_kind}
 use Rattle.erd_normal.specs.SaysTheSame.{MayBeAbsent, an_empty_array, of_the_envelope, an_unused_id, is_envelope}
-use Rattle.erd_normal.proofs.same.Steady.{plain_entry, plain_scope}
+use Rattle.erd_normal.proofs.same.Steady.{plain_entry, plain_scope, is_plain, is_plain_kind}
 
 -- ---- no reference is asked for in what is plain, nor in identifiers
 
@@ -61,7 +60,7 @@ quiet_name : (w : Want) (ms : Members) → is_quiet w ≡ true → (n : List ℕ
 quiet_name (Member kind.Identifiers required) ms h n v e = cc
 quiet_name w ms h n v e = quiet_plain v (plain_scope w ms h n v e)
 
-quiet_step : (w : Want) (d : Data) (s : Step) (c : Asked) → is_quiet w ≡ true → asked_inside w d s ≡ Some c → is_quiet c.want ≡ true
+pub quiet_step : (w : Want) (d : Data) (s : Step) (c : Asked) → is_quiet w ≡ true → asked_inside w d s ≡ Some c → is_quiet c.want ≡ true
 quiet_step w (object ms) (Name n) c h e = asked_some asked (λ v d. refl) (want_of_name (scope_inside w (object ms)) n) (get_member n ms) c (λ v asks. quiet_name w ms h n v asks) e
 quiet_step w (array ds) (At i) c h e =
     asked_some (λ v d. record { want = v; value = d; repeated = is_compared_set w && is_repeated ds i d }) (λ v d. refl) (entry_want w) (get_item i ds) c (λ v asks. quiet_entry w h v asks) e

@@ -18,7 +18,7 @@ use Rattle.erd_normal.specs.Rearranged.{Renaming, IsRenaming, exchanged, is_id_t
 use Rattle.erd_normal.proofs.rearranged.AlikeChanges.{as_it_is, exchanged_alike, renamed_alike}
 use Rattle.erd_normal.specs.SameLaws.{ExchangedSaysTheSame}
 use Rattle.erd_normal.specs.SaysTheSame.{SaysTheSame}
-use Rattle.erd_normal.proofs.same.FromAlike.{alike_says}
+use Rattle.erd_normal.proofs.same.FromAlike.{ComesBack, alike_says}
 
 pub exchanged_says : ExchangedSaysTheSame
 exchanged_says t p i j tree h = alike_says as_it_is as_it_is t (exchanged p i j t) tree (record { text = λ a s inside is e. refl }) (exchanged_alike t p i j h)
@@ -56,7 +56,7 @@ firsts_flipped pairs p h = has_mapped (λ (q : List ℕ × List ℕ). q.0) (turn
 equal_texts : (a b : List ℕ) → a ≡ b → bytes_eq a b ≡ true
 equal_texts a b e = subst (λ x. bytes_eq a x ≡ true) e (text_itself a)
 
-comes_back : (t : Data) (pairs : Renaming) → IsRenaming t pairs → (s : List ℕ) → Contains (map (λ (pair : List ℕ × List ℕ). pair.0) pairs) s → replaced_text (turned_back pairs) (replaced_text pairs s) ≡ s
+pub comes_back : (t : Data) (pairs : Renaming) → IsRenaming t pairs → (s : List ℕ) → Contains (map (λ (pair : List ℕ × List ℕ). pair.0) pairs) s → replaced_text (turned_back pairs) (replaced_text pairs s) ≡ s
 comes_back t pairs h s among =
     let p = replacing_pair pairs s (Has-Contains (map (λ (pair : List ℕ × List ℕ). pair.0) pairs) s among) in
     let q = replacing_pair (turned_back pairs) (replaced_text pairs s) (subst (λ x. Has (map (λ (z : List ℕ × List ℕ). z.0) (turned_back pairs)) x) (sym p.new) (firsts_flipped pairs p.pair p.stands)) in
@@ -71,7 +71,9 @@ CoversTexts t pairs =
     (p : List Step) (a : Asked) (s : List ℕ) → asked_at t p ≡ Some a → IsTrue (is_id_text a.want) → a.value ≡ string s
     → Contains (map (λ (pair : List ℕ × List ℕ). pair.0) pairs) s
 
+pub texts_come_back : (t : Data) (pairs : Renaming) → CoversTexts t pairs → IsRenaming t pairs → ComesBack (replaced_text pairs) (replaced_text (turned_back pairs)) t
+texts_come_back t pairs covers h = record { text = λ a s inside is e. comes_back t pairs h s (covers inside.place a s inside.is is e) }
+
 pub renamed_says : (t : Data) (pairs : Renaming) → IsTree t → CoversTexts t pairs → IsRenaming t pairs → SaysTheSame t (renamed pairs t)
 renamed_says t pairs tree covers h =
-    alike_says (replaced_text pairs) (replaced_text (turned_back pairs)) t (renamed pairs t) tree
-    (record { text = λ a s inside is e. comes_back t pairs h s (covers inside.place a s inside.is is e) }) (renamed_alike pairs (Some (Object role.Report)) t)
+    alike_says (replaced_text pairs) (replaced_text (turned_back pairs)) t (renamed pairs t) tree (texts_come_back t pairs covers h) (renamed_alike pairs (Some (Object role.Report)) t)

@@ -34,14 +34,13 @@ use Rattle.erd_meaning.proofs.orders.Reordered.{Reordered, reordered_back, reord
 use Rattle.erd_normal.proofs.built.LeastKeys.{key_of_identifiers-reordered, kind_of_identifiers}
 use Rattle.erd_normal.proofs.lists.Matched.{Matched, matched_equal, matched_flat, matched_none}
 use Rattle.erd_normal.proofs.lists.Paired.{Paired, none, more}
-use Rattle.erd_normal.proofs.rearranged.RelatedObjects.{family_values}
-use Rattle.erd_normal.proofs.rearranged.PlainValues.{is_plain}
+use Rattle.erd_normal.proofs.same.FamilyValues.{family_values}
 use Rattle.erd_normal.specs.SaysTheSame.{Sides, MayBeAbsent, an_empty_array, of_the_envelope, an_unused_id, is_envelope, Same, a_null, a_flag, a_number, a_text, an_id, a_list, a_set, an_object}
 use Rattle.erd_normal.proofs.same.Back.{entries_paired}
 use Rattle.erd_normal.proofs.same.FromAlike.{Stands}
 use Rattle.erd_normal.proofs.same.Lists.{follows, permuted_reordered}
 use Rattle.erd_normal.proofs.same.Lookups.{Aligned, both_there, not_both, MayLack, lookups, of_object}
-use Rattle.erd_normal.proofs.same.Steady.{steady_same}
+use Rattle.erd_normal.proofs.same.Steady.{steady_same, is_plain}
 use Rattle.erd_normal.proofs.same.Types.{scope_same}
 
 -- ---- lists

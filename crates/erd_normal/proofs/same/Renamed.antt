@@ -12,19 +12,19 @@ use Rattle.erd_meaning.specs.Keys.{Preference}
 use Rattle.erd_meaning.specs.Objects.{id_of, objects}
 use Rattle.erd_meaning.proofs.accepted.References.{Contains-Has, unrepeated_reference}
 use Rattle.erd_normal.specs.Rearranged.{IsRenaming, Renaming, is_id_text}
+use Rattle.erd_normal.proofs.same.FamilyValues.{value_placed}
 use Rattle.erd_normal.proofs.same.Refers.{reference_refers}
-use Rattle.erd_normal.proofs.rearranged.RelatedOwners.{owned_id}
-use Rattle.erd_normal.proofs.rearranged.SharedIds.{IsId, value_placed}
+use Rattle.erd_normal.proofs.same.SharedIds.{owned_id, IsId}
 use Rattle.erd_normal.specs.SameLaws.{RenamedSaysTheSame}
 use Rattle.erd_normal.proofs.same.IdsOfObjects.{asked_id}
 use Rattle.erd_normal.proofs.same.Rearrangements.{CoversTexts, renamed_says}
 
-module _ (π : Preference) (t : Data) (accepted : IsAccepted π t) (pairs : Renaming) (renames : IsRenaming t pairs) where
-  id_covered : (s : List ℕ) → IsId t s → Contains (map (λ (pair : List ℕ × List ℕ). pair.0) pairs) s
-  id_covered s is =
-      let o = value_placed is.family t is.value is.stands in
-      renames.all is.family o.0 s (Contains-Has (objects is.family t) o.0 o.1) (ap id_of o.2 ∙ is.is)
+pub id_covered : (t : Data) (pairs : Renaming) → IsRenaming t pairs → (s : List ℕ) → IsId t s → Contains (map (λ (pair : List ℕ × List ℕ). pair.0) pairs) s
+id_covered t pairs renames s is =
+    let o = value_placed is.family t is.value is.stands in
+    renames.all is.family o.0 s (Contains-Has (objects is.family t) o.0 o.1) (ap id_of o.2 ∙ is.is)
 
+module _ (π : Preference) (t : Data) (accepted : IsAccepted π t) (pairs : Renaming) (renames : IsRenaming t pairs) where
   reference_covered : (f : Family) (a : Asked) (s : List ℕ) → Within t a → a.want ≡ Reference f → a.value ≡ string s → IsId t s
   reference_covered f a s inside want text =
       let here : Within t (record { want = Reference f; value = string s; repeated = a.repeated }) =
@@ -33,12 +33,12 @@ module _ (π : Preference) (t : Data) (accepted : IsAccepted π t) (pairs : Rena
       let same : s ≡ x.0 = let e = x.1 in cc in
       subst (IsId t) (sym same) (owned_id t f x.0 x.2.0 x.2.1)
 
-  covers : CoversTexts t pairs
+  pub covers : CoversTexts t pairs
   covers p a s stands is text = at a.want refl is
     where
       at : (w : Want) → a.want ≡ w → is_id_text w ≡ true → Contains (map (λ (pair : List ℕ × List ℕ). pair.0) pairs) s
-      at (Reference f) want h = id_covered s (reference_covered f a s (record { place = p; is = stands }) want text)
-      at (Member kind.Identity required) want h = id_covered s (asked_id t p a required s stands want text)
+      at (Reference f) want h = id_covered t pairs renames s (reference_covered f a s (record { place = p; is = stands }) want text)
+      at (Member kind.Identity required) want h = id_covered t pairs renames s (asked_id t p a required s stands want text)
       at w want h = cc
 
 pub renamed_says_the_same : RenamedSaysTheSame

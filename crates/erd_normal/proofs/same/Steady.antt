@@ -18,11 +18,42 @@ use Rattle.erd_check.specs.declared.want.Want.TheVariants.{Carried, ClassText, M
 use Rattle.erd_check.proofs.TableKinds.{kind_of_class}
 use Rattle.erd_normal.specs.Rearranged.{is_id_text}
 use Rattle.erd_normal.proofs.built.NormalGets.{class_has_role}
-use Rattle.erd_normal.proofs.rearranged.PlainValues.{is_plain, is_plain_kind, plain_of_kind}
 use Rattle.erd_normal.specs.SaysTheSame.{Sides, MayBeAbsent, an_empty_array, of_the_envelope, an_unused_id, is_array_kind, is_envelope, Same, not_asked, a_null, a_flag, a_number, a_text, an_id, a_list, a_set, an_object, SameEntries, no_entry, one_entry, SameMembers, no_member, in_both, left_only, right_only}
 
+-- ---- what is plain
+
+-- a kind of member with no identity, reference or set in it
+abbrev pub is_plain_kind : MemberKind → Bool
+is_plain_kind kind.Identity = false
+is_plain_kind kind.Label = false
+is_plain_kind (kind.One f) = false
+is_plain_kind (kind.Many f) = false
+is_plain_kind kind.Identifiers = false
+is_plain_kind kind.Languages = false
+is_plain_kind (kind.Keyed f) = false
+is_plain_kind kind.Elections = false
+is_plain_kind kind.Content = false
+is_plain_kind kind.Ordered = false
+is_plain_kind k = true
+
+abbrev pub is_plain : Want → Bool
+is_plain (Object role.Identifier) = true
+is_plain (Object role.Language) = true
+is_plain (Object r) = false
+is_plain (Reference f) = false
+is_plain (Member k required) = is_plain_kind k
+is_plain w = true
+
+pub plain_of_kind : (k : MemberKind) (required : Bool) → is_plain_kind k ≡ true → is_plain (want_of_kind k required) ≡ true
+plain_of_kind (kind.One f) required e = e
+plain_of_kind kind.Carried required e = refl
+plain_of_kind k required e = e
+
+-- all that is asked here is plain
 abbrev pub AllPlain : Option Want → Type 0
 AllPlain o = (v : Want) → o ≡ Some v → is_plain v ≡ true
+
+-- ---- what is steady
 
 -- nothing in this scope may be absent
 abbrev Stays : Scope → Type 0

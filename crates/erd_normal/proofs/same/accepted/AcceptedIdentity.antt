@@ -29,9 +29,7 @@ use Rattle.erd_normal.specs.code.NormalTree.{by_key}
 use Rattle.erd_meaning.proofs.accepted.DistinctKeys.{values_distinct}
 use Rattle.erd_normal.proofs.canonical.ElectionsApart.{election_values, none_keyless, one_election}
 use Rattle.erd_normal.proofs.lists.Matched.{IsEven, Matched, distinct_matched, even_order, matched_back, matched_within}
-use Rattle.erd_normal.proofs.rearranged.RearrangedIdentity.{not_before_itself}
-use Rattle.erd_normal.proofs.rearranged.RelatedObjects.{election_values_are, family_values, object_values}
-use Rattle.erd_normal.proofs.rearranged.SharedIds.{placed_value, value_placed}
+use Rattle.erd_normal.proofs.same.FamilyValues.{not_before_itself, election_values_are, family_values, object_values, placed_value, value_placed}
 use Rattle.erd_normal.specs.SameLaws.{HasDistinctIds}
 use Rattle.erd_normal.specs.SaysTheSame.{Sides}
 use Rattle.erd_normal.proofs.same.Related.{Related, elections_matched, family_matched, related_election_key, related_key}

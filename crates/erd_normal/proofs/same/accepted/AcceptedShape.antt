@@ -4,7 +4,7 @@ use Rattle.std.specs.List.{list_any}
 use Rattle.std.specs.Option.{option_map_or}
 use Rattle.std.specs.Prelude.{IsTrue, IsSomeAnd, ◌==◌}
 use Rattle.std.specs.Str.{bytes_eq}
-use Rattle.serde_json.specs.Data.{Data, null, number, string, array, object, Members}
+use Rattle.serde_json.specs.Data.{Data, string, array, object, Members}
 use Rattle.serde_json.specs.Find.{as_bool, as_number, get_member, is_float}
 use Rattle.erd_tables.specs.Classes.{class_in_role}
 use Rattle.erd_tables.specs.declared.class.Role.TheVariants as role
@@ -131,7 +131,7 @@ and_clear : (a b : Bool) → (a ≡ true → b ≡ false) → a && b ≡ false
 and_clear true b h = h refl
 and_clear false b h = refl
 
-module _ (m : Sides) (left_tree : IsTree m.left) (right_tree : IsTree m.right) (π : Preference) (accepted : IsAccepted π m.left) (sound : HasSoundEnvelope m.right) where
+module _ (m : Sides) (left_tree : IsTree m.left) (right_tree : IsTree m.right) (π : Preference) (accepted : IsAccepted π m.left) where
   clean : NoneOf (ShapeFault m.left)
   clean = no_shape_fault π m.left accepted
 
@@ -165,7 +165,7 @@ module _ (m : Sides) (left_tree : IsTree m.left) (right_tree : IsTree m.right) (
   same_asked : (a : Asked) (w : Want) → a.want ≡ w → (r : Reason) → is_shape_fault a r ≡ false → is_shape_fault (record { want = w; value = a.value; repeated = a.repeated }) r ≡ false
   same_asked a w e r h = subst (λ x. is_shape_fault (record { want = x; value = a.value; repeated = a.repeated }) r ≡ false) e h
 
-  no_fault_at : (b : Asked) (r : Reason) → Within m.right b → AskedAgain m b → is_shape_fault b r ≡ false
+  pub no_fault_at : (b : Asked) (r : Reason) → Within m.right b → AskedAgain m b → is_shape_fault b r ≡ false
   no_fault_at b r inside from = at (is_apart r) refl
     where
       apart : (r : Reason) → is_apart r ≡ true → is_shape_fault b r ≡ false
@@ -180,8 +180,8 @@ module _ (m : Sides) (left_tree : IsTree m.left) (right_tree : IsTree m.right) (
           ∙ same_asked from.of b.want from.want r (faultless m.left clean from.of r from.inside)
 
   -- no value of the right report has a fault of shape
-  pub same_shape : Same m (Some (Object role.Report)) m.left m.right → NoneOf (ShapeFault m.right)
-  same_shape same p r h = at (asked_at m.right p) refl h
+  pub same_shape : HasSoundEnvelope m.right → Same m (Some (Object role.Report)) m.left m.right → NoneOf (ShapeFault m.right)
+  same_shape sound same p r h = at (asked_at m.right p) refl h
     where
       no_fault : (b : Asked) → Within m.right b → AskedAgain m b ⊎ IsSound b → is_shape_fault b r ≡ false
       no_fault b inside (inl from) = no_fault_at b r inside from

@@ -27,8 +27,7 @@ use Rattle.erd_meaning.proofs.accepted.Phases.{no_reference_fault, no_shape_faul
 use Rattle.erd_meaning.proofs.orders.DistinctEntries.{unrepeated_distinct}
 use Rattle.erd_meaning.proofs.orders.Reordered.{reordered-has}
 use Rattle.erd_normal.proofs.lists.Matched.{Matched, distinct-paired, distinct-reordered, matched_back}
-use Rattle.erd_normal.proofs.rearranged.AskedBack.{entry_has}
-use Rattle.erd_normal.proofs.rearranged.PlainValues.{is_plain}
+use Rattle.erd_normal.proofs.same.Lists.{entry_has}
 use Rattle.erd_normal.proofs.texts.WholeEntries.{listed_items}
 use Rattle.erd_normal.proofs.throughout.UnrepeatedEntries.{AreUnlike, same_turned, unlike_unrepeated}
 use Rattle.erd_normal.specs.SameLaws.{HasSoundEnvelope}
@@ -36,7 +35,7 @@ use Rattle.erd_normal.specs.SaysTheSame.{Sides, Same, an_object, a_list, a_set, 
 use Rattle.erd_normal.proofs.same.InTurn.{id_text}
 use Rattle.erd_normal.proofs.same.Lookups.{Aligned, both_there, not_both, MayLack, lookups}
 use Rattle.erd_normal.proofs.same.Related.{entries_matched, matched_within_both}
-use Rattle.erd_normal.proofs.same.Steady.{steady_same}
+use Rattle.erd_normal.proofs.same.Steady.{steady_same, is_plain}
 use Rattle.erd_normal.proofs.same.Types.{scope_same}
 use Rattle.erd_normal.proofs.same.accepted.AbsentMembers.{IsSound, IsSoundInside, absent_sound}
 use Rattle.erd_normal.proofs.same.accepted.EnvelopePlaces.{envelope_sound}
@@ -48,6 +47,12 @@ pub record AskedAgain (m : Sides) (b : Asked) : Type 0 where
   pub want : of.want ≡ b.want
   pub same : Same m (Some b.want) of.value b.value
   pub first : b.repeated ≡ false
+
+-- the members of the envelope that stand in it have no fault
+abbrev pub HasSoundMembers : Asked → Type 0
+HasSoundMembers b =
+    (ns : Members) (n : List ℕ) (v : Want) (f : Data) → b.value ≡ object ns → want_of_name (scope_inside b.want (object ns)) n ≡ Some v → get_member n ns ≡ Some f
+    → is_envelope (scope_inside b.want (object ns)) n ≡ true → IsSoundInside (asked v f)
 
 -- ---- nothing is repeated in an accepted report
 
@@ -75,7 +80,7 @@ flag_clear : (set r : Bool) → ((set ≡ true) → r ≡ false) → set && r �
 flag_clear true r h = h refl
 flag_clear false r h = refl
 
-module _ (m : Sides) (left_tree : IsTree m.left) (right_tree : IsTree m.right) (π : Preference) (accepted : IsAccepted π m.left) (sound : HasSoundEnvelope m.right) where
+module _ (m : Sides) (left_tree : IsTree m.left) (right_tree : IsTree m.right) (π : Preference) (accepted : IsAccepted π m.left) where
   clean : NoneOf (ShapeFault m.left)
   clean = no_shape_fault π m.left accepted
 
@@ -203,11 +208,11 @@ module _ (m : Sides) (left_tree : IsTree m.left) (right_tree : IsTree m.right) (
         first = first_of_set a ds es v i f inside value asks tree matched found;
       }))
 
-  module _ (b : Asked) (b_inside : Within m.right b) where
+  module _ (b : Asked) (envelope : HasSoundMembers b) where
     envelope_here : (w : Want) (d : Data) (ns : Members) (n : List ℕ) (v : Want) (f : Data) → w ≡ b.want → d ≡ b.value → d ≡ object ns → want_of_name (scope_inside w (object ns)) n ≡ Some v → get_member n ns ≡ Some f
         → is_envelope (scope_inside w (object ns)) n ≡ true → IsSoundInside (asked v f)
     envelope_here w d ns n v f want value is asks found h =
-        envelope_sound m.right sound b ns n v f b_inside (sym value ∙ is)
+        envelope ns n v f (sym value ∙ is)
         (subst (λ x. want_of_name (scope_inside x (object ns)) n ≡ Some v) want asks) found (subst (λ x. is_envelope (scope_inside x (object ns)) n ≡ true) want h)
 
     one_step : (a : Asked) (e : Data) (s : Step) → e ≡ b.value → a.want ≡ b.want → Within m.left a → Same m (Some a.want) a.value e → IsTree e → (c : Asked) → asked_inside a.want e s ≡ Some c → Again c
@@ -226,27 +231,29 @@ module _ (m : Sides) (left_tree : IsTree m.left) (right_tree : IsTree m.right) (
 
   -- ---- all places
 
-  again_from : (ss : List Step) (b : Asked) → Within m.right b → AskedAgain m b → (c : Asked) → asked_from b ss ≡ Some c → AskedAgain m c ⊎ IsSound c
-  again_from [] b inside from c e = let one : b ≡ c = cc in inl (subst (AskedAgain m) one from)
-  again_from (s ∷ ss) b inside from c e = at (asked_inside b.want b.value s) refl (λ x k f g. again_from ss x k f c g)
-    where
-      rest : (x : Asked) → asked_inside b.want b.value s ≡ Some x → asked_from x ss ≡ Some c
-      rest x found = ap (option_and_then (λ y. asked_from y ss)) (sym found) ∙ e
+  -- from what is asked again on, as long as the members of envelopes have no fault
+  module _ (P : Asked → Type 0) (keeps : (b x : Asked) (s : Step) → P b → asked_inside b.want b.value s ≡ Some x → P x) (envelope : (b : Asked) → Within m.right b → P b → HasSoundMembers b) where
+    pub again_from : (ss : List Step) (b : Asked) → Within m.right b → P b → AskedAgain m b → (c : Asked) → asked_from b ss ≡ Some c → AskedAgain m c ⊎ IsSound c
+    again_from [] b inside p from c e = let one : b ≡ c = cc in inl (subst (AskedAgain m) one from)
+    again_from (s ∷ ss) b inside p from c e = at (asked_inside b.want b.value s) refl (λ x k q f g. again_from ss x k q f c g)
+      where
+        rest : (x : Asked) → asked_inside b.want b.value s ≡ Some x → asked_from x ss ≡ Some c
+        rest x found = ap (option_and_then (λ y. asked_from y ss)) (sym found) ∙ e
 
-      next : (x : Asked) → asked_inside b.want b.value s ≡ Some x → Again x
-      next x found =
-          one_step b inside from.of b.value s refl from.want from.inside (subst (λ w. Same m (Some w) from.of.value b.value) (sym from.want) from.same)
-          (within-tree m.right b right_tree inside) x (ap (λ w. asked_inside w b.value s) from.want ∙ found)
+        next : (x : Asked) → asked_inside b.want b.value s ≡ Some x → Again x
+        next x found =
+            one_step b (envelope b inside p) from.of b.value s refl from.want from.inside (subst (λ w. Same m (Some w) from.of.value b.value) (sym from.want) from.same)
+            (within-tree m.right b right_tree inside) x (ap (λ w. asked_inside w b.value s) from.want ∙ found)
 
-      on : (x : Asked) → Again x → asked_from x ss ≡ Some c → (AskedAgain m x → AskedAgain m c ⊎ IsSound c) → AskedAgain m c ⊎ IsSound c
-      on x (inl f) g step = step f
-      on x (inr all) g step = inr (all ss c g)
+        on : (x : Asked) → Again x → asked_from x ss ≡ Some c → (AskedAgain m x → AskedAgain m c ⊎ IsSound c) → AskedAgain m c ⊎ IsSound c
+        on x (inl f) g step = step f
+        on x (inr all) g step = inr (all ss c g)
 
-      at : (o : Option Asked) → asked_inside b.want b.value s ≡ o → ((x : Asked) → Within m.right x → AskedAgain m x → asked_from x ss ≡ Some c → AskedAgain m c ⊎ IsSound c) → AskedAgain m c ⊎ IsSound c
-      at None none step = let g : None ≡ Some c = ap (option_and_then (λ y. asked_from y ss)) (sym none) ∙ e in cc
-      at (Some x) found step = on x (next x found) (rest x found) (λ f. step x (Within-step m.right b x s inside found) f (rest x found))
+        at : (o : Option Asked) → asked_inside b.want b.value s ≡ o → ((x : Asked) → Within m.right x → P x → AskedAgain m x → asked_from x ss ≡ Some c → AskedAgain m c ⊎ IsSound c) → AskedAgain m c ⊎ IsSound c
+        at None none step = let g : None ≡ Some c = ap (option_and_then (λ y. asked_from y ss)) (sym none) ∙ e in cc
+        at (Some x) found step = on x (next x found) (rest x found) (λ f. step x (Within-step m.right b x s inside found) (keeps b x s p found) f (rest x found))
 
-  pub asked_again : Same m (Some (Object role.Report)) m.left m.right → (p : List Step) (c : Asked) → asked_at m.right p ≡ Some c → AskedAgain m c ⊎ IsSound c
-  asked_again same p c e =
-      again_from p (asked (Object role.Report) m.right) (Within-root m.right)
+  pub asked_again : HasSoundEnvelope m.right → Same m (Some (Object role.Report)) m.left m.right → (p : List Step) (c : Asked) → asked_at m.right p ≡ Some c → AskedAgain m c ⊎ IsSound c
+  asked_again sound same p c e =
+      again_from (λ b. Unit {0}) (λ b x s h found. tt) (λ b inside h ns n v f. envelope_sound m.right sound b ns n v f inside) p (asked (Object role.Report) m.right) (Within-root m.right) tt
       (record { of = asked (Object role.Report) m.left; inside = Within-root m.left; want = refl; same = same; first = refl }) c e

@@ -104,9 +104,9 @@ root_alone u (s ∷ ss) b e is = at (asked_inside (Object role.Report) u s) refl
 
 -- ---- the envelope
 
-record OfReport (w : Want) (n : List ℕ) : Type 0 where
-  report : w ≡ Object role.Report
-  name : is_envelope_name n ≡ true
+pub record OfReport (w : Want) (n : List ℕ) : Type 0 where
+  pub report : w ≡ Object role.Report
+  pub name : is_envelope_name n ≡ true
 
 of_class : (r : Role) (ns : Members) (n : List ℕ) (o : Option Class) → class_of_object r (object ns) ≡ o → is_envelope (scope.Members r o) n ≡ true → (role.Report ≡ r) × (is_envelope_name n ≡ true)
 of_class r ns n None among h = cc
@@ -116,7 +116,7 @@ of_class r ns n (Some c) among h = cc
 no_label : role.Report ≡ role.Label → ⊥
 no_label e = cc
 
-of_report : (w : Want) (ns : Members) (n : List ℕ) → is_envelope (scope_inside w (object ns)) n ≡ true → OfReport w n
+pub of_report : (w : Want) (ns : Members) (n : List ℕ) → is_envelope (scope_inside w (object ns)) n ≡ true → OfReport w n
 of_report (Object r) ns n h = let x = of_class r ns n (class_of_object r (object ns)) refl h in record { report = ap Object (sym x.0); name = x.1 }
 of_report (Member kind.Label required) ns n h = let x = of_class role.Label ns n (class_of_object role.Label (object ns)) refl h in absurd (no_label x.0)
 of_report Carried ns n h = cc

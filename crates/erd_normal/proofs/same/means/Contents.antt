@@ -25,6 +25,7 @@ use Rattle.erd_check.specs.declared.want.Scope.{Scope}
 use Rattle.erd_check.specs.declared.want.Scope.TheVariants as scope
 use Rattle.erd_check.specs.declared.want.Want.{Want}
 use Rattle.erd_check.specs.declared.want.Want.TheVariants.{Carried, Member, Object, Reference}
+use Rattle.erd_check.proofs.Exact.{text_exact}
 use Rattle.erd_check.proofs.Members.{get_member-before}
 use Rattle.erd_check.proofs.Rising.{Has, here, later}
 use Rattle.erd_check.proofs.Shapes.{lacks_none, of_role, wanted_within}
@@ -35,19 +36,26 @@ use Rattle.erd_meaning.specs.Meaning.{Content, no_content, first_node, a_contest
 use Rattle.erd_meaning.specs.Records.{carried_members, class_of_node, contest_node, content_inside, content_of, header_node, if_carried, is_header_class, is_in_envelope, node_of, nodes_of}
 use Rattle.erd_meaning.specs.SelectionNames.{key_named, name_named}
 use Rattle.erd_meaning.proofs.accepted.Phases.{no_shape_fault}
+use Rattle.erd_meaning.proofs.meanings.SelectionKinds.{kind_of_type}
 use Rattle.erd_normal.proofs.canonical.ChosenEntries.{list_name}
-use Rattle.erd_normal.proofs.rearranged.PlainValues.{is_plain}
-use Rattle.erd_normal.proofs.rearranged.RelatedContents.{other_name}
 use Rattle.erd_normal.proofs.unique.Contents.{content_class}
 use Rattle.erd_normal.specs.SaysTheSame.{Sides, MayBeAbsent, Same, not_asked, a_null, a_flag, a_number, a_text, an_id, a_list, a_set, an_object, SameEntries, no_entry, one_entry, SameMembers, no_member, in_both, left_only, right_only}
 use Rattle.erd_normal.proofs.same.FromAlike.{Stands}
 use Rattle.erd_normal.proofs.same.Related.{Related}
-use Rattle.erd_normal.proofs.same.Steady.{is_steady_kind}
+use Rattle.erd_normal.proofs.same.Steady.{is_steady_kind, is_plain}
 use Rattle.erd_normal.proofs.same.means.Members.{BothObjects, HaveMembers, MeansNothing, is_absent, is_empty, is_identity, is_outside, TwoReports, Told, both_told, none_told, absent_nothing, both_objects, entry_there, member_there, nothing_empty, stands_tree, steady_nothing, told_plain}
 use Rattle.erd_normal.proofs.same.means.Names.{name_named_alike}
 use Rattle.erd_normal.proofs.same.means.References.{key_alike_text, said_in_turn}
 
 -- ---- carried members
+
+-- a member of a kind whose name is another than `@type`
+other_name : (c : Class) (name : List ℕ) (k : MemberKind) → kind_of_member c name ≡ k → (kind.ClassText ≡ k → ⊥) → bytes_eq name (codes "@type") ≡ false
+other_name c name k is apart = at (bytes_eq name (codes "@type")) refl
+  where
+    at : (b : Bool) → bytes_eq name (codes "@type") ≡ b → bytes_eq name (codes "@type") ≡ false
+    at true e = absurd (apart (sym (kind_of_type c) ∙ sym (ap (kind_of_member c) (text_exact name (codes "@type") e)) ∙ is))
+    at false e = e
 
 module _ (m : Sides) (c : Class) (d e : Data) (h : HaveMembers m c d e) (inside : (name : List ℕ) → is_in_envelope c name ≡ false) where
   carried_at : (name : List ℕ) (k : MemberKind) → kind_of_member c name ≡ k → if_carried k (get name d) ≡ if_carried k (get name e)

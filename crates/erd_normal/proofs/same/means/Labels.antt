@@ -26,12 +26,11 @@ use Rattle.erd_meaning.proofs.accepted.Phases.{no_shape_fault}
 use Rattle.erd_meaning.proofs.orders.Reordered.{Reordered}
 use Rattle.erd_normal.proofs.lists.Matched.{matched_equal}
 use Rattle.erd_normal.proofs.meaning.RisingMeanings.{json_set-reordered}
-use Rattle.erd_normal.proofs.rearranged.PlainValues.{is_plain, plain_of_kind}
 use Rattle.erd_normal.specs.SaysTheSame.{Sides, Same, a_null, a_flag, a_number, a_text, an_id, a_list, a_set, an_object, SameMembers}
 use Rattle.erd_normal.proofs.same.FromAlike.{Stands}
 use Rattle.erd_normal.proofs.same.Labels.{label_text, plain_beside}
 use Rattle.erd_normal.proofs.same.Related.{Related}
-use Rattle.erd_normal.proofs.same.Steady.{is_steady_kind, steady_same}
+use Rattle.erd_normal.proofs.same.Steady.{is_steady_kind, steady_same, is_plain, plain_of_kind}
 use Rattle.erd_normal.proofs.same.means.Members.{TwoReports, HaveMembers, both_members, stands_tree, told_entries, told_plain}
 
 label_class : (c : Class) → role_of_class c ≡ role.Label → c ≡ class.InternationalizedText

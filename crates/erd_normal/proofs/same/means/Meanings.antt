@@ -41,8 +41,7 @@ use Rattle.erd_normal.proofs.lists.Matched.{AtMostOne, Matched, apart_distinct, 
 use Rattle.erd_normal.proofs.meaning.MatchedMeanings.{HeldAlike, MeanOne, held_matched, matched_meaning}
 use Rattle.erd_normal.proofs.meaning.MeantKinds.{flat_no_selections, is_flat_class, kind_is_flat}
 use Rattle.erd_normal.proofs.meaning.AlikeRecords.{is_named, named_tied, plain_members, record_alike}
-use Rattle.erd_normal.proofs.rearranged.RelatedObjects.{family_values}
-use Rattle.erd_normal.proofs.rearranged.SharedIds.{placed_value}
+use Rattle.erd_normal.proofs.same.FamilyValues.{family_values, placed_value}
 use Rattle.erd_normal.specs.SaysTheSame.{Sides, SaysTheSame, is_array_kind}
 use Rattle.erd_normal.proofs.same.Related.{Related, elections_matched, no_report, related_election_key, related_key}
 use Rattle.erd_normal.proofs.same.means.Members.{BothObjects, MeansNothing, is_absent, is_empty, is_identity, is_outside, TwoReports, Told, both_told, none_told, both_objects, envelope_is, told_entries, unless_empty_same}

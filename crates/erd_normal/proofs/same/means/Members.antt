@@ -29,12 +29,11 @@ use Rattle.erd_meaning.specs.Accepted.{IsAccepted}
 use Rattle.erd_meaning.specs.Keys.{Preference}
 use Rattle.erd_meaning.specs.Records.{is_in_envelope, unless_empty}
 use Rattle.erd_normal.proofs.lists.Matched.{Matched, matched_length, matched_none}
-use Rattle.erd_normal.proofs.rearranged.PlainValues.{is_plain}
 use Rattle.erd_normal.specs.SaysTheSame.{Sides, MayBeAbsent, an_empty_array, of_the_envelope, an_unused_id, is_array_kind, is_envelope, Same, a_null, a_flag, a_number, a_text, an_id, a_list, a_set, an_object, SameMembers}
 use Rattle.erd_normal.proofs.same.FromAlike.{Stands}
 use Rattle.erd_normal.proofs.same.Lookups.{Aligned, both_there, not_both, MayLack, lookups, of_object}
 use Rattle.erd_normal.proofs.same.Related.{Related, entries_matched, matched_within_both}
-use Rattle.erd_normal.proofs.same.Steady.{is_steady_kind, steady_same}
+use Rattle.erd_normal.proofs.same.Steady.{is_steady_kind, steady_same, is_plain}
 use Rattle.erd_normal.proofs.same.Types.{class_same}
 
 -- two trees that say the same, the left one an accepted report

@@ -19,12 +19,11 @@ use Rattle.erd_meaning.specs.SelectionNames.{is_write_in, keys_of_selection, lab
 use Rattle.erd_meaning.specs.Objects.{owner}
 use Rattle.erd_meaning.proofs.accepted.Phases.{no_shape_fault}
 use Rattle.erd_normal.proofs.lists.Matched.{said_same}
-use Rattle.erd_normal.proofs.rearranged.PlainValues.{is_plain}
 use Rattle.erd_normal.specs.SaysTheSame.{Sides, StandsFor}
 use Rattle.erd_normal.specs.SameLaws.{IsUsed}
 use Rattle.erd_normal.proofs.same.Owners.{owners_related}
 use Rattle.erd_normal.proofs.same.Related.{Related, related_key}
-use Rattle.erd_normal.proofs.same.Steady.{is_steady_kind}
+use Rattle.erd_normal.proofs.same.Steady.{is_steady_kind, is_plain}
 use Rattle.erd_normal.proofs.same.means.Labels.{label_text_alike}
 use Rattle.erd_normal.proofs.same.means.Members.{BothObjects, HaveMembers, TwoReports, Told, both_told, none_told, both_objects, steady_nothing, told_entries, told_plain}
 use Rattle.erd_normal.proofs.same.means.References.{keys_list_alike}

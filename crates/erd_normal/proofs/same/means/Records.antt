@@ -26,10 +26,9 @@ use Rattle.erd_meaning.proofs.meanings.SelectionKinds.{kind_of_type}
 use Rattle.erd_normal.proofs.lists.Matched.{matched_equal}
 use Rattle.erd_normal.proofs.meaning.AlikeRecords.{nothing_of, record_alike}
 use Rattle.erd_normal.proofs.meaning.RisingMeanings.{json_set-reordered}
-use Rattle.erd_normal.proofs.rearranged.PlainValues.{is_plain}
 use Rattle.erd_normal.specs.SaysTheSame.{Sides, Same, is_array_kind}
 use Rattle.erd_normal.proofs.same.Related.{Related}
-use Rattle.erd_normal.proofs.same.Steady.{steady_same}
+use Rattle.erd_normal.proofs.same.Steady.{steady_same, is_plain}
 use Rattle.erd_normal.proofs.same.means.Contents.{content_alike}
 use Rattle.erd_normal.proofs.same.means.Labels.{label_alike}
 use Rattle.erd_normal.proofs.same.means.Members.{BothObjects, HaveMembers, MeansNothing, is_absent, is_empty, is_identity, is_outside, TwoReports, Told, both_told, none_told, both_objects, related_entries_of, unless_empty_same}

@@ -1,5 +1,5 @@
--- The `@id`s of a report: what shares one, and a function of texts that tells them apart.
-use Rattle.std.proofs.Common.{◌≡◌, ℕ, List, Bool, true, false, Option, Some, None, option_and_then, refl, sym, ap, ◌∙◌, subst}
+-- The `@id`s of a report: what shares one, and what a text names.
+use Rattle.std.proofs.Common.{◌≡◌, ℕ, List, Bool, true, false, Option, Some, None, option_and_then, find, refl, sym, ap, ◌∙◌, subst}
 use Rattle.std.specs.List.{IsDistinct}
 use Rattle.std.specs.Option.{option_map_or}
 use Rattle.std.specs.Prelude.{slice_get}
@@ -7,16 +7,18 @@ use Rattle.std.specs.Str.{bytes_eq}
 use Rattle.serde_json.specs.Data.{Data}
 use Rattle.erd_tables.specs.declared.class.Family.{Family}
 use Rattle.erd_check.proofs.Exact.{text_exact, text_itself}
-use Rattle.erd_check.proofs.Positions.{has_mapped, map_has, position_of}
+use Rattle.erd_check.proofs.Positions.{position_of}
 use Rattle.erd_check.proofs.Rising.{Has}
 use Rattle.erd_meaning.specs.Keys.{Preference}
 use Rattle.erd_meaning.specs.Accepted.{IsAccepted}
 use Rattle.erd_meaning.specs.Lookups.{id_in}
-use Rattle.erd_meaning.specs.Objects.{Placed, has_id, id_of, objects}
+use Rattle.erd_meaning.specs.Objects.{Placed, has_id, id_of, objects, owner}
 use Rattle.erd_meaning.proofs.accepted.Phases.{no_identity_fault}
+use Rattle.erd_meaning.proofs.accepted.References.{find-Some}
 use Rattle.erd_meaning.proofs.finding.OneObject.{one_id}
 use Rattle.erd_meaning.proofs.orders.DistinctEntries.{distinct_from_one_place, distinct_map}
-use Rattle.erd_normal.proofs.rearranged.RelatedObjects.{family_values, object_values}
+use Rattle.erd_normal.proofs.lists.FoundBuilt.{find_values}
+use Rattle.erd_normal.proofs.same.FamilyValues.{family_values, object_values, value_placed}
 
 -- an object of the report writes this `@id`
 pub record IsId (t : Data) (id : List ℕ) : Type 0 where
@@ -24,10 +26,6 @@ pub record IsId (t : Data) (id : List ℕ) : Type 0 where
   pub value : Data
   pub stands : Has (family_values family t) value
   pub is : id_of value ≡ Some id
-
--- no two of the report's `@id`s become one
-abbrev pub TellsIds : (List ℕ → List ℕ) → Data → Type 0
-TellsIds ρ t = (a b : List ℕ) → IsId t a → IsId t b → ρ a ≡ ρ b → a ≡ b
 
 -- the two values write one `@id`
 abbrev pub have_one_id : Data → Data → Bool
@@ -53,12 +51,20 @@ id_of_both d e h = at (id_of d) refl h
 pub by_one_id : (d e : Data) (id : List ℕ) → id_of d ≡ Some id → id_of e ≡ Some id → have_one_id d e ≡ true
 by_one_id d e id a b = rw a (is-has_id id e b)
 
--- the place of a value that stands among a family's objects
-pub value_placed : (f : Family) (t d : Data) → Has (family_values f t) d → (o : Placed) × Has (objects f t) o × (o.value ≡ d)
-value_placed f t d h = map_has (λ (o : Placed). o.value) (objects f t) d (subst (λ ds. Has ds d) (sym (object_values f t)) h)
+-- ---- what a text names
 
-pub placed_value : (f : Family) (t : Data) (o : Placed) → Has (objects f t) o → Has (family_values f t) o.value
-placed_value f t o h = subst (λ ds. Has ds o.value) (object_values f t) (has_mapped (λ (o : Placed). o.value) (objects f t) o h)
+-- what a text names is found among the values of the family
+pub owner_found : (t : Data) (f : Family) (id : List ℕ) → owner t f id ≡ find (has_id id) (family_values f t)
+owner_found t f id = find_values (has_id id) (λ (o : Placed). o.value) (objects f t) ∙ ap (find (has_id id)) (object_values f t)
+
+pub owner_stands : (t : Data) (f : Family) (id : List ℕ) (o : Data) → owner t f id ≡ Some o → Has (family_values f t) o × (id_of o ≡ Some id)
+owner_stands t f id o e = let x = find-Some (has_id id) (family_values f t) o (sym (owner_found t f id) ∙ e) in (x.0, has_id-is id o x.1)
+
+-- a text that names an object is an `@id` of the report
+pub owned_id : (t : Data) (f : Family) (id : List ℕ) (o : Data) → owner t f id ≡ Some o → IsId t id
+owned_id t f id o e = let x = owner_stands t f id o e in record { family = f; value = o; stands = x.0; is = x.1 }
+
+-- ---- an accepted report
 
 module _ (π : Preference) (t : Data) (accepted : IsAccepted π t) where
   id_at : (f : Family) (i : ℕ) (o : Placed) (id : List ℕ) → slice_get (objects f t) i ≡ Some o → id_of o.value ≡ Some id → id_in f t i ≡ Some id

@@ -1,0 +1,55 @@
+-- The values of a report's objects, family by family, without their places.
+use Rattle.std.proofs.Common.{◌≡◌, ℕ, List, map, flat_map, Less, Equal, codes, sym, ap, ◌∙◌, subst}
+use Rattle.std.proofs.lemmas.Cmp.{tied_itself}
+use Rattle.serde_json.specs.Data.{Data}
+use Rattle.erd_tables.specs.Places.{place_cmp}
+use Rattle.erd_tables.specs.declared.class.Family.{Family}
+use Rattle.erd_tables.specs.declared.class.Family.TheVariants as family
+use Rattle.erd_tables.proofs.PlaceOrder.{place_cmp_total}
+use Rattle.erd_check.specs.Values.{entries_at}
+use Rattle.erd_check.proofs.Positions.{has_mapped, map_has}
+use Rattle.erd_check.proofs.Rising.{Has}
+use Rattle.erd_meaning.specs.LaterFaults.{IsBefore}
+use Rattle.erd_meaning.specs.Objects.{Placed, contests, elections, objects, placed_entries, report_of}
+use Rattle.erd_meaning.proofs.accepted.Skeleton.{values-placed_entries, values-placed_flat}
+
+-- the values of the objects of a family
+abbrev pub family_values : Family → Data → List Data
+family_values family.Unit t = entries_at (codes "GpUnit") t
+family_values family.Party t = entries_at (codes "Party") t
+family_values family.Person t = entries_at (codes "Person") t
+family_values family.Office t = entries_at (codes "Office") t
+family_values family.Header t = entries_at (codes "Header") t
+family_values family.Candidate t = flat_map (entries_at (codes "Candidate")) (entries_at (codes "Election") t)
+family_values family.Contest t = flat_map (entries_at (codes "Contest")) (entries_at (codes "Election") t)
+family_values family.Style t = flat_map (entries_at (codes "BallotStyle")) (entries_at (codes "Election") t)
+family_values family.Selection t = flat_map (entries_at (codes "ContestSelection")) (flat_map (entries_at (codes "Contest")) (entries_at (codes "Election") t))
+
+pub election_values_are : (t : Data) → map (λ o. o.value) (elections t) ≡ entries_at (codes "Election") t
+election_values_are t = values-placed_entries (codes "Election") (report_of t)
+
+values_in_elections : (t : Data) (name : List ℕ) → map (λ o. o.value) (flat_map (placed_entries name) (elections t)) ≡ flat_map (entries_at name) (entries_at (codes "Election") t)
+values_in_elections t name = values-placed_flat name (elections t) ∙ ap (flat_map (entries_at name)) (election_values_are t)
+
+pub object_values : (f : Family) (t : Data) → map (λ o. o.value) (objects f t) ≡ family_values f t
+object_values family.Unit t = values-placed_entries (codes "GpUnit") (report_of t)
+object_values family.Party t = values-placed_entries (codes "Party") (report_of t)
+object_values family.Person t = values-placed_entries (codes "Person") (report_of t)
+object_values family.Office t = values-placed_entries (codes "Office") (report_of t)
+object_values family.Header t = values-placed_entries (codes "Header") (report_of t)
+object_values family.Candidate t = values_in_elections t (codes "Candidate")
+object_values family.Contest t = values_in_elections t (codes "Contest")
+object_values family.Style t = values_in_elections t (codes "BallotStyle")
+object_values family.Selection t =
+    values-placed_flat (codes "ContestSelection") (contests t) ∙ ap (flat_map (entries_at (codes "ContestSelection"))) (values_in_elections t (codes "Contest"))
+
+-- the place of a value that stands among a family's objects
+pub value_placed : (f : Family) (t d : Data) → Has (family_values f t) d → (o : Placed) × Has (objects f t) o × (o.value ≡ d)
+value_placed f t d h = map_has (λ (o : Placed). o.value) (objects f t) d (subst (λ ds. Has ds d) (sym (object_values f t)) h)
+
+pub placed_value : (f : Family) (t : Data) (o : Placed) → Has (objects f t) o → Has (family_values f t) o.value
+placed_value f t o h = subst (λ ds. Has ds o.value) (object_values f t) (has_mapped (λ (o : Placed). o.value) (objects f t) o h)
+
+-- no object stands before itself
+pub not_before_itself : (o p : Placed) → o ≡ p → IsBefore o p → ⊥
+not_before_itself o p e h = let g : Less ≡ Equal = sym h ∙ ap (λ (x : Placed). place_cmp x.place p.place) e ∙ tied_itself place_cmp_total p.place in cc
