@@ -11,6 +11,9 @@ import tempfile
 # Reads a value by serde_json and writes it again, without freeing it: proved, over the kit's serde_json, which `erd` has too.
 ROUND_TRIP = "crates/round_trip/out/round_trip"
 
+# The C library copies and compares by the instructions of x86-64-v2 alone, which each machine that runs `erd` has.
+PLAIN = "glibc.cpu.hwcaps=-AVX,-AVX2,-AVX512F,-AVX512VL,-AVX512BW,-BMI1,-BMI2,-LZCNT,-MOVBE,-ERMS,-FSRM,-RTM"
+
 
 def run(command, stdin=None):
     """Processor time in seconds, peak memory in MB and exit status of one run, whose output goes nowhere."""
@@ -43,10 +46,11 @@ def measured(commands, runs, statuses=(0,)):
 
 
 def instructions(command, stdin=None, statuses=(0,)):
-    """The instructions of one run, as callgrind of valgrind counts them. Other work on the machine does not change them."""
+    """The instructions of one run, as callgrind of valgrind counts them. Neither the machine nor other work on it changes them."""
     with tempfile.NamedTemporaryFile() as log, open(stdin or os.devnull, "rb") as given:
         counter = ["valgrind", "--tool=callgrind", "--callgrind-out-file=/dev/null", "--log-file=" + log.name]
-        ran = subprocess.run(counter + command, stdin=given, stdout=subprocess.DEVNULL, stderr=subprocess.DEVNULL, check=False)
+        ran = subprocess.run(counter + command, stdin=given, stdout=subprocess.DEVNULL, stderr=subprocess.DEVNULL, check=False,
+                             env=dict(os.environ, GLIBC_TUNABLES=PLAIN))
         counted = re.search(r"Collected : (\d+)", log.read().decode())
     if counted is None or ran.returncode not in statuses:
         sys.exit("bench: " + " ".join(command) + " under valgrind: status " + str(ran.returncode))
