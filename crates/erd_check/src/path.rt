@@ -1,5 +1,6 @@
 //! The place that a walk has come to, and the fault at that place.
-ghost use Rattle.std.specs.Prelude.{◌≡◌, [], ◌∷◌, ◌++◌, IfOk};
+ghost use Rattle.std.specs.Prelude.{◌≡◌, [], ◌∷◌, ◌++◌, ◌-◌, length, slice_get, IfOk};
+ghost use Rattle.std.specs.Option.{option_copied, option_and_then};
 ghost use Rattle.erd_check.specs.Paths.{steps_of, fault_at};
 
 use erd_tables::{Fault, Place, Reason, Step, Text};
@@ -16,26 +17,55 @@ pub enum Path<'a> {
     Entry(&'a Path<'a>, usize),
 }
 
-fn push_steps(alloc: Global, path: &Path, steps: &mut Vec<Step>) -> Result<(), AllocError>
+/// Adds the steps of a path. They share the names that the last fault has at the same positions.
+fn push_steps(
+    alloc: Global,
+    path: &Path,
+    faults: &[Fault],
+    steps: &mut Vec<Step>,
+) -> Result<(), AllocError>
     ensures { IfOk result (λ _. steps.new.items ≡ steps.old.items ++ steps_of path.now) }
 {
     match path {
         Path::Root => Ok(()),
         Path::Member(parent, name) => {
-            push_steps(alloc, parent, steps)?;
-            let name = Text::of(String::from_str(alloc, name)?);
+            push_steps(alloc, parent, faults, steps)?;
+            let name = name_near(alloc, step_of_last(faults, steps.len()), name)?;
             steps.push(Step::Name(name))?;
             Ok(())
         }
         Path::Entry(parent, index) => {
-            push_steps(alloc, parent, steps)?;
+            push_steps(alloc, parent, faults, steps)?;
             steps.push(Step::At(*index))?;
             Ok(())
         }
     }
 }
 
-/// Adds a fault to the end of the list: the place of the path, and the reason.
+/// Returns the step at the position in the place of the last fault, if there are such a fault and such a step.
+fn step_of_last(faults: &[Fault], at: usize) -> Option<&Step>
+    ensures { option_copied result ≡ option_and_then (λ fault. slice_get fault.place at) (slice_get faults.now (length faults.now - 1)) }
+{
+    match faults.last() {
+        Some(fault) => fault.place.step(at),
+        None => None,
+    }
+}
+
+/// Returns the name as a text. It shares the bytes of the step nearby if that is the step to a member of this name.
+fn name_near(alloc: Global, near: Option<&Step>, name: &str) -> Result<Text, AllocError>
+    ensures { IfOk result (λ text. text ≡ name.now) }
+{
+    if let Some(Step::Name(text)) = near {
+        if text.as_str() == name {
+            return text.try_clone(alloc);
+        }
+    }
+    Text::shared(alloc, name)
+}
+
+/// Adds a fault to the end of the list: the place of the path, and the reason. Its place shares the names that stand at the
+/// same positions in the place of the fault before it. So the faults below one long name hold the name once.
 ///
 /// # Errors
 ///
@@ -50,7 +80,7 @@ pub fn push_fault(
         ≡ faults.old.items ++ fault_at (steps_of path.now) reason ∷ []) }
 {
     let mut steps = Vec::new(alloc);
-    push_steps(alloc, path, &mut steps)?;
+    push_steps(alloc, path, faults.as_slice(), &mut steps)?;
     let place = Place::of(steps);
     faults.push(Fault { place, reason })?;
     Ok(())

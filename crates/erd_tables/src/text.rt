@@ -1,22 +1,33 @@
 //! Owned texts, which are ordered by their bytes.
-ghost use Rattle.std.specs.Prelude.{◌≡◌, string_bytes};
+ghost use Rattle.std.specs.Prelude.{◌≡◌, string_bytes, IfOk};
 
+use std::alloc::{AllocError, Global};
 use std::cmp::Ordering;
+use std::fmt;
 use std::hash::{Hash, Hasher};
 use std::marker::Model;
+use std::rc::RcStr;
+
+/// What a text holds: a string of its own, or one that other texts may hold too.
+#[derive(Drop)]
+enum Held {
+    Own(String),
+    Shared(RcStr),
+}
 
 /// An owned text. Contracts see its UTF-8 bytes. Texts are compared and ordered by these bytes.
-#[derive(Debug, Drop)]
+#[derive(Drop)]
 pub struct Text {
-    text: String,
+    held: Held,
 }
 
 impl Model for Text {
-    ghost use Rattle.std.specs.Prelude.{List, ℕ, string_bytes};
+    ghost use Rattle.std.specs.Prelude.{List, ℕ};
+    ghost use Rattle.erd_tables.specs.Texts.{held_bytes};
 
     ghost Value = { List ℕ };
 
-    ghost view = { λ t. string_bytes t.text };
+    ghost view = { λ t. held_bytes t.held };
 }
 
 impl Text {
@@ -28,7 +39,47 @@ impl Text {
     pub fn of(text: String) -> Text
         ensures { result ≡ string_bytes text }
     {
-        Text { text }
+        Text {
+            held: Held::Own(text),
+        }
+    }
+
+    /// Returns a copy of the string as a `Text` whose clones share its bytes.
+    ///
+    /// # Errors
+    ///
+    /// `AllocError` if out of memory.
+    ///
+    /// ```
+    /// let name = Text::shared(alloc, "GpUnit")?;
+    /// ```
+    pub fn shared(alloc: Global, text: &str) -> Result<Text, AllocError>
+        ensures { IfOk result (λ shared. shared ≡ text.now) }
+    {
+        let text = RcStr::from_str(alloc, text)?;
+        Ok(Text {
+            held: Held::Shared(text),
+        })
+    }
+
+    /// Returns an equal text. It takes memory for the bytes only if this text was made by `of`.
+    ///
+    /// # Errors
+    ///
+    /// `AllocError` if out of memory, or if too many texts share the bytes.
+    ///
+    /// ```
+    /// assert_eq!(rt; name.try_clone(alloc)?.as_str(), "GpUnit");
+    /// ```
+    pub fn try_clone(&self, alloc: Global) -> Result<Text, AllocError>
+        ensures { IfOk result (λ copy. copy ≡ self.now) }
+    {
+        match &self.held {
+            Held::Own(text) => Text::shared(alloc, text.as_str()),
+            Held::Shared(text) => Ok(Text {
+                held: Held::Shared(text.clone()?),
+            }),
+        }
     }
 
     /// Returns the text as a string slice.
@@ -39,7 +90,18 @@ impl Text {
     pub fn as_str(&self) -> &str
         ensures { result.now ≡ self.now }
     {
-        self.text.as_str()
+        match &self.held {
+            Held::Own(text) => text.as_str(),
+            Held::Shared(text) => text.as_str(),
+        }
+    }
+}
+
+impl fmt::Debug for Text {
+    fn fmt<W: fmt::Write>(&self, f: &mut fmt::Formatter<W>) -> fmt::Result {
+        f.debug_struct("Text")
+            .field("text", &self.as_str())
+            .finish()
     }
 }
 

@@ -51,6 +51,14 @@ fn texts(rt: HostRuntime) -> Result<(), Fail> {
     Ok(())
 }
 
+#[test]
+fn shared_texts(rt: HostRuntime) -> Result<(), Fail> {
+    let alloc = rt.alloc();
+    let name = Text::shared(alloc, "GpUnit")?;
+    assert_eq!(rt; name.try_clone(alloc)?.as_str(), "GpUnit");
+    Ok(())
+}
+
 // The place of the eleventh unit.
 fn place_of_unit(alloc: Global) -> Result<Place, AllocError> {
     let name = Text::of(String::from_str(alloc, "GpUnit")?);
