@@ -4,7 +4,7 @@ use Rattle.std.specs.Prelude.{encode_utf8}
 use Rattle.std.proofs.lemmas.Str.{NoCharPasses-byte}
 use Rattle.erd_tables.specs.Places.{escaped_byte, escaped_name}
 
-abbrev is_escaped : ℕ → Bool
+abbrev pub is_escaped : ℕ → Bool
 is_escaped x = (x == 126) || (x == 47)
 
 plain_byte : (x : ℕ) (a b : Bool) → (x == 126) ≡ a → (x == 47) ≡ b → a || b ≡ false → escaped_byte x ≡ x ∷ []
@@ -12,7 +12,8 @@ plain_byte x true b e f h = cc
 plain_byte x false true e f h = cc
 plain_byte x false false e f h = rw (e, f)
 
-kept : (bs rest : List ℕ) → ((i : ℕ) → i < length bs → is_escaped (get_or bs i 0) ≡ false) → escaped_name (bs ++ rest) ≡ bs ++ escaped_name rest
+-- bytes that are not escaped stand in front as they are
+pub kept : (bs rest : List ℕ) → ((i : ℕ) → i < length bs → is_escaped (get_or bs i 0) ≡ false) → escaped_name (bs ++ rest) ≡ bs ++ escaped_name rest
 kept [] rest h = refl
 kept (b ∷ bs) rest h =
     rw (plain_byte b (b == 126) (b == 47) refl refl (h 0 (omega arith)), kept bs rest (λ i l. h (suc i) (omega arith)))

@@ -52,6 +52,53 @@ pub enum Reason {
     TwinSelection,
 }
 
+impl Reason {
+    /// Returns the words for the reason, as the line of a fault has them. Those for a missing member end with a space, and its
+    /// name follows.
+    ///
+    /// ```
+    /// assert_eq!(rt; Reason::DuplicateId.words(), "@id used twice");
+    /// ```
+    pub fn words(&self) -> &'static str
+        ensures { result.now ++ missing_name self.now ≡ reason_text self.now }
+    {
+        match self {
+            Reason::WrongKind => "wrong kind",
+            Reason::MissingMember(_) => "missing member ",
+            Reason::WrongClassText => "wrong class",
+            Reason::NotWhole => "not a whole number",
+            Reason::OutsideProfile => "outside the profile",
+            Reason::UnknownReference => "unknown reference",
+            Reason::CarriedIdentity => "carried identity",
+            Reason::NotPreElection => "not pre-election",
+            Reason::ElectionCount => "wrong number of elections",
+            Reason::EmptyArray => "empty array",
+            Reason::Repeated => "repeated",
+            Reason::NoIdentifier => "no external identifier",
+            Reason::TwinIdentifier => "identifier used twice",
+            Reason::DuplicateId => "@id used twice",
+            Reason::Unresolved => "unresolved reference",
+            Reason::WrongFamily => "reference to another family",
+            Reason::SelectionOfOtherContest => "selection of another contest",
+            Reason::TwinSelection => "selection name used twice",
+        }
+    }
+
+    /// Returns the name of the missing member, or the empty text for another reason.
+    ///
+    /// ```
+    /// assert_eq!(rt; Reason::DuplicateId.missing_member(), "");
+    /// ```
+    pub fn missing_member(&self) -> &str
+        ensures { result.now ≡ missing_name self.now }
+    {
+        match self {
+            Reason::MissingMember(name) => name.as_str(),
+            _ => "",
+        }
+    }
+}
+
 /// A fault of a report: a place, and what is wrong there.
 #[derive(Debug, Drop)]
 pub struct Fault {
@@ -78,37 +125,9 @@ impl Fault {
     {
         let mut line = pointer(alloc, &self.place)?;
         line.push_str(": ")?;
-        line.push_str(words(&self.reason))?;
-        if let Reason::MissingMember(name) = &self.reason {
-            line.push_str(name.as_str())?;
-        }
+        line.push_str(self.reason.words())?;
+        line.push_str(self.reason.missing_member())?;
         Ok(line)
-    }
-}
-
-/// Returns the words for a reason, without the name of the missing member.
-fn words(reason: &Reason) -> &'static str
-    ensures { result.now ++ missing_name reason.now ≡ reason_text reason.now }
-{
-    match reason {
-        Reason::WrongKind => "wrong kind",
-        Reason::MissingMember(_) => "missing member ",
-        Reason::WrongClassText => "wrong class",
-        Reason::NotWhole => "not a whole number",
-        Reason::OutsideProfile => "outside the profile",
-        Reason::UnknownReference => "unknown reference",
-        Reason::CarriedIdentity => "carried identity",
-        Reason::NotPreElection => "not pre-election",
-        Reason::ElectionCount => "wrong number of elections",
-        Reason::EmptyArray => "empty array",
-        Reason::Repeated => "repeated",
-        Reason::NoIdentifier => "no external identifier",
-        Reason::TwinIdentifier => "identifier used twice",
-        Reason::DuplicateId => "@id used twice",
-        Reason::Unresolved => "unresolved reference",
-        Reason::WrongFamily => "reference to another family",
-        Reason::SelectionOfOtherContest => "selection of another contest",
-        Reason::TwinSelection => "selection name used twice",
     }
 }
 

@@ -92,6 +92,12 @@ fn fault_of_unit(alloc: Global) -> Result<Fault, AllocError> {
 }
 
 #[test]
+fn reasons(rt: HostRuntime) {
+    assert_eq!(rt; Reason::DuplicateId.words(), "@id used twice");
+    assert_eq!(rt; Reason::DuplicateId.missing_member(), "");
+}
+
+#[test]
 fn fault_lines(rt: HostRuntime) -> Result<(), Fail> {
     let alloc = rt.alloc();
     let fault = fault_of_unit(alloc)?;
