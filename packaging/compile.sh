@@ -2,20 +2,31 @@
 # Proves and compiles one crate, a program or a static library, over the libraries below it as they stand proved in
 # crates/*/out/rlib, and leaves crates/CRATE/out/CRATE or crates/CRATE/out/libCRATE.a. It is for libraries that `rt ci` has left,
 # which `rt run` and `rt lib` would prove anew; over others take these. The verdict stays in crates/CRATE/out/checked, and serves
-# again, in a copy of the repository too, where the compiler finds that it is of the same crate. TOOLCHAIN names a folder in place
-# of the kit's toolchain.
+# again, in a copy of the repository too, where the compiler finds that it is of the same crate. Of a static library the module of
+# LLVM stays as well, as out/module.bc, which packaging/portable compiles for other machines.
 set -eu
 cd "$(dirname "$0")/.."
+top=$PWD
 name=${1?the name of a crate}
 kit=$(dirname "$(rt doc)")
-toolchain=${TOOLCHAIN:-$kit/toolchain}
 list=$(packaging/words.sh "$name")
 mapfile -t words <<< "$list"
 
 cd "crates/$name"
 mkdir -p out
+toolchain=$kit/toolchain
 made=out/$name.o
-[ -e src/main.rt ] || made=out/lib$name.a
+if [ ! -e src/main.rt ]; then
+    made=out/lib$name.a
+    # A toolchain whose clang keeps the module that it compiles.
+    toolchain=$(mktemp -d)
+    trap 'rm -rf "$toolchain"' EXIT
+    mkdir "$toolchain/bin"
+    ln -s "$kit/toolchain/lib" "$toolchain/lib"
+    ln -s "$kit"/toolchain/bin/* "$toolchain/bin"
+    mv "$toolchain/bin/clang" "$toolchain/bin/clang-of-the-kit"
+    cp "$top/packaging/portable/keep-clang" "$toolchain/bin/clang"
+fi
 
 # built: compiles what out/checked says is proved
 built() {
@@ -30,4 +41,7 @@ fi
 if [ -e src/main.rt ]; then
     "$kit/bin/rattle-link" --target x86_64-unknown-linux-gnu --toolchain "$toolchain" -o "out/$name" "$made" \
         "$kit/c/libos_c.a" "$kit/c/liblibc_c.a"
+else
+    mv "$toolchain/module.bc" out/module.bc
+    (cd "$top" && sha256sum "crates/$name/$made") > out/module.bc.of
 fi
