@@ -11,6 +11,7 @@ RT_JOBS is the number of crates that are tried beside each other.
 """
 import collections
 import concurrent.futures
+import contextlib
 import glob
 import os
 import re
@@ -194,9 +195,10 @@ def tried(name, files, room):
 def main(words):
     gate = "--gate" in words
     wanted = chosen(gate, [it for it in words if it != "--gate"])
-    shutil.rmtree(f"{TOP}/out/edits", ignore_errors=True)
     lines, spent = [], {}
     for name in wanted:
+        with contextlib.suppress(FileNotFoundError):
+            os.remove(f"{TOP}/out/edits/{name}.log")
         renew(name)
     with tempfile.TemporaryDirectory(prefix="erd-kept-") as room:
         with concurrent.futures.ProcessPoolExecutor(int(os.environ.get("RT_JOBS") or 1)) as pool:

@@ -8,53 +8,80 @@ cd "$(dirname "$0")/.." || exit 1
 program=crates/erd/out/erd
 tests=crates/erd_rows/out/erd_rows_tests
 program_tests=crates/erd_program/out/erd_program_tests
+tried=''
 
-# left FILE: whether `rt ci` has left what it built; if not, that is a failure
-left() {
-    [ -x "$1" ] || missing "rt ci left no $1: what runs it is not run"
+# The parts run beside `rt ci`, each as soon as the crates are proved that it needs. At its end `rt ci` puts the libraries that
+# earlier checks have kept in the place of those that it has proved. Where there are such libraries, or little memory, what needs a
+# crate waits for that end.
+is_beside=yes
+[ "$(awk '/^MemAvailable:/ { print int($2 / 1000000) }' /proc/meminfo)" -ge 12 ] || is_beside=''
+! compgen -G 'crates/*/out/rlib' > /dev/null || is_beside=''
+
+# is_proved CRATE: whether `rt ci` says so
+is_proved() {
+    grep -aqE "^rt: $1 (proved$|is kept: )" "$results/001/said"
+}
+
+# proved CRATE ..: waits until `rt ci` has proved these crates
+proved() {
+    local crate
+    [ -n "$is_beside" ] || ended rt ci
+    for crate in "$@"; do
+        until is_proved "$crate" || [ -e "$results/001/status" ] || [ -e "$results/001/lost" ]; do sleep 1; done
+        is_proved "$crate" || return
+    done
+}
+
+# program: waits until the program is proved and compiled, and takes it
+program() {
+    proved erd && [ -x "$program" ] || return
+    (
+        flock 9
+        [ -e "$results/taken" ] || { mkdir -p out && cp "$program" out/erd.new && mv out/erd.new erd && : > "$results/taken"; }
+    ) 9> "$results/lock"
+}
+
+# tests: waits until `rt ci` has ended, and has left the tests
+tests() {
+    ended rt ci
+    [ -x "$tests" ] && [ -x "$program_tests" ]
+}
+
+# libraries CRATE: the crates of the repository that it names
+libraries() {
+    sed -n "s/#.*//; s/^$1\( [a-z]*\)*:\(.*\)/\2/p" crates.txt | grep -o 'erd_[a-z]*' | tr '\n' ' '
+}
+
+# edits CRATE ..: begins to try the wrong bodies of the gate, those of one crate after another
+edits() {
+    local crate steps=()
+    for crate in "$@"; do
+        steps+=("proved: $(libraries "$crate")" "tests/edits.py --gate $crate")
+        tried+=" $crate "
+    done
+    lane "${steps[@]}"
 }
 
 # What `rt ci` has proved, compiled and run is what the scripts run, so nothing older may stand there.
 rm -f "$program" "$tests" "$program_tests"
-part rt ci
+lane 'rt ci'
 
-# A check of wrong bodies for each processor, where there are 4 GB of memory for it.
-free=$(awk '/^MemAvailable:/ { print int($2 / 4000000) }' /proc/meminfo)
-processors=$(nproc)
-side_by_side=$((free < processors ? free : processors))
-export RT_JOBS=${RT_JOBS:-$((side_by_side > 0 ? side_by_side : 1))}
-
-# What follows needs no proof, or one that `rt ci` doesn't make. The lanes run beside each other, the parts of a lane one after
-# another.
-pages=(
-    'python3 tests/definitions.py'
-    'python3 tests/pages.py'
-    'python3 tests/documented.py'
-    'python3 tests/edits_suite.py'
+lane 'python3 tests/definitions.py' 'python3 tests/pages.py' 'python3 tests/documented.py' 'python3 tests/edits_suite.py' \
     'conformance/run --in-process reference/erd_reference.py'
-)
-if left "$program"; then
-    cp "$program" erd
-    programs=(
-        'tests/cli.sh'
-        'tests/man.sh'
-        'python3 tests/examples.py'
-        'tests/contrib.sh'
-        'python3 tests/agree.py 500'
-        'python3 tests/says_the_same.py'
-        'python3 tests/preferences.py'
-        'conformance/run ./erd'
-        'tests/limits.sh'
-        'tests/install.sh'
-        'python3 tests/instructions.py'
-    )
-    left "$tests" && left "$program_tests" && programs+=('tests/refusals.sh')
-    lane "${pages[@]}" "${programs[@]}"
-    lane 'tests/edits.py --gate'
-    lane 'tests/library.sh' 'tests/portable.sh' 'tests/fuzz.sh' 'tests/calling.sh' 'tests/javascript.sh' 'tests/python.sh' \
-        'tests/page.sh' 'tests/package.sh' 'tests/release.sh' 'tests/same.sh'
-else
-    lane "${pages[@]}"
-fi
+
+edits erd_check erd_meaning erd_normal erd_c
+edits erd_compare erd_canon erd_program
+for crate in $(sed -n 's|^\([a-z_]*\)/.*|\1|p' tests/edits/gate.txt | sort -u); do
+    [[ $tried == *" $crate "* ]] || missing "tests/edits/gate.txt: the edits of $crate are not tried"
+done
+
+lane 'proved: erd_canon' 'tests/library.sh' 'tests/fuzz.sh' 'program:' 'tests/portable.sh' 'tests/calling.sh' 'tests/javascript.sh' \
+    'tests/python.sh' 'tests/page.sh' 'tests/package.sh' 'tests/release.sh'
+
+lane 'program:' 'tests/cli.sh' 'tests/man.sh' 'python3 tests/examples.py' 'tests/contrib.sh' 'python3 tests/agree.py 500' \
+    'python3 tests/says_the_same.py' 'python3 tests/preferences.py' 'conformance/run ./erd' 'tests/limits.sh' 'tests/install.sh' \
+    'python3 tests/instructions.py' 'ended: tests/library.sh' 'tests/same.sh' 'tests:' 'tests/refusals.sh'
+
+follow
 await
 sum_up

@@ -14,23 +14,8 @@ is_of_archive() {
     [ -e "$module" ] && sha256sum --status -c "$module.of" 2> /dev/null
 }
 
-# captured: compiles the proved crate again, by a toolchain whose clang keeps the module
-captured() {
-    local toolchain
-    toolchain=$(mktemp -d)
-    mkdir "$toolchain/bin"
-    ln -s "$kit/toolchain/lib" "$toolchain/lib"
-    ln -s "$kit"/toolchain/bin/* "$toolchain/bin"
-    mv "$toolchain/bin/clang" "$toolchain/bin/clang-of-the-kit"
-    cp packaging/portable/keep-clang "$toolchain/bin/clang"
-    TOOLCHAIN=$toolchain packaging/compile.sh erd_c > out/module.log 2>&1 || { tail -n 20 out/module.log >&2; return 1; }
-    mv "$toolchain/module.bc" "$module"
-    sha256sum "$archive" > "$module.of"
-    rm -rf "$toolchain"
-}
-
 [ -e out/c/liberd.a ] || packaging/library.sh
-is_of_archive || captured
+is_of_archive || packaging/compile.sh erd_c > out/module.log 2>&1 || { tail -n 20 out/module.log >&2; exit 1; }
 [ -e "$parts/heap.ll" ] && [ -z "$(find "$module" bindings/c packaging/portable/{module,common}.sh packaging/portable/heap.c \
     -newer "$parts/heap.ll")" ] && exit
 llvm clang -S -emit-llvm -Xclang -disable-llvm-passes -x ir "$module" -o "$parts/module.ll"
