@@ -325,10 +325,33 @@ def colliding_labels(n):
     return report_of(ONE, Contest=[contest_of(chosen, "BallotMeasureContest")])
 
 
+def units_named(ids):
+    return report_of(ONE + [unit(id, "U%07d" % i) for i, id in enumerate(ids)])
+
+
+def crowded_without_salt(n):
+    """`@id`s that an index without a salt would put into one place."""
+    return units_named(colliding.crowded_ids(n // 4, []))
+
+
+def crowded_elsewhere(n):
+    """`@id`s that crowd the index of another report: of the same one, with other `@id`s."""
+    return units_named(colliding.crowded_ids(n // 4, colliding.salt_of(units_rising(n // 4))))
+
+
+def crowded_in_rounds(n):
+    """The same, three times over: each report has the `@id`s that crowd the index of the one before it."""
+    made = units_rising(n // 4)
+    for _ in range(3):
+        made = units_named(colliding.crowded_ids(n // 4, colliding.salt_of(made)))
+    return made
+
+
 SINGLE = [units_rising, units_falling, units_alike, candidate_selections, write_ins, measure_texts, ordered_selections, references,
           identifiers, translations, same_triples, unresolved, repeated, foreign, twins, same_ids, chain, styles, deep_headers,
           long_key, long_keys, long_tickets, long_twins, long_contents, long_labels,
           empty_arrays, elections, twin_elections, party_tickets, endorsements, faults_below_a_name, faults_in_headers,
-          colliding_ids, colliding_keys, colliding_labels]
+          colliding_ids, colliding_keys, colliding_labels,
+          crowded_without_salt, crowded_elsewhere, crowded_in_rounds]
 PAIRS = [moved, nothing_common, last_differs, every_second, long_references_moved, selections_moved, elections_moved,
          deep_identifiers, opposite_sets]

@@ -6,3 +6,4 @@ pub mod SelectionsElsewhere
 pub mod SilentWalks
 pub mod ReasonsFound
 pub mod ReferenceWalks
+pub mod OwnContests  -- the contest of a selection, by its `@id`

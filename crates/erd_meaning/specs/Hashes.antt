@@ -1,12 +1,12 @@
 -- What a hasher is given of a key and of a selection's name.
 use Rattle.std.specs.Prelude.{ℕ, ◌++◌, fold}
 use Rattle.std.specs.Hash.{HashWrites, str, slice, option, bool, i128, u64}
-use Rattle.std.specs.Hash.FoldHasher.{finish, initial, write}
+use Rattle.std.specs.Hash.DefaultHasher.{finish, initial, write}
 use Rattle.erd_tables.specs.Classes.{text_of_class}
 use Rattle.erd_meaning.specs.NameParts.{NameParts}
 use Rattle.erd_meaning.specs.declared.keys.key.Key.{Key}
 
--- The number that std's fast hasher computes from what it is given.
+-- The number that std's default hasher computes from what it is given.
 abbrev pub digest : HashWrites → ℕ
 digest ws = finish (fold write initial ws)
 

@@ -3,6 +3,8 @@ pub mod Orders  -- the orders of keys, names and compact texts are total, and te
 pub mod ChosenKeys  -- the order in which the program chooses among identifiers
 pub mod LabelTexts  -- the text of a label, with its translations as texts
 pub mod ShownLabels  -- what clauses see of a label that is written member by member
+pub mod Salts  -- the numbers by which an index hashes its keys under a salt
+pub mod SaltedQueries  -- a query under a salt finds keys as the index tells them apart
 pub mod NumberedOrders  -- their order is total, tells unequal ones apart, and keeps the order of names if the numbers keep that of keys
 pub mod ObjectWalk  -- the elections and the objects in the order in which the program meets them, with the faults of identity
 pub mod ElectionKeys  -- what the program keeps of the elections: their keys, and which holds an object
@@ -10,6 +12,7 @@ pub mod Holding  -- the elections that hold the objects of a report
 pub mod ObjectLookups  -- look-ups among the objects that are kept
 pub mod ObjectIndexes  -- the indexes that the program keeps of the objects
 pub mod Indexed  -- when these indexes are those of the objects
+pub mod OwnIds  -- what tells objects apart, where no two have one `@id`
 pub mod ReferenceReasons  -- the reasons of a reference, as the program tells them
 pub mod NamesAmong  -- the names of selections by these look-ups
 pub mod SelectionWalk  -- the names of selections in the order in which the program meets them, with the faults of selections

@@ -19,6 +19,7 @@ pub(crate) mod reference_judge;
 pub(crate) mod resolving;
 
 use crate::keys::key::Key;
+use crate::keys::salted_set::SaltedSet;
 use crate::names::ranked_name::RankedName;
 use crate::names::selection_name::SelectionName;
 use crate::names::sought_name::SoughtName;
@@ -29,7 +30,6 @@ use crate::objects::ranked_objects::RankedObjects;
 use crate::objects::table::ObjectTable;
 use erd_check::values::entries_at;
 use erd_tables::{Family, Text};
-use indexmap::IndexSet;
 use serde_json::Value;
 use std::alloc::{AllocError, Global};
 use std::marker::Model;
@@ -54,7 +54,7 @@ pub struct Report<'a> {
 #[derive(Debug, Drop)]
 pub(crate) struct Indexes<'a> {
     pub(crate) objects: RankedObjects<'a>,
-    pub(crate) names: IndexSet<(usize, RankedName)>,
+    pub(crate) names: SaltedSet<(usize, RankedName)>,
     pub(crate) elections: Elections<'a>,
 }
 
@@ -92,8 +92,8 @@ impl<'a> Report<'a> {
         prefer: Option<Text>,
         indexes: Indexes<'a>,
     ) -> Result<Report<'a>, AllocError>
-        requires resolved { IsResolved prefer tree.now indexes.objects (names_of indexes.names.keys) }
-        requires ranked { AllAreRanked (map shown indexes.objects) indexes.names.keys }
+        requires resolved { IsResolved prefer tree.now indexes.objects (names_of indexes.names) }
+        requires ranked { AllAreRanked (map shown indexes.objects) indexes.names }
         requires elections { AreElections prefer tree.now indexes.elections }
         ensures tree { IfOk result (λ r. r.tree ≡ tree.now) }
         ensures prefer { IfOk result (λ r. r.prefer ≡ prefer) }
@@ -108,8 +108,8 @@ impl<'a> Report<'a> {
     }
 
     fn indexes(&self) -> &Indexes<'a>
-        ensures resolved { IsResolved self.now.prefer self.now.tree result.now.objects (names_of result.now.names.keys) }
-        ensures ranked { AllAreRanked (map shown result.now.objects) result.now.names.keys }
+        ensures resolved { IsResolved self.now.prefer self.now.tree result.now.objects (names_of result.now.names) }
+        ensures ranked { AllAreRanked (map shown result.now.objects) result.now.names }
     {
         &self.indexes[0]
     }

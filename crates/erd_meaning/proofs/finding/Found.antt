@@ -18,6 +18,7 @@ use Rattle.erd_meaning.specs.LaterFaults.{IdentityFault}
 use Rattle.erd_meaning.specs.Lookups.{FindsId, FindsKey, id_in, key_in}
 use Rattle.erd_meaning.specs.code.ObjectIndexes.{number_at, number_of_id, number_of_key, rank}
 use Rattle.erd_meaning.specs.code.ObjectLookups.{is_keyed, keeps_id, is_of_family, those_of}
+use Rattle.erd_meaning.specs.code.OwnIds.{HaveOwnIds}
 use Rattle.erd_meaning.specs.code.ObjectWalk.{Kept, kept_objects, same_id, same_key}
 use Rattle.erd_meaning.specs.code.Resolved.{IsResolved}
 use Rattle.erd_meaning.specs.code.Shown.{shown}
@@ -113,3 +114,7 @@ finds_kept_id π t id none = at (position (keeps_id id) (kept_objects π t)) ref
 pub finds_id : (π : Preference) (v : Value) (os : List Object) (ns : List NumberedName) (id : List ℕ) → IsResolved π v os ns
     → FindsId (view v) id (number_of_id (map shown os) id)
 finds_id π v os ns id r = subst (λ (ks : List Kept). FindsId (view v) id (number_of_id ks id)) (sym r.kept) (finds_kept_id π (view v) id r.identified)
+
+-- no two objects of a report have one `@id`, so each is what its own leads to
+pub own_ids : (π : Preference) (t : Data) (ks : List Kept) → ks ≡ kept_objects π t → NoneOf (IdentityFault π t) → HaveOwnIds ks
+own_ids π t ks kept none = subst HaveOwnIds (sym kept) (λ f i id e. (finds_kept_id π t id none f i).1 (sym (kept_part π (λ k. k.id) f t i) ∙ e))

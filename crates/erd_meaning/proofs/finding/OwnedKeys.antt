@@ -1,13 +1,17 @@
 -- The test by which an index of keys is asked: one family and one key.
-use Rattle.std.proofs.Common.{◌≡◌, ◌==◌, ◌&&◌, true, rules}
+use Rattle.std.proofs.Common.{◌≡◌, ◌==◌, ◌&&◌, ℕ, true, rules}
 use Rattle.std.specs.Cmp.{Equal-is}
 use Rattle.std.specs.Ordering.{is_eq}
 use Rattle.erd_check.proofs.Reasons.{and_true}
 use Rattle.erd_tables.specs.Classes.{family_number}
 use Rattle.erd_tables.specs.declared.class.Family.{Family}
 use Rattle.erd_tables.specs.contracts.class.FamilyPartialEq as family_eq
+use Rattle.erd_meaning.specs.Hashes.{key_writes}
 use Rattle.erd_meaning.specs.Keys.{key_cmp}
-use Rattle.erd_meaning.specs.code.Indexed.{same_owned}
+use Rattle.erd_meaning.specs.code.Indexed.{is_salted_owned, same_owned}
+use Rattle.erd_meaning.specs.code.Salts.{salted_number}
+use Rattle.erd_meaning.specs.declared.keys.salt.Salt.{Salt}
+use Rattle.erd_meaning.specs.declared.keys.salted.Salted.{Salted}
 use Rattle.erd_meaning.specs.code.Orders.{key_cmp_exact}
 use Rattle.erd_meaning.specs.declared.keys.key.Key.{Key}
 use Rattle.erd_meaning.proofs.identity.ObjectFamilies.{family_exact}
@@ -17,6 +21,11 @@ families_same f g = search rules
 
 pub owned_test : (f : Family) (k : Key) → (λ (o : Family × Key). family_eq.TheImpl.ghosts.eq f o.0 && is_eq (key_cmp k o.1)) ≡ same_owned (f, k)
 owned_test f k i o = families_same f o.0 i && is_eq (key_cmp k o.1)
+
+-- the test by which the index is asked, where the number is that of the key
+pub owned_asked : (salt : Salt) (n : ℕ) (f : Family) (k : Key) → n ≡ salted_number salt (key_writes k)
+    → (λ (o : Salted (Family × Key)). (n == o.number) && (family_eq.TheImpl.ghosts.eq f o.key.0 && is_eq (key_cmp k o.key.1))) ≡ is_salted_owned salt (f, k)
+owned_asked salt n f k e i o = (e i == o.number) && owned_test f k i o.key
 
 -- what passes is one
 pub owned_exact : (f g : Family) (k l : Key) → same_owned (f, k) (g, l) ≡ true → (f ≡ g) × (k ≡ l)

@@ -10,5 +10,5 @@ use Rattle.erd_meaning.specs.declared.report.Indexes.{Indexes}
 
 -- There is exactly one entry, and it has the objects, the names and the elections of the accepted report.
 abbrev pub AreResolved : Preference → Value → List Indexes → Type 0
-AreResolved π tree (x ∷ []) = IsResolved π tree x.objects (names_of x.names.keys) × AllAreRanked (map shown x.objects) x.names.keys × AreElections π tree x.elections
+AreResolved π tree (x ∷ []) = IsResolved π tree x.objects (names_of x.names) × AllAreRanked (map shown x.objects) x.names × AreElections π tree x.elections
 AreResolved π tree xs = ⊥

@@ -13,4 +13,4 @@ met_of w = record { objects = map shown w.objects; elections = w.elections; faul
 
 -- What clauses see of the walk over the selections: how far it has come.
 abbrev pub names_met : SelectionWalk → NamesMet
-names_met w = record { names = names_of w.names.keys; faults = w.faults.items }
+names_met w = record { names = names_of w.names; faults = w.faults.items }

@@ -5,7 +5,7 @@ use crate::keys::key::Key;
 use crate::keys::triple::Triple;
 use std::alloc::{AllocError, Global};
 use std::cmp::Ordering;
-use std::hash::{FoldHasher, Hash, Hasher};
+use std::hash::{DefaultHasher, Hash, Hasher};
 use std::marker::Model;
 use std::rc::Rc;
 
@@ -75,7 +75,7 @@ impl SharedKey {
 fn digest_of(key: &Key) -> u64
     ensures { result ≡ key_digest key.now }
 {
-    let mut hasher = FoldHasher::default();
+    let mut hasher = DefaultHasher::new();
     key.hash(&mut hasher);
     hasher.finish()
 }

@@ -9,7 +9,7 @@ use crate::keys::shared_key::SharedKey;
 use erd_tables::{Class, Text, type_text};
 use std::alloc::{AllocError, Global};
 use std::cmp::Ordering;
-use std::hash::{FoldHasher, Hash, Hasher};
+use std::hash::{DefaultHasher, Hash, Hasher};
 use std::marker::Model;
 
 /// The six parts of the name of a selection. Contracts see the parts.
@@ -81,7 +81,7 @@ impl Parts {
     pub(crate) fn digest(&self) -> u64
         ensures { result ≡ name_digest self.now }
     {
-        let mut hasher = FoldHasher::default();
+        let mut hasher = DefaultHasher::new();
         type_text(self.class).hash(&mut hasher);
         self.keys.hash(&mut hasher);
         self.write_in.hash(&mut hasher);

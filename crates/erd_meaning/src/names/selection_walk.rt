@@ -11,13 +11,13 @@ ghost use Rattle.erd_meaning.specs.code.Shown.{placed_at, shown};
 ghost use Rattle.erd_meaning.specs.code.ShownWalks.{names_met};
 
 use crate::keys::key_rule::KeyRule;
+use crate::keys::salted_set::SaltedSet;
 use crate::names::naming::name_of_selection;
 use crate::names::ranked_name::RankedName;
 use crate::objects::ranked_objects::RankedObjects;
 use erd_check::path::{Path, push_fault};
 use erd_check::values::entries_at;
 use erd_tables::{Family, Fault, Reason};
-use indexmap::IndexSet;
 use serde_json::Value;
 use std::alloc::{AllocError, Global};
 
@@ -25,7 +25,7 @@ use std::alloc::{AllocError, Global};
 /// places; and the faults of selections. If several selections of a contest have the same name, the first is kept.
 #[derive(Drop)]
 pub(crate) struct SelectionWalk {
-    pub(crate) names: IndexSet<(usize, RankedName)>,
+    pub(crate) names: SaltedSet<(usize, RankedName)>,
     pub(crate) faults: Vec<Fault>,
 }
 
@@ -39,10 +39,10 @@ pub(crate) fn meet_selections(
 ) -> Result<(), AllocError>
     requires kept { map shown objects.now ≡ kept_objects keys.now (view report.now) }
     requires whole { has_float (view report.now) ≡ false }
-    requires ranked { AllAreRanked (map shown objects.now) walk.old.names.keys }
+    requires ranked { AllAreRanked (map shown objects.now) walk.old.names }
     ensures met { IfOk result (λ _. names_met walk.new
         ≡ named_all (name_among keys.now (map shown objects.now)) (names_met walk.old) (numbered_selections (view report.now))) }
-    ensures ranked { IfOk result (λ _. AllAreRanked (map shown objects.now) walk.new.names.keys) }
+    ensures ranked { IfOk result (λ _. AllAreRanked (map shown objects.now) walk.new.names) }
 {
     // read for its bound: a word counts the contests
     let _count = objects.table().count(Family::Contest);
@@ -67,11 +67,11 @@ fn meet_contests(
 ) -> Result<usize, AllocError>
     requires few { first + length (placed_entries (codes "Contest") (placed_at path.now election.now)) < 2 ^ 64 }
     requires whole { has_float (view election.now) ≡ false }
-    requires ranked { AllAreRanked (map shown objects.now) walk.old.names.keys }
+    requires ranked { AllAreRanked (map shown objects.now) walk.old.names }
     ensures next { IfOk result (λ next. next ≡ first + length (placed_entries (codes "Contest") (placed_at path.now election.now))) }
     ensures met { IfOk result (λ _. names_met walk.new ≡ named_all (name_among keys.now (map shown objects.now)) (names_met walk.old)
         (numbered_from first (placed_entries (codes "Contest") (placed_at path.now election.now)))) }
-    ensures ranked { IfOk result (λ _. AllAreRanked (map shown objects.now) walk.new.names.keys) }
+    ensures ranked { IfOk result (λ _. AllAreRanked (map shown objects.now) walk.new.names) }
 {
     let contests = Path::Member(&*path, "Contest");
     let entries = entries_at(election, "Contest");
@@ -92,10 +92,10 @@ fn meet_contest(
     walk: &mut SelectionWalk,
 ) -> Result<(), AllocError>
     requires whole { has_float (view contest.now) ≡ false }
-    requires ranked { AllAreRanked (map shown objects.now) walk.old.names.keys }
+    requires ranked { AllAreRanked (map shown objects.now) walk.old.names }
     ensures met { IfOk result (λ _. names_met walk.new
         ≡ named_all (name_among keys.now (map shown objects.now)) (names_met walk.old) (numbered_selections_of (number, placed_at path.now contest.now))) }
-    ensures ranked { IfOk result (λ _. AllAreRanked (map shown objects.now) walk.new.names.keys) }
+    ensures ranked { IfOk result (λ _. AllAreRanked (map shown objects.now) walk.new.names) }
 {
     let array = Path::Member(&*path, "ContestSelection");
     for (index, selection) in entries_at(contest, "ContestSelection").iter().enumerate() {
@@ -115,10 +115,10 @@ fn meet_selection(
     walk: &mut SelectionWalk,
 ) -> Result<(), AllocError>
     requires whole { has_float (view selection.now) ≡ false }
-    requires ranked { AllAreRanked (map shown objects.now) walk.old.names.keys }
+    requires ranked { AllAreRanked (map shown objects.now) walk.old.names }
     ensures met { IfOk result (λ _. names_met walk.new
         ≡ named_one (name_among keys.now (map shown objects.now)) (names_met walk.old) (contest, placed_at path.now selection.now)) }
-    ensures ranked { IfOk result (λ _. AllAreRanked (map shown objects.now) walk.new.names.keys) }
+    ensures ranked { IfOk result (λ _. AllAreRanked (map shown objects.now) walk.new.names) }
 {
     match name_of_selection(keys, objects, selection)? {
         Some(name) => meet_name(keys.alloc, contest, name, path, walk),
@@ -135,10 +135,10 @@ fn meet_name(
     path: &Path,
     walk: &mut SelectionWalk,
 ) -> Result<(), AllocError>
-    ensures met { IfOk result (λ _. (ks : List Kept) → AllAreRanked ks walk.old.names.keys → IsRanked ks name
+    ensures met { IfOk result (λ _. (ks : List Kept) → AllAreRanked ks walk.old.names → IsRanked ks name
         → names_met walk.new ≡ with_name (names_met walk.old) (steps_of path.now) contest name.name) }
-    ensures ranked { IfOk result (λ _. (ks : List Kept) → AllAreRanked ks walk.old.names.keys → IsRanked ks name
-        → AllAreRanked ks walk.new.names.keys) }
+    ensures ranked { IfOk result (λ _. (ks : List Kept) → AllAreRanked ks walk.old.names → IsRanked ks name
+        → AllAreRanked ks walk.new.names) }
 {
     if !walk.names.insert((contest, name))? {
         push_fault(alloc, path, Reason::TwinSelection, &mut walk.faults)?;

@@ -6,10 +6,11 @@ ghost use Rattle.erd_meaning.specs.code.KeyOrders.{AreDistinct, IsOrder, positio
 ghost use Rattle.erd_meaning.specs.code.ObjectWalk.{same_key};
 
 use crate::keys::key::Key;
+use crate::keys::salt::Salt;
+use crate::keys::salted_set::SaltedSet;
 use crate::keys::shared_key::SharedKey;
 use crate::keys::triple::Triple;
 use crate::objects::order::Order;
-use indexmap::IndexSet;
 use std::alloc::{AllocError, Global};
 use std::fmt;
 use std::marker::Model;
@@ -19,7 +20,7 @@ use std::marker::Model;
 #[derive(Drop)]
 pub(crate) struct ElectionTable<'a> {
     keys: Vec<Option<SharedKey>>,
-    seen: IndexSet<Triple<'a>>,
+    seen: SaltedSet<Triple<'a>>,
 }
 
 impl<'a> Model for ElectionTable<'a> {
@@ -34,17 +35,17 @@ impl<'a> Model for ElectionTable<'a> {
 
     ghost view = { λ t. t.keys.items };
 
-    ghost invariant = { λ t. AreSeen t.keys.items t.seen.keys };
+    ghost invariant = { λ t. AreSeen t.keys.items t.seen };
 }
 
 impl<'a> ElectionTable<'a> {
     /// Returns a table without elections.
-    pub(crate) fn new(alloc: Global) -> ElectionTable<'a>
+    pub(crate) fn new(alloc: Global, salt: Salt) -> ElectionTable<'a>
         ensures { result ≡ [] }
     {
         ElectionTable {
             keys: Vec::new(alloc),
-            seen: IndexSet::new(alloc),
+            seen: SaltedSet::new(alloc, salt),
         }
     }
 
@@ -103,10 +104,10 @@ impl<'a> ElectionTable<'a> {
 }
 
 /// Adds a key, if there is one, to the keys that were seen. Returns whether it was seen before.
-fn note<'a>(seen: &mut IndexSet<Triple<'a>>, key: Option<Triple<'a>>) -> Result<bool, AllocError>
-    ensures known { IfOk result (λ known. known ≡ is_seen seen.old.keys key.entry) }
-    ensures noted { OnOk result (seen.new.keys ≡ seen_with seen.old.keys key.entry) }
-    ensures kept { OnErr result (seen.new.keys ≡ seen.old.keys) }
+fn note<'a>(seen: &mut SaltedSet<Triple<'a>>, key: Option<Triple<'a>>) -> Result<bool, AllocError>
+    ensures known { IfOk result (λ known. known ≡ is_seen seen.old key.entry) }
+    ensures noted { OnOk result (seen.new ≡ seen_with seen.old key.entry) }
+    ensures kept { OnErr result (seen.new ≡ seen.old) }
 {
     match key {
         Some(key) => Ok(!seen.insert(key)?),

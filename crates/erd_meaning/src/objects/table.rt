@@ -1,10 +1,10 @@
-ghost use Rattle.std.specs.Prelude.{◌≡◌, ◌==◌, ◌<◌, ◌+◌, ◌++◌, ◌∷◌, ℕ, List, [], length, map, option_and_then, option_map, slice_get, is_some, false, OnOk, OnErr, IfOk, if◌then◌else◌, Some, None, vec_len, vec_capacity};
+ghost use Rattle.std.specs.Prelude.{◌≡◌, ◌==◌, ◌<◌, ◌+◌, ◌++◌, ◌∷◌, ℕ, List, [], length, map, option_and_then, option_map, slice_get, is_some, false, true, OnOk, OnErr, IfOk, IfSome, if◌then◌else◌, Some, None, vec_len, vec_capacity};
 ghost use Rattle.std.specs.Option.{option_copied, option_map_or, option_or};
 ghost use Rattle.std.specs.Str.{bytes_eq};
 ghost use Rattle.indexmap.specs.IndexMap.{get_by, spare};
 ghost use Rattle.erd_meaning.specs.code.ObjectIndexes.{IsStart, contests_before, contests_noted, is_in_contest, number_among, number_of_id, number_of_key};
 ghost use Rattle.erd_tables.specs.declared.class.Family.{Family};
-ghost use Rattle.erd_meaning.specs.code.Indexed.{same_owned};
+ghost use Rattle.erd_meaning.specs.code.Indexed.{is_salted_id, is_salted_owned, same_owned};
 ghost use Rattle.std.specs.List.{list_any};
 ghost use Rattle.erd_meaning.specs.code.ObjectLookups.{those_of};
 ghost use Rattle.erd_meaning.specs.code.ReferenceReasons.{is_known};
@@ -13,6 +13,8 @@ ghost use Rattle.erd_meaning.specs.code.Shown.{shown};
 ghost use Rattle.erd_meaning.specs.declared.keys.key.Key.{Key};
 
 use crate::keys::key::Key;
+use crate::keys::salt::Salt;
+use crate::keys::salted::Salted;
 use crate::keys::shared_key::SharedKey;
 use crate::keys::triple::Triple;
 use crate::objects::object::Object;
@@ -40,18 +42,18 @@ pub(crate) struct ObjectTable<'a> {
     objects: Vec<Object<'a>>,
     places: FamilyPlaces,
     contests_before: Vec<usize>,
-    ids: IndexMap<&'a str, (Family, usize)>,
-    keys: IndexMap<(Family, Triple<'a>), usize>,
+    salt: Salt,
+    ids: IndexMap<Salted<&'a str>, (Family, usize)>,
+    keys: IndexMap<Salted<(Family, Triple<'a>)>, usize>,
 }
 
 impl<'a> Model for ObjectTable<'a> {
     ghost use Rattle.std.specs.Prelude.{List, map};
-    ghost use Rattle.std.specs.Str.{bytes_eq};
     ghost use Rattle.indexmap.specs.IndexMap.{get_by};
     ghost use Rattle.std.specs.Coded.{codes};
     ghost use Rattle.serde_json.specs.contracts.value.Value as tree_value;
     ghost use Rattle.erd_meaning.specs.declared.objects.object.Object.{Object};
-    ghost use Rattle.erd_meaning.specs.code.Indexed.{IsIndexed, same_owned};
+    ghost use Rattle.erd_meaning.specs.code.Indexed.{IsIndexed, is_salted_id, is_salted_owned};
     ghost use Rattle.erd_meaning.specs.code.ObjectIndexes.{list_of};
     ghost use Rattle.erd_meaning.specs.code.Shown.{shown};
 
@@ -65,19 +67,20 @@ impl<'a> Model for ObjectTable<'a> {
         (map shown t.objects.items)
         (list_of t.places)
         t.contests_before.items
-        (λ id. get_by (λ k. bytes_eq id k.now) t.ids)
-        (λ f key. get_by (same_owned (f, key)) t.keys) };
+        (λ id. get_by (is_salted_id t.salt id) t.ids)
+        (λ f key. get_by (is_salted_owned t.salt (f, key)) t.keys) };
 }
 
 impl<'a> ObjectTable<'a> {
     /// Returns a table without objects.
-    pub(crate) fn new(alloc: Global) -> ObjectTable<'a>
+    pub(crate) fn new(alloc: Global, salt: Salt) -> ObjectTable<'a>
         ensures { result ≡ [] }
     {
         ObjectTable {
             objects: Vec::new(alloc),
             places: FamilyPlaces::new(alloc),
             contests_before: Vec::new(alloc),
+            salt,
             ids: IndexMap::new(alloc),
             keys: IndexMap::new(alloc),
         }
@@ -101,13 +104,18 @@ impl<'a> ObjectTable<'a> {
         self.keys.reserve(1)?;
         self.places.reserve(family)?;
         self.contests_before.reserve(1)?;
-        let has_id = note_any_id(&mut self.ids, object.id, (family, number))?;
-        let has_key = note_any_key(&mut self.keys, family, key, number);
+        let has_id = note_any_id(&mut self.ids, &self.salt, object.id, (family, number))?;
+        let has_key = note_any_key(&mut self.keys, &self.salt, family, key, number);
         let contests = self.places.of(Family::Contest).len();
         note_contests(&mut self.contests_before, family, contests);
         self.places.push_reserved(family, place);
         self.objects.push_reserved(object);
         Ok(Earlier { has_key, has_id })
+    }
+
+    /// Returns the salt under which the indexes hash their keys.
+    pub(crate) fn salt(&self) -> Salt {
+        self.salt
     }
 
     /// Returns the number of objects.
@@ -134,6 +142,16 @@ impl<'a> ObjectTable<'a> {
         }
     }
 
+    /// Returns the position of the contest of the selection, if there are such.
+    pub(crate) fn contest_of(&self, selection: usize) -> Option<usize>
+        ensures { IfSome result (λ contest. is_in_contest (map shown self.now) contest selection ≡ true) }
+    {
+        match self.contests_before.get(selection) {
+            Some(before) => before.checked_sub(1),
+            None => None,
+        }
+    }
+
     /// Returns the position of the first selection that is in the contest at the position, or in a later one.
     pub(crate) fn first_selection(&self, contest: usize) -> usize
         ensures { IsStart (contests_before 0 (map shown self.now)) contest result }
@@ -155,7 +173,8 @@ impl<'a> ObjectTable<'a> {
     pub(crate) fn has_id(&self, id: &str) -> bool
         ensures { result ≡ is_known (map shown self.now) id.now }
     {
-        self.ids.contains_key(id)
+        let number = self.salt.text_number(id);
+        self.ids.contains_key(&Salted { number, key: id })
     }
 
     /// Returns the key of the object of the family at the position, if there is such an object and it has a key.
@@ -190,14 +209,18 @@ impl<'a> ObjectTable<'a> {
     pub(crate) fn position_of_key(&self, family: Family, key: &Key) -> Option<usize>
         ensures { result ≡ number_of_key (map shown self.now) family key.now }
     {
-        self.keys.get(&(family, Triple::of_key(key))).copied()
+        let key = Triple::of_key(key);
+        let number = self.salt.number(&key);
+        let owned = (family, key);
+        self.keys.get(&Salted { number, key: owned }).copied()
     }
 
     /// Returns the family of the object with the `@id` and its position there, if there is such an object.
     pub(crate) fn position_of_id(&self, id: &str) -> Option<(Family, usize)>
         ensures { result ≡ number_of_id (map shown self.now) id.now }
     {
-        self.ids.get(id).copied()
+        let number = self.salt.text_number(id);
+        self.ids.get(&Salted { number, key: id }).copied()
     }
 }
 
@@ -226,17 +249,18 @@ fn is_next(number: usize, next: usize) -> bool
 
 /// Adds an `@id`, if there is one, as `note_id` does. Returns `false` if there is none.
 fn note_any_id<'a>(
-    ids: &mut IndexMap<&'a str, (Family, usize)>,
+    ids: &mut IndexMap<Salted<&'a str>, (Family, usize)>,
+    salt: &Salt,
     id: Option<&'a str>,
     number: (Family, usize),
 ) -> Result<bool, AllocError>
-    ensures known { IfOk result (λ known. known ≡ option_map_or (λ s. is_some (get_by (λ k. bytes_eq s.now k.now) ids.old)) id.entry false) }
-    ensures noted { OnOk result ((i : List ℕ) → get_by (λ k. bytes_eq i k.now) ids.new
-        ≡ option_or (get_by (λ k. bytes_eq i k.now) ids.old) (if same_id (option_map (λ s. s.now) id.entry) (Some i) then Some number else None)) }
-    ensures kept { OnErr result ((i : List ℕ) → get_by (λ k. bytes_eq i k.now) ids.new ≡ get_by (λ k. bytes_eq i k.now) ids.old) }
+    ensures known { IfOk result (λ known. known ≡ option_map_or (λ s. is_some (get_by (is_salted_id salt.now s.now) ids.old)) id.entry false) }
+    ensures noted { OnOk result ((i : List ℕ) → get_by (is_salted_id salt.now i) ids.new
+        ≡ option_or (get_by (is_salted_id salt.now i) ids.old) (if same_id (option_map (λ s. s.now) id.entry) (Some i) then Some number else None)) }
+    ensures kept { OnErr result ((i : List ℕ) → get_by (is_salted_id salt.now i) ids.new ≡ get_by (is_salted_id salt.now i) ids.old) }
 {
     match id {
-        Some(id) => note_id(ids, id, number),
+        Some(id) => note_id(ids, salt, id, number),
         None => Ok(false),
     }
 }
@@ -244,16 +268,22 @@ fn note_any_id<'a>(
 /// Adds an `@id` with the family of its object and its position there, unless the index already has the `@id`. Returns
 /// whether it had it.
 fn note_id<'a>(
-    ids: &mut IndexMap<&'a str, (Family, usize)>,
+    ids: &mut IndexMap<Salted<&'a str>, (Family, usize)>,
+    salt: &Salt,
     id: &'a str,
     number: (Family, usize),
 ) -> Result<bool, AllocError>
-    ensures known { IfOk result (λ known. known ≡ is_some (get_by (λ k. bytes_eq id.now k.now) ids.old)) }
-    ensures noted { OnOk result ((i : List ℕ) → get_by (λ k. bytes_eq i k.now) ids.new
-        ≡ option_or (get_by (λ k. bytes_eq i k.now) ids.old) (if bytes_eq i id.now then Some number else None)) }
-    ensures kept { OnErr result ((i : List ℕ) → get_by (λ k. bytes_eq i k.now) ids.new ≡ get_by (λ k. bytes_eq i k.now) ids.old) }
+    ensures known { IfOk result (λ known. known ≡ is_some (get_by (is_salted_id salt.now id.now) ids.old)) }
+    ensures noted { OnOk result ((i : List ℕ) → get_by (is_salted_id salt.now i) ids.new
+        ≡ option_or (get_by (is_salted_id salt.now i) ids.old) (if bytes_eq i id.now then Some number else None)) }
+    ensures kept { OnErr result ((i : List ℕ) → get_by (is_salted_id salt.now i) ids.new ≡ get_by (is_salted_id salt.now i) ids.old) }
 {
-    if ids.contains_key(id) {
+    let hash = salt.text_number(id);
+    let id = Salted {
+        number: hash,
+        key: id,
+    };
+    if ids.contains_key(&id) {
         return Ok(true);
     }
     ids.insert(id, number)?;
@@ -262,18 +292,19 @@ fn note_id<'a>(
 
 /// Adds a key, if there is one, as `note_key` does. Returns `false` if there is none.
 fn note_any_key<'a>(
-    keys: &mut IndexMap<(Family, Triple<'a>), usize>,
+    keys: &mut IndexMap<Salted<(Family, Triple<'a>)>, usize>,
+    salt: &Salt,
     family: Family,
     key: Option<Triple<'a>>,
     number: usize,
 ) -> bool
     requires { 0 < spare keys.old }
-    ensures known { result ≡ option_map_or (λ k. is_some (get_by (same_owned (family, k)) keys.old)) key.entry false }
-    ensures noted { (f : Family) (k : Key) → get_by (same_owned (f, k)) keys.new
-        ≡ option_or (get_by (same_owned (f, k)) keys.old) (option_map_or (λ l. if same_owned (f, k) (family, l) then Some number else None) key.entry None) }
+    ensures known { result ≡ option_map_or (λ k. is_some (get_by (is_salted_owned salt.now (family, k)) keys.old)) key.entry false }
+    ensures noted { (f : Family) (k : Key) → get_by (is_salted_owned salt.now (f, k)) keys.new
+        ≡ option_or (get_by (is_salted_owned salt.now (f, k)) keys.old) (option_map_or (λ l. if same_owned (f, k) (family, l) then Some number else None) key.entry None) }
 {
     match key {
-        Some(key) => note_key(keys, family, key, number),
+        Some(key) => note_key(keys, salt, family, key, number),
         None => false,
     }
 }
@@ -281,17 +312,22 @@ fn note_any_key<'a>(
 /// Adds a key with the position of its object in its family, unless the index already has the key. Returns whether it had
 /// it. There must be room for the key.
 fn note_key<'a>(
-    keys: &mut IndexMap<(Family, Triple<'a>), usize>,
+    keys: &mut IndexMap<Salted<(Family, Triple<'a>)>, usize>,
+    salt: &Salt,
     family: Family,
     key: Triple<'a>,
     number: usize,
 ) -> bool
     requires { 0 < spare keys.old }
-    ensures known { result ≡ is_some (get_by (same_owned (family, key.entry)) keys.old) }
-    ensures noted { (f : Family) (k : Key) → get_by (same_owned (f, k)) keys.new
-        ≡ option_or (get_by (same_owned (f, k)) keys.old) (if same_owned (f, k) (family, key.entry) then Some number else None) }
+    ensures known { result ≡ is_some (get_by (is_salted_owned salt.now (family, key.entry)) keys.old) }
+    ensures noted { (f : Family) (k : Key) → get_by (is_salted_owned salt.now (f, k)) keys.new
+        ≡ option_or (get_by (is_salted_owned salt.now (f, k)) keys.old) (if same_owned (f, k) (family, key.entry) then Some number else None) }
 {
-    let owned = (family, key);
+    let hash = salt.number(&key);
+    let owned = Salted {
+        number: hash,
+        key: (family, key),
+    };
     if keys.contains_key(&owned) {
         return true;
     }

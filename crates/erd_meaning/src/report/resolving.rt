@@ -14,6 +14,8 @@ ghost use Rattle.erd_meaning.specs.code.Resolved.{AreNames, IsIdentified, IsRefe
 ghost use Rattle.erd_meaning.specs.code.Shown.{shown};
 
 use crate::keys::key_rule::KeyRule;
+use crate::keys::salt::salt_of;
+use crate::keys::salted_set::SaltedSet;
 use crate::names::ranked_name::RankedName;
 use crate::names::selection_walk::{SelectionWalk, meet_selections};
 use crate::objects::election_table::ElectionTable;
@@ -25,7 +27,6 @@ use crate::report::reference_judge::reference_faults;
 use crate::report::{Elections, Indexes, Report};
 use erd_check::{CheckError, Shaped};
 use erd_tables::{FaultList, Text};
-use indexmap::IndexSet;
 use serde_json::Value;
 use std::alloc::{AllocError, Global};
 
@@ -92,11 +93,11 @@ fn indexed<'a>(
     keys: &KeyRule,
     tree: &'a Value,
     objects: RankedObjects<'a>,
-    names: IndexSet<(usize, RankedName)>,
+    names: SaltedSet<(usize, RankedName)>,
     elections: ElectionTable<'a>,
 ) -> Result<Report<'a>, AllocError>
-    requires resolved { IsResolved keys.now tree.now objects (names_of names.keys) }
-    requires ranked { AllAreRanked (map shown objects) names.keys }
+    requires resolved { IsResolved keys.now tree.now objects (names_of names) }
+    requires ranked { AllAreRanked (map shown objects) names }
     requires elections { elections ≡ election_keys keys.now (view tree.now) }
     ensures tree { IfOk result (λ r. r.tree ≡ tree.now) }
     ensures prefer { IfOk result (λ r. r.prefer ≡ keys.now) }
@@ -137,9 +138,10 @@ fn objects_told_apart<'a>(
     ensures elections { IfOk result (λ r. r.1 ≡ election_keys keys.now (view tree.now)) }
     ensures refused { IfErr result (RefusedFor (IdentityFault keys.now (view tree.now))) }
 {
+    let salt = salt_of(tree);
     let mut walk = ObjectWalk {
-        objects: ObjectTable::new(keys.alloc),
-        elections: ElectionTable::new(keys.alloc),
+        objects: ObjectTable::new(keys.alloc, salt),
+        elections: ElectionTable::new(keys.alloc, salt),
         faults: Vec::new(keys.alloc),
     };
     meet_report(keys, tree, &mut walk)?;
@@ -177,18 +179,18 @@ fn names_told_apart(
     keys: &KeyRule,
     tree: &Value,
     objects: &RankedObjects,
-) -> Result<IndexSet<(usize, RankedName)>, CheckError>
+) -> Result<SaltedSet<(usize, RankedName)>, CheckError>
     requires kept { map shown objects.now ≡ kept_objects keys.now (view tree.now) }
     requires identified { IsIdentified keys.now tree.now }
     requires faultless { IsFaultless tree.now }
     requires whole { has_float (view tree.now) ≡ false }
     ensures told_apart { IfOk result (λ _. IsToldApart keys.now tree.now) }
-    ensures named { IfOk result (λ names. AreNames keys.now (view tree.now) (names_of names.keys)) }
-    ensures ranked { IfOk result (λ names. AllAreRanked (map shown objects.now) names.keys) }
+    ensures named { IfOk result (λ names. AreNames keys.now (view tree.now) (names_of names)) }
+    ensures ranked { IfOk result (λ names. AllAreRanked (map shown objects.now) names) }
     ensures refused { IfErr result (RefusedFor (SelectionFault keys.now (view tree.now))) }
 {
     let mut walk = SelectionWalk {
-        names: IndexSet::new(keys.alloc),
+        names: SaltedSet::new(keys.alloc, objects.table().salt()),
         faults: Vec::new(keys.alloc),
     };
     meet_selections(keys, tree, objects, &mut walk)?;

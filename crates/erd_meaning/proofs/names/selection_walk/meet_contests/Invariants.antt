@@ -12,4 +12,4 @@ abbrev pub invariant-loop-index : goal.invariant-loop-index
 invariant-loop-index l =
     (named_all (name_among l.keys (map shown l.objects)) (names_met l.walk) (of_contests_from l.first (steps_of l.contests) l.index (drop l.index l.entries))
     ≡ named_all (name_among l.keys (map shown l.objects)) (names_met l.initial.walk) (of_contests_from l.first (steps_of l.contests) 0 l.entries))
-    × AllAreRanked (map shown l.objects) l.walk.names.keys
+    × AllAreRanked (map shown l.objects) l.walk.names

@@ -18,7 +18,7 @@ was_new false e = refl
 
 pub returns-in_ok-push_fault-clause-met : goal.returns-in_ok-push_fault-clause-met
 returns-in_ok-push_fault-clause-met c ks all is =
-    let before = c.args.walk.now.names.keys in
+    let before = c.args.walk.now.names in
     let names = ap names_of c.in_ok-insert.ensures.keys ∙ inserted_names ks c.args.contest c.args.name before is all in
     let taken : is_taken (names_of before) c.args.contest c.args.name.name ≡ true =
     sym (any_ranked ks c.args.contest c.args.name before is all) ∙ was_there _ (sym c.in_ok-insert.ensures.added ∙ c.if-not-branch.true) in
@@ -27,11 +27,11 @@ returns-in_ok-push_fault-clause-met c ks all is =
 
 pub returns-in_ok-push_fault-clause-ranked : goal.returns-in_ok-push_fault-clause-ranked
 returns-in_ok-push_fault-clause-ranked c ks all is =
-    subst (λ (names : List PlacedName). AllAreRanked ks names) (sym c.in_ok-insert.ensures.keys) (inserted_ranked ks c.args.contest c.args.name c.args.walk.now.names.keys is all)
+    subst (λ (names : List PlacedName). AllAreRanked ks names) (sym c.in_ok-insert.ensures.keys) (inserted_ranked ks c.args.contest c.args.name c.args.walk.now.names is all)
 
 pub returns-else-not-branch-clause-met : goal.returns-else-not-branch-clause-met
 returns-else-not-branch-clause-met c ks all is =
-    let before = c.args.walk.now.names.keys in
+    let before = c.args.walk.now.names in
     let names = ap names_of c.in_ok-insert.ensures.keys ∙ inserted_names ks c.args.contest c.args.name before is all in
     let taken : is_taken (names_of before) c.args.contest c.args.name.name ≡ false =
     sym (any_ranked ks c.args.contest c.args.name before is all) ∙ was_new _ (sym c.in_ok-insert.ensures.added ∙ c.if-not-branch.false) in
@@ -40,4 +40,4 @@ returns-else-not-branch-clause-met c ks all is =
 
 pub returns-else-not-branch-clause-ranked : goal.returns-else-not-branch-clause-ranked
 returns-else-not-branch-clause-ranked c ks all is =
-    subst (λ (names : List PlacedName). AllAreRanked ks names) (sym c.in_ok-insert.ensures.keys) (inserted_ranked ks c.args.contest c.args.name c.args.walk.now.names.keys is all)
+    subst (λ (names : List PlacedName). AllAreRanked ks names) (sym c.in_ok-insert.ensures.keys) (inserted_ranked ks c.args.contest c.args.name c.args.walk.now.names is all)

@@ -1,11 +1,33 @@
-use Rattle.std.proofs.Common.{Bor, List, ℕ, ap, sym, ◌∙◌}
+use Rattle.std.proofs.Common.{◌≡◌, ◌==◌, ◌&&◌, Bor, Bool, Some, None, cond, List, ℕ, ap, sym, ◌∙◌}
+use Rattle.std.specs.Cmp.Lexicographic.{bytes_decides}
 use Rattle.std.specs.Map.{lookup}
+use Rattle.std.specs.Option.{is_some, option_or}
 use Rattle.std.specs.Str.{bytes_eq}
+use Rattle.indexmap.specs.IndexMap.{get_by}
 use Rattle.indexmap.proofs.CallerLemmas.{insert_entry-new}
+use Rattle.erd_meaning.specs.code.Indexed.{is_salted_id}
+use Rattle.erd_meaning.specs.code.Salts.{text_number}
+use Rattle.erd_meaning.specs.declared.keys.salted.Salted.{Salted}
 use Rattle.erd_meaning.proofs.finding.Pushed.{lookup_push, none_found}
+use Rattle.erd_meaning.proofs.finding.SaltedTests.{number_implied}
 use Rattle.erd_meaning.proofs.objects.table.note_id.Goals as goal
+
+pub returns-then-contains_key-clause-known : goal.returns-then-contains_key-clause-known
+returns-then-contains_key-clause-known c =
+    sym c.if-contains_key.true ∙ c.contains_key.ensures
+    ∙ ap (λ n. is_some (get_by (λ (k : Salted (Bor (List ℕ))). (n == k.number) && bytes_eq c.args.id.now k.key.now) c.args.ids.now)) c.text_number-hash.ensures
+
+pub returns-clause-known : goal.returns-clause-known
+returns-clause-known c =
+    sym c.if-contains_key.false ∙ c.contains_key.ensures
+    ∙ ap (λ n. is_some (get_by (λ (k : Salted (Bor (List ℕ))). (n == k.number) && bytes_eq c.args.id.now k.key.now) c.args.ids.now)) c.text_number-hash.ensures
 
 pub returns-clause-noted : goal.returns-clause-noted
 returns-clause-noted c i =
-    let test = λ (k : Bor (List ℕ)). bytes_eq i k.now in
-    ap (lookup test) (c.in_ok-insert.ensures.entries ∙ insert_entry-new _ c.args.ids.now c.args.id c.args.number (none_found _ (sym c.if-contains_key.false ∙ c.contains_key.ensures))) ∙ lookup_push test c.args.ids.now.entries c.args.id c.args.number
+    let test = is_salted_id c.args.salt.now i in
+    let k : Salted (Bor (List ℕ)) = record { number = c.text_number-hash.result; key = c.args.id } in
+    ap (lookup test) (c.in_ok-insert.ensures.entries ∙ insert_entry-new _ c.args.ids.now k c.args.number (none_found _ (sym c.if-contains_key.false ∙ c.contains_key.ensures)))
+    ∙ lookup_push test c.args.ids.now.entries k c.args.number
+    ∙ ap (λ b. option_or (lookup test c.args.ids.now.entries) (cond b (Some c.args.number) None))
+    (number_implied (text_number c.args.salt.now i) c.text_number-hash.result (bytes_eq i c.args.id.now)
+    (λ e. ap (text_number c.args.salt.now) ((bytes_decides i c.args.id.now).0 e) ∙ sym c.text_number-hash.ensures))

@@ -1,29 +1,42 @@
-use Rattle.std.proofs.Common.{◌≡◌, Bool, true, ap, ap₂, sym, ◌∙◌}
+use Rattle.std.proofs.Common.{◌≡◌, Bool, Some, None, cond, true, ap, ap₂, sym, ◌∙◌}
 use Rattle.std.specs.Map.{lookup}
-use Rattle.std.specs.Option.{is_some}
+use Rattle.std.specs.Option.{is_some, option_or}
 use Rattle.indexmap.specs.IndexMap.{get_by}
 use Rattle.indexmap.proofs.CallerLemmas.{insert_entry-new}
 use Rattle.erd_tables.specs.declared.class.Family.{Family}
-use Rattle.erd_meaning.specs.code.Indexed.{same_owned}
+use Rattle.erd_meaning.specs.Hashes.{key_writes}
+use Rattle.erd_meaning.specs.code.Indexed.{is_salted_owned, same_owned}
+use Rattle.erd_meaning.specs.code.Salts.{salted_number}
 use Rattle.erd_meaning.specs.declared.keys.key.Key.{Key}
-use Rattle.erd_meaning.proofs.finding.OwnedKeys.{owned_exact, owned_test}
+use Rattle.erd_meaning.specs.declared.keys.salted.Salted.{Salted}
+use Rattle.erd_meaning.proofs.finding.OwnedKeys.{owned_asked, owned_exact}
 use Rattle.erd_meaning.proofs.finding.Pushed.{lookup_push, none_found, or_known}
+use Rattle.erd_meaning.proofs.finding.SaltedTests.{number_implied}
 use Rattle.erd_meaning.proofs.objects.table.note_key.Goals as goal
 
 pub returns-then-contains_key-clause-noted : goal.returns-then-contains_key-clause-noted
 returns-then-contains_key-clause-noted c f k =
-    let there : is_some (get_by (same_owned (c.args.family, c.args.key)) c.args.keys.now) ≡ true =
-    sym (sym c.if-contains_key.true ∙ c.contains_key.ensures ∙ ap (λ (test : Family × Key → Bool). is_some (get_by test c.args.keys.now)) (owned_test c.args.family c.args.key)) in
-    or_known (get_by (same_owned (f, k)) c.args.keys.now) c.args.number (same_owned (f, k) (c.args.family, c.args.key))
+    let there : is_some (get_by (is_salted_owned c.args.salt.now (c.args.family, c.args.key)) c.args.keys.now) ≡ true =
+    sym (sym c.if-contains_key.true ∙ c.contains_key.ensures ∙ ap (λ (test : Salted (Family × Key) → Bool). is_some (get_by test c.args.keys.now)) (owned_asked c.args.salt.now c.number-hash.result c.args.family c.args.key c.number-hash.ensures)) in
+    or_known (get_by (is_salted_owned c.args.salt.now (f, k)) c.args.keys.now) c.args.number (same_owned (f, k) (c.args.family, c.args.key))
     (λ e.
     let one = owned_exact f c.args.family k c.args.key e in
-    ap₂ (λ (g : Family) (l : Key). is_some (get_by (same_owned (g, l)) c.args.keys.now)) one.0 one.1 ∙ there)
+    ap₂ (λ (g : Family) (l : Key). is_some (get_by (is_salted_owned c.args.salt.now (g, l)) c.args.keys.now)) one.0 one.1 ∙ there)
+
+pub returns-then-contains_key-clause-known : goal.returns-then-contains_key-clause-known
+returns-then-contains_key-clause-known c =
+    sym c.if-contains_key.true ∙ c.contains_key.ensures ∙ ap (λ (test : Salted (Family × Key) → Bool). is_some (get_by test c.args.keys.now)) (owned_asked c.args.salt.now c.number-hash.result c.args.family c.args.key c.number-hash.ensures)
 
 pub returns-clause-known : goal.returns-clause-known
 returns-clause-known c =
-    sym c.if-contains_key.false ∙ c.contains_key.ensures ∙ ap (λ (test : Family × Key → Bool). is_some (get_by test c.args.keys.now)) (owned_test c.args.family c.args.key)
+    sym c.if-contains_key.false ∙ c.contains_key.ensures ∙ ap (λ (test : Salted (Family × Key) → Bool). is_some (get_by test c.args.keys.now)) (owned_asked c.args.salt.now c.number-hash.result c.args.family c.args.key c.number-hash.ensures)
 
 pub returns-clause-noted : goal.returns-clause-noted
 returns-clause-noted c f k =
-    ap (lookup (same_owned (f, k))) (c.in-Ok.ensures.entries ∙ insert_entry-new _ c.args.keys.now (c.args.family, c.args.key) c.args.number (none_found _ (sym c.if-contains_key.false ∙ c.contains_key.ensures)))
-    ∙ lookup_push (same_owned (f, k)) c.args.keys.now.entries (c.args.family, c.args.key) c.args.number
+    let test = is_salted_owned c.args.salt.now (f, k) in
+    let own : Salted (Family × Key) = record { number = c.number-hash.result; key = (c.args.family, c.args.key) } in
+    ap (lookup test) (c.in-Ok.ensures.entries ∙ insert_entry-new _ c.args.keys.now own c.args.number (none_found _ (sym c.if-contains_key.false ∙ c.contains_key.ensures)))
+    ∙ lookup_push test c.args.keys.now.entries own c.args.number
+    ∙ ap (λ b. option_or (lookup test c.args.keys.now.entries) (cond b (Some c.args.number) None))
+    (number_implied (salted_number c.args.salt.now (key_writes k)) c.number-hash.result (same_owned (f, k) (c.args.family, c.args.key))
+    (λ e. ap (λ l. salted_number c.args.salt.now (key_writes l)) (owned_exact f c.args.family k c.args.key e).1 ∙ sym c.number-hash.ensures))

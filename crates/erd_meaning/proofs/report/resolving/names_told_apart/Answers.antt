@@ -13,7 +13,7 @@ returns-then-len-eq0-clause-told_apart c =
     let kept = map shown c.args.objects.now in
     let tree = view c.args.tree.now in
     let walked : NamesWalked c.args.keys.now before after kept tree =
-    record { no_name = c.new.ensures.empty; no_fault = c.new-2.ensures.items; kept = c.requires.kept; identified = c.requires.identified; met = c.in_ok-meet_selections.ensures.met } in
+    record { no_name = c.new.ensures; no_fault = c.new-2.ensures.items; kept = c.requires.kept; identified = c.requires.identified; met = c.in_ok-meet_selections.ensures.met } in
     no_twin_left c.args.keys.now before after kept tree walked c.of-twins.result c.of-twins.ensures (sym c.len.ensures ∙ c.if-len-eq0.true)
 
 pub returns-then-len-eq0-clause-named : goal.returns-then-len-eq0-clause-named
@@ -23,7 +23,7 @@ returns-then-len-eq0-clause-named c =
     let kept = map shown c.args.objects.now in
     let tree = view c.args.tree.now in
     let walked : NamesWalked c.args.keys.now before after kept tree =
-    record { no_name = c.new.ensures.empty; no_fault = c.new-2.ensures.items; kept = c.requires.kept; identified = c.requires.identified; met = c.in_ok-meet_selections.ensures.met } in
+    record { no_name = c.new.ensures; no_fault = c.new-2.ensures.items; kept = c.requires.kept; identified = c.requires.identified; met = c.in_ok-meet_selections.ensures.met } in
     names_left c.args.keys.now before after kept tree walked c.requires.faultless c.of-twins.result c.of-twins.ensures (sym c.len.ensures ∙ c.if-len-eq0.true)
 
 pub returns-else-len-eq0-clause-refused : goal.returns-else-len-eq0-clause-refused
@@ -33,7 +33,7 @@ returns-else-len-eq0-clause-refused c =
     let kept = map shown c.args.objects.now in
     let tree = view c.args.tree.now in
     let walked : NamesWalked c.args.keys.now before after kept tree =
-    record { no_name = c.new.ensures.empty; no_fault = c.new-2.ensures.items; kept = c.requires.kept; identified = c.requires.identified; met = c.in_ok-meet_selections.ensures.met } in
+    record { no_name = c.new.ensures; no_fault = c.new-2.ensures.items; kept = c.requires.kept; identified = c.requires.identified; met = c.in_ok-meet_selections.ensures.met } in
     let list = c.of-twins.result in
     let some : list ≢ [] = λ empty. let zero : length list ≡ 0 = ap length empty in c.if-len-eq0.false (c.len.ensures ∙ zero) in
     (twins_left c.args.keys.now before after kept tree walked list c.of-twins.ensures, some)

@@ -1,11 +1,16 @@
-use Rattle.std.proofs.Common.{ap, List, is_some, map, ◌∙◌}
+use Rattle.std.proofs.Common.{◌==◌, ◌&&◌, ap, Bor, List, ℕ, is_some, map, ◌∙◌}
+use Rattle.std.specs.Str.{bytes_eq}
+use Rattle.indexmap.specs.IndexMap.{get_by}
 use Rattle.erd_meaning.specs.code.ReferenceReasons.{is_known}
 use Rattle.erd_meaning.specs.code.Shown.{shown}
+use Rattle.erd_meaning.specs.declared.keys.salted.Salted.{Salted}
 use Rattle.erd_meaning.specs.declared.objects.object.Object.{Object}
 use Rattle.erd_meaning.proofs.finding.Known.{id_known}
 use Rattle.erd_meaning.proofs.objects.table.ObjectTable.has_id.Goals as goal
 
 pub returns : goal.returns
 returns c =
-    c.contains_key.ensures ∙ ap is_some (c.self.invariant.ids_are c.args.id.now) ∙ id_known (map shown c.self.inside.objects.items) c.args.id.now
+    c.contains_key.ensures
+    ∙ ap (λ n. is_some (get_by (λ (k : Salted (Bor (List ℕ))). (n == k.number) && bytes_eq c.args.id.now k.key.now) c.self.inside.ids)) c.text_number-number.ensures
+    ∙ ap is_some (c.self.invariant.ids_are c.args.id.now) ∙ id_known (map shown c.self.inside.objects.items) c.args.id.now
     ∙ ap (λ (os : List Object). is_known (map shown os) c.args.id.now) c.self.view_is

@@ -5,7 +5,7 @@ use Rattle.std.specs.Option.{option_map_or, option_or}
 use Rattle.std.proofs.lemmas.List.{length-map, map-append}
 use Rattle.erd_tables.specs.declared.class.Family.{Family}
 use Rattle.erd_tables.specs.declared.class.Family.TheVariants as family
-use Rattle.erd_meaning.specs.code.Indexed.{same_owned}
+use Rattle.erd_meaning.specs.code.Indexed.{is_salted_owned, same_owned}
 use Rattle.erd_meaning.specs.code.ObjectIndexes.{contests_before, contests_noted, number_of_id, number_of_key, places_from, with_place}
 use Rattle.erd_meaning.specs.code.ObjectLookups.{keeps_id, those_of}
 use Rattle.erd_meaning.specs.code.ObjectWalk.{has_same_id, has_same_key}
@@ -41,7 +41,7 @@ invariant_of-self-2 c =
           ∙ sym (number_of_id_push ks k id) ∙ ap (λ ls. number_of_id ls id) (sym all);
       keys_are = λ f key.
           c.note_any_key-has_key.ensures.noted f key
-          ∙ ap₂ option_or (ap (lookup (same_owned (f, key))) c.in_ok-reserve-2.ensures.entries ∙ c.self.invariant.keys_are f key)
+          ∙ ap₂ option_or (ap (lookup (is_salted_owned c.self.inside.salt (f, key))) c.in_ok-reserve-2.ensures.entries ∙ c.self.invariant.keys_are f key)
           (ap₂ (λ (o : Option Key) n. option_map_or (λ l. cond (same_owned (f, key) (g, l)) (Some n) None) o None) c.requires count ∙ noted_any ks k f key k.key refl)
           ∙ sym (number_of_key_push ks k f key) ∙ ap (λ ls. number_of_key ls f key) (sym all);
     }
@@ -52,7 +52,7 @@ returns-clause-has_key c =
     let k = shown c.args.object in
     c.note_any_key-has_key.ensures.known
     ∙ ap₂ (λ (found : Key → Option ℕ) (o : Option Key). option_map_or (λ l. is_some (found l)) o false)
-    (λ i l. (ap (lookup (same_owned (k.family, l))) c.in_ok-reserve-2.ensures.entries ∙ c.self.invariant.keys_are k.family l) i) c.requires
+    (λ i l. (ap (lookup (is_salted_owned c.self.inside.salt (k.family, l))) c.in_ok-reserve-2.ensures.entries ∙ c.self.invariant.keys_are k.family l) i) c.requires
     ∙ sym (has_key_known ks k k.key refl) ∙ ap (λ (os : List Object). list_any (has_same_key k) (map shown os)) c.self.view_is
 
 pub returns-clause-has_id : goal.returns-clause-has_id

@@ -1,0 +1,65 @@
+-- A set whose keys have numbers answers as the list of its keys.
+use Rattle.std.proofs.Common.{◌≡◌, ◌==◌, ◌&&◌, ◌||◌, ◌+◌, ℕ, Bool, true, false, cond, List, [], ◌∷◌, ◌++◌, map, Option, Some, None, refl, sym, ap, ap₂, ◌∙◌}
+use Rattle.std.proofs.lemmas.Iterator.Adapters.{position_from-zero}
+use Rattle.std.specs.Hash.{HashWrites}
+use Rattle.std.specs.List.{list_any, position, position_from}
+use Rattle.indexmap.specs.IndexSet.{insert_key}
+use Rattle.erd_meaning.specs.code.Salts.{AreNumbered, keys_in, salted_number}
+use Rattle.erd_meaning.specs.declared.keys.salt.Salt.{Salt}
+use Rattle.erd_meaning.specs.declared.keys.salted.Salted.{Salted}
+use Rattle.erd_meaning.proofs.finding.SaltedTests.{number_implied}
+
+module _ {K : Type 0} (writes : K → HashWrites) (salt : Salt) where
+  -- what a test finds that asks for a number too, where it holds of keys with this number alone
+  module _ (n : ℕ) (test : K → Bool) (alike : (k : K) → test k ≡ true → n ≡ salted_number salt (writes k)) where
+    abbrev asked : Salted K → Bool
+    asked s = (n == s.number) && test s.key
+
+    one_asked : (s : Salted K) → s.number ≡ salted_number salt (writes s.key) → asked s ≡ test s.key
+    one_asked s is = number_implied n s.number (test s.key) (λ e. alike s.key e ∙ sym is)
+
+    pub any_numbered : (keys : List (Salted K)) → AreNumbered writes salt keys → list_any asked keys ≡ list_any test (keys_in keys)
+    any_numbered [] all = refl
+    any_numbered (s ∷ keys) all = ap₂ (λ a b. a || b) (one_asked s all.0) (any_numbered keys all.1)
+
+    from_numbered : (i : ℕ) (keys : List (Salted K)) → AreNumbered writes salt keys → position_from asked i keys ≡ position_from test i (keys_in keys)
+    from_numbered i [] all = refl
+    from_numbered i (s ∷ keys) all = ap₂ (λ b o. cond b (Some i) o) (one_asked s all.0) (from_numbered (i + 1) keys all.1)
+
+    pub position_numbered : (keys : List (Salted K)) → AreNumbered writes salt keys → position asked keys ≡ position test (keys_in keys)
+    position_numbered keys all = position_from-zero asked keys ∙ from_numbered 0 keys all ∙ sym (position_from-zero test (keys_in keys))
+
+  numbered_push : (keys : List (Salted K)) (s : Salted K) → AreNumbered writes salt keys → s.number ≡ salted_number salt (writes s.key) → AreNumbered writes salt (keys ++ s ∷ [])
+  numbered_push [] s all is = (is, tt)
+  numbered_push (x ∷ keys) s all is = (all.0, numbered_push keys s all.1 is)
+
+  keys_push : (keys : List (Salted K)) (s : Salted K) → keys_in (keys ++ s ∷ []) ≡ keys_in keys ++ s.key ∷ []
+  keys_push [] s = refl
+  keys_push (x ∷ keys) s = ap (λ ks. x.key ∷ ks) (keys_push keys s)
+
+  -- one more key, with its number
+  module _ (same : K → K → Bool) (alike : (x y : K) → same x y ≡ true → writes x ≡ writes y) where
+    abbrev same_salted : Salted K → Salted K → Bool
+    same_salted a b = (a.number == b.number) && same a.key b.key
+
+    module _ (n : ℕ) (k : K) (is : n ≡ salted_number salt (writes k)) (keys : List (Salted K)) (all : AreNumbered writes salt keys) where
+      -- the key with its number
+      abbrev s : Salted K
+      s = record { number = n; key = k }
+
+      pub inserted_any : list_any (same_salted s) keys ≡ list_any (same s.key) (keys_in keys)
+      inserted_any = any_numbered s.number (same s.key) (λ l e. is ∙ ap (λ ws. salted_number salt ws) (alike k l e)) keys all
+
+      pub inserted_numbered : AreNumbered writes salt (insert_key same_salted keys s)
+      inserted_numbered = at (list_any (same_salted s) keys)
+        where
+          at : (b : Bool) → AreNumbered writes salt (cond b keys (keys ++ s ∷ []))
+          at true = all
+          at false = numbered_push keys s all is
+
+      pub inserted_keys : keys_in (insert_key same_salted keys s) ≡ insert_key same (keys_in keys) s.key
+      inserted_keys = at (list_any (same_salted s) keys) ∙ ap (λ b. cond b (keys_in keys) (keys_in keys ++ s.key ∷ [])) inserted_any
+        where
+          at : (b : Bool) → keys_in (cond b keys (keys ++ s ∷ [])) ≡ cond b (keys_in keys) (keys_in keys ++ s.key ∷ [])
+          at true = refl
+          at false = keys_push keys s
