@@ -1,5 +1,8 @@
 -- Accepted reports that mean the same say the same.
 pub mod TwoMeanings
 pub mod Arrays
+pub mod Sets
+pub mod Values
 pub mod Contents
+pub mod Members
 pub mod Counterparts
