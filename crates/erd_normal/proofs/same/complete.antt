@@ -6,3 +6,4 @@ pub mod Values
 pub mod Contents
 pub mod Members
 pub mod Counterparts
+pub mod Texts

@@ -1,11 +1,13 @@
 -- The objects of two accepted reports that mean the same are matched: elections by their keys, the objects of each family in each
 -- election or in the report by theirs, and the selections of a contest by their names.
-use Rattle.std.proofs.Common.{◌≡◌, List, ℕ, Option, true}
+use Rattle.std.proofs.Common.{◌≡◌, List, ℕ, Option, Some, true}
 use Rattle.serde_json.specs.Data.{Data}
 use Rattle.erd_tables.specs.declared.class.Family.{Family}
 use Rattle.erd_tables.specs.declared.class.Family.TheVariants as family
 use Rattle.erd_tables.specs.declared.class.Role.TheVariants as role
 use Rattle.erd_check.proofs.Rising.{Has}
+use Rattle.erd_meaning.specs.Accepted.{IsAccepted}
+use Rattle.erd_meaning.specs.NameParts.{NameParts}
 use Rattle.erd_meaning.specs.Keys.{Preference, has_keys, key_of}
 use Rattle.erd_meaning.specs.Lookups.{election_key_of}
 use Rattle.erd_meaning.specs.Meaning.{ObjectRecord}
@@ -32,6 +34,10 @@ pub record ObjectsAlike (π : Preference) (t u : Data) (f : Family) (o p : Place
 pub record SelectionsAlike (π : Preference) (t u : Data) (o p : Placed) : Type 0 where
   pub name : name_of π t o.value ≡ name_of π u p.value
   pub record_same : selection_record π t o.value ≡ selection_record π u p.value
+
+-- a selection of an accepted report has a name
+pub selection_name : (π : Preference) (t : Data) → IsAccepted π t → (c o : Placed) → Has (objects family.Contest t) c → Has (selections_of_contest c) o → (n : NameParts) × (name_of π t o.value ≡ Some n)
+selection_name π t accepted c o h k = ?
 
 module _ (π : Preference) (t u : Data) (both : MeanOne π t u) where
   pub elections_matched : Matched (ElectionsAlike π t u) (elections t) (elections u)

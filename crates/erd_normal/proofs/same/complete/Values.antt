@@ -1,5 +1,5 @@
 -- Members that mean the same by themselves say the same.
-use Rattle.std.proofs.Common.{◌≡◌, ℕ, List, [], Bool, true, false, not, ◌||◌, Option, Some, None, option_and_then, codes, refl, sym, ap, ◌∙◌, subst}
+use Rattle.std.proofs.Common.{◌≡◌, ◌==◌, ℕ, suc, length, arith, List, [], Bool, true, false, not, ◌||◌, Option, Some, None, option_and_then, codes, refl, sym, ap, ◌∙◌, subst}
 use Rattle.serde_json.specs.Data.{Data, null, boolean, number, string, array, object, Items, no_items, item, Members}
 use Rattle.serde_json.specs.Find.{get_member}
 use Rattle.erd_tables.specs.Classes.{role_of_class, text_of_class}
@@ -158,7 +158,10 @@ unless_none x (object ms) e = cc
 
 empty_array : (v : Data) → not (is_empty_array v) ≡ false → v ≡ array no_items
 empty_array (array no_items) e = refl
-empty_array (array (item d ds)) e = let h : true ≡ false = e in cc
+empty_array (array (item d ds)) e =
+    let some : (suc (length (list_of_items ds)) == 0) ≡ false = grind arith in
+    let h : true ≡ false = sym (ap not some) ∙ e in
+    cc
 empty_array null e = let h : true ≡ false = e in cc
 empty_array (boolean b) e = let h : true ≡ false = e in cc
 empty_array (number n) e = let h : true ≡ false = e in cc
