@@ -3,6 +3,7 @@ pub mod TwoMeanings
 pub mod Arrays
 pub mod Sets
 pub mod Values
+pub mod ContentNodes
 pub mod Contents
 pub mod Members
 pub mod Counterparts
