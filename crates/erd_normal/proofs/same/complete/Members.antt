@@ -33,11 +33,12 @@ use Rattle.erd_meaning.specs.Meaning.{MemberValue, PlainValue, a_json, a_plain}
 use Rattle.erd_meaning.specs.Records.{is_in_envelope, member_value, plain_member, plain_value}
 use Rattle.erd_meaning.proofs.accepted.Phases.{no_shape_fault}
 use Rattle.erd_meaning.proofs.orders.Sets.{has-any}
+use Rattle.erd_normal.proofs.same.LabelsBack.{equal_aligned}
 use Rattle.erd_normal.proofs.same.Lookups.{Aligned}
 use Rattle.erd_normal.proofs.same.Merged.{merged}
 use Rattle.erd_normal.proofs.same.Steady.{is_plain}
 use Rattle.erd_normal.proofs.same.complete.TwoMeanings.{TextsTied}
-use Rattle.erd_normal.proofs.same.complete.Values.{all_plain, equal_aligned, means_itself, plain_aligned}
+use Rattle.erd_normal.proofs.same.complete.Values.{all_plain, means_itself, plain_aligned}
 use Rattle.erd_normal.specs.SaysTheSame.{Sides, Same, SameMembers, an_object}
 
 -- ---- what records leave out

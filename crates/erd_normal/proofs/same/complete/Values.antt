@@ -174,11 +174,6 @@ json_same v w e = cc
 pub all_plain : (o : Option Want) (w : Want) → o ≡ Some w → is_plain w ≡ true → AllPlain o
 all_plain o w e h v g = let one : Some w ≡ Some v = sym e ∙ g in let same : w ≡ v = cc in subst (λ x. is_plain x ≡ true) same h
 
--- equal members say the same where what is asked is plain
-pub equal_aligned : (m : Sides) (s : Scope) (n : List ℕ) (o p : Option Data) → AllPlain (want_of_name s n) → o ≡ p → Aligned m s n o p
-equal_aligned m s n None p plain e = subst (Aligned m s n None) e (not_both (lacks_nothing m.left s n) (lacks_nothing m.right s n))
-equal_aligned m s n (Some d) p plain e = subst (Aligned m s n (Some d)) e (both_there (plain_self m (want_of_name s n) d plain))
-
 -- a member that means nothing is an empty array
 record Nothing (k : MemberKind) (r : Bool) (v : Data) : Type 0 where
   array_kind : is_array_kind k ≡ true
