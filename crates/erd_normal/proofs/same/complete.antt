@@ -8,3 +8,6 @@ pub mod Contents
 pub mod Members
 pub mod Counterparts
 pub mod Texts
+pub mod Objects
+pub mod Unused
+pub mod Complete

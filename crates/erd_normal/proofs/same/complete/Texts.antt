@@ -62,7 +62,7 @@ one_counterpart π t u accepted accepted' f o p q h k (by_name is c d i j keys l
     one_named π u accepted' d p q name.0 j n (subst (λ x. Has (selections_of_contest x) q) (sym other) n') name.1 (sym names' ∙ names ∙ name.1)
 
 -- an object is of one family
-one_family : (π : Preference) (t : Data) → IsAccepted π t → (f g : Family) (o : Placed) → Has (objects f t) o → Has (objects g t) o → f ≡ g
+pub one_family : (π : Preference) (t : Data) → IsAccepted π t → (f g : Family) (o : Placed) → Has (objects f t) o → Has (objects g t) o → f ≡ g
 one_family π t accepted f g o h k =
     let both : Some (asked (Object (role.OfFamily f)) o.value) ≡ Some (asked (Object (role.OfFamily g)) o.value) = sym (stands π t accepted f o h) ∙ stands π t accepted g o k in
     let one : asked (Object (role.OfFamily f)) o.value ≡ asked (Object (role.OfFamily g)) o.value = cc in
@@ -250,6 +250,15 @@ module _ (π : Preference) (t u : Data) (both : MeanOne π t u) where
         at : (o : Option (Couple π t u)) → find (λ (c : Couple π t u). bytes_eq s' c.other_text) couples ≡ o → s ≡ option_map_or (λ (c : Couple π t u). c.text) o default → (c : Couple π t u) × (c.text ≡ s) × (c.other_text ≡ s')
         at None is g = absurd (other g)
         at (Some c) is g = (c, sym g, sym (text_exact s' c.other_text (find-Some (λ (c : Couple π t u). bytes_eq s' c.other_text) couples c is).1))
+
+    -- and one that goes there
+    pub couple_there : (s s' : List ℕ) → s' ≡ there s → (s' ≡ default → ⊥) → (c : Couple π t u) × (c.text ≡ s) × (c.other_text ≡ s')
+    unfolding there
+    couple_there s s' e other = at (find (λ (c : Couple π t u). bytes_eq s c.text) couples) refl e
+      where
+        at : (o : Option (Couple π t u)) → find (λ (c : Couple π t u). bytes_eq s c.text) couples ≡ o → s' ≡ option_map_or (λ (c : Couple π t u). c.other_text) o default → (c : Couple π t u) × (c.text ≡ s) × (c.other_text ≡ s')
+        at None is g = absurd (other g)
+        at (Some c) is g = (c, sym (text_exact s c.text (find-Some (λ (c : Couple π t u). bytes_eq s c.text) couples c is).1), sym g)
 
     -- ---- references
 
