@@ -6,6 +6,7 @@ pub mod Values
 pub mod ContentNodes
 pub mod Contents
 pub mod Members
+pub mod ByRecords
 pub mod Counterparts
 pub mod Texts
 pub mod Objects
