@@ -1,10 +1,5 @@
 -- Accepted reports that mean the same say the same, and so two preferences agree on which mean the same.
-use Rattle.std.proofs.Common.{◌≡◌, [], sym}
-use Rattle.serde_json.specs.Data.{Data}
-use Rattle.erd_check.specs.Trees.{IsTree}
-use Rattle.erd_meaning.specs.Accepted.{IsAccepted}
-use Rattle.erd_meaning.specs.Keys.{Preference}
-use Rattle.erd_meaning.specs.Records.{meaning}
+use Rattle.std.proofs.Common.{[], sym}
 use Rattle.erd_normal.proofs.same.complete.Objects.{all_says}
 use Rattle.erd_normal.proofs.same.complete.Texts.{back, there}
 use Rattle.erd_normal.proofs.same.complete.TwoMeanings.{MeanOne}

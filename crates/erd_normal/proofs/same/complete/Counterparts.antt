@@ -1,6 +1,6 @@
 -- The objects of two accepted reports that mean the same are matched: elections by their keys, the objects of each family in each
 -- election or in the report by theirs, and the selections of a contest by their names.
-use Rattle.std.proofs.Common.{◌≡◌, List, ℕ, Bool, true, is_eq, map, find, Option, Some, None, option_map, option_and_then, codes, refl, sym, ap, ◌∙◌, subst}
+use Rattle.std.proofs.Common.{◌≡◌, List, ℕ, Bool, true, is_eq, find, Option, Some, None, option_map, option_and_then, codes, refl, sym, ap, ◌∙◌, subst}
 use Rattle.std.proofs.lemmas.Cmp.{tied_itself}
 use Rattle.std.specs.Cmp.Lexicographic.{options_total}
 use Rattle.std.specs.Option.{option_cmp}

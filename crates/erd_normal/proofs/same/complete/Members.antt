@@ -1,5 +1,5 @@
 -- Objects of one class say the same if their `@id`s do, what their records leave out does, and the rest means the same.
-use Rattle.std.proofs.Common.{◌≡◌, ℕ, List, [], ◌∷◌, Option, Some, None, option_map, option_and_then, is_some, Bool, true, false, not, ◌||◌, ◌&&◌, cond, codes, refl, sym, ap, ◌∙◌, subst, ◌⊎◌, inl, inr, ⊎_elim}
+use Rattle.std.proofs.Common.{◌≡◌, ℕ, List, [], ◌∷◌, Option, Some, None, option_map, option_and_then, is_some, Bool, true, false, not, ◌||◌, ◌&&◌, codes, refl, sym, ap, ◌∙◌, subst, ◌⊎◌, inl, inr, ⊎_elim}
 use Rattle.std.specs.List.{list_all, list_any}
 use Rattle.std.specs.Str.{bytes_eq}
 use Rattle.serde_json.specs.Data.{Data, null, object, Members}
@@ -17,7 +17,6 @@ use Rattle.erd_tables.specs.declared.member.MemberKind.{MemberKind}
 use Rattle.erd_tables.specs.declared.member.MemberKind.TheVariants as kind
 use Rattle.erd_check.specs.Trees.{AreMembers}
 use Rattle.erd_check.specs.Wants.{asked, is_report_class, member_want, want_of_name}
-use Rattle.erd_check.specs.declared.want.Scope.{Scope}
 use Rattle.erd_check.specs.declared.want.Scope.TheVariants as scope
 use Rattle.erd_check.specs.declared.want.Want.TheVariants.{ClassText, Object, Status}
 use Rattle.erd_check.proofs.Exact.{both_true, text_exact}
@@ -36,7 +35,6 @@ use Rattle.erd_meaning.proofs.orders.Sets.{has-any}
 use Rattle.erd_normal.proofs.same.LabelsBack.{equal_aligned}
 use Rattle.erd_normal.proofs.same.Lookups.{Aligned}
 use Rattle.erd_normal.proofs.same.Merged.{merged}
-use Rattle.erd_normal.proofs.same.Steady.{is_plain}
 use Rattle.erd_normal.proofs.same.complete.TwoMeanings.{TextsTied}
 use Rattle.erd_normal.proofs.same.complete.Values.{all_plain, means_itself, plain_aligned}
 use Rattle.erd_normal.specs.SaysTheSame.{Sides, Same, SameMembers, an_object}

@@ -1,27 +1,24 @@
 -- Objects of families, elections and reports that mean the same say the same.
-use Rattle.std.proofs.Common.{◌≡◌, ℕ, List, [], ◌∷◌, flat_map, map, Option, Some, None, option_map, option_and_then, is_some, Bool, true, false, codes, refl, sym, ap, ◌∙◌, subst, ⊎_elim}
+use Rattle.std.proofs.Common.{◌≡◌, ℕ, List, [], ◌∷◌, map, Option, Some, None, option_map, is_some, true, false, codes, refl, sym, ap, ◌∙◌, subst, ⊎_elim}
 use Rattle.std.specs.Str.{bytes_eq}
 use Rattle.serde_json.specs.Data.{Data, string, array, object, Members}
-use Rattle.serde_json.specs.Find.{get_member, as_str}
+use Rattle.serde_json.specs.Find.{get_member}
 use Rattle.erd_tables.specs.Classes.{family_of_class, role_of_class}
-use Rattle.erd_tables.specs.Table.{is_required, kind_of_identity, kind_of_member}
+use Rattle.erd_tables.specs.Table.{is_required, kind_of_member}
 use Rattle.erd_tables.specs.declared.class.Class.{Class}
 use Rattle.erd_tables.specs.declared.class.Class.TheVariants as class
 use Rattle.erd_tables.specs.declared.class.Family.{Family}
 use Rattle.erd_tables.specs.declared.class.Family.TheVariants as family
 use Rattle.erd_tables.specs.declared.class.Role.{Role}
 use Rattle.erd_tables.specs.declared.class.Role.TheVariants as role
-use Rattle.erd_tables.specs.declared.member.MemberKind.{MemberKind}
 use Rattle.erd_tables.specs.declared.member.MemberKind.TheVariants as kind
-use Rattle.erd_check.specs.Trees.{IsTree}
 use Rattle.erd_check.specs.Values.{entries_at}
-use Rattle.erd_check.specs.Wants.{asked, class_of_object, entry_want, is_table_set, member_want, want_of_kind, want_of_name}
+use Rattle.erd_check.specs.Wants.{asked, class_of_object, member_want, want_of_name}
 use Rattle.erd_check.specs.declared.want.Scope.{Scope}
 use Rattle.erd_check.specs.declared.want.Scope.TheVariants as scope
-use Rattle.erd_check.specs.declared.want.Want.{Want}
 use Rattle.erd_check.specs.declared.want.Want.TheVariants.{Member, Object}
 use Rattle.erd_check.proofs.Entries.{entries_in}
-use Rattle.erd_check.proofs.ObjectsAt.{MayBeArray, ObjectAt, ObjectIn, is_absent, is_filled_array, keyed_list, object_in}
+use Rattle.erd_check.proofs.ObjectsAt.{MayBeArray, ObjectAt, ObjectIn, is_filled_array, keyed_list, object_in}
 use Rattle.erd_check.proofs.Rising.{Has, Has-cases}
 use Rattle.erd_check.proofs.Shapes.{Within, within-tree}
 use Rattle.erd_check.proofs.TableKinds.{want_by_kind}
@@ -32,14 +29,14 @@ use Rattle.erd_meaning.specs.Objects.{Placed, contests, elections, id_of, object
 use Rattle.erd_meaning.specs.Records.{is_in_envelope, member_of_class, object_record, plain_member, selection_record}
 use Rattle.erd_meaning.specs.SelectionNames.{selection_role}
 use Rattle.erd_meaning.proofs.accepted.Phases.{no_shape_fault}
-use Rattle.erd_meaning.proofs.accepted.Skeleton.{Skeleton, election_entries, election_object, election_stands, skeleton, values-placed_entries}
+use Rattle.erd_meaning.proofs.accepted.Skeleton.{Skeleton, election_object, election_stands, skeleton, values-placed_entries}
 use Rattle.erd_meaning.proofs.accepted.Standing.{contest_selections, flat-has, stands}
 use Rattle.erd_normal.proofs.built.NormalGets.{kind_of_family_id}
 use Rattle.erd_normal.proofs.lists.Matched.{Matched, matched_mapped}
 use Rattle.erd_normal.proofs.same.Lookups.{Aligned, both_there, lacks_none, lacks_one, not_both}
 use Rattle.erd_normal.proofs.same.Related.{matched_within_both}
 use Rattle.erd_normal.proofs.same.complete.Arrays.{sets_aligned}
-use Rattle.erd_normal.proofs.same.complete.Counterparts.{ElectionsAlike, ObjectsAlike, SelectionsAlike, elections_matched, family_matched, held_matched, selections_matched}
+use Rattle.erd_normal.proofs.same.complete.Counterparts.{ElectionsAlike, ObjectsAlike, elections_matched, family_matched, held_matched, selections_matched}
 use Rattle.erd_normal.proofs.same.complete.Members.{apart_cases, apart_named, is_apart, leaves, leaves_out, left_out, meant_unless_apart, object_says, plain_from_value}
 use Rattle.erd_normal.proofs.same.complete.Texts.{Counterpart, by_key, by_name, ids_stand, sides, texts_tied}
 use Rattle.erd_normal.proofs.same.complete.TwoMeanings.{MeanOne}

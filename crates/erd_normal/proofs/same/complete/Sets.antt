@@ -15,7 +15,6 @@ use Rattle.erd_tables.specs.declared.place.Step.TheVariants.{At}
 use Rattle.erd_check.specs.Trees.{AreTrees, IsTree, is_same_json}
 use Rattle.erd_check.specs.Values.{list_of_items}
 use Rattle.erd_check.specs.Wants.{asked, entry_want, is_compared_set, is_repeated}
-use Rattle.erd_check.specs.declared.want.Want.{Want}
 use Rattle.erd_check.specs.declared.want.Want.TheVariants.{Member, Object, Reference}
 use Rattle.erd_check.proofs.Entries.{list_of_items-place, list_of_items-tree, string_from_text}
 use Rattle.erd_check.proofs.Exact.{text_itself}
@@ -24,21 +23,20 @@ use Rattle.erd_check.proofs.Shapes.{Within, Within-step, unrepeated, wanted_with
 use Rattle.erd_check.proofs.Whole.{entry_itself, is_simple_class}
 use Rattle.erd_meaning.specs.Accepted.{IsAccepted}
 use Rattle.erd_meaning.specs.Keys.{Preference, has_keys, key_cmp}
-use Rattle.erd_meaning.specs.Records.{json_set, key_set}
+use Rattle.erd_meaning.specs.Records.{key_set}
 use Rattle.erd_meaning.specs.SelectionNames.{key_named, keys_named}
 use Rattle.erd_meaning.specs.code.Orders.{key_cmp_exact, key_cmp_total}
 use Rattle.erd_meaning.specs.declared.keys.key.Key.{Key}
 use Rattle.erd_meaning.proofs.accepted.Phases.{no_shape_fault}
 use Rattle.erd_meaning.proofs.accepted.References.{resolves, unrepeated_reference}
 use Rattle.erd_meaning.proofs.orders.DistinctEntries.{unrepeated_distinct}
-use Rattle.erd_meaning.proofs.orders.Reordered.{Reordered}
 use Rattle.erd_meaning.proofs.orders.Sets.{any-has, has-any}
 use Rattle.erd_normal.proofs.canonical.DistinctSets.{first_reference, first_value, names_accepted}
 use Rattle.erd_normal.proofs.lists.Matched.{Matched}
 use Rattle.erd_normal.proofs.lists.Paired.{Paired, none, more}
 use Rattle.erd_normal.proofs.same.ByKeys.{ApartBy, matched_by_keys}
 use Rattle.erd_normal.proofs.same.Related.{matched_within_both}
-use Rattle.erd_normal.proofs.same.SetsBack.{AreSound, itself, json_sets_reordered}
+use Rattle.erd_normal.proofs.same.SetsBack.{AreSound, itself}
 use Rattle.erd_normal.proofs.same.complete.TwoMeanings.{TextsTied}
 use Rattle.erd_normal.specs.SaysTheSame.{Sides, Same, an_id}
 

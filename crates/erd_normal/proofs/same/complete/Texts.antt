@@ -1,6 +1,6 @@
 -- The two functions of texts: an `@id` of the one report goes to that of the object with the same key, or of the selection with the
 -- same name of the contest with the same key.
-use Rattle.std.proofs.Common.{◌≡◌, ℕ, List, [], ◌∷◌, flat_map, Option, Some, None, option_map, option_and_then, map, find, Bool, true, false, codes, refl, sym, ap, ◌∙◌, subst, ◌⊎◌, inl, inr, ⊎_elim}
+use Rattle.std.proofs.Common.{◌≡◌, ℕ, List, [], ◌∷◌, flat_map, Option, Some, None, option_and_then, map, find, true, codes, refl, sym, ap, ◌∙◌, subst, ◌⊎◌, inl, inr, ⊎_elim}
 use Rattle.std.specs.List.{list_any}
 use Rattle.std.specs.Option.{option_map_or}
 use Rattle.std.specs.Str.{bytes_eq}
@@ -17,10 +17,8 @@ use Rattle.erd_check.proofs.Rising.{Has, Has-cases, here, later}
 use Rattle.erd_meaning.specs.Accepted.{IsAccepted}
 use Rattle.erd_meaning.specs.Keys.{Preference, has_keys, key_of}
 use Rattle.erd_meaning.specs.LaterFaults.{is_selection_in}
-use Rattle.erd_meaning.specs.NameParts.{NameParts}
 use Rattle.erd_meaning.specs.Objects.{Placed, contests, has_id, id_of, objects, owner, selections_of_contest}
-use Rattle.erd_meaning.specs.SelectionNames.{key_named, name_named, name_of}
-use Rattle.erd_meaning.proofs.accepted.HeldObjects.{has-flat}
+use Rattle.erd_meaning.specs.SelectionNames.{name_named, name_of}
 use Rattle.erd_meaning.proofs.accepted.Phases.{no_identity_fault}
 use Rattle.erd_meaning.proofs.accepted.References.{Has-Contains, find-Some, find-any, has_identifier}
 use Rattle.erd_meaning.proofs.accepted.Skeleton.{values-placed_entries}
@@ -31,7 +29,7 @@ use Rattle.erd_normal.proofs.lists.Lists.{is_family}
 use Rattle.erd_normal.proofs.lists.Matched.{Matched, matched_flat}
 use Rattle.erd_normal.proofs.lists.Paired.{Paired, none, more}
 use Rattle.erd_normal.proofs.same.Related.{matched_within_both}
-use Rattle.erd_normal.proofs.same.complete.Counterparts.{ObjectsAlike, SelectionsAlike, family_matched, selection_name, selections_matched}
+use Rattle.erd_normal.proofs.same.complete.Counterparts.{ObjectsAlike, family_matched, selection_name, selections_matched}
 use Rattle.erd_normal.proofs.same.complete.TwoMeanings.{MeanOne, TextsTied}
 use Rattle.erd_normal.specs.SaysTheSame.{Sides, StandsFor}
 

@@ -1,6 +1,6 @@
 -- To an `@id` whose object's counterpart has none nothing refers: each reference comes from one of the other report.
 use Rattle.std.proofs.Common.{◌≡◌, ℕ, zero, suc, List, [], ◌∷◌, Some, None, option_and_then, true, false, length, arith, refl, sym, ap, ◌∙◌, subst}
-use Rattle.serde_json.specs.Data.{Data, null, string}
+use Rattle.serde_json.specs.Data.{Data, null}
 use Rattle.erd_tables.specs.declared.class.Family.{Family}
 use Rattle.erd_tables.specs.declared.class.Role.TheVariants as role
 use Rattle.erd_tables.specs.declared.place.Step.{Step}

@@ -13,7 +13,7 @@ use Rattle.erd_tables.specs.declared.member.MemberKind.TheVariants as kind
 use Rattle.erd_check.specs.Faults.{is_array, is_empty_array, is_object, is_text}
 use Rattle.erd_check.specs.Trees.{AreMembers, AreTrees, IsTree}
 use Rattle.erd_check.specs.Values.{list_of_items}
-use Rattle.erd_check.specs.Wants.{asked, class_of_object, entry_want, is_table_set, scope_inside, want_of_kind, want_of_name}
+use Rattle.erd_check.specs.Wants.{asked, class_of_object, want_of_kind, want_of_name}
 use Rattle.erd_check.specs.declared.want.Scope.{Scope}
 use Rattle.erd_check.specs.declared.want.Scope.TheVariants as scope
 use Rattle.erd_check.specs.declared.want.Want.{Want}
@@ -24,9 +24,8 @@ use Rattle.erd_check.proofs.Shapes.{Classed, Within, classed, faultless, lacks_n
 use Rattle.erd_check.proofs.Whole.{is_simple_class, no_strange, no_unknown}
 use Rattle.erd_meaning.specs.Accepted.{IsAccepted}
 use Rattle.erd_meaning.specs.Keys.{Preference, has_keys}
-use Rattle.erd_meaning.specs.Meaning.{Content, KeySet, JsonSet, Label, PlainValue, a_content, a_json, a_json_set, a_key, a_key_set, a_label, no_content, untranslated}
-use Rattle.erd_meaning.specs.Records.{json_set, key_set, label_of, nodes_of, plain_value, unless_empty}
-use Rattle.erd_meaning.specs.SelectionNames.{keys_named}
+use Rattle.erd_meaning.specs.Meaning.{Content, Label, PlainValue, a_content, a_json, a_json_set, a_key, a_key_set, a_label, no_content, untranslated}
+use Rattle.erd_meaning.specs.Records.{label_of, plain_value, unless_empty}
 use Rattle.erd_meaning.specs.declared.keys.key.Key.{Key}
 use Rattle.erd_meaning.proofs.accepted.Phases.{no_shape_fault}
 use Rattle.erd_meaning.proofs.orders.Reordered.{Reordered}
