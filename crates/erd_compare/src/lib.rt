@@ -4,7 +4,7 @@
 pub mod difference;
 mod difference_value;
 mod first;
-mod numbers;
+mod ranks;
 mod objects;
 mod sides;
 mod values;
