@@ -5,7 +5,6 @@ use Rattle.std.specs.Prelude.{ℕ, ◌≡◌, ◌↔◌, List}
 use Rattle.serde_json.specs.Data.{Data}
 use Rattle.erd_meaning.specs.Keys.{Preference}
 use Rattle.erd_meaning.specs.Records.{meaning}
-use Rattle.erd_normal.specs.Laws.{IsGiven}
 use Rattle.erd_normal.specs.Rearranged.{Change, IsRearrangement}
 use Rattle.erd_normal.specs.SaysTheSame.{SaysTheSame}
 use Rattle.erd_canon.specs.Bytes.{IsAcceptedReport, IsCanonicalBytes, IsTreeOf}
@@ -23,11 +22,10 @@ abbrev pub TellsMeanings : Preference → List ℕ → List ℕ → Type 0
 TellsMeanings π b c =
     (b2 c2 : List ℕ) (t t2 : Data) → IsCanonicalBytes π b2 c2 → IsTreeOf b t → IsTreeOf b2 t2 → (c ≡ c2) ↔ (meaning π t ≡ meaning π t2)
 
--- The bytes c equal the canonical bytes of any report, as calls take it, if and only if that report says the same as the one
--- in b.
+-- The bytes c equal the canonical bytes of any report if and only if that report says the same as the one in b.
 abbrev pub TellsSayings : Preference → List ℕ → List ℕ → Type 0
 TellsSayings π b c =
-    (b2 c2 : List ℕ) (t t2 : Data) → IsCanonicalBytes π b2 c2 → IsTreeOf b t → IsTreeOf b2 t2 → IsGiven t2 → (c ≡ c2) ↔ SaysTheSame t t2
+    (b2 c2 : List ℕ) (t t2 : Data) → IsCanonicalBytes π b2 c2 → IsTreeOf b t → IsTreeOf b2 t2 → (c ≡ c2) ↔ SaysTheSame t t2
 
 -- The bytes are their own canonical bytes, and they have no others.
 abbrev pub IsOwnForm : Preference → List ℕ → Type 0

@@ -27,5 +27,6 @@ pub mod IdsOfObjects
 pub mod Refers
 pub mod Renamed
 pub mod means
+pub mod complete
 pub mod accepted
 pub mod normal

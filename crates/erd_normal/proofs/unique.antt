@@ -13,4 +13,3 @@ pub mod NamesAlike
 pub mod ReferencesAlike
 pub mod ObjectsAlike
 pub mod Unique
-pub mod PreferencesAgree

@@ -113,21 +113,20 @@ RearrangedMeansTheSame =
 
 -- ---- two preferences
 
+-- Two reports, both accepted under two preferences, mean the same under the one if and only if they do under the other.
+abbrev pub PreferencesAgree : Type 0
+PreferencesAgree =
+    (π ρ : Preference) (t u : Data) → IsTree t → IsTree u → IsAccepted π t → IsAccepted π u → IsAccepted ρ t → IsAccepted ρ u
+    → (meaning π t ≡ meaning π u) ↔ (meaning ρ t ≡ meaning ρ u)
+
+-- ---- existence
+
 -- A report as calls take it: a tree in which each number is whole and fits 64 bits, and whose families a machine word can
 -- count.
 pub record IsGiven (t : Data) : Type 0 where
   pub is_tree : IsTree t
   pub fits : HasFittingNumbers t
   pub bounded : IsBounded t
-
--- Two reports as calls take them, both accepted under two preferences, mean the same under the one if and only if they do
--- under the other.
-abbrev pub PreferencesAgree : Type 0
-PreferencesAgree =
-    (π ρ : Preference) (t u : Data) → IsGiven t → IsGiven u → IsAccepted π t → IsAccepted π u → IsAccepted ρ t → IsAccepted ρ u
-    → (meaning π t ≡ meaning π u) ↔ (meaning ρ t ≡ meaning ρ u)
-
--- ---- existence
 
 -- A tree that is the canonical form of t. It is nested no deeper than t.
 pub record HasCanonicalForm (π : Preference) (t : Data) : Type 0 where

@@ -13,14 +13,12 @@ use Rattle.erd_normal.specs.SaysTheSame.{SaysTheSame}
 abbrev pub CanonicalSaysTheSame : Type 0
 CanonicalSaysTheSame = (π : Preference) (t u : Data) → IsGiven t → IsTree u → IsAccepted π t → IsCanonicalFormOf π t u → SaysTheSame t u
 
--- Two accepted reports, given as calls take them, say the same if they mean the same. So a meaning leaves out no more than the
--- relation allows.
+-- Two accepted reports say the same if they mean the same. So a meaning leaves out no more than the relation allows.
 abbrev pub MeaningTheSameSaysTheSame : Type 0
 MeaningTheSameSaysTheSame =
-    (π : Preference) (t u : Data) → IsGiven t → IsGiven u → IsAccepted π t → IsAccepted π u → meaning π t ≡ meaning π u
-    → SaysTheSame t u
+    (π : Preference) (t u : Data) → IsTree t → IsTree u → IsAccepted π t → IsAccepted π u → meaning π t ≡ meaning π u → SaysTheSame t u
 
--- Two accepted reports, given as calls take them, mean the same if and only if they say the same.
+-- Two accepted reports mean the same if and only if they say the same.
 abbrev pub SayingAndMeaningAgree : Type 0
 SayingAndMeaningAgree =
-    (π : Preference) (t u : Data) → IsGiven t → IsGiven u → IsAccepted π t → IsAccepted π u → (meaning π t ≡ meaning π u) ↔ SaysTheSame t u
+    (π : Preference) (t u : Data) → IsTree t → IsTree u → IsAccepted π t → IsAccepted π u → (meaning π t ≡ meaning π u) ↔ SaysTheSame t u

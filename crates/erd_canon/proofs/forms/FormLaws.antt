@@ -7,10 +7,9 @@ use Rattle.erd_meaning.specs.Accepted.{IsAccepted}
 use Rattle.erd_meaning.specs.Keys.{Preference}
 use Rattle.erd_meaning.specs.Records.{meaning}
 use Rattle.erd_normal.proofs.rearranged.RearrangedReports.{rearranged_means_the_same}
-use Rattle.erd_normal.proofs.same.means.Meanings.{saying_the_same_means_the_same}
-use Rattle.erd_normal.proofs.same.normal.SameForms.{meaning_says}
+use Rattle.erd_normal.proofs.same.complete.Complete.{says_and_means}
 use Rattle.erd_normal.proofs.unique.Unique.{unique}
-use Rattle.erd_normal.specs.Laws.{IsGiven, MeanAlike}
+use Rattle.erd_normal.specs.Laws.{MeanAlike}
 use Rattle.erd_canon.proofs.forms.Refusing.{one_tree}
 use Rattle.erd_canon.specs.ByteLaws.{OneFormForOneMeaning, IsItsOwnForm, SameFormWhenRearranged}
 use Rattle.erd_canon.specs.Bytes.{IsTreeOf, IsCanonicalBytes}
@@ -73,18 +72,17 @@ same_form_when_rearranged π b c k d t u changes is is_other rearranged =
     }
 
 -- two reports have equal canonical bytes exactly if they say the same
-equal_sayings : (π : Preference) (b c : List ℕ) → IsCanonicalBytes π b c → (r : Data) → IsTreeOf b r → IsGiven r → TellsSayings π b c
-equal_sayings π b c k r read given b2 c2 t t2 k2 is is2 given2 =
+equal_sayings : (π : Preference) (b c : List ℕ) → IsCanonicalBytes π b c → TellsSayings π b c
+equal_sayings π b c k b2 c2 t t2 k2 is is2 =
     let accepted : IsAccepted π t = subst (IsAccepted π) (one_tree b k.report t k.is_accepted.read is) k.is_accepted.accepted in
     let accepted2 : IsAccepted π t2 = subst (IsAccepted π) (one_tree b2 k2.report t2 k2.is_accepted.read is2) k2.is_accepted.accepted in
-    let alike = one_form_for_one_meaning π b c k b2 c2 t t2 k2 is is2 in (
-      λ one. meaning_says π t t2 (subst IsGiven (one_tree b r t read is) given) given2 accepted accepted2 (alike.0 one),
-      λ same. alike.1 (sym (saying_the_same_means_the_same π t t2 (read_is_tree b t is.1) (read_is_tree b2 t2 is2.1) accepted same)),
-    )
+    let alike = one_form_for_one_meaning π b c k b2 c2 t t2 k2 is is2 in
+    let agree = says_and_means π t t2 (read_is_tree b t is.1) (read_is_tree b2 t2 is2.1) accepted accepted2 in
+    (λ one. agree.0 (alike.0 one), λ same. alike.1 (agree.1 same))
 
--- all of it, of a report as a call is handed it
-pub headline : (π : Preference) (b c : List ℕ) → IsCanonicalBytes π b c → (r : Data) → IsTreeOf b r → IsGiven r → Headline π b c
-headline π b c k r read given = record {
+-- all of it
+pub headline : (π : Preference) (b c : List ℕ) → IsCanonicalBytes π b c → Headline π b c
+headline π b c k = record {
   form = k;
   accepted = record {
     left = k.report;
@@ -94,7 +92,7 @@ headline π b c k r read given = record {
     same = sym k.is_canonical.same;
   };
   equal_bytes = one_form_for_one_meaning π b c k;
-  equal_sayings = equal_sayings π b c k r read given;
+  equal_sayings = equal_sayings π b c k;
   own_form = is_its_own_form π b c k;
   rearranged = same_form_when_rearranged π b c k;
 }

@@ -1,20 +1,15 @@
 -- What a comparison answers under one preference, it says under each other one that accepts both reports.
 use Rattle.std.proofs.Common.{◌≡◌, ◌↔◌, ℕ, List, Option, Some, None, refl, sym, ap, ◌∙◌, subst}
-use Rattle.serde_json.specs.Data.{Data}
 use Rattle.erd_meaning.specs.Accepted.{IsAccepted}
 use Rattle.erd_meaning.specs.Keys.{Preference}
 use Rattle.erd_meaning.specs.Meaning.{Meaning, ObjectRecord}
 use Rattle.erd_meaning.specs.Records.{meaning}
-use Rattle.erd_normal.specs.Laws.{IsGiven}
 use Rattle.erd_check.proofs.ReadTrees.{read_is_tree}
-use Rattle.erd_normal.proofs.same.means.Meanings.{saying_the_same_means_the_same}
-use Rattle.erd_normal.proofs.same.normal.SameForms.{meaning_says}
-use Rattle.erd_normal.proofs.unique.PreferencesAgree.{preferences_agree}
+use Rattle.erd_normal.proofs.same.complete.Complete.{preferences_agree, says_and_means}
 use Rattle.erd_compare.specs.Differences.{Differ, IsDifference, record_at}
 use Rattle.erd_compare.specs.declared.difference.Difference.{Difference}
 use Rattle.erd_compare.specs.declared.difference.How.{How}
 use Rattle.erd_compare.specs.declared.difference.How.TheVariants.{Member, OnlyLeft, OnlyRight, OtherClass}
-use Rattle.erd_canon.specs.Bytes.{IsTreeOf}
 use Rattle.erd_canon.specs.ByteLaws.{AgreesUnderEach, TellsWhatIsSaid}
 use Rattle.erd_canon.specs.EngineTexts.{IsComparison}
 use Rattle.erd_canon.proofs.forms.Refusing.{one_tree}
@@ -36,31 +31,25 @@ none_differs m n (Some d) is = (
 )
 
 -- nothing differs exactly if the reports say the same
-pub tells_what_is_said : (π : Preference) (left right : List ℕ) (found : Option Difference) (t u : Data) → IsTreeOf left t → IsGiven t → IsTreeOf right u → IsGiven u
-    → IsComparison π left right found → TellsWhatIsSaid left right found
-tells_what_is_said π left right found t u left_read left_given right_read right_given is left_tree right_tree one_read other_read =
+pub tells_what_is_said : (π : Preference) (left right : List ℕ) (found : Option Difference) → IsComparison π left right found → TellsWhatIsSaid left right found
+tells_what_is_said π left right found is left_tree right_tree one_read other_read =
     let one : is.left_tree ≡ left_tree = one_tree left is.left_tree left_tree is.left_accepted.read one_read in
     let other : is.right_tree ≡ right_tree = one_tree right is.right_tree right_tree is.right_accepted.read other_read in
-    let accepted : IsAccepted π left_tree = subst (IsAccepted π) one is.left_accepted.accepted in
-    let here = none_differs (meaning π is.left_tree) (meaning π is.right_tree) found is.difference in (
-      λ none. meaning_says π left_tree right_tree
-          (subst IsGiven (one_tree left t left_tree left_read one_read) left_given) (subst IsGiven (one_tree right u right_tree right_read other_read) right_given)
-          accepted (subst (IsAccepted π) other is.right_accepted.accepted) (sym (ap (meaning π) one) ∙ (here.0 none ∙ ap (meaning π) other)),
-      λ same. here.1 (ap (meaning π) one
-          ∙ (sym (saying_the_same_means_the_same π left_tree right_tree (read_is_tree left left_tree one_read.1) (read_is_tree right right_tree other_read.1) accepted same)
-          ∙ sym (ap (meaning π) other))),
+    let here = none_differs (meaning π is.left_tree) (meaning π is.right_tree) found is.difference in
+    let agree = says_and_means π left_tree right_tree (read_is_tree left left_tree one_read.1) (read_is_tree right right_tree other_read.1)
+    (subst (IsAccepted π) one is.left_accepted.accepted) (subst (IsAccepted π) other is.right_accepted.accepted) in (
+      λ none. agree.0 (sym (ap (meaning π) one) ∙ (here.0 none ∙ ap (meaning π) other)),
+      λ same. here.1 (ap (meaning π) one ∙ (agree.1 same ∙ sym (ap (meaning π) other))),
     )
 
--- of two reports as a call is handed them
-pub agrees : (π : Preference) (left right : List ℕ) (found : Option Difference) (t u : Data) → IsTreeOf left t → IsGiven t → IsTreeOf right u → IsGiven u
-    → IsComparison π left right found → AgreesUnderEach left right found
-agrees π left right found t u left_read left_given right_read right_given is ρ left_tree right_tree under_left under_right =
+-- and so under each other preference
+pub agrees : (π : Preference) (left right : List ℕ) (found : Option Difference) → IsComparison π left right found → AgreesUnderEach left right found
+agrees π left right found is ρ left_tree right_tree under_left under_right =
     let one : is.left_tree ≡ left_tree = one_tree left is.left_tree left_tree is.left_accepted.read under_left.read in
     let other : is.right_tree ≡ right_tree = one_tree right is.right_tree right_tree is.right_accepted.read under_right.read in
     let here = none_differs (meaning π is.left_tree) (meaning π is.right_tree) found is.difference in
     let there = preferences_agree π ρ is.left_tree is.right_tree
-    (subst IsGiven (one_tree left t is.left_tree left_read is.left_accepted.read) left_given)
-    (subst IsGiven (one_tree right u is.right_tree right_read is.right_accepted.read) right_given)
+    (read_is_tree left is.left_tree is.left_accepted.read.1) (read_is_tree right is.right_tree is.right_accepted.read.1)
     is.left_accepted.accepted is.right_accepted.accepted
     (subst (IsAccepted ρ) (sym one) under_left.accepted) (subst (IsAccepted ρ) (sym other) under_right.accepted) in (
       λ none. sym (ap (meaning ρ) one) ∙ (there.0 (here.0 none) ∙ ap (meaning ρ) other),

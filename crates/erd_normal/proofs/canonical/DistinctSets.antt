@@ -58,7 +58,7 @@ names_accepted π t accepted = record {
       cc;
 }
 
-first_reference : (π : Preference) (t : Data) → IsAccepted π t → (f : Family) (d : Data) (b : Bool) → Within t (record { want = Reference f; value = d; repeated = b }) → b ≡ false
+pub first_reference : (π : Preference) (t : Data) → IsAccepted π t → (f : Family) (d : Data) (b : Bool) → Within t (record { want = Reference f; value = d; repeated = b }) → b ≡ false
 first_reference π t accepted f d true w = absurd (not_within t (record { want = Reference f; value = d; repeated = true }) (λ x. IsTrue (is_reference_fault t x reason.Repeated)) w (no_reference_fault π t accepted w.place reason.Repeated) refl)
 first_reference π t accepted f d false w = refl
 
@@ -97,7 +97,7 @@ module _ (π : Preference) (t : Data) (accepted : IsAccepted π t) (f : Family) 
 
 -- ---- sets of JSON values
 
-first_value : (π : Preference) (t : Data) → IsAccepted π t → (w : Want) (d : Data) (b : Bool) → Within t (record { want = w; value = d; repeated = b }) → (b ≡ true → is_shape_fault (record { want = w; value = d; repeated = true }) reason.Repeated ≡ true) → b ≡ false
+pub first_value : (π : Preference) (t : Data) → IsAccepted π t → (w : Want) (d : Data) (b : Bool) → Within t (record { want = w; value = d; repeated = b }) → (b ≡ true → is_shape_fault (record { want = w; value = d; repeated = true }) reason.Repeated ≡ true) → b ≡ false
 first_value π t accepted w d true inside is = let h = sym (is refl) ∙ faultless t (no_shape_fault π t accepted) (record { want = w; value = d; repeated = true }) reason.Repeated inside in h
 first_value π t accepted w d false inside is = refl
 

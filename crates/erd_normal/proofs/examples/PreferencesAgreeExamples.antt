@@ -1,19 +1,19 @@
 -- Small reports under two preferences: what the law says of them.
-use Rattle.std.proofs.Common.{◌≡◌, ◌<◌, ◌^◌, ℕ, List, [], ◌∷◌, ◌++◌, true, false, true≢false, Option, Some, None, codes, slice_index_or, length, map, refl, sym, ap, ◌∙◌, arith}
+use Rattle.std.proofs.Common.{◌≡◌, ◌↔◌, ℕ, List, [], ◌∷◌, ◌++◌, true, false, true≢false, Option, Some, None, codes, slice_index_or, length, map, refl, sym, ap, ◌∙◌}
 use Rattle.std.specs.List.{slice_get}
 use Rattle.std.specs.Prelude.{is_some, option_map, unwrap_or}
 use Rattle.serde_json.specs.Data.{Data, null}
 use Rattle.serde_json.proofs.OnLiterals.{serde_json_on_literals}
-use Rattle.erd_tables.specs.Classes.{families}
 use Rattle.erd_tables.specs.declared.class.Class.TheVariants as class
 use Rattle.erd_tables.specs.declared.class.Family.{Family}
 use Rattle.erd_tables.specs.declared.class.Family.TheVariants as family
 use Rattle.erd_tables.specs.declared.class.Role.TheVariants as role
-use Rattle.erd_check.specs.Numbers.{HasFittingNumbers}
+use Rattle.erd_check.specs.Trees.{IsTree}
 use Rattle.erd_check.proofs.Deciding.{faults_found, is_tree, no_fault_listed, tree_sound}
 use Rattle.erd_check.proofs.Reports.{tree_of}
+use Rattle.erd_meaning.specs.Accepted.{IsAccepted}
 use Rattle.erd_meaning.specs.Keys.{Preference}
-use Rattle.erd_meaning.specs.Objects.{IsBounded, Placed, objects, elections, report_of}
+use Rattle.erd_meaning.specs.Objects.{Placed, objects, elections, report_of}
 use Rattle.erd_meaning.specs.Records.{election_records, object_record, records_of, meaning}
 use Rattle.erd_meaning.specs.declared.keys.key.Key.{Key}
 use Rattle.erd_meaning.proofs.examples.RecordExamples.{local_key}
@@ -23,7 +23,7 @@ use Rattle.erd_meaning.proofs.references.SelectionEntries.{reference_faults}
 use Rattle.erd_meaning.proofs.refused.RefusedLists.{accepted_by_lists}
 use Rattle.erd_meaning.proofs.selections.SelectionFaults.{selections_told}
 use Rattle.erd_normal.specs.Laws.{keys_in}
-use Rattle.erd_normal.proofs.unique.PreferencesAgree.{IsGivenUnder, agree_across}
+use Rattle.erd_normal.proofs.same.complete.Complete.{preferences_agree}
 
 -- ---- three reports, and two preferences
 
@@ -57,49 +57,36 @@ keys_of_reports = (refl, refl)
 
 -- ---- they are accepted under both
 
--- how many objects each family has
-abbrev counts : Data → List ℕ
-counts t = map (λ f. length (objects f t)) families
+-- a tree that is accepted under both
+record IsUnderBoth (t : Data) : Type 0 where
+  is_tree_at : IsTree t
+  accepted : IsAccepted None t
+  also_accepted : IsAccepted local t
 
--- one unit, and nothing else
-bounded_by : (t : Data) → counts t ≡ 1 ∷ 0 ∷ 0 ∷ 0 ∷ 0 ∷ 0 ∷ 0 ∷ 0 ∷ 0 ∷ [] → IsBounded t
-bounded_by t e = record { few = at }
-  where
-    count : (i : ℕ) → slice_index_or (counts t) i 0 ≡ slice_index_or (1 ∷ 0 ∷ 0 ∷ 0 ∷ 0 ∷ 0 ∷ 0 ∷ 0 ∷ 0 ∷ []) i 0
-    count i = ap (λ ns. slice_index_or ns i 0) e
-
-    at : (f : Family) → length (objects f t) < 2 ^ 64
-    at family.Unit = let n : length (objects family.Unit t) ≡ 1 = count 0 in omega arith
-    at family.Party = let n : length (objects family.Party t) ≡ 0 = count 1 in omega arith
-    at family.Person = let n : length (objects family.Person t) ≡ 0 = count 2 in omega arith
-    at family.Office = let n : length (objects family.Office t) ≡ 0 = count 3 in omega arith
-    at family.Header = let n : length (objects family.Header t) ≡ 0 = count 4 in omega arith
-    at family.Candidate = let n : length (objects family.Candidate t) ≡ 0 = count 5 in omega arith
-    at family.Contest = let n : length (objects family.Contest t) ≡ 0 = count 6 in omega arith
-    at family.Style = let n : length (objects family.Style t) ≡ 0 = count 7 in omega arith
-    at family.Selection = let n : length (objects family.Selection t) ≡ 0 = count 8 in omega arith
-
--- a tree of one unit whose numbers fit, without faults under either preference
-given_by : (t : Data) → is_tree t ≡ true → HasFittingNumbers t → counts t ≡ 1 ∷ 0 ∷ 0 ∷ 0 ∷ 0 ∷ 0 ∷ 0 ∷ 0 ∷ 0 ∷ []
-    → length (faults_found t) ≡ 0 → length (identity_told None t) ≡ 0 → length (identity_told local t) ≡ 0 → length (reference_faults t) ≡ 0
-    → length (selections_told None t) ≡ 0 → length (selections_told local t) ≡ 0 → IsGivenUnder None local t
-given_by t tree fits of_family shape identity local_identity reference selection local_selection = record {
-  given = record { is_tree = tree_sound t tree; fits = fits; bounded = bounded_by t of_family };
+-- a tree without faults under either preference
+given_by : (t : Data) → is_tree t ≡ true → length (faults_found t) ≡ 0 → length (identity_told None t) ≡ 0 → length (identity_told local t) ≡ 0 → length (reference_faults t) ≡ 0
+    → length (selections_told None t) ≡ 0 → length (selections_told local t) ≡ 0 → IsUnderBoth t
+given_by t tree shape identity local_identity reference selection local_selection = record {
+  is_tree_at = tree_sound t tree;
   accepted = accepted_by_lists None t (tree_sound t tree) (no_fault_listed t tree shape) identity reference selection;
   also_accepted = accepted_by_lists local t (tree_sound t tree) (no_fault_listed t tree shape) local_identity reference local_selection;
 }
 
-given_is : IsGivenUnder None local given
+given_is : IsUnderBoth given
 unfolding serde_json_on_literals
-given_is = given_by given refl (tt, (((tt, (tt, (tt, (tt, (tt, (tt, tt)))))), tt), (((tt, (tt, (((tt, (tt, (tt, tt))), ((tt, (tt, (tt, tt))), tt)), (tt, tt)))), tt), (tt, tt)))) refl refl refl refl refl refl refl
+given_is = given_by given refl refl refl refl refl refl refl
 
-renamed_is : IsGivenUnder None local renamed
+renamed_is : IsUnderBoth renamed
 unfolding serde_json_on_literals
-renamed_is = given_by renamed refl (tt, (((tt, (tt, (tt, (tt, (tt, (tt, tt)))))), tt), (((tt, (tt, (((tt, (tt, (tt, tt))), ((tt, (tt, (tt, tt))), tt)), (tt, tt)))), tt), (tt, tt)))) refl refl refl refl refl refl refl
+renamed_is = given_by renamed refl refl refl refl refl refl refl
 
-moved_is : IsGivenUnder None local moved
+moved_is : IsUnderBoth moved
 unfolding serde_json_on_literals
-moved_is = given_by moved refl (tt, (((tt, (tt, (tt, (tt, (tt, (tt, tt)))))), tt), (((tt, (tt, (((tt, (tt, (tt, tt))), ((tt, (tt, (tt, tt))), tt)), (tt, tt)))), tt), (tt, tt)))) refl refl refl refl refl refl refl
+moved_is = given_by moved refl refl refl refl refl refl refl
+
+-- what the law says of two of them
+agree_on : (t u : Data) → IsUnderBoth t → IsUnderBoth u → (meaning None t ≡ meaning None u) ↔ (meaning local t ≡ meaning local u)
+agree_on t u one other = preferences_agree None local t u one.is_tree_at other.is_tree_at one.accepted other.accepted one.also_accepted other.also_accepted
 
 -- ---- equal under one, and so under the other
 
@@ -133,7 +120,7 @@ same_objects f k = refl
 equal_under_both : (meaning None given ≡ meaning None renamed) × (meaning local given ≡ meaning local renamed)
 equal_under_both =
     let same : meaning None given ≡ meaning None renamed = same_meaning None None given renamed same_report same_election same_objects in
-    (same, agree_across None local given renamed given_is renamed_is same)
+    (same, (agree_on given renamed given_is renamed_is).0 same)
 
 -- ---- apart under one, and so under the other
 
@@ -143,7 +130,7 @@ unfolding serde_json_on_literals
 local_units = refl
 
 apart_under_both : ¬ (meaning local given ≡ meaning local moved) × ¬ (meaning None given ≡ meaning None moved)
-apart_under_both = (apart, λ same. apart (agree_across None local given moved given_is moved_is same))
+apart_under_both = (apart, λ same. apart ((agree_on given moved given_is moved_is).0 same))
   where
     apart : ¬ (meaning local given ≡ meaning local moved)
     apart same =

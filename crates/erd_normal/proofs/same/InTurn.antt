@@ -37,7 +37,7 @@ id_text m id (a_list is g) h e = cc
 id_text m id (a_set fs is p g) h e = cc
 id_text m id (an_object g) h e = cc
 
-reference_is_id : (w : Want) → is_reference w ≡ true → is_id_text w ≡ true
+pub reference_is_id : (w : Want) → is_reference w ≡ true → is_id_text w ≡ true
 reference_is_id (Reference f) h = refl
 reference_is_id w h = cc
 
@@ -65,7 +65,7 @@ empty_same m (an_object h) e = cc
 module _ (m : Sides) (left_tree : IsTree m.left) (right_tree : IsTree m.right) (root : Same m (Some (Object role.Report)) m.left m.right) where
   unused_along : (id id' : List ℕ) → StandsFor m id id' → IsUnused m.left id → IsUnused m.right id'
   unused_along id id' pair unused p a stands is text =
-      let f : CameFrom m a = reference_came_from m left_tree right_tree root p a stands is in
+      let f : CameFrom m m.left a = reference_came_from m m.left m.right left_tree right_tree root p a stands is in
       let back = same_back m f.same in
       let o = id_text (turned m) id' back (reference_is_id a.want is) text in
       let one : o.other ≡ id = o.pair.0 ∙ sym pair.1 in

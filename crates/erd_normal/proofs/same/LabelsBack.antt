@@ -62,9 +62,10 @@ pub record Translations (ms : Members) : Type 0 where
   pub apart : ApartBy itself (list_of_items items)
 
 module _ (m : Sides) where
-  equal_aligned : (k : List ℕ) (o p : Option Data) → AllPlain (want_of_name in_label k) → o ≡ p → Aligned m in_label k o p
-  equal_aligned k None p plain e = subst (Aligned m in_label k None) e (not_both (lacks_none m.left in_label k) (lacks_none m.right in_label k))
-  equal_aligned k (Some d) p plain e = subst (Aligned m in_label k (Some d)) e (both_there (plain_self m (want_of_name in_label k) d plain))
+  -- equal members that are plain
+  pub equal_aligned : (s : Scope) (k : List ℕ) (o p : Option Data) → AllPlain (want_of_name s k) → o ≡ p → Aligned m s k o p
+  equal_aligned s k None p plain e = subst (Aligned m s k None) e (not_both (lacks_none m.left s k) (lacks_none m.right s k))
+  equal_aligned s k (Some d) p plain e = subst (Aligned m s k (Some d)) e (both_there (plain_self m (want_of_name s k) d plain))
 
   texts_same : (ds es : Items) → Reordered (list_of_items ds) (list_of_items es) → Same m (Some (Member kind.Languages true)) (array ds) (array es)
   texts_same ds es h =
@@ -84,9 +85,9 @@ module _ (m : Sides) where
           (rw (left.stands, right.stands) (both_there (texts_same left.items right.items (json_sets_reordered (list_of_items left.items) (list_of_items right.items) left.sound right.sound left.apart right.apart sets))))
       at k false true is type =
           let name : k ≡ codes "@type" = text_exact k (codes "@type") type in
-          equal_aligned k (get_member k ms) (get_member k ns) (asked_beside is_plain k refl (λ e. plain_of_kind (kind_of_member class.InternationalizedText k) (is_required class.InternationalizedText k) (plain_beside k e is)))
+          equal_aligned in_label k (get_member k ms) (get_member k ns) (asked_beside is_plain k refl (λ e. plain_of_kind (kind_of_member class.InternationalizedText k) (is_required class.InternationalizedText k) (plain_beside k e is)))
           (ap (λ x. get_member x ms) name ∙ types ∙ sym (ap (λ x. get_member x ns) name))
       at k false false is type =
           let h : label_beside_text (object ms) k ≡ label_beside_text (object ns) k = ap (λ l. map_of l k) same in
-          equal_aligned k (get_member k ms) (get_member k ns) (asked_beside is_plain k refl (λ e. plain_of_kind (kind_of_member class.InternationalizedText k) (is_required class.InternationalizedText k) (plain_beside k e is)))
+          equal_aligned in_label k (get_member k ms) (get_member k ns) (asked_beside is_plain k refl (λ e. plain_of_kind (kind_of_member class.InternationalizedText k) (is_required class.InternationalizedText k) (plain_beside k e is)))
           (rw (type, is) at h)

@@ -19,7 +19,7 @@ pub record MayLack (t : Data) (s : Scope) (n : List ℕ) (o : Option Data) : Typ
 pub lacks_none : (t : Data) (s : Scope) (n : List ℕ) → MayLack t s n None
 lacks_none t s n = record { each = λ d e. cc }
 
-lacks_one : (t : Data) (s : Scope) (n : List ℕ) (d : Data) → MayBeAbsent t s n d → MayLack t s n (Some d)
+pub lacks_one : (t : Data) (s : Scope) (n : List ℕ) (d : Data) → MayBeAbsent t s n d → MayLack t s n (Some d)
 lacks_one t s n d h = record { each = λ e is. let same : d ≡ e = cc in subst (MayBeAbsent t s n) same h }
 
 -- values that say the same, or what may be absent on either side

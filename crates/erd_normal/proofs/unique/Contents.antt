@@ -57,7 +57,7 @@ content_inside-get π t (member k d ms) = at (text_cmp (codes "OrderedContent") 
     at Greater is h = rw (is, sym (is_eq-slice_cmp (codes "OrderedContent") k) ∙ ap is_eq is) h
 
 -- a member of a ballot's node that neither refers nor has content
-abbrev is_rest : MemberKind → Bool
+abbrev pub is_rest : MemberKind → Bool
 is_rest kind.Carried = true
 is_rest kind.StrangeReference = true
 is_rest kind.StrangeIdentity = true
@@ -171,7 +171,7 @@ contest_node_of π t canonical ms w among typed = at (get_member (codes "Contest
         }
 
 -- a member of a ballot's node that neither refers nor has content
-rest_same : (π : Preference) (t u : Data) → IsAccepted π t → IsAccepted π u → (k : MemberKind) (r : Bool) (o p : Option Data) → is_rest k ≡ true
+pub rest_same : (π : Preference) (t u : Data) → IsAccepted π t → IsAccepted π u → (k : MemberKind) (r : Bool) (o p : Option Data) → is_rest k ≡ true
     → ((v : Data) → o ≡ Some v → Within t (asked (want_of_kind k r) v)) → ((v : Data) → p ≡ Some v → Within u (asked (want_of_kind k r) v)) → if_carried k o ≡ if_carried k p → o ≡ p
 rest_same π t u accepted accepted' kind.Carried r o p rest inside inside' same = same
 rest_same π t u accepted accepted' kind.StrangeReference r None None rest inside inside' same = refl
@@ -182,23 +182,23 @@ rest_same π t u accepted accepted' kind.StrangeIdentity r (Some v) p rest insid
 rest_same π t u accepted accepted' kind.StrangeIdentity r None (Some w) rest inside inside' same = absurd (no_strange u (no_shape_fault π u accepted') w r (inside' w refl))
 rest_same π t u accepted accepted' k r o p rest inside inside' same = cc
 
-abbrev node_key : Node → Option Key
+abbrev pub node_key : Node → Option Key
 node_key (a_contest k ns others) = k
 node_key (a_header k inside others) = k
 
-abbrev node_names : Node → List (Option NameParts)
+abbrev pub node_names : Node → List (Option NameParts)
 node_names (a_contest k ns others) = ns
 node_names (a_header k inside others) = []
 
-abbrev node_inside : Node → Content
+abbrev pub node_inside : Node → Content
 node_inside (a_contest k ns others) = no_content
 node_inside (a_header k inside others) = inside
 
-abbrev node_others : Node → JsonMap
+abbrev pub node_others : Node → JsonMap
 node_others (a_contest k ns others) = others
 node_others (a_header k inside others) = others
 
-contest_rest : (k : List ℕ) → bytes_eq k (codes "@type") ≡ false → bytes_eq k (codes "ContestId") ≡ false → bytes_eq k (codes "OrderedContestSelectionIds") ≡ false → is_rest (kind_of_member class.OrderedContest k) ≡ true
+pub contest_rest : (k : List ℕ) → bytes_eq k (codes "@type") ≡ false → bytes_eq k (codes "ContestId") ≡ false → bytes_eq k (codes "OrderedContestSelectionIds") ≡ false → is_rest (kind_of_member class.OrderedContest k) ≡ true
 contest_rest k e f g = rw (f, g) (kind_of_unlisted_has is_rest class.OrderedContest k e refl refl refl)
 
 contest_members_same : (π : Preference) (t u : Data) → IsCanonical π t → IsCanonical π u → SameNames π t u → (ms ns : Members) → ContestNode t ms → ContestNode u ns → AreMembers ms → AreMembers ns
@@ -267,7 +267,7 @@ header_node_of π t canonical ms w among typed = at (get_member (codes "HeaderId
           list = header_node_list π t canonical ms w among;
         }
 
-header_rest : (k : List ℕ) → bytes_eq k (codes "@type") ≡ false → bytes_eq k (codes "HeaderId") ≡ false → bytes_eq k (codes "OrderedContent") ≡ false → is_rest (kind_of_member class.OrderedHeader k) ≡ true
+pub header_rest : (k : List ℕ) → bytes_eq k (codes "@type") ≡ false → bytes_eq k (codes "HeaderId") ≡ false → bytes_eq k (codes "OrderedContent") ≡ false → is_rest (kind_of_member class.OrderedHeader k) ≡ true
 header_rest k e f g = rw (f, g) (kind_of_unlisted_has is_rest class.OrderedHeader k e refl refl refl)
 
 abbrev node_of_header : Preference → Data → Members → Node

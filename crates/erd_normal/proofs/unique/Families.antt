@@ -53,7 +53,7 @@ has_record π t accepted f o h =
     let c = class_within π t accepted (role.OfFamily f) o.value (record { place = o.place; is = stands π t accepted f o h }) in
     (record { class = c.0; members = member_of_class π t o.value c.0 }, record_with-Some (member_of_class π t o.value) (role.OfFamily f) o.value c.0 c.1, no_election_id π t o.value c.0)
 
-records_of-keyed : (π : Preference) (t : Data) (f : Family) (k : Key) → has_keys f ≡ true → records_of π t f k ≡ option_and_then (placed_record π t f) (placed_with_key π t f k)
+pub records_of-keyed : (π : Preference) (t : Data) (f : Family) (k : Key) → has_keys f ≡ true → records_of π t f k ≡ option_and_then (placed_record π t f) (placed_with_key π t f k)
 records_of-keyed π t family.Unit k h = refl
 records_of-keyed π t family.Party k h = refl
 records_of-keyed π t family.Person k h = refl
@@ -104,19 +104,19 @@ module _ (π : Preference) (t : Data) (canonical : IsCanonical π t) (f : Family
       ∙ find_both (λ o. is_eq (maybe_cmp (election_key_of π t o) e)) (of_key k) (objects f t) (one_of_key k)
 
 -- what the records say of two objects with the keys of their elections
-abbrev SameRecord : Preference → Data → Data → Family → Placed → Placed → Type 0
+abbrev pub SameRecord : Preference → Data → Data → Family → Placed → Placed → Type 0
 SameRecord π t u f o p = (record_at π t f o ≡ record_at π u f p) × (election_key_of π t o ≡ election_key_of π u p)
 
-module _ (π : Preference) (t u : Data) (canonical : IsCanonical π t) (canonical' : IsCanonical π u) (f : Family) where
-  apart : (o p : Placed) → Has (objects f t) o → Has (objects f u) p → placed_record π t f o ≡ placed_record π u f p → SameRecord π t u f o p
-  apart o p h k e =
-      let a = has_record π t canonical.accepted f o h in
-      let b = has_record π u canonical'.accepted f p k in
-      let both : Some (record_in_election (election_key_of π t o) a.0) ≡ Some (record_in_election (election_key_of π u p) b.0) =
-      sym (ap (option_map (record_in_election (election_key_of π t o))) a.1) ∙ e ∙ ap (option_map (record_in_election (election_key_of π u p))) b.1 in
-      let parts = apart_from_election a.0 b.0 (election_key_of π t o) (election_key_of π u p) a.2 b.2 (same_in_some _ _ both) in
-      (a.1 ∙ ap Some parts.1 ∙ sym b.1, parts.0)
+pub records_apart : (π : Preference) (t u : Data) → IsAccepted π t → IsAccepted π u → (f : Family) (o p : Placed) → Has (objects f t) o → Has (objects f u) p → placed_record π t f o ≡ placed_record π u f p → SameRecord π t u f o p
+records_apart π t u accepted accepted' f o p h k e =
+    let a = has_record π t accepted f o h in
+    let b = has_record π u accepted' f p k in
+    let both : Some (record_in_election (election_key_of π t o) a.0) ≡ Some (record_in_election (election_key_of π u p) b.0) =
+    sym (ap (option_map (record_in_election (election_key_of π t o))) a.1) ∙ e ∙ ap (option_map (record_in_election (election_key_of π u p))) b.1 in
+    let parts = apart_from_election a.0 b.0 (election_key_of π t o) (election_key_of π u p) a.2 b.2 (same_in_some _ _ both) in
+    (a.1 ∙ ap Some parts.1 ∙ sym b.1, parts.0)
 
+module _ (π : Preference) (t u : Data) (canonical : IsCanonical π t) (canonical' : IsCanonical π u) (f : Family) where
   module _ (same : meaning π t ≡ meaning π u) (h : has_keys f ≡ true) where
     -- what is found by one key
     found_alike : (k : Option Key) → Both (SameRecord π t u f) (find (of_key π t canonical f h k) (objects f t)) (find (of_key π u canonical' f h k) (objects f u))
@@ -133,7 +133,7 @@ module _ (π : Preference) (t u : Data) (canonical : IsCanonical π t) (canonica
         at (Some o) None is is' e =
             let a = has_record π t canonical.accepted f o (find-Some _ (objects f t) o is).0 in
             let x : Some (record_in_election (election_key_of π t o) a.0) ≡ None = sym (ap (option_map (record_in_election (election_key_of π t o))) a.1) ∙ e in cc
-        at (Some o) (Some p) is is' e = both (apart o p (find-Some _ (objects f t) o is).0 (find-Some _ (objects f u) p is').0 e)
+        at (Some o) (Some p) is is' e = both (records_apart π t u canonical.accepted canonical'.accepted f o p (find-Some _ (objects f t) o is).0 (find-Some _ (objects f u) p is').0 e)
 
     -- what is found by both keys
     same_found : (e k : Option Key) → option_map (record_at π t f) (find (has_key placed_cmp (λ o. Some (placed_key π t o)) (e, k)) (objects f t))

@@ -161,7 +161,7 @@ id_within π t accepted w r c ms a v e =
     (member_within t (no_shape_fault π t accepted) w r ms c (codes "@id") v a.asks a.among refl a.inside e)
 
 -- an object's `@id` is a text, where it stands
-id_member : (π : Preference) (t : Data) → IsAccepted π t → (w : Want) (r : Role) (c : Class) (ms : Members) → ObjectAt t w r c ms → get_member (codes "@id") ms ≡ option_map string (id_of (object ms))
+pub id_member : (π : Preference) (t : Data) → IsAccepted π t → (w : Want) (r : Role) (c : Class) (ms : Members) → ObjectAt t w r c ms → get_member (codes "@id") ms ≡ option_map string (id_of (object ms))
 id_member π t accepted w r c ms a = at (get_member (codes "@id") ms) refl
   where
     at : (o : Option Data) → get_member (codes "@id") ms ≡ o → o ≡ option_map string (option_and_then as_str o)

@@ -84,13 +84,13 @@ pub has_name : (π : Preference) (t : Data) → IsAccepted π t → (d : Data) �
 has_name π t accepted d w = let c = class_within π t accepted selection_role d w in (_, ap (option_map (λ c. name_in_class π t c d)) c.1)
 
 -- a selection has a record
-has_selection_record : (π : Preference) (t : Data) → IsAccepted π t → (d : Data) → Within t (asked (Object selection_role) d) → (r : SelectionRecord) × (selection_record π t d ≡ Some r)
+pub has_selection_record : (π : Preference) (t : Data) → IsAccepted π t → (d : Data) → Within t (asked (Object selection_role) d) → (r : SelectionRecord) × (selection_record π t d ≡ Some r)
 has_selection_record π t accepted d w = let c = class_within π t accepted selection_role d w in (_, record_with-Some (plain_member π t d) selection_role d c.0 c.1)
 
-abbrev selections_value : Preference → Data → Option Data → Option MemberValue
+abbrev pub selections_value : Preference → Data → Option Data → Option MemberValue
 selections_value π t o = option_and_then (λ v. unless_empty (a_selection_map (selection_map π t (entries_of v))) v) o
 
-abbrev map_in : Option MemberValue → NameParts → Option SelectionRecord
+abbrev pub map_in : Option MemberValue → NameParts → Option SelectionRecord
 map_in (Some (a_selection_map m)) = m
 map_in o = λ n. None
 

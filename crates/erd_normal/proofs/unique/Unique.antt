@@ -96,7 +96,7 @@ left_out names c k h e f g =
     ⊎_elim (λ i. let x : false ≡ true = sym (no_envelope c k (not_true (is_report_class c) both.0)) ∙ i in cc) (λ i. apart_named names c k e f both.1 i) (apart_cases c k g)
 
 -- an object of a class that has no family has no `@id`
-no_id : (π : Preference) (t : Data) → IsAccepted π t → (w : Want) (q : Role) (c : Class) (ms : Members) → ObjectAt t w q c ms → is_some (family_of_class c) ≡ false → id_of (object ms) ≡ None
+pub no_id : (π : Preference) (t : Data) → IsAccepted π t → (w : Want) (q : Role) (c : Class) (ms : Members) → ObjectAt t w q c ms → is_some (family_of_class c) ≡ false → id_of (object ms) ≡ None
 no_id π t accepted w q c ms a h = at (get_member (codes "@id") ms) refl
   where
     at : (o : Option Data) → get_member (codes "@id") ms ≡ o → option_and_then as_str (get_member (codes "@id") ms) ≡ None

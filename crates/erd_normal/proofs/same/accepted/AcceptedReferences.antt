@@ -4,7 +4,7 @@ use Rattle.std.specs.List.{list_any}
 use Rattle.std.specs.Option.{option_map_or}
 use Rattle.std.specs.Prelude.{IsSomeAnd, IsTrue}
 use Rattle.std.specs.Str.{bytes_eq}
-use Rattle.serde_json.specs.Data.{Data, string, object, Members}
+use Rattle.serde_json.specs.Data.{Data, string, object}
 use Rattle.serde_json.specs.Find.{as_str, get_member}
 use Rattle.erd_tables.specs.Table.{kind_of_member}
 use Rattle.erd_tables.specs.declared.class.Class.TheVariants as class

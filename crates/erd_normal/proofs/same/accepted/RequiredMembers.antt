@@ -18,7 +18,7 @@ use Rattle.erd_check.specs.Wants.{Asked, asked, is_report_class, member_want, sc
 use Rattle.erd_check.specs.declared.want.Scope.{Scope}
 use Rattle.erd_check.specs.declared.want.Scope.TheVariants as scope
 use Rattle.erd_check.specs.declared.want.Want.{Want}
-use Rattle.erd_check.specs.declared.want.Want.TheVariants.{Carried, ClassText, Member, Status}
+use Rattle.erd_check.specs.declared.want.Want.TheVariants.{ClassText, Member, Status}
 use Rattle.erd_check.proofs.Exact.{both_true, text_exact, text_itself}
 use Rattle.erd_check.proofs.Rising.{Has, here, later}
 use Rattle.erd_check.proofs.Shapes.{Within, Within-step, faultless, lacks_none}

@@ -23,7 +23,7 @@ use Rattle.erd_check.specs.Wants.{Asked, asked, asked_from, asked_inside, carrie
 use Rattle.erd_check.specs.declared.want.Scope.{Scope}
 use Rattle.erd_check.specs.declared.want.Scope.TheVariants as scope
 use Rattle.erd_check.specs.declared.want.Want.{Want}
-use Rattle.erd_check.specs.declared.want.Want.TheVariants.{Carried, ClassText, Member, Object, Reference, Status}
+use Rattle.erd_check.specs.declared.want.Want.TheVariants.{Carried, ClassText, Member, Object, Reference}
 use Rattle.erd_check.proofs.Entries.{array_from}
 use Rattle.erd_check.proofs.Shapes.{Within, wanted_within}
 use Rattle.erd_check.proofs.TableKinds.{kind_of_class, want_unless_status}

@@ -1,4 +1,4 @@
-use Rattle.erd_normal.proofs.same.normal.SameForms.{meaning_says}
+use Rattle.erd_normal.proofs.same.complete.Complete.{meaning_says}
 use Rattle.erd_normal.proofs.same_forms.meaning_the_same_says_the_same.Goals as goal
 
 pub returns : goal.returns

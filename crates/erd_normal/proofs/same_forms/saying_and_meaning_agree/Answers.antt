@@ -1,4 +1,4 @@
-use Rattle.erd_normal.proofs.same.normal.SameForms.{says_and_means}
+use Rattle.erd_normal.proofs.same.complete.Complete.{says_and_means}
 use Rattle.erd_normal.proofs.same_forms.saying_and_meaning_agree.Goals as goal
 
 pub returns : goal.returns

@@ -1,10 +1,9 @@
 use Rattle.std.specs.Option.{option_copied}
-use Rattle.std.proofs.Common.{◌∙◌, ap, subst}
+use Rattle.std.proofs.Common.{ap, subst}
 use Rattle.std.proofs.lemmas.Result.{err_from_is_err_and}
 use Rattle.serde_json.specs.View.{view}
 use Rattle.erd_meaning.specs.Keys.{Preference}
 use Rattle.erd_normal.specs.CanonicalText.{IsCanonicalText}
-use Rattle.erd_normal.specs.Laws.{IsGiven}
 use Rattle.erd_canon.proofs.forms.CanonicalTexts.{canonical_text}
 use Rattle.erd_canon.proofs.forms.FormLaws.{headline}
 use Rattle.erd_canon.proofs.forms.Refusing.{refused_tree}
@@ -25,16 +24,10 @@ pub returns-clause-headline : goal.returns-clause-headline
 returns-clause-headline c =
     let π = option_copied c.args.prefer in
     let text = c.in_ok-text.text.items in
-    let given : IsGiven (view c.tree-tree.result.now) = record {
-      is_tree = c.tree-tree.ensures.is_tree;
-      fits = c.tree-tree.ensures.fits;
-      bounded = c.tree-tree.ensures.bounded;
-    } in
     headline π c.args.bytes.now text
     (canonical_text π c.args.bytes.now (view c.in_ok-tree.tree) (view c.in_ok-report.report.tree) text
     c.in_ok-tree.ensures.read c.in_ok-report.ensures.accepted c.in_ok-tree.ensures.nests (ap view c.in_ok-report.ensures.tree)
     (subst (λ (π : Preference). IsCanonicalText π (view c.in_ok-report.report.tree) text) c.in_ok-report.ensures.prefer c.in_ok-text.ensures))
-    (view c.in_ok-tree.tree) c.in_ok-tree.ensures.read (subst (λ v. IsGiven (view v)) (c.tree-tree.ensures.tree ∙ c.in_ok-report.ensures.tree) given)
 
 pub returns-in_err-text-clause-refused : goal.returns-in_err-text-clause-refused
 returns-in_err-text-clause-refused c =

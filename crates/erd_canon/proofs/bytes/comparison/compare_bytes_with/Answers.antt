@@ -1,10 +1,9 @@
 use Rattle.std.specs.Option.{option_copied}
-use Rattle.std.proofs.Common.{◌≡◌, ◌∙◌, sym, subst, ap}
+use Rattle.std.proofs.Common.{◌≡◌, sym, subst, ap}
 use Rattle.std.proofs.lemmas.Result.{err_from_is_err_and}
 use Rattle.serde_json.specs.View.{view}
 use Rattle.erd_meaning.specs.Keys.{Preference}
 use Rattle.erd_meaning.specs.Records.{meaning}
-use Rattle.erd_normal.specs.Laws.{IsGiven}
 use Rattle.erd_compare.specs.Differences.{IsDifference}
 use Rattle.erd_canon.proofs.runs.Agreement.{agrees, tells_what_is_said}
 use Rattle.erd_canon.proofs.runs.Comparisons.{compared}
@@ -48,45 +47,11 @@ returns-in-Ok-first_difference-clause-ok c =
 
 pub returns-in-Ok-first_difference-clause-said : goal.returns-in-Ok-first_difference-clause-said
 returns-in-Ok-first_difference-clause-said c =
-    let left_tree = view c.in_ok-left_tree.left_tree in
-    let left_read : IsTreeOf c.args.left.now left_tree = c.in_ok-left_tree.ensures.read in
-    let right_tree = view c.in_ok-right_tree.right_tree in
-    let right_read : IsTreeOf c.args.right.now right_tree = c.in_ok-right_tree.ensures.read in
-    let one : IsGiven (view c.tree-left.result.now) = record {
-      is_tree = c.tree-left.ensures.is_tree;
-      fits = c.tree-left.ensures.fits;
-      bounded = c.tree-left.ensures.bounded;
-    } in
-    let other : IsGiven (view c.tree-right.result.now) = record {
-      is_tree = c.tree-right.ensures.is_tree;
-      fits = c.tree-right.ensures.fits;
-      bounded = c.tree-right.ensures.bounded;
-    } in
-    tells_what_is_said (option_copied c.args.prefer) c.args.left.now c.args.right.now c.in-Ok-first_difference.found left_tree right_tree
-    left_read (subst (λ v. IsGiven (view v)) (c.tree-left.ensures.tree ∙ c.in-Ok.ensures.tree) one)
-    right_read (subst (λ v. IsGiven (view v)) (c.tree-right.ensures.tree ∙ c.in-Ok-accepted.ensures.tree) other)
-    (returns-in-Ok-first_difference-clause-ok c)
+    tells_what_is_said (option_copied c.args.prefer) c.args.left.now c.args.right.now c.in-Ok-first_difference.found (returns-in-Ok-first_difference-clause-ok c)
 
 pub returns-in-Ok-first_difference-clause-agree : goal.returns-in-Ok-first_difference-clause-agree
 returns-in-Ok-first_difference-clause-agree c =
-    let left_tree = view c.in_ok-left_tree.left_tree in
-    let left_read : IsTreeOf c.args.left.now left_tree = c.in_ok-left_tree.ensures.read in
-    let right_tree = view c.in_ok-right_tree.right_tree in
-    let right_read : IsTreeOf c.args.right.now right_tree = c.in_ok-right_tree.ensures.read in
-    let one : IsGiven (view c.tree-left.result.now) = record {
-      is_tree = c.tree-left.ensures.is_tree;
-      fits = c.tree-left.ensures.fits;
-      bounded = c.tree-left.ensures.bounded;
-    } in
-    let other : IsGiven (view c.tree-right.result.now) = record {
-      is_tree = c.tree-right.ensures.is_tree;
-      fits = c.tree-right.ensures.fits;
-      bounded = c.tree-right.ensures.bounded;
-    } in
-    agrees (option_copied c.args.prefer) c.args.left.now c.args.right.now c.in-Ok-first_difference.found left_tree right_tree
-    left_read (subst (λ v. IsGiven (view v)) (c.tree-left.ensures.tree ∙ c.in-Ok.ensures.tree) one)
-    right_read (subst (λ v. IsGiven (view v)) (c.tree-right.ensures.tree ∙ c.in-Ok-accepted.ensures.tree) other)
-    (returns-in-Ok-first_difference-clause-ok c)
+    agrees (option_copied c.args.prefer) c.args.left.now c.args.right.now c.in-Ok-first_difference.found (returns-in-Ok-first_difference-clause-ok c)
 
 pub returns-clause-refused : goal.returns-clause-refused
 returns-clause-refused c =

@@ -1,0 +1,258 @@
+-- Contents of ballots that mean the same say the same, headers inside headers included.
+use Rattle.std.proofs.Common.{◌≡◌, ◌≤◌, max, ℕ, zero, suc, List, [], ◌∷◌, Bool, true, false, cond, Option, Some, option_and_then, map, codes, arith, refl, sym, ap, ◌∙◌, subst}
+use Rattle.std.specs.Str.{bytes_eq}
+use Rattle.serde_json.specs.Data.{Data, string, array, object, Items, no_items, item, Members, depth, items_depth, members_depth}
+use Rattle.serde_json.specs.Find.{as_str, get_item, get_member}
+use Rattle.erd_tables.specs.Table.{is_required, kind_of_member}
+use Rattle.erd_tables.specs.declared.class.Class.{Class}
+use Rattle.erd_tables.specs.declared.class.Class.TheVariants as class
+use Rattle.erd_tables.specs.declared.class.Family.{Family}
+use Rattle.erd_tables.specs.declared.class.Family.TheVariants as family
+use Rattle.erd_tables.specs.declared.class.Role.TheVariants as role
+use Rattle.erd_tables.specs.declared.member.MemberKind.{MemberKind}
+use Rattle.erd_tables.specs.declared.member.MemberKind.TheVariants as kind
+use Rattle.erd_tables.specs.declared.place.Step.TheVariants.{At}
+use Rattle.erd_check.proofs.Entries.{entries_in}
+use Rattle.erd_check.proofs.Exact.{text_exact}
+use Rattle.erd_check.proofs.Members.{get_member-depth, get_member-tree}
+use Rattle.erd_check.proofs.ObjectsAt.{MayBeArray, is_absent, is_filled_array}
+use Rattle.erd_check.proofs.Rising.{Has, here, later}
+use Rattle.erd_check.proofs.Shapes.{Within, Within-step, member_within, of_role}
+use Rattle.erd_check.specs.Trees.{AreMembers, AreTrees, IsTree}
+use Rattle.erd_check.specs.Wants.{asked, member_want, want_of_kind, want_of_name}
+use Rattle.erd_check.specs.declared.want.Scope.{Scope}
+use Rattle.erd_check.specs.declared.want.Scope.TheVariants as scope
+use Rattle.erd_check.specs.declared.want.Want.TheVariants.{ClassText, Member, Object, Reference}
+use Rattle.erd_meaning.specs.Accepted.{IsAccepted}
+use Rattle.erd_meaning.specs.Keys.{Preference, has_keys, key_of}
+use Rattle.erd_meaning.specs.Meaning.{Node}
+use Rattle.erd_meaning.specs.NameParts.{NameParts}
+use Rattle.erd_meaning.specs.Records.{carried_members, contest_node, content_inside, header_node, node_of, nodes_of}
+use Rattle.erd_meaning.specs.SelectionNames.{key_named, name_named}
+use Rattle.erd_meaning.proofs.accepted.Phases.{no_shape_fault}
+use Rattle.erd_meaning.proofs.accepted.References.{resolves}
+use Rattle.erd_normal.specs.SaysTheSame.{Sides, Same, a_text, an_id, an_object, SameEntries, SameMembers, StandsFor, no_entry, one_entry}
+use Rattle.erd_normal.proofs.canonical.ChosenEntries.{list_name}
+use Rattle.erd_normal.proofs.lists.Paired.{Paired, none, more}
+use Rattle.erd_normal.proofs.same.Back.{entries_paired}
+use Rattle.erd_normal.proofs.same.LabelsBack.{equal_aligned}
+use Rattle.erd_normal.proofs.same.Lookups.{Aligned, both_there}
+use Rattle.erd_normal.proofs.same.Merged.{merged}
+use Rattle.erd_normal.proofs.same.Steady.{AllPlain, is_plain, is_plain_kind, plain_of_kind}
+use Rattle.erd_normal.proofs.same.complete.Arrays.{lists_aligned}
+use Rattle.erd_normal.proofs.same.complete.ContentNodes.{ContestNode, HeaderNode, IsSelected, NodeAt, NodeView, contest_view, header_view, inner_name, node_view}
+use Rattle.erd_normal.proofs.same.complete.TwoMeanings.{TextsTied}
+use Rattle.erd_normal.proofs.unique.Contents.{content_at, content_inside-get, contest_rest, header_rest, is_rest, node_inside, node_key, node_names, node_others, rest_same}
+
+-- lists with the same values, entry by entry
+paired_by : {A B C : Type 0} (R : A → B → Type 0) (f : A → C) (g : B → C) (xs : List A) (ys : List B) → ((x : A) (y : B) → Has xs x → Has ys y → f x ≡ g y → R x y) → map f xs ≡ map g ys → Paired R xs ys
+paired_by R f g [] [] each e = none
+paired_by R f g [] (y ∷ ys) each e = cc
+paired_by R f g (x ∷ xs) [] each e = cc
+paired_by R f g (x ∷ xs) (y ∷ ys) each e =
+    let first : f x ≡ g y = cc in
+    let rest : map f xs ≡ map g ys = cc in
+    more (each x y here here first) (paired_by R f g xs ys (λ a b i j. each a b (later i) (later j)) rest)
+
+abbrev entry_name : Preference → Data → Data → Option NameParts
+entry_name π t d = option_and_then (name_named π t) (as_str d)
+
+-- a kind that neither refers nor has content is plain
+rest_plain : (k : MemberKind) → is_rest k ≡ true → is_plain_kind k ≡ true
+rest_plain kind.Carried h = refl
+rest_plain kind.StrangeReference h = refl
+rest_plain kind.StrangeIdentity h = refl
+rest_plain k h = cc
+
+module _ (π : Preference) (t u : Data) (m : Sides) (accepted : IsAccepted π t) (accepted' : IsAccepted π u) (tied : TextsTied π t u m) where
+  abbrev in_class : Class → Scope
+  in_class c = scope.Members role.Content (Some c)
+
+  -- ---- one member
+
+  by_name : (s : Scope) (ms ns : Members) (k name : List ℕ) → bytes_eq k name ≡ true → Aligned m s name (get_member name ms) (get_member name ns) → Aligned m s k (get_member k ms) (get_member k ns)
+  by_name s ms ns k name e h = subst (λ n. Aligned m s n (get_member n ms) (get_member n ns)) (sym (text_exact k name e)) h
+
+  types_aligned : (c : Class) (ms ns : Members) → NodeAt t c ms → NodeAt u c ns → Aligned m (in_class c) (codes "@type") (get_member (codes "@type") ms) (get_member (codes "@type") ns)
+  types_aligned c ms ns a b = rw (a.typed, b.typed) (both_there (a_text refl))
+
+  -- references to objects with one key
+  ids_aligned : (c : Class) (f : Family) (name a b : List ℕ) (o p : Option Data) → want_of_name (in_class c) name ≡ Some (Reference f) → has_keys f ≡ true → o ≡ Some (string a) → p ≡ Some (string b)
+      → Within t (asked (Reference f) (string a)) → key_named π t f a ≡ key_named π u f b → Aligned m (in_class c) name o p
+  ids_aligned c f name a b o p asks keyed left right w same =
+      let k = resolves π t accepted f a keyed w in
+      let stand : StandsFor m a b = tied.objects f a b k.0 keyed k.1 (sym same ∙ k.1) in
+      let said : Same m (want_of_name (in_class c) name) (string a) (string b) = subst (λ x. Same m x (string a) (string b)) (sym asks) (an_id refl stand) in
+      rw (left, right) (both_there said)
+
+  -- a member that neither refers nor has content
+  rest_aligned : (c : Class) (ms ns : Members) → NodeAt t c ms → NodeAt u c ns → carried_members (Some c) (object ms) ≡ carried_members (Some c) (object ns) → (k : List ℕ)
+      → member_want c k ≡ want_of_kind (kind_of_member c k) (is_required c k) → bytes_eq k (codes "@type") ≡ false → is_rest (kind_of_member c k) ≡ true → Aligned m (in_class c) k (get_member k ms) (get_member k ns)
+  rest_aligned c ms ns a b same k wants other rest =
+      equal_aligned m (in_class c) k (get_member k ms) (get_member k ns) plain
+      (rest_same π t u accepted accepted' (kind_of_member c k) (is_required c k) (get_member k ms) (get_member k ns) rest
+      (λ v e. subst (λ x. Within t (asked x v)) wants (member_within t (no_shape_fault π t accepted) (Object role.Content) role.Content ms c k v of_role a.among other a.inside e))
+      (λ v e. subst (λ x. Within u (asked x v)) wants (member_within u (no_shape_fault π u accepted') (Object role.Content) role.Content ns c k v of_role b.among other b.inside e))
+      (ap (λ others. others k) same))
+    where
+      asks : want_of_name (in_class c) k ≡ Some (want_of_kind (kind_of_member c k) (is_required c k))
+      asks = ap (λ b. cond b (Some (ClassText role.Content)) (Some (member_want c k))) other ∙ ap Some wants
+
+      plain : AllPlain (want_of_name (in_class c) k)
+      plain v found =
+          let both : Some (want_of_kind (kind_of_member c k) (is_required c k)) ≡ Some v = sym asks ∙ found in
+          let one : want_of_kind (kind_of_member c k) (is_required c k) ≡ v = cc in
+          ap is_plain (sym one) ∙ plain_of_kind (kind_of_member c k) (is_required c k) (rest_plain (kind_of_member c k) rest)
+
+  -- ---- the list of a contest
+
+  chosen_says : (ms ns : Members) (a : ContestNode t ms) (b : ContestNode u ns) → key_named π t family.Contest a.id ≡ key_named π u family.Contest b.id → (d e : Data) → IsSelected a.meant d → IsSelected b.meant e
+      → entry_name π t d ≡ entry_name π u e → Same m (Some (Reference family.Selection)) d e
+  chosen_says ms ns a b same d e h k named =
+      let key = resolves π t accepted family.Contest a.id refl a.refers in
+      let left = sym (ap (option_and_then (key_of π)) a.is) ∙ key.1 in
+      let right = sym (ap (option_and_then (key_of π)) b.is) ∙ sym same ∙ key.1 in
+      let both : name_named π t h.0 ≡ name_named π u k.0 = sym (ap (entry_name π t) h.1) ∙ named ∙ ap (entry_name π u) k.1 in
+      subst (λ x. Same m (Some (Reference family.Selection)) x e) (sym h.1)
+      (subst (Same m (Some (Reference family.Selection)) (string h.0)) (sym k.1)
+      (an_id refl (tied.selections a.id b.id a.meant b.meant key.0 h.0 k.0 a.is b.is left right h.2 k.2 both)))
+
+  -- contests that mean the same say the same
+  contests_say : (ms ns : Members) → ContestNode t ms → ContestNode u ns → AreMembers ms → AreMembers ns → contest_node π t (object ms) ≡ contest_node π u (object ns) → Same m (Some (Object role.Content)) (object ms) (object ns)
+  contests_say ms ns a b tree tree' same =
+      an_object
+      (subst (λ x. SameMembers m (scope.Members role.Content x) ms ns) (sym a.at.among)
+      (merged m (in_class class.OrderedContest) ms ns tree tree' (λ k. at k (bytes_eq k (codes "@type")) refl (bytes_eq k (codes "ContestId")) refl (bytes_eq k list_name) refl)))
+    where
+      keys : key_named π t family.Contest a.id ≡ key_named π u family.Contest b.id
+      keys = rw (a.named, b.named) at (ap node_key same)
+
+      names : map (entry_name π t) (entries_in (get_member list_name ms)) ≡ map (entry_name π u) (entries_in (get_member list_name ns))
+      names = ap node_names same
+
+      others : carried_members (Some class.OrderedContest) (object ms) ≡ carried_members (Some class.OrderedContest) (object ns)
+      others = rw (a.at.among, b.at.among) at (ap node_others same)
+
+      chosen : Paired (Same m (Some (Reference family.Selection))) (entries_in (get_member list_name ms)) (entries_in (get_member list_name ns))
+      chosen =
+          paired_by (Same m (Some (Reference family.Selection))) (entry_name π t) (entry_name π u) (entries_in (get_member list_name ms)) (entries_in (get_member list_name ns))
+          (λ x y i j e. chosen_says ms ns a b keys x y (a.chosen x i) (b.chosen y j) e) names
+
+      at : (k : List ℕ) (x : Bool) → bytes_eq k (codes "@type") ≡ x → (y : Bool) → bytes_eq k (codes "ContestId") ≡ y → (z : Bool) → bytes_eq k list_name ≡ z
+          → Aligned m (in_class class.OrderedContest) k (get_member k ms) (get_member k ns)
+      at k true e y f z g = by_name (in_class class.OrderedContest) ms ns k (codes "@type") e (types_aligned class.OrderedContest ms ns a.at b.at)
+      at k false e true f z g =
+          by_name (in_class class.OrderedContest) ms ns k (codes "ContestId") f
+          (ids_aligned class.OrderedContest family.Contest (codes "ContestId") a.id b.id (get_member (codes "ContestId") ms) (get_member (codes "ContestId") ns) refl refl a.named b.named a.refers keys)
+      at k false e false f true g =
+          by_name (in_class class.OrderedContest) ms ns k list_name g
+          (lists_aligned m (in_class class.OrderedContest) list_name kind.Ordered false refl refl (λ ds. Unit {0}) (λ ds. Unit {0}) (get_member list_name ms) (get_member list_name ns) refl a.list b.list chosen)
+      at k false e false f false g = rest_aligned class.OrderedContest ms ns a.at b.at others k refl e (contest_rest k e f g)
+
+  -- ---- headers
+
+  abbrev node_of_header : Preference → Data → Members → Node
+  node_of_header π t ms = header_node π t (object ms) (content_inside π t ms)
+
+  headers_say : (ms ns : Members) → HeaderNode t ms → HeaderNode u ns → AreMembers ms → AreMembers ns → node_of_header π t ms ≡ node_of_header π u ns
+      → Aligned m (in_class class.OrderedHeader) inner_name (get_member inner_name ms) (get_member inner_name ns) → Same m (Some (Object role.Content)) (object ms) (object ns)
+  headers_say ms ns a b tree tree' same inside =
+      an_object
+      (subst (λ x. SameMembers m (scope.Members role.Content x) ms ns) (sym a.at.among)
+      (merged m (in_class class.OrderedHeader) ms ns tree tree' (λ k. at k (bytes_eq k (codes "@type")) refl (bytes_eq k (codes "HeaderId")) refl (bytes_eq k inner_name) refl)))
+    where
+      keys : key_named π t family.Header a.id ≡ key_named π u family.Header b.id
+      keys = rw (a.named, b.named) at (ap node_key same)
+
+      others : carried_members (Some class.OrderedHeader) (object ms) ≡ carried_members (Some class.OrderedHeader) (object ns)
+      others = rw (a.at.among, b.at.among) at (ap node_others same)
+
+      at : (k : List ℕ) (x : Bool) → bytes_eq k (codes "@type") ≡ x → (y : Bool) → bytes_eq k (codes "HeaderId") ≡ y → (z : Bool) → bytes_eq k inner_name ≡ z
+          → Aligned m (in_class class.OrderedHeader) k (get_member k ms) (get_member k ns)
+      at k true e y f z g = by_name (in_class class.OrderedHeader) ms ns k (codes "@type") e (types_aligned class.OrderedHeader ms ns a.at b.at)
+      at k false e true f z g =
+          by_name (in_class class.OrderedHeader) ms ns k (codes "HeaderId") f
+          (ids_aligned class.OrderedHeader family.Header (codes "HeaderId") a.id b.id (get_member (codes "HeaderId") ms) (get_member (codes "HeaderId") ns) refl refl a.named b.named a.refers keys)
+      at k false e false f true g = by_name (in_class class.OrderedHeader) ms ns k inner_name g inside
+      at k false e false f false g = rest_aligned class.OrderedHeader ms ns a.at b.at others k refl e (header_rest k e f g)
+
+  -- ---- contents, headers inside headers included
+
+  abbrev Entries : Data → Items → Type 0
+  Entries t ds = (i : ℕ) (d : Data) → get_item i ds ≡ Some d → Within t (asked (Object role.Content) d)
+
+  entries_within : (t : Data) (r : Bool) (ds : Items) → Within t (asked (Member kind.Content r) (array ds)) → Entries t ds
+  entries_within t r ds w i d e = Within-step t (asked (Member kind.Content r) (array ds)) (asked (Object role.Content) d) (At i) w (rw e)
+
+  -- contents nested at most so deep say the same if they mean the same
+  abbrev Nodes : ℕ → Type 0
+  Nodes n = (ds es : Items) → items_depth ds ≤ n → AreTrees ds → AreTrees es → Entries t ds → Entries u es → nodes_of π t ds ≡ nodes_of π u es → SameEntries m (Some (Object role.Content)) ds es
+
+  abbrev IsContent : Data → Items → Type 0
+  IsContent t ds = Within t (asked (Member kind.Content false) (array ds))
+
+  inside_paired : (n : ℕ) → Nodes n → (o p : Option Data) → ((v : Data) → o ≡ Some v → depth v ≤ suc n) → ((v : Data) → o ≡ Some v → IsTree v) → ((v : Data) → p ≡ Some v → IsTree v)
+      → MayBeArray (IsContent t) o → MayBeArray (IsContent u) p → content_at π t o ≡ content_at π u p → Paired (Same m (Some (Object role.Content))) (entries_in o) (entries_in p)
+  inside_paired n deeper o p small tree tree' is_absent is_absent same = none
+  inside_paired n deeper o p small tree tree' is_absent (is_filled_array {ds = no_items} w) same = none
+  inside_paired n deeper o p small tree tree' is_absent (is_filled_array {ds = item d ds} w) same = cc
+  inside_paired n deeper o p small tree tree' (is_filled_array {ds = no_items} w) is_absent same = none
+  inside_paired n deeper o p small tree tree' (is_filled_array {ds = item d ds} w) is_absent same = cc
+  inside_paired n deeper o p small tree tree' (is_filled_array {ds = ds} w) (is_filled_array {ds = es} w') same =
+      let low : suc (items_depth ds) ≤ suc n = small (array ds) refl in
+      entries_paired m (deeper ds es (omega arith) (tree (array ds) refl) (tree' (array es) refl) (entries_within t false ds w) (entries_within u false es w') same)
+
+  inside_aligned : (n : ℕ) → Nodes n → (ms ns : Members) → members_depth ms ≤ suc n → AreMembers ms → AreMembers ns → HeaderNode t ms → HeaderNode u ns → content_inside π t ms ≡ content_inside π u ns
+      → Aligned m (in_class class.OrderedHeader) inner_name (get_member inner_name ms) (get_member inner_name ns)
+  inside_aligned n deeper ms ns small tree tree' a b same =
+      lists_aligned m (in_class class.OrderedHeader) inner_name kind.Content false refl refl (IsContent t) (IsContent u) (get_member inner_name ms) (get_member inner_name ns) refl a.list b.list
+      (inside_paired n deeper (get_member inner_name ms) (get_member inner_name ns)
+      (λ v f. let g : depth v ≤ members_depth ms = get_member-depth inner_name v ms f in omega arith)
+      (λ v f. get_member-tree inner_name v ms tree f) (λ v f. get_member-tree inner_name v ns tree' f) a.list b.list
+      (sym (content_inside-get π t ms) ∙ same ∙ content_inside-get π u ns))
+
+  node_of-contest : (t : Data) (ms : Members) → ContestNode t ms → node_of π t (object ms) ≡ contest_node π t (object ms)
+  node_of-contest t ms a = rw a.at.among
+
+  node_of-header : (t : Data) (ms : Members) → HeaderNode t ms → node_of π t (object ms) ≡ node_of_header π t ms
+  node_of-header t ms a = rw a.at.among
+
+  -- a contest or a header
+  node_says : (n : ℕ) → Nodes n → (d e : Data) → depth d ≤ suc (suc n) → IsTree d → IsTree e → NodeView t d → NodeView u e → node_of π t d ≡ node_of π u e → Same m (Some (Object role.Content)) d e
+  node_says n deeper d e small tree tree' (contest_view {ms = ms} a) (contest_view {ms = ns} b) same =
+      contests_say ms ns a b tree tree' (sym (node_of-contest t ms a) ∙ same ∙ node_of-contest u ns b)
+  node_says n deeper d e small tree tree' (contest_view {ms = ms} a) (header_view {ms = ns} b) same =
+      let h : contest_node π t (object ms) ≡ node_of_header π u ns = sym (node_of-contest t ms a) ∙ same ∙ node_of-header u ns b in cc
+  node_says n deeper d e small tree tree' (header_view {ms = ms} a) (contest_view {ms = ns} b) same =
+      let h : node_of_header π t ms ≡ contest_node π u (object ns) = sym (node_of-header t ms a) ∙ same ∙ node_of-contest u ns b in cc
+  node_says n deeper d e small tree tree' (header_view {ms = ms} a) (header_view {ms = ns} b) same =
+      let h : node_of_header π t ms ≡ node_of_header π u ns = sym (node_of-header t ms a) ∙ same ∙ node_of-header u ns b in
+      headers_say ms ns a b tree tree' h (inside_aligned n deeper ms ns (omega arith) tree tree' a b (ap node_inside h))
+
+  nodes_say_at : (n : ℕ) → Nodes n → Nodes (suc (suc n))
+  nodes_say_at n deeper no_items no_items small tree tree' each each' same = no_entry
+  nodes_say_at n deeper no_items (item e es) small tree tree' each each' same = cc
+  nodes_say_at n deeper (item d ds) no_items small tree tree' each each' same = cc
+  nodes_say_at n deeper (item d ds) (item e es) small tree tree' each each' same =
+      let first : node_of π t d ≡ node_of π u e = cc in
+      let rest : nodes_of π t ds ≡ nodes_of π u es = cc in
+      let low : max (depth d) (items_depth ds) ≤ suc (suc n) = small in
+      one_entry (node_says n deeper d e (omega arith) tree.0 tree'.0 (node_view π t accepted d (each zero d refl)) (node_view π u accepted' e (each' zero e refl)) first)
+      (nodes_say_at n deeper ds es (omega arith) tree.1 tree'.1 (λ i. each (suc i)) (λ i. each' (suc i)) rest)
+
+  node_deep : (d : Data) → NodeView t d → depth d ≤ 0 → ⊥
+  node_deep d (contest_view a) small = omega arith
+  node_deep d (header_view a) small = omega arith
+
+  nodes_say : (n : ℕ) → Nodes n
+  nodes_say zero no_items no_items small tree tree' each each' same = no_entry
+  nodes_say zero no_items (item e es) small tree tree' each each' same = cc
+  nodes_say zero (item d ds) es small tree tree' each each' same =
+      let low : max (depth d) (items_depth ds) ≤ 0 = small in
+      absurd (node_deep d (node_view π t accepted d (each zero d refl)) (omega arith))
+  nodes_say (suc n) ds es small tree tree' each each' same = nodes_say_at n (nodes_say n) ds es (omega arith) tree tree' each each' same
+
+  -- two contents that mean the same say the same
+  pub content_says : (r r' : Bool) (ds es : Items) → AreTrees ds → AreTrees es → Within t (asked (Member kind.Content r) (array ds)) → Within u (asked (Member kind.Content r') (array es))
+      → nodes_of π t ds ≡ nodes_of π u es → SameEntries m (Some (Object role.Content)) ds es
+  content_says r r' ds es tree tree' w w' same = nodes_say (items_depth ds) ds es (omega arith) tree tree' (entries_within t r ds w) (entries_within u r' es w') same

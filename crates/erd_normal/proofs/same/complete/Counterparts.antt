@@ -1,0 +1,248 @@
+-- The objects of two accepted reports that mean the same are matched: elections by their keys, the objects of each family in each
+-- election or in the report by theirs, and the selections of a contest by their names.
+use Rattle.std.proofs.Common.{◌≡◌, List, ℕ, Bool, true, is_eq, find, Option, Some, None, option_map, option_and_then, codes, refl, sym, ap, ◌∙◌, subst}
+use Rattle.std.proofs.lemmas.Cmp.{tied_itself}
+use Rattle.std.specs.Cmp.Lexicographic.{options_total}
+use Rattle.std.specs.Option.{option_cmp}
+use Rattle.serde_json.specs.Data.{Data, null, boolean, number, string, array, object, no_items, item}
+use Rattle.serde_json.specs.Find.{get}
+use Rattle.erd_tables.specs.declared.class.Family.{Family}
+use Rattle.erd_tables.specs.declared.class.Family.TheVariants as family
+use Rattle.erd_tables.specs.declared.class.Role.TheVariants as role
+use Rattle.erd_check.proofs.Entries.{entries_in}
+use Rattle.erd_check.proofs.ObjectsAt.{ObjectIn, object_in}
+use Rattle.erd_check.proofs.Rising.{Has}
+use Rattle.erd_check.proofs.Shapes.{Within}
+use Rattle.erd_check.specs.Values.{entries_at}
+use Rattle.erd_check.specs.Wants.{asked, class_of_object}
+use Rattle.erd_check.specs.declared.want.Want.TheVariants.{Object}
+use Rattle.erd_meaning.specs.Accepted.{IsAccepted}
+use Rattle.erd_meaning.specs.Keys.{Preference, has_keys, key_cmp, key_of}
+use Rattle.erd_meaning.specs.Lookups.{election_key_of}
+use Rattle.erd_meaning.specs.Meaning.{ObjectRecord, SelectionRecord}
+use Rattle.erd_meaning.specs.NameParts.{NameParts}
+use Rattle.erd_meaning.specs.Objects.{Placed, contests, elections, objects, placed_entries, report_of, selections_of_contest}
+use Rattle.erd_meaning.specs.Records.{member_of_class, member_value, object_record, placed_record, plain_member, record_in_election, selection_map, selection_record}
+use Rattle.erd_meaning.specs.SelectionNames.{name_cmp, name_of}
+use Rattle.erd_meaning.specs.code.Orders.{key_cmp_total, name_cmp_total}
+use Rattle.erd_meaning.specs.declared.keys.key.Key.{Key}
+use Rattle.erd_meaning.proofs.accepted.DistinctKeys.{elections_distinct, objects_distinct}
+use Rattle.erd_meaning.proofs.accepted.HeldObjects.{has-flat, held_key_in}
+use Rattle.erd_meaning.proofs.accepted.Phases.{no_identity_fault, no_shape_fault}
+use Rattle.erd_meaning.proofs.accepted.References.{has_identifier}
+use Rattle.erd_meaning.proofs.accepted.Skeleton.{election_stands, skeleton, values-placed_entries}
+use Rattle.erd_meaning.proofs.accepted.Standing.{contest_selections, flat-has, stands}
+use Rattle.erd_meaning.proofs.orders.EqualNames.{equal_keys, equal_names, options_exact}
+use Rattle.erd_normal.proofs.canonical.DistinctSelections.{selections_distinct}
+use Rattle.erd_normal.proofs.lists.FoundBuilt.{find_values}
+use Rattle.erd_normal.proofs.lists.ListParts.{IsPart, part_distinct, part_flat}
+use Rattle.erd_normal.proofs.lists.Matched.{Matched, matched_back, matched_on, matched_within}
+use Rattle.erd_normal.proofs.same.ByKeys.{ApartBy, matched_by_keys}
+use Rattle.erd_normal.proofs.same.Related.{matched_within_both}
+use Rattle.erd_normal.proofs.same.complete.ByRecords.{apart_map, apart_one, record_for, records_matched}
+use Rattle.erd_normal.proofs.same.complete.Sets.{apart_by}
+use Rattle.erd_normal.proofs.same.complete.TwoMeanings.{MeanOne}
+use Rattle.erd_normal.proofs.unique.Families.{has_record, records_apart, records_of-keyed}
+use Rattle.erd_normal.proofs.unique.FamilyArrays.{InElections}
+use Rattle.erd_normal.proofs.unique.Records.{class_within, members_in, record_with-Some}
+use Rattle.erd_normal.proofs.unique.Selections.{has_name, has_selection_record, map_in, selections_value}
+
+-- two elections with one key and one record
+pub record ElectionsAlike (π : Preference) (t u : Data) (e f : Placed) : Type 0 where
+  pub key : key_of π e.value ≡ key_of π f.value
+  pub record_same : object_record π t role.Election e.value ≡ object_record π u role.Election f.value
+
+-- two objects of a family with one key and one record, held by elections with one key
+pub record ObjectsAlike (π : Preference) (t u : Data) (f : Family) (o p : Placed) : Type 0 where
+  pub key : key_of π o.value ≡ key_of π p.value
+  pub record_same : object_record π t (role.OfFamily f) o.value ≡ object_record π u (role.OfFamily f) p.value
+  pub election : election_key_of π t o ≡ election_key_of π u p
+
+-- two selections with one name and one record
+pub record SelectionsAlike (π : Preference) (t u : Data) (o p : Placed) : Type 0 where
+  pub name : name_of π t o.value ≡ name_of π u p.value
+  pub record_same : selection_record π t o.value ≡ selection_record π u p.value
+
+selection_within : (π : Preference) (t : Data) → IsAccepted π t → (c o : Placed) → Has (objects family.Contest t) c → Has (selections_of_contest c) o → Within t (asked (Object (role.OfFamily family.Selection)) o.value)
+selection_within π t accepted c o h k = record { place = o.place; is = stands π t accepted family.Selection o (flat-has selections_of_contest (contests t) c o h k) }
+
+-- a selection of an accepted report has a name
+pub selection_name : (π : Preference) (t : Data) → IsAccepted π t → (c o : Placed) → Has (objects family.Contest t) c → Has (selections_of_contest c) o → (n : NameParts) × (name_of π t o.value ≡ Some n)
+selection_name π t accepted c o h k = has_name π t accepted o.value (selection_within π t accepted c o h k)
+
+-- ---- keys and names
+
+abbrev pub key_at : Preference → Placed → Option Key
+key_at π o = key_of π o.value
+
+abbrev is_same_key : Option Key → Option Key → Bool
+is_same_key k l = is_eq (option_cmp key_cmp k l)
+
+key_itself : (k : Option Key) → is_same_key k k ≡ true
+key_itself k = ap is_eq (tied_itself (options_total key_cmp_total) k)
+
+equal_key : (k l : Option Key) → k ≡ l → is_same_key k l ≡ true
+equal_key k l e = ap (λ x. is_same_key k x) (sym e) ∙ key_itself k
+
+abbrev pub name_at : Preference → Data → Placed → Option NameParts
+name_at π t o = name_of π t o.value
+
+abbrev is_same_name : Option NameParts → Option NameParts → Bool
+is_same_name m n = is_eq (option_cmp name_cmp m n)
+
+name_itself : (n : Option NameParts) → is_same_name n n ≡ true
+name_itself n = ap is_eq (tied_itself (options_total name_cmp_total) n)
+
+equal_name : (m n : Option NameParts) → m ≡ n → is_same_name m n ≡ true
+equal_name m n e = ap (λ x. is_same_name m x) (sym e) ∙ name_itself m
+
+-- ---- one report
+
+abbrev list_name : List ℕ
+list_name = codes "ContestSelection"
+
+and_then_map : {A B C : Type 0} (f : B → Option C) (g : A → B) (o : Option A) → option_and_then (λ x. f (g x)) o ≡ option_and_then f (option_map g o)
+and_then_map f g None = refl
+and_then_map f g (Some x) = refl
+
+-- the map that the selections of a contest mean
+map_of_value : (π : Preference) (t : Data) (n : NameParts) (o : Option Data) → map_in (selections_value π t o) n ≡ selection_map π t (entries_in o) n
+map_of_value π t n None = refl
+map_of_value π t n (Some (array no_items)) = refl
+map_of_value π t n (Some (array (item d ds))) = refl
+map_of_value π t n (Some null) = refl
+map_of_value π t n (Some (boolean b)) = refl
+map_of_value π t n (Some (number x)) = refl
+map_of_value π t n (Some (string x)) = refl
+map_of_value π t n (Some (object ms)) = refl
+
+module _ (π : Preference) (t : Data) (accepted : IsAccepted π t) where
+  -- no two elections have one key
+  pub elections_apart : ApartBy (key_at π) (elections t)
+  elections_apart =
+      apart_map (λ e. e.value) (key_of π) (elections t)
+      (subst (ApartBy (key_of π)) (sym (values-placed_entries (codes "Election") (report_of t)))
+      (apart_by (λ d e. is_same_key (key_of π d) (key_of π e)) (key_of π) (entries_at (codes "Election") t) (λ d e i j same. equal_key (key_of π d) (key_of π e) same)
+      (elections_distinct π t (no_identity_fault π t accepted))))
+
+  election_recorded : (e : Placed) → Has (elections t) e → (r : ObjectRecord) × (object_record π t role.Election e.value ≡ Some r)
+  election_recorded e h =
+      let c = class_within π t accepted role.Election e.value (record { place = e.place; is = election_stands t (skeleton π t accepted) e h }) in
+      (_, record_with-Some (member_of_class π t e.value) role.Election e.value c.0 c.1)
+
+  module _ (f : Family) (keyed : has_keys f ≡ true) where
+    abbrev one_key : Placed → Placed → Bool
+    one_key o p = is_same_key (key_at π o) (key_at π p)
+
+    -- no two objects of a family have one key
+    pub family_apart : ApartBy (key_at π) (objects f t)
+    family_apart = apart_by one_key (key_at π) (objects f t) (λ o p i j same. equal_key (key_at π o) (key_at π p) same) (objects_distinct π t (no_identity_fault π t accepted) f keyed)
+
+    -- nor do two that one election holds
+    held_apart : (name : List ℕ) → InElections f name → (e : Placed) → Has (elections t) e → ApartBy (key_at π) (placed_entries name e)
+    held_apart name home e h =
+        apart_by one_key (key_at π) (placed_entries name e) (λ o p i j same. equal_key (key_at π o) (key_at π p) same)
+        (part_distinct one_key (placed_entries name e) (objects f t) (subst (IsPart (placed_entries name e)) (sym (home.are t)) (part_flat (placed_entries name) (elections t) e h))
+        (objects_distinct π t (no_identity_fault π t accepted) f keyed))
+
+    held_stands : (name : List ℕ) → InElections f name → (e o : Placed) → Has (elections t) e → Has (placed_entries name e) o → Has (objects f t) o
+    held_stands name home e o h i = subst (λ os. Has os o) (sym (home.are t)) (flat-has (placed_entries name) (elections t) e o h i)
+
+    -- what stands in an election of this key is held by it
+    held_by : (name : List ℕ) → InElections f name → (e o : Placed) → Has (elections t) e → Has (objects f t) o → election_key_of π t o ≡ key_at π e → Has (placed_entries name e) o
+    held_by name home e o h i same =
+        let x = has-flat (placed_entries name) (elections t) o (subst (λ os. Has os o) (home.are t) i) in
+        let one : x.0 ≡ e = apart_one (key_at π) (elections t) elections_apart x.0 e x.1 h (sym (held_key_in π t name x.0 o x.1 x.2) ∙ same) in
+        subst (λ z. Has (placed_entries name z) o) one x.2
+
+    object_recorded : (o : Placed) → Has (objects f t) o → (r : ObjectRecord) × (placed_record π t f o ≡ Some r)
+    object_recorded o h = let r = has_record π t accepted f o h in (_, ap (option_map (record_in_election (election_key_of π t o))) r.1)
+
+  module _ (contest : Placed) (c : Has (objects family.Contest t) contest) where
+    -- no two selections of a contest have one name
+    selections_apart : ApartBy (name_at π t) (selections_of_contest contest)
+    selections_apart =
+        apart_by (λ o p. is_same_name (name_at π t o) (name_at π t p)) (name_at π t) (selections_of_contest contest) (λ o p i j same. equal_name (name_at π t o) (name_at π t p) same)
+        (selections_distinct π t accepted contest c)
+
+    selection_recorded : (o : Placed) → Has (selections_of_contest contest) o → (r : SelectionRecord) × (selection_record π t o.value ≡ Some r)
+    selection_recorded o h = has_selection_record π t accepted o.value (selection_within π t accepted contest o c h)
+
+    -- the record of the first selection of this name stands in the map
+    selection_mapped : (n : NameParts) → record_for is_same_name (name_at π t) (λ o. selection_record π t o.value) (selections_of_contest contest) (Some n) ≡ selection_map π t (entries_at list_name contest.value) n
+    selection_mapped n =
+        let test = λ (d : Data). is_same_name (name_of π t d) (Some n) in
+        and_then_map (selection_record π t) (λ (o : Placed). o.value) (find (λ o. test o.value) (selections_of_contest contest))
+        ∙ ap (option_and_then (selection_record π t)) (find_values test (λ o. o.value) (selections_of_contest contest))
+        ∙ ap (λ ds. option_and_then (selection_record π t) (find test ds)) (values-placed_entries list_name contest)
+
+    -- which is a member of the contest's record
+    map_recorded : (n : NameParts) → map_in (members_in (object_record π t (role.OfFamily family.Contest) contest.value) list_name) n ≡ selection_map π t (entries_at list_name contest.value) n
+    map_recorded n =
+        let d : Data = contest.value in
+        let o : ObjectIn t (role.OfFamily family.Contest) d = object_in t (no_shape_fault π t accepted) (role.OfFamily family.Contest) d (record { place = contest.place; is = stands π t accepted family.Contest contest c }) in
+        let among : class_of_object (role.OfFamily family.Contest) d ≡ Some o.class = ap (class_of_object (role.OfFamily family.Contest)) o.is_object ∙ o.at.among in
+        ap (λ r. map_in (members_in r list_name) n) (record_with-Some (member_of_class π t d) (role.OfFamily family.Contest) d o.class among)
+        ∙ ap (λ k. map_in (member_value π t k (get list_name d) (plain_member π t d o.class list_name)) n) (contest_selections o.class o.role)
+        ∙ map_of_value π t n (get list_name d)
+
+module _ (π : Preference) (t u : Data) (both : MeanOne π t u) where
+  pub elections_matched : Matched (ElectionsAlike π t u) (elections t) (elections u)
+  elections_matched =
+      matched_within (ElectionsAlike π t u) (λ d e i r. record { key = r.0; record_same = r.1 })
+      (records_matched is_same_key (options_exact key_cmp equal_keys) key_itself (key_at π) (key_at π) (λ e. object_record π t role.Election e.value) (λ e. object_record π u role.Election e.value) (elections t) (elections u)
+      (elections_apart π t both.left) (elections_apart π u both.right) (election_recorded π t both.left) (election_recorded π u both.right)
+      (λ e i. ap (λ m. m.elections (key_at π e)) both.same) (λ e i. ap (λ m. m.elections (key_at π e)) both.same))
+
+  -- both reports have one record at each key of a family
+  recorded_alike : (f : Family) → has_keys f ≡ true → (k : Option Key) (l : Key) → k ≡ Some l
+      → record_for is_same_key (key_at π) (placed_record π t f) (objects f t) k ≡ record_for is_same_key (key_at π) (placed_record π u f) (objects f u) k
+  recorded_alike f keyed k l is =
+      subst (λ x. record_for is_same_key (key_at π) (placed_record π t f) (objects f t) x ≡ record_for is_same_key (key_at π) (placed_record π u f) (objects f u) x) (sym is)
+      (sym (records_of-keyed π t f l keyed) ∙ ap (λ m. m.objects f l) both.same ∙ records_of-keyed π u f l keyed)
+
+  pub family_matched : (f : Family) → has_keys f ≡ true → Matched (ObjectsAlike π t u f) (objects f t) (objects f u)
+  family_matched f keyed =
+      matched_within_both (ObjectsAlike π t u f)
+      (λ o p i j r. let parts = records_apart π t u both.left both.right f o p i j r.1 in record { key = r.0; record_same = parts.0; election = parts.1 })
+      (records_matched is_same_key (options_exact key_cmp equal_keys) key_itself (key_at π) (key_at π) (placed_record π t f) (placed_record π u f) (objects f t) (objects f u)
+      (family_apart π t both.left f keyed) (family_apart π u both.right f keyed) (object_recorded π t both.left f keyed) (object_recorded π u both.right f keyed)
+      (λ o i. let k = has_identifier π t (no_identity_fault π t both.left) f o keyed i in recorded_alike f keyed (key_at π o) k.0 k.1)
+      (λ o i. let k = has_identifier π u (no_identity_fault π u both.right) f o keyed i in recorded_alike f keyed (key_at π o) k.0 k.1))
+
+  -- objects of a family with one key are alike
+  alike_by_key : (f : Family) → has_keys f ≡ true → (o p : Placed) → Has (objects f t) o → Has (objects f u) p → key_at π o ≡ key_at π p → ObjectsAlike π t u f o p
+  alike_by_key f keyed o p i j same =
+      let m = matched_on o (family_matched f keyed) i in
+      let one : m.0 ≡ p = apart_one (key_at π) (objects f u) (family_apart π u both.right f keyed) m.0 p m.1 j (sym m.2.key ∙ same) in
+      subst (ObjectsAlike π t u f o) one m.2
+
+  -- what two elections hold in their arrays of one name
+  pub held_matched : (f : Family) (name : List ℕ) → has_keys f ≡ true → InElections f name → (d e : Placed) → Has (elections t) d → Has (elections u) e → ElectionsAlike π t u d e
+      → Matched (ObjectsAlike π t u f) (placed_entries name d) (placed_entries name e)
+  held_matched f name keyed home d e i j alike =
+      matched_within_both (ObjectsAlike π t u f)
+      (λ o p h k same. alike_by_key f keyed o p (held_stands π t both.left f keyed name home d o i h) (held_stands π u both.right f keyed name home e p j k) same)
+      (matched_by_keys (key_at π) (key_at π) (placed_entries name d) (placed_entries name e) (held_apart π t both.left f keyed name home d i) (held_apart π u both.right f keyed name home e j)
+      (λ o h.
+      let m = matched_on o (family_matched f keyed) (held_stands π t both.left f keyed name home d o i h) in
+      (m.0, held_by π u both.right f keyed name home e m.0 j m.1 (sym m.2.election ∙ held_key_in π t name d o i h ∙ alike.key), m.2.key))
+      (λ p k.
+      let m = matched_back p (family_matched f keyed) (held_stands π u both.right f keyed name home e p j k) in
+      (m.0, held_by π t both.left f keyed name home d m.0 i m.1 (m.2.election ∙ held_key_in π u name e p j k ∙ sym alike.key), m.2.key)))
+
+  -- the selections of two contests
+  pub selections_matched : (o p : Placed) → Has (objects family.Contest t) o → Has (objects family.Contest u) p → ObjectsAlike π t u family.Contest o p
+      → Matched (SelectionsAlike π t u) (selections_of_contest o) (selections_of_contest p)
+  selections_matched o p i j alike =
+      matched_within (SelectionsAlike π t u) (λ x y h r. record { name = r.0; record_same = r.1 })
+      (records_matched is_same_name (options_exact name_cmp equal_names) name_itself (name_at π t) (name_at π u) (λ x. selection_record π t x.value) (λ x. selection_record π u x.value) (selections_of_contest o) (selections_of_contest p)
+      (selections_apart π t both.left o i) (selections_apart π u both.right p j) (selection_recorded π t both.left o i) (selection_recorded π u both.right p j)
+      (λ x h. let n = selection_name π t both.left o x i h in mapped_alike (name_at π t x) n.0 n.1) (λ y h. let n = selection_name π u both.right p y j h in mapped_alike (name_at π u y) n.0 n.1))
+    where
+      mapped_alike : (m : Option NameParts) (n : NameParts) → m ≡ Some n → record_for is_same_name (name_at π t) (λ x. selection_record π t x.value) (selections_of_contest o) m
+          ≡ record_for is_same_name (name_at π u) (λ x. selection_record π u x.value) (selections_of_contest p) m
+      mapped_alike m n is =
+          subst (λ x. record_for is_same_name (name_at π t) (λ z. selection_record π t z.value) (selections_of_contest o) x ≡ record_for is_same_name (name_at π u) (λ z. selection_record π u z.value) (selections_of_contest p) x) (sym is)
+          (selection_mapped π t both.left o i n ∙ sym (map_recorded π t both.left o i n) ∙ ap (λ r. map_in (members_in r list_name) n) alike.record_same
+          ∙ map_recorded π u both.right p j n ∙ sym (selection_mapped π u both.right p j n))

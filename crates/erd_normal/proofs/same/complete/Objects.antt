@@ -1,0 +1,273 @@
+-- Objects of families, elections and reports that mean the same say the same.
+use Rattle.std.proofs.Common.{◌≡◌, ℕ, List, [], ◌∷◌, map, Option, Some, None, option_map, is_some, true, false, codes, refl, sym, ap, ◌∙◌, subst, ⊎_elim}
+use Rattle.std.specs.Str.{bytes_eq}
+use Rattle.serde_json.specs.Data.{Data, string, array, object, Members}
+use Rattle.serde_json.specs.Find.{get_member}
+use Rattle.erd_tables.specs.Classes.{family_of_class, role_of_class}
+use Rattle.erd_tables.specs.Table.{is_required, kind_of_member}
+use Rattle.erd_tables.specs.declared.class.Class.{Class}
+use Rattle.erd_tables.specs.declared.class.Class.TheVariants as class
+use Rattle.erd_tables.specs.declared.class.Family.{Family}
+use Rattle.erd_tables.specs.declared.class.Family.TheVariants as family
+use Rattle.erd_tables.specs.declared.class.Role.{Role}
+use Rattle.erd_tables.specs.declared.class.Role.TheVariants as role
+use Rattle.erd_tables.specs.declared.member.MemberKind.TheVariants as kind
+use Rattle.erd_check.specs.Values.{entries_at}
+use Rattle.erd_check.specs.Wants.{asked, class_of_object, member_want, want_of_name}
+use Rattle.erd_check.specs.declared.want.Scope.{Scope}
+use Rattle.erd_check.specs.declared.want.Scope.TheVariants as scope
+use Rattle.erd_check.specs.declared.want.Want.TheVariants.{Member, Object}
+use Rattle.erd_check.proofs.Entries.{entries_in}
+use Rattle.erd_check.proofs.ObjectsAt.{MayBeArray, ObjectAt, ObjectIn, is_filled_array, keyed_list, object_in}
+use Rattle.erd_check.proofs.Rising.{Has, Has-cases}
+use Rattle.erd_check.proofs.Shapes.{Within, within-tree}
+use Rattle.erd_check.proofs.TableKinds.{want_by_kind}
+use Rattle.erd_meaning.specs.Accepted.{IsAccepted}
+use Rattle.erd_meaning.specs.Keys.{Preference, has_keys}
+use Rattle.erd_meaning.specs.Meaning.{ObjectRecord, SelectionRecord}
+use Rattle.erd_meaning.specs.Objects.{Placed, contests, elections, id_of, objects, placed_entries, report_of, selections_of_contest}
+use Rattle.erd_meaning.specs.Records.{is_in_envelope, member_of_class, object_record, plain_member, selection_record}
+use Rattle.erd_meaning.specs.SelectionNames.{selection_role}
+use Rattle.erd_meaning.proofs.accepted.Phases.{no_shape_fault}
+use Rattle.erd_meaning.proofs.accepted.Skeleton.{Skeleton, election_object, election_stands, skeleton, values-placed_entries}
+use Rattle.erd_meaning.proofs.accepted.Standing.{contest_selections, flat-has, stands}
+use Rattle.erd_normal.proofs.built.NormalGets.{kind_of_family_id}
+use Rattle.erd_normal.proofs.lists.Matched.{Matched, matched_mapped}
+use Rattle.erd_normal.proofs.same.Lookups.{Aligned, both_there, lacks_none, lacks_one, not_both}
+use Rattle.erd_normal.proofs.same.Related.{matched_within_both}
+use Rattle.erd_normal.proofs.same.complete.Arrays.{sets_aligned}
+use Rattle.erd_normal.proofs.same.complete.Counterparts.{ElectionsAlike, ObjectsAlike, elections_matched, family_matched, held_matched, selections_matched}
+use Rattle.erd_normal.proofs.same.complete.Members.{apart_cases, apart_named, is_apart, leaves, leaves_out, left_out, meant_unless_apart, object_says, plain_from_value}
+use Rattle.erd_normal.proofs.same.complete.Texts.{Counterpart, by_key, by_name, ids_stand, sides, texts_tied}
+use Rattle.erd_normal.proofs.same.complete.TwoMeanings.{MeanOne}
+use Rattle.erd_normal.proofs.unique.FamilyArrays.{InElections, InReport, candidates, headers, offices, parties, persons, styles, units}
+use Rattle.erd_normal.proofs.unique.FamilyArrays.{contests as contests_home}
+use Rattle.erd_normal.proofs.unique.Records.{class_of_record, id_member, members_in}
+use Rattle.erd_normal.proofs.unique.Unique.{no_id}
+use Rattle.erd_normal.specs.SaysTheSame.{Sides, IsUnused, Same, an_id, an_unused_id, of_the_envelope}
+
+-- two objects of one class
+pub record Two (t u : Data) (q : Role) (d e : Data) : Type 0 where
+  pub ms : Members
+  pub ns : Members
+  pub class : Class
+  pub role : role_of_class class ≡ q
+  pub is : d ≡ object ms
+  pub is' : e ≡ object ns
+  pub at : ObjectAt t (Object q) q class ms
+  pub at' : ObjectAt u (Object q) q class ns
+
+two_objects : (π : Preference) (t u : Data) → IsAccepted π t → IsAccepted π u → (q : Role) (d e : Data) → Within t (asked (Object q) d) → Within u (asked (Object q) e) → class_of_object q d ≡ class_of_object q e → Two t u q d e
+two_objects π t u accepted accepted' q d e w w' same =
+    let a : ObjectIn t q d = object_in t (no_shape_fault π t accepted) q d w in
+    let b : ObjectIn u q e = object_in u (no_shape_fault π u accepted') q e w' in
+    let both : Some b.class ≡ Some a.class = sym b.at.among ∙ ap (class_of_object q) (sym b.is_object) ∙ sym same ∙ ap (class_of_object q) a.is_object ∙ a.at.among in
+    let one : b.class ≡ a.class = cc in
+    record { ms = a.ms; ns = b.ms; class = a.class; role = a.role; is = a.is_object; is' = b.is_object; at = a.at; at' = subst (λ c. ObjectAt u (Object q) q c b.ms) one b.at }
+
+asked_name : (q : Role) (c : Class) (k : List ℕ) → bytes_eq k (codes "@type") ≡ false → want_of_name (scope.Members q (Some c)) k ≡ Some (member_want c k)
+asked_name q c k e = rw e refl
+
+-- an `@id` of the one report is unused in l if its object's counterpart has none, and one of the other in r
+pub record AloneUnused (π : Preference) (t u l r : Data) : Type 0 where
+  pub left : (f : Family) (o p : Placed) (a : List ℕ) → Has (objects f t) o → Has (objects f u) p → Counterpart π t u f o p → id_of o.value ≡ Some a → id_of p.value ≡ None → IsUnused l a
+  pub right : (f : Family) (o p : Placed) (b : List ℕ) → Has (objects f t) o → Has (objects f u) p → Counterpart π t u f o p → id_of o.value ≡ None → id_of p.value ≡ Some b → IsUnused r b
+
+module _ (π : Preference) (t u : Data) (both : MeanOne π t u) (default : List ℕ) (l r : Data) (alone : AloneUnused π t u l r) where
+  abbrev m : Sides
+  m = sides π t u both default l r
+
+  abbrev AlignedIn : (q : Role) (c : Class) (ms ns : Members) → List ℕ → Type 0
+  AlignedIn q c ms ns k = Aligned m (scope.Members q (Some c)) k (get_member k ms) (get_member k ns)
+
+  -- ---- `@id`s
+
+  id_asked : (f : Family) (c : Class) → role_of_class c ≡ role.OfFamily f → want_of_name (scope.Members (role.OfFamily f) (Some c)) (codes "@id") ≡ Some (Member kind.Identity (is_required c (codes "@id")))
+  id_asked f c role = ap Some (want_by_kind c (codes "@id") kind.Identity (kind_of_family_id c f role) refl)
+
+  ids_aligned : (f : Family) (c : Class) (o p : Placed) → role_of_class c ≡ role.OfFamily f → Has (objects f t) o → Has (objects f u) p → Counterpart π t u f o p
+      → Aligned m (scope.Members (role.OfFamily f) (Some c)) (codes "@id") (option_map string (id_of o.value)) (option_map string (id_of p.value))
+  ids_aligned f c o p plays h k related = at (id_of o.value) (id_of p.value) refl refl
+    where
+      s : Scope
+      s = scope.Members (role.OfFamily f) (Some c)
+
+      at : (x y : Option (List ℕ)) → id_of o.value ≡ x → id_of p.value ≡ y → Aligned m s (codes "@id") (option_map string x) (option_map string y)
+      at (Some a) (Some b) is is' = both_there (subst (λ w. Same m w (string a) (string b)) (sym (id_asked f c plays)) (an_id refl (ids_stand π t u both default l r f o p a b h k related is is')))
+      at (Some a) None is is' =
+          not_both (lacks_one l s (codes "@id") (string a) (an_unused_id a (is_required c (codes "@id")) (id_asked f c plays) refl (alone.left f o p a h k related is is'))) (lacks_none r s (codes "@id"))
+      at None (Some b) is is' =
+          not_both (lacks_none l s (codes "@id")) (lacks_one r s (codes "@id") (string b) (an_unused_id b (is_required c (codes "@id")) (id_asked f c plays) refl (alone.right f o p b h k related is is')))
+      at None None is is' = not_both (lacks_none l s (codes "@id")) (lacks_none r s (codes "@id"))
+
+  within_t : (f : Family) (o : Placed) → Has (objects f t) o → Within t (asked (Object (role.OfFamily f)) o.value)
+  within_t f o h = record { place = o.place; is = stands π t both.left f o h }
+
+  within_u : (f : Family) (o : Placed) → Has (objects f u) o → Within u (asked (Object (role.OfFamily f)) o.value)
+  within_u f o h = record { place = o.place; is = stands π u both.right f o h }
+
+  -- two objects of a family, whose records leave out these names
+  family_says : (names : List (List ℕ)) (f : Family) (o p : Placed) → Has (objects f t) o → Has (objects f u) p → Counterpart π t u f o p → class_of_object (role.OfFamily f) o.value ≡ class_of_object (role.OfFamily f) p.value
+      → ((c : Class) → role_of_class c ≡ role.OfFamily f → leaves_out names c ≡ true)
+      → ((two : Two t u (role.OfFamily f) o.value p.value) (k : List ℕ) → Has names k → AlignedIn (role.OfFamily f) two.class two.ms two.ns k)
+      → ((two : Two t u (role.OfFamily f) o.value p.value) (k : List ℕ) → is_apart two.class k ≡ false → plain_member π t (object two.ms) two.class k ≡ plain_member π u (object two.ns) two.class k)
+      → Same m (Some (Object (role.OfFamily f))) o.value p.value
+  family_says names f o p h k related classes plain given same =
+      let q : Role = role.OfFamily f in
+      let two : Two t u q o.value p.value = two_objects π t u both.left both.right q o.value p.value (within_t f o h) (within_u f p k) classes in
+      let ids : Aligned m (scope.Members q (Some two.class)) (codes "@id") (get_member (codes "@id") two.ms) (get_member (codes "@id") two.ns) =
+      subst (λ x. Aligned m (scope.Members q (Some two.class)) (codes "@id") x (get_member (codes "@id") two.ns)) (ap (λ d. option_map string (id_of d)) two.is ∙ sym (id_member π t both.left (Object q) q two.class two.ms two.at))
+      (subst (Aligned m (scope.Members q (Some two.class)) (codes "@id") (option_map string (id_of o.value))) (ap (λ d. option_map string (id_of d)) two.is' ∙ sym (id_member π u both.right (Object q) q two.class two.ns two.at'))
+      (ids_aligned f two.class o p two.role h k related)) in
+      subst (λ x. Same m (Some (Object q)) x p.value) (sym two.is) (subst (Same m (Some (Object q)) (object two.ms)) (sym two.is')
+      (object_says π t u m both.left both.right (texts_tied π t u both default l r) q two.class two.ms two.ns two.at two.at'
+      (within-tree t (asked (Object q) (object two.ms)) both.left_tree two.at.inside) (within-tree u (asked (Object q) (object two.ns)) both.right_tree two.at'.inside) ids
+      (λ n e g i. given two n (left_out names two.class n (plain two.class two.role) e g i)) (same two)))
+
+  members_value : (q : Role) (c : Class) (ms ns : Members) → ObjectAt t (Object q) q c ms → ObjectAt u (Object q) q c ns → object_record π t q (object ms) ≡ object_record π u q (object ns)
+      → (k : List ℕ) → is_apart c k ≡ false → plain_member π t (object ms) c k ≡ plain_member π u (object ns) c k
+  members_value q c ms ns a b e k plain =
+      plain_from_value π t u (kind_of_member c k) (get_member k ms) (get_member k ns) _ _ (meant_unless_apart c k plain) (rw (a.among, b.among) at (ap (λ r. members_in r k) e))
+
+  -- ---- selections and contests
+
+  selection_says : (o p : Placed) → Has (objects family.Selection t) o → Has (objects family.Selection u) p → Counterpart π t u family.Selection o p → selection_record π t o.value ≡ selection_record π u p.value
+      → Same m (Some (Object selection_role)) o.value p.value
+  selection_says o p h k related alike =
+      family_says [] family.Selection o p h k related
+      (sym (class_of_record (plain_member π t o.value) selection_role o.value) ∙ ap (option_map (λ (x : SelectionRecord). x.class)) alike ∙ class_of_record (plain_member π u p.value) selection_role p.value)
+      (leaves family.Selection) (λ two k i. elim i [ ])
+      (λ two k g. rw (two.at.among, two.at'.among) at (ap (λ x. members_in x k) (sym (ap (selection_record π t) two.is) ∙ alike ∙ ap (selection_record π u) two.is')))
+
+  classes_same : (q : Role) (d e : Data) → object_record π t q d ≡ object_record π u q e → class_of_object q d ≡ class_of_object q e
+  classes_same q d e records = sym (class_of_record (member_of_class π t d) q d) ∙ ap (option_map (λ (x : ObjectRecord). x.class)) records ∙ class_of_record (member_of_class π u e) q e
+
+  -- ---- arrays of objects of a family
+
+  keyed_aligned : (q : Role) (c : Class) (ms ns : Members) → ObjectAt t (Object q) q c ms → ObjectAt u (Object q) q c ns → (f : Family) (name : List ℕ) → bytes_eq name (codes "@type") ≡ false → kind_of_member c name ≡ kind.Keyed f
+      → (d e : Placed) → d.value ≡ object ms → e.value ≡ object ns → Matched (λ o p. Same m (Some (Object (role.OfFamily f))) o.value p.value) (placed_entries name d) (placed_entries name e) → AlignedIn q c ms ns name
+  keyed_aligned q c ms ns a b f name other keyed d e is is' matched =
+      sets_aligned m (scope.Members q (Some c)) name (kind.Keyed f) (is_required c name) (asked_name q c name other ∙ ap Some (want_by_kind c name (kind.Keyed f) keyed refl)) refl _ _ (get_member name ms) (get_member name ns) refl
+      (keyed_list t (no_shape_fault π t both.left) (Object q) q c ms a f name other keyed (get_member name ms) refl)
+      (keyed_list u (no_shape_fault π u both.right) (Object q) q c ns b f name other keyed (get_member name ns) refl)
+      (subst (λ xs. Matched (Same m (Some (Object (role.OfFamily f)))) xs (entries_in (get_member name ns))) (values-placed_entries name d ∙ ap (entries_at name) is)
+      (subst (Matched (Same m (Some (Object (role.OfFamily f)))) (map (λ (o : Placed). o.value) (placed_entries name d))) (values-placed_entries name e ∙ ap (entries_at name) is')
+      (matched_mapped (λ (o : Placed). o.value) (λ (o : Placed). o.value) (λ x y h. h) matched)))
+
+  contest_says : (o p : Placed) → Has (objects family.Contest t) o → Has (objects family.Contest u) p → ObjectsAlike π t u family.Contest o p → Same m (Some (Object (role.OfFamily family.Contest))) o.value p.value
+  contest_says o p h k alike =
+      family_says (codes "ContestSelection" ∷ []) family.Contest o p h k (by_key refl alike.key) (classes_same (role.OfFamily family.Contest) o.value p.value alike.record_same) (leaves family.Contest)
+      (λ two n i. ⊎_elim (λ e. subst (AlignedIn (role.OfFamily family.Contest) two.class two.ms two.ns) e (listed two)) (λ j. elim j [ ]) (Has-cases (codes "ContestSelection") n [] i))
+      (λ two k g. members_value (role.OfFamily family.Contest) two.class two.ms two.ns two.at two.at'
+      (sym (ap (object_record π t (role.OfFamily family.Contest)) two.is) ∙ alike.record_same ∙ ap (object_record π u (role.OfFamily family.Contest)) two.is') k g)
+    where
+      listed : (two : Two t u (role.OfFamily family.Contest) o.value p.value) → AlignedIn (role.OfFamily family.Contest) two.class two.ms two.ns (codes "ContestSelection")
+      listed two =
+          keyed_aligned (role.OfFamily family.Contest) two.class two.ms two.ns two.at two.at' family.Selection (codes "ContestSelection") refl (contest_selections two.class two.role) o p two.is two.is'
+          (matched_within_both (λ x y. Same m (Some (Object selection_role)) x.value y.value)
+          (λ x y i j s. selection_says x y (flat-has selections_of_contest (contests t) o x h i) (flat-has selections_of_contest (contests u) p y k j) (by_name refl o p h k alike.key i j s.name) s.record_same)
+          (selections_matched π t u both o p h k alike))
+
+  other_says : (f : Family) → has_keys f ≡ true → ((c : Class) → role_of_class c ≡ role.OfFamily f → leaves_out [] c ≡ true) → (o p : Placed) → Has (objects f t) o → Has (objects f u) p → ObjectsAlike π t u f o p
+      → Same m (Some (Object (role.OfFamily f))) o.value p.value
+  other_says f keyed plain o p h k alike =
+      family_says [] f o p h k (by_key keyed alike.key) (classes_same (role.OfFamily f) o.value p.value alike.record_same) plain (λ two n i. elim i [ ])
+      (λ two k g. members_value (role.OfFamily f) two.class two.ms two.ns two.at two.at' (sym (ap (object_record π t (role.OfFamily f)) two.is) ∙ alike.record_same ∙ ap (object_record π u (role.OfFamily f)) two.is') k g)
+
+  -- ---- what has no `@id`
+
+  none_aligned : (q : Role) (c : Class) (ms ns : Members) → ObjectAt t (Object q) q c ms → ObjectAt u (Object q) q c ns → is_some (family_of_class c) ≡ false → AlignedIn q c ms ns (codes "@id")
+  none_aligned q c ms ns a b none =
+      let s : Scope = scope.Members q (Some c) in
+      let left : get_member (codes "@id") ms ≡ None = id_member π t both.left (Object q) q c ms a ∙ ap (option_map string) (no_id π t both.left (Object q) q c ms a none) in
+      let right : get_member (codes "@id") ns ≡ None = id_member π u both.right (Object q) q c ns b ∙ ap (option_map string) (no_id π u both.right (Object q) q c ns b none) in
+      subst (λ x. Aligned m s (codes "@id") x (get_member (codes "@id") ns)) (sym left) (subst (Aligned m s (codes "@id") None) (sym right) (not_both (lacks_none l s (codes "@id")) (lacks_none r s (codes "@id"))))
+
+  -- what holds of each of these names holds of one of them
+  each_name : (P : List ℕ → Type 0) (n : List ℕ) (names : List (List ℕ)) (k : List ℕ) → P n → (Has names k → P k) → Has (n ∷ names) k → P k
+  each_name P n names k h rest i = ⊎_elim (λ e. subst P e h) rest (Has-cases n k names i)
+
+  -- ---- elections
+
+  abbrev election_names : List (List ℕ)
+  election_names = codes "Candidate" ∷ codes "Contest" ∷ codes "BallotStyle" ∷ []
+
+  election_says : (d e : Placed) → Has (elections t) d → Has (elections u) e → ElectionsAlike π t u d e → Same m (Some (Object role.Election)) d.value e.value
+  election_says d e h k alike =
+      let x = election_object t (no_shape_fault π t both.left) d.value (record { place = d.place; is = election_stands t (skeleton π t both.left) d h }) in
+      let y = election_object u (no_shape_fault π u both.right) e.value (record { place = e.place; is = election_stands u (skeleton π u both.right) e k }) in
+      subst (λ z. Same m (Some (Object role.Election)) z e.value) (sym x.1) (subst (Same m (Some (Object role.Election)) (object x.0)) (sym y.1)
+      (object_says π t u m both.left both.right (texts_tied π t u both default l r) role.Election class.Election x.0 y.0 x.2 y.2
+      (within-tree t (asked (Object role.Election) (object x.0)) both.left_tree x.2.inside) (within-tree u (asked (Object role.Election) (object y.0)) both.right_tree y.2.inside)
+      (none_aligned role.Election class.Election x.0 y.0 x.2 y.2 refl)
+      (λ n f g i. by_name_in x.0 y.0 x.1 y.1 x.2 y.2 n (left_out election_names class.Election n refl f g i))
+      (members_value role.Election class.Election x.0 y.0 x.2 y.2 (sym (ap (object_record π t role.Election) x.1) ∙ alike.record_same ∙ ap (object_record π u role.Election) y.1))))
+    where
+      held : (f : Family) (name : List ℕ) → has_keys f ≡ true → InElections f name → ((o p : Placed) → Has (objects f t) o → Has (objects f u) p → ObjectsAlike π t u f o p → Same m (Some (Object (role.OfFamily f))) o.value p.value)
+          → (ms ns : Members) → d.value ≡ object ms → e.value ≡ object ns → ObjectAt t (Object role.Election) role.Election class.Election ms → ObjectAt u (Object role.Election) role.Election class.Election ns
+          → AlignedIn role.Election class.Election ms ns name
+      held f name keyed home says ms ns is is' a b =
+          keyed_aligned role.Election class.Election ms ns a b f name home.other home.keyed d e is is'
+          (matched_within_both (λ x y. Same m (Some (Object (role.OfFamily f))) x.value y.value)
+          (λ x y i j s. says x y (subst (λ os. Has os x) (sym (home.are t)) (flat-has (placed_entries name) (elections t) d x h i)) (subst (λ os. Has os y) (sym (home.are u)) (flat-has (placed_entries name) (elections u) e y k j)) s)
+          (held_matched π t u both f name keyed home d e h k alike))
+
+      by_name_in : (ms ns : Members) → d.value ≡ object ms → e.value ≡ object ns → ObjectAt t (Object role.Election) role.Election class.Election ms → ObjectAt u (Object role.Election) role.Election class.Election ns
+          → (n : List ℕ) → Has election_names n → AlignedIn role.Election class.Election ms ns n
+      by_name_in ms ns is is' a b n =
+          each_name (AlignedIn role.Election class.Election ms ns) (codes "Candidate") _ n (held family.Candidate (codes "Candidate") refl candidates (other_says family.Candidate refl (leaves family.Candidate)) ms ns is is' a b)
+          (each_name (AlignedIn role.Election class.Election ms ns) (codes "Contest") _ n (held family.Contest (codes "Contest") refl contests_home contest_says ms ns is is' a b)
+          (each_name (AlignedIn role.Election class.Election ms ns) (codes "BallotStyle") _ n (held family.Style (codes "BallotStyle") refl styles (other_says family.Style refl (leaves family.Style)) ms ns is is' a b)
+          (λ i. elim i [ ])))
+
+  -- ---- the report
+
+  abbrev report_names : List (List ℕ)
+  report_names = codes "GpUnit" ∷ codes "Party" ∷ codes "Person" ∷ codes "Office" ∷ codes "Header" ∷ codes "Election" ∷ []
+
+  module _ (a : Skeleton t) (b : Skeleton u) where
+    abbrev InReportAligned : List ℕ → Type 0
+    InReportAligned = AlignedIn role.Report class.ElectionReport a.ms b.ms
+
+    listed_in_report : (f : Family) (name : List ℕ) → has_keys f ≡ true → ((c : Class) → role_of_class c ≡ role.OfFamily f → leaves_out [] c ≡ true) → InReport f name → InReportAligned name
+    listed_in_report f name keyed plain home =
+        keyed_aligned role.Report class.ElectionReport a.ms b.ms a.report b.report f name home.other home.keyed (report_of t) (report_of u) a.is_object b.is_object
+        (subst (λ xs. Matched (λ (o p : Placed). Same m (Some (Object (role.OfFamily f))) o.value p.value) xs (placed_entries name (report_of u))) (home.are t)
+        (subst (Matched (λ (o p : Placed). Same m (Some (Object (role.OfFamily f))) o.value p.value) (objects f t)) (home.are u)
+        (matched_within_both (λ o p. Same m (Some (Object (role.OfFamily f))) o.value p.value) (other_says f keyed plain) (family_matched π t u both f keyed))))
+
+    elections_listed : InReportAligned (codes "Election")
+    elections_listed =
+        sets_aligned m (scope.Members role.Report (Some class.ElectionReport)) (codes "Election") kind.Elections true refl refl (λ ds. Within t (asked (Member kind.Elections true) (array ds))) (λ ds. Within u (asked (Member kind.Elections true) (array ds)))
+        (get_member (codes "Election") a.ms) (get_member (codes "Election") b.ms) refl
+        (subst (MayBeArray (λ ds. Within t (asked (Member kind.Elections true) (array ds)))) (sym a.listed) (is_filled_array a.inside))
+        (subst (MayBeArray (λ ds. Within u (asked (Member kind.Elections true) (array ds)))) (sym b.listed) (is_filled_array b.inside))
+        (subst (λ xs. Matched (Same m (Some (Object role.Election))) xs (entries_in (get_member (codes "Election") b.ms))) (values-placed_entries (codes "Election") (report_of t) ∙ ap (entries_at (codes "Election")) a.is_object)
+        (subst (Matched (Same m (Some (Object role.Election))) (map (λ (o : Placed). o.value) (elections t))) (values-placed_entries (codes "Election") (report_of u) ∙ ap (entries_at (codes "Election")) b.is_object)
+        (matched_mapped (λ (o : Placed). o.value) (λ (o : Placed). o.value) (λ x y h. h)
+        (matched_within_both (λ d e. Same m (Some (Object role.Election)) d.value e.value) election_says (elections_matched π t u both)))))
+
+    by_name_in_report : (n : List ℕ) → Has report_names n → InReportAligned n
+    by_name_in_report n =
+        each_name InReportAligned (codes "GpUnit") _ n (listed_in_report family.Unit (codes "GpUnit") refl (leaves family.Unit) units)
+        (each_name InReportAligned (codes "Party") _ n (listed_in_report family.Party (codes "Party") refl (leaves family.Party) parties)
+        (each_name InReportAligned (codes "Person") _ n (listed_in_report family.Person (codes "Person") refl (leaves family.Person) persons)
+        (each_name InReportAligned (codes "Office") _ n (listed_in_report family.Office (codes "Office") refl (leaves family.Office) offices)
+        (each_name InReportAligned (codes "Header") _ n (listed_in_report family.Header (codes "Header") refl (leaves family.Header) headers)
+        (each_name InReportAligned (codes "Election") _ n elections_listed (λ i. elim i [ ]))))))
+
+    -- a member of the envelope may be absent
+    in_envelope : (n : List ℕ) (o p : Option Data) → is_in_envelope class.ElectionReport n ≡ true → Aligned m (scope.Members role.Report (Some class.ElectionReport)) n o p
+    in_envelope n o p e = not_both (record { each = λ d i. of_the_envelope e }) (record { each = λ d i. of_the_envelope e })
+
+    report_says : Same m (Some (Object role.Report)) t u
+    report_says =
+        subst (λ z. Same m (Some (Object role.Report)) z u) (sym a.is_object) (subst (Same m (Some (Object role.Report)) (object a.ms)) (sym b.is_object)
+        (object_says π t u m both.left both.right (texts_tied π t u both default l r) role.Report class.ElectionReport a.ms b.ms a.report b.report
+        (within-tree t (asked (Object role.Report) (object a.ms)) both.left_tree a.report.inside) (within-tree u (asked (Object role.Report) (object b.ms)) both.right_tree b.report.inside)
+        (none_aligned role.Report class.ElectionReport a.ms b.ms a.report b.report refl)
+        (λ n f g i. ⊎_elim (in_envelope n (get_member n a.ms) (get_member n b.ms)) (λ plain. by_name_in_report n (apart_named report_names class.ElectionReport n f g refl plain)) (apart_cases class.ElectionReport n i))
+        (members_value role.Report class.ElectionReport a.ms b.ms a.report b.report (sym (ap (object_record π t role.Report) a.is_object) ∙ ap (λ x. x.report) both.same ∙ ap (object_record π u role.Report) b.is_object))))
+
+  pub all_says : Same m (Some (Object role.Report)) t u
+  all_says = report_says (skeleton π t both.left) (skeleton π u both.right)

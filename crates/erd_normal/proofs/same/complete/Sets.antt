@@ -1,0 +1,162 @@
+-- Sets that mean the same say the same: references that name one set of keys, and JSON values.
+use Rattle.std.proofs.Common.{◌≡◌, ℕ, List, [], ◌∷◌, Bool, true, false, ◌&&◌, Option, Some, None, option_and_then, refl, sym, ap, ap₂, ◌∙◌, subst, true≢false, is_eq, ◌⊎◌, inl, inr}
+use Rattle.std.proofs.lemmas.Cmp.{tied_itself}
+use Rattle.std.specs.Cmp.{Equal-is}
+use Rattle.std.specs.List.{IsDistinct, cons_option, filter_map, list_any}
+use Rattle.serde_json.specs.Data.{Data, string, array, Items}
+use Rattle.serde_json.specs.Find.{get_item, as_str}
+use Rattle.erd_tables.specs.Classes.{role_of_class}
+use Rattle.erd_tables.specs.declared.class.Class.{Class}
+use Rattle.erd_tables.specs.declared.class.Family.{Family}
+use Rattle.erd_tables.specs.declared.class.Role.{Role}
+use Rattle.erd_tables.specs.declared.member.MemberKind.{MemberKind}
+use Rattle.erd_tables.specs.declared.member.MemberKind.TheVariants as kind
+use Rattle.erd_tables.specs.declared.place.Step.TheVariants.{At}
+use Rattle.erd_check.specs.Trees.{AreTrees, IsTree, is_same_json}
+use Rattle.erd_check.specs.Values.{list_of_items}
+use Rattle.erd_check.specs.Wants.{asked, entry_want, is_compared_set, is_repeated}
+use Rattle.erd_check.specs.declared.want.Want.TheVariants.{Member, Object, Reference}
+use Rattle.erd_check.proofs.Entries.{list_of_items-place, list_of_items-tree, string_from_text}
+use Rattle.erd_check.proofs.Exact.{text_itself}
+use Rattle.erd_check.proofs.Rising.{Has, Has-cases, all-Has, here, later}
+use Rattle.erd_check.proofs.Shapes.{Within, Within-step, unrepeated, wanted_within}
+use Rattle.erd_check.proofs.Whole.{entry_itself, is_simple_class}
+use Rattle.erd_meaning.specs.Accepted.{IsAccepted}
+use Rattle.erd_meaning.specs.Keys.{Preference, has_keys, key_cmp}
+use Rattle.erd_meaning.specs.Records.{key_set}
+use Rattle.erd_meaning.specs.SelectionNames.{key_named, keys_named}
+use Rattle.erd_meaning.specs.code.Orders.{key_cmp_exact, key_cmp_total}
+use Rattle.erd_meaning.specs.declared.keys.key.Key.{Key}
+use Rattle.erd_meaning.proofs.accepted.Phases.{no_shape_fault}
+use Rattle.erd_meaning.proofs.accepted.References.{resolves, unrepeated_reference}
+use Rattle.erd_meaning.proofs.orders.DistinctEntries.{unrepeated_distinct}
+use Rattle.erd_meaning.proofs.orders.Sets.{any-has, has-any}
+use Rattle.erd_normal.proofs.canonical.DistinctSets.{first_reference, first_value, names_accepted}
+use Rattle.erd_normal.proofs.lists.Matched.{Matched}
+use Rattle.erd_normal.proofs.lists.Paired.{Paired, none, more}
+use Rattle.erd_normal.proofs.same.ByKeys.{ApartBy, matched_by_keys}
+use Rattle.erd_normal.proofs.same.Related.{matched_within_both}
+use Rattle.erd_normal.proofs.same.SetsBack.{AreSound, itself}
+use Rattle.erd_normal.proofs.same.complete.TwoMeanings.{TextsTied}
+use Rattle.erd_normal.specs.SaysTheSame.{Sides, Same, an_id}
+
+-- ---- lists
+
+-- entries that a test tells apart are apart by a key, where entries with one key pass the test
+pub apart_by : {A K : Type 0} (test : A → A → Bool) (key : A → K) (xs : List A) → ((x y : A) → Has xs x → Has xs y → key x ≡ key y → test x y ≡ true) → IsDistinct test xs → ApartBy key xs
+unfolding IsDistinct
+apart_by test key [] tells d = tt
+apart_by test key (x ∷ xs) tells d =
+    (λ y i e. true≢false (sym (tells x y here (later i) e) ∙ all-Has (λ z. test x z ≡ false) xs y d.0 i), apart_by test key xs (λ y z i j. tells y z (later i) (later j)) d.1)
+
+pub has_kept : {A K : Type 0} (key : A → Option K) (x : A) (k : K) (xs : List A) → Has xs x → key x ≡ Some k → Has (filter_map key xs) k
+has_kept key x k xs (here {xs = ys}) e = subst (λ o. Has (cons_option o (filter_map key ys)) k) (sym e) here
+has_kept {A} {K} key x k xs (later {y = y} {xs = ys} h) e = at (key y) (has_kept key x k ys h e)
+  where
+    at : (o : Option K) → Has (filter_map key ys) k → Has (cons_option o (filter_map key ys)) k
+    at None i = i
+    at (Some l) i = later i
+
+pub kept_has : {A K : Type 0} (key : A → Option K) (k : K) (xs : List A) → Has (filter_map key xs) k → (x : A) × Has xs x × (key x ≡ Some k)
+kept_has key k [] h = elim h [ ]
+kept_has {A} {K} key k (y ∷ ys) h = at (key y) refl h (kept_has key k ys)
+  where
+    at : (o : Option K) → key y ≡ o → Has (cons_option o (filter_map key ys)) k → (Has (filter_map key ys) k → (x : A) × Has ys x × (key x ≡ Some k)) → (x : A) × Has (y ∷ ys) x × (key x ≡ Some k)
+    at None is i rest = let r = rest i in (r.0, later r.1, r.2)
+    at (Some l) is i rest = on (Has-cases l k (filter_map key ys) i)
+      where
+        on : (l ≡ k) ⊎ Has (filter_map key ys) k → (x : A) × Has (y ∷ ys) x × (key x ≡ Some k)
+        on (inl e) = (y, here, is ∙ ap Some e)
+        on (inr j) = let r = rest j in (r.0, later r.1, r.2)
+
+pub paired_self : {A : Type 0} {R : A → A → Type 0} (xs : List A) → ((x : A) → R x x) → Paired R xs xs
+paired_self [] each = none
+paired_self (x ∷ xs) each = more (each x) (paired_self xs each)
+
+-- ---- references
+
+-- what a reference of an accepted report says
+pub record NamedBy (π : Preference) (t : Data) (f : Family) (d : Data) : Type 0 where
+  pub text : List ℕ
+  pub is : d ≡ string text
+  pub key : Key
+  pub named : key_named π t f text ≡ Some key
+
+abbrev pub entry_key : Preference → Data → Family → Data → Option Key
+entry_key π t f d = option_and_then (key_named π t f) (as_str d)
+
+module _ (π : Preference) (t : Data) (accepted : IsAccepted π t) (f : Family) (keyed : has_keys f ≡ true) where
+  pub named_by : (d : Data) → Within t (asked (Reference f) d) → NamedBy π t f d
+  named_by d w =
+      let s = string_from_text d (wanted_within t (no_shape_fault π t accepted) (asked (Reference f) d) w) in
+      let k = resolves π t accepted f s.0 keyed (subst (λ x. Within t (asked (Reference f) x)) s.1 w) in
+      record { text = s.0; is = s.1; key = k.0; named = k.1 }
+
+  entry_named : (d : Data) (n : NamedBy π t f d) → entry_key π t f d ≡ Some n.key
+  entry_named d n = ap (entry_key π t f) n.is ∙ n.named
+
+  module _ (r : Bool) (ds : Items) (w : Within t (asked (Member (kind.Many f) r) (array ds))) where
+    entry_at : (i : ℕ) (d : Data) → get_item i ds ≡ Some d → Within t (record { want = Reference f; value = d; repeated = is_repeated ds i d })
+    entry_at i d e = Within-step t (asked (Member (kind.Many f) r) (array ds)) (record { want = Reference f; value = d; repeated = is_repeated ds i d }) (At i) w (rw e)
+
+    pub reference_named : (d : Data) → Has (list_of_items ds) d → NamedBy π t f d
+    reference_named d h = let p = list_of_items-place ds d h in named_by d (unrepeated_reference π t accepted f d (is_repeated ds p.0 d) (entry_at p.0 d p.1))
+
+    pub references_apart : ApartBy (entry_key π t f) (list_of_items ds)
+    references_apart =
+        apart_by (λ d e. is_same_json e d) (entry_key π t f) (list_of_items ds)
+        (λ x y i j e. same x y (reference_named x i) (reference_named y j) e)
+        (unrepeated_distinct ds (λ i d e. first_reference π t accepted f d (is_repeated ds i d) (entry_at i d e)))
+      where
+        same : (x y : Data) → NamedBy π t f x → NamedBy π t f y → entry_key π t f x ≡ entry_key π t f y → is_same_json y x ≡ true
+        same x y a b e =
+            let keys : Some a.key ≡ Some b.key = sym (entry_named x a) ∙ e ∙ entry_named y b in
+            let one : b.text ≡ a.text = (names_accepted π t accepted).one_name f b.text a.text a.key keyed (b.named ∙ sym keys) a.named in
+            ap₂ is_same_json (b.is ∙ ap string one) a.is ∙ text_itself a.text
+
+-- each of the one set has its fellow in the other
+fellow : (π : Preference) (t u : Data) (f : Family) (ds es : List Data) → key_set (keys_named π t f ds) ≡ key_set (keys_named π u f es) → (x : Data) → Has ds x → NamedBy π t f x → (y : Data) × Has es y × (entry_key π t f x ≡ entry_key π u f y)
+fellow π t u f ds es same x h n =
+    let e : entry_key π t f x ≡ Some n.key = ap (entry_key π t f) n.is ∙ n.named in
+    let there : list_any (λ l. is_eq (key_cmp l n.key)) (keys_named π u f es) ≡ true =
+    sym (ap (λ set. set n.key) same) ∙ any-has (λ l. is_eq (key_cmp l n.key)) (keys_named π t f ds) n.key (has_kept (entry_key π t f) x n.key ds h e) (ap is_eq (tied_itself key_cmp_total n.key)) in
+    let l = has-any (λ l. is_eq (key_cmp l n.key)) (keys_named π u f es) there in
+    let y = kept_has (entry_key π u f) l.0 es l.1 in
+    (y.0, y.1, e ∙ ap Some (sym (key_cmp_exact l.0 n.key ((Equal-is (key_cmp l.0 n.key)).0 l.2))) ∙ sym y.2)
+
+module _ (π : Preference) (t u : Data) (m : Sides) (accepted : IsAccepted π t) (accepted' : IsAccepted π u) (tied : TextsTied π t u m) where
+  -- two references
+  pub reference_says : (f : Family) → has_keys f ≡ true → (d e : Data) → NamedBy π t f d → NamedBy π u f e → entry_key π t f d ≡ entry_key π u f e → Same m (Some (Reference f)) d e
+  reference_says f keyed d e a b same =
+      let keys : Some a.key ≡ Some b.key = sym (ap (entry_key π t f) a.is ∙ a.named) ∙ same ∙ (ap (entry_key π u f) b.is ∙ b.named) in
+      subst (λ x. Same m (Some (Reference f)) x e) (sym a.is)
+      (subst (Same m (Some (Reference f)) (string a.text)) (sym b.is) (an_id refl (tied.objects f a.text b.text a.key keyed a.named (b.named ∙ sym keys))))
+
+  -- and two sets of them
+  pub references_matched : (f : Family) → has_keys f ≡ true → (r r' : Bool) (ds es : Items) → Within t (asked (Member (kind.Many f) r) (array ds)) → Within u (asked (Member (kind.Many f) r') (array es))
+      → key_set (keys_named π t f (list_of_items ds)) ≡ key_set (keys_named π u f (list_of_items es)) → Matched (Same m (Some (Reference f))) (list_of_items ds) (list_of_items es)
+  references_matched f keyed r r' ds es w w' same =
+      let left = reference_named π t accepted f keyed r ds w in
+      let right = reference_named π u accepted' f keyed r' es w' in
+      matched_within_both (Same m (Some (Reference f))) (λ x y i j e. reference_says f keyed x y (left x i) (right y j) e)
+      (matched_by_keys (entry_key π t f) (entry_key π u f) (list_of_items ds) (list_of_items es) (references_apart π t accepted f keyed r ds w) (references_apart π u accepted' f keyed r' es w')
+      (λ x i. fellow π t u f (list_of_items ds) (list_of_items es) same x i (left x i))
+      (λ y j. let z = fellow π u t f (list_of_items es) (list_of_items ds) (sym same) y j (right y j) in (z.0, z.1, sym z.2)))
+
+-- ---- JSON values
+
+module _ (π : Preference) (t : Data) (accepted : IsAccepted π t) (k : MemberKind) (r : Bool) (o : Role) (ds : Items) (w : Within t (asked (Member k r) (array ds))) (entries : entry_want (Member k r) ≡ Some (Object o))
+    (compared : is_compared_set (Member k r) ≡ true) (simple : (c : Class) → role_of_class c ≡ o → is_simple_class c ≡ true) (trees : AreTrees ds) where
+  value_at : (i : ℕ) (d : Data) → get_item i ds ≡ Some d → Within t (record { want = Object o; value = d; repeated = is_compared_set (Member k r) && is_repeated ds i d })
+  value_at i d e = Within-step t (asked (Member k r) (array ds)) (record { want = Object o; value = d; repeated = is_compared_set (Member k r) && is_repeated ds i d }) (At i) w (rw (entries, e))
+
+  pub values_sound : AreSound (list_of_items ds)
+  values_sound d h =
+      let p = list_of_items-place ds d h in
+      let tree : IsTree d = list_of_items-tree ds d trees h in
+      (tree, entry_itself t (no_shape_fault π t accepted) o d simple tree (unrepeated t (no_shape_fault π t accepted) (Object o) d (is_compared_set (Member k r) && is_repeated ds p.0 d) refl (value_at p.0 d p.1)))
+
+  pub values_apart : ApartBy itself (list_of_items ds)
+  values_apart =
+      apart_by (λ d e. is_same_json e d) itself (list_of_items ds) (λ x y i j e. ap (λ z. is_same_json z x) (sym e) ∙ (values_sound x i).1)
+      (unrepeated_distinct ds (λ i d e. first_value π t accepted (Object o) d (is_repeated ds i d) (subst (λ b. Within t (record { want = Object o; value = d; repeated = b && is_repeated ds i d })) compared (value_at i d e)) (λ h. refl)))

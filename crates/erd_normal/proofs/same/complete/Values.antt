@@ -1,0 +1,291 @@
+-- Members that mean the same by themselves say the same.
+use Rattle.std.proofs.Common.{◌≡◌, ◌==◌, ℕ, suc, length, arith, List, [], Bool, true, false, not, ◌||◌, Option, Some, None, option_and_then, codes, refl, sym, ap, ◌∙◌, subst}
+use Rattle.serde_json.specs.Data.{Data, null, boolean, number, string, array, object, Items, no_items, item, Members}
+use Rattle.serde_json.specs.Find.{get_member}
+use Rattle.erd_tables.specs.Classes.{role_of_class, text_of_class}
+use Rattle.erd_tables.specs.declared.class.Class.{Class}
+use Rattle.erd_tables.specs.declared.class.Class.TheVariants as class
+use Rattle.erd_tables.specs.declared.class.Family.{Family}
+use Rattle.erd_tables.specs.declared.class.Role.TheVariants as role
+use Rattle.erd_tables.specs.declared.fault.Reason.TheVariants as reason
+use Rattle.erd_tables.specs.declared.member.MemberKind.{MemberKind}
+use Rattle.erd_tables.specs.declared.member.MemberKind.TheVariants as kind
+use Rattle.erd_check.specs.Faults.{is_array, is_empty_array, is_object, is_text}
+use Rattle.erd_check.specs.Trees.{AreMembers, AreTrees, IsTree}
+use Rattle.erd_check.specs.Values.{list_of_items}
+use Rattle.erd_check.specs.Wants.{asked, class_of_object, want_of_kind, want_of_name}
+use Rattle.erd_check.specs.declared.want.Scope.{Scope}
+use Rattle.erd_check.specs.declared.want.Scope.TheVariants as scope
+use Rattle.erd_check.specs.declared.want.Want.{Want}
+use Rattle.erd_check.specs.declared.want.Want.TheVariants.{Carried, Member, Object, Reference}
+use Rattle.erd_check.proofs.Entries.{array_from}
+use Rattle.erd_check.proofs.Members.{get_member-tree}
+use Rattle.erd_check.proofs.Shapes.{Classed, Within, classed, faultless, lacks_none, member_within, of_label, wanted_within}
+use Rattle.erd_check.proofs.Whole.{is_simple_class, no_strange, no_unknown}
+use Rattle.erd_meaning.specs.Accepted.{IsAccepted}
+use Rattle.erd_meaning.specs.Keys.{Preference, has_keys}
+use Rattle.erd_meaning.specs.Meaning.{Content, Label, PlainValue, a_content, a_json, a_json_set, a_key, a_key_set, a_label, no_content, untranslated}
+use Rattle.erd_meaning.specs.Records.{label_of, plain_value, unless_empty}
+use Rattle.erd_meaning.specs.declared.keys.key.Key.{Key}
+use Rattle.erd_meaning.proofs.accepted.Phases.{no_shape_fault}
+use Rattle.erd_meaning.proofs.orders.Reordered.{Reordered}
+use Rattle.erd_normal.proofs.lists.Matched.{Matched, matched_none}
+use Rattle.erd_normal.proofs.same.Back.{entries_paired}
+use Rattle.erd_normal.proofs.same.LabelsBack.{Translations, labels_say, plain_self}
+use Rattle.erd_normal.proofs.same.Lookups.{Aligned, both_there, not_both, lacks_none as lacks_nothing}
+use Rattle.erd_normal.proofs.same.SetsBack.{json_sets_reordered}
+use Rattle.erd_normal.proofs.same.Steady.{AllPlain, is_plain}
+use Rattle.erd_normal.proofs.same.complete.Arrays.{left_empty, list_says, right_empty, set_says}
+use Rattle.erd_normal.proofs.same.complete.Contents.{content_says}
+use Rattle.erd_normal.proofs.same.complete.Sets.{entry_key, named_by, paired_self, reference_says, references_matched, values_apart, values_sound}
+use Rattle.erd_normal.proofs.same.complete.TwoMeanings.{TextsTied}
+use Rattle.erd_normal.specs.SaysTheSame.{Sides, Same, SameEntries, SameMembers, a_text, an_object, is_array_kind, no_entry}
+
+-- the kinds of members that mean something by themselves, or never stand in an accepted report but as an empty array
+abbrev pub means_itself : MemberKind → Bool
+means_itself kind.Word = true
+means_itself kind.Label = true
+means_itself kind.Flag = true
+means_itself kind.Whole = true
+means_itself (kind.One f) = has_keys f
+means_itself (kind.Many f) = has_keys f
+means_itself kind.Identifiers = true
+means_itself kind.Content = true
+means_itself kind.Outside = true
+means_itself kind.StrangeReference = true
+means_itself kind.StrangeIdentity = true
+means_itself kind.Carried = true
+means_itself k = false
+
+-- ---- labels
+
+label_class : (c : Class) → role_of_class c ≡ role.Label → c ≡ class.InternationalizedText
+label_class class.InternationalizedText e = refl
+label_class c e = cc
+
+pub language_simple : (c : Class) → role_of_class c ≡ role.Language → is_simple_class c ≡ true
+language_simple class.LanguageString e = refl
+language_simple c e = cc
+
+pub identifier_simple : (c : Class) → role_of_class c ≡ role.Identifier → is_simple_class c ≡ true
+identifier_simple class.ExternalIdentifier e = refl
+identifier_simple c e = cc
+
+-- an accepted label that is an object
+record LabelParts (ms : Members) : Type 0 where
+  among : class_of_object role.Label (object ms) ≡ Some class.InternationalizedText
+  typed : get_member (codes "@type") ms ≡ Some (string (text_of_class class.InternationalizedText))
+  translations : Translations ms
+
+module _ (π : Preference) (t : Data) (accepted : IsAccepted π t) (r : Bool) (ms : Members) (tree : AreMembers ms) (w : Within t (asked (Member kind.Label r) (object ms))) where
+  cl : Classed role.Label (object ms)
+  cl = classed t (no_shape_fault π t accepted) (Member kind.Label r) role.Label (object ms) of_label refl w
+
+  is_label : cl.class ≡ class.InternationalizedText
+  is_label = label_class cl.class cl.role
+
+  label_among : class_of_object role.Label (object ms) ≡ Some class.InternationalizedText
+  label_among = cl.among ∙ ap Some is_label
+
+  translated_by : (v : Data) → get_member (codes "Text") ms ≡ Some v → Translations ms
+  translated_by v e =
+      let inside : Within t (asked (Member kind.Languages true) v) = member_within t (no_shape_fault π t accepted) (Member kind.Label r) role.Label ms class.InternationalizedText (codes "Text") v of_label label_among refl w e in
+      let ds = array_from v (wanted_within t (no_shape_fault π t accepted) (asked (Member kind.Languages true) v) inside) in
+      let inside' : Within t (asked (Member kind.Languages true) (array ds.0)) = subst (λ x. Within t (asked (Member kind.Languages true) x)) ds.1 inside in
+      let found : get_member (codes "Text") ms ≡ Some (array ds.0) = e ∙ ap Some ds.1 in
+      let trees : AreTrees ds.0 = get_member-tree (codes "Text") (array ds.0) ms tree found in
+      record {
+        items = ds.0;
+        stands = found;
+        sound = values_sound π t accepted kind.Languages true role.Language ds.0 inside' refl refl language_simple trees;
+        apart = values_apart π t accepted kind.Languages true role.Language ds.0 inside' refl refl language_simple trees;
+      }
+
+  label_parts : LabelParts ms
+  label_parts = record { among = label_among; typed = typed; translations = at (get_member (codes "Text") ms) refl }
+    where
+      typed : get_member (codes "@type") ms ≡ Some (string (text_of_class class.InternationalizedText))
+      typed = cl.text ∙ ap (λ c. Some (string (text_of_class c))) is_label
+
+      at : (o : Option Data) → get_member (codes "Text") ms ≡ o → Translations ms
+      at None e = absurd (lacks_none t (no_shape_fault π t accepted) (asked (Member kind.Label r) (object ms)) (codes "Text") w (rw typed refl) e)
+      at (Some v) e = translated_by v e
+
+-- an accepted label is a text or an object
+data LabelView : Data → Type 0 where
+  text_view : {s : List ℕ} → LabelView (string s)
+  object_view : {ms : Members} → LabelView (object ms)
+
+label_view : (v : Data) → is_text v || is_object v ≡ true → LabelView v
+label_view (string s) h = text_view
+label_view (object ms) h = object_view
+label_view _ h = cc
+
+-- ---- values
+
+abbrev label_in : Option PlainValue → Label
+label_in (Some (a_label l)) = l
+label_in o = untranslated []
+
+abbrev keys_in : Option PlainValue → Key → Bool
+keys_in (Some (a_key_set ks)) = ks
+keys_in o = λ k. false
+
+abbrev json_in : Option PlainValue → Data → Bool
+json_in (Some (a_json_set ds)) = ds
+json_in o = λ d. false
+
+abbrev content_in : Option PlainValue → Content
+content_in (Some (a_content c)) = c
+content_in o = no_content
+
+-- what holds of two arrays with one meaning, if it holds of empty ones and of those that mean something
+of_arrays : (P : Items → Items → Type 0) (x y : PlainValue) (ds es : Items) → unless_empty x (array ds) ≡ unless_empty y (array es) → P no_items no_items → (Some x ≡ Some y → P ds es) → P ds es
+of_arrays P x y no_items no_items same empty full = empty
+of_arrays P x y no_items (item e es) same empty full = cc
+of_arrays P x y (item d ds) no_items same empty full = cc
+of_arrays P x y (item d ds) (item e es) same empty full = full same
+
+unless_none : (x : PlainValue) (v : Data) → unless_empty x v ≡ None → v ≡ array no_items
+unless_none x (array no_items) e = refl
+unless_none x (array (item d ds)) e = cc
+unless_none x null e = cc
+unless_none x (boolean b) e = cc
+unless_none x (number n) e = cc
+unless_none x (string s) e = cc
+unless_none x (object ms) e = cc
+
+empty_array : (v : Data) → not (is_empty_array v) ≡ false → v ≡ array no_items
+empty_array (array no_items) e = refl
+empty_array (array (item d ds)) e =
+    let some : (suc (length (list_of_items ds)) == 0) ≡ false = grind arith in
+    let h : true ≡ false = sym (ap not some) ∙ e in
+    cc
+empty_array null e = let h : true ≡ false = e in cc
+empty_array (boolean b) e = let h : true ≡ false = e in cc
+empty_array (number n) e = let h : true ≡ false = e in cc
+empty_array (string s) e = let h : true ≡ false = e in cc
+empty_array (object ms) e = let h : true ≡ false = e in cc
+
+json_same : (v w : Data) → Some (a_json v) ≡ Some (a_json w) → v ≡ w
+json_same v w e = cc
+
+pub all_plain : (o : Option Want) (w : Want) → o ≡ Some w → is_plain w ≡ true → AllPlain o
+all_plain o w e h v g = let one : Some w ≡ Some v = sym e ∙ g in let same : w ≡ v = cc in subst (λ x. is_plain x ≡ true) same h
+
+-- a member that means nothing is an empty array
+record Nothing (k : MemberKind) (r : Bool) (v : Data) : Type 0 where
+  array_kind : is_array_kind k ≡ true
+  empty : v ≡ array no_items
+  wanted : want_of_kind k r ≡ Member k r
+
+means_nothing : (π : Preference) (t : Data) → IsAccepted π t → (k : MemberKind) (r : Bool) (v : Data) → means_itself k ≡ true → Within t (asked (want_of_kind k r) v) → plain_value π t k v ≡ None → Nothing k r v
+means_nothing π t accepted kind.Word r v h w e = cc
+means_nothing π t accepted kind.Label r v h w e = cc
+means_nothing π t accepted kind.Flag r v h w e = cc
+means_nothing π t accepted kind.Whole r v h w e = cc
+means_nothing π t accepted (kind.One f) r v h w e = cc
+means_nothing π t accepted (kind.Many f) r v h w e = record { array_kind = refl; empty = unless_none _ v e; wanted = refl }
+means_nothing π t accepted kind.Identifiers r v h w e = record { array_kind = refl; empty = unless_none _ v e; wanted = refl }
+means_nothing π t accepted kind.Content r v h w e = record { array_kind = refl; empty = unless_none _ v e; wanted = refl }
+means_nothing π t accepted kind.Outside r v h w e =
+    record { array_kind = refl; empty = empty_array v (faultless t (no_shape_fault π t accepted) (asked (Member kind.Outside r) v) reason.OutsideProfile w); wanted = refl }
+means_nothing π t accepted kind.StrangeReference r v h w e = absurd (no_unknown t (no_shape_fault π t accepted) v r w)
+means_nothing π t accepted kind.StrangeIdentity r v h w e = absurd (no_strange t (no_shape_fault π t accepted) v r w)
+means_nothing π t accepted kind.Carried r v h w e = cc
+means_nothing π t accepted _ r v h w e = cc
+
+module _ (π : Preference) (t u : Data) (m : Sides) (accepted : IsAccepted π t) (accepted' : IsAccepted π u) (tied : TextsTied π t u m) where
+  same_label : (r r' : Bool) (v w : Data) → LabelView v → LabelView w → IsTree v → IsTree w → Within t (asked (Member kind.Label r) v) → Within u (asked (Member kind.Label r') w)
+      → label_of v ≡ label_of w → Same m (Some (Member kind.Label r)) v w
+  same_label r r' v w (text_view {s = a}) (text_view {s = b}) tree tree' inside inside' same =
+      let h : untranslated a ≡ untranslated b = same in let e : a ≡ b = cc in subst (λ x. Same m (Some (Member kind.Label r)) (string a) (string x)) e (a_text refl)
+  same_label r r' v w text_view object_view tree tree' inside inside' same = cc
+  same_label r r' v w object_view text_view tree tree' inside inside' same = cc
+  same_label r r' v w (object_view {ms = ms}) (object_view {ms = ns}) tree tree' inside inside' same =
+      let a = label_parts π t accepted r ms tree inside in
+      let b = label_parts π u accepted' r' ns tree' inside' in
+      an_object (subst (λ o. SameMembers m (scope.Members role.Label o) ms ns) (sym a.among) (labels_say m ms ns tree tree' a.translations b.translations (a.typed ∙ sym b.typed) same))
+
+  -- arrays of a kind
+  same_array : (k : MemberKind) (r : Bool) (v w : Data) → is_array v ≡ true → is_array w ≡ true → IsTree v → IsTree w → Within t (asked (Member k r) v) → Within u (asked (Member k r) w)
+      → ((ds es : Items) → AreTrees ds → AreTrees es → Within t (asked (Member k r) (array ds)) → Within u (asked (Member k r) (array es)) → plain_value π t k (array ds) ≡ plain_value π u k (array es)
+      → Same m (Some (Member k r)) (array ds) (array es))
+      → plain_value π t k v ≡ plain_value π u k w → Same m (Some (Member k r)) v w
+  same_array k r v w h h' tree tree' inside inside' arrays same =
+      let ds = array_from v h in
+      let es = array_from w h' in
+      subst (λ x. Same m (Some (Member k r)) x w) (sym ds.1) (subst (Same m (Some (Member k r)) (array ds.0)) (sym es.1)
+      (arrays ds.0 es.0 (subst IsTree ds.1 tree) (subst IsTree es.1 tree') (subst (λ x. Within t (asked (Member k r) x)) ds.1 inside) (subst (λ x. Within u (asked (Member k r) x)) es.1 inside')
+      (sym (ap (plain_value π t k) ds.1) ∙ same ∙ ap (plain_value π u k) es.1)))
+
+  same_references : (f : Family) (r : Bool) (ds es : Items) → has_keys f ≡ true → Within t (asked (Member (kind.Many f) r) (array ds)) → Within u (asked (Member (kind.Many f) r) (array es))
+      → plain_value π t (kind.Many f) (array ds) ≡ plain_value π u (kind.Many f) (array es) → Same m (Some (Member (kind.Many f) r)) (array ds) (array es)
+  same_references f r ds es keyed w w' same =
+      set_says m (Member (kind.Many f) r) ds es refl
+      (of_arrays (λ x y. Matched (Same m (Some (Reference f))) (list_of_items x) (list_of_items y)) _ _ ds es same (matched_none _)
+      (λ e. references_matched π t u m accepted accepted' tied f keyed r r ds es w w' (ap keys_in e)))
+
+  same_identifiers : (r : Bool) (ds es : Items) → AreTrees ds → AreTrees es → Within t (asked (Member kind.Identifiers r) (array ds)) → Within u (asked (Member kind.Identifiers r) (array es))
+      → plain_value π t kind.Identifiers (array ds) ≡ plain_value π u kind.Identifiers (array es) → Same m (Some (Member kind.Identifiers r)) (array ds) (array es)
+  same_identifiers r ds es trees trees' w w' same =
+      set_says m (Member kind.Identifiers r) ds es refl
+      (of_arrays (λ x y. Matched (Same m (Some (Object role.Identifier))) (list_of_items x) (list_of_items y)) _ _ ds es same (matched_none _)
+      (λ e. in_some_order (json_sets_reordered (list_of_items ds) (list_of_items es)
+      (values_sound π t accepted kind.Identifiers r role.Identifier ds w refl refl identifier_simple trees) (values_sound π u accepted' kind.Identifiers r role.Identifier es w' refl refl identifier_simple trees')
+      (values_apart π t accepted kind.Identifiers r role.Identifier ds w refl refl identifier_simple trees) (values_apart π u accepted' kind.Identifiers r role.Identifier es w' refl refl identifier_simple trees')
+      (ap json_in e))))
+    where
+      in_some_order : {xs ys : List Data} → Reordered xs ys → Matched (Same m (Some (Object role.Identifier))) xs ys
+      in_some_order {xs} h = record { middle = xs; paired = paired_self xs (λ x. plain_self m (Some (Object role.Identifier)) x (all_plain _ (Object role.Identifier) refl refl)); reordered = h }
+
+  same_content : (r : Bool) (ds es : Items) → AreTrees ds → AreTrees es → Within t (asked (Member kind.Content r) (array ds)) → Within u (asked (Member kind.Content r) (array es))
+      → plain_value π t kind.Content (array ds) ≡ plain_value π u kind.Content (array es) → Same m (Some (Member kind.Content r)) (array ds) (array es)
+  same_content r ds es trees trees' w w' same =
+      list_says m (Member kind.Content r) ds es refl
+      (entries_paired m (of_arrays (λ x y. SameEntries m (Some (Object role.Content)) x y) _ _ ds es same no_entry
+      (λ e. content_says π t u m accepted accepted' tied r r ds es trees trees' w w' (ap content_in e))))
+
+  same_value : (k : MemberKind) (r : Bool) (v w : Data) → means_itself k ≡ true → IsTree v → IsTree w → Within t (asked (want_of_kind k r) v) → Within u (asked (want_of_kind k r) w)
+      → plain_value π t k v ≡ plain_value π u k w → Same m (Some (want_of_kind k r)) v w
+  same_value kind.Word r v w h tree tree' inside inside' same = subst (Same m (Some (Member kind.Word r)) v) (json_same v w same) (plain_self m _ v (all_plain _ (Member kind.Word r) refl refl))
+  same_value kind.Flag r v w h tree tree' inside inside' same = subst (Same m (Some (Member kind.Flag r)) v) (json_same v w same) (plain_self m _ v (all_plain _ (Member kind.Flag r) refl refl))
+  same_value kind.Whole r v w h tree tree' inside inside' same = subst (Same m (Some (Member kind.Whole r)) v) (json_same v w same) (plain_self m _ v (all_plain _ (Member kind.Whole r) refl refl))
+  same_value kind.Carried r v w h tree tree' inside inside' same = subst (Same m (Some Carried) v) (json_same v w same) (plain_self m _ v (all_plain _ Carried refl refl))
+  same_value kind.Label r v w h tree tree' inside inside' same =
+      same_label r r v w (label_view v (wanted_within t (no_shape_fault π t accepted) (asked (Member kind.Label r) v) inside)) (label_view w (wanted_within u (no_shape_fault π u accepted') (asked (Member kind.Label r) w) inside'))
+      tree tree' inside inside' (ap label_in same)
+  same_value (kind.One f) r v w h tree tree' inside inside' same =
+      reference_says π t u m accepted accepted' tied f h v w (named_by π t accepted f h v inside) (named_by π u accepted' f h w inside') (one_key (entry_key π t f v) (entry_key π u f w) same)
+    where
+      one_key : (k l : Option Key) → Some (a_key k) ≡ Some (a_key l) → k ≡ l
+      one_key k l e = cc
+  same_value (kind.Many f) r v w h tree tree' inside inside' same =
+      same_array (kind.Many f) r v w (wanted_within t (no_shape_fault π t accepted) (asked (Member (kind.Many f) r) v) inside) (wanted_within u (no_shape_fault π u accepted') (asked (Member (kind.Many f) r) w) inside') tree tree' inside inside'
+      (λ ds es trees trees' i i' e. same_references f r ds es h i i' e) same
+  same_value kind.Identifiers r v w h tree tree' inside inside' same =
+      same_array kind.Identifiers r v w (wanted_within t (no_shape_fault π t accepted) (asked (Member kind.Identifiers r) v) inside) (wanted_within u (no_shape_fault π u accepted') (asked (Member kind.Identifiers r) w) inside') tree tree' inside inside'
+      (same_identifiers r) same
+  same_value kind.Content r v w h tree tree' inside inside' same =
+      same_array kind.Content r v w (wanted_within t (no_shape_fault π t accepted) (asked (Member kind.Content r) v) inside) (wanted_within u (no_shape_fault π u accepted') (asked (Member kind.Content r) w) inside') tree tree' inside inside'
+      (same_content r) same
+  same_value kind.Outside r v w h tree tree' inside inside' same =
+      let a = means_nothing π t accepted kind.Outside r v refl inside refl in
+      let b = means_nothing π u accepted' kind.Outside r w refl inside' refl in
+      subst (Same m (Some (Member kind.Outside r)) v) (a.empty ∙ sym b.empty) (plain_self m _ v (all_plain _ (Member kind.Outside r) refl refl))
+  same_value kind.StrangeReference r v w h tree tree' inside inside' same = absurd (no_unknown t (no_shape_fault π t accepted) v r inside)
+  same_value kind.StrangeIdentity r v w h tree tree' inside inside' same = absurd (no_strange t (no_shape_fault π t accepted) v r inside)
+  same_value _ r v w h tree tree' inside inside' same = cc
+
+  -- members that mean the same by themselves
+  pub plain_aligned : (s : Scope) (n : List ℕ) (k : MemberKind) (r : Bool) (o p : Option Data) → want_of_name s n ≡ Some (want_of_kind k r) → means_itself k ≡ true
+      → ((v : Data) → o ≡ Some v → IsTree v) → ((v : Data) → p ≡ Some v → IsTree v)
+      → ((v : Data) → o ≡ Some v → Within t (asked (want_of_kind k r) v)) → ((v : Data) → p ≡ Some v → Within u (asked (want_of_kind k r) v))
+      → option_and_then (plain_value π t k) o ≡ option_and_then (plain_value π u k) p → Aligned m s n o p
+  plain_aligned s n k r None None asks h tree tree' inside inside' same = not_both (lacks_nothing m.left s n) (lacks_nothing m.right s n)
+  plain_aligned s n k r None (Some w) asks h tree tree' inside inside' same =
+      let x = means_nothing π u accepted' k r w h (inside' w refl) (sym same) in right_empty m s n k r (asks ∙ ap Some x.wanted) x.array_kind (Some w) (ap Some x.empty)
+  plain_aligned s n k r (Some v) None asks h tree tree' inside inside' same =
+      let x = means_nothing π t accepted k r v h (inside v refl) same in left_empty m s n k r (asks ∙ ap Some x.wanted) x.array_kind (Some v) (ap Some x.empty)
+  plain_aligned s n k r (Some v) (Some w) asks h tree tree' inside inside' same =
+      both_there (subst (λ x. Same m x v w) (sym asks) (same_value k r v w h (tree v refl) (tree' w refl) (inside v refl) (inside' w refl) same))
