@@ -1,7 +1,7 @@
 -- parts of whole trees are whole trees, and equality as JSON decides equality on them
 pub mod whole_trees
 -- numbers stand for keys: equal numbers for equal keys
-pub mod same_numbers
+pub mod same_ranks
 -- whether labels, sets, references and carried members are the same is decided
 pub mod same_values
 -- whether the orders of two ballots are the same is decided

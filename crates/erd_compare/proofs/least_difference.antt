@@ -1,10 +1,10 @@
 pub mod StepWalks
-pub mod RisingTables
 pub mod NameWalks
 pub mod MemberWalks
 pub mod HeldRecords
 pub mod KeyedRecords
-pub mod KeyTables
-pub mod FamilyTables
+pub mod RisingKeys
+pub mod SharedRanks
 pub mod KeyWalks
+pub mod WalksByRank
 pub mod PartsInOrder

@@ -3,12 +3,12 @@ pub mod Choices  -- values: which members of an object are compared apart
 pub mod ContentParts  -- values: what stands inside a header
 pub mod PlainParts  -- objects: what a member means by itself
 pub mod SelectionMembers  -- objects: the selections of a contest, as a member of it
-pub mod CommonNames  -- numbers: which number stands for the name of a selection
+pub mod CommonNames  -- ranks: which number stands for the name of a selection
 pub mod SelectionsByName  -- objects: which selection has a name, and the selections of a contest by the numbers of their names
 pub mod NamesInStep  -- objects: the members that are left, as those of two objects are walked in step by their names
 pub mod LeastNames  -- objects: the least name of a member at which two objects differ
 pub mod HeldDifferences  -- objects: how two objects differ with the keys of the elections that hold them
 pub mod KeyedDifferences  -- the first difference: the least key at which two reports differ in a part
-pub mod CommonNumbers  -- numbers: which number stands for a key, and the sorted keys of both reports
-pub mod NumberedSides  -- numbers: the numbers of objects on either side
+pub mod CommonRanks  -- ranks: which rank stands for a key of either report
+pub mod RankedSides  -- ranks: the ranks of keys on either side
 pub mod PlacedObjects  -- objects: where they stand in their reports

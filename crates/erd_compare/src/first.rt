@@ -8,8 +8,8 @@ mod tables;
 
 use crate::difference::{Difference, Part};
 use crate::first::parts::part_difference;
-use crate::numbers::making::tables_of_both;
-use crate::numbers::name_numbers::names_of_both;
+use crate::ranks::common_ranks::CommonRanks;
+use crate::ranks::name_numbers::names_of_both;
 use crate::sides::Sides;
 use erd_meaning::Report;
 use std::alloc::{AllocError, Global};
@@ -37,10 +37,10 @@ const PARTS: [Part; 10] = [
 /// ballot style with other contents at `OrderedContent`. A candidate, contest or style that is in an election with another
 /// key differs at `ElectionId`. docs/PROFILE.md lists the parts, the keys and what members mean.
 ///
-/// The code copies and builds no records. It sorts the keys of both reports in each part, and looks up each key of the right
-/// report among those of the left one. It looks up the name of each selection once. From then on it compares references by
-/// the numbers that this gives to objects and names, and members in place. In each part it walks both lists of keys in step,
-/// and it stops at the first difference.
+/// The code copies and builds no records. The reports have their keys in rising order. It merges those of both reports once,
+/// so that each key gets a rank that they have in common, and looks up the name of each selection once. From then on it
+/// compares references by these ranks and by the numbers of names, and members in place. In each part it walks both lists of
+/// keys in step, and it stops at the first difference.
 ///
 /// # Errors
 ///
@@ -57,12 +57,15 @@ pub fn first_difference(
     requires one_preference { left.now.prefer ≡ right.now.prefer }
     ensures { IfOk result (IsDifference (meaning left.now.prefer (view left.now.tree)) (meaning right.now.prefer (view right.now.tree))) }
 {
-    let tables = tables_of_both(alloc, left, right)?;
-    let names = names_of_both(alloc, left, right, &tables)?;
+    // read for what they ensure: both trees are accepted, and their numbers are whole
+    let _one = left.tree();
+    let _other = right.tree();
+    let common = CommonRanks::of_both(alloc, left, right)?;
+    let names = names_of_both(alloc, left, right, &common)?;
     let sides = Sides {
         left,
         right,
-        tables: &tables,
+        common: &common,
         names: &names,
     };
     for part in PARTS {

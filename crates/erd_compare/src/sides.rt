@@ -1,9 +1,9 @@
 ghost use Rattle.erd_compare.specs.code.CommonNames.{AreNameNumbers};
-ghost use Rattle.erd_compare.specs.code.CommonNumbers.{AreCommonNumbers, tables_of};
-ghost use Rattle.erd_compare.specs.declared.difference.Part.{Part};
+ghost use Rattle.erd_compare.specs.code.CommonRanks.{AreAllCommonRanks};
+ghost use Rattle.erd_compare.specs.code.RankedSides.{AreCommonByRank};
 
-use crate::numbers::kept_names::NameNumbers;
-use crate::numbers::kept_tables::KeyTables;
+use crate::ranks::common_ranks::CommonRanks;
+use crate::ranks::name_numbers::NameNumbers;
 use erd_meaning::Report;
 
 /// The two reports that are compared. Elsewhere, `one` and `ones` belong to the left report, and `other` and `others` to the
@@ -14,10 +14,11 @@ pub(crate) struct Sides<'a> {
     pub left: &'a Report<'a>,
     /// The right report.
     pub right: &'a Report<'a>,
-    /// The keys of both reports, and numbers in place of them.
-    pub tables: &'a KeyTables<'a>,
+    /// The ranks that the keys of both reports have in common.
+    pub common: &'a CommonRanks,
     /// The numbers of the names of selections.
     pub names: &'a NameNumbers,
-    ghost numbered: { (p : Part) → AreCommonNumbers left.now right.now p (tables_of p tables.now).numbers.items },
+    ghost ranked: { AreAllCommonRanks left.now right.now common.now },
+    ghost placed: { AreCommonByRank left.now right.now common.now },
     ghost named: { AreNameNumbers left.now right.now names.now },
 }

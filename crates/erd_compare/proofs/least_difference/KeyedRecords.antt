@@ -38,7 +38,7 @@ use Rattle.erd_meaning.proofs.meanings.ElectionIds.{no_election_id}
 use Rattle.erd_compare.specs.code.Comparing.{IsWholeTree, RecordMap, TellsHow}
 use Rattle.erd_compare.specs.Differences.{Differ, record_at, record_with_key, record_without_key}
 use Rattle.erd_compare.specs.code.HeldDifferences.{HasNoElectionId, TellsHeld}
-use Rattle.erd_compare.specs.code.KeyedDifferences.{HasKeyAt, IsComparable, TellsAtPositions, holder_key_in, key_with_role, objects_in, role_of_part}
+use Rattle.erd_compare.specs.code.KeyedDifferences.{HasKeyAt, IsComparable, TellsAtPositions, holder_key_in, is_ranked, key_with_role, objects_in, role_of_part}
 use Rattle.erd_compare.specs.declared.difference.How.{How}
 use Rattle.erd_compare.specs.declared.difference.How.TheVariants.{OnlyLeft, OnlyRight}
 use Rattle.erd_compare.specs.declared.difference.Part.{Part}
@@ -205,6 +205,12 @@ module _ (π : Preference) (t : Data) (c : IsComparable π t) where
     within = λ i o at. subst (λ (x : Placed). Within t (asked (Object role.Report) x.value)) (the_report i o at).1 (Within-root t);
     whole = λ i o at. subst (λ (x : Placed). IsWholeTree x.value) (the_report i o at).1 c.whole;
   }
+
+  -- no two objects with a role have the same key
+  pub one_object : (r : Role) → is_ranked r ≡ true → (i j : ℕ) (k : Option Key) → HasKeyAt π t r i k → HasKeyAt π t r j k → i ≡ j
+  one_object (role.OfFamily f) ranked = (family_records π t c f ranked).one
+  one_object role.Election ranked = elections_records.one
+  one_object r ranked = λ i j k h g. (the_report i h.object h.stands).0 ∙ sym (the_report j g.object g.stands).0
 
   pub records_at : (p : Part) → HoldsRecords π t (role_of_part p) (record_at (meaning π t) p)
   records_at part.Report = report_record

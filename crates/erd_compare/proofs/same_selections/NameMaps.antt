@@ -9,7 +9,7 @@ use Rattle.serde_json.specs.declared.value.Value.{Value}
 use Rattle.erd_meaning.specs.Judged.{Judged}
 use Rattle.erd_compare.specs.code.CommonNames.{number_of_selection}
 use Rattle.erd_compare.specs.code.SelectionsByName.{IsByNumber, has_number}
-use Rattle.erd_compare.specs.declared.numbers.side.Side.{Side}
+use Rattle.erd_compare.specs.declared.ranks.side.Side.{Side}
 
 -- selections by their names
 abbrev pub Named : Type 0

@@ -4,12 +4,12 @@ use Rattle.serde_json.specs.Data.{Data}
 use Rattle.serde_json.specs.View.{view}
 use Rattle.erd_meaning.specs.Judged.{Judged}
 use Rattle.erd_meaning.specs.SelectionNames.{name_of}
-use Rattle.erd_compare.specs.code.NumberedSides.{on_side}
+use Rattle.erd_compare.specs.code.RankedSides.{on_side}
 use Rattle.erd_compare.specs.code.PlacedObjects.{AreSelectionsIn}
-use Rattle.erd_compare.specs.declared.numbers.side.Side.{Side}
-use Rattle.erd_compare.proofs.same_numbers.KeysByRank.{place_in}
-use Rattle.erd_compare.proofs.same_numbers.NameNumbers.{selection_named}
-use Rattle.erd_compare.proofs.same_numbers.NumberedSelections.{AreNamed}
+use Rattle.erd_compare.specs.declared.ranks.side.Side.{Side}
+use Rattle.erd_meaning.proofs.orders.DistinctEntries.{place_of as place_in}
+use Rattle.erd_compare.proofs.same_ranks.NameNumbers.{selection_named}
+use Rattle.erd_compare.proofs.same_ranks.NumberedSelections.{AreNamed}
 use Rattle.erd_compare.proofs.same_selections.PlacedSelections.{stands_among}
 
 pub contest_named : (a b : Judged) (side : Side) (c : ℕ) (ds : List Data) → AreSelectionsIn (on_side side a b) c ds → AreNamed a b side ds

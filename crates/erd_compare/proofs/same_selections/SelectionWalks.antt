@@ -20,9 +20,9 @@ use Rattle.erd_tables.specs.declared.class.Class.{Class}
 use Rattle.erd_compare.specs.code.Comparing.{Decides, IsWholeTree}
 use Rattle.erd_compare.specs.code.CommonNames.{number_of_name}
 use Rattle.erd_compare.specs.code.SelectionsByName.{IsByNumber, has_number, numbered_map}
-use Rattle.erd_compare.specs.code.NumberedSides.{on_side}
-use Rattle.erd_compare.specs.declared.numbers.side.Side.{Side}
-use Rattle.erd_compare.specs.declared.numbers.side.Side.TheVariants.{Left, Right}
+use Rattle.erd_compare.specs.code.RankedSides.{on_side}
+use Rattle.erd_compare.specs.declared.ranks.side.Side.{Side}
+use Rattle.erd_compare.specs.declared.ranks.side.Side.TheVariants.{Left, Right}
 use Rattle.erd_compare.proofs.same_selections.NameMaps.{one_number}
 use Rattle.erd_compare.proofs.whole_trees.WholeTrees.{AreWholeTrees}
 

@@ -13,8 +13,8 @@ use Rattle.erd_meaning.specs.Objects.{Placed, objects}
 use Rattle.erd_meaning.specs.SelectionNames.{name_named, name_of}
 use Rattle.erd_meaning.proofs.finding.OwnedObjects.{owner_elsewhere, owner_here, owner_nowhere}
 use Rattle.erd_compare.specs.code.CommonNames.{number_of_name, number_of_selection}
-use Rattle.erd_compare.specs.code.NumberedSides.{on_side}
-use Rattle.erd_compare.specs.declared.numbers.side.Side.{Side}
+use Rattle.erd_compare.specs.code.RankedSides.{on_side}
+use Rattle.erd_compare.specs.declared.ranks.side.Side.{Side}
 
 module _ (a b : Judged) (side : Side) (id : List ℕ) where
   abbrev π : Preference

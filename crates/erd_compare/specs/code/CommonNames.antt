@@ -6,45 +6,46 @@ use Rattle.indexmap.specs.IndexSet.{insert_all}
 use Rattle.serde_json.specs.Data.{Data}
 use Rattle.serde_json.specs.View.{view}
 use Rattle.erd_tables.specs.declared.class.Family.TheVariants as family
+use Rattle.erd_tables.specs.declared.class.Role.{Role}
+use Rattle.erd_tables.specs.declared.class.Role.TheVariants.{OfFamily}
 use Rattle.erd_meaning.specs.Judged.{Judged}
 use Rattle.erd_meaning.specs.NameParts.{NameParts}
 use Rattle.erd_meaning.specs.Objects.{objects}
 use Rattle.erd_meaning.specs.SelectionNames.{name_of}
 use Rattle.erd_meaning.specs.NumberedNames.{NumberedParts, numbered_name_cmp, numbered_parts}
 use Rattle.erd_meaning.specs.RankedNames.{RankedParts, family_chosen, ranked_name}
-use Rattle.erd_compare.specs.code.CommonNumbers.{number_of_key, part_of_family}
-use Rattle.erd_compare.specs.code.NumberedSides.{number_at_rank, on_side}
-use Rattle.erd_compare.specs.declared.difference.Part.{Part}
-use Rattle.erd_compare.specs.declared.numbers.kept_names.NameNumbers.{NameNumbers}
-use Rattle.erd_compare.specs.declared.numbers.kept_tables.KeyTables.{KeyTables}
-use Rattle.erd_compare.specs.declared.numbers.side.Side.{Side}
-use Rattle.erd_compare.specs.declared.numbers.side.Side.TheVariants.{Left, Right}
+use Rattle.erd_compare.specs.code.CommonRanks.{common_rank_of, rank_of_key}
+use Rattle.erd_compare.specs.code.RankedSides.{on_side}
+use Rattle.erd_compare.specs.declared.ranks.common_ranks.CommonRanks.{CommonRanks}
+use Rattle.erd_compare.specs.declared.ranks.name_numbers.NameNumbers.{NameNumbers}
+use Rattle.erd_compare.specs.declared.ranks.side.Side.{Side}
+use Rattle.erd_compare.specs.declared.ranks.side.Side.TheVariants.{Left, Right}
 
--- ---- names with numbers in place of keys
+-- ---- names with common ranks in place of keys
 
--- The part of the objects whose keys are in the name.
-abbrev pub part_of_name : NameParts → Part
-part_of_name n = part_of_family (family_chosen n.class)
+-- The role of the objects whose keys are in the name.
+abbrev pub role_of_name : NameParts → Role
+role_of_name n = OfFamily (family_chosen n.class)
 
--- The numbers of the keys in a name.
-abbrev pub numbers_in_name : Judged → Judged → NameParts → List ℕ
-numbers_in_name a b n = map (number_of_key a b (part_of_name n)) n.keys
+-- The common ranks of the keys in a name.
+abbrev pub ranks_in_name : Judged → Judged → NameParts → List ℕ
+ranks_in_name a b n = map (rank_of_key a b (role_of_name n)) n.keys
 
--- The name with numbers in place of its keys.
-abbrev pub numbered_name : Judged → Judged → NameParts → NumberedParts
-numbered_name a b n = numbered_parts n (numbers_in_name a b n)
+-- The name with common ranks in place of its keys.
+abbrev pub name_by_ranks : Judged → Judged → NameParts → NumberedParts
+name_by_ranks a b n = numbered_parts n (ranks_in_name a b n)
 
--- The name of a selection with numbers in place of its keys, or none if its `@type` is not that of a selection class.
-abbrev pub numbered_name_of : Judged → Judged → Side → Data → Option NumberedParts
-numbered_name_of a b side d = option_map (numbered_name a b) (name_of (on_side side a b).prefer (view (on_side side a b).tree) d)
+-- The name of a selection with common ranks in place of its keys, or none if its `@type` is not that of a selection class.
+abbrev pub name_by_ranks_of : Judged → Judged → Side → Data → Option NumberedParts
+name_by_ranks_of a b side d = option_map (name_by_ranks a b) (name_of (on_side side a b).prefer (view (on_side side a b).tree) d)
 
--- The numbers that the tables have at the ranks of the keys in a name.
-abbrev pub numbers_told : KeyTables → Side → RankedParts → List ℕ
-numbers_told tables side r = filter_map (number_at_rank tables side (part_of_name r.name)) r.ranks
+-- The common ranks of the keys in a name, by their ranks on the side.
+abbrev pub ranks_told : CommonRanks → Side → RankedParts → List ℕ
+ranks_told common side r = filter_map (common_rank_of common side (role_of_name r.name)) r.ranks
 
--- The name of a selection of the report, with these numbers in place of its keys.
-abbrev pub name_told : KeyTables → Side → Judged → Data → Option NumberedParts
-name_told tables side a d = option_map (λ n. numbered_parts n (numbers_told tables side (ranked_name a.prefer (view a.tree) n))) (name_of a.prefer (view a.tree) d)
+-- The name of a selection of the report, with these common ranks in place of its keys.
+abbrev pub name_told : CommonRanks → Side → Judged → Data → Option NumberedParts
+name_told common side a d = option_map (λ n. numbered_parts n (ranks_told common side (ranked_name a.prefer (view a.tree) n))) (name_of a.prefer (view a.tree) d)
 
 -- True if the two names are equal.
 abbrev pub name_eq : NumberedParts → NumberedParts → Bool
@@ -54,7 +55,7 @@ name_eq = eq_by_cmp numbered_name_cmp
 
 -- The names of the selections of a report, in the order of the report.
 abbrev pub names_on : Judged → Judged → Side → List NumberedParts
-names_on a b side = filter_map (λ o. numbered_name_of a b side o.value) (objects family.Selection (view (on_side side a b).tree))
+names_on a b side = filter_map (λ o. name_by_ranks_of a b side o.value) (objects family.Selection (view (on_side side a b).tree))
 
 -- The names of the selections of both reports, each once, in the order in which they come first.
 abbrev pub names_of_both : Judged → Judged → List NumberedParts
@@ -62,7 +63,7 @@ names_of_both a b = insert_all name_eq (insert_all name_eq [] (names_on a b Left
 
 -- The number of a name: its position among these.
 abbrev pub number_of_name : Judged → Judged → NameParts → ℕ
-number_of_name a b n = position_or_len (name_eq (numbered_name a b n)) (names_of_both a b)
+number_of_name a b n = position_or_len (name_eq (name_by_ranks a b n)) (names_of_both a b)
 
 -- The number of the name of a selection, or none if its `@type` is not that of a selection class.
 abbrev pub number_of_selection : Judged → Judged → Side → Data → Option ℕ

@@ -1,25 +1,27 @@
 -- The least key at which two reports differ in a part.
-use Rattle.std.specs.Prelude.{◌≡◌, ℕ, List, [], ◌∷◌, map, length, if◌then◌else◌, Option, Some, None, option_and_then}
-use Rattle.std.specs.List.{AllByRecursion, Contains, slice_get}
-use Rattle.std.specs.List.Sorted.{IsPermutation, IsStrictlySortedBy}
+use Rattle.std.specs.Prelude.{◌≡◌, ◌==◌, ℕ, List, [], ◌∷◌, map, if◌then◌else◌, Bool, true, Option, Some, None, option_and_then}
+use Rattle.std.specs.List.{slice_get}
 use Rattle.std.specs.Option.{option_cmp, option_copied}
+use Rattle.std.specs.declared.cmp.Ordering.{Ordering}
+use Rattle.std.specs.declared.cmp.Ordering.TheVariants.{Less}
 use Rattle.serde_json.specs.Data.{Data}
 use Rattle.erd_tables.specs.declared.class.Family.TheVariants as family
 use Rattle.erd_tables.specs.declared.class.Role.{Role}
 use Rattle.erd_tables.specs.declared.class.Role.TheVariants as role
 use Rattle.erd_meaning.specs.Accepted.{IsAccepted}
-use Rattle.erd_meaning.specs.Keys.{Preference, is_keyed_role, key_cmp, key_of}
+use Rattle.erd_meaning.specs.Keys.{Preference, has_keys, is_keyed_role, key_cmp, key_of}
 use Rattle.erd_meaning.specs.Lookups.{election_in, election_key_in, key_in}
 use Rattle.erd_meaning.specs.Objects.{Placed, elections, objects, report_of}
 use Rattle.erd_meaning.specs.Records.{meaning}
+use Rattle.erd_meaning.specs.SelectionNames.{rising_list}
 use Rattle.erd_meaning.specs.declared.keys.key.Key.{Key}
 use Rattle.erd_compare.specs.code.Comparing.{DifferAtKey, IsWholeTree, RecordMap, TellsHow}
 use Rattle.erd_compare.specs.Differences.{record_at}
 use Rattle.erd_compare.specs.declared.difference.How.{How}
+use Rattle.erd_compare.specs.declared.difference.How.TheVariants.{OnlyLeft, OnlyRight}
 use Rattle.erd_compare.specs.declared.difference.Part.{Part}
 use Rattle.erd_compare.specs.declared.difference.Part.TheVariants as part
 use Rattle.erd_compare.specs.declared.first.tables.KeyedDifference.{KeyedDifference}
-use denote.Ref.{Bor}
 
 -- The report is accepted, and it is a tree whose numbers are whole.
 pub record IsComparable (π : Preference) (t : Data) : Type 0 where
@@ -78,20 +80,27 @@ pub record HasKeyAt (π : Preference) (t : Data) (r : Role) (i : ℕ) (k : Optio
   pub stands : slice_get (objects_in r t) i ≡ Some object
   pub key : key_with_role π r object.value ≡ k
 
--- ---- tables of keys
+-- ---- objects by rank
 
--- The keys of a table.
-abbrev pub keys_of : List (Option (Bor Key) × ℕ) → List (Option Key)
-keys_of entries = map (λ e. option_copied e.0) entries
+-- True for a role whose objects have different keys in an accepted report: any role but that of the selections.
+abbrev pub is_ranked : Role → Bool
+is_ranked (role.OfFamily f) = has_keys f
+is_ranked r = true
 
--- The table has the keys of the objects with a role in rising order, each with the position of its object. At most one
--- object has no key.
-pub record IsKeyTable (π : Preference) (t : Data) (r : Role) (entries : List (Option (Bor Key) × ℕ)) : Type 0 where
-  pub rises : IsStrictlySortedBy (option_cmp key_cmp) (keys_of entries)
-  pub same : IsPermutation (keys_in_role π t r) (keys_of entries)
-  pub stand : AllByRecursion (λ e. HasKeyAt π t r e.1 (option_copied e.0)) entries
-  pub all : (i : ℕ) (k : Option Key) → HasKeyAt π t r i k → Contains (keys_of entries) k
-  pub count : length entries ≡ length (objects_in r t)
+-- The keys of the objects with the role, in rising order.
+abbrev pub rising_in_role : Preference → Data → Role → List (Option Key)
+rising_in_role π t r = rising_list (option_cmp key_cmp) (keys_in_role π t r)
+
+-- The two positions, if both are there and the common rank is the rank.
+abbrev pub shared : Option ℕ → Option ℕ → Option ℕ → ℕ → Option (ℕ × ℕ)
+shared (Some i) (Some j) (Some common) rank = if common == rank then Some (i, j) else None
+shared i j common rank = None
+
+-- The positions that both lists have at the rank, if the common rank there is the rank.
+abbrev pub shared_at : List ℕ → List ℕ → List ℕ → ℕ → Option (ℕ × ℕ)
+shared_at ones others common rank = shared (slice_get ones rank) (slice_get others rank) (slice_get common rank) rank
+
+-- ---- differences
 
 -- If the objects of the part at the two positions have the same key, the answer is how their records differ, or none if
 -- they are equal.
@@ -103,3 +112,20 @@ TellsAtPositions π ρ t u p i j how =
 abbrev pub TellsLeast : RecordMap → RecordMap → Option KeyedDifference → Type 0
 TellsLeast m n None = (k : Option Key) → m k ≡ n k
 TellsLeast m n (Some d) = DifferAtKey m n (option_copied d.key) d.how
+
+-- The difference is that only one report has an object with this key. Which one it is says how.
+abbrev pub IsOnly : Option Key → How → Option KeyedDifference → Type 0
+IsOnly k how None = ⊥
+IsOnly k how (Some d) = (option_copied d.key ≡ k) × (d.how ≡ how)
+
+-- Only the report with the lesser of two keys, which compare like this, has an object with it.
+abbrev pub IsOnlyLesser : Ordering → Option Key → Option Key → Option KeyedDifference → Type 0
+IsOnlyLesser Less k l d = IsOnly k OnlyLeft d
+IsOnlyLesser o k l d = IsOnly l OnlyRight d
+
+-- The answer is the difference at a rank where the reports have these keys, if they have any there.
+abbrev pub TellsNext : Option (Option Key) → Option (Option Key) → Option KeyedDifference → Type 0
+TellsNext None None d = d ≡ None
+TellsNext (Some k) None d = IsOnly k OnlyLeft d
+TellsNext None (Some l) d = IsOnly l OnlyRight d
+TellsNext (Some k) (Some l) d = IsOnlyLesser (option_cmp key_cmp k l) k l d

@@ -9,8 +9,8 @@ use Rattle.erd_meaning.specs.Judged.{Judged}
 use Rattle.erd_meaning.specs.Meaning.{SelectionRecord}
 use Rattle.erd_meaning.specs.Records.{selection_record}
 use Rattle.erd_compare.specs.code.CommonNames.{number_of_selection}
-use Rattle.erd_compare.specs.code.NumberedSides.{on_side}
-use Rattle.erd_compare.specs.declared.numbers.side.Side.{Side}
+use Rattle.erd_compare.specs.code.RankedSides.{on_side}
+use Rattle.erd_compare.specs.declared.ranks.side.Side.{Side}
 use denote.Ref.{Bor}
 
 -- True if the name of the selection has the number.

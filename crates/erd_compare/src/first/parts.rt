@@ -3,7 +3,6 @@ ghost use Rattle.std.specs.Option.{option_copied};
 ghost use Rattle.serde_json.specs.View.{view};
 ghost use Rattle.erd_meaning.specs.Records.{meaning};
 ghost use Rattle.erd_compare.specs.code.Comparing.{TellsPart};
-ghost use Rattle.erd_compare.specs.code.CommonNumbers.{AreKeyTables};
 
 use crate::difference::{Difference, Part};
 use crate::first::tables::{KeyedDifference, least_difference};
@@ -11,16 +10,15 @@ use crate::sides::Sides;
 use erd_meaning::Key;
 use std::alloc::{AllocError, Global};
 
-/// The first difference between the two reports at a part.
+/// Returns the first difference between the two reports at a part.
 pub(crate) fn part_difference(
     alloc: Global,
     sides: Sides,
     part: Part,
 ) -> Result<Option<Difference>, AllocError>
-    requires tables { AreKeyTables sides.left.now sides.right.now sides.tables.now }
     ensures { IfOk result (TellsPart (meaning sides.entry.left.now.prefer (view sides.entry.left.now.tree)) (meaning sides.entry.right.now.prefer (view sides.entry.right.now.tree)) part) }
 {
-    // read for what the calls ensure: both trees are accepted, and their numbers are whole
+    // read for what they ensure: both trees are accepted, and their numbers are whole
     let _one = sides.left.tree();
     let _other = sides.right.tree();
     match least_difference(alloc, sides, part)? {
@@ -32,7 +30,7 @@ pub(crate) fn part_difference(
     }
 }
 
-/// A copy of the key, if there is one.
+/// Returns a copy of the key, if there is one.
 fn copied(alloc: Global, key: Option<&Key>) -> Result<Option<Key>, AllocError>
     ensures { IfOk result (λ copy. copy ≡ option_copied key.entry) }
 {

@@ -3,22 +3,27 @@ ghost use Rattle.serde_json.specs.View.{view};
 ghost use Rattle.erd_meaning.specs.declared.keys.key.Key.{Key as key};
 ghost use Rattle.erd_compare.specs.code.Comparing.{Decides};
 ghost use Rattle.erd_compare.specs.code.HeldDifferences.{TellsHeld, is_before_election};
-ghost use Rattle.erd_compare.specs.code.KeyedDifferences.{holder_key_in, role_of_part};
+ghost use Rattle.erd_compare.specs.code.KeyedDifferences.{holder_key_in};
 
-use crate::difference::{How, Part};
-use crate::numbers::lookups::holder_number;
-use crate::numbers::side::Side;
+use crate::difference::How;
+use crate::ranks::lookups::holder_rank;
+use crate::ranks::side::Side;
 use crate::sides::Sides;
-use erd_tables::Text;
+use erd_tables::{Role, Text};
 use std::alloc::{AllocError, Global};
 
-/// Whether the objects at these positions of a part are in elections with the same key, or in none with a key.
-pub(crate) fn is_same_holder(sides: Sides, part: Part, index: usize, other_index: usize) -> bool
-    ensures { Decides result (holder_key_in sides.entry.left.now.prefer (role_of_part part) (view sides.entry.left.now.tree) index)
-        (holder_key_in sides.entry.right.now.prefer (role_of_part part) (view sides.entry.right.now.tree) other_index) }
+/// Returns whether the objects with a role at these positions are in elections with the same key, or in none with a key.
+pub(crate) fn is_same_holder(
+    sides: Sides,
+    role: Role,
+    position: usize,
+    other_position: usize,
+) -> bool
+    ensures { Decides result (holder_key_in sides.entry.left.now.prefer role (view sides.entry.left.now.tree) position)
+        (holder_key_in sides.entry.right.now.prefer role (view sides.entry.right.now.tree) other_position) }
 {
-    holder_number(sides, Side::Left, part, index)
-        == holder_number(sides, Side::Right, part, other_index)
+    holder_rank(sides, Side::Left, role, position)
+        == holder_rank(sides, Side::Right, role, other_position)
 }
 
 /// How two objects differ, given how they differ by themselves, and whether the keys of their elections are the same. If the

@@ -7,16 +7,16 @@ ghost use Rattle.erd_meaning.specs.Records.{plain_member, selection_map, selecti
 ghost use Rattle.erd_compare.specs.code.CommonNames.{number_of_selection};
 ghost use Rattle.erd_compare.specs.code.Comparing.{Decides, IsWholeTree};
 ghost use Rattle.erd_compare.specs.code.LeastNames.{IsObject};
-ghost use Rattle.erd_compare.specs.code.NumberedSides.{on_side};
+ghost use Rattle.erd_compare.specs.code.RankedSides.{on_side};
 ghost use Rattle.erd_compare.specs.code.PlacedObjects.{AreSelectionsIn, AreSelectionsAt};
 ghost use Rattle.erd_compare.specs.code.SelectionMembers.{if_filled, selections_meant};
 ghost use Rattle.erd_compare.specs.code.SelectionsByName.{IsByNumber};
 
-use crate::numbers::lookups::{name_number_at, report_on};
-use crate::numbers::side::Side;
 use crate::objects::members_left::{MembersLeft, lesser_name};
 use crate::objects::placed::{Found, Selections};
 use crate::objects::plain_members::is_same_plain_member;
+use crate::ranks::lookups::{name_number_at, report_on};
+use crate::ranks::side::Side;
 use crate::sides::Sides;
 use erd_check::values::{class_of_object, entries_of, is_empty_array};
 use erd_tables::{Class, Family, Role};

@@ -10,10 +10,10 @@ ghost use Rattle.erd_meaning.specs.SelectionNames.{key_named, name_named};
 ghost use Rattle.erd_compare.specs.code.Comparing.{Decides, IsWholeTree};
 ghost use Rattle.erd_compare.specs.code.ContentParts.{content_within};
 
-use crate::numbers::side::Side;
+use crate::ranks::side::Side;
 use crate::sides::Sides;
 use crate::values::chosen_members::is_same_carried;
-use crate::values::references::{number_of_name_named, number_with_id};
+use crate::values::references::{number_of_name_named, rank_with_id};
 use erd_check::values::{class_of_object, entries_at, entries_of, text_at};
 use erd_meaning::Report;
 use erd_tables::{Class, Family, Role};
@@ -155,8 +155,8 @@ fn is_same_owner(sides: Sides, family: Family, name: &str, one: &Value, other: &
     ensures { Decides result (key_named sides.entry.left.now.prefer (view sides.entry.left.now.tree) family (text_at name.now (view one.now)))
         (key_named sides.entry.right.now.prefer (view sides.entry.right.now.tree) family (text_at name.now (view other.now))) }
 {
-    number_with_id(sides, Side::Left, family, text_at(one, name))
-        == number_with_id(sides, Side::Right, family, text_at(other, name))
+    rank_with_id(sides, Side::Left, family, text_at(one, name))
+        == rank_with_id(sides, Side::Right, family, text_at(other, name))
 }
 
 /// Whether a node of the contents of a ballot is a header.

@@ -7,68 +7,68 @@ ghost use Rattle.erd_meaning.specs.Records.{key_set};
 ghost use Rattle.erd_meaning.specs.SelectionNames.{key_named, keys_named, name_named};
 ghost use Rattle.erd_compare.specs.code.CommonNames.{number_of_name};
 ghost use Rattle.erd_compare.specs.code.Comparing.{Decides};
-ghost use Rattle.erd_compare.specs.code.NumberedSides.{IsNumberSet, number_with_id, list_of_numbers, on_side};
+ghost use Rattle.erd_compare.specs.code.RankedSides.{IsRankSet, rank_with_id, list_of_ranks, on_side};
 
-use crate::numbers::lookups::{name_number_at, number_of, part_of, report_on};
-use crate::numbers::side::Side;
+use crate::ranks::lookups::{common_rank_at, name_number_at, report_on};
+use crate::ranks::side::Side;
 use crate::sides::Sides;
-use erd_tables::Family;
+use erd_tables::{Family, Role};
 use serde_json::Value;
 use std::alloc::{AllocError, Global};
 use std::collections::BTreeSet;
 
-/// The number of the name of the selection that a reference names, if there is one.
+/// Returns the number of the name of the selection that a reference names, if there is one.
 pub(crate) fn number_of_name_named(sides: Sides, side: Side, value: &Value) -> Option<usize>
     ensures { result ≡ option_map (number_of_name sides.entry.left.now sides.entry.right.now)
         (option_and_then (name_named (on_side side sides.entry.left.now sides.entry.right.now).prefer (view (on_side side sides.entry.left.now sides.entry.right.now).tree)) (as_str (view value.now))) }
 {
     let id = value.as_str()?;
-    let (found, index) = report_on(sides, side).target(id)?;
+    let (found, position) = report_on(sides, side).target(id)?;
     if is_same_family(found, Family::Selection) {
-        name_number_at(sides, side, index)
+        name_number_at(sides, side, position)
     } else {
         None
     }
 }
 
-/// Whether two families are the same.
+/// Returns whether two families are the same.
 fn is_same_family(found: Family, family: Family) -> bool
     ensures { result ≡ (family_number found == family_number family) }
 {
     found == family
 }
 
-/// The number of the object of a family that a reference names, if there is one.
-pub(crate) fn number_named(sides: Sides, side: Side, family: Family, value: &Value) -> Option<usize>
+/// Returns the common rank of the object of a family that a reference names, if there is one.
+pub(crate) fn rank_named(sides: Sides, side: Side, family: Family, value: &Value) -> Option<usize>
     requires keyed { has_keys family ≡ true }
-    ensures { result ≡ option_and_then (number_with_id sides.entry.left.now sides.entry.right.now side family) (as_str (view value.now)) }
+    ensures { result ≡ option_and_then (rank_with_id sides.entry.left.now sides.entry.right.now side family) (as_str (view value.now)) }
 {
-    number_with_id(sides, side, family, value.as_str()?)
+    rank_with_id(sides, side, family, value.as_str()?)
 }
 
-/// The number of the object of a family with this `@id`, if there is one.
-pub(crate) fn number_with_id(sides: Sides, side: Side, family: Family, id: &str) -> Option<usize>
+/// Returns the common rank of the object of a family with this `@id`, if there is one.
+pub(crate) fn rank_with_id(sides: Sides, side: Side, family: Family, id: &str) -> Option<usize>
     requires keyed { has_keys family ≡ true }
-    ensures { result ≡ number_with_id sides.entry.left.now sides.entry.right.now side family id.now }
+    ensures { result ≡ rank_with_id sides.entry.left.now sides.entry.right.now side family id.now }
 {
-    let (found, index) = report_on(sides, side).target(id)?;
+    let (found, position) = report_on(sides, side).target(id)?;
     if is_same_family(found, family) {
-        number_of(sides, side, part_of(family), index)
+        common_rank_at(sides, side, Role::OfFamily(family), position)
     } else {
         None
     }
 }
 
-/// Whether two references to objects of a family name objects with the same key.
+/// Returns whether two references to objects of a family name objects with the same key.
 pub(crate) fn is_same_reference(sides: Sides, family: Family, one: &Value, other: &Value) -> bool
     requires keyed { has_keys family ≡ true }
     ensures { Decides result (option_and_then (key_named sides.entry.left.now.prefer (view sides.entry.left.now.tree) family) (as_str (view one.now)))
         (option_and_then (key_named sides.entry.right.now.prefer (view sides.entry.right.now.tree) family) (as_str (view other.now))) }
 {
-    number_named(sides, Side::Left, family, one) == number_named(sides, Side::Right, family, other)
+    rank_named(sides, Side::Left, family, one) == rank_named(sides, Side::Right, family, other)
 }
 
-/// Whether two lists of references to objects of a family name objects with the same set of keys.
+/// Returns whether two lists of references to objects of a family name objects with the same set of keys.
 pub(crate) fn is_same_key_set(
     alloc: Global,
     sides: Sides,
@@ -80,13 +80,13 @@ pub(crate) fn is_same_key_set(
     ensures { IfOk result (λ answer. Decides answer (key_set (keys_named sides.entry.left.now.prefer (view sides.entry.left.now.tree) family (map view ones.now)))
         (key_set (keys_named sides.entry.right.now.prefer (view sides.entry.right.now.tree) family (map view others.now)))) }
 {
-    let ones = set_of_numbers(alloc, sides, Side::Left, family, ones)?;
-    let others = set_of_numbers(alloc, sides, Side::Right, family, others)?;
+    let ones = set_of_ranks(alloc, sides, Side::Left, family, ones)?;
+    let others = set_of_ranks(alloc, sides, Side::Right, family, others)?;
     Ok(ones == others)
 }
 
-/// The numbers of the objects of a family that the references name, sorted, each once.
-fn set_of_numbers(
+/// Returns the common ranks of the objects of a family that the references name, sorted, each once.
+fn set_of_ranks(
     alloc: Global,
     sides: Sides,
     side: Side,
@@ -94,13 +94,13 @@ fn set_of_numbers(
     values: &[Value],
 ) -> Result<BTreeSet<usize>, AllocError>
     requires keyed { has_keys family ≡ true }
-    ensures { IfOk result (IsNumberSet (list_of_numbers sides.entry.left.now sides.entry.right.now side family (map view values.now))) }
+    ensures { IfOk result (IsRankSet (list_of_ranks sides.entry.left.now sides.entry.right.now side family (map view values.now))) }
 {
-    let mut numbers = BTreeSet::new(alloc);
+    let mut ranks = BTreeSet::new(alloc);
     for value in values {
-        if let Some(number) = number_named(sides, side, family, value) {
-            numbers.insert(number)?;
+        if let Some(rank) = rank_named(sides, side, family, value) {
+            ranks.insert(rank)?;
         }
     }
-    Ok(numbers)
+    Ok(ranks)
 }

@@ -1,9 +1,18 @@
-use Rattle.std.proofs.Common.{drop}
-use Rattle.std.specs.Slice.Iter.{iter_rest}
+use Rattle.std.proofs.Common.{◌-◌, drop, length}
 use Rattle.serde_json.specs.View.{view}
+use Rattle.erd_compare.specs.code.KeyedDifferences.{role_of_part}
 use Rattle.erd_compare.proofs.least_difference.KeyWalks.{AreLeft}
+use Rattle.erd_compare.proofs.least_difference.RisingKeys.{entries}
 use Rattle.erd_compare.proofs.first.tables.least_difference.Given as goal
 
-abbrev pub invariant-loop-key : goal.invariant-loop-key
-invariant-loop-key l =
-    AreLeft l.sides.left.now.prefer l.sides.right.now.prefer (view l.sides.left.now.tree) (view l.sides.right.now.tree) l.part (drop l.key-index l.key-items) (iter_rest l.rest)
+abbrev pub invariant-loop-position : goal.invariant-loop-position
+invariant-loop-position l =
+    let π = l.sides.left.now.prefer in
+    let ρ = l.sides.right.now.prefer in
+    let t = view l.sides.left.now.tree in
+    let u = view l.sides.right.now.tree in
+    let r = role_of_part l.part in
+    AreLeft π ρ t u l.part (drop l.rank (entries π t r)) (drop l.rank (entries ρ u r))
+
+abbrev pub decreases-loop-position : goal.decreases-loop-position
+decreases-loop-position l = length l.ones - l.rank

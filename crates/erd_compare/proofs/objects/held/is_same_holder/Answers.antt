@@ -1,7 +1,6 @@
-use Rattle.erd_compare.specs.code.KeyedDifferences.{role_of_part}
-use Rattle.erd_compare.proofs.same_numbers.NamedNumbers.{holders_decide}
+use Rattle.erd_compare.proofs.same_ranks.NamedRanks.{holders_decide}
 use Rattle.erd_compare.proofs.objects.held.is_same_holder.Goals as goal
 
 pub returns : goal.returns
 returns c =
-    holders_decide c.args.sides.left.now c.args.sides.right.now (role_of_part c.args.part) c.args.index c.args.other_index c.holder_number.result c.holder_number-2.result c.eq.result c.holder_number.ensures c.holder_number-2.ensures c.eq.ensures
+    holders_decide c.args.sides.left.now c.args.sides.right.now c.args.role c.args.position c.args.other_position c.holder_rank.result c.holder_rank-2.result c.eq.result c.holder_rank.ensures c.holder_rank-2.ensures c.eq.ensures

@@ -7,7 +7,7 @@ use Rattle.erd_meaning.specs.Lookups.{selections_before}
 use Rattle.erd_meaning.proofs.selections.ContestSelections.{stand_from_start}
 use Rattle.erd_meaning.specs.Objects.{Placed}
 use Rattle.erd_compare.specs.code.CommonNames.{number_of_selection}
-use Rattle.erd_compare.specs.code.NumberedSides.{on_side}
+use Rattle.erd_compare.specs.code.RankedSides.{on_side}
 use Rattle.erd_compare.proofs.same_selections.PlacedSelections.{stands_after}
 use Rattle.erd_compare.proofs.same_selections.NameMaps.{IsFilling, all_put, named_before, named_first, none_put, unnamed}
 use Rattle.erd_compare.proofs.objects.selections.by_number.Goals as goal

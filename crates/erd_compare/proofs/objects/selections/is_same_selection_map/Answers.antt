@@ -1,8 +1,8 @@
 use Rattle.std.proofs.Common.{map, false, true≢false, sym, ◌∙◌, subst}
 use Rattle.serde_json.specs.View.{view}
 use Rattle.erd_compare.specs.code.SelectionsByName.{numbered_map}
-use Rattle.erd_compare.specs.declared.numbers.side.Side.TheVariants.{Left, Right}
-use Rattle.erd_compare.proofs.same_numbers.NumberedSelections.{maps_decide}
+use Rattle.erd_compare.specs.declared.ranks.side.Side.TheVariants.{Left, Right}
+use Rattle.erd_compare.proofs.same_ranks.NumberedSelections.{maps_decide}
 use Rattle.erd_compare.proofs.same_selections.PlacedNames.{contest_named}
 use Rattle.erd_compare.proofs.same_selections.SelectionWalks.{AreSelectionsLeft, Entry, both_maps, both_passed, decided_not, differ, ended, left_alone, own_left, own_right, whole_at}
 use Rattle.erd_compare.proofs.whole_trees.WholeTrees.{whole_trees-views}

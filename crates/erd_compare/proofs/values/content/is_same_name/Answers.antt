@@ -3,8 +3,8 @@ use Rattle.std.specs.Option.{option_eq}
 use Rattle.serde_json.specs.Find.{as_str}
 use Rattle.serde_json.specs.View.{view}
 use Rattle.erd_meaning.specs.SelectionNames.{name_named}
-use Rattle.erd_compare.specs.declared.numbers.side.Side.TheVariants.{Left, Right}
-use Rattle.erd_compare.proofs.same_numbers.NameNumbers.{names_decide, reference_named}
+use Rattle.erd_compare.specs.declared.ranks.side.Side.TheVariants.{Left, Right}
+use Rattle.erd_compare.proofs.same_ranks.NameNumbers.{names_decide, reference_named}
 use Rattle.erd_compare.proofs.same_values.EqualOptions.{decides_as}
 use Rattle.erd_compare.proofs.values.content.is_same_name.Goals as goal
 

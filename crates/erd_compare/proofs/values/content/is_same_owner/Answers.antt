@@ -1,14 +1,14 @@
 use Rattle.std.proofs.Common.{Some, ap, ◌∙◌}
 use Rattle.serde_json.specs.View.{view}
 use Rattle.erd_check.specs.Values.{text_at}
-use Rattle.erd_compare.specs.code.NumberedSides.{number_with_id}
-use Rattle.erd_compare.specs.declared.numbers.side.Side.TheVariants.{Left, Right}
-use Rattle.erd_compare.proofs.same_numbers.NamedNumbers.{values_decide}
+use Rattle.erd_compare.specs.code.RankedSides.{rank_with_id}
+use Rattle.erd_compare.specs.declared.ranks.side.Side.TheVariants.{Left, Right}
+use Rattle.erd_compare.proofs.same_ranks.NamedRanks.{values_decide}
 use Rattle.erd_compare.proofs.values.content.is_same_owner.Goals as goal
 
 pub returns : goal.returns
 returns c =
     let a = c.args.sides.left.now in
     let b = c.args.sides.right.now in
-    values_decide a b c.args.family c.requires.keyed (Some (text_at c.args.name.now (view c.args.one.now))) (Some (text_at c.args.name.now (view c.args.other.now))) c.number_with_id.result c.number_with_id-2.result c.eq.result
-    (c.number_with_id.ensures ∙ ap (number_with_id a b Left c.args.family) c.text_at.ensures) (c.number_with_id-2.ensures ∙ ap (number_with_id a b Right c.args.family) c.text_at-2.ensures) c.eq.ensures
+    values_decide a b c.args.family c.requires.keyed (Some (text_at c.args.name.now (view c.args.one.now))) (Some (text_at c.args.name.now (view c.args.other.now))) c.rank_with_id.result c.rank_with_id-2.result c.eq.result
+    (c.rank_with_id.ensures ∙ ap (rank_with_id a b Left c.args.family) c.text_at.ensures) (c.rank_with_id-2.ensures ∙ ap (rank_with_id a b Right c.args.family) c.text_at-2.ensures) c.eq.ensures

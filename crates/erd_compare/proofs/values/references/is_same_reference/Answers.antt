@@ -1,8 +1,8 @@
 use Rattle.serde_json.specs.Find.{as_str}
 use Rattle.serde_json.specs.View.{view}
-use Rattle.erd_compare.proofs.same_numbers.NamedNumbers.{values_decide}
+use Rattle.erd_compare.proofs.same_ranks.NamedRanks.{values_decide}
 use Rattle.erd_compare.proofs.values.references.is_same_reference.Goals as goal
 
 pub returns : goal.returns
 returns c =
-    values_decide c.args.sides.left.now c.args.sides.right.now c.args.family c.requires.keyed (as_str (view c.args.one.now)) (as_str (view c.args.other.now)) c.number_named.result c.number_named-2.result c.eq.result c.number_named.ensures c.number_named-2.ensures c.eq.ensures
+    values_decide c.args.sides.left.now c.args.sides.right.now c.args.family c.requires.keyed (as_str (view c.args.one.now)) (as_str (view c.args.other.now)) c.rank_named.result c.rank_named-2.result c.eq.result c.rank_named.ensures c.rank_named-2.ensures c.eq.ensures

@@ -4,7 +4,7 @@ use Rattle.erd_meaning.specs.Judged.{Judged}
 use Rattle.erd_meaning.specs.Lookups.{FindsId}
 use Rattle.erd_meaning.specs.SelectionNames.{name_named}
 use Rattle.erd_compare.specs.code.CommonNames.{number_of_name}
-use Rattle.erd_compare.specs.code.NumberedSides.{on_side}
+use Rattle.erd_compare.specs.code.RankedSides.{on_side}
 use Rattle.erd_compare.proofs.same_values.ReferencedNames.{name_elsewhere, name_here, name_nowhere}
 use Rattle.erd_compare.proofs.values.references.number_of_name_named.Goals as goal
 
@@ -23,7 +23,7 @@ returns-then-is_same_family c =
     let b = c.args.sides.right.now in
     let j = on_side c.args.side a b in
     c.name_number_at.ensures
-    ∙ (name_here a b c.args.side c.in_ok-id.id.now c.in_ok-found.found c.in_ok-found.index (subst (λ (x : Judged). FindsId (view x.tree) c.in_ok-id.id.now (Some (c.in_ok-found.found, c.in_ok-found.index))) c.report_on.ensures c.in_ok-found.ensures)
+    ∙ (name_here a b c.args.side c.in_ok-id.id.now c.in_ok-found.found c.in_ok-found.position (subst (λ (x : Judged). FindsId (view x.tree) c.in_ok-id.id.now (Some (c.in_ok-found.found, c.in_ok-found.position))) c.report_on.ensures c.in_ok-found.ensures)
     (sym c.is_same_family.ensures ∙ c.if-is_same_family.true)
     ∙ ap (λ o. option_map (number_of_name a b) (option_and_then (name_named j.prefer (view j.tree)) o)) c.in_ok-id.ensures)
 
@@ -32,6 +32,6 @@ returns-else-is_same_family c =
     let a = c.args.sides.left.now in
     let b = c.args.sides.right.now in
     let j = on_side c.args.side a b in
-    name_elsewhere a b c.args.side c.in_ok-id.id.now c.in_ok-found.found c.in_ok-found.index (subst (λ (x : Judged). FindsId (view x.tree) c.in_ok-id.id.now (Some (c.in_ok-found.found, c.in_ok-found.index))) c.report_on.ensures c.in_ok-found.ensures)
+    name_elsewhere a b c.args.side c.in_ok-id.id.now c.in_ok-found.found c.in_ok-found.position (subst (λ (x : Judged). FindsId (view x.tree) c.in_ok-id.id.now (Some (c.in_ok-found.found, c.in_ok-found.position))) c.report_on.ensures c.in_ok-found.ensures)
     (sym c.is_same_family.ensures ∙ c.if-is_same_family.false)
     ∙ ap (λ o. option_map (number_of_name a b) (option_and_then (name_named j.prefer (view j.tree)) o)) c.in_ok-id.ensures

@@ -1,7 +1,0 @@
-use Rattle.erd_compare.proofs.same_numbers.NameNumbers.{are_name_numbers}
-use Rattle.erd_compare.proofs.numbers.name_numbers.names_of_both.Goals as goal
-
-pub returns : goal.returns
-returns c =
-    are_name_numbers c.args.left.now c.args.right.now c.args.tables.now c.requires.tables _ _ _ _ c.new-names.ensures.empty
-    c.in_ok-left.ensures.names c.in_ok-right.ensures.names c.in_ok-left.ensures.numbers c.in_ok-right.ensures.numbers

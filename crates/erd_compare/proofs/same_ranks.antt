@@ -1,0 +1,9 @@
+pub mod KeyPlaces
+pub mod MergedKeys
+pub mod KeyRanks
+pub mod NamedRanks
+pub mod RankSets
+pub mod InsertedKeys
+pub mod NameNumbers
+pub mod NamesOnSides
+pub mod NumberedSelections

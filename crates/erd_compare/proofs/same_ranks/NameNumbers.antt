@@ -1,0 +1,152 @@
+-- The numbers of the names of selections: names of two reports are equal if and only if their numbers are.
+use Rattle.std.proofs.Common.{◌≡◌, ◌==◌, ℕ, List, [], ◌∷◌, map, true, true≢false, Option, Some, None, option_and_then, option_map, refl, sym, ap, ap₂, ◌∙◌, subst}
+use Rattle.std.proofs.lemmas.Bool.Decides.{Decides-eqb}
+use Rattle.std.proofs.lemmas.Option.{option_and_then_some}
+use Rattle.std.specs.List.{cons_option, filter_map, list_any, position_or_len}
+use Rattle.std.specs.Option.{option_eq}
+use Rattle.serde_json.specs.Data.{Data}
+use Rattle.serde_json.specs.View.{view}
+use Rattle.indexmap.specs.IndexSet.{insert_all}
+use Rattle.erd_check.proofs.Order.{In}
+use Rattle.erd_tables.specs.declared.class.Family.TheVariants as family
+use Rattle.erd_meaning.proofs.accepted.References.{find-Some, option_map-Some}
+use Rattle.erd_meaning.proofs.finding.OneObject.{in_at}
+use Rattle.erd_meaning.proofs.finding.OwnedObjects.{position_of}
+use Rattle.erd_meaning.proofs.selections.KeysInNames.{known_name}
+use Rattle.erd_meaning.specs.Judged.{Judged}
+use Rattle.erd_meaning.specs.Keys.{Preference}
+use Rattle.erd_meaning.specs.NameParts.{NameParts}
+use Rattle.erd_meaning.specs.Objects.{Placed, has_id, objects, owner, owner_at}
+use Rattle.erd_meaning.specs.SelectionNames.{name_named, name_of}
+use Rattle.erd_meaning.specs.NumberedNames.{NumberedParts, numbered_name_cmp}
+use Rattle.erd_meaning.specs.code.NumberedOrders.{numbered_name_cmp_exact, numbered_name_cmp_total}
+use Rattle.erd_meaning.specs.code.RanksAmong.{HasKeysIn}
+use Rattle.erd_compare.specs.code.CommonNames.{AreNameNumbers, name_eq, name_told, names_of_both, names_on, number_of_name, number_of_selection, name_by_ranks, name_by_ranks_of, numbers_on}
+use Rattle.erd_compare.specs.code.Comparing.{Decides}
+use Rattle.erd_compare.specs.code.RankedSides.{AreCommonByRank, on_side}
+use Rattle.erd_compare.specs.declared.ranks.common_ranks.CommonRanks.{CommonRanks}
+use Rattle.erd_compare.specs.declared.ranks.name_numbers.NameNumbers.{NameNumbers}
+use Rattle.erd_compare.specs.declared.ranks.side.Side.{Side}
+use Rattle.erd_compare.specs.declared.ranks.side.Side.TheVariants.{Left, Right}
+use Rattle.erd_compare.proofs.same_ranks.InsertedKeys.{added_any, in_told, one_position, positions_stay, stands_all}
+use Rattle.erd_compare.proofs.same_ranks.NamesOnSides.{from_ranks, name_is_told}
+
+module _ (a b : Judged) where
+  abbrev prefer_on : Side → Preference
+  prefer_on side = (on_side side a b).prefer
+
+  abbrev tree_on : Side → Data
+  tree_on side = view (on_side side a b).tree
+
+  abbrev selections_on : Side → List Placed
+  selections_on side = objects family.Selection (tree_on side)
+
+  -- ---- the numbers that are made
+
+  same_map : {A B : Type 0} (f g : A → B) (xs : List A) → ((x : A) → f x ≡ g x) → map f xs ≡ map g xs
+  same_map f g [] h = refl
+  same_map f g (x ∷ xs) h = ap₂ ◌∷◌ (h x) (same_map f g xs h)
+
+  same_filter_map : {A B : Type 0} (f g : A → Option B) (xs : List A) → ((x : A) → f x ≡ g x) → filter_map f xs ≡ filter_map g xs
+  same_filter_map f g [] h = refl
+  same_filter_map f g (x ∷ xs) h = ap₂ cons_option (h x) (same_filter_map f g xs h)
+
+  -- the position of a name
+  abbrev place : List NumberedParts → Option NumberedParts → Option ℕ
+  place ks o = option_map (λ q. position_or_len (name_eq q) ks) o
+
+  by_names : (side : Side) (d : Data) → place (names_of_both a b) (name_by_ranks_of a b side d) ≡ number_of_selection a b side d
+  by_names side d = at (name_of (prefer_on side) (tree_on side) d)
+    where
+      at : (o : Option NameParts) → place (names_of_both a b) (option_map (name_by_ranks a b) o) ≡ option_map (number_of_name a b) o
+      at None = refl
+      at (Some n) = refl
+
+  module _ (common : CommonRanks) (are : AreCommonByRank a b common) where
+    abbrev told : Side → Placed → Option NumberedParts
+    told side o = name_told common side (on_side side a b) o.value
+
+    is_told : (side : Side) (o : Placed) → told side o ≡ name_by_ranks_of a b side o.value
+    is_told side o = name_is_told a b common are side o.value
+
+    names_told : (side : Side) → filter_map (told side) (selections_on side) ≡ names_on a b side
+    names_told side = same_filter_map (told side) (λ o. name_by_ranks_of a b side o.value) (selections_on side) (is_told side)
+
+    numbers_told : (side : Side) (ks : List NumberedParts) → ks ≡ names_of_both a b → map (λ o. place ks (told side o)) (selections_on side) ≡ map (λ o. number_of_selection a b side o.value) (selections_on side)
+    numbers_told side ks both =
+        same_map (λ o. place ks (told side o)) (λ o. number_of_selection a b side o.value) (selections_on side)
+        (λ o. ap (place ks) (is_told side o) ∙ (ap (λ ls. place ls (name_by_ranks_of a b side o.value)) both ∙ by_names side o.value))
+
+    pub are_name_numbers : (js ks ls : List NumberedParts) (n : NameNumbers) → js ≡ [] → ks ≡ insert_all name_eq js (filter_map (told Left) (selections_on Left)) → ls ≡ insert_all name_eq ks (filter_map (told Right) (selections_on Right))
+        → n.left.items ≡ map (λ o. place ks (told Left o)) (selections_on Left) → n.right.items ≡ map (λ o. place ls (told Right o)) (selections_on Right) → AreNameNumbers a b n
+    are_name_numbers js ks ls n none begun both mine its side = at side
+      where
+        first : ks ≡ insert_all name_eq [] (filter_map (told Left) (selections_on Left))
+        first = begun ∙ ap (λ xs. insert_all name_eq xs (filter_map (told Left) (selections_on Left))) none
+
+        left : ks ≡ insert_all name_eq [] (names_on a b Left)
+        left = first ∙ ap (insert_all name_eq []) (names_told Left)
+
+        all : ls ≡ names_of_both a b
+        all = both ∙ ap₂ (insert_all name_eq) left (names_told Right)
+
+        stays : map (λ o. place ks (told Left o)) (selections_on Left) ≡ map (λ o. place ls (told Left o)) (selections_on Left)
+        stays =
+            positions_stay numbered_name_cmp numbered_name_cmp_total numbered_name_cmp_exact (told Left) (selections_on Left) ks (filter_map (told Right) (selections_on Right))
+            (λ o q inside is. subst (λ xs. list_any (name_eq q) xs ≡ true) (sym first)
+            (added_any numbered_name_cmp numbered_name_cmp_total numbered_name_cmp_exact q (filter_map (told Left) (selections_on Left)) []
+            (in_told numbered_name_cmp numbered_name_cmp_total numbered_name_cmp_exact (told Left) o q (selections_on Left) inside is)))
+            ∙ ap (λ xs. map (λ o. place xs (told Left o)) (selections_on Left)) (sym both)
+
+        at : (side : Side) → numbers_on side n ≡ map (λ o. number_of_selection a b side o.value) (selections_on side)
+        at Left = mine ∙ (stays ∙ numbers_told Left ls all)
+        at Right = its ∙ numbers_told Right ls all
+
+  -- ---- names that have numbers
+
+  -- the name is that of a selection of the report
+  pub record IsNameOn (side : Side) (n : NameParts) : Type 0 where
+    pub known : HasKeysIn (prefer_on side) (tree_on side) n
+    pub listed : list_any (name_eq (name_by_ranks a b n)) (names_of_both a b) ≡ true
+
+  listed_on : (side : Side) (q : NumberedParts) → In q (names_on a b side) → list_any (name_eq q) (names_of_both a b) ≡ true
+  listed_on Left q h =
+      let left = insert_all name_eq [] (names_on a b Left) in
+      (stands_all numbered_name_cmp numbered_name_cmp_total numbered_name_cmp_exact q (names_on a b Right) left (position_or_len (name_eq q) left)
+      (record { any = added_any numbered_name_cmp numbered_name_cmp_total numbered_name_cmp_exact q (names_on a b Left) [] h; place = refl })).any
+  listed_on Right q h = added_any numbered_name_cmp numbered_name_cmp_total numbered_name_cmp_exact q (names_on a b Right) (insert_all name_eq [] (names_on a b Left)) h
+
+  pub selection_named : (side : Side) (o : Placed) (n : NameParts) → In o (selections_on side) → name_of (prefer_on side) (tree_on side) o.value ≡ Some n → IsNameOn side n
+  selection_named side o n inside is = record {
+    known = known_name (prefer_on side) (tree_on side) o.value n is;
+    listed = listed_on side (name_by_ranks a b n)
+        (in_told numbered_name_cmp numbered_name_cmp_total numbered_name_cmp_exact (λ (x : Placed). name_by_ranks_of a b side x.value) o (name_by_ranks a b n) (selections_on side) inside (ap (option_map (name_by_ranks a b)) is));
+  }
+
+  -- so is one that a reference names
+  pub reference_named : (side : Side) (text : Option (List ℕ)) (n : NameParts) → option_and_then (name_named (prefer_on side) (tree_on side)) text ≡ Some n → IsNameOn side n
+  reference_named side text n h =
+      let t = tree_on side in
+      option_and_then_some (name_named (prefer_on side) t) text n h (λ id is there. option_and_then_some (name_of (prefer_on side) t) (owner t family.Selection id) n there (λ d at named.
+      let o = option_map-Some (λ (x : Placed). x.value) (owner_at t family.Selection id) d at in
+      let found = position_of (selections_on side) o.0 (find-Some (λ (x : Placed). has_id id x.value) (selections_on side) o.0 o.1).0 in
+      selection_named side o.0 n (in_at (selections_on side) found.0 o.0 found.1) (ap (name_of (prefer_on side) t) o.2 ∙ named)))
+
+  pub one_name : (s r : Side) (m n : NameParts) → IsNameOn s m → IsNameOn r n → number_of_name a b m ≡ number_of_name a b n → m ≡ n
+  one_name s r m n mine its same =
+      from_ranks a b s r m n mine.known its.known
+      (one_position numbered_name_cmp numbered_name_cmp_total numbered_name_cmp_exact (name_by_ranks a b m) (name_by_ranks a b n) (names_of_both a b) mine.listed its.listed same)
+
+  -- ---- comparing them
+
+  -- names are equal if and only if their numbers are
+  pub names_decide : (o q : Option NameParts) → ((n : NameParts) → o ≡ Some n → IsNameOn Left n) → ((n : NameParts) → q ≡ Some n → IsNameOn Right n)
+      → Decides (option_eq ◌==◌ (option_map (number_of_name a b) o) (option_map (number_of_name a b) q)) o q
+  names_decide None None mine its = (λ h. refl, λ e. refl)
+  names_decide None (Some n) mine its = (λ h. absurd (true≢false (sym h)), λ e. cc)
+  names_decide (Some m) None mine its = (λ h. absurd (true≢false (sym h)), λ e. cc)
+  names_decide (Some m) (Some n) mine its =
+      let one = Decides-eqb (number_of_name a b m) (number_of_name a b n) in (
+        λ h. ap Some (one_name Left Right m n (mine m refl) (its n refl) (one.0 h)),
+        λ e. let same : m ≡ n = cc in one.1 (ap (number_of_name a b) same),
+      )
