@@ -13,6 +13,7 @@ pub use keys::salted_set::SaltedSet;
 pub use names::numbered_name::NumberedName;
 pub use names::ranked_name::RankedName;
 pub use names::selection_name::SelectionName;
+pub use objects::order::places_in;
 pub use objects::per_family::PerFamily;
 pub use report::Report;
 pub use report::resolving::{resolve, resolve_with};

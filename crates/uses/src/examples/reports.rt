@@ -3,7 +3,8 @@ use crate::report_of;
 use erd_check::{same_json, shape};
 use erd_compare::first_difference;
 use erd_meaning::{
-    Key, NumberedName, PerFamily, Report, SaltedSet, SelectionName, key_of, resolve, resolve_with,
+    Key, NumberedName, PerFamily, Report, SaltedSet, SelectionName, key_of, places_in, resolve,
+    resolve_with,
 };
 use erd_normal::{CompactText, SetOrder, in_order, normal_text, normal_tree};
 use erd_tables::{Family, Text};
@@ -60,6 +61,7 @@ fn counts(rt: &impl Abort, report: &Report) -> Result<(), Fail> {
 
 // What the report finds by keys.
 fn keys(rt: &impl Abort, alloc: Global, report: &Report) -> Result<(), Fail> {
+    assert_eq!(rt; places_in(alloc, &[2, 0, 1])?.as_slice(), &[1, 2, 0]);
     let county = key(alloc, "fips", "20")?;
     assert_eq!(rt; report.key_at(Family::Unit, 0), Some(&county));
     assert_eq!(rt; report.find(Family::Unit, &county), Some(0));
