@@ -14,9 +14,8 @@ ghost use Rattle.erd_compare.specs.code.RankedSides.{AreCommonByRank};
 use crate::ranks::common_ranks::CommonRanks;
 use crate::ranks::lookups::common_rank_of;
 use crate::ranks::side::Side;
-use erd_meaning::{NumberedName, RankedName, Report};
+use erd_meaning::{NumberedName, RankedName, Report, SaltedSet};
 use erd_tables::{Family, Role};
-use indexmap::IndexSet;
 use std::alloc::{AllocError, Global};
 
 /// The numbers of the names of the selections of both reports. Two selections have the same number if and only if they have
@@ -29,7 +28,8 @@ pub(crate) struct NameNumbers {
     pub(crate) right: Vec<Option<usize>>,
 }
 
-/// Returns the numbers of the names of the selections of two reports.
+/// Returns the numbers of the names of the selections of two reports. The set of the names hashes them under the salts of
+/// both.
 pub(crate) fn names_of_both<'a>(
     alloc: Global,
     left: &'a Report,
@@ -39,7 +39,8 @@ pub(crate) fn names_of_both<'a>(
     requires common { AreCommonByRank left.now right.now common.now }
     ensures { IfOk result (AreNameNumbers left.now right.now) }
 {
-    let mut names = IndexSet::new(alloc);
+    let salt = left.salt().joined(&right.salt());
+    let mut names = SaltedSet::new(alloc, salt);
     let left = numbers_of_names(alloc, left, common, Side::Left, &mut names)?;
     let right = numbers_of_names(alloc, right, common, Side::Right, &mut names)?;
     Ok(NameNumbers { left, right })
@@ -52,12 +53,12 @@ fn numbers_of_names<'a>(
     report: &'a Report,
     common: &CommonRanks,
     side: Side,
-    names: &mut IndexSet<NumberedName<'a>>,
+    names: &mut SaltedSet<NumberedName<'a>>,
 ) -> Result<Vec<Option<usize>>, AllocError>
-    ensures names { IfOk result (λ _. names.new.keys
-        ≡ insert_all name_eq names.old.keys (filter_map (λ o. name_told common.now side report.now o.value) (objects family.Selection (view report.now.tree)))) }
+    ensures names { IfOk result (λ _. names.new
+        ≡ insert_all name_eq names.old (filter_map (λ o. name_told common.now side report.now o.value) (objects family.Selection (view report.now.tree)))) }
     ensures numbers { IfOk result (λ numbers. numbers.items
-        ≡ map (λ o. option_map (λ name. position_or_len (name_eq name) names.new.keys) (name_told common.now side report.now o.value)) (objects family.Selection (view report.now.tree))) }
+        ≡ map (λ o. option_map (λ name. position_or_len (name_eq name) names.new) (name_told common.now side report.now o.value)) (objects family.Selection (view report.now.tree))) }
 {
     let count = report.count(Family::Selection);
     let mut numbers = Vec::with_capacity(alloc, count)?;
