@@ -4,3 +4,5 @@ pub mod CheckTexts
 pub mod Comparisons
 pub mod Agreement
 pub mod PartTexts
+pub mod Moving
+pub mod Decimals

@@ -12,9 +12,8 @@ use crate::bytes::disposal::{Disposal, Free};
 use crate::bytes::refusal::Refusal;
 use crate::devices::sink::Sink;
 use crate::devices::source::{Source, read_all};
-use crate::engines::lines::fault_lines;
 use crate::engines::outcome::{Outcome, RunFault};
-use crate::engines::write_and_flush::write_both;
+use crate::engines::write_and_flush::{write_both, write_faults_to_err};
 use std::alloc::Global;
 
 /// Reads a report, checks it, and writes its canonical bytes, as `run_canon_with` does with no preference.
@@ -256,10 +255,7 @@ fn write_answer<O: Sink, E: Sink, D: Disposal>(
 {
     match canonical_of_input(alloc, bytes, prefer, disposal) {
         Ok(text) => write_both(out, err, Outcome::Good, text.as_slice(), &[]),
-        Err(Refusal::Faults(faults)) => {
-            let lines = fault_lines(alloc, &faults)?;
-            write_both(out, err, Outcome::Bad, &[], lines.as_slice())
-        }
+        Err(Refusal::Faults(faults)) => write_faults_to_err(alloc, out, err, &faults),
         Err(Refusal::NotJson) => write_both(out, err, Outcome::NotJson, &[], b"not JSON\n"),
         Err(Refusal::Memory) => Err(RunFault::Memory),
     }

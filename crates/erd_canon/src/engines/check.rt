@@ -9,9 +9,8 @@ use crate::bytes::disposal::{Disposal, Free};
 use crate::bytes::refusal::Refusal;
 use crate::devices::sink::Sink;
 use crate::devices::source::{Source, read_all};
-use crate::engines::lines::fault_lines;
 use crate::engines::outcome::{Outcome, RunFault};
-use crate::engines::write_and_flush::write_one;
+use crate::engines::write_and_flush::{write_faults, write_one};
 use std::alloc::Global;
 
 /// Reads a report, checks it, and writes whether it is accepted, as `run_check_with` does with no preference.
@@ -176,10 +175,7 @@ fn write_checked<O: Sink, D: Disposal>(
 {
     match check_input(alloc, bytes, prefer, disposal) {
         Ok(()) => write_one(out, Outcome::Good, b"accepted\n"),
-        Err(Refusal::Faults(faults)) => {
-            let lines = fault_lines(alloc, &faults)?;
-            write_one(out, Outcome::Bad, lines.as_slice())
-        }
+        Err(Refusal::Faults(faults)) => write_faults(alloc, out, &faults),
         Err(Refusal::NotJson) => write_one(out, Outcome::NotJson, b"not JSON\n"),
         Err(Refusal::Memory) => Err(RunFault::Memory),
     }

@@ -13,9 +13,9 @@ use crate::bytes::disposal::{Disposal, Free};
 use crate::bytes::refusal::{Refusal, Side};
 use crate::devices::sink::Sink;
 use crate::devices::source::{Source, read_all};
-use crate::engines::lines::{fault_lines_of_side, line_of_side};
+use crate::engines::lines::line_of_side;
 use crate::engines::outcome::{Outcome, RunFault};
-use crate::engines::write_and_flush::write_one;
+use crate::engines::write_and_flush::{write_one, write_side_faults};
 use erd_compare::Difference;
 use std::alloc::{AllocError, Global};
 
@@ -237,12 +237,14 @@ fn write_refusal<O: Sink>(
     ensures write { result ≡ Err RunFault.Write → O.has_failed out.new ≡ true }
     ensures faults { IfErr result (λ fault. (fault ≡ RunFault.Memory) ⊎ (fault ≡ RunFault.Write)) }
 {
-    let (outcome, text) = match refusal {
-        Refusal::Faults(faults) => (Outcome::Bad, fault_lines_of_side(alloc, side, faults)?),
-        Refusal::NotJson => (Outcome::NotJson, line_of_side(alloc, side, b"not JSON")?),
-        Refusal::Memory => return Err(RunFault::Memory),
-    };
-    write_one(out, outcome, text.as_slice())
+    match refusal {
+        Refusal::Faults(faults) => write_side_faults(alloc, out, side, faults),
+        Refusal::NotJson => {
+            let text = line_of_side(alloc, side, b"not JSON")?;
+            write_one(out, Outcome::NotJson, text.as_slice())
+        }
+        Refusal::Memory => Err(RunFault::Memory),
+    }
 }
 
 // The line of a difference, ended by one line feed.

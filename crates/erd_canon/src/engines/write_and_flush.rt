@@ -1,9 +1,14 @@
-ghost use Rattle.std.specs.Prelude.{◌≡◌, ◌⊎◌, ◌<◌, length, false, true, IfErr, IfOk, OnOk, OnErr};
+ghost use Rattle.std.specs.Prelude.{◌≡◌, ◌⊎◌, ◌<◌, [], map, length, false, true, IfErr, IfOk, OnOk, OnErr};
+ghost use Rattle.erd_tables.specs.Faults.{fault_line};
+ghost use Rattle.erd_canon.specs.EngineTexts.{lines_of_side, text_of_lines};
 ghost use Rattle.std.specs.Io.KnownBytes.{Appends};
 ghost use Rattle.erd_canon.specs.Writing.{IsPartWritten};
 
 use crate::devices::sink::{Sink, write_out};
+use crate::engines::lines::{write_fault_lines, write_lines};
 use crate::engines::outcome::{Outcome, RunFault};
+use erd_tables::FaultList;
+use std::alloc::Global;
 
 /// Writes the text, then flushes, and returns the outcome.
 pub(crate) fn write_one<O: Sink>(
@@ -23,6 +28,74 @@ pub(crate) fn write_one<O: Sink>(
     write_out(out, text).map_err(|_| RunFault::Write)?;
     out.flush().map_err(|_| RunFault::Write)?;
     Ok(outcome)
+}
+
+/// Writes the lines for the faults of one of two reports, then flushes, and returns the outcome.
+pub(crate) fn write_side_faults<O: Sink>(
+    alloc: Global,
+    out: &mut O,
+    side: &[u8],
+    faults: &FaultList,
+) -> Result<Outcome, RunFault>
+    requires { O.has_failed out.old ≡ false }
+    ensures outcome { IfOk result (λ answer. answer ≡ Outcome.Bad) }
+    ensures fault { IfErr result (λ fault. fault ≡ RunFault.Write) }
+    ensures wrote { OnOk result (Appends (O.contents out.old) (O.contents out.new) (text_of_lines (lines_of_side side.now (map fault_line faults.now)))) }
+    ensures flushed { OnOk result (O.is_flushed out.new ≡ true) }
+    ensures works { OnOk result (O.has_failed out.new ≡ false) }
+    ensures failed { OnErr result (O.has_failed out.new ≡ true) }
+{
+    write_lines(alloc, out, side, faults).map_err(|_| RunFault::Write)?;
+    out.flush().map_err(|_| RunFault::Write)?;
+    Ok(Outcome::Bad)
+}
+
+/// Writes the lines for the faults, then flushes, and returns the outcome.
+pub(crate) fn write_faults<O: Sink>(
+    alloc: Global,
+    out: &mut O,
+    faults: &FaultList,
+) -> Result<Outcome, RunFault>
+    requires { O.has_failed out.old ≡ false }
+    ensures outcome { IfOk result (λ answer. answer ≡ Outcome.Bad) }
+    ensures fault { IfErr result (λ fault. fault ≡ RunFault.Write) }
+    ensures wrote { OnOk result (Appends (O.contents out.old) (O.contents out.new) (text_of_lines (map fault_line faults.now))) }
+    ensures flushed { OnOk result (O.is_flushed out.new ≡ true) }
+    ensures works { OnOk result (O.has_failed out.new ≡ false) }
+    ensures failed { OnErr result (O.has_failed out.new ≡ true) }
+{
+    write_fault_lines(alloc, out, faults).map_err(|_| RunFault::Write)?;
+    out.flush().map_err(|_| RunFault::Write)?;
+    Ok(Outcome::Bad)
+}
+
+/// Writes the lines for the faults to `err`, then flushes both, and returns the outcome.
+pub(crate) fn write_faults_to_err<O: Sink, E: Sink>(
+    alloc: Global,
+    out: &mut O,
+    err: &mut E,
+    faults: &FaultList,
+) -> Result<Outcome, RunFault>
+    requires out_works { O.has_failed out.old ≡ false }
+    requires err_works { E.has_failed err.old ≡ false }
+    ensures outcome { IfOk result (λ answer. answer ≡ Outcome.Bad) }
+    ensures fault { IfErr result (λ fault. fault ≡ RunFault.Write) }
+    ensures wrote_out { OnOk result (Appends (O.contents out.old) (O.contents out.new) []) }
+    ensures wrote_err { OnOk result (Appends (E.contents err.old) (E.contents err.new) (text_of_lines (map fault_line faults.now))) }
+    ensures part_out { IsPartWritten (O.contents out.old) (O.contents out.new) [] }
+    ensures part_err { IsPartWritten (E.contents err.old) (E.contents err.new) (text_of_lines (map fault_line faults.now)) }
+    ensures flushed { OnOk result ((O.is_flushed out.new ≡ true) × (E.is_flushed err.new ≡ true)) }
+    ensures works { OnOk result ((O.has_failed out.new ≡ false) × (E.has_failed err.new ≡ false)) }
+    ensures failed { OnErr result ((O.has_failed out.new ≡ true) ⊎ (E.has_failed err.new ≡ true)) }
+    ensures out_first { O.has_failed out.new ≡ true → O.flushes out.new ≡ O.flushes out.old → err.new ≡ err.old }
+    ensures writes_first { E.has_failed err.new ≡ true → E.flushes err.new ≡ E.flushes err.old
+        → O.flushes out.new ≡ O.flushes out.old }
+    ensures flush_order { (E.flushes err.new ≡ E.flushes err.old) ⊎ (O.is_flushed out.new ≡ true) }
+{
+    write_fault_lines(alloc, err, faults).map_err(|_| RunFault::Write)?;
+    out.flush().map_err(|_| RunFault::Write)?;
+    err.flush().map_err(|_| RunFault::Write)?;
+    Ok(Outcome::Bad)
 }
 
 /// Writes to both, then flushes both, and returns the outcome.

@@ -2,21 +2,21 @@ use Rattle.std.proofs.Common.{subst, sym, ◌∙◌, [], ◌∷◌, map, codes, 
 use Rattle.std.specs.Option.{option_copied}
 use Rattle.erd_tables.specs.Faults.{fault_line}
 use Rattle.erd_canon.specs.Bytes.{IsCanonicalBytes}
+use Rattle.erd_canon.specs.EngineTexts.{text_of_lines}
 use Rattle.erd_canon.specs.Refused.{RefusedAs}
-use Rattle.erd_canon.specs.declared.engines.outcome.RunFault.TheVariants.{Memory}
 use Rattle.erd_canon.proofs.runs.CheckTexts.{faults_written}
-use Rattle.erd_canon.proofs.runs.PartTexts.{not_of_fault, part_of_faults, part_of_form, part_of_not_json}
+use Rattle.erd_canon.proofs.runs.PartTexts.{part_of_faults, part_of_form, part_of_not_json}
 use Rattle.erd_canon.proofs.engines.canon.write_answer.Goals as goal
 
-pub returns-in_ok-lines-in-Err-Faults-clause-written : goal.returns-in_ok-lines-in-Err-Faults-clause-written
-returns-in_ok-lines-in-Err-Faults-clause-written g c =
+pub returns-in-Err-Faults-clause-written : goal.returns-in-Err-Faults-clause-written
+returns-in-Err-Faults-clause-written g c =
     let refused = subst (RefusedAs (option_copied c.args.prefer) c.args.bytes.items) c.in-Err-Faults.field-0-is c.in-Err-Faults.ensures.refused in
-    faults_written (option_copied c.args.prefer) c.args.bytes.items c.as_slice-in-Err-Faults.result.now c.in-Err-Faults.faults c.write_both-in-Err-Faults.result _ _ _ _
-    refused.0 (c.as_slice-in-Err-Faults.ensures.value ∙ c.in_ok-lines-in-Err-Faults.ensures)
-    c.write_both-in-Err-Faults.ensures.outcome c.write_both-in-Err-Faults.ensures.wrote_out c.write_both-in-Err-Faults.ensures.wrote_err
+    faults_written (option_copied c.args.prefer) c.args.bytes.items (text_of_lines (map fault_line c.in-Err-Faults.faults)) c.in-Err-Faults.faults c.write_faults_to_err.result _ _ _ _
+    refused.0 refl
+    c.write_faults_to_err.ensures.outcome c.write_faults_to_err.ensures.wrote_out c.write_faults_to_err.ensures.wrote_err
 
-pub returns-in_ok-lines-in-Err-Faults-clause-err_needed : goal.returns-in_ok-lines-in-Err-Faults-clause-err_needed
-returns-in_ok-lines-in-Err-Faults-clause-err_needed g c = λ _ _.
+pub returns-in-Err-Faults-clause-err_needed : goal.returns-in-Err-Faults-clause-err_needed
+returns-in-Err-Faults-clause-err_needed g c = λ _ _.
     let refused = subst (RefusedAs (option_copied c.args.prefer) c.args.bytes.items) c.in-Err-Faults.field-0-is c.in-Err-Faults.ensures.refused in
     (map fault_line c.in-Err-Faults.faults, inr (c.in-Err-Faults.faults, refused.0, refl))
 
@@ -31,21 +31,18 @@ returns-in-Ok-clause-broken g c = λ _.
     (subst (λ text. IsCanonicalBytes (option_copied c.args.prefer) c.args.bytes.items text) (sym c.as_slice.ensures.value) c.in-Ok.ensures.headline.form)
     c.write_both.ensures.part_out c.write_both.ensures.part_err
 
-pub returns-in_ok-lines-in-Err-Faults-clause-broken : goal.returns-in_ok-lines-in-Err-Faults-clause-broken
-returns-in_ok-lines-in-Err-Faults-clause-broken g c = λ _.
+pub returns-in-Err-Faults-clause-broken : goal.returns-in-Err-Faults-clause-broken
+returns-in-Err-Faults-clause-broken g c = λ _.
     let refused = subst (RefusedAs (option_copied c.args.prefer) c.args.bytes.items) c.in-Err-Faults.field-0-is c.in-Err-Faults.ensures.refused in
-    part_of_faults (option_copied c.args.prefer) c.args.bytes.items c.as_slice-in-Err-Faults.result.now c.in-Err-Faults.faults _ _ _ _
-    refused.0 (c.as_slice-in-Err-Faults.ensures.value ∙ c.in_ok-lines-in-Err-Faults.ensures)
-    c.write_both-in-Err-Faults.ensures.part_out c.write_both-in-Err-Faults.ensures.part_err
+    part_of_faults (option_copied c.args.prefer) c.args.bytes.items (text_of_lines (map fault_line c.in-Err-Faults.faults)) c.in-Err-Faults.faults _ _ _ _
+    refused.0 refl
+    c.write_faults_to_err.ensures.part_out c.write_faults_to_err.ensures.part_err
 
 pub returns-in-Err-NotJson-clause-broken : goal.returns-in-Err-NotJson-clause-broken
 returns-in-Err-NotJson-clause-broken g c = λ _.
     let refused = subst (RefusedAs (option_copied c.args.prefer) c.args.bytes.items) c.in-Err-NotJson.field-0-is c.in-Err-NotJson.ensures.refused in
     part_of_not_json (option_copied c.args.prefer) c.args.bytes.items _ _ _ _ _ (refused, refl)
     c.write_both-in-Err-NotJson.ensures.part_out c.write_both-in-Err-NotJson.ensures.part_err
-
-pub returns-in_err-lines-in-Err-Faults-clause-broken : goal.returns-in_err-lines-in-Err-Faults-clause-broken
-returns-in_err-lines-in-Err-Faults-clause-broken g c = λ e. absurd (not_of_fault c.from_residual.result Memory c.from_residual.ensures.1 (λ m. cc) e)
 
 pub returns-in-Err-Memory-clause-broken : goal.returns-in-Err-Memory-clause-broken
 returns-in-Err-Memory-clause-broken g c = λ e. absurd (cc)

@@ -1,0 +1,13 @@
+use Rattle.std.proofs.Common.{◌≡◌, ◌++◌, false, map}
+use Rattle.std.specs.Slice.Iter.{iter_rest}
+use Rattle.erd_tables.specs.Faults.{fault_line}
+use Rattle.erd_canon.specs.EngineTexts.{lines_of_side, text_of_lines}
+use Rattle.erd_canon.specs.code.Pending.{IsMoved}
+use Rattle.erd_canon.proofs.engines.lines.write_each.Given as goal
+
+abbrev pub invariant-loop-fault : goal.invariant-loop-fault
+invariant-loop-fault g l = record {
+  works : g.O.Sink.has_failed l.out ≡ false;
+  counted : g.O.Sink.flushes l.out ≡ g.O.Sink.flushes l.fn.out;
+  moved : IsMoved (g.O.Sink.contents l.fn.out) (g.O.Sink.contents l.out) (l.fn.buffer.items ++ text_of_lines (lines_of_side l.side (map fault_line l.faults))) (l.buffer.items ++ text_of_lines (lines_of_side l.side (map fault_line (iter_rest l.fault-iterator))));
+}

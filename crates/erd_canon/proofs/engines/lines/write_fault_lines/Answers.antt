@@ -1,0 +1,18 @@
+use Rattle.std.proofs.Common.{map, subst}
+use Rattle.std.specs.Io.KnownBytes.{Appends}
+use Rattle.std.specs.Result.{OnOk}
+use Rattle.erd_tables.specs.Faults.{fault_line}
+use Rattle.erd_canon.specs.EngineTexts.{text_of_lines}
+use Rattle.erd_canon.specs.Writing.{IsPartWritten}
+use Rattle.erd_canon.proofs.runs.FaultText.{no_side}
+use Rattle.erd_canon.proofs.engines.lines.write_fault_lines.Goals as goal
+
+pub returns-clause-written : goal.returns-clause-written
+returns-clause-written g c =
+    subst (λ lines. OnOk c.write_lines.result (Appends (g.O.Sink.contents c.args.out.now) (g.O.Sink.contents c.write_lines.new.out) (text_of_lines lines)))
+    (no_side (map fault_line c.args.faults.now)) c.write_lines.ensures.written
+
+pub returns-clause-part : goal.returns-clause-part
+returns-clause-part g c =
+    subst (λ lines. IsPartWritten (g.O.Sink.contents c.args.out.now) (g.O.Sink.contents c.write_lines.new.out) (text_of_lines lines))
+    (no_side (map fault_line c.args.faults.now)) c.write_lines.ensures.part

@@ -1,0 +1,18 @@
+use Rattle.std.proofs.Common.{◌≡◌, ◌++◌, [], map, rules, subst}
+use Rattle.erd_tables.specs.Faults.{fault_line}
+use Rattle.erd_canon.specs.EngineTexts.{lines_of_side, text_of_lines}
+use Rattle.erd_canon.specs.code.Pending.{IsMoved}
+use Rattle.erd_canon.proofs.runs.Moving.{IsPartWritten-moved, part_of_last}
+use Rattle.erd_canon.proofs.engines.lines.write_lines.Goals as goal
+
+pub returns-in_err-write_each-clause-part : goal.returns-in_err-write_each-clause-part
+returns-in_err-write_each-clause-part g c =
+    let front = c.in_err-write_each.ensures.part in
+    let none : c.new-buffer.result.items ≡ [] = search rules in
+    IsPartWritten-moved (g.O.Sink.contents c.args.out.now) (g.O.Sink.contents c.write_each.new.out) (text_of_lines (lines_of_side c.args.side.now (map fault_line c.args.faults.now))) front.0 (subst (λ l. IsMoved (g.O.Sink.contents c.args.out.now) (g.O.Sink.contents c.write_each.new.out) (l ++ (text_of_lines (lines_of_side c.args.side.now (map fault_line c.args.faults.now)))) front.0) none front.1)
+
+pub returns-clause-part : goal.returns-clause-part
+returns-clause-part g c =
+    let none : c.new-buffer.result.items ≡ [] = search rules in
+    part_of_last c.write_buffer.result (g.O.Sink.contents c.args.out.now) (g.O.Sink.contents c.write_each.new.out) (g.O.Sink.contents c.write_buffer.new.out) (text_of_lines (lines_of_side c.args.side.now (map fault_line c.args.faults.now))) c.write_each.new.buffer.items c.write_buffer.new.buffer.items
+    (subst (λ l. IsMoved (g.O.Sink.contents c.args.out.now) (g.O.Sink.contents c.write_each.new.out) (l ++ (text_of_lines (lines_of_side c.args.side.now (map fault_line c.args.faults.now)))) c.write_each.new.buffer.items) none c.in_ok-write_each.ensures.moved) c.write_buffer.ensures.moved c.write_buffer.ensures.part

@@ -1,0 +1,11 @@
+use Rattle.std.proofs.Common.{◌≡◌, ◌++◌, false, drop}
+use Rattle.erd_tables.specs.Places.{escaped_name}
+use Rattle.erd_canon.specs.code.Pending.{IsMoved}
+use Rattle.erd_canon.proofs.engines.lines.write_name.Given as goal
+
+abbrev pub invariant-loop-byte : goal.invariant-loop-byte
+invariant-loop-byte g l = record {
+  works : g.O.Sink.has_failed l.out ≡ false;
+  counted : g.O.Sink.flushes l.out ≡ g.O.Sink.flushes l.fn.out;
+  moved : IsMoved (g.O.Sink.contents l.fn.out) (g.O.Sink.contents l.out) (l.fn.buffer.items ++ escaped_name l.name) (l.buffer.items ++ escaped_name (drop l.byte-index l.name));
+}

@@ -1,0 +1,12 @@
+use Rattle.std.proofs.Common.{◌≡◌, ◌++◌, false}
+use Rattle.std.specs.Slice.Iter.{iter_rest}
+use Rattle.erd_tables.specs.Places.{pointer_text}
+use Rattle.erd_canon.specs.code.Pending.{IsMoved}
+use Rattle.erd_canon.proofs.engines.lines.write_place.Given as goal
+
+abbrev pub invariant-loop-step : goal.invariant-loop-step
+invariant-loop-step g l = record {
+  works : g.O.Sink.has_failed l.out ≡ false;
+  counted : g.O.Sink.flushes l.out ≡ g.O.Sink.flushes l.fn.out;
+  moved : IsMoved (g.O.Sink.contents l.fn.out) (g.O.Sink.contents l.out) (l.fn.buffer.items ++ pointer_text l.place) (l.buffer.items ++ pointer_text (iter_rest l.step-iterator));
+}
