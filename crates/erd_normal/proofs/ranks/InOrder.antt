@@ -1,11 +1,9 @@
 -- Entries of a list in the order of their keys, each with its position.
-use Rattle.std.proofs.Common.{◌≡◌, ℕ, zero, suc, ◌+◌, ◌<◌, List, [], ◌∷◌, filter, map, length, get_or, Bool, true, false, cond, Option, Some, None, Ordering, drop, slice_get, option_map, add-one, refl, sym, ap, ◌∙◌, subst, arith}
+use Rattle.std.proofs.Common.{◌≡◌, ℕ, zero, suc, ◌+◌, ◌<◌, List, [], ◌∷◌, filter, map, length, get_or, Bool, true, false, cond, Some, Ordering, drop, slice_get, add-one, refl, sym, ap, ◌∙◌, subst, arith}
 use Rattle.std.proofs.lemmas.Cmp.{on_total}
-use Rattle.std.proofs.lemmas.Option.{slice_get-map}
 use Rattle.std.specs.Cmp.{IsTotalOrder}
 use Rattle.std.specs.List.{enumerate_from}
 use Rattle.erd_check.proofs.Order.{In}
-use Rattle.erd_meaning.proofs.finding.OneObject.{in_at}
 use Rattle.erd_meaning.proofs.orders.RisingLists.{by_first, rising_list_map}
 use Rattle.erd_meaning.proofs.orders.RisingSets.{In-rising, has_from_In}
 use Rattle.erd_meaning.specs.SelectionNames.{rising_list}

@@ -1,6 +1,5 @@
 -- The tree as it is written is the tree that is built for an accepted report.
-use Rattle.std.proofs.Common.{◌≡◌, ℕ, zero, suc, ◌+◌, List, [], ◌∷◌, filter, flat_map, map, true, Option, Some, codes, option_map, slice_get, refl, sym, ap, ap₂, ◌∙◌, subst, arith}
-use Rattle.std.proofs.lemmas.Option.{slice_get-map}
+use Rattle.std.proofs.Common.{◌≡◌, ℕ, zero, suc, ◌+◌, List, [], ◌∷◌, filter, flat_map, map, true, Some, codes, slice_get, refl, sym, ap, ap₂, ◌∙◌, subst, arith}
 use Rattle.std.specs.Option.{option_cmp, option_map_or}
 use Rattle.serde_json.specs.Data.{Data, array, object, Members, no_members, member}
 use Rattle.serde_json.specs.Find.{get, get_member}
@@ -28,9 +27,7 @@ use Rattle.erd_meaning.proofs.accepted.Standing.{stands as standing}
 use Rattle.erd_meaning.specs.Accepted.{IsAccepted}
 use Rattle.erd_meaning.specs.Keys.{Preference, has_keys, key_cmp, key_of}
 use Rattle.erd_meaning.specs.Objects.{Placed, elections, objects, placed_entries, report_of}
-use Rattle.erd_meaning.specs.NameParts.{NameParts}
-use Rattle.erd_meaning.specs.SelectionNames.{name_cmp, name_of, rising_list, selection_role}
-use Rattle.erd_meaning.specs.declared.keys.key.Key.{Key}
+use Rattle.erd_meaning.specs.SelectionNames.{rising_list}
 use Rattle.erd_normal.proofs.built.BuiltFrom.{Builder}
 use Rattle.erd_normal.proofs.built.FamilyNames.{contest_of_selections, elections_name, family_name, keyed_name, report_objects}
 use Rattle.erd_normal.proofs.canonical.RisingReports.{selection_ranks}
@@ -38,7 +35,7 @@ use Rattle.erd_normal.proofs.lists.NumberedKept.{kept_has}
 use Rattle.erd_normal.proofs.ranks.InOrder.{stands, values}
 use Rattle.erd_normal.proofs.ranks.PartObjects.{in_elections_kept, in_order, in_report_kept, is_in, values_of_part}
 use Rattle.erd_normal.specs.code.ElectionParts.{objects_in_part, rising_elections, rising_objects}
-use Rattle.erd_normal.specs.code.NormalTree.{array_of, by_key, by_name, id_of_key, in_envelope, normal_election, normal_election_value, normal_members, normal_object, normal_object_value, normal_object_with, normal_report_value, normal_selection, normal_tree, normal_value, unless_no_entry, with_id}
+use Rattle.erd_normal.specs.code.NormalTree.{array_of, by_key, by_name, id_of_key, in_envelope, normal_election, normal_election_value, normal_members, normal_object, normal_object_value, normal_object_with, normal_report_value, normal_selection, normal_tree, unless_no_entry, with_id}
 use Rattle.erd_normal.specs.code.WrittenTree.{map_from, written_election, written_election_value, written_elections, written_in_contest, written_object, written_object_value, written_objects, written_report_value, written_selection}
 use Rattle.erd_check.proofs.Order.{In}
 use Rattle.erd_check.proofs.Positions.{has_at}

@@ -15,7 +15,7 @@ use Rattle.erd_check.specs.Values.{entries_at}
 use Rattle.erd_check.specs.Wants.{class_of_object}
 use Rattle.erd_meaning.specs.Keys.{Preference, key_of}
 use Rattle.erd_meaning.specs.Lookups.{rank_of}
-use Rattle.erd_meaning.specs.Objects.{Placed, contests}
+use Rattle.erd_meaning.specs.Objects.{contests}
 use Rattle.erd_meaning.specs.SelectionNames.{rising_list, selection_role}
 use Rattle.erd_normal.specs.Canonical.{canonical_selection_id}
 use Rattle.erd_normal.specs.code.ElectionParts.{objects_in_part, rising_elections}

@@ -1,13 +1,11 @@
-use Rattle.std.proofs.Common.{◌≡◌, ◌++◌, ◌+◌, ◌≤◌, ℕ, length, get_or, map, drop, sym, ap, ◌∙◌, subst, arith}
+use Rattle.std.proofs.Common.{◌≡◌, ◌++◌, ◌+◌, ◌≤◌, ℕ, length, map, drop, sym, ap, ◌∙◌, arith}
 use Rattle.std.proofs.lemmas.List.{drop_all, length-map}
 use Rattle.std.proofs.lemmas.Option.{slice_get_within}
 use Rattle.std.proofs.lemmas.Result.{on_ok_weaker}
 use Rattle.serde_json.specs.Data.{Data}
 use Rattle.serde_json.specs.View.{items_of, view}
-use Rattle.erd_tables.specs.declared.class.Family.{Family}
-use Rattle.erd_meaning.specs.Keys.{Preference}
 use Rattle.erd_meaning.specs.Objects.{Placed, objects}
-use Rattle.erd_normal.proofs.ranks.InOrder.{Next, left_there, next}
+use Rattle.erd_normal.proofs.ranks.InOrder.{left_there, next}
 use Rattle.erd_normal.proofs.ranks.PartObjects.{in_part_there}
 use Rattle.erd_normal.proofs.texts.WrittenTokens.{array_written, then_rest}
 use Rattle.erd_normal.specs.code.ElectionParts.{objects_in_part}

@@ -1,4 +1,4 @@
-use Rattle.std.proofs.Common.{◌≡◌, ◌++◌, Some, option_map, slice_get, string_bytes, sym, ap, ap₂, ◌∙◌}
+use Rattle.std.proofs.Common.{◌≡◌, ◌++◌, option_map, slice_get, string_bytes, sym, ap, ap₂, ◌∙◌}
 use Rattle.std.proofs.lemmas.Result.{on_ok_weaker}
 use Rattle.serde_json.specs.Data.{Data}
 use Rattle.serde_json.specs.View.{view}
@@ -6,12 +6,12 @@ use Rattle.erd_tables.specs.declared.class.Role.TheVariants as role
 use Rattle.erd_check.specs.Wants.{class_of_object}
 use Rattle.erd_meaning.specs.Keys.{key_of}
 use Rattle.erd_meaning.specs.Lookups.{rank_of}
-use Rattle.erd_meaning.specs.Objects.{Placed, objects}
+use Rattle.erd_meaning.specs.Objects.{objects}
 use Rattle.erd_normal.proofs.ranks.PartObjects.{found_below, found_key, found_value}
 use Rattle.erd_normal.specs.Canonical.{canonical_id}
 use Rattle.erd_normal.specs.code.NormalTree.{normal_object_with, with_id}
 use Rattle.erd_normal.specs.code.Tokens.{value_tokens}
-use Rattle.erd_normal.specs.code.WrittenTree.{written_object, written_object_value}
+use Rattle.erd_normal.specs.code.WrittenTree.{written_object_value}
 use Rattle.erd_normal.proofs.objects.family_objects.write_object_at.Goals as goal
 
 pub write_identified-requires : goal.write_identified-requires

@@ -2,7 +2,7 @@ use Rattle.std.proofs.Common.{◌≡◌, ◌++◌, option_map, slice_get, sym, a
 use Rattle.std.proofs.lemmas.Result.{on_ok_weaker}
 use Rattle.serde_json.specs.Data.{Data}
 use Rattle.serde_json.specs.View.{view}
-use Rattle.erd_meaning.specs.Objects.{Placed, elections}
+use Rattle.erd_meaning.specs.Objects.{elections}
 use Rattle.erd_normal.proofs.ranks.PartObjects.{found_below, found_value}
 use Rattle.erd_normal.proofs.texts.PutObjects.{put_none}
 use Rattle.erd_normal.specs.code.Tokens.{value_tokens}

@@ -1,7 +1,4 @@
-use Rattle.std.proofs.Common.{sym, ap}
-use Rattle.serde_json.specs.View.{view}
 use Rattle.erd_normal.proofs.ranks.RankedReferences.{keyed_unless}
-use Rattle.erd_normal.specs.code.Orders.{rank_named}
 use Rattle.erd_normal.proofs.writer.Writer.rank_named.Goals as goal
 
 pub rank_of_id-requires : goal.rank_of_id-requires

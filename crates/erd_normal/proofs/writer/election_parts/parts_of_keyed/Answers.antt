@@ -5,7 +5,7 @@ use Rattle.erd_meaning.specs.Objects.{Placed, elections, objects}
 use Rattle.erd_normal.proofs.lists.NumberedKept.{kept_map}
 use Rattle.erd_normal.proofs.ranks.PartObjects.{in_order, lent_positions, no_part}
 use Rattle.erd_normal.proofs.ranks.PartsFilled.{below, get_or_here, one_put, part_missing}
-use Rattle.erd_normal.specs.code.ElectionParts.{in_order_of_keys, objects_in_part, part_at, part_seen}
+use Rattle.erd_normal.specs.code.ElectionParts.{in_order_of_keys, part_at, part_seen}
 use Rattle.erd_normal.proofs.writer.election_parts.parts_of_keyed.Goals as goal
 
 pub loop-position-init : goal.loop-position-init
