@@ -54,6 +54,7 @@ SOURCES = {
     'erd_meaning/Objects.has_id': "the standard's rule of references",
     'erd_meaning/Objects.owner_at': "the standard's rule of references",
     'erd_meaning/Objects.is_owned': "the standard's rule of references",
+    'erd_meaning/Places': 'this project',
     'erd_meaning/RankedNames': 'this project',
     'erd_meaning/Records.content_inside': 'classes BallotStyle and OrderedHeader',
     'erd_meaning/Records.is_header_class': 'classes OrderedContest and OrderedHeader',

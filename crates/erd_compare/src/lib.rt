@@ -4,8 +4,8 @@
 pub mod difference;
 mod difference_value;
 mod first;
-mod ranks;
 mod objects;
+mod ranks;
 mod sides;
 mod values;
 

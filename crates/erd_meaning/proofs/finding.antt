@@ -8,6 +8,7 @@ pub mod OneFamily  -- an `@id` names an object of one family
 pub mod OwnedKeys  -- the test by which an index of keys is asked
 pub mod SaltedTests  -- a test that compares numbers too
 pub mod NumberedKeys  -- a set whose keys have numbers
+pub mod KeptOnErrors  -- what stands stands on an error, too
 pub mod FoundWithId  -- what the index of `@id` texts leads to
 pub mod Known  -- what the indexes know of earlier objects
 pub mod Pushed  -- what the indexes answer once an object was added

@@ -3,8 +3,8 @@
 pub mod key;
 pub mod key_of;
 pub(crate) mod key_rule;
-pub(crate) mod salt;
+pub mod salt;
 pub(crate) mod salted;
-pub(crate) mod salted_set;
+pub mod salted_set;
 pub(crate) mod shared_key;
 pub(crate) mod triple;

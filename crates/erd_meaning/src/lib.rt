@@ -8,9 +8,12 @@ mod report;
 
 pub use keys::key::Key;
 pub use keys::key_of::key_of;
+pub use keys::salt::Salt;
+pub use keys::salted_set::SaltedSet;
 pub use names::numbered_name::NumberedName;
 pub use names::ranked_name::RankedName;
 pub use names::selection_name::SelectionName;
+pub use objects::order::places_in;
 pub use objects::per_family::PerFamily;
 pub use report::Report;
 pub use report::resolving::{resolve, resolve_with};

@@ -19,6 +19,7 @@ pub(crate) mod reference_judge;
 pub(crate) mod resolving;
 
 use crate::keys::key::Key;
+use crate::keys::salt::Salt;
 use crate::keys::salted_set::SaltedSet;
 use crate::names::ranked_name::RankedName;
 use crate::names::selection_name::SelectionName;
@@ -159,6 +160,16 @@ impl<'a> Report<'a> {
             Some(text) => Some(text.as_str()),
             None => None,
         }
+    }
+
+    /// Returns the salt under which the indexes of the report hash their keys. An index that has keys of the report is best
+    /// hashed under it, or under one that is made from it (`Salt::joined`). It has no part in what a call returns.
+    ///
+    /// ```
+    /// let mut numbers = SaltedSet::new(alloc, report.salt().joined(&report.salt()));
+    /// ```
+    pub fn salt(&self) -> Salt {
+        self.objects().salt()
     }
 
     /// Returns the election at position 0. A report has at least one (reason 9).

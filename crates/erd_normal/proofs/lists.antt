@@ -11,7 +11,7 @@ pub mod Lists
 pub mod FoundInParts
 pub mod FoundBuilt
 pub mod Paired
-pub mod PairedParts
 pub mod Matched
+pub mod MatchedRising
 pub mod NumberedParts
 pub mod NumberedKept

@@ -1,6 +1,5 @@
 -- What a comparison answers under one preference, it says under each other one that accepts both reports.
 use Rattle.std.proofs.Common.{◌≡◌, ◌↔◌, ℕ, List, Option, Some, None, refl, sym, ap, ◌∙◌, subst}
-use Rattle.serde_json.specs.Data.{Data}
 use Rattle.erd_meaning.specs.Accepted.{IsAccepted}
 use Rattle.erd_meaning.specs.Keys.{Preference}
 use Rattle.erd_meaning.specs.Meaning.{Meaning, ObjectRecord}

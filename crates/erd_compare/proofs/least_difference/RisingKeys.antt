@@ -123,8 +123,8 @@ module _ (π : Preference) (t : Data) where
   -- as many objects of a family have lesser keys as there are lesser keys
   pub family_rank : (f : Family) (k : Option Key) → has_keys f ≡ true → rank_of π t f k ≡ rank_in_keys (keys_in_role π t (role.OfFamily f)) k
   family_rank f k keyed = sym (
-    count_map (λ (o : Placed). cond (has_keys f) (key_of π o.value) None) (λ l. is_lt (by_key l k)) (objects f t)
-    ∙ ap (λ b. length (filter (λ (o : Placed). is_lt (by_key (cond b (key_of π o.value) None) k)) (objects f t))) keyed)
+      count_map (λ (o : Placed). cond (has_keys f) (key_of π o.value) None) (λ l. is_lt (by_key l k)) (objects f t)
+      ∙ ap (λ b. length (filter (λ (o : Placed). is_lt (by_key (cond b (key_of π o.value) None) k)) (objects f t))) keyed)
 
   pub election_rank : (k : Option Key) → election_rank_of π t k ≡ rank_in_keys (keys_in_role π t role.Election) k
   election_rank k = sym (count_map (λ (o : Placed). key_of π o.value) (λ l. is_lt (by_key l k)) (elections t))

@@ -30,9 +30,8 @@ told_shared (Some k) (Some l) (Some m) n i j h = at (m == n) refl h
   where
     at : (b : Bool) → (m == n) ≡ b → cond {A = Option (ℕ × ℕ)} b (Some (k, l)) None ≡ Some (i, j) → AreShared (Some k) (Some l) (Some m) n i j
     at true is h =
-        let first : k ≡ i = cc in
-        let second : l ≡ j = cc in
-        record { one = ap Some first; other = ap Some second; common = ap Some ((Decides-eqb m n).0 is) }
+        let pair : ◌≡◌ {A = ℕ × ℕ} (k, l) (i, j) = cc in
+        record { one = ap (λ (x : ℕ × ℕ). Some x.0) pair; other = ap (λ (x : ℕ × ℕ). Some x.1) pair; common = ap Some ((Decides-eqb m n).0 is) }
     at false is h = cc
 
 no_some : {A : Type 0} {x : A} → Some x ≡ None → ⊥

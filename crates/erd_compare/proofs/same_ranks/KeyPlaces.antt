@@ -39,21 +39,6 @@ place_stands k (l ∷ ls) i e = at (same k l) refl i e (λ j. place_stands k ls 
     at false is zero e rest = absurd (true≢false (sym (same_itself k l (one_key e)) ∙ is))
     at false is (suc i) e rest = rest i e
 
--- a key is in the list, or it is not
-pub stands_or_not : (k : Option Key) (ks : List (Option Key)) → (slice_get ks (place_of k ks) ≡ Some k) ⊎ StandsNowhere k ks
-stands_or_not k [] = inr (λ i e. absurd (cc e))
-stands_or_not k (l ∷ ls) = at (same k l) refl (stands_or_not k ls)
-  where
-    nowhere : same k l ≡ false → StandsNowhere k ls → StandsNowhere k (l ∷ ls)
-    nowhere is none zero e = true≢false (sym (same_itself k l (one_key e)) ∙ is)
-    nowhere is none (suc i) e = none i e
-
-    at : (b : Bool) → same k l ≡ b → (slice_get ls (place_of k ls) ≡ Some k) ⊎ StandsNowhere k ls
-        → (slice_get (l ∷ ls) (cond b 0 (suc (place_of k ls))) ≡ Some k) ⊎ StandsNowhere k (l ∷ ls)
-    at true is rest = inl (ap Some (sym (options_exact key_cmp equal_keys k l is)))
-    at false is (inl stands) = inl stands
-    at false is (inr none) = inr (nowhere is none)
-
 -- ---- two lists
 
 -- a key of the first list has its place there

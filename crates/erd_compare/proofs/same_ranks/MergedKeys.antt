@@ -25,9 +25,6 @@ pub record IsMergedTo (ones others : List (Option Key)) (passed : ℕ) (ranks : 
   pub below : (i j : ℕ) (k l : Option Key) → i < passed → length ranks ≤ j → slice_get ones i ≡ Some k → slice_get others j ≡ Some l → by_key k l ≡ Less
   pub done : ranks ≡ map (rank ones others) (take (length ranks) others)
 
-pub none_merged : (ones others : List (Option Key)) → IsMergedTo ones others 0 []
-none_merged ones others = record { inside = omega arith; few = omega arith; below = λ i j k l low. absurd (omega (arith, low)); done = refl }
-
 module _ (ones others : List (Option Key)) (up : IsStrictlySortedBy by_key ones) (more : IsStrictlySortedBy by_key others) (passed : ℕ) (ranks : List ℕ) (m : IsMergedTo ones others passed ranks)
     (key : Option Key) (here : slice_get others (length ranks) ≡ Some key) where
   n : ℕ
@@ -119,8 +116,8 @@ all_merged ones others passed ranks m all = m.done ∙ ap (map (rank ones others
 -- ---- how the next keys compare
 
 pub next_there : (o : Option (Option Key)) (key : Option Key) (x : Ordering) → next_cmp o (Some key) ≡ x → (x ≡ Greater → ⊥) → (k : Option Key) × (o ≡ Some k) × (by_key k key ≡ x)
-next_there None key x is low = absurd (low (sym is))
-next_there (Some k) key x is low = (k, refl, is)
+next_there None key x is other = absurd (other (sym is))
+next_there (Some k) key x is other = (k, refl, is)
 
 pub next_above : (o : Option (Option Key)) (key : Option Key) → next_cmp o (Some key) ≡ Greater → (k : Option Key) → o ≡ Some k → by_key k key ≡ Greater
 next_above o key is k there = sym (ap (λ x. next_cmp x (Some key)) there) ∙ is

@@ -12,11 +12,11 @@ ghost use Rattle.erd_compare.specs.code.PlacedObjects.{AreSelectionsIn, AreSelec
 ghost use Rattle.erd_compare.specs.code.SelectionMembers.{if_filled, selections_meant};
 ghost use Rattle.erd_compare.specs.code.SelectionsByName.{IsByNumber};
 
-use crate::ranks::lookups::{name_number_at, report_on};
-use crate::ranks::side::Side;
 use crate::objects::members_left::{MembersLeft, lesser_name};
 use crate::objects::placed::{Found, Selections};
 use crate::objects::plain_members::is_same_plain_member;
+use crate::ranks::lookups::{name_number_at, report_on};
+use crate::ranks::side::Side;
 use crate::sides::Sides;
 use erd_check::values::{class_of_object, entries_of, is_empty_array};
 use erd_tables::{Class, Family, Role};

@@ -41,12 +41,7 @@ pub(crate) fn common_rank_of(
 }
 
 /// Returns the common rank of the key of the object with a role at a position, if it has a key.
-pub(crate) fn common_rank_at(
-    sides: Sides,
-    side: Side,
-    role: Role,
-    position: usize,
-) -> Option<usize>
+pub(crate) fn common_rank_at(sides: Sides, side: Side, role: Role, position: usize) -> Option<usize>
     requires ranked { is_ranked role ≡ true }
     ensures { result ≡ option_map (rank_of_key sides.entry.left.now sides.entry.right.now role)
         (key_in_role (on_side side sides.entry.left.now sides.entry.right.now).prefer role (view (on_side side sides.entry.left.now sides.entry.right.now).tree) position) }

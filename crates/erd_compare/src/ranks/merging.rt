@@ -39,13 +39,7 @@ pub(crate) fn common_ranks(
 
 /// Compares the key of the left report at a rank with the key of the right report at another rank. If the left report has no
 /// key there, the right one is less.
-fn next_cmp(
-    left: &Report,
-    right: &Report,
-    role: Role,
-    rank: usize,
-    other_rank: usize,
-) -> Ordering
+fn next_cmp(left: &Report, right: &Report, role: Role, rank: usize, other_rank: usize) -> Ordering
     requires ranked { is_ranked role ≡ true }
     ensures { result ≡ next_cmp (slice_get (rising_in_role left.now.prefer (view left.now.tree) role) rank)
         (slice_get (rising_in_role right.now.prefer (view right.now.tree) role) other_rank) }

@@ -1,8 +1,8 @@
 -- A set whose keys have numbers answers as the list of its keys.
-use Rattle.std.proofs.Common.{◌≡◌, ◌==◌, ◌&&◌, ◌||◌, ◌+◌, ℕ, Bool, true, false, cond, List, [], ◌∷◌, ◌++◌, map, Option, Some, None, refl, sym, ap, ap₂, ◌∙◌}
+use Rattle.std.proofs.Common.{◌≡◌, ◌==◌, ◌&&◌, ◌||◌, ◌+◌, ℕ, Bool, true, false, not, cond, List, [], ◌∷◌, ◌++◌, map, Option, Some, None, refl, sym, ap, ap₂, ◌∙◌}
 use Rattle.std.proofs.lemmas.Iterator.Adapters.{position_from-zero}
 use Rattle.std.specs.Hash.{HashWrites}
-use Rattle.std.specs.List.{list_any, position, position_from}
+use Rattle.std.specs.List.{list_any, position, position_from, position_or_len}
 use Rattle.indexmap.specs.IndexSet.{insert_key}
 use Rattle.erd_meaning.specs.code.Salts.{AreNumbered, keys_in, salted_number}
 use Rattle.erd_meaning.specs.declared.keys.salt.Salt.{Salt}
@@ -21,6 +21,10 @@ module _ {K : Type 0} (writes : K → HashWrites) (salt : Salt) where
     pub any_numbered : (keys : List (Salted K)) → AreNumbered writes salt keys → list_any asked keys ≡ list_any test (keys_in keys)
     any_numbered [] all = refl
     any_numbered (s ∷ keys) all = ap₂ (λ a b. a || b) (one_asked s all.0) (any_numbered keys all.1)
+
+    pub place_numbered : (keys : List (Salted K)) → AreNumbered writes salt keys → position_or_len asked keys ≡ position_or_len test (keys_in keys)
+    place_numbered [] all = refl
+    place_numbered (s ∷ keys) all = ap₂ (λ b n. cond (not b) (1 + n) 0) (one_asked s all.0) (place_numbered keys all.1)
 
     from_numbered : (i : ℕ) (keys : List (Salted K)) → AreNumbered writes salt keys → position_from asked i keys ≡ position_from test i (keys_in keys)
     from_numbered i [] all = refl
@@ -49,6 +53,9 @@ module _ {K : Type 0} (writes : K → HashWrites) (salt : Salt) where
 
       pub inserted_any : list_any (same_salted s) keys ≡ list_any (same s.key) (keys_in keys)
       inserted_any = any_numbered s.number (same s.key) (λ l e. is ∙ ap (λ ws. salted_number salt ws) (alike k l e)) keys all
+
+      pub inserted_index : position_or_len (same_salted s) keys ≡ position_or_len (same s.key) (keys_in keys)
+      inserted_index = place_numbered s.number (same s.key) (λ l e. is ∙ ap (λ ws. salted_number salt ws) (alike k l e)) keys all
 
       pub inserted_numbered : AreNumbered writes salt (insert_key same_salted keys s)
       inserted_numbered = at (list_any (same_salted s) keys)

@@ -4,95 +4,93 @@ use Rattle.std.proofs.lemmas.Cmp.{on_total}
 use Rattle.std.proofs.lemmas.List.{length-map, length-replicate}
 use Rattle.std.proofs.lemmas.Option.{slice_get-map, slice_get_within}
 use Rattle.std.specs.Cmp.{IsTotalOrder}
-use Rattle.std.specs.Cmp.Lexicographic.{options_total}
-use Rattle.std.specs.List.{AllByRecursion}
-use Rattle.std.specs.Option.{option_cmp}
+use Rattle.std.specs.List.{AllByRecursion, IsDistinct}
+use Rattle.std.specs.Ordering.{eq_by_cmp}
 use Rattle.erd_check.proofs.Order.{all_from_In}
-use Rattle.erd_meaning.specs.Keys.{key_cmp}
 use Rattle.erd_meaning.specs.SelectionNames.{rising_list}
-use Rattle.erd_meaning.specs.code.KeyOrders.{AreDistinct, places_put, positioned, rank_in_keys, rising_positions}
-use Rattle.erd_meaning.specs.code.Orders.{key_cmp_total}
-use Rattle.erd_meaning.specs.declared.keys.key.Key.{Key}
+use Rattle.erd_meaning.specs.code.KeyOrders.{positioned, positions_by, rank_by}
+use Rattle.erd_meaning.specs.Places.{places_put}
 use Rattle.erd_meaning.proofs.finding.OneObject.{in_at}
 use Rattle.erd_meaning.proofs.orders.PlacesPut.{StandOnce, length_put, put_at, same_entries}
 use Rattle.erd_meaning.proofs.orders.RisingLists.{by_first}
 use Rattle.erd_meaning.proofs.orders.RisingRanks.{rank_at, rank_in, stands_at_rank}
 use Rattle.erd_meaning.proofs.orders.RisingSets.{In-rising, length-rising}
-use Rattle.erd_meaning.proofs.selections.PositionedKeys.{KeyPosition, apart_positioned, count_positioned, key_positioned, length_positioned, one_positioned_at, stands_positioned}
+use Rattle.erd_meaning.proofs.selections.PositionedKeys.{apart_positioned, count_positioned, key_positioned, length_positioned, one_positioned_at, stands_positioned}
 
-abbrev by_key : Option Key → Option Key → Ordering
-by_key = option_cmp key_cmp
+module _ {K : Type 0} (cmp : K → K → Ordering) (total : IsTotalOrder cmp) (ks : List K) where
+  -- a key with a position
+  abbrev Position : Type 0
+  Position = K × ℕ
 
-first_total : IsTotalOrder (by_first {T = ℕ} by_key)
-first_total = on_total (λ (p : KeyPosition). p.0) (options_total key_cmp_total)
+  first_total : IsTotalOrder (by_first {T = ℕ} cmp)
+  first_total = on_total (λ (p : Position). p.0) total
 
-module _ (ks : List (Option Key)) where
-  abbrev old : List KeyPosition
+  abbrev old : List Position
   old = positioned 0 ks
 
-  abbrev new : List KeyPosition
-  new = rising_list (by_first by_key) old
+  abbrev new : List Position
+  new = rising_list (by_first cmp) old
 
   -- no place is put yet
   abbrev none_put : List ℕ
-  none_put = replicate (length (rising_positions ks)) 0
+  none_put = replicate (length (positions_by cmp ks)) 0
 
   -- as many positions as keys, and each below their number
-  length_rising_positions : length (rising_positions ks) ≡ length ks
-  length_rising_positions = length-map new (λ (p : KeyPosition). p.1) ∙ (length-rising (by_first by_key) old ∙ length_positioned 0 ks)
+  length_rising_positions : length (positions_by cmp ks) ≡ length ks
+  length_rising_positions = length-map new (λ (p : Position). p.1) ∙ (length-rising (by_first cmp) old ∙ length_positioned 0 ks)
 
-  low_pairs : AllByRecursion (λ (p : KeyPosition). p.1 < length ks) new
-  low_pairs = all_from_In (λ (p : KeyPosition). p.1 < length ks) new (λ p i.
-      let x = key_positioned 0 ks p (In-rising (by_first by_key) p old i) in
+  low_pairs : AllByRecursion (λ (p : Position). p.1 < length ks) new
+  low_pairs = all_from_In (λ (p : Position). p.1 < length ks) new (λ p i.
+      let x = key_positioned 0 ks p (In-rising (by_first cmp) p old i) in
       let inside = slice_get_within ks x.index p.0 x.at in
       let is : p.1 ≡ 0 + x.index = x.is in
       omega (arith, inside))
 
-  all_mapped : (n : ℕ) (ps : List KeyPosition) → AllByRecursion (λ (p : KeyPosition). p.1 < n) ps → AllByRecursion (λ i. i < n) (map (λ (p : KeyPosition). p.1) ps)
+  all_mapped : (n : ℕ) (ps : List Position) → AllByRecursion (λ (p : Position). p.1 < n) ps → AllByRecursion (λ i. i < n) (map (λ (p : Position). p.1) ps)
   all_mapped n [] h = tt
   all_mapped n (p ∷ ps) h = (h.0, all_mapped n ps h.1)
 
-  pub all_low : AllByRecursion (λ i. i < length (rising_positions ks)) (rising_positions ks)
-  all_low = subst (λ n. AllByRecursion (λ i. i < n) (rising_positions ks)) (sym length_rising_positions) (all_mapped (length ks) new low_pairs)
+  pub all_low : AllByRecursion (λ i. i < length (positions_by cmp ks)) (positions_by cmp ks)
+  all_low = subst (λ n. AllByRecursion (λ i. i < n) (positions_by cmp ks)) (sym length_rising_positions) (all_mapped (length ks) new low_pairs)
 
-  module _ (distinct : AreDistinct ks) where
-    pair_at : (j i : ℕ) → slice_get (rising_positions ks) j ≡ Some i → (p : KeyPosition) × (slice_get new j ≡ Some p) × (p.1 ≡ i)
-    pair_at j i e = at (slice_get new j) refl (sym (slice_get-map (λ (p : KeyPosition). p.1) new j) ∙ e)
+  module _ (distinct : IsDistinct (eq_by_cmp cmp) ks) where
+    pair_at : (j i : ℕ) → slice_get (positions_by cmp ks) j ≡ Some i → (p : Position) × (slice_get new j ≡ Some p) × (p.1 ≡ i)
+    pair_at j i e = at (slice_get new j) refl (sym (slice_get-map (λ (p : Position). p.1) new j) ∙ e)
       where
-        at : (o : Option KeyPosition) → slice_get new j ≡ o → option_map (λ (p : KeyPosition). p.1) o ≡ Some i → (p : KeyPosition) × (slice_get new j ≡ Some p) × (p.1 ≡ i)
+        at : (o : Option Position) → slice_get new j ≡ o → option_map (λ (p : Position). p.1) o ≡ Some i → (p : Position) × (slice_get new j ≡ Some p) × (p.1 ≡ i)
         at None is h = cc
         at (Some p) is h = let same : p.1 ≡ i = cc in (p, is, same)
 
-    once : StandOnce (rising_positions ks)
+    once : StandOnce (positions_by cmp ks)
     once j k i a b =
         let x = pair_at j i a in
         let y = pair_at k i b in
-        let same : x.0 ≡ y.0 = one_positioned_at ks x.0 y.0 (In-rising (by_first by_key) x.0 old (in_at new j x.0 x.1)) (In-rising (by_first by_key) y.0 old (in_at new k y.0 y.1)) (x.2 ∙ sym y.2) in
-        sym (rank_at first_total old j x.0 (apart_positioned by_key 0 ks distinct) x.1)
-        ∙ (ap (λ p. rank_in (by_first by_key) p old) same ∙ rank_at first_total old k y.0 (apart_positioned by_key 0 ks distinct) y.1)
+        let same : x.0 ≡ y.0 = one_positioned_at ks x.0 y.0 (In-rising (by_first cmp) x.0 old (in_at new j x.0 x.1)) (In-rising (by_first cmp) y.0 old (in_at new k y.0 y.1)) (x.2 ∙ sym y.2) in
+        sym (rank_at first_total old j x.0 (apart_positioned cmp 0 ks distinct) x.1)
+        ∙ (ap (λ p. rank_in (by_first cmp) p old) same ∙ rank_at first_total old k y.0 (apart_positioned cmp 0 ks distinct) y.1)
 
-    place_there : (i : ℕ) (k : Option Key) → slice_get ks i ≡ Some k → slice_get (places_put 0 (rising_positions ks) none_put) i ≡ Some (rank_in_keys ks k)
+    place_there : (i : ℕ) (k : K) → slice_get ks i ≡ Some k → slice_get (places_put 0 (positions_by cmp ks) none_put) i ≡ Some (rank_by cmp ks k)
     place_there i k e =
-        let p : KeyPosition = (k, i) in
+        let p : Position = (k, i) in
         let count : 0 + i ≡ i = omega arith in
-        let none : 0 + rank_in (by_first by_key) p old ≡ rank_in (by_first by_key) p old = omega arith in
+        let none : 0 + rank_in (by_first cmp) p old ≡ rank_in (by_first cmp) p old = omega arith in
         let here : slice_get old i ≡ Some p = stands_positioned 0 ks i k e ∙ ap (λ m. Some (k, m)) count in
-        let r = rank_in (by_first by_key) p old in
-        let sorted : slice_get new r ≡ Some p = stands_at_rank first_total old p (apart_positioned by_key 0 ks distinct) (in_at old i p here) in
-        let place : slice_get (rising_positions ks) r ≡ Some i = slice_get-map (λ (q : KeyPosition). q.1) new r ∙ ap (option_map (λ (q : KeyPosition). q.1)) sorted in
-        let long : length none_put ≡ length ks = length-replicate (length (rising_positions ks)) 0 ∙ length_rising_positions in
-        put_at (rising_positions ks) 0 none_put r i once place (subst (λ n. i < n) (sym long) (slice_get_within ks i k e))
-        ∙ ap Some (none ∙ count_positioned (λ l. is_lt (option_cmp key_cmp l k)) 0 ks)
+        let r = rank_in (by_first cmp) p old in
+        let sorted : slice_get new r ≡ Some p = stands_at_rank first_total old p (apart_positioned cmp 0 ks distinct) (in_at old i p here) in
+        let place : slice_get (positions_by cmp ks) r ≡ Some i = slice_get-map (λ (q : Position). q.1) new r ∙ ap (option_map (λ (q : Position). q.1)) sorted in
+        let long : length none_put ≡ length ks = length-replicate (length (positions_by cmp ks)) 0 ∙ length_rising_positions in
+        put_at (positions_by cmp ks) 0 none_put r i once place (subst (λ n. i < n) (sym long) (slice_get_within ks i k e))
+        ∙ ap Some (none ∙ count_positioned (λ l. is_lt (cmp l k)) 0 ks)
 
     -- the places of the rising positions are the ranks
-    pub ranks_are : places_put 0 (rising_positions ks) none_put ≡ map (rank_in_keys ks) ks
+    pub ranks_are : places_put 0 (positions_by cmp ks) none_put ≡ map (rank_by cmp ks) ks
     ranks_are =
-        let put = places_put 0 (rising_positions ks) none_put in
-        let long : length put ≡ length (map (rank_in_keys ks) ks) =
-        length_put 0 (rising_positions ks) none_put ∙ (length-replicate (length (rising_positions ks)) 0 ∙ (length_rising_positions ∙ sym (length-map ks (rank_in_keys ks)))) in
-        same_entries put (map (rank_in_keys ks) ks) long (λ i n e. at i n (slice_get ks i) refl (sym (slice_get-map (rank_in_keys ks) ks i) ∙ e))
+        let put = places_put 0 (positions_by cmp ks) none_put in
+        let long : length put ≡ length (map (rank_by cmp ks) ks) =
+        length_put 0 (positions_by cmp ks) none_put ∙ (length-replicate (length (positions_by cmp ks)) 0 ∙ (length_rising_positions ∙ sym (length-map ks (rank_by cmp ks)))) in
+        same_entries put (map (rank_by cmp ks) ks) long (λ i n e. at i n (slice_get ks i) refl (sym (slice_get-map (rank_by cmp ks) ks i) ∙ e))
       where
-        at : (i n : ℕ) (o : Option (Option Key)) → slice_get ks i ≡ o → option_map (rank_in_keys ks) o ≡ Some n
-            → slice_get (places_put 0 (rising_positions ks) none_put) i ≡ Some n
+        at : (i n : ℕ) (o : Option (K)) → slice_get ks i ≡ o → option_map (rank_by cmp ks) o ≡ Some n
+            → slice_get (places_put 0 (positions_by cmp ks) none_put) i ≡ Some n
         at i n None is h = cc
         at i n (Some k) is h = place_there i k is ∙ h

@@ -3,7 +3,7 @@ use Rattle.std.proofs.Common.{◌≡◌, ◌+◌, ◌<◌, ℕ, zero, suc, inl, 
 use Rattle.std.proofs.lemmas.List.{length-set}
 use Rattle.std.specs.List.{AllByRecursion}
 use Rattle.erd_check.proofs.Order.{all_from_In}
-use Rattle.erd_meaning.specs.code.KeyOrders.{places_put}
+use Rattle.erd_meaning.specs.Places.{places_put}
 use Rattle.erd_meaning.proofs.orders.DistinctEntries.{place_of}
 
 -- one entry set

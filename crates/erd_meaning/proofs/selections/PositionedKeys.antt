@@ -37,7 +37,7 @@ KeyPosition = Option Key × ℕ
 
 -- ---- keys with positions
 
-positioned-append : {K : Type 0} (i : ℕ) (ks : List K) (k : K) → positioned i (ks ++ k ∷ []) ≡ positioned i ks ++ (k, i + length ks) ∷ []
+pub positioned-append : {K : Type 0} (i : ℕ) (ks : List K) (k : K) → positioned i (ks ++ k ∷ []) ≡ positioned i ks ++ (k, i + length ks) ∷ []
 positioned-append {K} i [] k = let none : i ≡ i + 0 = omega arith in ap (λ n. (k, n) ∷ []) none
 positioned-append {K} i (l ∷ ks) k =
     let next : i + 1 + length ks ≡ i + length (l ∷ ks) = omega arith in

@@ -1,5 +1,5 @@
 -- The order of the objects of a family, or of the elections, by their keys: their positions in rising order, and their ranks.
-use Rattle.std.specs.Prelude.{◌≡◌, ◌+◌, ℕ, List, [], ◌∷◌, Option, true, filter, length, map, slice_set}
+use Rattle.std.specs.Prelude.{◌≡◌, ◌+◌, ℕ, List, [], ◌∷◌, Option, true, filter, length, map}
 use Rattle.std.specs.List.{IsDistinct}
 use Rattle.std.specs.Option.{option_cmp, option_copied}
 use Rattle.std.specs.Ordering.{eq_by_cmp, is_lt}
@@ -38,18 +38,21 @@ lent_key_cmp = option_cmp (λ k l. key_cmp k.now l.now)
 abbrev pub AreDistinct : List (Option Key) → Type 0
 AreDistinct keys = IsDistinct (eq_by_cmp (option_cmp key_cmp)) keys
 
--- The number of keys that are less than this one.
+-- The number of keys that are less than this one, by an order of keys.
+abbrev pub rank_by : {K : Type 0} → (K → K → Ordering) → List K → K → ℕ
+rank_by cmp keys key = length (filter (λ k. is_lt (cmp k key)) keys)
+
+-- The positions of the keys, in the rising order of the keys.
+abbrev pub positions_by : {K : Type 0} → (K → K → Ordering) → List K → List ℕ
+positions_by cmp keys = map (λ p. p.1) (rising_list (λ a b. cmp a.0 b.0) (positioned 0 keys))
+
+-- The number of keys that are less than this one. A missing key is less than any other.
 abbrev pub rank_in_keys : List (Option Key) → Option Key → ℕ
-rank_in_keys keys key = length (filter (λ k. is_lt (option_cmp key_cmp k key)) keys)
+rank_in_keys keys key = rank_by (option_cmp key_cmp) keys key
 
 -- The positions of the keys, in their rising order.
 abbrev pub rising_positions : List (Option Key) → List ℕ
-rising_positions keys = map (λ p. p.1) (rising_list (λ a b. option_cmp key_cmp a.0 b.0) (positioned 0 keys))
-
--- The list ns once each of these positions has its place, where the first has place n.
-abbrev pub places_put : ℕ → List ℕ → List ℕ → List ℕ
-places_put n [] ns = ns
-places_put n (i ∷ is) ns = places_put (n + 1) is (slice_set ns i n)
+rising_positions keys = positions_by (option_cmp key_cmp) keys
 
 -- This is the order of these keys.
 pub record IsOrder (keys : List (Option Key)) (order : Order) : Type 0 where

@@ -9,11 +9,25 @@ use std::hash::{DefaultHasher, Hash, Hasher};
 /// the report. So nobody can choose texts whose numbers crowd an index before the words are known, and these change with
 /// each text.
 #[derive(Debug, Clone, Copy, Drop)]
-pub(crate) struct Salt {
+pub struct Salt {
     pub(crate) start: DefaultHasher,
 }
 
 impl Salt {
+    /// Returns a salt for an index that has keys of two reports, from the salts of both.
+    ///
+    /// ```
+    /// let mut numbers = SaltedSet::new(alloc, report.salt().joined(&report.salt()));
+    /// ```
+    pub fn joined(&self, other: &Salt) -> Salt {
+        let mut start = self.start;
+        let mut others = other.start;
+        start.write_u64(others.finish());
+        others.write_u64(0);
+        start.write_u64(others.finish());
+        Salt { start }
+    }
+
     /// Returns the number of a key.
     pub(crate) fn number<K: Hash>(&self, key: &K) -> u64
         ensures { result ≡ salted_number self.now (K.hash_input key.now) }

@@ -1,5 +1,5 @@
 ghost use Rattle.std.specs.Prelude.{◌≡◌, [], not, position, slice_get, IfOk, OnErr, OnOk};
-ghost use Rattle.std.specs.List.{list_any};
+ghost use Rattle.std.specs.List.{list_any, position_or_len};
 ghost use Rattle.std.specs.Option.{option_copied};
 ghost use Rattle.indexmap.specs.IndexSet.{insert_key};
 
@@ -10,9 +10,10 @@ use std::alloc::{AllocError, Global};
 use std::hash::Hash;
 use std::marker::Model;
 
-/// A set whose keys stand in the order in which they came, and which hashes them under a salt. Contracts see the keys.
+/// A set whose keys stand in the order in which they came. It hashes them under a salt, so that keys which crowd it are hard
+/// to choose. Contracts see the keys.
 #[derive(Debug, Drop)]
-pub(crate) struct SaltedSet<K: Eq + Hash> {
+pub struct SaltedSet<K: Eq + Hash> {
     salt: Salt,
     set: IndexSet<Salted<K>>,
 }
@@ -32,8 +33,12 @@ impl<K: Eq + Hash> Model for SaltedSet<K> {
 }
 
 impl<K: Eq + Hash + Drop> SaltedSet<K> {
-    /// Returns a set without keys.
-    pub(crate) fn new(alloc: Global, salt: Salt) -> SaltedSet<K>
+    /// Returns a set without keys. The salt has no part in what a call returns, only in the time that it takes.
+    ///
+    /// ```
+    /// let mut numbers = SaltedSet::new(alloc, report.salt().joined(&report.salt()));
+    /// ```
+    pub fn new(alloc: Global, salt: Salt) -> SaltedSet<K>
         ensures { result ≡ [] }
     {
         SaltedSet {
@@ -50,6 +55,26 @@ impl<K: Eq + Hash + Drop> SaltedSet<K> {
     {
         let number = self.salt.number(&key);
         Ok(self.set.insert(Salted { number, key })?)
+    }
+
+    /// Adds a key, unless the set has an equal one. Returns the position that the key has, and whether it was added.
+    ///
+    /// # Errors
+    ///
+    /// `AllocError` if out of memory.
+    ///
+    /// ```
+    /// assert_eq!(rt; numbers.insert_full(20)?, (0, true));
+    /// assert_eq!(rt; numbers.insert_full(20)?, (0, false));
+    /// ```
+    pub fn insert_full(&mut self, key: K) -> Result<(usize, bool), AllocError>
+        ensures index { IfOk result (λ r. r.0 ≡ position_or_len (K.eq key) self.old) }
+        ensures added { IfOk result (λ r. r.1 ≡ not (list_any (K.eq key) self.old)) }
+        ensures keys { OnOk result (self.new ≡ insert_key K.eq self.old key) }
+        ensures kept { OnErr result (self.new ≡ self.old) }
+    {
+        let number = self.salt.number(&key);
+        Ok(self.set.insert_full(Salted { number, key })?)
     }
 
     /// Returns the key at the position, if there is one.

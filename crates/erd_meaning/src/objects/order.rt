@@ -2,7 +2,8 @@
 ghost use Rattle.std.specs.Prelude.{◌≡◌, ◌<◌, length, map, replicate, slice_get, IfOk};
 ghost use Rattle.std.specs.List.{AllByRecursion};
 ghost use Rattle.erd_meaning.specs.SelectionNames.{rising_list};
-ghost use Rattle.erd_meaning.specs.code.KeyOrders.{AreDistinct, IsOrder, keys_seen, lent_key_cmp, places_put, positioned, seen_keys};
+ghost use Rattle.erd_meaning.specs.code.KeyOrders.{AreDistinct, IsOrder, keys_seen, lent_key_cmp, positioned, seen_keys};
+ghost use Rattle.erd_meaning.specs.Places.{places_put};
 
 use crate::keys::key::Key;
 use std::alloc::{AllocError, Global};
@@ -59,9 +60,17 @@ fn positions_of(alloc: Global, keys: &[(Option<&Key>, usize)]) -> Result<Vec<usi
     Ok(positions)
 }
 
-/// Returns the place of each position in the list, in the order of the positions. The list has each position below its
-/// length.
-fn places_in(alloc: Global, rising: &[usize]) -> Result<Vec<usize>, AllocError>
+/// Returns the place of each position in the list, in the order of the positions. So if a list has the positions of values in
+/// rising order, this gives the rank of each value. Each position must be below the length of the list.
+///
+/// # Errors
+///
+/// `AllocError` if out of memory.
+///
+/// ```
+/// assert_eq!(rt; places_in(alloc, &[2, 0, 1])?.as_slice(), &[1, 2, 0]);
+/// ```
+pub fn places_in(alloc: Global, rising: &[usize]) -> Result<Vec<usize>, AllocError>
     requires low { AllByRecursion (λ i. i < length rising.now) rising.now }
     ensures { IfOk result (λ places. places.items ≡ places_put 0 rising.now (replicate (length rising.now) 0)) }
 {

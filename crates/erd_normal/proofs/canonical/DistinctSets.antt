@@ -33,16 +33,23 @@ use Rattle.erd_meaning.specs.LaterFaults.{is_reference_fault}
 use Rattle.erd_meaning.specs.Objects.{id_of, owner}
 use Rattle.erd_meaning.specs.code.Orders.{key_cmp_exact}
 use Rattle.erd_meaning.specs.SelectionNames.{compact_cmp, key_named}
+use Rattle.erd_meaning.specs.declared.keys.key.Key.{Key}
 use Rattle.erd_meaning.proofs.accepted.Phases.{no_reference_fault, no_shape_fault}
 use Rattle.erd_meaning.proofs.accepted.References.{resolves}
 use Rattle.erd_meaning.proofs.accepted.Standing.{one_keyed, owned_by}
 use Rattle.erd_normal.specs.code.NormalTree.{reference_cmp}
-use Rattle.erd_normal.proofs.unique.Arrays.{Names}
 use Rattle.erd_meaning.proofs.orders.DistinctEntries.{unrepeated_by_cmp}
 use Rattle.erd_meaning.proofs.orders.RisingSets.{has_from_In}
 use Rattle.erd_check.proofs.Options.{and_then-Some}
 
 -- ---- sets of references
+
+-- how references say what they name, in one report
+pub record Names (π : Preference) (t : Data) : Type 0 where
+  -- a reference names an object that has a key
+  pub resolves : (f : Family) (r : List ℕ) → has_keys f ≡ true → Within t (asked (Reference f) (string r)) → (k : Key) × (key_named π t f r ≡ Some k)
+  -- no other text names the object
+  pub one_name : (f : Family) (r s : List ℕ) (k : Key) → has_keys f ≡ true → key_named π t f r ≡ Some k → key_named π t f s ≡ Some k → r ≡ s
 
 -- how the references of an accepted report say what they name
 pub names_accepted : (π : Preference) (t : Data) → IsAccepted π t → Names π t

@@ -33,7 +33,7 @@ use Rattle.erd_meaning.proofs.accepted.DistinctKeys.{elections_distinct, values_
 use Rattle.erd_normal.proofs.canonical.DistinctSelections.{selection_values_distinct}
 use Rattle.erd_normal.proofs.canonical.DistinctSets.{json_values_distinct, references_distinct}
 use Rattle.erd_normal.proofs.texts.FittingNumbers.{entry-fitting}
-use Rattle.erd_normal.proofs.unique.Labels.{identifier_simple, language_simple}
+use Rattle.erd_normal.proofs.same.complete.Values.{identifier_simple, language_simple}
 use Rattle.erd_normal.proofs.lists.ListParts.{IsPart, part_distinct}
 use Rattle.erd_meaning.proofs.orders.RisingOrders.{rising_strictly}
 use Rattle.erd_meaning.proofs.orders.RisingRanks.{rank_by_at, rank_map}

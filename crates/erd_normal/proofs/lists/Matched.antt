@@ -239,7 +239,7 @@ pub matched_length : {A B : Type 0} {R : A → B → Type 0} {xs : List A} {ys :
 matched_length m = paired_length m.paired ∙ length-reordered m.reordered
 
 -- entries that are equal are the same entries in some order
-paired_equal : {A : Type 0} {R : A → A → Type 0} {xs ys : List A} → ((x y : A) → R x y → x ≡ y) → Paired R xs ys → xs ≡ ys
+pub paired_equal : {A : Type 0} {R : A → A → Type 0} {xs ys : List A} → ((x y : A) → R x y → x ≡ y) → Paired R xs ys → xs ≡ ys
 paired_equal same none = refl
 paired_equal same (more {x = x} {y = y} r rest) = ap₂ ◌∷◌ (same x y r) (paired_equal same rest)
 
@@ -247,7 +247,7 @@ pub matched_equal : {A : Type 0} {R : A → A → Type 0} {xs ys : List A} → (
 matched_equal {ys = ys} same m = subst (λ zs. Reordered zs ys) (sym (paired_equal same m.paired)) m.reordered
 
 -- whether an entry passes a test
-paired_any : {A B : Type 0} {R : A → B → Type 0} (test : A → Bool) (test' : B → Bool) {xs : List A} {ys : List B} → ((x : A) (y : B) → R x y → test x ≡ test' y) → Paired R xs ys → list_any test xs ≡ list_any test' ys
+pub paired_any : {A B : Type 0} {R : A → B → Type 0} (test : A → Bool) (test' : B → Bool) {xs : List A} {ys : List B} → ((x : A) (y : B) → R x y → test x ≡ test' y) → Paired R xs ys → list_any test xs ≡ list_any test' ys
 paired_any test test' same none = refl
 paired_any test test' same (more {x = x} {y = y} r rest) = ap₂ ◌||◌ (same x y r) (paired_any test test' same rest)
 

@@ -7,6 +7,7 @@ pub mod ContentNodes
 pub mod Contents
 pub mod Members
 pub mod ByRecords
+pub mod PlacedRecords
 pub mod Counterparts
 pub mod Texts
 pub mod Objects

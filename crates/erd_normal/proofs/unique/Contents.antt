@@ -38,7 +38,8 @@ use Rattle.erd_meaning.proofs.accepted.References.{owned, selected}
 use Rattle.erd_meaning.specs.Objects.{owner}
 use Rattle.erd_meaning.proofs.accepted.Phases.{no_shape_fault}
 use Rattle.erd_normal.specs.Canonical.{IsCanonical}
-use Rattle.erd_normal.proofs.unique.Arrays.{Names, texts_same}
+use Rattle.erd_normal.proofs.canonical.DistinctSets.{Names}
+use Rattle.erd_normal.proofs.unique.Arrays.{texts_same}
 
 -- the content that a member gives, if it is there
 abbrev pub content_at : Preference → Data → Option Data → Content

@@ -23,6 +23,7 @@ use Rattle.erd_meaning.specs.Meaning.{JsonMap, Label, translated, untranslated}
 use Rattle.erd_meaning.specs.Records.{json_set, label_of}
 use Rattle.erd_meaning.proofs.accepted.Phases.{no_shape_fault}
 use Rattle.erd_normal.specs.Canonical.{IsCanonical}
+use Rattle.erd_normal.proofs.same.complete.Values.{LabelView, label_view, language_simple, object_view, text_view}
 use Rattle.erd_normal.proofs.unique.Arrays.{json_set_same}
 use Rattle.erd_normal.proofs.built.AskedMembers.{label_class}
 
@@ -40,15 +41,6 @@ label_texts π t canonical r ms w v e among typed =
     let inside : Within t (asked (Member kind.Languages true) v) = member_within t (no_shape_fault π t canonical.accepted) (Member kind.Label r) role.Label ms class.InternationalizedText (codes "Text") v of_label among refl w e in
     let ds = array_from v (wanted_within t (no_shape_fault π t canonical.accepted) (asked (Member kind.Languages true) v) inside) in
     record { typed = typed; texts = ds.0; text = e ∙ ap Some ds.1; inside = subst (λ x. Within t (asked (Member kind.Languages true) x)) ds.1 inside }
-
--- the classes of the entries of sets that are compared as JSON
-pub language_simple : (c : Class) → role_of_class c ≡ role.Language → is_simple_class c ≡ true
-language_simple class.LanguageString e = refl
-language_simple c e = cc
-
-pub identifier_simple : (c : Class) → role_of_class c ≡ role.Identifier → is_simple_class c ≡ true
-identifier_simple class.ExternalIdentifier e = refl
-identifier_simple c e = cc
 
 label_object : (π : Preference) (t : Data) → IsCanonical π t → (r : Bool) (ms : Members) → Within t (asked (Member kind.Label r) (object ms)) → LabelObject t ms
 label_object π t canonical r ms w = at (get_member (codes "Text") ms) refl
@@ -79,7 +71,7 @@ label_members π t u canonical canonical' ms ns a b tree tree' same = members_un
     among = rw (a.text, b.text) at (ap text_part same)
 
     texts : a.texts ≡ b.texts
-    texts = json_set_same π t u canonical canonical' kind.Languages role.Language true true a.texts b.texts language_simple refl refl a.inside b.inside
+    texts = json_set_same π t u canonical canonical' kind.Languages role.Language true true a.texts b.texts language_simple refl refl refl refl a.inside b.inside
         (get_member-tree (codes "Text") (array a.texts) ms tree a.text) (get_member-tree (codes "Text") (array b.texts) ns tree' b.text)
         (canonical.in_order a.inside.place (asked (Member kind.Languages true) (array a.texts)) kind.Languages a.inside.is refl)
         (canonical'.in_order b.inside.place (asked (Member kind.Languages true) (array b.texts)) kind.Languages b.inside.is refl)
@@ -89,16 +81,6 @@ label_members π t u canonical canonical' ms ns a b tree tree' same = members_un
     at k true e y f = subst (λ n. get_member n ms ≡ get_member n ns) (sym (text_exact k (codes "@type") e)) (a.typed ∙ sym b.typed)
     at k false e true f = subst (λ n. get_member n ms ≡ get_member n ns) (sym (text_exact k (codes "Text") f)) (a.text ∙ ap (λ x. Some (array x)) texts ∙ sym b.text)
     at k false e false f = rw (e, f) at (ap (λ l. other_part l k) same)
-
--- an accepted label is a text or an object
-data LabelView : Data → Type 0 where
-  text_view : {s : List ℕ} → LabelView (string s)
-  object_view : {ms : Members} → LabelView (object ms)
-
-label_view : (v : Data) → is_text v || is_object v ≡ true → LabelView v
-label_view (string s) h = text_view
-label_view (object ms) h = object_view
-label_view _ h = cc
 
 viewed_same : (π : Preference) (t u : Data) → IsCanonical π t → IsCanonical π u → (r r' : Bool) (v w : Data) → LabelView v → LabelView w → IsTree v → IsTree w → Within t (asked (Member kind.Label r) v) → Within u (asked (Member kind.Label r') w)
     → label_of v ≡ label_of w → v ≡ w

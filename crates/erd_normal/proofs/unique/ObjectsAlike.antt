@@ -12,7 +12,8 @@ use Rattle.erd_meaning.proofs.accepted.References.{Contains-Has, Has-Contains}
 use Rattle.erd_meaning.proofs.accepted.Standing.{one_object}
 use Rattle.erd_normal.specs.Canonical.{IsCanonical}
 use Rattle.erd_normal.specs.Laws.{MeanAlike, ObjectsAgree}
-use Rattle.erd_normal.proofs.unique.Unique.{leaves, object_unique, selection_same, unique, within_t, within_u}
+use Rattle.erd_normal.proofs.same.complete.Members.{leaves}
+use Rattle.erd_normal.proofs.unique.Unique.{mean_one, object_unique, selection_same, unique, within_t, within_u}
 
 -- contests are told apart by their `@id` texts
 one_contest : (π : Preference) (t : Data) → IsCanonical π t → (one other : Placed) → Has (objects family.Contest t) one → Has (objects family.Contest t) other → id_of one.value ≡ id_of other.value → one.value ≡ other.value
@@ -27,17 +28,17 @@ object_alike π t u alike family.Contest one other h a b records ids =
     (Has-Contains (objects family.Contest t) other (subst (λ x. IsObject x family.Contest other) (sym (unique π t u alike)) b)) ids
 object_alike π t u alike family.Selection one other h a b records ids = cc
 object_alike π t u alike f one other h a b records ids =
-    object_unique π t u alike.left alike.right alike.same alike.left_tree alike.right_tree [] (role.OfFamily f) one.value other.value (leaves f)
-    (within_t π t u alike.left alike.right alike.same alike.left_tree alike.right_tree f one (Has-Contains (objects f t) one a))
-    (within_u π t u alike.left alike.right alike.same alike.left_tree alike.right_tree f other (Has-Contains (objects f u) other b))
+    object_unique π t u alike.left alike.right (mean_one π t u alike) [] (role.OfFamily f) one.value other.value (leaves f)
+    (within_t π t u alike.left alike.right (mean_one π t u alike) f one (Has-Contains (objects f t) one a))
+    (within_u π t u alike.left alike.right (mean_one π t u alike) f other (Has-Contains (objects f u) other b))
     records ids (λ two n k. elim k [ ])
 
 pub objects_agree : ObjectsAgree
 objects_agree π t u alike = record {
   objects = object_alike π t u alike;
   selections = λ one other a b records ids.
-      selection_same π t u alike.left alike.right alike.same alike.left_tree alike.right_tree one.value other.value
-      (within_t π t u alike.left alike.right alike.same alike.left_tree alike.right_tree family.Selection one (Has-Contains (objects family.Selection t) one a))
-      (within_u π t u alike.left alike.right alike.same alike.left_tree alike.right_tree family.Selection other (Has-Contains (objects family.Selection u) other b))
+      selection_same π t u alike.left alike.right (mean_one π t u alike) one.value other.value
+      (within_t π t u alike.left alike.right (mean_one π t u alike) family.Selection one (Has-Contains (objects family.Selection t) one a))
+      (within_u π t u alike.left alike.right (mean_one π t u alike) family.Selection other (Has-Contains (objects family.Selection u) other b))
       records ids;
 }

@@ -35,24 +35,10 @@ use Rattle.erd_meaning.proofs.accepted.Phases.{no_shape_fault}
 use Rattle.erd_meaning.specs.Keys.{Preference, has_keys}
 use Rattle.erd_normal.specs.Canonical.{IsCanonical}
 use Rattle.erd_normal.proofs.unique.Contents.{SameNames, content_same}
-use Rattle.erd_normal.proofs.unique.Labels.{identifier_simple, label_same}
+use Rattle.erd_normal.proofs.unique.Labels.{label_same}
+use Rattle.erd_normal.proofs.same.complete.Members.{is_apart, not_apart, status_kind, word_same}
+use Rattle.erd_normal.proofs.same.complete.Values.{content_in, identifier_simple, json_in, keys_in, label_in, means_itself}
 use Rattle.erd_normal.proofs.unique.Arrays.{json_set_same, many_same, reference_same, unless_empty-full}
-
--- the kinds of members that mean something by themselves, or never stand in a canonical report
-abbrev pub is_plain : MemberKind → Bool
-is_plain kind.Word = true
-is_plain kind.Label = true
-is_plain kind.Flag = true
-is_plain kind.Whole = true
-is_plain (kind.One f) = has_keys f
-is_plain (kind.Many f) = has_keys f
-is_plain kind.Identifiers = true
-is_plain kind.Content = true
-is_plain kind.Outside = true
-is_plain kind.StrangeReference = true
-is_plain kind.StrangeIdentity = true
-is_plain kind.Carried = true
-is_plain k = false
 
 pub no_outside : (π : Preference) (t : Data) → IsCanonical π t → (v : Data) (r : Bool) → Within t (asked (Member kind.Outside r) v) → ⊥
 no_outside π t canonical v r w =
@@ -63,7 +49,7 @@ no_outside π t canonical v r w =
 full_at : (π : Preference) (t : Data) → IsCanonical π t → (k : MemberKind) (r : Bool) (v : Data) → Within t (asked (Member k r) v) → is_empty_array v ≡ false
 full_at π t canonical k r v w = canonical.no_empty_array w.place (asked (Member k r) v) k w.is refl
 
-plain_some : (π : Preference) (t : Data) → IsCanonical π t → (k : MemberKind) (r : Bool) (v : Data) → is_plain k ≡ true → Within t (asked (want_of_kind k r) v) → (x : PlainValue) × (plain_value π t k v ≡ Some x)
+plain_some : (π : Preference) (t : Data) → IsCanonical π t → (k : MemberKind) (r : Bool) (v : Data) → means_itself k ≡ true → Within t (asked (want_of_kind k r) v) → (x : PlainValue) × (plain_value π t k v ≡ Some x)
 plain_some π t canonical kind.Word r v h w = (_, refl)
 plain_some π t canonical kind.Label r v h w = (_, refl)
 plain_some π t canonical kind.Flag r v h w = (_, refl)
@@ -78,22 +64,6 @@ plain_some π t canonical kind.StrangeIdentity r v h w = absurd (no_strange t (n
 plain_some π t canonical kind.Carried r v h w = (_, refl)
 plain_some π t canonical _ r v h w = cc
 
-abbrev label_in : Option PlainValue → Label
-label_in (Some (a_label l)) = l
-label_in o = untranslated []
-
-abbrev keys_in : Option PlainValue → Key → Bool
-keys_in (Some (a_key_set ks)) = ks
-keys_in o = λ k. false
-
-abbrev json_in : Option PlainValue → Data → Bool
-json_in (Some (a_json_set ds)) = ds
-json_in o = λ d. false
-
-abbrev content_in : Option PlainValue → Content
-content_in (Some (a_content c)) = c
-content_in o = no_content
-
 module _ (π : Preference) (t u : Data) (canonical : IsCanonical π t) (canonical' : IsCanonical π u) (names : SameNames π t u) where
   array_same : (k : MemberKind) (r r' : Bool) (v w : Data) → is_array v ≡ true → is_array w ≡ true → IsTree v → IsTree w → Within t (asked (Member k r) v) → Within u (asked (Member k r') w)
       → ((ds es : Items) → AreTrees ds → AreTrees es → Within t (asked (Member k r) (array ds)) → Within u (asked (Member k r') (array es)) → plain_value π t k (array ds) ≡ plain_value π u k (array es)
@@ -107,7 +77,7 @@ module _ (π : Preference) (t u : Data) (canonical : IsCanonical π t) (canonica
       ds.1 ∙ ap array (equal ds.0 es.0 (subst IsTree ds.1 tree) (subst IsTree es.1 tree') inside_t inside_u
       (sym (ap (plain_value π t k) ds.1) ∙ same ∙ ap (plain_value π u k) es.1) (full_at π t canonical k r (array ds.0) inside_t) (full_at π u canonical' k r' (array es.0) inside_u)) ∙ sym es.1
 
-  plain_value_same : (k : MemberKind) (r r' : Bool) (v w : Data) → is_plain k ≡ true → IsTree v → IsTree w → Within t (asked (want_of_kind k r) v) → Within u (asked (want_of_kind k r') w)
+  plain_value_same : (k : MemberKind) (r r' : Bool) (v w : Data) → means_itself k ≡ true → IsTree v → IsTree w → Within t (asked (want_of_kind k r) v) → Within u (asked (want_of_kind k r') w)
       → plain_value π t k v ≡ plain_value π u k w → v ≡ w
   plain_value_same kind.Word r r' v w h tree tree' inside inside' same = cc
   plain_value_same kind.Label r r' v w h tree tree' inside inside' same = label_same π t u canonical canonical' r r' v w tree tree' inside inside' (ap label_in same)
@@ -122,7 +92,7 @@ module _ (π : Preference) (t u : Data) (canonical : IsCanonical π t) (canonica
       same
   plain_value_same kind.Identifiers r r' v w h tree tree' inside inside' same =
       array_same kind.Identifiers r r' v w (wanted_within t (no_shape_fault π t canonical.accepted) (asked (Member kind.Identifiers r) v) inside) (wanted_within u (no_shape_fault π u canonical'.accepted) (asked (Member kind.Identifiers r') w) inside') tree tree' inside inside'
-      (λ ds es trees trees' i i' e full full'. json_set_same π t u canonical canonical' kind.Identifiers role.Identifier r r' ds es identifier_simple refl refl i i' trees trees'
+      (λ ds es trees trees' i i' e full full'. json_set_same π t u canonical canonical' kind.Identifiers role.Identifier r r' ds es identifier_simple refl refl refl refl i i' trees trees'
       (canonical.in_order i.place (asked (Member kind.Identifiers r) (array ds)) kind.Identifiers i.is refl) (canonical'.in_order i'.place (asked (Member kind.Identifiers r') (array es)) kind.Identifiers i'.is refl)
       (ap json_in (sym (unless_empty-full (a_json_set (json_set (list_of_items ds))) (array ds) full) ∙ e ∙ unless_empty-full (a_json_set (json_set (list_of_items es))) (array es) full')))
       same
@@ -137,7 +107,7 @@ module _ (π : Preference) (t u : Data) (canonical : IsCanonical π t) (canonica
   plain_value_same kind.Carried r r' v w h tree tree' inside inside' same = cc
   plain_value_same _ r r' v w h tree tree' inside inside' same = cc
 
-  pub plain_same : (k : MemberKind) (r r' : Bool) (o p : Option Data) → is_plain k ≡ true → ((v : Data) → o ≡ Some v → IsTree v) → ((v : Data) → p ≡ Some v → IsTree v)
+  pub plain_same : (k : MemberKind) (r r' : Bool) (o p : Option Data) → means_itself k ≡ true → ((v : Data) → o ≡ Some v → IsTree v) → ((v : Data) → p ≡ Some v → IsTree v)
       → ((v : Data) → o ≡ Some v → Within t (asked (want_of_kind k r) v)) → ((v : Data) → p ≡ Some v → Within u (asked (want_of_kind k r') v))
       → option_and_then (plain_value π t k) o ≡ option_and_then (plain_value π u k) p → o ≡ p
   plain_same k r r' None None h tree tree' inside inside' same = refl
@@ -168,31 +138,15 @@ id_member π t accepted w r c ms a = at (get_member (codes "@id") ms) refl
     at None e = refl
     at (Some v) e = id_text π t accepted (is_some (family_of_class c)) (is_required c (codes "@id")) v (id_within π t accepted w r c ms a v e)
 
--- what the record doesn't say
-abbrev pub is_apart : Class → List ℕ → Bool
-is_apart c name = is_in_envelope c name || not (is_plain (kind_of_member c name))
-
-not_apart : (a b : Bool) → a || not b ≡ false → (a ≡ false) × (b ≡ true)
-not_apart true b e = cc
-not_apart false true e = (refl, refl)
-not_apart false false e = cc
-
-json_in_plain : Option PlainValue → Data
-json_in_plain (Some (a_json d)) = d
-json_in_plain o = null
-
--- a word by itself
-word_same : (π : Preference) (o p : Option Data) (t u : Data) → option_and_then (plain_value π t kind.Word) o ≡ option_and_then (plain_value π u kind.Word) p → o ≡ p
-unfolding json_in_plain
-word_same π None None t u e = refl
-word_same π None (Some w) t u e = cc
-word_same π (Some v) None t u e = cc
-word_same π (Some v) (Some w) t u e = ap Some (ap json_in_plain e)
-
--- `Status` is a word
-status_kind : (c : Class) (k : List ℕ) → (is_report_class c && bytes_eq k (codes "Status")) ≡ true → kind_of_member c k ≡ kind.Word
-status_kind class.ElectionReport k e = ap (kind_of_member class.ElectionReport) (text_exact k (codes "Status") e)
-status_kind c k e = cc
+-- an object of a class that has no family has no `@id`
+pub no_id : (π : Preference) (t : Data) → IsAccepted π t → (w : Want) (q : Role) (c : Class) (ms : Members) → ObjectAt t w q c ms → is_some (family_of_class c) ≡ false → id_of (object ms) ≡ None
+no_id π t accepted w q c ms a h = at (get_member (codes "@id") ms) refl
+  where
+    at : (o : Option Data) → get_member (codes "@id") ms ≡ o → option_and_then as_str (get_member (codes "@id") ms) ≡ None
+    at None e = ap (option_and_then as_str) e
+    at (Some v) e =
+        let strange : kind_of_identity c ≡ kind.StrangeIdentity = rw h in
+        absurd (no_strange t (no_shape_fault π t accepted) v (is_required c (codes "@id")) (subst (λ k. Within t (asked (want_of_kind k (is_required c (codes "@id"))) v)) strange (id_within π t accepted w q c ms a v e)))
 
 -- ---- records
 
@@ -230,10 +184,10 @@ module _ (π : Preference) (t u : Data) (canonical : IsCanonical π t) (canonica
       → ((k : List ℕ) → is_apart c k ≡ false → plain_member π t (object ms) c k ≡ plain_member π u (object ns) c k) → ms ≡ ns
   object_same tree tree' ids given same = members_unique ms ns tree tree' (λ k. at k (bytes_eq k (codes "@type")) refl (bytes_eq k (codes "@id")) refl (is_apart c k) refl)
     where
-      plain_at : (k : List ℕ) → bytes_eq k (codes "@type") ≡ false → is_plain (kind_of_member c k) ≡ true → option_and_then (plain_value π t (kind_of_member c k)) (get_member k ms) ≡ option_and_then (plain_value π u (kind_of_member c k)) (get_member k ns)
+      plain_at : (k : List ℕ) → bytes_eq k (codes "@type") ≡ false → means_itself (kind_of_member c k) ≡ true → option_and_then (plain_value π t (kind_of_member c k)) (get_member k ms) ≡ option_and_then (plain_value π u (kind_of_member c k)) (get_member k ns)
           → (s : Bool) → (is_report_class c && bytes_eq k (codes "Status")) ≡ s → get_member k ms ≡ get_member k ns
       plain_at k e plain means true status =
-          word_same π (get_member k ms) (get_member k ns) t u (subst (λ x. option_and_then (plain_value π t x) (get_member k ms) ≡ option_and_then (plain_value π u x) (get_member k ns)) (status_kind c k status) means)
+          word_same π t u (get_member k ms) (get_member k ns) (subst (λ x. option_and_then (plain_value π t x) (get_member k ms) ≡ option_and_then (plain_value π u x) (get_member k ns)) (status_kind c k status) means)
       plain_at k e plain means false other =
           plain_same π t u canonical canonical' names (kind_of_member c k) (is_required c k) (is_required c k) (get_member k ms) (get_member k ns) plain
           (λ v i. get_member-tree k v ms tree i) (λ v i. get_member-tree k v ns tree' i)
@@ -247,5 +201,5 @@ module _ (π : Preference) (t u : Data) (canonical : IsCanonical π t) (canonica
           (id_member π t canonical.accepted w r c ms a ∙ ap (option_map string) ids ∙ sym (id_member π u canonical'.accepted w' r c ns b))
       at k false e false f true g = given k e f g
       at k false e false f false g =
-          let h = not_apart (is_in_envelope c k) (is_plain (kind_of_member c k)) g in
+          let h = not_apart (is_in_envelope c k) (means_itself (kind_of_member c k)) g in
           plain_at k e h.1 (rw h.0 at (same k g)) (is_report_class c && bytes_eq k (codes "Status")) refl

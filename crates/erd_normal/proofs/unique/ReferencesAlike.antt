@@ -29,7 +29,7 @@ use Rattle.erd_normal.specs.Laws.{IsSelection, MeanAlike, ReferencesAgree}
 use Rattle.erd_normal.proofs.unique.Agreement.{same_names}
 use Rattle.erd_normal.proofs.unique.Arrays.{many_same}
 use Rattle.erd_normal.proofs.unique.Contents.{SameNames, content_same}
-use Rattle.erd_normal.proofs.unique.Unique.{unique}
+use Rattle.erd_normal.proofs.unique.Unique.{mean_one, unique}
 
 -- what is asked of a member of a kind
 member_wanted : (w : Want) (k : MemberKind) → kind_wanted w ≡ Some k → (r : Bool) × (w ≡ Member k r)
@@ -46,7 +46,7 @@ within_kind t clean p a k is e =
 set_alike : (π : Preference) (t u : Data) → MeanAlike π t u → (f : Family) (r r' : Bool) (v w : Data) → has_keys f ≡ true → Within t (asked (Member (kind.Many f) r) v) → Within u (asked (Member (kind.Many f) r') w)
     → key_set (keys_named π t f (entries_of v)) ≡ key_set (keys_named π u f (entries_of w)) → v ≡ w
 set_alike π t u alike f r r' v w h inside inside' same =
-    let names : SameNames π t u = same_names π t u alike.left alike.right alike.same in
+    let names : SameNames π t u = same_names π t u alike.left alike.right (mean_one π t u alike) in
     let ds = array_from v (wanted_within t (no_shape_fault π t alike.left.accepted) (asked (Member (kind.Many f) r) v) inside) in
     let es = array_from w (wanted_within u (no_shape_fault π u alike.right.accepted) (asked (Member (kind.Many f) r') w) inside') in
     ds.1 ∙ ap array (many_same π t u names.one_name names.one_name' names.key_same alike.left alike.right f r r' ds.0 es.0 h
@@ -57,7 +57,7 @@ content_alike : (π : Preference) (t u : Data) → MeanAlike π t u → (r r' : 
 content_alike π t u alike r r' v w inside inside' same =
     let ds = array_from v (wanted_within t (no_shape_fault π t alike.left.accepted) (asked (Member kind.Content r) v) inside) in
     let es = array_from w (wanted_within u (no_shape_fault π u alike.right.accepted) (asked (Member kind.Content r') w) inside') in
-    ds.1 ∙ ap array (content_same π t u alike.left alike.right (same_names π t u alike.left alike.right alike.same) r r' ds.0 es.0
+    ds.1 ∙ ap array (content_same π t u alike.left alike.right (same_names π t u alike.left alike.right (mean_one π t u alike)) r r' ds.0 es.0
     (subst IsTree ds.1 (within-tree t (asked (Member kind.Content r) v) alike.left_tree inside)) (subst IsTree es.1 (within-tree u (asked (Member kind.Content r') w) alike.right_tree inside'))
     (subst (λ x. Within t (asked (Member kind.Content r) x)) ds.1 inside) (subst (λ x. Within u (asked (Member kind.Content r') x)) es.1 inside')
     (sym (ap (content_of π t) ds.1) ∙ same ∙ ap (content_of π u) es.1)) ∙ sym es.1
@@ -72,7 +72,7 @@ one_of_name π t accepted k n one other a b =
 
 pub references_agree : ReferencesAgree
 references_agree π t u alike = record {
-  references = λ f a b k h e g. let names : SameNames π t u = same_names π t u alike.left alike.right alike.same in names.one_name.one_name f a b k h e (names.key_same f b h ∙ g);
+  references = λ f a b k h e g. let names : SameNames π t u = same_names π t u alike.left alike.right (mean_one π t u alike) in names.one_name.one_name f a b k h e (names.key_same f b h ∙ g);
   sets = λ f p q a b h is is' e g same.
       let w = within_kind t (no_shape_fault π t alike.left.accepted) p a (kind.Many f) is e in
       let w' = within_kind u (no_shape_fault π u alike.right.accepted) q b (kind.Many f) is' g in

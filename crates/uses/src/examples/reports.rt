@@ -3,7 +3,8 @@ use crate::report_of;
 use erd_check::{same_json, shape};
 use erd_compare::first_difference;
 use erd_meaning::{
-    Key, NumberedName, PerFamily, Report, SelectionName, key_of, resolve, resolve_with,
+    Key, NumberedName, PerFamily, Report, SaltedSet, SelectionName, key_of, places_in, resolve,
+    resolve_with,
 };
 use erd_normal::{CompactText, SetOrder, in_order, normal_text, normal_tree};
 use erd_tables::{Family, Text};
@@ -60,6 +61,7 @@ fn counts(rt: &impl Abort, report: &Report) -> Result<(), Fail> {
 
 // What the report finds by keys.
 fn keys(rt: &impl Abort, alloc: Global, report: &Report) -> Result<(), Fail> {
+    assert_eq!(rt; places_in(alloc, &[2, 0, 1])?.as_slice(), &[1, 2, 0]);
     let county = key(alloc, "fips", "20")?;
     assert_eq!(rt; report.key_at(Family::Unit, 0), Some(&county));
     assert_eq!(rt; report.find(Family::Unit, &county), Some(0));
@@ -106,6 +108,14 @@ fn ranks(rt: &impl Abort, report: &Report) -> Result<(), Fail> {
     Ok(())
 }
 
+// Numbers for keys of two reports, which are hashed under the salts of both.
+fn numbers(rt: &impl Abort, alloc: Global, report: &Report) -> Result<(), Fail> {
+    let mut numbers = SaltedSet::new(alloc, report.salt().joined(&report.salt()));
+    assert_eq!(rt; numbers.insert_full(20)?, (0, true));
+    assert_eq!(rt; numbers.insert_full(20)?, (0, false));
+    Ok(())
+}
+
 fn look_ups(rt: &impl Abort, alloc: Global, tree: &Value, report: &Report) -> Result<(), Fail> {
     positions(rt, tree, report)?;
     objects(rt, report);
@@ -114,6 +124,7 @@ fn look_ups(rt: &impl Abort, alloc: Global, tree: &Value, report: &Report) -> Re
     keys(rt, alloc, report)?;
     rising_keys(rt, alloc, report)?;
     names(rt, alloc, report)?;
+    numbers(rt, alloc, report)?;
     ranks(rt, report)
 }
 

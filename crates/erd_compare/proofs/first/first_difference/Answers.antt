@@ -5,9 +5,6 @@ use Rattle.erd_compare.specs.code.Comparing.{TellsPart}
 use Rattle.erd_compare.proofs.least_difference.PartsInOrder.{equal_meanings, equal_more, first_told, part_at}
 use Rattle.erd_compare.proofs.first.first_difference.Goals as goal
 
-pub invariant_of-sides-clause-numbered : goal.invariant_of-sides-clause-numbered
-invariant_of-sides-clause-numbered c p = (c.in_ok-tables.ensures p).numbers
-
 pub loop-part-preserved : goal.loop-part-preserved
 loop-part-preserved c =
     equal_more (meaning c.args.left.now.prefer (view c.args.left.now.tree)) (meaning c.args.right.now.prefer (view c.args.right.now.tree)) c.loop-part.part-index c.loop-part.invariant

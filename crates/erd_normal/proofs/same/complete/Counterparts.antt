@@ -42,7 +42,7 @@ use Rattle.erd_normal.proofs.same.Related.{matched_within_both}
 use Rattle.erd_normal.proofs.same.complete.ByRecords.{apart_map, apart_one, record_for, records_matched}
 use Rattle.erd_normal.proofs.same.complete.Sets.{apart_by}
 use Rattle.erd_normal.proofs.same.complete.TwoMeanings.{MeanOne}
-use Rattle.erd_normal.proofs.unique.Families.{has_record, records_apart, records_of-keyed}
+use Rattle.erd_normal.proofs.same.complete.PlacedRecords.{has_record, records_apart, records_of-keyed}
 use Rattle.erd_normal.proofs.unique.FamilyArrays.{InElections}
 use Rattle.erd_normal.proofs.unique.Records.{class_within, members_in, record_with-Some}
 use Rattle.erd_normal.proofs.unique.Selections.{has_name, has_selection_record, map_in, selections_value}

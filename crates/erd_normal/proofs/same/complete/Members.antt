@@ -45,7 +45,7 @@ use Rattle.erd_normal.specs.SaysTheSame.{Sides, Same, SameMembers, an_object}
 abbrev pub is_apart : Class → List ℕ → Bool
 is_apart c name = is_in_envelope c name || not (means_itself (kind_of_member c name))
 
-not_apart : (a b : Bool) → a || not b ≡ false → (a ≡ false) × (b ≡ true)
+pub not_apart : (a b : Bool) → a || not b ≡ false → (a ≡ false) × (b ≡ true)
 not_apart true b e = cc
 not_apart false true e = (refl, refl)
 not_apart false false e = cc
@@ -130,7 +130,7 @@ plain_from_value π t u k o o' p q h e = sym (plain_again p) ∙ ap plain_of_val
 
 -- ---- `Status` is a word
 
-status_kind : (c : Class) (k : List ℕ) → (is_report_class c && bytes_eq k (codes "Status")) ≡ true → kind_of_member c k ≡ kind.Word
+pub status_kind : (c : Class) (k : List ℕ) → (is_report_class c && bytes_eq k (codes "Status")) ≡ true → kind_of_member c k ≡ kind.Word
 status_kind class.ElectionReport k e = ap (kind_of_member class.ElectionReport) (text_exact k (codes "Status") e)
 status_kind c k e = cc
 
@@ -138,7 +138,7 @@ json_in : Option PlainValue → Data
 json_in (Some (a_json d)) = d
 json_in o = null
 
-word_same : (π : Preference) (t u : Data) (o p : Option Data) → option_and_then (plain_value π t kind.Word) o ≡ option_and_then (plain_value π u kind.Word) p → o ≡ p
+pub word_same : (π : Preference) (t u : Data) (o p : Option Data) → option_and_then (plain_value π t kind.Word) o ≡ option_and_then (plain_value π u kind.Word) p → o ≡ p
 unfolding json_in
 word_same π t u None None e = refl
 word_same π t u None (Some w) e = cc

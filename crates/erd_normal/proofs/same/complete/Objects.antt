@@ -42,8 +42,7 @@ use Rattle.erd_normal.proofs.same.complete.Texts.{Counterpart, by_key, by_name, 
 use Rattle.erd_normal.proofs.same.complete.TwoMeanings.{MeanOne}
 use Rattle.erd_normal.proofs.unique.FamilyArrays.{InElections, InReport, candidates, headers, offices, parties, persons, styles, units}
 use Rattle.erd_normal.proofs.unique.FamilyArrays.{contests as contests_home}
-use Rattle.erd_normal.proofs.unique.Records.{class_of_record, id_member, members_in}
-use Rattle.erd_normal.proofs.unique.Unique.{no_id}
+use Rattle.erd_normal.proofs.unique.Records.{class_of_record, id_member, members_in, no_id}
 use Rattle.erd_normal.specs.SaysTheSame.{Sides, IsUnused, Same, an_id, an_unused_id, of_the_envelope}
 
 -- two objects of one class
@@ -57,7 +56,7 @@ pub record Two (t u : Data) (q : Role) (d e : Data) : Type 0 where
   pub at : ObjectAt t (Object q) q class ms
   pub at' : ObjectAt u (Object q) q class ns
 
-two_objects : (π : Preference) (t u : Data) → IsAccepted π t → IsAccepted π u → (q : Role) (d e : Data) → Within t (asked (Object q) d) → Within u (asked (Object q) e) → class_of_object q d ≡ class_of_object q e → Two t u q d e
+pub two_objects : (π : Preference) (t u : Data) → IsAccepted π t → IsAccepted π u → (q : Role) (d e : Data) → Within t (asked (Object q) d) → Within u (asked (Object q) e) → class_of_object q d ≡ class_of_object q e → Two t u q d e
 two_objects π t u accepted accepted' q d e w w' same =
     let a : ObjectIn t q d = object_in t (no_shape_fault π t accepted) q d w in
     let b : ObjectIn u q e = object_in u (no_shape_fault π u accepted') q e w' in

@@ -124,6 +124,15 @@ fellow π t u f ds es same x h n =
     let y = kept_has (entry_key π u f) l.0 es l.1 in
     (y.0, y.1, e ∙ ap Some (sym (key_cmp_exact l.0 n.key ((Equal-is (key_cmp l.0 n.key)).0 l.2))) ∙ sym y.2)
 
+-- sets of references that name one set of keys are matched
+pub keys_matched : (π : Preference) (t u : Data) → IsAccepted π t → IsAccepted π u → (f : Family) → has_keys f ≡ true → (r r' : Bool) (ds es : Items)
+    → Within t (asked (Member (kind.Many f) r) (array ds)) → Within u (asked (Member (kind.Many f) r') (array es))
+    → key_set (keys_named π t f (list_of_items ds)) ≡ key_set (keys_named π u f (list_of_items es)) → Matched (λ x y. entry_key π t f x ≡ entry_key π u f y) (list_of_items ds) (list_of_items es)
+keys_matched π t u accepted accepted' f keyed r r' ds es w w' same =
+    matched_by_keys (entry_key π t f) (entry_key π u f) (list_of_items ds) (list_of_items es) (references_apart π t accepted f keyed r ds w) (references_apart π u accepted' f keyed r' es w')
+    (λ x i. fellow π t u f (list_of_items ds) (list_of_items es) same x i (reference_named π t accepted f keyed r ds w x i))
+    (λ y j. let z = fellow π u t f (list_of_items es) (list_of_items ds) (sym same) y j (reference_named π u accepted' f keyed r' es w' y j) in (z.0, z.1, sym z.2))
+
 module _ (π : Preference) (t u : Data) (m : Sides) (accepted : IsAccepted π t) (accepted' : IsAccepted π u) (tied : TextsTied π t u m) where
   -- two references
   pub reference_says : (f : Family) → has_keys f ≡ true → (d e : Data) → NamedBy π t f d → NamedBy π u f e → entry_key π t f d ≡ entry_key π u f e → Same m (Some (Reference f)) d e
@@ -136,12 +145,8 @@ module _ (π : Preference) (t u : Data) (m : Sides) (accepted : IsAccepted π t)
   pub references_matched : (f : Family) → has_keys f ≡ true → (r r' : Bool) (ds es : Items) → Within t (asked (Member (kind.Many f) r) (array ds)) → Within u (asked (Member (kind.Many f) r') (array es))
       → key_set (keys_named π t f (list_of_items ds)) ≡ key_set (keys_named π u f (list_of_items es)) → Matched (Same m (Some (Reference f))) (list_of_items ds) (list_of_items es)
   references_matched f keyed r r' ds es w w' same =
-      let left = reference_named π t accepted f keyed r ds w in
-      let right = reference_named π u accepted' f keyed r' es w' in
-      matched_within_both (Same m (Some (Reference f))) (λ x y i j e. reference_says f keyed x y (left x i) (right y j) e)
-      (matched_by_keys (entry_key π t f) (entry_key π u f) (list_of_items ds) (list_of_items es) (references_apart π t accepted f keyed r ds w) (references_apart π u accepted' f keyed r' es w')
-      (λ x i. fellow π t u f (list_of_items ds) (list_of_items es) same x i (left x i))
-      (λ y j. let z = fellow π u t f (list_of_items es) (list_of_items ds) (sym same) y j (right y j) in (z.0, z.1, sym z.2)))
+      matched_within_both (Same m (Some (Reference f))) (λ x y i j e. reference_says f keyed x y (reference_named π t accepted f keyed r ds w x i) (reference_named π u accepted' f keyed r' es w' y j) e)
+      (keys_matched π t u accepted accepted' f keyed r r' ds es w w' same)
 
 -- ---- JSON values
 

@@ -67,6 +67,19 @@ one_family π t accepted f g o h k =
     let wants : Object (role.OfFamily f) ≡ Object (role.OfFamily g) = ap (λ (a : Asked). a.want) one in
     cc
 
+-- the selection of a contest that a reference names
+pub selection_named : (π : Preference) (v : Data) → IsAccepted π v → (c : Placed) (r : List ℕ) → Has (objects family.Contest v) c → is_selection_in c.value r ≡ true
+    → (x : Placed) × Has (selections_of_contest c) x × (id_of x.value ≡ Some r) × (name_named π v r ≡ name_of π v x.value)
+selection_named π v accepted c r h e =
+    let d = has-any (has_id r) (map (λ (o : Placed). o.value) (selections_of_contest c)) (ap (list_any (has_id r)) (values-placed_entries (codes "ContestSelection") c) ∙ e) in
+    let x = placed_of (selections_of_contest c) d.0 d.1 in
+    let id : id_of x.0.value ≡ Some r = ap id_of x.2 ∙ has_id-Some r d.0 d.2 in
+    (x.0, x.1, id, ap (option_and_then (name_of π v)) (owner_is π v accepted family.Selection x.0 r (flat-has selections_of_contest (contests v) c x.0 h x.1) id))
+  where
+    placed_of : (xs : List Placed) (d : Data) → Has (map (λ x. x.value) xs) d → (x : Placed) × Has xs x × (x.value ≡ d)
+    placed_of [] d h = elim h [ ]
+    placed_of (x ∷ xs) d h = ⊎_elim (λ e. (x, here, e)) (λ k. let r = placed_of xs d k in (r.0, later r.1, r.2)) (Has-cases x.value d (map (λ x. x.value) xs) h)
+
 -- two objects and their `@id`s
 pub record Couple (π : Preference) (t u : Data) : Type 0 where
   pub family : Family
@@ -260,19 +273,6 @@ module _ (π : Preference) (t u : Data) (both : MeanOne π t u) where
 
     -- ---- references
 
-    -- the selection of a contest that a reference names
-    selection_named : (v : Data) → IsAccepted π v → (c : Placed) (r : List ℕ) → Has (objects family.Contest v) c → is_selection_in c.value r ≡ true
-        → (x : Placed) × Has (selections_of_contest c) x × (id_of x.value ≡ Some r) × (name_named π v r ≡ name_of π v x.value)
-    selection_named v accepted c r h e =
-        let d = has-any (has_id r) (map (λ (o : Placed). o.value) (selections_of_contest c)) (ap (list_any (has_id r)) (values-placed_entries (codes "ContestSelection") c) ∙ e) in
-        let x = placed_of (selections_of_contest c) d.0 d.1 in
-        let id : id_of x.0.value ≡ Some r = ap id_of x.2 ∙ has_id-Some r d.0 d.2 in
-        (x.0, x.1, id, ap (option_and_then (name_of π v)) (owner_is π v accepted family.Selection x.0 r (flat-has selections_of_contest (contests v) c x.0 h x.1) id))
-      where
-        placed_of : (xs : List Placed) (d : Data) → Has (map (λ x. x.value) xs) d → (x : Placed) × Has xs x × (x.value ≡ d)
-        placed_of [] d h = elim h [ ]
-        placed_of (x ∷ xs) d h = ⊎_elim (λ e. (x, here, e)) (λ k. let r = placed_of xs d k in (r.0, later r.1, r.2)) (Has-cases x.value d (map (λ x. x.value) xs) h)
-
     pub texts_tied : (l r : Data) → TextsTied π t u (sides l r)
     texts_tied l r = record {
       objects = λ f a b k keyed e g.
@@ -284,8 +284,8 @@ module _ (π : Preference) (t u : Data) (both : MeanOne π t u) where
       selections = λ c d x y k a b e g i j h l' names.
           let o = owned_by t family.Contest c x e in
           let p = owned_by u family.Contest d y g in
-          let s = selection_named t both.left o.0 a o.1 (ap (λ z. is_selection_in z a) o.2 ∙ h) in
-          let s' = selection_named u both.right p.0 b p.1 (ap (λ z. is_selection_in z b) p.2 ∙ l') in
+          let s = selection_named π t both.left o.0 a o.1 (ap (λ z. is_selection_in z a) o.2 ∙ h) in
+          let s' = selection_named π u both.right p.0 b p.1 (ap (λ z. is_selection_in z b) p.2 ∙ l') in
           ids_stand l r family.Selection s.0 s'.0 a b (flat-has selections_of_contest (contests t) o.0 s.0 o.1 s.1) (flat-has selections_of_contest (contests u) p.0 s'.0 p.1 s'.1)
           (by_name refl o.0 p.0 o.1 p.1 (ap (key_of π) o.2 ∙ i ∙ sym j ∙ sym (ap (key_of π) p.2)) s.1 s'.1 (sym s.3 ∙ names ∙ s'.3)) s.2 s'.2;
     }

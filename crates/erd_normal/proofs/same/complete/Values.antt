@@ -112,30 +112,30 @@ module _ (π : Preference) (t : Data) (accepted : IsAccepted π t) (r : Bool) (m
       at (Some v) e = translated_by v e
 
 -- an accepted label is a text or an object
-data LabelView : Data → Type 0 where
+pub data LabelView : Data → Type 0 where
   text_view : {s : List ℕ} → LabelView (string s)
   object_view : {ms : Members} → LabelView (object ms)
 
-label_view : (v : Data) → is_text v || is_object v ≡ true → LabelView v
+pub label_view : (v : Data) → is_text v || is_object v ≡ true → LabelView v
 label_view (string s) h = text_view
 label_view (object ms) h = object_view
 label_view _ h = cc
 
 -- ---- values
 
-abbrev label_in : Option PlainValue → Label
+abbrev pub label_in : Option PlainValue → Label
 label_in (Some (a_label l)) = l
 label_in o = untranslated []
 
-abbrev keys_in : Option PlainValue → Key → Bool
+abbrev pub keys_in : Option PlainValue → Key → Bool
 keys_in (Some (a_key_set ks)) = ks
 keys_in o = λ k. false
 
-abbrev json_in : Option PlainValue → Data → Bool
+abbrev pub json_in : Option PlainValue → Data → Bool
 json_in (Some (a_json_set ds)) = ds
 json_in o = λ d. false
 
-abbrev content_in : Option PlainValue → Content
+abbrev pub content_in : Option PlainValue → Content
 content_in (Some (a_content c)) = c
 content_in o = no_content
 

@@ -13,12 +13,12 @@ use Rattle.erd_compare.proofs.first.tables.difference_at.Goals as goal
 pub object_difference-requires-clause-one : goal.object_difference-requires-clause-one
 object_difference-requires-clause-one c =
     whole_here c.args.sides.left.now.prefer (view c.args.sides.left.now.tree) c.requires.left c.args.part c.args.position (view c.in-Some-Some.value.now)
-    (c.in-Some-Some.ensures ∙ ap (λ r. option_map (λ o. o.value) (slice_get (objects_in r (view c.args.sides.left.now.tree)) c.args.position)) c.role_of-role.ensures)
+    (c.in-Some-Some.ensures ∙ ap (λ r. option_map (λ o. o.value) (slice_get (objects_in r (view c.args.sides.left.now.tree)) c.args.position)) c.role_of-role.ensures.role)
 
 pub object_difference-requires-clause-other : goal.object_difference-requires-clause-other
 object_difference-requires-clause-other c =
     whole_here c.args.sides.right.now.prefer (view c.args.sides.right.now.tree) c.requires.right c.args.part c.args.other_position (view c.in-Some-Some.other_value.now)
-    (c.in-Some-Some.ensures' ∙ ap (λ r. option_map (λ o. o.value) (slice_get (objects_in r (view c.args.sides.right.now.tree)) c.args.other_position)) c.role_of-role.ensures)
+    (c.in-Some-Some.ensures' ∙ ap (λ r. option_map (λ o. o.value) (slice_get (objects_in r (view c.args.sides.right.now.tree)) c.args.other_position)) c.role_of-role.ensures.role)
 
 pub object_difference-requires-clause-one_placed : goal.object_difference-requires-clause-one_placed
 object_difference-requires-clause-one_placed c = sym c.in-Some-Some.ensures
@@ -41,7 +41,7 @@ returns-in_ok-own-in-Some-Some c =
     let l = holder_key_in ρ (role_of_part p) u c.args.other_position in
     IfOk-weaker c.held_difference.result (λ how. (k l : Option Key) → Decides c.is_same_holder.result k l → TellsHeld own k l how) (TellsAtPositions π ρ t u p c.args.position c.args.other_position)
     (λ how held. records_here π ρ t u c.requires.left c.requires.right p c.args.position c.args.other_position one other
-    (c.in-Some-Some.ensures ∙ ap (λ r. option_map (λ o. o.value) (slice_get (objects_in r t) c.args.position)) role.ensures)
-    (c.in-Some-Some.ensures' ∙ ap (λ r. option_map (λ o. o.value) (slice_get (objects_in r u) c.args.other_position)) role.ensures) own
-    (subst (λ r. TellsHow (object_record π t r one) (object_record ρ u r other) own) role.ensures c.in_ok-own-in-Some-Some.ensures) how (held k l c.is_same_holder.ensures))
+    (c.in-Some-Some.ensures ∙ ap (λ r. option_map (λ o. o.value) (slice_get (objects_in r t) c.args.position)) role.ensures.role)
+    (c.in-Some-Some.ensures' ∙ ap (λ r. option_map (λ o. o.value) (slice_get (objects_in r u) c.args.other_position)) role.ensures.role) own
+    (subst (λ r. TellsHow (object_record π t r one) (object_record ρ u r other) own) role.ensures.role c.in_ok-own-in-Some-Some.ensures) how (held k l (subst (λ r. Decides c.is_same_holder.result (holder_key_in π r t c.args.position) (holder_key_in ρ r u c.args.other_position)) role.ensures.role c.is_same_holder.ensures)))
     c.held_difference.ensures

@@ -40,7 +40,7 @@ overflow_add-rank c =
     let shared = as_shared a b p c.requires.left c.requires.right common c.args.sides.ranked _ _ _ role.result n (Some (i, j)) role.ensures.role c.rising-ones.ensures c.rising-others.ensures c.of-common.ensures c.in-Some.ensures in
     let low = low_there a b p c.requires.left c.requires.right common c.args.sides.ranked n c.loop-position.invariant i j shared in
     let ones : n < length c.rising-ones.result.now = subst (λ m. n < m) (ap length (sym (c.rising-ones.ensures ∙ ap (λ r. rising_positions (keys_in_role a.prefer (view a.tree) r)) role.ensures.role))) low in
-    omega (arith, ones, c.type_inv.ones)
+    omega (arith, ones)
 
 pub loop-position-smaller : goal.loop-position-smaller
 loop-position-smaller c =

@@ -1,4 +1,4 @@
-use Rattle.std.proofs.Common.{Some, ap, ◌∙◌, refl, subst}
+use Rattle.std.proofs.Common.{Some, ◌∙◌, refl, subst}
 use Rattle.std.proofs.Common.{◌≡◌, option_map}
 use Rattle.serde_json.specs.View.{view}
 use Rattle.erd_meaning.specs.Judged.{Judged}

@@ -35,7 +35,7 @@ overflow_add-passed c =
     let next : c.next_cmp.result ≡ next_cmp (slice_get ls c.loop-ones.passed) (Some key.0) = c.next_cmp.ensures ∙ ap (next_cmp (slice_get ls c.loop-ones.passed)) (ap (slice_get rs) count ∙ key.1) in
     let there = next_there (slice_get ls c.loop-ones.passed) key.0 Less (sym next ∙ c.in-Less.is) (λ e. cc) in
     let inside = slice_get_within ls c.loop-ones.passed there.0 there.1 in
-    omega (arith, inside, ones_long, c.type_inv.ones)
+    omega (arith, inside, ones_long)
 
 pub loop-ones-smaller-in-Less : goal.loop-ones-smaller-in-Less
 loop-ones-smaller-in-Less c =

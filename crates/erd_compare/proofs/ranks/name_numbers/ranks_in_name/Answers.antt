@@ -1,4 +1,4 @@
-use Rattle.std.proofs.Common.{◌≡◌, ap₂, ap, ◌∙◌}
+use Rattle.std.proofs.Common.{◌≡◌, ap₂, ◌∙◌}
 use Rattle.std.proofs.lemmas.Result.{IfOk-weaker}
 use Rattle.std.specs.List.{filter_map}
 use Rattle.erd_tables.specs.declared.class.Role.TheVariants.{OfFamily}

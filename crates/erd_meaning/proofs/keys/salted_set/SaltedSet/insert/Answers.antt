@@ -1,7 +1,8 @@
-use Rattle.std.proofs.Common.{Result, Ok, Err, OnErr, not, ap, ◌∙◌}
+use Rattle.std.proofs.Common.{not, ap, ◌∙◌}
 use Rattle.std.specs.List.{list_any}
 use Rattle.indexmap.specs.IndexSet.{insert_key}
 use Rattle.erd_meaning.specs.code.Salts.{keys_in}
+use Rattle.erd_meaning.proofs.finding.KeptOnErrors.{on_error}
 use Rattle.erd_meaning.proofs.finding.NumberedKeys.{inserted_any, inserted_keys}
 use Rattle.erd_meaning.proofs.keys.salted_set.SaltedSet.insert.Goals as goal
 
@@ -16,10 +17,6 @@ returns-clause-keys g c =
     ap keys_in c.in_ok-insert.ensures.keys
     ∙ inserted_keys g.K.Hash.hash_input c.self.inside.salt g.K.PartialEq.eq g.met.K.Hash.respects_eq c.number-number.result c.args.key c.number-number.ensures c.self.inside.set.keys c.self.invariant
     ∙ ap (λ ks. insert_key g.K.PartialEq.eq ks c.args.key) c.self.view_is
-
-on_error : {T E P : Type 0} (r : Result T E) → P → OnErr r P
-on_error (Ok x) p = tt
-on_error (Err e) p = p
 
 pub returns-in_err-insert-clause-kept : goal.returns-in_err-insert-clause-kept
 returns-in_err-insert-clause-kept g c = on_error c.from_residual.result (ap keys_in c.in_err-insert.ensures.err ∙ c.self.view_is)

@@ -1,5 +1,6 @@
 use Rattle.std.proofs.Common.{◌≡◌, ◌<◌, ℕ, List, length, map, replicate, sym, ap, ◌∙◌, subst}
 use Rattle.std.proofs.lemmas.Simd.{map-map}
+use Rattle.std.specs.Cmp.Lexicographic.{options_total}
 use Rattle.std.specs.List.{AllByRecursion}
 use Rattle.std.specs.Option.{option_cmp, option_copied}
 use Rattle.erd_meaning.specs.Keys.{key_cmp}
@@ -7,7 +8,9 @@ use Rattle.erd_meaning.specs.code.KeyOrders.{positioned}
 use Rattle.erd_meaning.specs.SelectionNames.{rising_list}
 use Rattle.erd_meaning.specs.code.KeyOrders.{seen_keys}
 use Rattle.erd_meaning.proofs.selections.PositionedKeys.{KeyEntry, KeyPosition, rising_seen}
-use Rattle.erd_meaning.specs.code.KeyOrders.{keys_seen, places_put, rising_positions}
+use Rattle.erd_meaning.specs.code.Orders.{key_cmp_total}
+use Rattle.erd_meaning.specs.code.KeyOrders.{keys_seen, rising_positions}
+use Rattle.erd_meaning.specs.Places.{places_put}
 use Rattle.erd_meaning.proofs.orders.OrdersMade.{all_low, ranks_are}
 use Rattle.erd_meaning.proofs.objects.order.Order.of.Goals as goal
 
@@ -23,7 +26,7 @@ places_in-requires c =
     (c.in_ok-rising.ensures ∙ ap (map (λ (p : KeyEntry). p.1)) c.deref.ensures.value)
     (ap (λ (es : List KeyEntry). seen_keys es) c.in_ok-sorted.ensures ∙ rising_seen c.args.keys.items)
     (ap (rising_list (λ a b. option_cmp key_cmp a.0 b.0)) c.requires.placed) in
-    record { low = subst (λ (ps : List ℕ). AllByRecursion (λ i. i < length ps) ps) (sym (c.deref-2.ensures.value ∙ is)) (all_low (keys_seen c.args.keys.items)) }
+    record { low = subst (λ (ps : List ℕ). AllByRecursion (λ i. i < length ps) ps) (sym (c.deref-2.ensures.value ∙ is)) (all_low (option_cmp key_cmp) (options_total key_cmp_total) (keys_seen c.args.keys.items)) }
 
 pub returns : goal.returns
 returns c =
@@ -32,5 +35,5 @@ returns c =
     (ap (λ (es : List KeyEntry). seen_keys es) c.in_ok-sorted.ensures ∙ rising_seen c.args.keys.items)
     (ap (rising_list (λ a b. option_cmp key_cmp a.0 b.0)) c.requires.placed) in record {
       rises = is;
-      ranked = c.in_ok-ranks.ensures ∙ (ap (λ (ps : List ℕ). places_put 0 ps (replicate (length ps) 0)) (c.deref-2.ensures.value ∙ is) ∙ ranks_are (keys_seen c.args.keys.items) c.requires.distinct);
+      ranked = c.in_ok-ranks.ensures ∙ (ap (λ (ps : List ℕ). places_put 0 ps (replicate (length ps) 0)) (c.deref-2.ensures.value ∙ is) ∙ ranks_are (option_cmp key_cmp) (options_total key_cmp_total) (keys_seen c.args.keys.items) c.requires.distinct);
     }

@@ -1,0 +1,28 @@
+use Rattle.std.proofs.Common.{not, ap, ◌∙◌}
+use Rattle.std.specs.List.{list_any, position_or_len}
+use Rattle.indexmap.specs.IndexSet.{insert_key}
+use Rattle.erd_meaning.specs.code.Salts.{keys_in}
+use Rattle.erd_meaning.proofs.finding.KeptOnErrors.{on_error}
+use Rattle.erd_meaning.proofs.finding.NumberedKeys.{inserted_any, inserted_index, inserted_keys}
+use Rattle.erd_meaning.proofs.keys.salted_set.SaltedSet.insert_full.Goals as goal
+
+pub returns-clause-index : goal.returns-clause-index
+returns-clause-index g c =
+    c.in_ok-insert_full.ensures.index
+    ∙ inserted_index g.K.Hash.hash_input c.self.inside.salt g.K.PartialEq.eq g.met.K.Hash.respects_eq c.number-number.result c.args.key c.number-number.ensures c.self.inside.set.keys c.self.invariant
+    ∙ ap (λ ks. position_or_len (g.K.PartialEq.eq c.args.key) ks) c.self.view_is
+
+pub returns-clause-added : goal.returns-clause-added
+returns-clause-added g c =
+    c.in_ok-insert_full.ensures.added
+    ∙ ap not (inserted_any g.K.Hash.hash_input c.self.inside.salt g.K.PartialEq.eq g.met.K.Hash.respects_eq c.number-number.result c.args.key c.number-number.ensures c.self.inside.set.keys c.self.invariant
+    ∙ ap (λ ks. list_any (g.K.PartialEq.eq c.args.key) ks) c.self.view_is)
+
+pub returns-clause-keys : goal.returns-clause-keys
+returns-clause-keys g c =
+    ap keys_in c.in_ok-insert_full.ensures.keys
+    ∙ inserted_keys g.K.Hash.hash_input c.self.inside.salt g.K.PartialEq.eq g.met.K.Hash.respects_eq c.number-number.result c.args.key c.number-number.ensures c.self.inside.set.keys c.self.invariant
+    ∙ ap (λ ks. insert_key g.K.PartialEq.eq ks c.args.key) c.self.view_is
+
+pub returns-in_err-insert_full-clause-kept : goal.returns-in_err-insert_full-clause-kept
+returns-in_err-insert_full-clause-kept g c = on_error c.from_residual.result (ap keys_in c.in_err-insert_full.ensures.err ∙ c.self.view_is)
