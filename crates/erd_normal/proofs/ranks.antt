@@ -1,18 +1,10 @@
--- The numbers that the code gives objects and selections are their ranks, and the tree that it builds by them is the one that is specified.
-pub mod KeyPositions
-pub mod KeyPlaces
-pub mod Numbered
-pub mod RisingTables
-pub mod RisingEntries  -- the objects that stand with rising keys
-pub mod FamilyNumbers
-pub mod PlacedEntries
+-- Positions and ranks give the order and the `@id`s that are specified, and the tree that is written by them is the one that is specified.
+pub mod InOrder  -- entries in the order of their keys, with their positions
 pub mod PartsFilled
 pub mod PartObjects
-pub mod PartsWhole
-pub mod SelectionPlaces
-pub mod NumberedReferences
+pub mod SelectionRanks
+pub mod RankedReferences
 pub mod SelectionReferences
 pub mod NamesInTurn
 pub mod SelectionsInTurn
-pub mod ContestTables
-pub mod PlacedTrees
+pub mod WrittenTrees

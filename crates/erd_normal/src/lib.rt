@@ -2,7 +2,6 @@
 #![tactic(auto)]
 
 mod laws;
-mod numbers;
 mod objects;
 mod order;
 mod report;
@@ -10,6 +9,7 @@ mod same_forms;
 mod same_laws;
 mod text;
 mod values;
+mod writer;
 
 pub use laws::{
     canonical_form_exists, canonical_is_unique, names_agree, objects_agree, preferences_agree,

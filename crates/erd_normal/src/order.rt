@@ -1,7 +1,5 @@
 //! The orders of the entries of sets, and the sort that applies them.
 
 pub(crate) mod compact_text;
-pub(crate) mod lent_key;
-pub(crate) mod lent_name;
 pub(crate) mod set_order;
 pub(crate) mod stable_sort;

@@ -3,4 +3,3 @@
 pub(crate) mod canonical_form;
 pub(crate) mod election;
 pub(crate) mod report_text;
-pub(crate) mod rising_elections;

@@ -16,7 +16,7 @@ use Rattle.erd_meaning.specs.NameParts.{NameParts}
 use Rattle.erd_meaning.specs.Objects.{Placed, objects}
 use Rattle.erd_meaning.specs.SelectionNames.{name_of}
 use Rattle.erd_normal.proofs.ranks.SelectionReferences.{numbered_at}
-use Rattle.erd_normal.specs.code.KeyRanks.{AreNamedFrom, name_in}
+use Rattle.erd_normal.specs.code.SelectionOrders.{AreNamedFrom, name_in}
 
 -- what stands in one of several lists, among all of them
 part_at : {A B : Type 0} (f : A → List B) (xs : List A) (k : ℕ) (x : A) → k < length xs → x ≡ get_or xs k x → (j : ℕ) (y : B) → slice_get (f x) j ≡ Some y
@@ -32,13 +32,17 @@ part_at f (z ∷ xs) (suc k) x low here j y at =
     let count : length (f z ++ before) + j ≡ length (f z) + (length before + j) = omega (arith, long) in
     get_later (f z) (flat_map f xs) (length (f z ++ before) + j) (length before + j) count ∙ part_at f xs k x (omega arith) here j y at
 
+-- one list more
+pub flat_more : {A B : Type 0} (f : A → List B) (xs : List A) (k : ℕ) (x : A) → k < length xs → x ≡ get_or xs k x → flat_map f (take (k + 1) xs) ≡ flat_map f (take k xs) ++ f x
+flat_more f xs k x low here =
+    ap (flat_map f) (take_more xs k x low)
+    ∙ (flat_map-append f (take k xs) (get_or xs k x ∷ [])
+    ∙ (ap (λ ys. flat_map f (take k xs) ++ ys) (append-nil (f (get_or xs k x)))
+    ∙ ap (λ y. flat_map f (take k xs) ++ f y) (sym here)))
+
 -- where the next list begins
 pub starts_after : {A B : Type 0} (f : A → List B) (xs : List A) (k : ℕ) (x : A) → k < length xs → x ≡ get_or xs k x → length (flat_map f (take (k + 1) xs)) ≡ length (flat_map f (take k xs)) + length (f x)
-starts_after f xs k x low here =
-    ap (λ ys. length (flat_map f ys)) (take_more xs k x low)
-    ∙ (ap length (flat_map-append f (take k xs) (get_or xs k x ∷ []) ∙ ap (λ ys. flat_map f (take k xs) ++ ys) (append-nil (f (get_or xs k x))))
-    ∙ (length-append (flat_map f (take k xs)) (f (get_or xs k x))
-    ∙ ap (λ y. length (flat_map f (take k xs)) + length (f y)) (sym here)))
+starts_after f xs k x low here = ap length (flat_more f xs k x low here) ∙ length-append (flat_map f (take k xs)) (f x)
 
 -- and where it ends
 pub ends_within : {A B : Type 0} (f : A → List B) (xs : List A) (k : ℕ) (x : A) → k < length xs → x ≡ get_or xs k x → length (flat_map f (take k xs)) + length (f x) ≤ length (flat_map f xs)

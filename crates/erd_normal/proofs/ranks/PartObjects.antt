@@ -1,11 +1,10 @@
 -- The objects of one election among the sorted objects of a family: they are the objects that it holds, in the order of their keys.
-use Rattle.std.proofs.Common.{◌≡◌, ◌<◌, ◌≤◌, ◌==◌, ℕ, zero, suc, ◌+◌, List, [], ◌∷◌, ◌++◌, map, filter, length, Bool, true, false, cond, codes, Option, Some, None, option_and_then, unwrap_or, slice_get, refl, sym, ap, ap₂, ◌∙◌, arith}
+use Rattle.std.proofs.Common.{◌≡◌, ◌<◌, ◌≤◌, ◌==◌, ℕ, zero, suc, ◌+◌, List, [], ◌∷◌, ◌++◌, map, filter, length, Bool, true, false, cond, if◌then◌else◌, codes, Option, Some, None, option_and_then, option_map, unwrap_or, slice_get, refl, sym, ap, ap₂, ◌∙◌, arith}
 use Rattle.std.proofs.lemmas.Bool.Decides.{Decides-eqb}
 use Rattle.std.proofs.lemmas.List.{append-nil, length-map}
 use Rattle.std.proofs.lemmas.List.Elements.{filter-append}
 use Rattle.std.specs.Cmp.Lexicographic.{options_total}
-use Rattle.std.proofs.lemmas.Cmp.{on_total}
-use Rattle.std.specs.List.{flat_map}
+use Rattle.std.specs.List.{enumerate_from, flat_map}
 use Rattle.std.specs.Option.{option_cmp, option_map_or}
 use Rattle.std.specs.Str.{bytes_eq}
 use Rattle.serde_json.specs.Data.{Data, Items, no_items, item}
@@ -16,18 +15,18 @@ use Rattle.erd_check.specs.Values.{entries_at, list_of_items}
 use Rattle.erd_meaning.proofs.accepted.Skeleton.{Skeleton, election_entries, skeleton, values-placed_entries}
 use Rattle.erd_meaning.specs.Accepted.{IsAccepted}
 use Rattle.erd_meaning.specs.Keys.{Preference, has_keys, key_cmp, key_of}
+use Rattle.erd_meaning.specs.Lookups.{key_in, rising_election_keys, rising_keys}
 use Rattle.erd_meaning.specs.Objects.{Placed, election_of_place, elections, objects, placed_entries, placed_from, report_of}
 use Rattle.erd_meaning.specs.SelectionNames.{rising_list}
 use Rattle.erd_meaning.specs.code.Orders.{key_cmp_total}
 use Rattle.erd_meaning.specs.declared.keys.key.Key.{Key}
-use Rattle.erd_normal.proofs.lists.FilteredRising.{all_kept, filter_rising}
-use Rattle.erd_normal.proofs.lists.NumberedKept.{kept_map, kept_numbered}
-use Rattle.erd_meaning.proofs.orders.RisingLists.{by_first}
+use Rattle.erd_meaning.proofs.orders.RisingLists.{by_first, rising_list_map}
+use Rattle.erd_check.proofs.Positions.{has_at}
+use Rattle.erd_meaning.proofs.orders.RisingSets.{In-from_has}
+use Rattle.erd_normal.proofs.lists.NumberedKept.{kept_has}
 use Rattle.erd_normal.proofs.lists.StableRising.{map_after}
-use Rattle.erd_normal.proofs.ranks.FamilyNumbers.{values_kept}
-use Rattle.erd_normal.proofs.ranks.RisingTables.{IsOfValue, keys_of_values, values_sorted}
-use Rattle.erd_normal.specs.code.ElectionParts.{objects_of_part, part_at}
-use Rattle.erd_normal.specs.code.KeyRanks.{keyed_from, rising_objects}
+use Rattle.erd_normal.proofs.ranks.InOrder.{positions, stands, values_kept}
+use Rattle.erd_normal.specs.code.ElectionParts.{in_order_of_keys, objects_in_part, part_at, rising_elections, rising_objects}
 use Rattle.erd_normal.specs.code.NormalTree.{by_key}
 
 -- the part that an object stands in
@@ -48,46 +47,61 @@ part_is t family.Contest j o keyed at = ap (λ x. unwrap_or (option_and_then (λ
 part_is t family.Style j o keyed at = ap (λ x. unwrap_or (option_and_then (λ (o : Placed). election_of_place o.place) x) 0) at
 part_is t family.Selection j o keyed at = cc
 
--- what is kept of a table by positions is what is kept of the list
-kept_by_position : {K : Type 0} (key : Data → K) (q : ℕ → Bool) (r : Placed → Bool) (n : ℕ) (os : List Placed) → ((j : ℕ) (o : Placed) → slice_get os j ≡ Some o → q (n + j) ≡ r o)
-    → map (λ (p : K × (ℕ × Data)). p.1.1) (filter (λ p. q p.1.0) (keyed_from key n (map (λ o. o.value) os))) ≡ map (λ o. o.value) (filter r os)
-kept_by_position key q r n [] each = refl
-kept_by_position {K} key q r n (o ∷ os) each =
-    let first : n ≡ n + 0 = omega arith in
-    at (q n) (r o) (ap q first ∙ each 0 o refl)
-    (kept_by_position key q r (n + 1) os (λ j x e. let next : n + 1 + j ≡ n + suc j = omega arith in ap q next ∙ each (suc j) x e))
+module _ (π : Preference) (t : Data) (f : Family) (keyed : has_keys f ≡ true) where
+  -- the objects of a family that has keys, in order
+  pub in_order : rising_objects π t f ≡ in_order_of_keys π (objects f t)
+  in_order = ap (λ b. if b then in_order_of_keys π (objects f t) else []) keyed
+
+  -- and those of a part
+  pub values_of_part : (i : ℕ) → map (λ (o : ℕ × Placed). o.1.value) (objects_in_part π t f i) ≡ rising_list (by_key π) (map (λ o. o.value) (filter (is_in i) (objects f t)))
+  values_of_part i =
+      let key : (Placed → Option Key) = λ o. key_of π o.value in
+      let in_this : (ℕ → Bool) = λ j. part_at t f j == i in
+      ap (λ os. map (λ (o : ℕ × Placed). o.1.value) (filter (λ o. in_this o.0) os)) in_order
+      ∙ (map_after (λ (o : ℕ × Placed). o.1) (λ (o : Placed). o.value) (filter (λ o. in_this o.0) (in_order_of_keys π (objects f t)))
+      ∙ (ap (map (λ (o : Placed). o.value)) (values_kept (option_cmp key_cmp) key (objects f t) (options_total key_cmp_total) in_this (is_in i) (λ j o e. ap (λ n. n == i) (part_is t f j o keyed e)))
+      ∙ rising_list_map (λ (o : Placed). o.value) (by_key π) (filter (is_in i) (objects f t))))
+
+-- an object that stands in a part is that at its position, and its family has keys
+pub in_part_there : (π : Preference) (t : Data) (f : Family) (part k : ℕ) (o : ℕ × Placed) → slice_get (objects_in_part π t f part) k ≡ Some o → (has_keys f ≡ true) × (slice_get (objects f t) o.0 ≡ Some o.1)
+in_part_there π t f part k o e = at (has_keys f) refl e
   where
-    later : List (K × (ℕ × Data))
-    later = filter (λ p. q p.1.0) (keyed_from key (n + 1) (map (λ o. o.value) os))
+    at : (b : Bool) → has_keys f ≡ b → slice_get (filter (λ (o : ℕ × Placed). part_at t f o.0 == part) (if b then in_order_of_keys π (objects f t) else [])) k ≡ Some o → (has_keys f ≡ true) × (slice_get (objects f t) o.0 ≡ Some o.1)
+    at true keyed e =
+        let inside = kept_has (λ (o : ℕ × Placed). part_at t f o.0 == part) (in_order_of_keys π (objects f t)) o (has_at (filter (λ (o : ℕ × Placed). part_at t f o.0 == part) (in_order_of_keys π (objects f t))) k o e) in
+        (keyed, stands (option_cmp key_cmp) (λ (o : Placed). key_of π o.value) (objects f t) o (In-from_has o (in_order_of_keys π (objects f t)) inside))
+    at false none e = cc
 
-    at : (a b : Bool) → a ≡ b → map (λ (p : K × (ℕ × Data)). p.1.1) later ≡ map (λ o. o.value) (filter r os)
-        → map (λ (p : K × (ℕ × Data)). p.1.1) (cond a ((key o.value, (n, o.value)) ∷ later) later) ≡ map (λ o. o.value) (cond b (o ∷ filter r os) (filter r os))
-    at true true e h = ap (λ ds. o.value ∷ ds) h
-    at true false e h = cc
-    at false true e h = cc
-    at false false e h = h
+-- ---- an object that is found at a position
 
-module _ (π : Preference) (t : Data) (f : Family) (keyed : has_keys f ≡ true) (i : ℕ) where
-  abbrev in_this : ℕ → Bool
-  in_this j = part_at t f j == i
+-- what is seen of it
+pub found_value : (x : Option Placed) (d : Data) (o : Placed) → Some d ≡ option_map (λ (o : Placed). o.value) x → x ≡ Some o → d ≡ o.value
+found_value None d o e is = cc
+found_value (Some p) d o e is = let same : d ≡ p.value = cc in let one : p ≡ o = cc in same ∙ ap (λ (q : Placed). q.value) one
 
-  -- the objects of a part, in the order of their keys
-  pub values_of_part : map (λ (o : ℕ × (ℕ × Data)). o.1.1) (objects_of_part π t f i) ≡ rising_list (by_key π) (map (λ o. o.value) (filter (is_in i) (objects f t)))
-  values_of_part =
-      let table = rising_objects π t f in
-      let pairs = map (λ (p : Option Key × (ℕ × Data)). p.1) table in
-      let q : Option Key × (ℕ × Data) → Bool = λ p. in_this p.1.0 in
-      let ds = map (λ (o : Placed). o.value) (objects f t) in
-      let old = keyed_from (key_of π) 0 ds in
-      map_after (λ (o : ℕ × (ℕ × Data)). o.1) (λ (x : ℕ × Data). x.1) (objects_of_part π t f i)
-      ∙ (ap (map (λ (x : ℕ × Data). x.1)) (kept_numbered (λ (x : ℕ × Data). in_this x.0) 1 pairs ∙ kept_map (λ (p : Option Key × (ℕ × Data)). p.1) (λ x. in_this x.0) table)
-      ∙ (sym (map_after (λ (p : Option Key × (ℕ × Data)). p.1) (λ (x : ℕ × Data). x.1) (filter q table))
-      ∙ (ap (λ vs. map (λ (p : Option Key × (ℕ × Data)). p.1.1) (filter q (rising_list (by_first (option_cmp key_cmp)) (keyed_from (key_of π) 0 vs)))) (values_kept f t keyed)
-      ∙ (ap (map (λ (p : Option Key × (ℕ × Data)). p.1.1)) (filter_rising (on_total (λ (p : Option Key × (ℕ × Data)). p.0) (options_total key_cmp_total)) q old)
-      ∙ (values_sorted (option_cmp key_cmp) (key_of π) (filter q old) (all_kept (IsOfValue (option_cmp key_cmp) (key_of π)) q old (keys_of_values (option_cmp key_cmp) (key_of π) 0 ds))
-      ∙ ap (rising_list (by_key π)) (kept_by_position (key_of π) in_this (is_in i) 0 (objects f t) (λ j o e.
-      let count : 0 + j ≡ j = omega arith in
-      ap in_this count ∙ ap (λ n. n == i) (part_is t f j o keyed e))))))))
+-- its key
+pub found_key : (π : Preference) (t : Data) (f : Family) (i : ℕ) (o : Placed) → has_keys f ≡ true → slice_get (objects f t) i ≡ Some o → key_in π f t i ≡ key_of π o.value
+found_key π t f i o keyed at =
+    ap (option_and_then (λ (o : Placed). if has_keys f then key_of π o.value else None)) at ∙ ap (λ b. if b then key_of π o.value else None) keyed
+
+pub seen_key : (π : Preference) (x : Option Placed) (d : Data) → option_map (λ (o : Placed). o.value) x ≡ Some d → option_and_then (λ (o : Placed). key_of π o.value) x ≡ key_of π d
+seen_key π None d e = cc
+seen_key π (Some o) d e = let same : o.value ≡ d = cc in ap (key_of π) same
+
+-- what is made of it
+pub seen_value : {B : Type 0} (f : Data → B) (none : B) (x : Option Placed) (d : Data) → option_map (λ (o : Placed). o.value) x ≡ Some d → option_map_or (λ (o : Placed). f o.value) x none ≡ f d
+seen_value f none None d e = cc
+seen_value f none (Some o) d e = let same : o.value ≡ d = cc in ap f same
+
+pub unseen_value : {B : Type 0} (f : Data → List B) (x : Option Placed) → None ≡ option_map (λ (o : Placed). o.value) x → [] ≡ option_map_or (λ (o : Placed). f o.value) x []
+unseen_value f None e = refl
+unseen_value f (Some o) e = cc
+
+-- one is found below the end
+pub found_below : (os : List Placed) (i : ℕ) → i < length os → None ≡ option_map (λ (o : Placed). o.value) (slice_get os i) → ⊥
+found_below [] i low e = absurd (omega arith)
+found_below (o ∷ os) zero low e = cc
+found_below (o ∷ os) (suc i) low e = found_below os i (omega arith) e
 
 -- ---- which objects stand in an election
 
@@ -191,15 +205,19 @@ module _ (t : Data) (s : Skeleton t) (i : ℕ) (high : length (elections t) ≤ 
   none_held family.Style keyed = none_in_elections (codes "BallotStyle")
   none_held family.Selection keyed = cc
 
-pub no_part : (π : Preference) (t : Data) (f : Family) → IsAccepted π t → (i : ℕ) → length (elections t) ≤ i → objects_of_part π t f i ≡ []
-no_part π t f accepted i high = at (has_keys f) refl
-  where
-    unkeyed : (g : Family) → has_keys g ≡ false → objects_of_part π t g i ≡ []
-    unkeyed family.Selection e = refl
-    unkeyed g e = cc
+pub no_part : (π : Preference) (t : Data) (f : Family) → IsAccepted π t → has_keys f ≡ true → (i : ℕ) → length (elections t) ≤ i → objects_in_part π t f i ≡ []
+no_part π t f accepted keyed i high =
+    none_listed (λ (o : ℕ × Placed). o.1.value) (objects_in_part π t f i)
+    (values_of_part π t f keyed i ∙ ap (λ os. rising_list (by_key π) (map (λ (o : Placed). o.value) os)) (none_held t (skeleton π t accepted) i high f keyed))
 
-    at : (b : Bool) → has_keys f ≡ b → objects_of_part π t f i ≡ []
-    at true keyed =
-        none_listed (λ (o : ℕ × (ℕ × Data)). o.1.1) (objects_of_part π t f i)
-        (values_of_part π t f keyed i ∙ ap (λ os. rising_list (by_key π) (map (λ (o : Placed). o.value) os)) (none_held t (skeleton π t accepted) i high f keyed))
-    at false none = unkeyed f none
+-- ---- the positions that a report lends
+
+-- those of the objects of a family
+pub lent_positions : (π : Preference) (t : Data) (f : Family) → has_keys f ≡ true → map (λ (p : Option Key × ℕ). p.1) (rising_keys π t f) ≡ map (λ (o : ℕ × Placed). o.0) (in_order_of_keys π (objects f t))
+lent_positions π t f keyed =
+    ap (λ b. map (λ (p : Option Key × ℕ). p.1) (rising_list (by_first (option_cmp key_cmp)) (map (λ (p : ℕ × Placed). (if b then key_of π p.1.value else None, p.0)) (enumerate_from 0 (objects f t))))) keyed
+    ∙ positions (option_cmp key_cmp) (λ (o : Placed). key_of π o.value) (objects f t)
+
+-- those of the elections
+pub lent_elections : (π : Preference) (t : Data) → map (λ (p : Option Key × ℕ). p.1) (rising_election_keys π t) ≡ map (λ (e : ℕ × Placed). e.0) (rising_elections π t)
+lent_elections π t = positions (option_cmp key_cmp) (λ (o : Placed). key_of π o.value) (elections t)

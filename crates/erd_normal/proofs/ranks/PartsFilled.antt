@@ -1,11 +1,11 @@
 -- Parts that are filled one entry after another: each has those entries that are put into it, in their order.
-use Rattle.std.proofs.Common.{◌≡◌, ◌+◌, ◌<◌, ◌≤◌, ◌==◌, ◌⊎◌, inl, inr, ℕ, zero, suc, List, [], ◌∷◌, ◌++◌, length, map, filter, take, get_or, Bool, true, false, true≢false, cond, slice_get, slice_set, refl, sym, ap, ◌∙◌, subst, arith}
+use Rattle.std.proofs.Common.{◌≡◌, ◌+◌, ◌<◌, ◌≤◌, ◌==◌, ◌⊎◌, inl, inr, ℕ, zero, suc, List, [], ◌∷◌, ◌++◌, length, map, filter, take, get_or, Bool, true, false, true≢false, cond, Option, Some, None, Vec, Global, option_map, unwrap_or, slice_get, slice_set, refl, sym, ap, ◌∙◌, subst, arith}
 use Rattle.std.proofs.lemmas.Bool.Decides.{Decides-eqb}
-use Rattle.std.proofs.lemmas.List.{append-nil, length-map, map-append, take_more}
-use Rattle.std.specs.List.{enumerate_from, slice_index_or}
+use Rattle.std.proofs.lemmas.List.{append-nil, take_more}
+use Rattle.std.proofs.lemmas.List.Elements.{filter-append}
+use Rattle.std.specs.List.{slice_index_or}
+use Rattle.std.proofs.lemmas.Option.{slice_get-map}
 use Rattle.std.specs.Option.{option_map_or}
-use Rattle.erd_normal.proofs.lists.NumberedKept.{kept_more}
-use Rattle.erd_normal.proofs.ranks.PlacedEntries.{count_taken}
 
 -- the entries of a part, or none if the part is not there
 abbrev pub in_part : {T A : Type 0} → (T → List A) → List T → ℕ → List A
@@ -44,6 +44,29 @@ part_missing items [] (suc i) high = refl
 part_missing items (p ∷ parts) zero high = absurd (omega arith)
 part_missing items (p ∷ parts) (suc i) high = part_missing items parts i (omega arith)
 
+or_none : {A B : Type 0} (f : A → List B) (x : Option A) → option_map_or f x [] ≡ unwrap_or (option_map f x) []
+or_none f None = refl
+or_none f (Some x) = refl
+
+-- the parts that a list gives
+pub part_listed : {A B : Type 0} (parts : List (Vec B Global)) (f : A → List B) (xs : List A) (i : ℕ) → map (λ part. part.items) parts ≡ map f xs → in_part (λ part. part.items) parts i ≡ option_map_or f (slice_get xs i) []
+part_listed {A} {B} parts f xs i e =
+    let items : (Vec B Global → List B) = λ part. part.items in
+    or_none items (slice_get parts i)
+    ∙ (ap (λ x. unwrap_or x []) (sym (slice_get-map items parts i) ∙ (ap (λ ys. slice_get ys i) e ∙ slice_get-map f xs i))
+    ∙ sym (or_none f (slice_get xs i)))
+
+-- an entry that is there is the same under any default
+pub get_or_here : (ns : List ℕ) (k : ℕ) → k < length ns → get_or ns k 0 ≡ get_or ns k (get_or ns k 0)
+get_or_here [] k low = absurd (omega arith)
+get_or_here (n ∷ ns) zero low = refl
+get_or_here (n ∷ ns) (suc k) low = get_or_here_later ns k (get_or ns k 0) (omega arith)
+  where
+    get_or_here_later : (ns : List ℕ) (k d : ℕ) → k < length ns → get_or ns k 0 ≡ get_or ns k d
+    get_or_here_later [] k d low = absurd (omega arith)
+    get_or_here_later (n ∷ ns) zero d low = refl
+    get_or_here_later (n ∷ ns) (suc k) d low = get_or_here_later ns k d (omega arith)
+
 pub below : (i n : ℕ) → (i < n) ⊎ (n ≤ i)
 below i zero = inr (omega arith)
 below zero (suc n) = inl (omega arith)
@@ -51,33 +74,30 @@ below (suc i) (suc n) = elim (below i n) [ inl low ↦ inl (let l = low in omega
 
 -- ---- entries that are put into parts one after another
 
-module _ {A B : Type 0} (part : A → ℕ) (g : B → A) (rising : List B) (count : ℕ) where
+module _ {A : Type 0} (part : A → ℕ) (rising : List A) (count : ℕ) where
   -- what stands in a part after k entries
-  abbrev pub put_in : ℕ → ℕ → List (ℕ × A)
-  put_in k i = filter (λ o. part o.1 == i) (enumerate_from 1 (map g (take k rising)))
+  abbrev pub put_in : ℕ → ℕ → List A
+  put_in k i = filter (λ x. part x == i) (take k rising)
 
-  module _ (k : ℕ) (e : B) (low : k < length rising) (is : e ≡ get_or rising k e) (i : ℕ) where
-    next_kept : put_in (k + 1) i ≡ put_in k i ++ cond (part (g e) == i) ((k + 1, g e) ∷ []) []
+  module _ (k : ℕ) (e : A) (low : k < length rising) (is : e ≡ get_or rising k e) (i : ℕ) where
+    next_kept : put_in (k + 1) i ≡ put_in k i ++ cond (part e == i) (e ∷ []) []
     next_kept =
-        let long : 1 + length (map g (take k rising)) ≡ k + 1 = let n = length-map (take k rising) g ∙ count_taken rising k low in omega (arith, n) in
-        ap (λ xs. filter (λ o. part o.1 == i) (enumerate_from 1 xs)) (ap (map g) (take_more rising k e low) ∙ map-append g (take k rising) (get_or rising k e ∷ []))
-        ∙ (ap (λ x. filter (λ o. part o.1 == i) (enumerate_from 1 (map g (take k rising) ++ g x ∷ []))) (sym is)
-        ∙ (kept_more (λ o. part o.1 == i) 1 (map g (take k rising)) (g e)
-        ∙ ap (λ n. put_in k i ++ cond (part (g e) == i) ((n, g e) ∷ []) []) long))
+        ap (filter (λ x. part x == i)) (take_more rising k e low ∙ ap (λ x. take k rising ++ x ∷ []) (sym is))
+        ∙ filter-append (λ x. part x == i) (take k rising) (e ∷ [])
 
-    pub one_put : (old new : ℕ → List (ℕ × A)) → (i < count → old i ≡ put_in k i)
-        → (part (g e) < count → new (part (g e)) ≡ old (part (g e)) ++ (k + 1, g e) ∷ [])
-        → ((j : ℕ) → (j ≡ part (g e) → ⊥) → new j ≡ old j)
+    pub one_put : (old new : ℕ → List A) → (i < count → old i ≡ put_in k i)
+        → (part e < count → new (part e) ≡ old (part e) ++ e ∷ [])
+        → ((j : ℕ) → (j ≡ part e → ⊥) → new j ≡ old j)
         → i < count → new i ≡ put_in (k + 1) i
-    one_put old new before here elsewhere inside = at (part (g e) == i) refl
+    one_put old new before here elsewhere inside = at (part e == i) refl
       where
-        at : (b : Bool) → (part (g e) == i) ≡ b → new i ≡ put_in (k + 1) i
+        at : (b : Bool) → (part e == i) ≡ b → new i ≡ put_in (k + 1) i
         at true same =
-            let one : part (g e) ≡ i = (Decides-eqb (part (g e)) i).0 same in
-            subst (λ j. j < count → new j ≡ old j ++ (k + 1, g e) ∷ []) one here inside
-            ∙ (ap (λ xs. xs ++ (k + 1, g e) ∷ []) (before inside)
-            ∙ sym (next_kept ∙ ap (λ b. put_in k i ++ cond b ((k + 1, g e) ∷ []) []) same))
+            let one : part e ≡ i = (Decides-eqb (part e) i).0 same in
+            subst (λ j. j < count → new j ≡ old j ++ e ∷ []) one here inside
+            ∙ (ap (λ xs. xs ++ e ∷ []) (before inside)
+            ∙ sym (next_kept ∙ ap (λ b. put_in k i ++ cond b (e ∷ []) []) same))
         at false other =
-            elsewhere i (λ same. true≢false (sym ((Decides-eqb (part (g e)) i).1 (sym same)) ∙ other))
+            elsewhere i (λ same. true≢false (sym ((Decides-eqb (part e) i).1 (sym same)) ∙ other))
             ∙ (before inside
-            ∙ sym (next_kept ∙ (ap (λ b. put_in k i ++ cond b ((k + 1, g e) ∷ []) []) other ∙ append-nil (put_in k i))))
+            ∙ sym (next_kept ∙ (ap (λ b. put_in k i ++ cond b (e ∷ []) []) other ∙ append-nil (put_in k i))))

@@ -1,5 +1,5 @@
--- What a reference to a selection becomes, by the numbers of the selection and its contest.
-use Rattle.std.proofs.Common.{◌≡◌, ◌==◌, ◌+◌, ◌++◌, ℕ, List, [], ◌∷◌, map, true, false, true≢false, codes, Option, Some, None, option_and_then, option_map, unwrap_or, find, slice_get, refl, sym, ap, ap₂, ◌∙◌, subst}
+-- What a reference to a selection becomes, by the ranks of the selection and its contest.
+use Rattle.std.proofs.Common.{◌≡◌, ◌==◌, ◌+◌, ◌++◌, ℕ, List, [], ◌∷◌, map, true, false, true≢false, codes, Option, Some, None, option_and_then, option_map, find, slice_get, refl, sym, ap, ap₂, ◌∙◌, subst}
 use Rattle.std.proofs.lemmas.List.{map-append}
 use Rattle.std.proofs.lemmas.Option.{slice_get-map}
 use Rattle.std.specs.List.{enumerate_from, flat_map}
@@ -18,7 +18,7 @@ use Rattle.erd_meaning.proofs.accepted.Standing.{flat-has, has_id-Some, one_obje
 use Rattle.erd_meaning.specs.Accepted.{IsAccepted}
 use Rattle.erd_meaning.specs.Keys.{Preference, key_of}
 use Rattle.erd_check.specs.Values.{entries_at}
-use Rattle.erd_meaning.specs.Lookups.{FindsId, id_in, rank_of, selection_in}
+use Rattle.erd_meaning.specs.Lookups.{FindsId, id_in, key_in, rank_of, selection_in}
 use Rattle.erd_meaning.specs.NameParts.{NameParts}
 use Rattle.erd_meaning.specs.Objects.{Placed, contests, has_id, id_of, numbered_selections, numbered_selections_of, objects, selections_of_contest}
 use Rattle.erd_meaning.specs.SelectionNames.{name_of}
@@ -28,9 +28,8 @@ use Rattle.erd_normal.proofs.lists.FoundInParts.{FoundSelection, owner_found}
 use Rattle.erd_meaning.proofs.orders.RisingSets.{has_from_In, In-from_has}
 use Rattle.erd_normal.proofs.unique.Selections.{has_name}
 use Rattle.erd_normal.specs.code.NormalTree.{contest_with, id_of_selection, normal_selection_reference, rank_of_name, selection_with}
-use Rattle.erd_normal.specs.code.PlacedTree.{selection_id_numbered}
-use Rattle.erd_normal.specs.code.ObjectNumbers.{AreObjectNumbers, number_in}
-use Rattle.erd_normal.specs.declared.numbers.object_numbers.ObjectNumbers.{ObjectNumbers}
+use Rattle.erd_normal.specs.Canonical.{canonical_selection_id}
+use Rattle.erd_normal.specs.code.SelectionOrders.{AreSelectionRanks}
 
 -- ---- the selections of a report, without the numbers of their contests
 
@@ -54,18 +53,18 @@ numbered_at t i o at =
 -- ---- the selection that has the `@id`
 
 -- the selection at a position with its contest
-record SelectionAt (π : Preference) (t : Data) (id : List ℕ) (i : ℕ) : Type 0 where
-  number : ℕ
-  contest : Placed
-  selection : Placed
-  name : NameParts
-  at : slice_get (numbered_selections t) i ≡ Some (number, selection)
-  contest_at : slice_get (contests t) number ≡ Some contest
-  named : name_of π t selection.value ≡ Some name
-  text : normal_selection_reference π t (string id) ≡ string (id_of_selection π t contest.value selection.value)
+pub record SelectionAt (π : Preference) (t : Data) (id : List ℕ) (i : ℕ) : Type 0 where
+  pub number : ℕ
+  pub contest : Placed
+  pub selection : Placed
+  pub name : NameParts
+  pub at : slice_get (numbered_selections t) i ≡ Some (number, selection)
+  pub contest_at : slice_get (contests t) number ≡ Some contest
+  pub named : name_of π t selection.value ≡ Some name
+  pub text : normal_selection_reference π t (string id) ≡ string (id_of_selection π t contest.value selection.value)
 
 module _ (π : Preference) (t : Data) (id : List ℕ) where
-  selection_at : (i : ℕ) → IsAccepted π t → id_in family.Selection t i ≡ Some id → SelectionAt π t id i
+  pub selection_at : (i : ℕ) → IsAccepted π t → id_in family.Selection t i ≡ Some id → SelectionAt π t id i
   selection_at i accepted here =
       let hit = with_part (λ o. id_of o.value) family.Selection t i id here in
       let o : Placed = hit.0.one in
@@ -113,21 +112,25 @@ module _ (π : Preference) (t : Data) (id : List ℕ) where
           let found = find-Some (λ (c : Placed). option_map_or (λ (o : Placed). true) (find (λ o. has_id id o.value) (selections_of_contest c)) false) (contests t) c is in
           absurd (inside c found.0 (find (λ o. has_id id o.value) (selections_of_contest c)) refl found.1)
 
--- a selection is found
-pub selection_here : (π : Preference) (t : Data) (id : List ℕ) (n : ObjectNumbers) (g : Family) (i : ℕ) → AreObjectNumbers π t n → FindsId t id (Some (g, i)) → (family_number g == family_number family.Selection) ≡ true
-    → string (option_map_or (λ s. selection_id_numbered (number_in n.contests.numbers.items s.0) (number_in n.selections.numbers.items i)) (selection_in π t i) []) ≡ normal_selection_reference π t (string id)
-selection_here π t id n g i tables finds same =
+-- what is looked up where a selection is found
+module _ (π : Preference) (t : Data) (id : List ℕ) (i : ℕ) (s : SelectionAt π t id i) where
+  pub selection_there : selection_in π t i ≡ Some (s.number, s.name)
+  selection_there = ap (option_and_then {T = Numbered} (λ x. option_map (λ n. (x.0, n)) (name_of π t x.1.value))) s.at ∙ ap (option_map (λ n. (s.number, n))) s.named
+
+  pub rank_there : (ranks : List ℕ) → AreSelectionRanks π t ranks → slice_get ranks i ≡ Some (rank_of_name π t (entries_at (codes "ContestSelection") s.contest.value) (name_of π t s.selection.value))
+  rank_there ranks are = are i s.number s.contest s.selection s.at s.contest_at
+
+  pub reference_there : string (canonical_selection_id (rank_of π t family.Contest (key_in π family.Contest t s.number)) (rank_of_name π t (entries_at (codes "ContestSelection") s.contest.value) (name_of π t s.selection.value)))
+      ≡ normal_selection_reference π t (string id)
+  reference_there =
+      ap (λ x. string (canonical_selection_id (rank_of π t family.Contest (option_and_then (λ (o : Placed). key_of π o.value) x)) (rank_of_name π t (entries_at (codes "ContestSelection") s.contest.value) (name_of π t s.selection.value)))) s.contest_at
+      ∙ sym s.text
+
+-- the selection that is found has the `@id`
+pub selection_found : (t : Data) (id : List ℕ) (g : Family) (i : ℕ) → FindsId t id (Some (g, i)) → (family_number g == family_number family.Selection) ≡ true → id_in family.Selection t i ≡ Some id
+selection_found t id g i finds same =
     let one : g ≡ family.Selection = family_exact g family.Selection same in
-    let s = selection_at π t id i tables.accepted ((finds family.Selection i).0 (ap (λ h. Some (h, i)) one)) in
-    let there : selection_in π t i ≡ Some (s.number, s.name) =
-    ap (option_and_then {T = Numbered} (λ x. option_map (λ n. (x.0, n)) (name_of π t x.1.value))) s.at ∙ ap (option_map (λ n. (s.number, n))) s.named in
-    let contest : number_in n.contests.numbers.items s.number ≡ rank_of π t family.Contest (key_of π s.contest.value) + 1 =
-    ap (λ m. unwrap_or m 1) (tables.numbers family.Contest refl s.number s.contest s.contest_at) in
-    let selection : number_in n.selections.numbers.items i ≡ rank_of_name π t (entries_at (codes "ContestSelection") s.contest.value) (name_of π t s.selection.value) + 1 =
-    ap (λ m. unwrap_or m 1) (tables.selections i s.number s.contest s.selection s.at s.contest_at) in
-    ap (λ x. string (option_map_or {T = ℕ × NameParts} (λ s. selection_id_numbered (number_in n.contests.numbers.items s.0) (number_in n.selections.numbers.items i)) x [])) there
-    ∙ ap₂ (λ a b. string (selection_id_numbered a b)) contest selection
-    ∙ sym s.text
+    (finds family.Selection i).0 (ap (λ h. Some (h, i)) one)
 
 -- an object of another family is found
 pub selection_elsewhere : (π : Preference) (t : Data) (id : List ℕ) (g : Family) (i : ℕ) → FindsId t id (Some (g, i)) → (family_number g == family_number family.Selection) ≡ false

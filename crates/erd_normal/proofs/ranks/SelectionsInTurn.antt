@@ -1,7 +1,8 @@
 -- The selections of the contests of a report, one contest after another.
-use Rattle.std.proofs.Common.{◌≡◌, ◌<◌, ◌^◌, ℕ, zero, suc, ◌+◌, List, [], ◌∷◌, length, map, take, get_or, codes, Some, None, slice_get, sym, ap, ◌∙◌, subst, arith}
+use Rattle.std.proofs.Common.{◌≡◌, ◌<◌, ◌^◌, ℕ, zero, suc, ◌+◌, List, [], ◌∷◌, length, map, take, get_or, codes, Option, Some, None, option_map, slice_get, refl, sym, ap, ◌∙◌, subst, arith}
 use Rattle.std.proofs.lemmas.List.{length-map}
 use Rattle.std.specs.List.{flat_map}
+use Rattle.std.specs.Option.{option_map_or}
 use Rattle.serde_json.specs.Data.{Data}
 use Rattle.serde_json.specs.View.{view}
 use Rattle.serde_json.specs.declared.value.Value.{Value}
@@ -11,7 +12,7 @@ use Rattle.erd_meaning.proofs.accepted.Skeleton.{values-placed_flat}
 use Rattle.erd_meaning.specs.Keys.{Preference}
 use Rattle.erd_meaning.specs.Objects.{IsBounded, Placed, contests, objects}
 use Rattle.erd_normal.proofs.ranks.NamesInTurn.{ends_within, named_from}
-use Rattle.erd_normal.specs.code.KeyRanks.{AreNamedFrom}
+use Rattle.erd_normal.specs.code.SelectionOrders.{AreNamedFrom}
 
 -- the contests, without their places, and the selections of one
 abbrev pub contest_values : Data → List Data
@@ -19,6 +20,15 @@ contest_values t = map (λ o. o.value) (contests t)
 
 abbrev pub selections_of : Data → List Data
 selections_of d = entries_at (codes "ContestSelection") d
+
+-- the selections of the contest that is found at a position
+pub listed_there : (x : Option Placed) (d : Data) → Some d ≡ option_map (λ (o : Placed). o.value) x → selections_of d ≡ option_map_or (λ (o : Placed). selections_of o.value) x []
+listed_there None d e = cc
+listed_there (Some o) d e = let same : d ≡ o.value = cc in ap selections_of same
+
+pub unlisted_there : (x : Option Placed) → None ≡ option_map (λ (o : Placed). o.value) x → [] ≡ option_map_or (λ (o : Placed). selections_of o.value) x []
+unlisted_there None e = refl
+unlisted_there (Some o) e = cc
 
 -- what stands at a position
 pub value_there : (ds : List Data) (i : ℕ) (d : Data) → slice_get ds i ≡ Some d → d ≡ get_or ds i d

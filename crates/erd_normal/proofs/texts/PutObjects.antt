@@ -14,7 +14,7 @@ use Rattle.erd_check.specs.Faults.{is_empty_array}
 use Rattle.erd_check.specs.Values.{entries_at}
 use Rattle.erd_normal.specs.code.Building.{put_in}
 use Rattle.erd_normal.specs.code.NormalTree.{array_of, envelope_values, in_envelope, normal_members, normal_object_with, normal_value, unless_no_entry, with_id}
-use Rattle.erd_normal.specs.code.PlacedTree.{holds_parts, placed_election_value, placed_object_value, placed_report_value}
+use Rattle.erd_normal.specs.code.WrittenTree.{holds_parts, written_election_value, written_object_value, written_report_value}
 
 -- members that are kept as they are
 pub copied : (c : Class) (ms : Members) → normal_members (λ name k d. Some d) c ms ≡ ms
@@ -67,13 +67,13 @@ unclassed value (array ds) = refl
 unclassed value (object ms) = refl
 
 -- a member of an election that holds no objects
-pub other_election_value : (π : Preference) (t : Data) (part : ℕ) (k : MemberKind) (d : Data) → ((f : Family) → k ≡ kind.Keyed f → ⊥) → placed_election_value π t part k d ≡ normal_value π t k d
+pub other_election_value : (π : Preference) (t : Data) (part : ℕ) (k : MemberKind) (d : Data) → ((f : Family) → k ≡ kind.Keyed f → ⊥) → written_election_value π t part k d ≡ normal_value π t k d
 other_election_value π t part (kind.Keyed f) d other = absurd (other f refl)
 other_election_value π t part k d other = refl
 
 -- a member of a report that holds no objects and is not in its envelope
 pub other_report_value : (π : Preference) (t : Data) (name : List ℕ) (k : MemberKind) (d : Data) → ((f : Family) → k ≡ kind.Keyed f → ⊥) → (k ≡ kind.Elections → ⊥) → is_envelope_name name ≡ false
-    → placed_report_value π t name k d ≡ normal_value π t k d
+    → written_report_value π t name k d ≡ normal_value π t k d
 other_report_value π t name (kind.Keyed f) d keyed elections other = absurd (keyed f refl)
 other_report_value π t name kind.Elections d keyed elections other = absurd (elections refl)
 other_report_value π t name k d keyed elections other = rw other refl
@@ -87,8 +87,8 @@ kept_unless_empty d v = at (is_empty_array d)
     at false = refl
 
 -- a member of an object is kept: its content or its selections unless empty, and others by their kind
-pub kept_in_object : (π : Preference) (t : Data) (n i : ℕ) (k : MemberKind) (d : Data) → is_some (placed_object_value π t n i k d) ≡ (if holds_parts k then not (is_empty_array d) else is_some (normal_value π t k d))
-kept_in_object π t n i kind.Content d = kept_unless_empty d _
-kept_in_object π t n i (kind.Keyed family.Selection) d = kept_unless_empty d _
-kept_in_object π t n i (kind.Keyed f) d = cc
-kept_in_object π t n i k d = refl
+pub kept_in_object : (π : Preference) (t : Data) (i : ℕ) (k : MemberKind) (d : Data) → is_some (written_object_value π t i k d) ≡ (if holds_parts k then not (is_empty_array d) else is_some (normal_value π t k d))
+kept_in_object π t i kind.Content d = kept_unless_empty d _
+kept_in_object π t i (kind.Keyed family.Selection) d = kept_unless_empty d _
+kept_in_object π t i (kind.Keyed f) d = cc
+kept_in_object π t i k d = refl

@@ -1,5 +1,5 @@
 -- The objects of a report that has no fraction have none.
-use Rattle.std.proofs.Common.{◌≡◌, ◌+◌, ◌++◌, ℕ, List, [], ◌∷◌, map, Bool, true, false, if◌then◌else◌, Some, codes, slice_get}
+use Rattle.std.proofs.Common.{◌≡◌, ◌+◌, ◌++◌, ℕ, List, [], ◌∷◌, false, Option, Some, None, codes, slice_get, option_map, refl, ap, ◌∙◌}
 use Rattle.std.specs.List.{AllByRecursion, flat_map}
 use Rattle.serde_json.specs.Data.{Data}
 use Rattle.serde_json.specs.Written.{has_float}
@@ -9,11 +9,8 @@ use Rattle.erd_tables.specs.declared.place.Step.{Step}
 use Rattle.erd_check.proofs.Order.{In-all}
 use Rattle.erd_check.specs.Values.{entries_at}
 use Rattle.erd_meaning.proofs.finding.OneObject.{in_at}
-use Rattle.erd_meaning.specs.Keys.{has_keys}
 use Rattle.erd_meaning.specs.Objects.{Placed, contests, elections, objects, placed_entries, placed_from}
-use Rattle.erd_normal.proofs.lists.BuiltLists.{all_map}
 use Rattle.erd_normal.proofs.texts.WholeEntries.{all_whole, whole_entries_at}
-use Rattle.erd_normal.specs.code.KeyRanks.{keyed_values}
 
 abbrev IsWhole : Placed → Type 0
 IsWhole o = has_float o.value ≡ false
@@ -51,18 +48,20 @@ module _ (t : Data) (whole : has_float t ≡ false) where
   objects_whole family.Style = in_election (codes "BallotStyle")
   objects_whole family.Selection = parts_whole (codes "ContestSelection") (contests t) (in_election (codes "Contest"))
 
-  pub values_whole : (f : Family) → AllByRecursion (λ d. has_float d ≡ false) (keyed_values f t)
-  values_whole f = at (has_keys f)
+  -- what is found at a position
+  found_whole : (os : List Placed) → AllByRecursion IsWhole os → (i : ℕ) (d : Data) → Some d ≡ option_map (λ (o : Placed). o.value) (slice_get os i) → has_float d ≡ false
+  found_whole os all i d e = at (slice_get os i) refl e
     where
-      at : (keyed : Bool) → AllByRecursion (λ d. has_float d ≡ false) (if keyed then map (λ o. o.value) (objects f t) else [])
-      at true = all_map IsWhole (λ d. has_float d ≡ false) (λ o. o.value) (objects f t) (λ o h. h) (objects_whole f)
-      at false = tt
+      at : (x : Option Placed) → slice_get os i ≡ x → Some d ≡ option_map (λ (o : Placed). o.value) x → has_float d ≡ false
+      at None is h = cc
+      at (Some o) is h = let same : d ≡ o.value = cc in ap has_float same ∙ In-all IsWhole o os all (in_at os i o is)
 
-  pub elections_whole : AllByRecursion (λ d. has_float d ≡ false) (map (λ o. o.value) (elections t))
-  elections_whole = all_map IsWhole (λ d. has_float d ≡ false) (λ o. o.value) (elections t) (λ o h. h) (in_report (codes "Election"))
+  pub object_found : (f : Family) (i : ℕ) (d : Data) → Some d ≡ option_map (λ (o : Placed). o.value) (slice_get (objects f t) i) → has_float d ≡ false
+  object_found f = found_whole (objects f t) (objects_whole f)
 
-  -- the selections of a contest
-  pub selections_whole : (i : ℕ) (o : Placed) → slice_get (contests t) i ≡ Some o → AllByRecursion (λ d. has_float d ≡ false) (entries_at (codes "ContestSelection") o.value)
-  selections_whole i o at =
-      all_whole (entries_at (codes "ContestSelection") o.value)
-      (whole_entries_at (codes "ContestSelection") o.value (In-all IsWhole o (contests t) (objects_whole family.Contest) (in_at (contests t) i o at)))
+  pub election_found : (i : ℕ) (d : Data) → Some d ≡ option_map (λ (o : Placed). o.value) (slice_get (elections t) i) → has_float d ≡ false
+  election_found = found_whole (elections t) (in_report (codes "Election"))
+
+-- the entry of an array at a position
+pub entry_whole : (name : List ℕ) (d : Data) → has_float d ≡ false → (i : ℕ) (e : Data) → slice_get (entries_at name d) i ≡ Some e → has_float e ≡ false
+entry_whole name d whole i e at = In-all (λ d. has_float d ≡ false) e (entries_at name d) (all_whole (entries_at name d) (whole_entries_at name d whole)) (in_at (entries_at name d) i e at)

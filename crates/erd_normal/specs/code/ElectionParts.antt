@@ -1,29 +1,41 @@
--- The objects of a family in the order of their keys, with their numbers, election by election.
-use Rattle.std.specs.Prelude.{ℕ, List, [], Vec, ◌==◌, filter, map, unwrap_or}
+-- The objects of a family in the order of their keys, with their positions, election by election.
+use Rattle.std.specs.Prelude.{ℕ, List, [], Vec, ◌==◌, filter, if◌then◌else◌, map, unwrap_or}
 use Rattle.std.specs.List.{enumerate_from, slice_get}
 use Rattle.std.specs.Option.{option_map_or}
 use Rattle.std.specs.declared.alloc.Global.{Global}
 use Rattle.serde_json.specs.Data.{Data}
-use Rattle.serde_json.specs.View.{view}
-use Rattle.serde_json.specs.declared.value.Value.{Value}
 use Rattle.erd_tables.specs.declared.class.Family.{Family}
-use Rattle.erd_meaning.specs.Keys.{Preference}
+use Rattle.erd_meaning.specs.Keys.{Preference, has_keys}
 use Rattle.erd_meaning.specs.Lookups.{election_in}
-use Rattle.erd_normal.specs.code.KeyRanks.{rising_objects}
-use denote.Ref.{Bor}
+use Rattle.erd_meaning.specs.Objects.{Placed, elections, objects}
+use Rattle.erd_meaning.specs.SelectionNames.{rising_list}
+use Rattle.erd_normal.specs.code.NormalTree.{by_key}
+
+-- The values in the order of their keys, each with its position.
+abbrev pub in_order_of_keys : Preference → List Placed → List (ℕ × Placed)
+in_order_of_keys π os = rising_list (λ a b. by_key π a.1.value b.1.value) (enumerate_from 0 os)
+
+-- The objects of a family in the order of their keys, each with its position. Of selections, which have no keys, there are none.
+abbrev pub rising_objects : Preference → Data → Family → List (ℕ × Placed)
+rising_objects π t f = if has_keys f then in_order_of_keys π (objects f t) else []
+
+-- The elections in the order of their keys, each with its position.
+abbrev pub rising_elections : Preference → Data → List (ℕ × Placed)
+rising_elections π t = in_order_of_keys π (elections t)
 
 -- The position of the election that holds the object at this position of its family, or 0 if none holds it.
 abbrev pub part_at : Data → Family → ℕ → ℕ
 part_at t f i = unwrap_or (election_in f t i) 0
 
--- The objects of a family in the order of their keys, each with its number, counted from 1, and its position.
-abbrev pub numbered_objects : Preference → Data → Family → List (ℕ × (ℕ × Data))
-numbered_objects π t f = enumerate_from 1 (map (λ p. p.1) (rising_objects π t f))
+-- Those objects of a family that the election at this position holds. In a family that no election holds, all of them are at
+-- position 0.
+abbrev pub objects_in_part : Preference → Data → Family → ℕ → List (ℕ × Placed)
+objects_in_part π t f part = filter (λ o. part_at t f o.0 == part) (rising_objects π t f)
 
--- Those of them that the election at this position holds. In a family that no election holds, all of them are at position 0.
-abbrev pub objects_of_part : Preference → Data → Family → ℕ → List (ℕ × (ℕ × Data))
-objects_of_part π t f part = filter (λ o. part_at t f o.1.0 == part) (numbered_objects π t f)
+-- The positions of these objects.
+abbrev pub positions_in_part : Preference → Data → Family → ℕ → List ℕ
+positions_in_part π t f part = map (λ o. o.0) (objects_in_part π t f part)
 
--- The objects of one part, each with its number and its position. A part that is not there has none.
-abbrev pub part_seen : List (Vec (ℕ × (ℕ × Bor Value)) Global) → ℕ → List (ℕ × (ℕ × Data))
-part_seen parts i = map (λ o. (o.0, (o.1.0, view o.1.1.now))) (option_map_or (λ part. part.items) (slice_get parts i) [])
+-- The positions of one part. A part that is not there has none.
+abbrev pub part_seen : List (Vec ℕ Global) → ℕ → List ℕ
+part_seen parts i = option_map_or (λ part. part.items) (slice_get parts i) []

@@ -1,84 +1,109 @@
-ghost use Rattle.std.specs.Prelude.{◌≡◌, ◌++◌, false};
+ghost use Rattle.std.specs.Prelude.{◌≡◌, ◌++◌, ◌<◌, Some, false, length, option_map, slice_get};
 ghost use Rattle.std.specs.Result.{OnOk};
-ghost use Rattle.serde_json.specs.View.{view};
+ghost use Rattle.serde_json.specs.View.{items_of, view};
 ghost use Rattle.serde_json.specs.Written.{has_float};
-ghost use Rattle.erd_normal.specs.code.NormalTree.{array_of};
-ghost use Rattle.erd_normal.specs.code.PlacedTree.{placed_selection, placed_selections};
-ghost use Rattle.erd_normal.specs.code.Tokens.{value_tokens};
+ghost use Rattle.erd_check.specs.Wants.{class_of_object};
+ghost use Rattle.erd_meaning.specs.Objects.{contests};
+ghost use Rattle.erd_meaning.specs.SelectionNames.{selection_role};
+ghost use Rattle.erd_normal.specs.Canonical.{canonical_selection_id};
+ghost use Rattle.erd_normal.specs.code.NormalTree.{array_of, normal_object_with, normal_value, with_id};
+ghost use Rattle.erd_normal.specs.code.Tokens.{items_tokens, value_tokens};
+ghost use Rattle.erd_normal.specs.code.WrittenTree.{written_in_contest, written_selections};
 
-use crate::numbers::id_texts::selection_id_text;
-use crate::numbers::numbered_report::NumberedReport;
 use crate::objects::members::MemberRule;
 use crate::objects::written_object::write_object;
 use crate::text::due_members::{DueMember, DueValue};
 use crate::text::output::Output;
 use crate::values::value_of_kind::{is_kept, write_of_kind};
+use crate::writer::Writer;
+use crate::writer::ids::selection_id_text;
+use erd_check::values::entries_at;
 use erd_tables::{Family, MemberKind, Role};
 use serde_json::Value;
-use std::alloc::{AllocError, Global};
+use std::alloc::AllocError;
 
 /// The rule for the members of a selection.
 #[derive(Drop)]
 struct SelectionMembers<'a> {
-    numbered: &'a NumberedReport<'a>,
+    writer: &'a Writer<'a>,
 }
 
 impl<'a> MemberRule for SelectionMembers<'a> {
     ghost use Rattle.serde_json.specs.View.{view};
     ghost use Rattle.erd_normal.specs.code.NormalTree.{normal_value};
 
-    ghost value_of = { λ rule name kind d. normal_value rule.numbered.now.prefer (view rule.numbered.now.tree) kind d };
+    ghost value_of = { λ rule name kind d. normal_value rule.writer.now.prefer (view rule.writer.now.tree) kind d };
 
     fn keeps(&self, _name: &str, kind: MemberKind, member: &Value) -> bool {
         is_kept(kind, member)
     }
 
-    fn write(
-        &self,
-        alloc: Global,
-        kind: MemberKind,
-        member: &Value,
-        out: &mut Output,
-    ) -> Result<(), AllocError> {
-        write_of_kind(alloc, self.numbered, kind, member, out)
+    fn write(&self, kind: MemberKind, member: &Value, out: &mut Output) -> Result<(), AllocError> {
+        write_of_kind(self.writer, kind, member, out)
     }
 }
 
-/// Writes the array of the canonical selections of the contest with this number and position, sorted by name.
+/// Writes the array of the canonical selections of the contest at a position, sorted by name.
 pub(crate) fn write_selections(
-    alloc: Global,
-    numbered: &NumberedReport,
-    contest: usize,
+    writer: &Writer,
     position: usize,
     out: &mut Output,
 ) -> Result<(), AllocError>
-    ensures { OnOk result (out.new ≡ out.old ++ value_tokens (array_of (placed_selections numbered.now.prefer (view numbered.now.tree) contest position))) }
+    ensures { OnOk result (out.new ≡ out.old ++ value_tokens (array_of (written_selections writer.now.prefer (view writer.now.tree) position))) }
 {
     out.begin_array()?;
-    let rising = numbered.selections_of(position);
-    for (index, entry) in rising.iter().enumerate() {
-        write_selection(alloc, numbered, (contest, index + 1), entry.1.1, out)?;
+    match writer.object(Family::Contest, position) {
+        Some(contest) => write_in_contest(writer, position, contest, out),
+        None => out.end_array(),
+    }
+}
+
+/// Writes the canonical selections of the contest at a position, and the end of their array.
+fn write_in_contest(
+    writer: &Writer,
+    position: usize,
+    contest: &Value,
+    out: &mut Output,
+) -> Result<(), AllocError>
+    requires there { option_map (λ o. o.value) (slice_get (contests (view writer.now.tree)) position) ≡ Some (view contest.now) }
+    requires whole { has_float (view contest.now) ≡ false }
+    ensures { OnOk result (out.new ≡ out.old ++ items_tokens (items_of (written_in_contest writer.now.prefer (view writer.now.tree) (view contest.now)))) }
+{
+    let selections = entries_at(contest, "ContestSelection");
+    let contest_rank = writer.rank_at(Family::Contest, position);
+    let rising = writer.rising_selections(position);
+    for (rank, index) in rising.iter().enumerate() {
+        let ranks = (contest_rank, rank);
+        write_selection(writer, ranks, entry_at(selections, *index), out)?;
     }
     out.end_array()
 }
 
-/// Writes the canonical selection with these numbers: that of its contest, and its own.
+/// Returns the entry at a position.
+fn entry_at(values: &[Value], position: usize) -> &Value
+    requires there { position < length values.now }
+    ensures { slice_get values.now position ≡ Some result.now }
+{
+    &values[position]
+}
+
+/// Writes the canonical selection with these ranks: that of its contest, and its own.
 fn write_selection(
-    alloc: Global,
-    numbered: &NumberedReport,
-    numbers: (usize, usize),
+    writer: &Writer,
+    ranks: (usize, usize),
     value: &Value,
     out: &mut Output,
 ) -> Result<(), AllocError>
     requires whole { has_float (view value.now) ≡ false }
-    ensures { OnOk result (out.new ≡ out.old ++ value_tokens (placed_selection numbered.now.prefer (view numbered.now.tree) numbers.0 numbers.1 (view value.now))) }
+    ensures { OnOk result (out.new ≡ out.old ++ value_tokens (with_id (Some (canonical_selection_id ranks.0 ranks.1))
+        (normal_object_with (λ name k v. normal_value writer.now.prefer (view writer.now.tree) k v) (class_of_object selection_role (view value.now)) (view value.now)))) }
 {
-    let id = selection_id_text(alloc, numbers.0, numbers.1)?;
+    let id = selection_id_text(writer.alloc, ranks.0, ranks.1)?;
     let due = [DueMember {
         name: "@id",
         value: DueValue::Text(id.as_str()),
     }];
-    let rule = SelectionMembers { numbered };
+    let rule = SelectionMembers { writer };
     let role = Role::OfFamily(Family::Selection);
-    write_object(alloc, &rule, role, &due, value, out)
+    write_object(writer.alloc, &rule, role, &due, value, out)
 }

@@ -27,13 +27,7 @@ impl MemberRule for CopiedMembers {
         true
     }
 
-    fn write(
-        &self,
-        _alloc: Global,
-        _kind: MemberKind,
-        member: &Value,
-        out: &mut Output,
-    ) -> Result<(), AllocError> {
+    fn write(&self, _kind: MemberKind, member: &Value, out: &mut Output) -> Result<(), AllocError> {
         write_value(member, out)
     }
 }

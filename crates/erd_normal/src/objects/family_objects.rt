@@ -1,14 +1,14 @@
-ghost use Rattle.std.specs.Prelude.{◌≡◌, ◌++◌, false, option_map, string_bytes};
+ghost use Rattle.std.specs.Prelude.{◌≡◌, ◌++◌, ◌<◌, Some, false, true, length, option_map, slice_get, string_bytes};
 ghost use Rattle.std.specs.Result.{OnOk};
 ghost use Rattle.serde_json.specs.View.{view};
 ghost use Rattle.serde_json.specs.Written.{has_float};
 ghost use Rattle.erd_normal.specs.code.NormalTree.{array_of, normal_object_with, with_id};
 ghost use Rattle.erd_check.specs.Wants.{class_of_object};
-ghost use Rattle.erd_normal.specs.code.PlacedTree.{holds_parts, placed_object, placed_objects};
+ghost use Rattle.erd_meaning.specs.Keys.{has_keys};
+ghost use Rattle.erd_meaning.specs.Objects.{Placed, objects};
+ghost use Rattle.erd_normal.specs.code.WrittenTree.{holds_parts, written_object, written_objects};
 ghost use Rattle.erd_normal.specs.code.Tokens.{value_tokens};
 
-use crate::numbers::id_texts::optional_id_text;
-use crate::numbers::numbered_report::NumberedReport;
 use crate::objects::contest_selections::write_selections;
 use crate::objects::members::MemberRule;
 use crate::objects::written_object::write_object;
@@ -16,24 +16,25 @@ use crate::text::due_members::{DueMember, DueValue};
 use crate::text::output::Output;
 use crate::values::content::write_content;
 use crate::values::value_of_kind::{is_kept, write_of_kind};
+use crate::writer::Writer;
+use crate::writer::ids::optional_id_text;
 use erd_check::values::is_empty_array;
 use erd_tables::{Family, MemberKind, Role};
 use serde_json::Value;
 use std::alloc::{AllocError, Global};
 
-/// The rule for the members of the object with this number and position.
+/// The rule for the members of the object at this position of its family.
 #[derive(Drop)]
 struct ObjectMembers<'a> {
-    numbered: &'a NumberedReport<'a>,
-    number: usize,
+    writer: &'a Writer<'a>,
     position: usize,
 }
 
 impl<'a> MemberRule for ObjectMembers<'a> {
     ghost use Rattle.serde_json.specs.View.{view};
-    ghost use Rattle.erd_normal.specs.code.PlacedTree.{placed_object_value};
+    ghost use Rattle.erd_normal.specs.code.WrittenTree.{written_object_value};
 
-    ghost value_of = { λ rule name kind d. placed_object_value rule.numbered.now.prefer (view rule.numbered.now.tree) rule.number rule.position kind d };
+    ghost value_of = { λ rule name kind d. written_object_value rule.writer.now.prefer (view rule.writer.now.tree) rule.position kind d };
 
     fn keeps(&self, _name: &str, kind: MemberKind, member: &Value) -> bool {
         if holds_parts(kind) {
@@ -43,19 +44,13 @@ impl<'a> MemberRule for ObjectMembers<'a> {
         }
     }
 
-    fn write(
-        &self,
-        alloc: Global,
-        kind: MemberKind,
-        member: &Value,
-        out: &mut Output,
-    ) -> Result<(), AllocError> {
+    fn write(&self, kind: MemberKind, member: &Value, out: &mut Output) -> Result<(), AllocError> {
         match kind {
-            MemberKind::Content => write_content(alloc, self.numbered, member, out),
+            MemberKind::Content => write_content(self.writer, member, out),
             MemberKind::Keyed(Family::Selection) => {
-                write_selections(alloc, self.numbered, self.number, self.position, out)
+                write_selections(self.writer, self.position, out)
             }
-            _ => write_of_kind(alloc, self.numbered, kind, member, out),
+            _ => write_of_kind(self.writer, kind, member, out),
         }
     }
 }
@@ -73,41 +68,42 @@ fn holds_parts(kind: MemberKind) -> bool
 /// Writes the array of the canonical objects of a family in the election at a position, sorted by key. The objects of the
 /// report itself stand at position 0.
 pub(crate) fn write_family(
-    alloc: Global,
-    numbered: &NumberedReport,
+    writer: &Writer,
     family: Family,
     part: usize,
     out: &mut Output,
 ) -> Result<(), AllocError>
-    ensures { OnOk result (out.new ≡ out.old ++ value_tokens (array_of (placed_objects numbered.now.prefer (view numbered.now.tree) family part))) }
+    ensures { OnOk result (out.new ≡ out.old ++ value_tokens (array_of (written_objects writer.now.prefer (view writer.now.tree) family part))) }
 {
     out.begin_array()?;
-    for entry in numbered.rising(family, part) {
-        write_placed(alloc, numbered, family, entry.0, entry.1, out)?;
+    for position in writer.rising(family, part) {
+        write_object_at(writer, family, *position, out)?;
     }
     out.end_array()
 }
 
-/// Writes the canonical object of a family with this number, from its position and its value.
-fn write_placed(
-    alloc: Global,
-    numbered: &NumberedReport,
+/// Writes the canonical object of a family at a position.
+fn write_object_at(
+    writer: &Writer,
     family: Family,
-    number: usize,
-    placed: (usize, &Value),
+    position: usize,
     out: &mut Output,
 ) -> Result<(), AllocError>
-    requires whole { has_float (view placed.1.now) ≡ false }
-    ensures { OnOk result (out.new ≡ out.old ++ value_tokens (placed_object numbered.now.prefer (view numbered.now.tree) family number (placed.entry.0, view placed.entry.1.now))) }
+    requires keyed { has_keys family ≡ true }
+    requires there { position < length (objects family (view writer.now.tree)) }
+    ensures { OnOk result ((o : Placed) → slice_get (objects family (view writer.now.tree)) position ≡ Some o
+        → out.new ≡ out.old ++ value_tokens (written_object writer.now.prefer (view writer.now.tree) family position o.value)) }
 {
-    let (position, value) = placed;
-    let rule = ObjectMembers {
-        numbered,
-        number,
-        position,
-    };
-    let id = optional_id_text(alloc, family, number)?;
-    write_identified(alloc, &rule, Role::OfFamily(family), &id, value, out)
+    match writer.object(family, position) {
+        Some(object) => {
+            let rank = writer.rank_at(family, position);
+            let id = optional_id_text(writer.alloc, family, rank)?;
+            let rule = ObjectMembers { writer, position };
+            let role = Role::OfFamily(family);
+            write_identified(writer.alloc, &rule, role, &id, object, out)
+        }
+        None => unreachable!(),
+    }
 }
 
 /// Writes an object that has the role, with each member written by the rule, and with this `@id`, if there is one.

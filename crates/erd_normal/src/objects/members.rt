@@ -25,13 +25,7 @@ pub(crate) trait MemberRule {
         ensures { result ≡ is_some (value_of self.now name.now kind (view member.now)) };
 
     /// Writes the canonical value of a member that is kept.
-    fn write(
-        &self,
-        alloc: Global,
-        kind: MemberKind,
-        member: &Value,
-        out: &mut Output,
-    ) -> Result<(), AllocError>
+    fn write(&self, kind: MemberKind, member: &Value, out: &mut Output) -> Result<(), AllocError>
         ensures { OnOk result (has_float (view member.now) ≡ false → (name : List ℕ) (d : Data) → value_of self.now name kind (view member.now) ≡ Some d → out.new ≡ out.old ++ value_tokens d) };
 }
 
@@ -97,7 +91,7 @@ fn write_kept<R: MemberRule>(
     let (is_replaced, left) = write_through(alloc, due, at, name, out)?;
     if !is_replaced {
         out.key(name)?;
-        rule.write(alloc, kind, value, out)?;
+        rule.write(kind, value, out)?;
     }
     Ok(left)
 }

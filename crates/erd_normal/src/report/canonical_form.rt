@@ -6,10 +6,9 @@ ghost use Rattle.erd_check.specs.Trees.{IsNoDeeper, IsTree};
 ghost use Rattle.erd_normal.specs.Canonical.{IsCanonicalFormOf};
 ghost use Rattle.erd_normal.specs.CanonicalText.{IsCanonicalText};
 
-use crate::numbers::numbered_report::NumberedReport;
-use crate::numbers::numbering::numbers_of;
 use crate::report::report_text::write_report;
 use crate::text::output::Output;
+use crate::writer::{Writer, orders_of};
 use erd_meaning::Report;
 use serde_json::Value;
 use std::alloc::{AllocError, Global};
@@ -17,9 +16,8 @@ use std::alloc::{AllocError, Global};
 /// Returns the text of the canonical form of a report: the compact text of the only canonical tree that means what the report
 /// means, under the preference that the report was resolved under.
 ///
-/// First, the objects of each family are sorted by key, and the selections of each contest by name. This gives their numbers
-/// and the order in which they are written. Then one pass over the report writes the text, and sorts the entries of each set.
-/// It builds no tree.
+/// The report has the orders of its objects by key. First, the selections of each contest are sorted by name. Then one pass over
+/// the report writes the text, and sorts the entries of each set. It builds no tree.
 ///
 /// # Errors
 ///
@@ -33,9 +31,9 @@ pub fn normal_text(alloc: Global, report: &Report) -> Result<Vec<u8>, AllocError
     ensures { IfOk result (λ text. IsCanonicalText report.now.prefer (view report.now.tree) text.items) }
 {
     let _accepted = report.tree();
-    let numbers = numbers_of(alloc, report)?;
+    let orders = orders_of(alloc, report)?;
     let mut out = Output::new(alloc);
-    write_report(alloc, &NumberedReport::of(report, &numbers), &mut out)?;
+    write_report(&Writer::of(alloc, report, &orders), &mut out)?;
     Ok(out.into_text())
 }
 

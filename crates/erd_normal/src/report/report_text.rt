@@ -4,7 +4,6 @@ ghost use Rattle.serde_json.specs.View.{view};
 ghost use Rattle.erd_normal.specs.code.NormalTree.{normal_tree};
 ghost use Rattle.erd_normal.specs.code.Tokens.{value_tokens};
 
-use crate::numbers::numbered_report::NumberedReport;
 use crate::objects::family_objects::write_family;
 use crate::objects::members::MemberRule;
 use crate::objects::written_object::write_object;
@@ -12,22 +11,23 @@ use crate::report::election::write_elections;
 use crate::text::due_members::{DueMember, DueValue};
 use crate::text::output::Output;
 use crate::values::value_of_kind::{is_kept, write_of_kind};
+use crate::writer::Writer;
 use erd_check::values::is_empty_array;
 use erd_tables::{MemberKind, Role, is_envelope};
 use serde_json::Value;
-use std::alloc::{AllocError, Global};
+use std::alloc::AllocError;
 
 /// The rule for the members of a report.
 #[derive(Drop)]
 struct ReportMembers<'a> {
-    numbered: &'a NumberedReport<'a>,
+    writer: &'a Writer<'a>,
 }
 
 impl<'a> MemberRule for ReportMembers<'a> {
     ghost use Rattle.serde_json.specs.View.{view};
-    ghost use Rattle.erd_normal.specs.code.PlacedTree.{placed_report_value};
+    ghost use Rattle.erd_normal.specs.code.WrittenTree.{written_report_value};
 
-    ghost value_of = { λ rule name kind d. placed_report_value rule.numbered.now.prefer (view rule.numbered.now.tree) name kind d };
+    ghost value_of = { λ rule name kind d. written_report_value rule.writer.now.prefer (view rule.writer.now.tree) name kind d };
 
     fn keeps(&self, name: &str, kind: MemberKind, member: &Value) -> bool {
         match kind {
@@ -37,17 +37,11 @@ impl<'a> MemberRule for ReportMembers<'a> {
         }
     }
 
-    fn write(
-        &self,
-        alloc: Global,
-        kind: MemberKind,
-        member: &Value,
-        out: &mut Output,
-    ) -> Result<(), AllocError> {
+    fn write(&self, kind: MemberKind, member: &Value, out: &mut Output) -> Result<(), AllocError> {
         match kind {
-            MemberKind::Keyed(family) => write_family(alloc, self.numbered, family, 0, out),
-            MemberKind::Elections => write_elections(alloc, self.numbered, out),
-            _ => write_of_kind(alloc, self.numbered, kind, member, out),
+            MemberKind::Keyed(family) => write_family(self.writer, family, 0, out),
+            MemberKind::Elections => write_elections(self.writer, out),
+            _ => write_of_kind(self.writer, kind, member, out),
         }
     }
 }
@@ -84,15 +78,11 @@ const ENVELOPE: [DueMember<'static>; 7] = [
     },
 ];
 
-/// Writes the canonical form of a report, from the numbers of its objects.
-pub(crate) fn write_report(
-    alloc: Global,
-    numbered: &NumberedReport,
-    out: &mut Output,
-) -> Result<(), AllocError>
-    ensures { OnOk result (out.new ≡ out.old ++ value_tokens (normal_tree numbered.now.prefer (view numbered.now.tree))) }
+/// Writes the canonical form of a report.
+pub(crate) fn write_report(writer: &Writer, out: &mut Output) -> Result<(), AllocError>
+    ensures { OnOk result (out.new ≡ out.old ++ value_tokens (normal_tree writer.now.prefer (view writer.now.tree))) }
 {
-    let root = numbered.report().tree();
-    let rule = ReportMembers { numbered };
-    write_object(alloc, &rule, Role::Report, &ENVELOPE, root, out)
+    let root = writer.report().tree();
+    let rule = ReportMembers { writer };
+    write_object(writer.alloc, &rule, Role::Report, &ENVELOPE, root, out)
 }

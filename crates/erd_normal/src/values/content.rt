@@ -8,29 +8,28 @@ ghost use Rattle.erd_meaning.specs.Keys.{Preference};
 ghost use Rattle.erd_normal.specs.code.NormalTree.{normal_content, normal_node, normal_node_members, normal_node_value, normal_nodes};
 ghost use Rattle.erd_normal.specs.code.Tokens.{items_tokens, member_tokens, members_tokens, value_tokens};
 
-use crate::numbers::numbered_report::NumberedReport;
 use crate::text::output::Output;
 use crate::text::value::write_value;
 use crate::values::value_of_kind::{is_kept, write_of_kind};
+use crate::writer::Writer;
 use erd_check::values::{class_of_object, is_empty_array};
 use erd_tables::{Class, MemberKind, Role, member_kind};
 use serde_json::{Map, Value};
-use std::alloc::{AllocError, Global};
+use std::alloc::AllocError;
 
 /// Writes the canonical list for a list of contests and headers, at every depth of headers.
 #[cycle(content)]
 pub(crate) fn write_content(
-    alloc: Global,
-    numbered: &NumberedReport,
+    writer: &Writer,
     value: &Value,
     out: &mut Output,
 ) -> Result<(), AllocError>
-    ensures { OnOk result (has_float (view value.now) ≡ false → out.new ≡ out.old ++ value_tokens (normal_content numbered.now.prefer (view numbered.now.tree) (view value.now))) }
+    ensures { OnOk result (has_float (view value.now) ≡ false → out.new ≡ out.old ++ value_tokens (normal_content writer.now.prefer (view writer.now.tree) (view value.now))) }
 {
     match value {
         Value::Array(items) => {
             out.begin_array()?;
-            write_nodes(alloc, numbered, items, out)
+            write_nodes(writer, items, out)
         }
         other => write_value(other, out),
     }
@@ -38,36 +37,26 @@ pub(crate) fn write_content(
 
 /// Writes the canonical contests and headers of an array, and its end.
 #[cycle(content)]
-fn write_nodes(
-    alloc: Global,
-    numbered: &NumberedReport,
-    items: &Vec<Value>,
-    out: &mut Output,
-) -> Result<(), AllocError>
+fn write_nodes(writer: &Writer, items: &Vec<Value>, out: &mut Output) -> Result<(), AllocError>
     ensures { OnOk result (items_have_float (items_view items.now.items) ≡ false
-        → out.new ≡ out.old ++ items_tokens (normal_nodes numbered.now.prefer (view numbered.now.tree) (items_view items.now.items))) }
+        → out.new ≡ out.old ++ items_tokens (normal_nodes writer.now.prefer (view writer.now.tree) (items_view items.now.items))) }
 {
     for item in items {
-        write_node(alloc, numbered, item, out)?;
+        write_node(writer, item, out)?;
     }
     out.end_array()
 }
 
 /// Writes the canonical node for a contest or a header.
 #[cycle(content)]
-fn write_node(
-    alloc: Global,
-    numbered: &NumberedReport,
-    value: &Value,
-    out: &mut Output,
-) -> Result<(), AllocError>
-    ensures { OnOk result (has_float (view value.now) ≡ false → out.new ≡ out.old ++ value_tokens (normal_node numbered.now.prefer (view numbered.now.tree) (view value.now))) }
+fn write_node(writer: &Writer, value: &Value, out: &mut Output) -> Result<(), AllocError>
+    ensures { OnOk result (has_float (view value.now) ≡ false → out.new ≡ out.old ++ value_tokens (normal_node writer.now.prefer (view writer.now.tree) (view value.now))) }
 {
     match value {
         Value::Object(members) => {
             let class = class_of_object(Role::Content, value);
             out.begin_object()?;
-            write_node_members(alloc, numbered, class, members, out)
+            write_node_members(writer, class, members, out)
         }
         other => write_value(other, out),
     }
@@ -76,18 +65,17 @@ fn write_node(
 /// Writes the canonical members of a contest or a header, and its end.
 #[cycle(content)]
 fn write_node_members(
-    alloc: Global,
-    numbered: &NumberedReport,
+    writer: &Writer,
     class: Option<Class>,
     members: &Map<String, Value>,
     out: &mut Output,
 ) -> Result<(), AllocError>
     ensures { OnOk result (members_have_float (members_view members.now.entries) ≡ false
-        → out.new ≡ out.old ++ members_tokens (normal_node_members numbered.now.prefer (view numbered.now.tree) class (members_view members.now.entries))) }
+        → out.new ≡ out.old ++ members_tokens (normal_node_members writer.now.prefer (view writer.now.tree) class (members_view members.now.entries))) }
 {
     for (name, member) in members.iter() {
         let name = name.as_str();
-        write_node_member(alloc, numbered, kind_in(class, name), name, member, out)?;
+        write_node_member(writer, kind_in(class, name), name, member, out)?;
     }
     out.end_object()
 }
@@ -95,19 +83,18 @@ fn write_node_members(
 /// Writes a member of a contest or a header, if it is kept.
 #[cycle(content)]
 fn write_node_member(
-    alloc: Global,
-    numbered: &NumberedReport,
+    writer: &Writer,
     kind: Option<MemberKind>,
     name: &str,
     value: &Value,
     out: &mut Output,
 ) -> Result<(), AllocError>
     ensures { OnOk result (has_float (view value.now) ≡ false → out.new ≡ out.old ++ member_tokens name.now
-        (normal_node_value numbered.now.prefer (view numbered.now.tree) kind (view value.now) (normal_content numbered.now.prefer (view numbered.now.tree) (view value.now)))) }
+        (normal_node_value writer.now.prefer (view writer.now.tree) kind (view value.now) (normal_content writer.now.prefer (view writer.now.tree) (view value.now)))) }
 {
     if is_kept_in_node(kind, value) {
         out.key(name)?;
-        write_node_value(alloc, numbered, kind, value, out)
+        write_node_value(writer, kind, value, out)
     } else {
         Ok(())
     }
@@ -116,18 +103,17 @@ fn write_node_member(
 /// Writes the canonical value of a member of a contest or a header that is kept.
 #[cycle(content)]
 fn write_node_value(
-    alloc: Global,
-    numbered: &NumberedReport,
+    writer: &Writer,
     kind: Option<MemberKind>,
     value: &Value,
     out: &mut Output,
 ) -> Result<(), AllocError>
     ensures { OnOk result (has_float (view value.now) ≡ false → (d : Data)
-        → normal_node_value numbered.now.prefer (view numbered.now.tree) kind (view value.now) (normal_content numbered.now.prefer (view numbered.now.tree) (view value.now)) ≡ Some d
+        → normal_node_value writer.now.prefer (view writer.now.tree) kind (view value.now) (normal_content writer.now.prefer (view writer.now.tree) (view value.now)) ≡ Some d
         → out.new ≡ out.old ++ value_tokens d) }
 {
     match kind {
-        Some(kind) => write_listed(alloc, numbered, kind, value, out),
+        Some(kind) => write_listed(writer, kind, value, out),
         None => write_value(value, out),
     }
 }
@@ -135,19 +121,18 @@ fn write_node_value(
 /// Writes the canonical value of a member of this kind of a contest or a header. The member is kept.
 #[cycle(content)]
 fn write_listed(
-    alloc: Global,
-    numbered: &NumberedReport,
+    writer: &Writer,
     kind: MemberKind,
     value: &Value,
     out: &mut Output,
 ) -> Result<(), AllocError>
     ensures { OnOk result (has_float (view value.now) ≡ false → (d : Data)
-        → normal_node_value numbered.now.prefer (view numbered.now.tree) (Some kind) (view value.now) (normal_content numbered.now.prefer (view numbered.now.tree) (view value.now)) ≡ Some d
+        → normal_node_value writer.now.prefer (view writer.now.tree) (Some kind) (view value.now) (normal_content writer.now.prefer (view writer.now.tree) (view value.now)) ≡ Some d
         → out.new ≡ out.old ++ value_tokens d) }
 {
     match kind {
-        MemberKind::Content => write_content(alloc, numbered, value, out),
-        _ => write_of_kind(alloc, numbered, kind, value, out),
+        MemberKind::Content => write_content(writer, value, out),
+        _ => write_of_kind(writer, kind, value, out),
     }
 }
 

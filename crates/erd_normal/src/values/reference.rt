@@ -2,13 +2,13 @@ ghost use Rattle.std.specs.Prelude.{◌≡◌, ◌++◌};
 ghost use Rattle.std.specs.Result.{OnOk};
 ghost use Rattle.serde_json.specs.Data.{string};
 ghost use Rattle.serde_json.specs.View.{view};
-ghost use Rattle.erd_normal.specs.code.Building.{numbered_id};
+ghost use Rattle.erd_normal.specs.code.Building.{id_of_rank};
 ghost use Rattle.erd_normal.specs.code.NormalTree.{normal_reference, normal_selection_reference};
 ghost use Rattle.erd_normal.specs.code.Tokens.{value_tokens};
 
-use crate::numbers::id_texts::id_text;
-use crate::numbers::numbered_report::NumberedReport;
 use crate::text::output::Output;
+use crate::writer::Writer;
+use crate::writer::ids::{id_text, selection_id_text};
 use erd_check::values::text_of;
 use erd_tables::Family;
 use serde_json::Value;
@@ -16,40 +16,43 @@ use std::alloc::{AllocError, Global};
 
 /// Writes the canonical reference for a reference to an object of a family.
 pub(crate) fn write_reference(
-    alloc: Global,
-    numbered: &NumberedReport,
+    writer: &Writer,
     family: Family,
     value: &Value,
     out: &mut Output,
 ) -> Result<(), AllocError>
-    ensures { OnOk result (out.new ≡ out.old ++ value_tokens (normal_reference numbered.now.prefer (view numbered.now.tree) family (view value.now))) }
+    ensures { OnOk result (out.new ≡ out.old ++ value_tokens (normal_reference writer.now.prefer (view writer.now.tree) family (view value.now))) }
 {
-    let number = numbered.number_of(family, text_of(value));
-    write_reference_to(alloc, family, number, out)
+    let rank = writer.rank_named(family, text_of(value));
+    write_reference_to(writer.alloc, family, rank, out)
 }
 
-/// Writes the canonical reference to the object of a family that has this number.
+/// Writes the canonical reference to the object of a family that has this rank.
 pub(crate) fn write_reference_to(
     alloc: Global,
     family: Family,
-    number: usize,
+    rank: usize,
     out: &mut Output,
 ) -> Result<(), AllocError>
-    ensures { OnOk result (out.new ≡ out.old ++ value_tokens (string (numbered_id family number))) }
+    ensures { OnOk result (out.new ≡ out.old ++ value_tokens (string (id_of_rank family rank))) }
 {
-    let id = id_text(alloc, family, number)?;
+    let id = id_text(alloc, family, rank)?;
     out.string(id.as_str())
 }
 
 /// Writes the canonical reference for a reference to a selection.
 pub(crate) fn write_selection_reference(
-    alloc: Global,
-    numbered: &NumberedReport,
+    writer: &Writer,
     value: &Value,
     out: &mut Output,
 ) -> Result<(), AllocError>
-    ensures { OnOk result (out.new ≡ out.old ++ value_tokens (normal_selection_reference numbered.now.prefer (view numbered.now.tree) (view value.now))) }
+    ensures { OnOk result (out.new ≡ out.old ++ value_tokens (normal_selection_reference writer.now.prefer (view writer.now.tree) (view value.now))) }
 {
-    let id = numbered.selection_id(alloc, text_of(value))?;
-    out.string(id.as_str())
+    match writer.selection_ranks(text_of(value)) {
+        Some((contest, rank)) => {
+            let id = selection_id_text(writer.alloc, contest, rank)?;
+            out.string(id.as_str())
+        }
+        None => out.string(""),
+    }
 }

@@ -4,81 +4,74 @@ ghost use Rattle.serde_json.specs.Data.{string};
 ghost use Rattle.serde_json.specs.View.{view};
 ghost use Rattle.erd_check.specs.Values.{text_of};
 ghost use Rattle.erd_meaning.specs.SelectionNames.{rising_list};
-ghost use Rattle.erd_normal.specs.code.Building.{numbered_id};
+ghost use Rattle.erd_normal.specs.code.Building.{id_of_rank};
 ghost use Rattle.erd_normal.specs.code.NormalTree.{array_of, normal_reference, normal_selection_reference, reference_cmp};
-ghost use Rattle.erd_normal.specs.code.ObjectNumbers.{number_named};
+ghost use Rattle.erd_normal.specs.code.Orders.{rank_named};
 ghost use Rattle.erd_normal.specs.code.Tokens.{value_tokens};
 
-use crate::numbers::numbered_report::NumberedReport;
 use crate::text::output::Output;
 use crate::values::reference::{write_reference_to, write_selection_reference};
+use crate::writer::Writer;
 use erd_check::values::text_of;
 use erd_tables::Family;
 use serde_json::Value;
 use std::alloc::{AllocError, Global};
 
 /// Writes the array of the canonical references for a set of references to objects of a family, sorted by the keys of those
-/// objects. The code sorts the numbers of the objects, which never decrease along the order of keys.
+/// objects. The code sorts the ranks of the objects, which never decrease along the order of keys.
 pub(crate) fn write_rising_references(
-    alloc: Global,
-    numbered: &NumberedReport,
+    writer: &Writer,
     family: Family,
     values: &[Value],
     out: &mut Output,
 ) -> Result<(), AllocError>
     ensures { OnOk result (out.new ≡ out.old ++ value_tokens (array_of
-        (map (normal_reference numbered.now.prefer (view numbered.now.tree) family) (rising_list (reference_cmp numbered.now.prefer (view numbered.now.tree) family) (map view values.now))))) }
+        (map (normal_reference writer.now.prefer (view writer.now.tree) family) (rising_list (reference_cmp writer.now.prefer (view writer.now.tree) family) (map view values.now))))) }
 {
-    let mut numbers = numbers_named(alloc, numbered, family, values)?;
-    numbers.sort_unstable();
-    write_references_to(alloc, family, &numbers, out)
+    let mut ranks = ranks_named(writer, family, values)?;
+    ranks.sort_unstable();
+    write_references_to(writer.alloc, family, &ranks, out)
 }
 
-/// The numbers of the objects that the references name.
-fn numbers_named(
-    alloc: Global,
-    numbered: &NumberedReport,
-    family: Family,
-    values: &[Value],
-) -> Result<Vec<usize>, AllocError>
-    ensures { IfOk result (λ numbers. numbers.items
-        ≡ map (λ v. number_named numbered.now.prefer (view numbered.now.tree) family (text_of (view v))) values.now) }
+/// Returns the ranks of the objects that the references name.
+fn ranks_named(writer: &Writer, family: Family, values: &[Value]) -> Result<Vec<usize>, AllocError>
+    ensures { IfOk result (λ ranks. ranks.items
+        ≡ map (λ v. rank_named writer.now.prefer (view writer.now.tree) family (text_of (view v))) values.now) }
 {
-    let mut numbers = Vec::with_capacity(alloc, values.len())?;
+    let mut ranks = Vec::with_capacity(writer.alloc, values.len())?;
     for value in values {
-        numbers.push(numbered.number_of(family, text_of(value)))?;
+        ranks.push(writer.rank_named(family, text_of(value)))?;
     }
-    Ok(numbers)
+    Ok(ranks)
 }
 
-/// Writes the array of the canonical references to the objects that have these numbers.
+/// Writes the array of the canonical references to the objects that have these ranks.
 fn write_references_to(
     alloc: Global,
     family: Family,
-    numbers: &[usize],
+    ranks: &[usize],
     out: &mut Output,
 ) -> Result<(), AllocError>
-    ensures { OnOk result (out.new ≡ out.old ++ value_tokens (array_of (map (λ n. string (numbered_id family n)) numbers.now))) }
+    ensures { OnOk result (out.new ≡ out.old ++ value_tokens (array_of (map (λ rank. string (id_of_rank family rank)) ranks.now))) }
 {
     out.begin_array()?;
-    for number in numbers {
-        write_reference_to(alloc, family, *number, out)?;
+    for rank in ranks {
+        write_reference_to(alloc, family, *rank, out)?;
     }
     out.end_array()
 }
 
 /// Writes the array of the canonical references for references to selections, in their order.
 pub(crate) fn write_selection_references(
-    alloc: Global,
-    numbered: &NumberedReport,
+    writer: &Writer,
     values: &[Value],
     out: &mut Output,
 ) -> Result<(), AllocError>
-    ensures { OnOk result (out.new ≡ out.old ++ value_tokens (array_of (map (λ v. normal_selection_reference numbered.now.prefer (view numbered.now.tree) (view v)) values.now))) }
+    ensures { OnOk result (out.new ≡ out.old ++ value_tokens (array_of (map (λ v. normal_selection_reference writer.now.prefer (view writer.now.tree) (view v)) values.now))) }
 {
     out.begin_array()?;
     for value in values {
-        write_selection_reference(alloc, numbered, value, out)?;
+        write_selection_reference(writer, value, out)?;
     }
     out.end_array()
 }

@@ -7,17 +7,17 @@ ghost use Rattle.erd_meaning.specs.Keys.{Preference};
 ghost use Rattle.erd_normal.specs.code.NormalTree.{normal_value};
 ghost use Rattle.erd_normal.specs.code.Tokens.{value_tokens};
 
-use crate::numbers::numbered_report::NumberedReport;
 use crate::text::output::Output;
 use crate::text::value::write_value;
 use crate::values::label::write_label;
 use crate::values::reference::write_reference;
 use crate::values::reference_set::{write_rising_references, write_selection_references};
 use crate::values::rising_values::write_rising_values;
+use crate::writer::Writer;
 use erd_check::values::{entries_of, is_empty_array};
 use erd_tables::MemberKind;
 use serde_json::Value;
-use std::alloc::{AllocError, Global};
+use std::alloc::AllocError;
 
 /// Whether a member of this kind, which holds no objects, is kept. An empty set or list is left out, and so are `@id` and
 /// members outside the profile.
@@ -36,25 +36,24 @@ pub(crate) fn is_kept(kind: MemberKind, value: &Value) -> bool
 
 /// Writes the canonical value of a member of this kind, which holds no objects and is kept.
 pub(crate) fn write_of_kind(
-    alloc: Global,
-    numbered: &NumberedReport,
+    writer: &Writer,
     kind: MemberKind,
     value: &Value,
     out: &mut Output,
 ) -> Result<(), AllocError>
-    ensures { OnOk result (has_float (view value.now) ≡ false → (d : Data) → normal_value numbered.now.prefer (view numbered.now.tree) kind (view value.now) ≡ Some d
+    ensures { OnOk result (has_float (view value.now) ≡ false → (d : Data) → normal_value writer.now.prefer (view writer.now.tree) kind (view value.now) ≡ Some d
         → out.new ≡ out.old ++ value_tokens d) }
 {
     match kind {
-        MemberKind::Label => write_label(alloc, value, out),
-        MemberKind::One(family) => write_reference(alloc, numbered, family, value, out),
+        MemberKind::Label => write_label(writer.alloc, value, out),
+        MemberKind::One(family) => write_reference(writer, family, value, out),
         MemberKind::Many(family) => {
-            write_rising_references(alloc, numbered, family, entries_of(value), out)
+            write_rising_references(writer, family, entries_of(value), out)
         }
         MemberKind::Identifiers | MemberKind::Languages => {
-            write_rising_values(alloc, entries_of(value), out)
+            write_rising_values(writer.alloc, entries_of(value), out)
         }
-        MemberKind::Ordered => write_selection_references(alloc, numbered, entries_of(value), out),
+        MemberKind::Ordered => write_selection_references(writer, entries_of(value), out),
         _ => write_value(value, out),
     }
 }

@@ -1,4 +1,4 @@
-use Rattle.std.proofs.Common.{◌++◌, subst, sym, decimal}
+use Rattle.std.proofs.Common.{◌++◌, subst, sym}
 use Rattle.std.specs.Result.{OnErr, OnOk}
 use Rattle.std.proofs.lemmas.Fmt.{decimal_digit}
 use Rattle.erd_canon.specs.code.Pending.{IsFrontMoved, IsMoved}

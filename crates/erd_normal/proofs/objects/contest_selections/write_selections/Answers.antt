@@ -1,36 +1,45 @@
-use Rattle.std.proofs.Common.{◌≡◌, ◌++◌, ◌+◌, ◌≤◌, ℕ, List, length, map, drop, Option, Bor, ap, ◌∙◌, arith}
-use Rattle.std.proofs.lemmas.List.{drop_all}
+use Rattle.std.proofs.Common.{◌++◌, [], ◌∷◌, List, append_assoc, option_map, refl, slice_get, sym, ap, ◌∙◌}
 use Rattle.std.proofs.lemmas.Result.{on_ok_weaker}
+use Rattle.json.specs.Token.{begin_array}
 use Rattle.serde_json.specs.Data.{Data}
-use Rattle.serde_json.specs.View.{view}
-use Rattle.serde_json.specs.declared.value.Value.{Value}
-use Rattle.erd_meaning.specs.NameParts.{NameParts}
-use Rattle.erd_meaning.specs.NumberedNames.{NumberedParts}
-use Rattle.erd_normal.proofs.lists.StableRising.{map_after}
+use Rattle.serde_json.specs.View.{items_of, view}
+use Rattle.erd_meaning.specs.Objects.{contests}
+use Rattle.erd_normal.proofs.ranks.PartObjects.{seen_value, unseen_value}
 use Rattle.erd_normal.proofs.texts.WrittenTokens.{array_written}
-use Rattle.erd_normal.specs.code.KeyRanks.{named_value}
 use Rattle.erd_normal.specs.code.NormalTree.{array_of}
-use Rattle.erd_normal.specs.code.PlacedTree.{map_from, placed_selection}
-use Rattle.erd_normal.specs.code.Tokens.{value_tokens}
+use Rattle.erd_normal.specs.code.Tokens.{items_tokens, value_tokens}
+use Rattle.erd_normal.specs.code.WrittenTree.{written_in_contest}
 use Rattle.erd_normal.proofs.objects.contest_selections.write_selections.Goals as goal
 
-pub returns : goal.returns
-returns c =
-    let π = c.args.numbered.now.prefer in
-    let t = view c.args.numbered.now.tree in
-    let rising = c.selections_of-rising.result.now in
-    let each = placed_selection π t c.args.contest in
-    let value = λ (p : Option NumberedParts × (ℕ × Bor Value)). view p.1.1.now in
-    let left = map_from each (c.loop-index.index + 1) (map value (drop c.loop-index.index rising)) in
-    let end : length rising ≤ c.loop-index.index = omega arith in
-    let all : map value rising ≡ map (λ (p : Option NameParts × (ℕ × Data)). p.1.1) (map (λ (p : Option NumberedParts × (ℕ × Bor Value)). named_value π t p.1.0 (view p.1.1.now)) rising) =
-    map_after (λ (p : Option NumberedParts × (ℕ × Bor Value)). named_value π t p.1.0 (view p.1.1.now)) (λ (p : Option NameParts × (ℕ × Data)). p.1.1) rising in
+pub write_in_contest-requires : goal.write_in_contest-requires
+write_in_contest-requires c = record {
+  there = sym c.object.ensures.object ∙ ap (option_map (λ v. view v.now)) c.in-Some.is;
+  whole = c.object.ensures.whole c.in-Some.contest c.in-Some.is;
+}
+
+pub returns-in-Some : goal.returns-in-Some
+returns-in-Some c =
+    let π = c.args.writer.now.prefer in
+    let t = view c.args.writer.now.tree in
+    let d = view c.in-Some.contest.now in
+    let all = items_tokens (items_of (written_in_contest π t d)) in
+    on_ok_weaker c.write_in_contest.result
+    (λ written.
+    written
+    ∙ (ap (λ ts. ts ++ all) c.in_ok-begin_array.ensures
+    ∙ (append_assoc c.args.out.now (begin_array ∷ []) all
+    ∙ ap (λ (ds : List Data). c.args.out.now ++ value_tokens (array_of ds))
+    (sym (seen_value (written_in_contest π t) [] (slice_get (contests t) c.args.position) d (sym c.object.ensures.object ∙ ap (option_map (λ v. view v.now)) c.in-Some.is))))))
+    c.write_in_contest.ensures
+
+pub returns-in-None : goal.returns-in-None
+returns-in-None c =
+    let π = c.args.writer.now.prefer in
+    let t = view c.args.writer.now.tree in
     on_ok_weaker c.end_array.result
     (λ written.
     written
-    ∙ (array_written c.args.out.now c.begin_array.new.self c.loop-index.out left (map_from each 1 (map value rising)) c.in_ok-begin_array.ensures
-    (ap (λ (ps : List (Option NumberedParts × (ℕ × Bor Value))). map_from each (c.loop-index.index + 1) (map value ps)) (drop_all c.loop-index.index rising end))
-    c.loop-index.invariant
-    ∙ ap (λ (ds : List Data). c.args.out.now ++ value_tokens (array_of (map_from each 1 ds)))
-    (all ∙ ap (map (λ (p : Option NameParts × (ℕ × Data)). p.1.1)) c.selections_of-rising.ensures.selections)))
+    ∙ (array_written c.args.out.now c.begin_array.new.self c.begin_array.new.self [] [] c.in_ok-begin_array.ensures refl refl
+    ∙ ap (λ (ds : List Data). c.args.out.now ++ value_tokens (array_of ds))
+    (unseen_value (written_in_contest π t) (slice_get (contests t) c.args.position) (sym (ap (option_map (λ v. view v.now)) c.in-None.is) ∙ c.object.ensures.object))))
     c.end_array.ensures

@@ -1,29 +1,53 @@
-use Rattle.std.proofs.Common.{◌++◌, ◌≤◌, ℕ, List, length, map, drop, Bor, ap, ◌∙◌, arith}
-use Rattle.std.proofs.lemmas.List.{drop_all}
+use Rattle.std.proofs.Common.{◌≡◌, ◌++◌, ◌+◌, ◌≤◌, ℕ, length, map, drop, sym, ap, ◌∙◌, arith}
+use Rattle.std.proofs.lemmas.List.{drop_all, length-map}
+use Rattle.std.proofs.lemmas.Option.{slice_get_within}
 use Rattle.std.proofs.lemmas.Result.{on_ok_weaker}
 use Rattle.serde_json.specs.Data.{Data}
-use Rattle.serde_json.specs.View.{view}
-use Rattle.serde_json.specs.declared.value.Value.{Value}
-use Rattle.erd_normal.proofs.lists.StableRising.{map_after}
-use Rattle.erd_normal.proofs.texts.WrittenTokens.{array_written}
-use Rattle.erd_normal.specs.code.NormalTree.{array_of}
-use Rattle.erd_normal.specs.code.PlacedTree.{placed_object}
-use Rattle.erd_normal.specs.code.Tokens.{value_tokens}
+use Rattle.serde_json.specs.View.{items_of, view}
+use Rattle.erd_meaning.specs.Objects.{Placed, objects}
+use Rattle.erd_normal.proofs.ranks.InOrder.{left_there, next}
+use Rattle.erd_normal.proofs.ranks.PartObjects.{in_part_there}
+use Rattle.erd_normal.proofs.texts.WrittenTokens.{array_written, then_rest}
+use Rattle.erd_normal.specs.code.ElectionParts.{objects_in_part}
+use Rattle.erd_normal.specs.code.Tokens.{items_tokens, value_tokens}
+use Rattle.erd_normal.specs.code.WrittenTree.{written_object}
 use Rattle.erd_normal.proofs.objects.family_objects.write_family.Goals as goal
+
+pub write_object_at-requires : goal.write_object_at-requires
+write_object_at-requires c =
+    let π = c.args.writer.now.prefer in
+    let t = view c.args.writer.now.tree in
+    let f = c.args.family in
+    let k = c.loop-position.position-index in
+    let x = next (objects_in_part π t f c.args.part) (objects f t) c.rising-position-items.result.now k c.rising-position-items.ensures c.loop-position-test.true (λ p e. (in_part_there π t f c.args.part k p e).1) in
+    record { keyed = (in_part_there π t f c.args.part k _ x.at).0; there = slice_get_within (objects f t) _ x.entry x.there }
+
+pub loop-position-preserved : goal.loop-position-preserved
+loop-position-preserved c =
+    let π = c.args.writer.now.prefer in
+    let t = view c.args.writer.now.tree in
+    let f = c.args.family in
+    let k = c.loop-position.position-index in
+    let ps = objects_in_part π t f c.args.part in
+    let each : (ℕ × Placed → Data) = λ o. written_object π t f o.0 o.1.value in
+    let x = next ps (objects f t) c.rising-position-items.result.now k c.rising-position-items.ensures c.loop-position-test.true (λ p e. (in_part_there π t f c.args.part k p e).1) in
+    then_rest c.loop-position.out (value_tokens (each (_, x.entry))) c.write_object_at.new.out (items_tokens (items_of (map each (drop (k + 1) ps)))) _
+    (c.in_ok-write_object_at.ensures x.entry x.there)
+    (ap (λ qs. c.loop-position.out ++ items_tokens (items_of (map each qs))) (sym (left_there ps k _ x.at)) ∙ c.loop-position.invariant)
 
 pub returns : goal.returns
 returns c =
-    let rising = c.rising-entry-items.result.now in
-    let each = placed_object c.args.numbered.now.prefer (view c.args.numbered.now.tree) c.args.family in
-    let value = λ (o : ℕ × (ℕ × Bor Value)). each o.0 (o.1.0, view o.1.1.now) in
-    let end : length rising ≤ c.loop-entry.entry-index = omega arith in
+    let π = c.args.writer.now.prefer in
+    let t = view c.args.writer.now.tree in
+    let f = c.args.family in
+    let k = c.loop-position.position-index in
+    let ps = objects_in_part π t f c.args.part in
+    let each : (ℕ × Placed → Data) = λ o. written_object π t f o.0 o.1.value in
+    let test = c.loop-position-test.false in
+    let long : length c.rising-position-items.result.now ≡ length ps = ap (λ is. length is) c.rising-position-items.ensures ∙ length-map ps (λ (o : ℕ × Placed). o.0) in
+    let end : length ps ≤ k = omega (arith, test, long) in
     on_ok_weaker c.end_array.result
     (λ written.
     written
-    ∙ (array_written c.args.out.now c.begin_array.new.self c.loop-entry.out (map value (drop c.loop-entry.entry-index rising)) (map value rising) c.in_ok-begin_array.ensures
-    (ap (map value) (drop_all c.loop-entry.entry-index rising end))
-    c.loop-entry.invariant
-    ∙ ap (λ (ds : List Data). c.args.out.now ++ value_tokens (array_of ds))
-    (map_after (λ (o : ℕ × (ℕ × Bor Value)). (o.0, (o.1.0, view o.1.1.now))) (λ (o : ℕ × (ℕ × Data)). each o.0 o.1) rising
-    ∙ ap (map (λ (o : ℕ × (ℕ × Data)). each o.0 o.1)) c.rising-entry-items.ensures.objects)))
+    ∙ array_written c.args.out.now c.begin_array.new.self c.loop-position.out (map each (drop k ps)) (map each ps) c.in_ok-begin_array.ensures (ap (map each) (drop_all k ps end)) c.loop-position.invariant)
     c.end_array.ensures

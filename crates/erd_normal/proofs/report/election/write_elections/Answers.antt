@@ -1,43 +1,58 @@
-use Rattle.std.proofs.Common.{◌≡◌, ◌++◌, ℕ, List, map, false, Option, Bor, ap, sym, ◌∙◌, subst}
-use Rattle.std.specs.List.{AllByRecursion}
+use Rattle.std.proofs.Common.{◌≡◌, ◌++◌, ◌+◌, ◌≤◌, ℕ, length, map, drop, sym, ap, ◌∙◌, arith}
+use Rattle.std.proofs.lemmas.List.{drop_all, length-map}
+use Rattle.std.proofs.lemmas.Option.{slice_get_within}
 use Rattle.std.proofs.lemmas.Result.{on_ok_weaker}
+use Rattle.std.specs.Option.{option_cmp}
 use Rattle.serde_json.specs.Data.{Data}
-use Rattle.serde_json.specs.View.{view}
-use Rattle.serde_json.specs.Written.{has_float}
-use Rattle.serde_json.specs.declared.value.Value.{Value}
+use Rattle.serde_json.specs.View.{items_of, view}
 use Rattle.erd_meaning.specs.Judged.{Judged}
-use Rattle.erd_meaning.specs.declared.keys.key.Key.{Key}
-use Rattle.erd_normal.proofs.lists.StableRising.{map_after}
-use Rattle.erd_normal.proofs.ranks.PartsWhole.{rising_elections_whole}
-use Rattle.erd_normal.proofs.ranks.PlacedEntries.{unmapped}
-use Rattle.erd_normal.specs.code.KeyRanks.{keyed_value, rising_elections}
-use Rattle.erd_normal.specs.code.NormalTree.{array_of}
-use Rattle.erd_normal.specs.code.PlacedTree.{placed_election}
-use Rattle.erd_normal.specs.code.Tokens.{value_tokens}
+use Rattle.erd_meaning.specs.Keys.{key_cmp, key_of}
+use Rattle.erd_meaning.specs.Objects.{Placed, elections}
+use Rattle.erd_meaning.proofs.finding.OneObject.{in_at}
+use Rattle.erd_normal.proofs.ranks.InOrder.{left_there, next, stands}
+use Rattle.erd_normal.proofs.ranks.PartObjects.{lent_elections}
+use Rattle.erd_normal.proofs.texts.WrittenTokens.{array_written, then_rest}
+use Rattle.erd_normal.specs.code.ElectionParts.{rising_elections}
+use Rattle.erd_normal.specs.code.Tokens.{items_tokens, value_tokens}
+use Rattle.erd_normal.specs.code.WrittenTree.{written_election}
 use Rattle.erd_normal.proofs.report.election.write_elections.Goals as goal
 
--- an election as a table has it
-abbrev see : Option Key × (ℕ × Bor Value) → Option Key × (ℕ × Data)
-see p = keyed_value p.0 p.1.0 (view p.1.1.now)
+pub write_election_at-requires : goal.write_election_at-requires
+write_election_at-requires c =
+    let π = c.args.writer.now.prefer in
+    let t = view c.args.writer.now.tree in
+    let k = c.loop-position.position-index in
+    let ps = rising_elections π t in
+    let are = c.rising_elections-position-items.ensures ∙ lent_elections c.report.result.now.prefer (view c.report.result.now.tree) ∙ ap (λ (r : Judged). map (λ (e : ℕ × Placed). e.0) (rising_elections r.prefer (view r.tree))) c.report.ensures.same in
+    let x = next ps (elections t) c.rising_elections-position-items.result.now k are c.loop-position-test.true (λ p e. stands (option_cmp key_cmp) (λ (o : Placed). key_of π o.value) (elections t) p (in_at ps k p e)) in
+    record { there = slice_get_within (elections t) _ x.entry x.there }
 
-pub write_each-requires : goal.write_each-requires
-write_each-requires c =
-    let π = c.args.numbered.now.prefer in
-    let t = view c.args.numbered.now.tree in
-    record {
-      whole = unmapped (λ p. has_float p.1.1 ≡ false) see c.deref.result.now
-          (subst (AllByRecursion (λ (p : Option Key × (ℕ × Data)). has_float p.1.1 ≡ false))
-          (sym (ap (map see) c.deref.ensures.value ∙ c.in_ok-rising.ensures ∙ ap (λ (r : Judged). rising_elections r.prefer (view r.tree)) c.report.ensures.same))
-          (rising_elections_whole π t c.report.ensures.whole));
-    }
+pub loop-position-preserved : goal.loop-position-preserved
+loop-position-preserved c =
+    let π = c.args.writer.now.prefer in
+    let t = view c.args.writer.now.tree in
+    let k = c.loop-position.position-index in
+    let ps = rising_elections π t in
+    let each : (ℕ × Placed → Data) = λ e. written_election π t e.0 e.1.value in
+    let are = c.rising_elections-position-items.ensures ∙ lent_elections c.report.result.now.prefer (view c.report.result.now.tree) ∙ ap (λ (r : Judged). map (λ (e : ℕ × Placed). e.0) (rising_elections r.prefer (view r.tree))) c.report.ensures.same in
+    let x = next ps (elections t) c.rising_elections-position-items.result.now k are c.loop-position-test.true (λ p e. stands (option_cmp key_cmp) (λ (o : Placed). key_of π o.value) (elections t) p (in_at ps k p e)) in
+    then_rest c.loop-position.out (value_tokens (each (_, x.entry))) c.write_election_at.new.out (items_tokens (items_of (map each (drop (k + 1) ps)))) _
+    (c.in_ok-write_election_at.ensures x.entry x.there)
+    (ap (λ qs. c.loop-position.out ++ items_tokens (items_of (map each qs))) (sym (left_there ps k _ x.at)) ∙ c.loop-position.invariant)
 
 pub returns : goal.returns
 returns c =
-    let each = placed_election c.args.numbered.now.prefer (view c.args.numbered.now.tree) in
-    on_ok_weaker c.write_each.result
+    let π = c.args.writer.now.prefer in
+    let t = view c.args.writer.now.tree in
+    let k = c.loop-position.position-index in
+    let ps = rising_elections π t in
+    let each : (ℕ × Placed → Data) = λ e. written_election π t e.0 e.1.value in
+    let are = c.rising_elections-position-items.ensures ∙ lent_elections c.report.result.now.prefer (view c.report.result.now.tree) ∙ ap (λ (r : Judged). map (λ (e : ℕ × Placed). e.0) (rising_elections r.prefer (view r.tree))) c.report.ensures.same in
+    let test = c.loop-position-test.false in
+    let long : length c.rising_elections-position-items.result.now ≡ length ps = ap (λ is. length is) are ∙ length-map ps (λ (e : ℕ × Placed). e.0) in
+    let end : length ps ≤ k = omega (arith, test, long) in
+    on_ok_weaker c.end_array.result
     (λ written.
     written
-    ∙ ap (λ (ds : List Data). c.args.out.now ++ value_tokens (array_of ds))
-    (map_after see (λ (p : Option Key × (ℕ × Data)). each p.1) c.deref.result.now
-    ∙ ap (map (λ (p : Option Key × (ℕ × Data)). each p.1)) (ap (map see) c.deref.ensures.value ∙ c.in_ok-rising.ensures ∙ ap (λ (r : Judged). rising_elections r.prefer (view r.tree)) c.report.ensures.same)))
-    c.write_each.ensures
+    ∙ array_written c.args.out.now c.begin_array.new.self c.loop-position.out (map each (drop k ps)) (map each ps) c.in_ok-begin_array.ensures (ap (map each) (drop_all k ps end)) c.loop-position.invariant)
+    c.end_array.ensures

@@ -16,8 +16,8 @@ use Rattle.erd_normal.proofs.values.content.+content.Goals as goal
 
 pub write_node_member-returns-in_ok-key : goal.write_node_member-returns-in_ok-key
 write_node_member-returns-in_ok-key t c =
-    let π = c.args.numbered.now.prefer in
-    let report = view c.args.numbered.now.tree in
+    let π = c.args.writer.now.prefer in
+    let report = view c.args.writer.now.tree in
     let inside = normal_content π report (view c.args.value.now) in
     let value = normal_node_value π report c.args.kind (view c.args.value.now) inside in
     on_ok_weaker c.write_node_value.result
@@ -30,8 +30,8 @@ write_node_member-returns-in_ok-key t c =
 
 pub write_node_members-loop-name-preserved : goal.write_node_members-loop-name-preserved
 write_node_members-loop-name-preserved t c whole =
-    let π = c.args.numbered.now.prefer in
-    let report = view c.args.numbered.now.tree in
+    let π = c.args.writer.now.prefer in
+    let report = view c.args.writer.now.tree in
     let entry : Entry = (c.in-Some.name.now, c.in-Some.member.now) in
     let before = c.loop-name.invariant whole in
     let left = c.loop-name.name-iterator in
@@ -52,8 +52,8 @@ write_node_members-loop-name-preserved t c whole =
 
 pub write_nodes-loop-item-preserved : goal.write_nodes-loop-item-preserved
 write_nodes-loop-item-preserved t c whole =
-    let π = c.args.numbered.now.prefer in
-    let report = view c.args.numbered.now.tree in
+    let π = c.args.writer.now.prefer in
+    let report = view c.args.writer.now.tree in
     let vs = c.deref-item-items.result.now in
     let i = c.loop-item.item-index in
     let v = c.item-item.result in

@@ -2,19 +2,19 @@ use Rattle.std.proofs.Common.{◌≡◌, ◌++◌, ap, subst, ◌∙◌}
 use Rattle.std.specs.Result.{OnOk}
 use Rattle.serde_json.specs.Data.{Data, string}
 use Rattle.serde_json.specs.View.{view}
-use Rattle.erd_normal.proofs.ranks.NumberedReferences.{numbered_named}
-use Rattle.erd_normal.specs.code.Building.{numbered_id}
+use Rattle.erd_normal.proofs.ranks.RankedReferences.{text_named}
+use Rattle.erd_normal.specs.code.Building.{id_of_rank}
 use Rattle.erd_normal.specs.code.NormalTree.{normal_id}
 use Rattle.erd_normal.specs.code.Tokens.{value_tokens}
 use Rattle.erd_normal.proofs.values.reference.write_reference.Goals as goal
 
 pub returns : goal.returns
 returns c =
-    let π = c.args.numbered.now.prefer in
-    let t = view c.args.numbered.now.tree in
+    let π = c.args.writer.now.prefer in
+    let t = view c.args.writer.now.tree in
     subst (λ (d : Data). OnOk c.write_reference_to.result (c.write_reference_to.new.out ≡ c.args.out.now ++ value_tokens d))
     (ap string
-    (ap (numbered_id c.args.family) c.number_of-number.ensures
-    ∙ (numbered_named π t c.args.family c.text_of.result.now
+    (ap (id_of_rank c.args.family) c.rank_named-rank.ensures
+    ∙ (text_named π t c.args.family c.text_of.result.now
     ∙ ap (normal_id π t c.args.family) c.text_of.ensures)))
     c.write_reference_to.ensures

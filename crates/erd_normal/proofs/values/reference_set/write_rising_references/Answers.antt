@@ -8,25 +8,25 @@ use Rattle.erd_meaning.specs.SelectionNames.{rising_list}
 use Rattle.erd_normal.proofs.canonical.RisingReports.{reference_cmp_total}
 use Rattle.erd_normal.proofs.lists.NumbersInOrder.{numbers_in_order}
 use Rattle.erd_normal.proofs.lists.StableRising.{map_after}
-use Rattle.erd_normal.proofs.ranks.NumberedReferences.{numbered_named, numbers_climb}
-use Rattle.erd_normal.specs.code.Building.{numbered_id}
+use Rattle.erd_normal.proofs.ranks.RankedReferences.{ranks_rise, text_named}
+use Rattle.erd_normal.specs.code.Building.{id_of_rank}
 use Rattle.erd_normal.specs.code.NormalTree.{array_of, reference_cmp}
-use Rattle.erd_normal.specs.code.ObjectNumbers.{number_named}
+use Rattle.erd_normal.specs.code.Orders.{rank_named}
 use Rattle.erd_normal.specs.code.Tokens.{value_tokens}
 use Rattle.erd_normal.proofs.values.reference_set.write_rising_references.Goals as goal
 
 pub returns : goal.returns
 returns c =
-    let π = c.args.numbered.now.prefer in
-    let t = view c.args.numbered.now.tree in
+    let π = c.args.writer.now.prefer in
+    let t = view c.args.writer.now.tree in
     let f = c.args.family in
     let ds = map view c.args.values.now in
     let rising = rising_list (reference_cmp π t f) ds in
-    let number : Data → ℕ = λ d. number_named π t f (text_of d) in
-    let reference : ℕ → Data = λ n. string (numbered_id f n) in
-    let all = subst (λ (ns : List ℕ). IsPermutation ns c.sort_unstable.new.self.items) (c.in_ok-numbers.ensures ∙ map_after view number c.args.values.now) c.sort_unstable.ensures.permutation in
+    let number : Data → ℕ = λ d. rank_named π t f (text_of d) in
+    let reference : ℕ → Data = λ n. string (id_of_rank f n) in
+    let all = subst (λ (ns : List ℕ). IsPermutation ns c.sort_unstable.new.self.items) (c.in_ok-ranks.ensures ∙ map_after view number c.args.values.now) c.sort_unstable.ensures.permutation in
     subst (λ (es : List Data). OnOk c.write_references_to.result (c.write_references_to.new.out ≡ c.args.out.now ++ value_tokens (array_of es)))
-    (ap (map reference) (c.deref.ensures.value ∙ numbers_in_order (reference_cmp_total π t f) number (numbers_climb π t f) ds c.sort_unstable.new.self.items all c.sort_unstable.ensures.sorted)
+    (ap (map reference) (c.deref.ensures.value ∙ numbers_in_order (reference_cmp_total π t f) number (ranks_rise π t f) ds c.sort_unstable.new.self.items all c.sort_unstable.ensures.sorted)
     ∙ (sym (map_after number reference rising)
-    ∙ ap (λ (each : Data → Data). map each rising) (λ i d. string (numbered_named π t f (text_of d) i))))
+    ∙ ap (λ (each : Data → Data). map each rising) (λ i d. string (text_named π t f (text_of d) i))))
     c.write_references_to.ensures

@@ -6,5 +6,5 @@ use Rattle.erd_normal.proofs.values.reference_set.write_selection_references.Giv
 
 abbrev pub invariant-loop-value : goal.invariant-loop-value
 invariant-loop-value l =
-    l.out ++ items_tokens (items_of (map (λ v. normal_selection_reference l.numbered.prefer (view l.numbered.tree) (view v)) (drop l.value-index l.values)))
-    ≡ l.initial.out ++ items_tokens (items_of (map (λ v. normal_selection_reference l.numbered.prefer (view l.numbered.tree) (view v)) l.values))
+    l.out ++ items_tokens (items_of (map (λ v. normal_selection_reference l.writer.prefer (view l.writer.tree) (view v)) (drop l.value-index l.values)))
+    ≡ l.initial.out ++ items_tokens (items_of (map (λ v. normal_selection_reference l.writer.prefer (view l.writer.tree) (view v)) l.values))

@@ -13,8 +13,8 @@ use Rattle.erd_normal.proofs.values.value_of_kind.write_of_kind.Goals as goal
 
 pub returns-in-Identifiers : goal.returns-in-Identifiers
 returns-in-Identifiers c =
-    let π = c.args.numbered.now.prefer in
-    let t = view c.args.numbered.now.tree in
+    let π = c.args.writer.now.prefer in
+    let t = view c.args.writer.now.tree in
     let d = view c.args.value.now in
     let entries = c.entries_of-in-Identifiers.ensures in
     let built : Data = array_of (rising_list compact_cmp (entries_of d)) in
@@ -31,8 +31,8 @@ returns-in-Identifiers c =
 
 pub returns-in-Ordered : goal.returns-in-Ordered
 returns-in-Ordered c =
-    let π = c.args.numbered.now.prefer in
-    let t = view c.args.numbered.now.tree in
+    let π = c.args.writer.now.prefer in
+    let t = view c.args.writer.now.tree in
     let d = view c.args.value.now in
     let entries = c.entries_of-in-Ordered.ensures in
     let built : Data = array_of (map (normal_selection_reference π t) (entries_of d)) in

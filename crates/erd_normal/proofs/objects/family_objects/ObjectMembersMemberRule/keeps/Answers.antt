@@ -4,15 +4,15 @@ use Rattle.serde_json.specs.View.{view}
 use Rattle.erd_check.specs.Faults.{is_empty_array}
 use Rattle.erd_normal.proofs.texts.PutObjects.{kept_in_object}
 use Rattle.erd_normal.specs.code.NormalTree.{normal_value}
-use Rattle.erd_normal.specs.code.PlacedTree.{holds_parts}
+use Rattle.erd_normal.specs.code.WrittenTree.{holds_parts}
 use Rattle.erd_normal.proofs.objects.family_objects.ObjectMembersMemberRule.keeps.Goals as goal
 
 pub returns-else-holds_parts : goal.returns-else-holds_parts
 returns-else-holds_parts c =
-    let π = c.args.self.now.numbered.now.prefer in
-    let t = view c.args.self.now.numbered.now.tree in
+    let π = c.args.self.now.writer.now.prefer in
+    let t = view c.args.self.now.writer.now.tree in
     let d = view c.args.member.now in
     let other : holds_parts c.args.kind ≡ false = sym c.holds_parts.ensures ∙ c.if-holds_parts.false in
     c.is_kept.ensures π t
     ∙ (ap (λ b. if b then not (is_empty_array d) else is_some (normal_value π t c.args.kind d)) (sym other)
-    ∙ sym (kept_in_object π t c.args.self.now.number c.args.self.now.position c.args.kind d))
+    ∙ sym (kept_in_object π t c.args.self.now.position c.args.kind d))

@@ -6,6 +6,6 @@ use Rattle.erd_normal.proofs.report.election.ElectionMembersMemberRule.keeps.Goa
 
 pub returns-in_default : goal.returns-in_default
 returns-in_default c =
-    let π = c.args.self.now.numbered.now.prefer in
-    let t = view c.args.self.now.numbered.now.tree in
+    let π = c.args.self.now.writer.now.prefer in
+    let t = view c.args.self.now.writer.now.tree in
     c.is_kept.ensures π t ∙ ap is_some (sym (other_election_value π t c.args.self.now.part c.args.kind (view c.args.member.now) c.in_default.not-Keyed))

@@ -1,0 +1,38 @@
+use Rattle.std.proofs.Common.{◌≡◌, ◌++◌, option_map, slice_get, string_bytes, sym, ap, ap₂, ◌∙◌}
+use Rattle.std.proofs.lemmas.Result.{on_ok_weaker}
+use Rattle.serde_json.specs.Data.{Data}
+use Rattle.serde_json.specs.View.{view}
+use Rattle.erd_tables.specs.declared.class.Role.TheVariants as role
+use Rattle.erd_check.specs.Wants.{class_of_object}
+use Rattle.erd_meaning.specs.Keys.{key_of}
+use Rattle.erd_meaning.specs.Lookups.{rank_of}
+use Rattle.erd_meaning.specs.Objects.{objects}
+use Rattle.erd_normal.proofs.ranks.PartObjects.{found_below, found_key, found_value}
+use Rattle.erd_normal.specs.Canonical.{canonical_id}
+use Rattle.erd_normal.specs.code.NormalTree.{normal_object_with, with_id}
+use Rattle.erd_normal.specs.code.Tokens.{value_tokens}
+use Rattle.erd_normal.specs.code.WrittenTree.{written_object_value}
+use Rattle.erd_normal.proofs.objects.family_objects.write_object_at.Goals as goal
+
+pub write_identified-requires : goal.write_identified-requires
+write_identified-requires c = record { whole = c.object.ensures.whole c.in-Some.object c.in-Some.is }
+
+pub returns : goal.returns
+returns c =
+    let π = c.args.writer.now.prefer in
+    let t = view c.args.writer.now.tree in
+    let f = c.args.family in
+    let i = c.args.position in
+    let v = view c.in-Some.object.now in
+    let built : (Data → Data) = λ d. normal_object_with (λ name k v. written_object_value π t i k v) (class_of_object (role.OfFamily f) d) d in
+    on_ok_weaker c.write_identified.result
+    (λ written o at.
+    let same : v ≡ o.value = found_value (slice_get (objects f t) i) v o (sym (ap (option_map (λ v. view v.now)) c.in-Some.is) ∙ c.object.ensures.object) at in
+    let id : option_map string_bytes c.in_ok-id-in-Some.id ≡ canonical_id f (rank_of π t f (key_of π o.value)) =
+    c.in_ok-id-in-Some.ensures ∙ ap (canonical_id f) (c.rank_at-rank.ensures ∙ ap (rank_of π t f) (found_key π t f i o c.requires.keyed at)) in
+    written ∙ ap (λ d. c.args.out.now ++ value_tokens d) (ap₂ (λ x d. with_id x (built d)) id same))
+    c.write_identified.ensures
+
+pub unreachable-requires : goal.unreachable-requires
+unreachable-requires c =
+    found_below (objects c.args.family (view c.args.writer.now.tree)) c.args.position c.requires.there (sym (ap (option_map (λ v. view v.now)) c.in-None.is) ∙ c.object.ensures.object)

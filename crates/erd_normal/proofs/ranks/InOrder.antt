@@ -1,0 +1,97 @@
+-- Entries of a list in the order of their keys, each with its position.
+use Rattle.std.proofs.Common.{◌≡◌, ℕ, zero, suc, ◌+◌, ◌<◌, List, [], ◌∷◌, filter, map, length, get_or, Bool, true, false, cond, Some, Ordering, drop, slice_get, add-one, refl, sym, ap, ◌∙◌, subst, arith}
+use Rattle.std.proofs.lemmas.Cmp.{on_total}
+use Rattle.std.specs.Cmp.{IsTotalOrder}
+use Rattle.std.specs.List.{enumerate_from}
+use Rattle.erd_check.proofs.Order.{In}
+use Rattle.erd_meaning.proofs.orders.RisingLists.{by_first, rising_list_map}
+use Rattle.erd_meaning.proofs.orders.RisingSets.{In-rising, has_from_In}
+use Rattle.erd_meaning.specs.SelectionNames.{rising_list}
+use Rattle.erd_normal.proofs.lists.FilteredRising.{filter_rising}
+use Rattle.erd_normal.proofs.lists.NumberedKept.{numbered_stands}
+use Rattle.erd_normal.proofs.lists.StableRising.{map_after}
+
+-- without their positions, the entries are left
+without_positions : {A : Type 0} (n : ℕ) (xs : List A) → map (λ (p : ℕ × A). p.1) (enumerate_from n xs) ≡ xs
+without_positions n [] = refl
+without_positions n (x ∷ xs) = ap (λ ys. x ∷ ys) (without_positions (n + 1) xs)
+
+-- what is kept by a test of positions is what a test of entries keeps, if the tests agree
+kept_by_position : {A : Type 0} (q : ℕ → Bool) (r : A → Bool) (n : ℕ) (xs : List A) → ((i : ℕ) (x : A) → slice_get xs i ≡ Some x → q (n + i) ≡ r x)
+    → map (λ (p : ℕ × A). p.1) (filter (λ p. q p.0) (enumerate_from n xs)) ≡ filter r xs
+kept_by_position q r n [] each = refl
+kept_by_position {A} q r n (x ∷ xs) each =
+    let first : n ≡ n + 0 = omega arith in
+    at (q n) (r x) (ap q first ∙ each 0 x refl)
+    (kept_by_position q r (n + 1) xs (λ i y e. let next : n + 1 + i ≡ n + suc i = omega arith in ap q next ∙ each (suc i) y e))
+  where
+    later : List (ℕ × A)
+    later = filter (λ p. q p.0) (enumerate_from (n + 1) xs)
+
+    at : (a b : Bool) → a ≡ b → map (λ (p : ℕ × A). p.1) later ≡ filter r xs → map (λ (p : ℕ × A). p.1) (cond a ((n, x) ∷ later) later) ≡ cond b (x ∷ filter r xs) (filter r xs)
+    at true true e h = ap (λ ys. x ∷ ys) h
+    at true false e h = cc
+    at false true e h = cc
+    at false false e h = h
+
+module _ {A K : Type 0} (cmp : K → K → Ordering) (key : A → K) (xs : List A) where
+  abbrev pub by_keys : A → A → Ordering
+  by_keys a b = cmp (key a) (key b)
+
+  abbrev pub entries : List (ℕ × A)
+  entries = rising_list (λ a b. by_keys a.1 b.1) (enumerate_from 0 xs)
+
+  -- their positions are those that stand with the keys
+  pub positions : map (λ (p : K × ℕ). p.1) (rising_list (λ a b. cmp a.0 b.0) (map (λ (p : ℕ × A). (key p.1, p.0)) (enumerate_from 0 xs))) ≡ map (λ (p : ℕ × A). p.0) entries
+  positions =
+      ap (map (λ (p : K × ℕ). p.1)) (sym (rising_list_map (λ (p : ℕ × A). (key p.1, p.0)) (by_first cmp) (enumerate_from 0 xs)))
+      ∙ sym (map_after (λ (p : ℕ × A). (key p.1, p.0)) (λ (p : K × ℕ). p.1) entries)
+
+  -- without positions, they are the list in order
+  pub values : map (λ (p : ℕ × A). p.1) entries ≡ rising_list by_keys xs
+  values = rising_list_map (λ (p : ℕ × A). p.1) by_keys (enumerate_from 0 xs) ∙ ap (rising_list by_keys) (without_positions 0 xs)
+
+  -- each stands at its position
+  pub stands : (p : ℕ × A) → In p entries → slice_get xs p.0 ≡ Some p.1
+  stands p inside =
+      let place = numbered_stands 0 xs p (has_from_In p (enumerate_from 0 xs) (In-rising (λ (a b : ℕ × A). by_keys a.1 b.1) p (enumerate_from 0 xs) inside)) in
+      let count : place.0 + 0 ≡ place.0 = omega arith in
+      ap (slice_get xs) (place.1 ∙ count) ∙ place.2
+
+  -- those whose positions pass a test are those that pass it, in order
+  pub values_kept : IsTotalOrder cmp → (q : ℕ → Bool) (r : A → Bool) → ((i : ℕ) (x : A) → slice_get xs i ≡ Some x → q i ≡ r x)
+      → map (λ (p : ℕ × A). p.1) (filter (λ p. q p.0) entries) ≡ rising_list by_keys (filter r xs)
+  values_kept total q r each =
+      let kept : (ℕ × A → Bool) = λ p. q p.0 in
+      ap (map (λ (p : ℕ × A). p.1)) (filter_rising (on_total (λ (p : ℕ × A). key p.1) total) kept (enumerate_from 0 xs))
+      ∙ (rising_list_map (λ (p : ℕ × A). p.1) by_keys (filter kept (enumerate_from 0 xs))
+      ∙ ap (rising_list by_keys) (kept_by_position q r 0 xs (λ i x e. let count : 0 + i ≡ i = omega arith in ap q count ∙ each i x e)))
+
+-- ---- one entry after another
+
+-- the entry at place k of a list that is in order, where these are the positions of its entries
+pub record Next {A : Type 0} (ps : List (ℕ × A)) (xs : List A) (places : List ℕ) (k : ℕ) : Type 0 where
+  pub entry : A
+  pub at : slice_get ps k ≡ Some (get_or places k 0, entry)
+  pub there : slice_get xs (get_or places k 0) ≡ Some entry
+
+entry_there : {A : Type 0} (ps : List (ℕ × A)) (k : ℕ) → k < length (map (λ (p : ℕ × A). p.0) ps) → (x : A) × (slice_get ps k ≡ Some (get_or (map (λ (p : ℕ × A). p.0) ps) k 0, x))
+entry_there [] k low = absurd (omega arith)
+entry_there (p ∷ ps) zero low = (p.1, refl)
+entry_there (p ∷ ps) (suc k) low = entry_there ps k (omega arith)
+
+pub next : {A : Type 0} (ps : List (ℕ × A)) (xs : List A) (places : List ℕ) (k : ℕ) → places ≡ map (λ (p : ℕ × A). p.0) ps → k < length places → ((p : ℕ × A) → slice_get ps k ≡ Some p → slice_get xs p.0 ≡ Some p.1)
+    → Next ps xs places k
+next {A} ps xs places k are low stands =
+    let e = entry_there ps k (subst (λ is. k < length is) are low) in
+    let at : slice_get ps k ≡ Some (get_or places k 0, e.0) = e.1 ∙ ap (λ is. Some (get_or is k 0, e.0)) (sym are) in
+    record { entry = e.0; at = at; there = stands (get_or places k 0, e.0) at }
+
+-- what is left from a place on
+some_left : {A : Type 0} (xs : List A) (k : ℕ) (x : A) → slice_get xs k ≡ Some x → drop k xs ≡ x ∷ drop (suc k) xs
+some_left [] k x e = cc
+some_left (y ∷ xs) zero x e = let same : y ≡ x = cc in ap (λ z. z ∷ xs) same
+some_left (y ∷ xs) (suc k) x e = some_left xs k x e
+
+pub left_there : {A : Type 0} (xs : List A) (k : ℕ) (x : A) → slice_get xs k ≡ Some x → drop k xs ≡ x ∷ drop (k + 1) xs
+left_there xs k x e = some_left xs k x e ∙ ap (λ n. x ∷ drop n xs) (sym (add-one k))

@@ -1,0 +1,119 @@
+-- The rank of the object that a reference names.
+use Rattle.std.proofs.Common.{◌≡◌, ◌==◌, ◌≤◌, ℕ, List, [], ◌∷◌, filter, length, Bool, true, false, true≢false, cond, Option, Some, None, option_and_then, option_map, if◌then◌else◌, is_gt, is_lt, refl, sym, ap, ◌∙◌, subst, arith}
+use Rattle.std.specs.Cmp.Lexicographic.{options_total}
+use Rattle.std.specs.Option.{option_cmp, option_map_or}
+use Rattle.serde_json.specs.Data.{Data}
+use Rattle.erd_tables.specs.Classes.{family_number}
+use Rattle.erd_tables.specs.declared.class.Family.{Family}
+use Rattle.erd_tables.specs.declared.class.Family.TheVariants as family
+use Rattle.erd_meaning.proofs.identity.ObjectFamilies.{family_exact, itself}
+use Rattle.erd_meaning.proofs.finding.OneObject.{in_at, ObjectIn, with_part}
+use Rattle.erd_meaning.proofs.accepted.Standing.{owned_by, owner_is}
+use Rattle.erd_meaning.specs.Accepted.{IsAccepted}
+use Rattle.erd_meaning.specs.Keys.{Preference, has_keys, key_cmp, key_of}
+use Rattle.erd_check.specs.Values.{text_of}
+use Rattle.erd_meaning.specs.Lookups.{FindsId, id_in, key_in, rank_of}
+use Rattle.erd_meaning.specs.Objects.{id_of, objects, owner, Placed}
+use Rattle.erd_meaning.specs.SelectionNames.{key_named}
+use Rattle.erd_meaning.specs.code.Orders.{key_cmp_total}
+use Rattle.erd_meaning.specs.declared.keys.key.Key.{Key}
+use Rattle.erd_meaning.proofs.orders.DistinctEntries.{place_of}
+use Rattle.erd_normal.proofs.lists.NumbersInOrder.{ranks_climb}
+use Rattle.erd_meaning.proofs.orders.RisingSets.{has_from_In, In-from_has}
+use Rattle.erd_normal.specs.code.Building.{id_of_rank}
+use Rattle.erd_normal.specs.code.NormalTree.{normal_id, reference_cmp}
+use Rattle.erd_normal.specs.code.Orders.{rank_named}
+
+-- no key is below none
+none_lesser : (π : Preference) (os : List Placed) → length (filter (λ o. is_lt (option_cmp key_cmp (key_of π o.value) None)) os) ≡ 0
+none_lesser π [] = refl
+none_lesser π (o ∷ os) = at (key_of π o.value) (none_lesser π os)
+  where
+    at : (k : Option Key) → length (filter (λ o. is_lt (option_cmp key_cmp (key_of π o.value) None)) os) ≡ 0
+        → length (cond (is_lt (option_cmp key_cmp k None)) (o ∷ filter (λ o. is_lt (option_cmp key_cmp (key_of π o.value) None)) os) (filter (λ o. is_lt (option_cmp key_cmp (key_of π o.value) None)) os)) ≡ 0
+    at None e = e
+    at (Some k) e = e
+
+-- a family that is not that of selections has keys
+pub keyed_unless : (f : Family) → (f ≡ family.Selection → ⊥) → has_keys f ≡ true
+keyed_unless family.Selection other = absurd (other refl)
+keyed_unless f other = refl
+
+-- ---- the object at a position
+
+module _ (π : Preference) (t : Data) (f : Family) where
+  -- the rank that a report lends for a key
+  abbrev lent_rank : Option Key → Option ℕ
+  lent_rank k = option_map (λ k. rank_of π t f (Some k)) k
+
+  pub rank_lent : (k : Option Key) (n : ℕ) → lent_rank k ≡ Some n → n ≡ rank_of π t f k
+  rank_lent None n e = cc
+  rank_lent (Some k) n e = cc
+
+  pub none_lent : (k : Option Key) → lent_rank k ≡ None → 0 ≡ rank_of π t f k
+  none_lent None e = sym (none_lesser π (objects f t))
+  none_lent (Some k) e = cc
+
+-- ---- the object that has an `@id`
+
+-- the `@id` text of the rank that is named
+pub text_named : (π : Preference) (t : Data) (f : Family) (id : List ℕ) → id_of_rank f (rank_named π t f id) ≡ normal_id π t f id
+text_named π t family.Selection id = refl
+text_named π t f id = refl
+
+-- ranks never fall along the order of keys
+pub ranks_rise : (π : Preference) (t : Data) (f : Family) (a b : Data) → is_gt (reference_cmp π t f a b) ≡ false → rank_named π t f (text_of a) ≤ rank_named π t f (text_of b)
+ranks_rise π t f a b low =
+    at (has_keys f) (ranks_climb (options_total key_cmp_total) (λ (o : Placed). key_of π o.value) (key_named π t f (text_of a)) (key_named π t f (text_of b)) (objects f t) low)
+  where
+    at : {m n : ℕ} (b : Bool) → m ≤ n → (if b then m else 0) ≤ (if b then n else 0)
+    at true h = h
+    at false h = omega arith
+
+module _ (π : Preference) (t : Data) (f : Family) (id : List ℕ) where
+  -- an object of the family has it
+  found_in : IsAccepted π t → has_keys f ≡ true → (i : ℕ) → id_in f t i ≡ Some id → rank_of π t f (key_in π f t i) ≡ rank_named π t f id
+  found_in accepted keyed i here =
+      let hit = with_part (λ o. id_of o.value) f t i id here in
+      let o : ObjectIn f t i = hit.0 in
+      let is : id_of o.one.value ≡ Some id = hit.1 in
+      let key : key_named π t f id ≡ key_of π o.one.value = ap (option_and_then (key_of π)) (owner_is π t accepted f o.one id (has_from_In o.one (objects f t) (in_at (objects f t) i o.one o.at)) is) in
+      ap (λ x. rank_of π t f (option_and_then (λ (o : Placed). if has_keys f then key_of π o.value else None) x)) o.at
+      ∙ (ap (λ b. rank_of π t f (if b then key_of π o.one.value else None)) keyed
+      ∙ (ap (rank_of π t f) (sym key) ∙ sym (ap (λ b. if b then rank_of π t f (key_named π t f id) else 0) keyed)))
+
+  -- no object of the family has it
+  unowned : ((i : ℕ) → id_in f t i ≡ Some id → ⊥) → owner t f id ≡ None
+  unowned none = at (owner t f id) refl
+    where
+      at : (o : Option Data) → owner t f id ≡ o → o ≡ None
+      at None e = refl
+      at (Some d) e =
+          let x = owned_by t f id d e in
+          let place = place_of x.0 (objects f t) (In-from_has x.0 (objects f t) x.1) in
+          absurd (none place.0 (ap (option_and_then (λ (o : Placed). id_of o.value)) place.1 ∙ (ap id_of x.2 ∙ x.3)))
+
+  unnamed : ((i : ℕ) → id_in f t i ≡ Some id → ⊥) → 0 ≡ rank_named π t f id
+  unnamed none = at (has_keys f)
+    where
+      at : (b : Bool) → 0 ≡ (if b then rank_of π t f (key_named π t f id) else 0)
+      at true = sym (ap (rank_of π t f) (ap (option_and_then (key_of π)) (unowned none)) ∙ none_lesser π (objects f t))
+      at false = refl
+
+  -- the family's object is found
+  pub named_here : IsAccepted π t → has_keys f ≡ true → (g : Family) (i : ℕ) → FindsId t id (Some (g, i)) → (family_number g == family_number f) ≡ true → rank_of π t f (key_in π f t i) ≡ rank_named π t f id
+  named_here accepted keyed g i finds same =
+      let one : g ≡ f = family_exact g f same in
+      found_in accepted keyed i ((finds f i).0 (ap (λ h. Some (h, i)) one))
+
+  -- an object of another family is found
+  pub named_elsewhere : (g : Family) (i : ℕ) → FindsId t id (Some (g, i)) → (family_number g == family_number f) ≡ false → 0 ≡ rank_named π t f id
+  named_elsewhere g i finds other = unnamed (λ j e.
+      let same : Some (g, i) ≡ Some (f, j) = (finds f j).1 e in
+      let one : g ≡ f = ap (λ o. option_map_or (λ (x : Family × ℕ). x.0) o g) same in
+      let equal : (family_number g == family_number f) ≡ true = subst (λ h. (family_number g == family_number h) ≡ true) one (itself (family_number g)) in
+      true≢false (sym equal ∙ other))
+
+  -- no object is found
+  pub named_nowhere : FindsId t id None → 0 ≡ rank_named π t f id
+  named_nowhere finds = unnamed (λ j e. let none : None ≡ Some (f, j) = (finds f j).1 e in cc)

@@ -1,8 +1,0 @@
-use Rattle.std.proofs.Common.{◌≡◌, map, take}
-use Rattle.serde_json.specs.View.{view}
-use Rattle.erd_check.specs.Values.{text_of}
-use Rattle.erd_normal.specs.code.ObjectNumbers.{number_named}
-use Rattle.erd_normal.proofs.values.reference_set.numbers_named.Given as goal
-
-abbrev pub invariant-loop-value : goal.invariant-loop-value
-invariant-loop-value l = l.numbers.items ≡ map (λ v. number_named l.numbered.prefer (view l.numbered.tree) l.family (text_of (view v))) (take l.value-index l.values)

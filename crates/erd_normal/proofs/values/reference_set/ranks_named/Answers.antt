@@ -1,0 +1,16 @@
+use Rattle.std.proofs.Common.{ap, ◌∙◌}
+use Rattle.serde_json.specs.View.{view}
+use Rattle.erd_check.specs.Values.{text_of}
+use Rattle.erd_normal.proofs.built.BuiltEntries.{one_value}
+use Rattle.erd_normal.specs.code.Orders.{rank_named}
+use Rattle.erd_normal.proofs.values.reference_set.ranks_named.Goals as goal
+
+pub loop-value-preserved : goal.loop-value-preserved
+loop-value-preserved c =
+    let rank = rank_named c.args.writer.now.prefer (view c.args.writer.now.tree) c.args.family in
+    c.in_ok-push.ensures.items
+    ∙ one_value (λ v. rank (text_of (view v))) c.loop-value.ranks.items c.args.values.now c.loop-value.value-index c.value-item.result _
+    c.loop-value-test.true
+    c.value-item.is
+    (c.rank_named.ensures ∙ ap rank c.text_of.ensures)
+    c.loop-value.invariant

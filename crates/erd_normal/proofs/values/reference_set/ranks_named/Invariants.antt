@@ -1,0 +1,8 @@
+use Rattle.std.proofs.Common.{◌≡◌, map, take}
+use Rattle.serde_json.specs.View.{view}
+use Rattle.erd_check.specs.Values.{text_of}
+use Rattle.erd_normal.specs.code.Orders.{rank_named}
+use Rattle.erd_normal.proofs.values.reference_set.ranks_named.Given as goal
+
+abbrev pub invariant-loop-value : goal.invariant-loop-value
+invariant-loop-value l = l.ranks.items ≡ map (λ v. rank_named l.writer.prefer (view l.writer.tree) l.family (text_of (view v))) (take l.value-index l.values)

@@ -1,0 +1,8 @@
+use Rattle.std.proofs.Common.{option_map, sym, ap, ◌∙◌}
+use Rattle.serde_json.specs.View.{view}
+use Rattle.erd_normal.proofs.texts.WholeObjects.{election_found}
+use Rattle.erd_normal.proofs.writer.Writer.election.Goals as goal
+
+pub returns-clause-whole : goal.returns-clause-whole
+returns-clause-whole c v is =
+    election_found (view c.self.inside.report.now.tree) c.self.invariant.whole c.args.position (view v.now) (sym (ap (option_map (λ v. view v.now)) is) ∙ c.election_at.ensures)

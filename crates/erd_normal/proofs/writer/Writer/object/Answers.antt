@@ -1,0 +1,8 @@
+use Rattle.std.proofs.Common.{option_map, sym, ap, ◌∙◌}
+use Rattle.serde_json.specs.View.{view}
+use Rattle.erd_normal.proofs.texts.WholeObjects.{object_found}
+use Rattle.erd_normal.proofs.writer.Writer.object.Goals as goal
+
+pub returns-clause-whole : goal.returns-clause-whole
+returns-clause-whole c v is =
+    object_found (view c.self.inside.report.now.tree) c.self.invariant.whole c.args.family c.args.position (view v.now) (sym (ap (option_map (λ v. view v.now)) is) ∙ c.object.ensures)

@@ -1,0 +1,17 @@
+use Rattle.std.proofs.Common.{[], ap, slice_get, ◌∙◌}
+use Rattle.std.specs.Option.{option_map_or}
+use Rattle.serde_json.specs.View.{view}
+use Rattle.erd_meaning.specs.Judged.{Judged}
+use Rattle.erd_meaning.specs.Objects.{Placed, contests}
+use Rattle.erd_normal.proofs.ranks.PartsFilled.{part_listed}
+use Rattle.erd_normal.specs.code.ElectionParts.{part_seen}
+use Rattle.erd_normal.specs.code.SelectionOrders.{rising_selections}
+use Rattle.erd_normal.proofs.writer.Writer.rising_selections.Goals as goal
+
+pub returns : goal.returns
+returns c =
+    let r = c.self.inside.report.now in
+    c.part_at.ensures
+    ∙ (ap (λ xs. part_seen xs c.args.contest) c.deref.ensures.value
+    ∙ (part_listed c.self.inside.orders.now.selections.rising.items (λ (o : Placed). rising_selections r.prefer (view r.tree) o.value) (contests (view r.tree)) c.args.contest c.self.invariant.contests
+    ∙ ap (λ (r : Judged). option_map_or (λ (o : Placed). rising_selections r.prefer (view r.tree) o.value) (slice_get (contests (view r.tree)) c.args.contest) []) c.self.view_is))

@@ -1,0 +1,28 @@
+use Rattle.std.proofs.Common.{◌≡◌, [], sym, ◌∙◌, subst}
+use Rattle.serde_json.specs.Data.{string}
+use Rattle.serde_json.specs.View.{view}
+use Rattle.erd_tables.specs.declared.class.Family.TheVariants as family
+use Rattle.erd_meaning.specs.Judged.{Judged}
+use Rattle.erd_meaning.specs.Lookups.{id_in}
+use Rattle.std.proofs.Common.{Some}
+use Rattle.erd_normal.proofs.ranks.SelectionReferences.{selection_elsewhere, selection_found, selection_nowhere}
+use Rattle.erd_normal.specs.code.NormalTree.{normal_selection_reference}
+use Rattle.erd_normal.proofs.writer.Writer.selection_ranks.Goals as goal
+
+pub returns-then-is_same : goal.returns-then-is_same
+returns-then-is_same c =
+    let r = c.self.inside.report.now in
+    c.ranks_at.ensures c.args.id.now
+    (subst (λ (r : Judged). id_in family.Selection (view r.tree) c.in-Some.position ≡ Some c.args.id.now) c.self.view_is
+    (selection_found (view r.tree) c.args.id.now c.in-Some.found c.in-Some.position c.in-Some.ensures (sym c.is_same.ensures ∙ c.if-is_same.true)))
+
+pub returns-else-is_same : goal.returns-else-is_same
+returns-else-is_same c =
+    let r = c.self.inside.report.now in
+    subst (λ (r : Judged). string [] ≡ normal_selection_reference r.prefer (view r.tree) (string c.args.id.now)) c.self.view_is
+    (selection_elsewhere r.prefer (view r.tree) c.args.id.now c.in-Some.found c.in-Some.position c.in-Some.ensures (sym c.is_same.ensures ∙ c.if-is_same.false))
+
+pub returns-in-None : goal.returns-in-None
+returns-in-None c =
+    let r = c.self.inside.report.now in
+    subst (λ (r : Judged). string [] ≡ normal_selection_reference r.prefer (view r.tree) (string c.args.id.now)) c.self.view_is (selection_nowhere r.prefer (view r.tree) c.args.id.now c.in-None.ensures)

@@ -1,0 +1,6 @@
+use Rattle.std.proofs.Common.{rules}
+use Rattle.std.proofs.lemmas.Result.{IfOk-weaker}
+use Rattle.erd_normal.proofs.writer.election_parts.election_parts.Goals as goal
+
+pub returns : goal.returns
+returns c = IfOk-weaker c.of.result _ _ (λ parts all f. let called = all f in search rules) c.of.ensures

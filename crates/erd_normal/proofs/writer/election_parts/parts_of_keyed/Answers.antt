@@ -1,0 +1,49 @@
+use Rattle.std.proofs.Common.{◌≡◌, ◌==◌, ◌<◌, ◌≤◌, ℕ, inl, inr, [], ◌∷◌, ◌++◌, filter, get_or, length, map, take, ap, sym, ◌∙◌, subst, arith}
+use Rattle.std.proofs.Math.Seq.{take-length}
+use Rattle.serde_json.specs.View.{view}
+use Rattle.erd_meaning.specs.Objects.{Placed, elections, objects}
+use Rattle.erd_normal.proofs.lists.NumberedKept.{kept_map}
+use Rattle.erd_normal.proofs.ranks.PartObjects.{in_order, lent_positions, no_part}
+use Rattle.erd_normal.proofs.ranks.PartsFilled.{below, get_or_here, one_put, part_missing}
+use Rattle.erd_normal.specs.code.ElectionParts.{in_order_of_keys, part_at, part_seen}
+use Rattle.erd_normal.proofs.writer.election_parts.parts_of_keyed.Goals as goal
+
+pub loop-position-init : goal.loop-position-init
+loop-position-init c = record { count = c.in_ok-parts.ensures.few ∙ c.election_count.ensures; filled = λ i low. c.in_ok-parts.ensures.empty i }
+
+pub loop-position-preserved : goal.loop-position-preserved
+loop-position-preserved c =
+    let t = view c.args.report.now.tree in
+    let at : ℕ → ℕ = part_at t c.args.family in
+    let many = length (elections t) in
+    let k = c.loop-position.position-index in
+    let e = get_or c.rising-position-items.result.now k 0 in
+    let old = part_seen c.loop-position.parts.items in
+    let new = part_seen c.put_in_part.new.parts.items in
+    let part : c.part_of-part.result ≡ at e = c.part_of-part.ensures in
+    record {
+      count = c.in_ok-put_in_part.ensures.count ∙ c.loop-position.invariant.count;
+      filled = λ i. one_put at c.rising-position-items.result.now many k e c.loop-position-test.true (get_or_here c.rising-position-items.result.now k c.loop-position-test.true) i old new (c.loop-position.invariant.filled i)
+          (λ low. subst (λ n. new n ≡ old n ++ e ∷ []) part (c.in_ok-put_in_part.ensures.here (subst (λ n. n < length c.loop-position.parts.items) (sym part) (subst (λ n. at e < n) (sym c.loop-position.invariant.count) low))))
+          (λ j other. c.in_ok-put_in_part.ensures.elsewhere j (λ same. other (same ∙ part)));
+    }
+
+pub returns : goal.returns
+returns c i =
+    let π = c.args.report.now.prefer in
+    let t = view c.args.report.now.tree in
+    let f = c.args.family in
+    let rising = c.rising-position-items.result.now in
+    let q = λ (j : ℕ). part_at t f j == i in
+    let end : c.loop-position.position-index ≡ length rising = omega arith in
+    let many = length (elections t) in
+    elim (below i many) [
+      | inl low ↦
+          c.loop-position.invariant.filled i low
+          ∙ (ap (filter q) (ap (λ n. take n rising) end ∙ take-length rising ∙ c.rising-position-items.ensures ∙ lent_positions π t f c.requires.keyed)
+          ∙ (kept_map (λ (o : ℕ × Placed). o.0) q (in_order_of_keys π (objects f t))
+          ∙ ap (λ os. map (λ (o : ℕ × Placed). o.0) (filter (λ o. q o.0) os)) (sym (in_order π t f c.requires.keyed))))
+      | inr high ↦
+          part_missing (λ p. p.items) c.loop-position.parts.items i (subst (λ n. n ≤ i) (sym c.loop-position.invariant.count) high)
+          ∙ ap (map (λ (o : ℕ × Placed). o.0)) (sym (no_part π t f c.requires.accepted c.requires.keyed i high))
+    ]

@@ -1,0 +1,8 @@
+use Rattle.std.proofs.Common.{◌≡◌, map, take}
+use Rattle.serde_json.specs.View.{view}
+use Rattle.erd_meaning.specs.code.KeyOrders.{positioned}
+use Rattle.erd_normal.proofs.ranks.SelectionRanks.{ranked_name_of, see}
+use Rattle.erd_normal.proofs.writer.selection_orders.names_from.Given as goal
+
+abbrev pub invariant-loop-index : goal.invariant-loop-index
+invariant-loop-index l = map see l.names.items ≡ positioned 0 (take l.index (map (ranked_name_of l.report.prefer (view l.report.tree)) (map view l.selections)))
