@@ -68,7 +68,7 @@ fn positions_of(alloc: Global, keys: &[(Option<&Key>, usize)]) -> Result<Vec<usi
 /// `AllocError` if out of memory.
 ///
 /// ```
-/// assert_eq!(rt; places_in(alloc, &[2, 0, 1])?.as_slice(), &[1, 2, 0]);
+/// assert_eq!(rt; places_in(alloc, &[2, 0, 1])?.as_slice(), [1, 2, 0].as_slice());
 /// ```
 pub fn places_in(alloc: Global, rising: &[usize]) -> Result<Vec<usize>, AllocError>
     requires low { AllByRecursion (λ i. i < length rising.now) rising.now }
