@@ -91,6 +91,7 @@ pub(crate) fn write_faults_to_err<O: Sink, E: Sink>(
     ensures writes_first { E.has_failed err.new ≡ true → E.flushes err.new ≡ E.flushes err.old
         → O.flushes out.new ≡ O.flushes out.old }
     ensures flush_order { (E.flushes err.new ≡ E.flushes err.old) ⊎ (O.is_flushed out.new ≡ true) }
+    ensures out_needed { O.has_failed out.new ≡ true → O.flushes out.new ≡ O.flushes out.old → ⊥ }
 {
     write_fault_lines(alloc, err, faults).map_err(|_| RunFault::Write)?;
     out.flush().map_err(|_| RunFault::Write)?;
