@@ -68,6 +68,10 @@ if has -fsanitize=address,undefined; then
     built address -fsanitize=address,undefined
     said 'a caller in C under AddressSanitizer' "$([ $? -eq 0 ] || tail -n 5 "$work/err")"
     erd=$callers/address
+    "$compiler" -x c "${sanitizers[@]}" -o "$work/leaks" - <<< '#include <stdlib.h>
+int main(void) { return malloc(16) == NULL; }' 2> "$work/err"
+    "$work/leaks" > "$work/out" 2>> "$work/err"
+    said 'memory that is not freed is noticed' "$(grep -q 'LeakSanitizer: detected memory leaks' "$work/err" || tail -n 3 "$work/err")"
 else
     echo "skipped AddressSanitizer: the compiler has none, or it doesn't run here"
 fi

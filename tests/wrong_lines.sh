@@ -1,8 +1,8 @@
 #!/usr/bin/env bash
-# Tries wrong lines where no contract would refuse them: in the program's `main` and in the C file of the library. Each file of
-# tests/edits/erd has such lines, and some script that runs what is built from them must fail. All of it is built in a copy of
-# the repository, from the crates as they stand proved there: `make erd` and `make library` leave them so. The words are the
-# names of the files that are tried; with none, all are.
+# Tries wrong lines where no contract would refuse them: in the program's `main`, in the C file of the library, and in erd_c where
+# it would keep memory. Each file of tests/edits/erd has such lines, and some script that runs what is built from them must fail.
+# All of it is built in a copy of the repository, from the crates as they stand proved there: `make erd` and `make library` leave
+# them so. The words are the names of the files that are tried; with none, all are.
 set -u
 cd "$(dirname "$0")/.." || exit 1
 . tests/counting.sh
@@ -20,7 +20,7 @@ for name in *; do
     esac
 done
 for crate in crates/*; do
-    [ "$crate" = crates/erd ] || ln -s "$top/$crate" "$work/$crate"
+    [[ $crate == crates/erd || $crate == crates/erd_c ]] || ln -s "$top/$crate" "$work/$crate"
 done
 cp -r out/c "$work/out/c"
 # A test that includes the C file by its place beside this folder has to find the changed one.
@@ -28,10 +28,12 @@ cp -r tests "$work/tests"
 
 # apply FILE: makes the file that the edit names anew, with its wrong lines
 apply() {
-    rm -rf "$work/bindings" "$work/crates/erd"
+    rm -rf "$work/bindings" "$work/crates/erd" "$work/crates/erd_c"
     cp -r bindings "$work"
-    mkdir "$work/crates/erd"
+    mkdir -p "$work/crates/erd" "$work/crates/erd_c/out"
     cp -r crates/erd/src "$work/crates/erd"
+    cp -r crates/erd_c/{src,specs,proofs} "$work/crates/erd_c"
+    cp crates/erd_c/out/liberd_c.a "$work/crates/erd_c/out"
     python3 - "$1" "$work" <<'PYTHON'
 import pathlib
 import sys
@@ -51,10 +53,8 @@ PYTHON
 # built FILE: what is built from the file anew
 built() {
     case $1 in
-    *.c)
-        "${CC:-cc}" -std=c11 -O2 -fPIC -c "$work/bindings/c/erd.c" -o "$work/erd.o" &&
-            ar rcsD "$work/out/c/liberd.a" "$work/erd.o"
-        ;;
+    *.c) (cd "$work" && packaging/static_library.sh) ;;
+    crates/erd_c/*) (cd "$work" && packaging/compile.sh erd_c && packaging/static_library.sh) ;;
     *) (cd "$work" && packaging/compile.sh erd) && cp "$work/crates/erd/out/erd" "$work/erd" ;;
     esac
 }
@@ -77,7 +77,7 @@ for file in "${files[@]}"; do
         continue
     fi
     case $changed in
-    *.c) failure=$(LIBRARY_IS_MADE=yes first_failure tests/library.sh) ;;
+    *.c | crates/erd_c/*) failure=$(LIBRARY_IS_MADE=yes first_failure tests/library.sh) ;;
     *) failure=$(first_failure tests/cli.sh tests/limits.sh) ;;
     esac
     said "$name" "$([ -n "$failure" ] || echo 'no script noticed it')"

@@ -80,3 +80,14 @@ faults_written π bytes text faults (Ok outcome) out_before out_after err_before
   wrote_err = wrote_err;
 }
 faults_written π bytes text faults (Err fault) out_before out_after err_before err_after refused text_is outcome_is wrote_out wrote_err = tt
+
+-- where an answer of a check holds that the lines of all faults were written
+pub check_faults_written : (π : Preference) (bytes text : List ℕ) (faults : List Fault) (r : Result Outcome RunFault) (out_before out_after : Option (List ℕ)) → IsRefusedReport π bytes faults
+    → text ≡ text_of_lines (map fault_line faults) → IfOk r (λ outcome. outcome ≡ Bad) → OnOk r (Appends out_before out_after text)
+    → IfOk r (λ outcome. IsCheckWritten π bytes outcome out_before out_after)
+check_faults_written π bytes text faults (Ok outcome) out_before out_after refused text_is outcome_is wrote = record {
+  text = text;
+  checked = subst (λ o. IsChecked π bytes o text) (sym outcome_is) (faults, refused, text_is);
+  wrote = wrote;
+}
+check_faults_written π bytes text faults (Err fault) out_before out_after refused text_is outcome_is wrote = tt

@@ -44,6 +44,16 @@ side_refused π side bytes refusal.NotJson Good text not is = absurd is
 side_refused π side bytes refusal.NotJson Bad text not is = absurd is
 side_refused π side bytes refusal.Memory outcome text unsaid is = absurd is
 
+-- where an answer holds what was written of the refusal of the left bytes
+pub left_refusal_written : (π : Preference) (left right : List ℕ) (refused : Refusal) (r : Result Outcome RunFault) (before after : Option (List ℕ)) → RefusedAs π left refused
+    → IfOk r (λ outcome. IsRefusalWritten (codes "left: ") refused outcome before after) → IfOk r (λ outcome. IsCompareWritten π left right outcome before after)
+left_refusal_written π left right refused (Ok outcome) before after is written = record {
+  text = written.text;
+  compared = inl (side_refused π (codes "left: ") left refused outcome written.text is written.tells);
+  wrote = written.wrote;
+}
+left_refusal_written π left right refused (Err fault) before after is written = tt
+
 -- where an answer holds what was written of the refusal of the right bytes
 pub right_refusal_written : (π : Preference) (left right : List ℕ) (refused : Refusal) (r : Result Outcome RunFault) (before after : Option (List ℕ)) → IsSomeReport π left → RefusedAs π right refused
     → IfOk r (λ outcome. IsRefusalWritten (codes "right: ") refused outcome before after) → IfOk r (λ outcome. IsCompareWritten π left right outcome before after)

@@ -8,6 +8,8 @@ ghost use Rattle.erd_meaning.specs.Keys.{Preference};
 ghost use Rattle.erd_canon.specs.Bytes.{IsTreeOf};
 ghost use Rattle.erd_canon.specs.Refused.{IsSomeReport, RefusedAs};
 
+use crate::bytes::disposal::{Disposal, Free};
+use crate::bytes::input::Input;
 use crate::bytes::refusal::Refusal;
 use erd_check::{CheckError, shape};
 use erd_meaning::{Report, resolve_with};
@@ -51,8 +53,23 @@ pub fn check_bytes_with(alloc: Global, bytes: &[u8], prefer: Option<&str>) -> Re
     ensures ok { OnOk result (IsSomeReport (option_copied prefer.entry) bytes.now) }
     ensures refused { IfErr result (RefusedAs (option_copied prefer.entry) bytes.now) }
 {
-    let tree = tree_of(alloc, bytes)?;
-    let _report = accepted(alloc, &tree, prefer)?;
+    check_input(alloc, bytes, prefer, &Free)
+}
+
+/// Checks the input, as `check_bytes_with` does. If it is accepted, its report and its tree go to the disposal.
+pub(crate) fn check_input<I: Input, D: Disposal>(
+    alloc: Global,
+    input: I,
+    prefer: Option<&str>,
+    disposal: &D,
+) -> Result<(), Refusal>
+    ensures ok { OnOk result (IsSomeReport (option_copied prefer.entry) (I.bytes input)) }
+    ensures refused { IfErr result (RefusedAs (option_copied prefer.entry) (I.bytes input)) }
+{
+    let tree = input.into_tree(alloc)?;
+    let report = accepted(alloc, &tree, prefer)?;
+    disposal.dispose(report);
+    disposal.dispose(tree);
     Ok(())
 }
 

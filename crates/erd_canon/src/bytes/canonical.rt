@@ -3,7 +3,9 @@ ghost use Rattle.std.specs.Option.{option_copied};
 ghost use Rattle.erd_canon.specs.Headline.{Headline};
 ghost use Rattle.erd_canon.specs.Refused.{RefusedAs};
 
-use crate::bytes::acceptance::{accepted, tree_of};
+use crate::bytes::acceptance::accepted;
+use crate::bytes::disposal::{Disposal, Free};
+use crate::bytes::input::Input;
 use crate::bytes::refusal::Refusal;
 use erd_normal::normal_text;
 use std::alloc::Global;
@@ -54,10 +56,26 @@ pub fn canonical_with(alloc: Global, bytes: &[u8], prefer: Option<&str>) -> Resu
     ensures headline { IfOk result (λ text. Headline (option_copied prefer.entry) bytes.now text.items) }
     ensures refused { IfErr result (RefusedAs (option_copied prefer.entry) bytes.now) }
 {
-    let tree = tree_of(alloc, bytes)?;
+    canonical_of_input(alloc, bytes, prefer, &Free)
+}
+
+/// Returns the canonical bytes of the input, as `canonical_with` does. If there are any, its report and its tree go to the
+/// disposal.
+pub(crate) fn canonical_of_input<I: Input, D: Disposal>(
+    alloc: Global,
+    input: I,
+    prefer: Option<&str>,
+    disposal: &D,
+) -> Result<Vec<u8>, Refusal>
+    ensures headline { IfOk result (λ text. Headline (option_copied prefer.entry) (I.bytes input) text.items) }
+    ensures refused { IfErr result (RefusedAs (option_copied prefer.entry) (I.bytes input)) }
+{
+    let tree = input.into_tree(alloc)?;
     let report = accepted(alloc, &tree, prefer)?;
     // read for `headline`: the tree is one that a call is handed
     let _tree = report.tree();
     let text = normal_text(alloc, &report)?;
+    disposal.dispose(report);
+    disposal.dispose(tree);
     Ok(text)
 }

@@ -8,7 +8,9 @@ ghost use Rattle.erd_canon.specs.Bytes.{IsTreeOf};
 ghost use Rattle.erd_canon.specs.EngineTexts.{IsComparison};
 ghost use Rattle.erd_canon.specs.Refused.{IsSomeReport, RefusedSide};
 
-use crate::bytes::acceptance::{accepted, tree_of};
+use crate::bytes::acceptance::accepted;
+use crate::bytes::disposal::{Disposal, Free};
+use crate::bytes::input::Input;
 use crate::bytes::refusal::{Refusal, Side};
 use erd_compare::{Difference, first_difference};
 use serde_json::Value;
@@ -54,7 +56,6 @@ pub fn compare_bytes(alloc: Global, left: &[u8], right: &[u8]) -> Result<Option<
 /// let half = compare_bytes_with(alloc, one, "{".as_bytes(), Some("fips"));
 /// assert!(rt; matches!(half, Err(Side::Right(Refusal::NotJson))));
 /// ```
-#[tactic(auto, using(crate::proofs::forms::Refusing::refused_tree))]
 pub fn compare_bytes_with(
     alloc: Global,
     left: &[u8],
@@ -65,6 +66,23 @@ pub fn compare_bytes_with(
     ensures said { IfOk result (TellsWhatIsSaid left.now right.now) }
     ensures agree { IfOk result (AgreesUnderEach left.now right.now) }
     ensures refused { IfErr result (RefusedSide (option_copied prefer.entry) left.now right.now) }
+{
+    compare_inputs(alloc, left, right, prefer, &Free)
+}
+
+/// Compares the inputs, as `compare_bytes_with` does. If both are accepted, their reports and their trees go to the disposal.
+#[tactic(auto, using(crate::proofs::forms::Refusing::refused_tree))]
+pub(crate) fn compare_inputs<I: Input, D: Disposal>(
+    alloc: Global,
+    left: I,
+    right: I,
+    prefer: Option<&str>,
+    disposal: &D,
+) -> Result<Option<Difference>, Side>
+    ensures ok { IfOk result (IsComparison (option_copied prefer.entry) (I.bytes left) (I.bytes right)) }
+    ensures said { IfOk result (TellsWhatIsSaid (I.bytes left) (I.bytes right)) }
+    ensures agree { IfOk result (AgreesUnderEach (I.bytes left) (I.bytes right)) }
+    ensures refused { IfErr result (RefusedSide (option_copied prefer.entry) (I.bytes left) (I.bytes right)) }
 {
     let left_tree = left_tree_of(alloc, left)?;
     let left_report = match accepted(alloc, &left_tree, prefer) {
@@ -80,30 +98,34 @@ pub fn compare_bytes_with(
     let _left = left_report.tree();
     let _right = right_report.tree();
     match first_difference(alloc, &left_report, &right_report) {
-        Ok(found) => Ok(found),
+        Ok(found) => {
+            disposal.dispose((left_report, right_report));
+            disposal.dispose((left_tree, right_tree));
+            Ok(found)
+        }
         Err(_) => Err(Side::Memory),
     }
 }
 
-/// Parses the bytes on the left into a tree.
-fn left_tree_of(alloc: Global, left: &[u8]) -> Result<Value, Side>
-    ensures read { IfOk result (λ tree. IsTreeOf left.now (view tree)) }
+/// Parses the input on the left into a tree.
+fn left_tree_of<I: Input>(alloc: Global, left: I) -> Result<Value, Side>
+    ensures read { IfOk result (λ tree. IsTreeOf (I.bytes left) (view tree)) }
     ensures nests { IfOk result (λ tree. IsShallow (view tree)) }
-    ensures refused { IfErr result (λ side. (π : Preference) (right : List ℕ) → RefusedSide π left.now right side) }
+    ensures refused { IfErr result (λ side. (π : Preference) (right : List ℕ) → RefusedSide π (I.bytes left) right side) }
 {
-    match tree_of(alloc, left) {
+    match left.into_tree(alloc) {
         Ok(tree) => Ok(tree),
         Err(refusal) => Err(Side::Left(refusal)),
     }
 }
 
-/// Parses the bytes on the right into a tree.
-fn right_tree_of(alloc: Global, right: &[u8]) -> Result<Value, Side>
-    ensures read { IfOk result (λ tree. IsTreeOf right.now (view tree)) }
+/// Parses the input on the right into a tree.
+fn right_tree_of<I: Input>(alloc: Global, right: I) -> Result<Value, Side>
+    ensures read { IfOk result (λ tree. IsTreeOf (I.bytes right) (view tree)) }
     ensures nests { IfOk result (λ tree. IsShallow (view tree)) }
-    ensures refused { IfErr result (λ side. (π : Preference) (left : List ℕ) → IsSomeReport π left → RefusedSide π left right.now side) }
+    ensures refused { IfErr result (λ side. (π : Preference) (left : List ℕ) → IsSomeReport π left → RefusedSide π left (I.bytes right) side) }
 {
-    match tree_of(alloc, right) {
+    match right.into_tree(alloc) {
         Ok(tree) => Ok(tree),
         Err(refusal) => Err(Side::Right(refusal)),
     }

@@ -4,7 +4,8 @@ ghost use Rattle.erd_canon.specs.Limits.{most_bytes, most_reads};
 ghost use Rattle.erd_canon.specs.Reading.{Exceeds};
 ghost use Rattle.erd_canon.specs.Run.{IsCheckWritten, IsToldCheck, IsWholeCheck};
 
-use crate::bytes::acceptance::check_bytes_with;
+use crate::bytes::acceptance::check_input;
+use crate::bytes::disposal::{Disposal, Free};
 use crate::bytes::refusal::Refusal;
 use crate::devices::sink::Sink;
 use crate::devices::source::{Source, read_all};
@@ -104,26 +105,76 @@ pub fn run_check_with<S: Source, O: Sink>(
         → S.given reader.old + most_bytes < S.given reader.new }
     ensures calls { S.reads reader.new ≤ S.reads reader.old + most_reads }
 {
+    run_check_disposing(alloc, reader, out, prefer, &Free)
+}
+
+/// Reads a report, checks it, and writes whether it is accepted, as `run_check_with` does, and hands the tree and the report to
+/// the disposal when it no longer needs them.
+///
+/// A program that ends after the run can leave them to the system, which is faster than to free them. If the report is refused,
+/// or memory runs out, they are freed.
+///
+/// # Errors
+///
+/// - `RunFault::Read` if and only if a read failed.
+/// - `RunFault::Write` if and only if a write or a flush failed.
+/// - `RunFault::TooLong` if a reader gave more than 67,108,864 bytes.
+/// - `RunFault::Memory` if out of memory.
+///
+/// ```
+/// let outcome = run_check_disposing(alloc, &mut reader, &mut out, prefer, disposal)?;
+/// assert_eq!(rt; outcome, Outcome::Good);
+/// ```
+pub fn run_check_disposing<S: Source, O: Sink, D: Disposal>(
+    alloc: Global,
+    reader: &mut S,
+    out: &mut O,
+    prefer: Option<&str>,
+    disposal: &D,
+) -> Result<Outcome, RunFault>
+    requires reader_works { S.has_failed reader.old ≡ false }
+    requires out_works { O.has_failed out.old ≡ false }
+
+    // What an outcome means.
+    ensures whole { IfOk result (λ outcome. IsWholeCheck (option_copied prefer.entry) most_bytes outcome (S.remaining reader.old) (S.remaining reader.new)
+        (O.contents out.old) (O.contents out.new)) }
+    ensures told { IfOk result (λ _. IsToldCheck (option_copied prefer.entry) most_bytes (S.remaining reader.old) (S.remaining reader.new)
+        (O.contents out.old) (O.contents out.new)) }
+    ensures flushed { OnOk result (O.is_flushed out.new ≡ true) }
+
+    // If the fault is not `Write`, nothing was written or flushed.
+    ensures quiet { IfErr result (λ fault. fault ≢ RunFault.Write → out.new ≡ out.old) }
+
+    // When each fault is returned.
+    ensures read { IsErrOf result RunFault.Read ↔ (S.has_failed reader.new ≡ true) }
+    ensures write { IsErrOf result RunFault.Write ↔ (O.has_failed out.new ≡ true) }
+    ensures too_long { result ≡ Err RunFault.TooLong
+        → Exceeds most_bytes (S.remaining reader.old) (S.remaining reader.new) }
+    ensures too_many { result ≡ Err RunFault.TooLong
+        → S.given reader.old + most_bytes < S.given reader.new }
+    ensures calls { S.reads reader.new ≤ S.reads reader.old + most_reads }
+{
     let bytes = read_all(alloc, reader)?;
-    write_checked(alloc, bytes.as_slice(), out, prefer)
+    write_checked(alloc, bytes, out, prefer, disposal)
 }
 
 // Checks the bytes and writes the result.
-fn write_checked<O: Sink>(
+fn write_checked<O: Sink, D: Disposal>(
     alloc: Global,
-    bytes: &[u8],
+    bytes: Vec<u8>,
     out: &mut O,
     prefer: Option<&str>,
+    disposal: &D,
 ) -> Result<Outcome, RunFault>
     requires { O.has_failed out.old ≡ false }
-    ensures written { IfOk result (λ outcome. IsCheckWritten (option_copied prefer.entry) bytes.now outcome (O.contents out.old) (O.contents out.new)) }
+    ensures written { IfOk result (λ outcome. IsCheckWritten (option_copied prefer.entry) bytes.items outcome (O.contents out.old) (O.contents out.new)) }
     ensures flushed { OnOk result (O.is_flushed out.new ≡ true) }
     ensures works { OnOk result (O.has_failed out.new ≡ false) }
     ensures memory { result ≡ Err RunFault.Memory → out.new ≡ out.old }
     ensures write { result ≡ Err RunFault.Write → O.has_failed out.new ≡ true }
     ensures faults { IfErr result (λ fault. (fault ≡ RunFault.Memory) ⊎ (fault ≡ RunFault.Write)) }
 {
-    match check_bytes_with(alloc, bytes, prefer) {
+    match check_input(alloc, bytes, prefer, disposal) {
         Ok(()) => write_one(out, Outcome::Good, b"accepted\n"),
         Err(Refusal::Faults(faults)) => {
             let lines = fault_lines(alloc, &faults)?;

@@ -8,7 +8,8 @@ ghost use Rattle.erd_canon.specs.Reading.{Exceeds};
 ghost use Rattle.erd_canon.specs.Run.{IsCompareWritten, IsToldCompare, IsWholeCompare};
 ghost use Rattle.erd_canon.specs.code.SideRefusals.{IsRefusalWritten};
 
-use crate::bytes::comparison::compare_bytes_with;
+use crate::bytes::comparison::compare_inputs;
+use crate::bytes::disposal::{Disposal, Free};
 use crate::bytes::refusal::{Refusal, Side};
 use crate::devices::sink::Sink;
 use crate::devices::source::{Source, read_all};
@@ -129,34 +130,87 @@ pub fn run_compare_with<S: Source, T: Source, O: Sink>(
     ensures left_calls { S.reads left.new ≤ S.reads left.old + most_reads }
     ensures right_calls { T.reads right.new ≤ T.reads right.old + most_reads }
 {
+    run_compare_disposing(alloc, left, right, out, prefer, &Free)
+}
+
+/// Reads two reports, compares them, and writes the result, as `run_compare_with` does, and hands the trees and the reports to
+/// the disposal when it no longer needs them.
+///
+/// A program that ends after the run can leave them to the system, which is faster than to free them. If a report is refused, or
+/// memory runs out, they are freed.
+///
+/// # Errors
+///
+/// - `RunFault::Read` if and only if a read failed.
+/// - `RunFault::Write` if and only if a write or a flush failed.
+/// - `RunFault::TooLong` if a reader gave more than 67,108,864 bytes.
+/// - `RunFault::Memory` if out of memory.
+///
+/// ```
+/// let outcome = run_compare_disposing(alloc, &mut left, &mut right, &mut out, prefer, disposal)?;
+/// assert_eq!(rt; outcome, Outcome::Good);
+/// ```
+pub fn run_compare_disposing<S: Source, T: Source, O: Sink, D: Disposal>(
+    alloc: Global,
+    left: &mut S,
+    right: &mut T,
+    out: &mut O,
+    prefer: Option<&str>,
+    disposal: &D,
+) -> Result<Outcome, RunFault>
+    requires left_works { S.has_failed left.old ≡ false }
+    requires right_works { T.has_failed right.old ≡ false }
+    requires out_works { O.has_failed out.old ≡ false }
+
+    // What an outcome means.
+    ensures whole { IfOk result (λ outcome. IsWholeCompare (option_copied prefer.entry) most_bytes outcome (S.remaining left.old) (S.remaining left.new)
+        (T.remaining right.old) (T.remaining right.new) (O.contents out.old) (O.contents out.new)) }
+    ensures told { IfOk result (λ _. IsToldCompare (option_copied prefer.entry) most_bytes (S.remaining left.old) (S.remaining left.new)
+        (T.remaining right.old) (T.remaining right.new) (O.contents out.old) (O.contents out.new)) }
+    ensures flushed { OnOk result (O.is_flushed out.new ≡ true) }
+
+    // If the fault is not `Write`, nothing was written or flushed.
+    ensures quiet { IfErr result (λ fault. fault ≢ RunFault.Write → out.new ≡ out.old) }
+
+    // The right reader is read only after the left one was read to its end, and not after a read of the left one failed.
+    ensures left_first { (right.new ≡ right.old) ⊎ IsAtEnd (S.remaining left.new) }
+    ensures left_failed { S.has_failed left.new ≡ true → right.new ≡ right.old }
+
+    // When each fault is returned. If the left report is too long, the right one is not read.
+    ensures read { IsErrOf result RunFault.Read ↔ ((S.has_failed left.new ≡ true) ⊎ (T.has_failed right.new ≡ true)) }
+    ensures write { IsErrOf result RunFault.Write ↔ (O.has_failed out.new ≡ true) }
+    ensures too_long { result ≡ Err RunFault.TooLong
+        → (Exceeds most_bytes (S.remaining left.old) (S.remaining left.new) × (right.new ≡ right.old))
+        ⊎ Exceeds most_bytes (T.remaining right.old) (T.remaining right.new) }
+    ensures too_many { result ≡ Err RunFault.TooLong
+        → ((S.given left.old + most_bytes < S.given left.new) × (right.new ≡ right.old))
+        ⊎ (T.given right.old + most_bytes < T.given right.new) }
+    ensures left_calls { S.reads left.new ≤ S.reads left.old + most_reads }
+    ensures right_calls { T.reads right.new ≤ T.reads right.old + most_reads }
+{
     let left_bytes = read_all(alloc, left)?;
     let right_bytes = read_all(alloc, right)?;
-    write_compared(
-        alloc,
-        left_bytes.as_slice(),
-        right_bytes.as_slice(),
-        out,
-        prefer,
-    )
+    write_compared(alloc, left_bytes, right_bytes, out, prefer, disposal)
 }
 
 // Compares the bytes of two reports and writes the result.
-fn write_compared<O: Sink>(
+fn write_compared<O: Sink, D: Disposal>(
     alloc: Global,
-    left: &[u8],
-    right: &[u8],
+    left: Vec<u8>,
+    right: Vec<u8>,
     out: &mut O,
     prefer: Option<&str>,
+    disposal: &D,
 ) -> Result<Outcome, RunFault>
     requires { O.has_failed out.old ≡ false }
-    ensures written { IfOk result (λ outcome. IsCompareWritten (option_copied prefer.entry) left.now right.now outcome (O.contents out.old) (O.contents out.new)) }
+    ensures written { IfOk result (λ outcome. IsCompareWritten (option_copied prefer.entry) left.items right.items outcome (O.contents out.old) (O.contents out.new)) }
     ensures flushed { OnOk result (O.is_flushed out.new ≡ true) }
     ensures works { OnOk result (O.has_failed out.new ≡ false) }
     ensures memory { result ≡ Err RunFault.Memory → out.new ≡ out.old }
     ensures write { result ≡ Err RunFault.Write → O.has_failed out.new ≡ true }
     ensures faults { IfErr result (λ fault. (fault ≡ RunFault.Memory) ⊎ (fault ≡ RunFault.Write)) }
 {
-    match compare_bytes_with(alloc, left, right, prefer) {
+    match compare_inputs(alloc, left, right, prefer, disposal) {
         Ok(None) => write_one(out, Outcome::Good, b"same\n"),
         Ok(Some(difference)) => match difference_text(alloc, &difference) {
             Ok(text) => write_one(out, Outcome::Bad, text.as_slice()),

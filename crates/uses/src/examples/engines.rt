@@ -1,10 +1,12 @@
 //! Examples of the engines and the command line of `erd_canon`.
 use crate::tests::{CANONICAL, OTHER_NAME, REPORT};
 use erd_canon::{
-    Outcome, ReadFrom, Request, RunFault, Sink, Source, WriteTo, command_line, run_canon,
-    run_canon_with, run_check, run_check_with, run_compare, run_compare_with, write_out,
+    Disposal, Free, Outcome, ReadFrom, Request, RunFault, Sink, Source, WriteTo, command_line,
+    run_canon, run_canon_disposing, run_canon_with, run_check, run_check_disposing, run_check_with,
+    run_compare, run_compare_disposing, run_compare_with, write_out,
 };
 use std::alloc::{AllocError, Global};
+use std::mem;
 use std::test::Fail;
 
 #[test]
@@ -82,6 +84,55 @@ fn compare_under_a_preference(rt: HostRuntime) -> Result<(), Fail> {
         Outcome::Good
     );
     assert_eq!(rt; out.writer.as_slice(), "same\n".as_bytes());
+    Ok(())
+}
+
+// Leaves each value to the system, which takes all memory of the process back when it ends.
+struct LeaveToExit;
+
+impl Disposal for LeaveToExit {
+    fn dispose<T: Drop>(&self, value: T) {
+        mem::forget(value);
+    }
+}
+
+#[test]
+fn disposals(rt: HostRuntime) -> Result<(), Fail> {
+    let alloc = rt.alloc();
+    Free.dispose(String::from_str(alloc, "freed at once")?);
+    LeaveToExit.dispose(String::from_str(alloc, "freed when the process ends")?);
+    Ok(())
+}
+
+#[test]
+fn check_and_leave(rt: HostRuntime) -> Result<(), Fail> {
+    let (alloc, prefer, disposal) = (rt.alloc(), Some("local-level"), &LeaveToExit);
+    let mut reader = ReadFrom::of(REPORT.as_bytes());
+    let mut out = WriteTo::of(Vec::new(alloc));
+    let outcome = run_check_disposing(alloc, &mut reader, &mut out, prefer, disposal)?;
+    assert_eq!(rt; outcome, Outcome::Good);
+    Ok(())
+}
+
+#[test]
+fn canon_and_leave(rt: HostRuntime) -> Result<(), Fail> {
+    let (alloc, prefer, disposal) = (rt.alloc(), Some("local-level"), &LeaveToExit);
+    let mut reader = ReadFrom::of(REPORT.as_bytes());
+    let mut out = WriteTo::of(Vec::new(alloc));
+    let mut err = WriteTo::of(Vec::new(alloc));
+    let outcome = run_canon_disposing(alloc, &mut reader, &mut out, &mut err, prefer, disposal)?;
+    assert_eq!(rt; outcome, Outcome::Good);
+    Ok(())
+}
+
+#[test]
+fn compare_and_leave(rt: HostRuntime) -> Result<(), Fail> {
+    let (alloc, prefer, disposal) = (rt.alloc(), Some("local-level"), &LeaveToExit);
+    let mut left = ReadFrom::of(REPORT.as_bytes());
+    let mut right = ReadFrom::of(REPORT.as_bytes());
+    let mut out = WriteTo::of(Vec::new(alloc));
+    let outcome = run_compare_disposing(alloc, &mut left, &mut right, &mut out, prefer, disposal)?;
+    assert_eq!(rt; outcome, Outcome::Good);
     Ok(())
 }
 

@@ -1,4 +1,4 @@
 use Rattle.erd_canon.proofs.bytes.comparison.left_tree_of.Goals as goal
 
 pub returns-in-Err-clause-refused : goal.returns-in-Err-clause-refused
-returns-in-Err-clause-refused c π right = c.in-Err.ensures.refused π
+returns-in-Err-clause-refused g c π right = c.in-Err.ensures.refused π

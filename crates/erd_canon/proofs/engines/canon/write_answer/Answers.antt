@@ -10,38 +10,38 @@ use Rattle.erd_canon.proofs.engines.canon.write_answer.Goals as goal
 
 pub returns-in_ok-lines-in-Err-Faults-clause-written : goal.returns-in_ok-lines-in-Err-Faults-clause-written
 returns-in_ok-lines-in-Err-Faults-clause-written g c =
-    let refused = subst (RefusedAs (option_copied c.args.prefer) c.args.bytes.now) c.in-Err-Faults.field-0-is c.in-Err-Faults.ensures.refused in
-    faults_written (option_copied c.args.prefer) c.args.bytes.now c.as_slice-in-Err-Faults.result.now c.in-Err-Faults.faults c.write_both-in-Err-Faults.result _ _ _ _
+    let refused = subst (RefusedAs (option_copied c.args.prefer) c.args.bytes.items) c.in-Err-Faults.field-0-is c.in-Err-Faults.ensures.refused in
+    faults_written (option_copied c.args.prefer) c.args.bytes.items c.as_slice-in-Err-Faults.result.now c.in-Err-Faults.faults c.write_both-in-Err-Faults.result _ _ _ _
     refused.0 (c.as_slice-in-Err-Faults.ensures.value ∙ c.in_ok-lines-in-Err-Faults.ensures)
     c.write_both-in-Err-Faults.ensures.outcome c.write_both-in-Err-Faults.ensures.wrote_out c.write_both-in-Err-Faults.ensures.wrote_err
 
 pub returns-in_ok-lines-in-Err-Faults-clause-err_needed : goal.returns-in_ok-lines-in-Err-Faults-clause-err_needed
 returns-in_ok-lines-in-Err-Faults-clause-err_needed g c = λ _ _.
-    let refused = subst (RefusedAs (option_copied c.args.prefer) c.args.bytes.now) c.in-Err-Faults.field-0-is c.in-Err-Faults.ensures.refused in
+    let refused = subst (RefusedAs (option_copied c.args.prefer) c.args.bytes.items) c.in-Err-Faults.field-0-is c.in-Err-Faults.ensures.refused in
     (map fault_line c.in-Err-Faults.faults, inr (c.in-Err-Faults.faults, refused.0, refl))
 
 pub returns-in-Err-NotJson-clause-err_needed : goal.returns-in-Err-NotJson-clause-err_needed
 returns-in-Err-NotJson-clause-err_needed g c = λ _ _.
-    let refused = subst (RefusedAs (option_copied c.args.prefer) c.args.bytes.now) c.in-Err-NotJson.field-0-is c.in-Err-NotJson.ensures.refused in
+    let refused = subst (RefusedAs (option_copied c.args.prefer) c.args.bytes.items) c.in-Err-NotJson.field-0-is c.in-Err-NotJson.ensures.refused in
     (codes "not JSON" ∷ [], inl (refused, refl))
 
 pub returns-in-Ok-clause-broken : goal.returns-in-Ok-clause-broken
 returns-in-Ok-clause-broken g c = λ _.
-    part_of_form (option_copied c.args.prefer) c.args.bytes.now c.as_slice.result.now _ _ _ _
-    (subst (λ text. IsCanonicalBytes (option_copied c.args.prefer) c.args.bytes.now text) (sym c.as_slice.ensures.value) c.in-Ok.ensures.headline.form)
+    part_of_form (option_copied c.args.prefer) c.args.bytes.items c.as_slice.result.now _ _ _ _
+    (subst (λ text. IsCanonicalBytes (option_copied c.args.prefer) c.args.bytes.items text) (sym c.as_slice.ensures.value) c.in-Ok.ensures.headline.form)
     c.write_both.ensures.part_out c.write_both.ensures.part_err
 
 pub returns-in_ok-lines-in-Err-Faults-clause-broken : goal.returns-in_ok-lines-in-Err-Faults-clause-broken
 returns-in_ok-lines-in-Err-Faults-clause-broken g c = λ _.
-    let refused = subst (RefusedAs (option_copied c.args.prefer) c.args.bytes.now) c.in-Err-Faults.field-0-is c.in-Err-Faults.ensures.refused in
-    part_of_faults (option_copied c.args.prefer) c.args.bytes.now c.as_slice-in-Err-Faults.result.now c.in-Err-Faults.faults _ _ _ _
+    let refused = subst (RefusedAs (option_copied c.args.prefer) c.args.bytes.items) c.in-Err-Faults.field-0-is c.in-Err-Faults.ensures.refused in
+    part_of_faults (option_copied c.args.prefer) c.args.bytes.items c.as_slice-in-Err-Faults.result.now c.in-Err-Faults.faults _ _ _ _
     refused.0 (c.as_slice-in-Err-Faults.ensures.value ∙ c.in_ok-lines-in-Err-Faults.ensures)
     c.write_both-in-Err-Faults.ensures.part_out c.write_both-in-Err-Faults.ensures.part_err
 
 pub returns-in-Err-NotJson-clause-broken : goal.returns-in-Err-NotJson-clause-broken
 returns-in-Err-NotJson-clause-broken g c = λ _.
-    let refused = subst (RefusedAs (option_copied c.args.prefer) c.args.bytes.now) c.in-Err-NotJson.field-0-is c.in-Err-NotJson.ensures.refused in
-    part_of_not_json (option_copied c.args.prefer) c.args.bytes.now _ _ _ _ _ (refused, refl)
+    let refused = subst (RefusedAs (option_copied c.args.prefer) c.args.bytes.items) c.in-Err-NotJson.field-0-is c.in-Err-NotJson.ensures.refused in
+    part_of_not_json (option_copied c.args.prefer) c.args.bytes.items _ _ _ _ _ (refused, refl)
     c.write_both-in-Err-NotJson.ensures.part_out c.write_both-in-Err-NotJson.ensures.part_err
 
 pub returns-in_err-lines-in-Err-Faults-clause-broken : goal.returns-in_err-lines-in-Err-Faults-clause-broken

@@ -1,18 +1,24 @@
 use Rattle.std.specs.Option.{option_copied}
 use Rattle.std.proofs.Common.{◌∙◌, subst}
-use Rattle.erd_canon.proofs.runs.Comparisons.{difference_written, right_refusal_written}
+use Rattle.erd_canon.proofs.runs.Comparisons.{difference_written, left_refusal_written, right_refusal_written}
 use Rattle.erd_canon.specs.EngineTexts.{IsComparison}
 use Rattle.erd_canon.specs.Refused.{RefusedSide}
 use Rattle.erd_canon.proofs.engines.compare.write_compared.Goals as goal
 
 pub returns-in-Ok-clause-written : goal.returns-in-Ok-clause-written
 returns-in-Ok-clause-written g c =
-    difference_written (option_copied c.args.prefer) c.args.left.now c.args.right.now c.as_slice.result.now c.in-Ok-Some.difference c.write_one-in-Ok.result _ _
-    (subst (IsComparison (option_copied c.args.prefer) c.args.left.now c.args.right.now) c.in-Ok-Some.field-0-is c.in-Ok-Some.ensures.ok)
+    difference_written (option_copied c.args.prefer) c.args.left.items c.args.right.items c.as_slice.result.now c.in-Ok-Some.difference c.write_one-in-Ok.result _ _
+    (subst (IsComparison (option_copied c.args.prefer) c.args.left.items c.args.right.items) c.in-Ok-Some.field-0-is c.in-Ok-Some.ensures.ok)
     (c.as_slice.ensures.value ∙ c.in-Ok.ensures) c.write_one-in-Ok.ensures.outcome c.write_one-in-Ok.ensures.wrote
 
 pub returns-in-Err-Right-clause-written : goal.returns-in-Err-Right-clause-written
 returns-in-Err-Right-clause-written g c =
-    let refused = subst (RefusedSide (option_copied c.args.prefer) c.args.left.now c.args.right.now) c.in-Err-Right.field-0-is c.in-Err-Right.ensures.refused in
-    right_refusal_written (option_copied c.args.prefer) c.args.left.now c.args.right.now c.in-Err-Right.refusal c.write_refusal-in-Err-Right.result _ _
+    let refused = subst (RefusedSide (option_copied c.args.prefer) c.args.left.items c.args.right.items) c.in-Err-Right.field-0-is c.in-Err-Right.ensures.refused in
+    right_refusal_written (option_copied c.args.prefer) c.args.left.items c.args.right.items c.in-Err-Right.refusal c.write_refusal-in-Err-Right.result _ _
     refused.0 refused.1 c.write_refusal-in-Err-Right.ensures.written
+
+pub returns-in-Err-Left-clause-written : goal.returns-in-Err-Left-clause-written
+returns-in-Err-Left-clause-written g c =
+    let refused = subst (RefusedSide (option_copied c.args.prefer) c.args.left.items c.args.right.items) c.in-Err-Left.field-0-is c.in-Err-Left.ensures.refused in
+    left_refusal_written (option_copied c.args.prefer) c.args.left.items c.args.right.items c.in-Err-Left.refusal c.write_refusal.result _ _
+    refused c.write_refusal.ensures.written

@@ -11,47 +11,47 @@ use Rattle.erd_canon.proofs.runs.Comparisons.{compared}
 use Rattle.erd_canon.proofs.forms.Refusing.{refused_tree}
 use Rattle.erd_canon.specs.Bytes.{IsTreeOf}
 use Rattle.erd_canon.specs.Refused.{RefusedAs, refusal_for}
-use Rattle.erd_canon.proofs.bytes.comparison.compare_bytes_with.Goals as goal
+use Rattle.erd_canon.proofs.bytes.comparison.compare_inputs.Goals as goal
 
 pub returns-in-Err-clause-refused : goal.returns-in-Err-clause-refused
-returns-in-Err-clause-refused c =
+returns-in-Err-clause-refused g c =
     let tree = view c.in_ok-left_tree.left_tree in
-    let read : IsTreeOf c.args.left.now tree = c.in_ok-left_tree.ensures.read in
+    let read : IsTreeOf (g.I.Input.bytes c.args.left) tree = c.in_ok-left_tree.ensures.read in
     let gives : c.from.result ≡ refusal_for c.in-Err.error = c.from.ensures in
-    subst (RefusedAs (option_copied c.args.prefer) c.args.left.now) (sym gives) (refused_tree (option_copied c.args.prefer) c.args.left.now tree c.in-Err.error read c.in-Err.ensures.refused)
+    subst (RefusedAs (option_copied c.args.prefer) (g.I.Input.bytes c.args.left)) (sym gives) (refused_tree (option_copied c.args.prefer) (g.I.Input.bytes c.args.left) tree c.in-Err.error read c.in-Err.ensures.refused)
 
 pub returns-in-Err-accepted-clause-refused : goal.returns-in-Err-accepted-clause-refused
-returns-in-Err-accepted-clause-refused c =
+returns-in-Err-accepted-clause-refused g c =
     let tree = view c.in_ok-left_tree.left_tree in
-    let read : IsTreeOf c.args.left.now tree = c.in_ok-left_tree.ensures.read in
+    let read : IsTreeOf (g.I.Input.bytes c.args.left) tree = c.in_ok-left_tree.ensures.read in
     let right_tree = view c.in_ok-right_tree.right_tree in
-    let right_read : IsTreeOf c.args.right.now right_tree = c.in_ok-right_tree.ensures.read in
+    let right_read : IsTreeOf (g.I.Input.bytes c.args.right) right_tree = c.in_ok-right_tree.ensures.read in
     let gives : c.from-in-Err-accepted.result ≡ refusal_for c.in-Err-accepted.error = c.from-in-Err-accepted.ensures in (
       (tree, record { read = read; accepted = c.in-Ok.ensures.accepted }),
-      subst (RefusedAs (option_copied c.args.prefer) c.args.right.now) (sym gives) (refused_tree (option_copied c.args.prefer) c.args.right.now right_tree c.in-Err-accepted.error right_read c.in-Err-accepted.ensures.refused),
+      subst (RefusedAs (option_copied c.args.prefer) (g.I.Input.bytes c.args.right)) (sym gives) (refused_tree (option_copied c.args.prefer) (g.I.Input.bytes c.args.right) right_tree c.in-Err-accepted.error right_read c.in-Err-accepted.ensures.refused),
     )
 
 pub returns-in-Ok-first_difference-clause-ok : goal.returns-in-Ok-first_difference-clause-ok
-returns-in-Ok-first_difference-clause-ok c =
+returns-in-Ok-first_difference-clause-ok g c =
     let left_tree = view c.in_ok-left_tree.left_tree in
-    let left_read : IsTreeOf c.args.left.now left_tree = c.in_ok-left_tree.ensures.read in
+    let left_read : IsTreeOf (g.I.Input.bytes c.args.left) left_tree = c.in_ok-left_tree.ensures.read in
     let right_tree = view c.in_ok-right_tree.right_tree in
-    let right_read : IsTreeOf c.args.right.now right_tree = c.in_ok-right_tree.ensures.read in
+    let right_read : IsTreeOf (g.I.Input.bytes c.args.right) right_tree = c.in_ok-right_tree.ensures.read in
     let found = c.in-Ok-first_difference.found in
     let one = view c.in-Ok.report.tree in
     let other = view c.in-Ok-accepted.report.tree in
     let under_left : IsDifference (meaning (option_copied c.args.prefer) one) (meaning c.in-Ok-accepted.report.prefer other) found =
     subst (λ (π : Preference). IsDifference (meaning π one) (meaning c.in-Ok-accepted.report.prefer other) found) c.in-Ok.ensures.prefer c.in-Ok-first_difference.ensures in
-    compared (option_copied c.args.prefer) c.args.left.now c.args.right.now left_tree right_tree (view c.in-Ok.report.tree) (view c.in-Ok-accepted.report.tree) c.in-Ok-first_difference.found
+    compared (option_copied c.args.prefer) (g.I.Input.bytes c.args.left) (g.I.Input.bytes c.args.right) left_tree right_tree (view c.in-Ok.report.tree) (view c.in-Ok-accepted.report.tree) c.in-Ok-first_difference.found
     left_read c.in-Ok.ensures.accepted (ap view c.in-Ok.ensures.tree) right_read c.in-Ok-accepted.ensures.accepted (ap view c.in-Ok-accepted.ensures.tree)
     (subst (λ (π : Preference). IsDifference (meaning (option_copied c.args.prefer) one) (meaning π other) found) c.in-Ok-accepted.ensures.prefer under_left)
 
 pub returns-in-Ok-first_difference-clause-said : goal.returns-in-Ok-first_difference-clause-said
-returns-in-Ok-first_difference-clause-said c =
+returns-in-Ok-first_difference-clause-said g c =
     let left_tree = view c.in_ok-left_tree.left_tree in
-    let left_read : IsTreeOf c.args.left.now left_tree = c.in_ok-left_tree.ensures.read in
+    let left_read : IsTreeOf (g.I.Input.bytes c.args.left) left_tree = c.in_ok-left_tree.ensures.read in
     let right_tree = view c.in_ok-right_tree.right_tree in
-    let right_read : IsTreeOf c.args.right.now right_tree = c.in_ok-right_tree.ensures.read in
+    let right_read : IsTreeOf (g.I.Input.bytes c.args.right) right_tree = c.in_ok-right_tree.ensures.read in
     let one : IsGiven (view c.tree-left.result.now) = record {
       is_tree = c.tree-left.ensures.is_tree;
       fits = c.tree-left.ensures.fits;
@@ -62,17 +62,17 @@ returns-in-Ok-first_difference-clause-said c =
       fits = c.tree-right.ensures.fits;
       bounded = c.tree-right.ensures.bounded;
     } in
-    tells_what_is_said (option_copied c.args.prefer) c.args.left.now c.args.right.now c.in-Ok-first_difference.found left_tree right_tree
+    tells_what_is_said (option_copied c.args.prefer) (g.I.Input.bytes c.args.left) (g.I.Input.bytes c.args.right) c.in-Ok-first_difference.found left_tree right_tree
     left_read (subst (λ v. IsGiven (view v)) (c.tree-left.ensures.tree ∙ c.in-Ok.ensures.tree) one)
     right_read (subst (λ v. IsGiven (view v)) (c.tree-right.ensures.tree ∙ c.in-Ok-accepted.ensures.tree) other)
-    (returns-in-Ok-first_difference-clause-ok c)
+    (returns-in-Ok-first_difference-clause-ok g c)
 
 pub returns-in-Ok-first_difference-clause-agree : goal.returns-in-Ok-first_difference-clause-agree
-returns-in-Ok-first_difference-clause-agree c =
+returns-in-Ok-first_difference-clause-agree g c =
     let left_tree = view c.in_ok-left_tree.left_tree in
-    let left_read : IsTreeOf c.args.left.now left_tree = c.in_ok-left_tree.ensures.read in
+    let left_read : IsTreeOf (g.I.Input.bytes c.args.left) left_tree = c.in_ok-left_tree.ensures.read in
     let right_tree = view c.in_ok-right_tree.right_tree in
-    let right_read : IsTreeOf c.args.right.now right_tree = c.in_ok-right_tree.ensures.read in
+    let right_read : IsTreeOf (g.I.Input.bytes c.args.right) right_tree = c.in_ok-right_tree.ensures.read in
     let one : IsGiven (view c.tree-left.result.now) = record {
       is_tree = c.tree-left.ensures.is_tree;
       fits = c.tree-left.ensures.fits;
@@ -83,29 +83,29 @@ returns-in-Ok-first_difference-clause-agree c =
       fits = c.tree-right.ensures.fits;
       bounded = c.tree-right.ensures.bounded;
     } in
-    agrees (option_copied c.args.prefer) c.args.left.now c.args.right.now c.in-Ok-first_difference.found left_tree right_tree
+    agrees (option_copied c.args.prefer) (g.I.Input.bytes c.args.left) (g.I.Input.bytes c.args.right) c.in-Ok-first_difference.found left_tree right_tree
     left_read (subst (λ v. IsGiven (view v)) (c.tree-left.ensures.tree ∙ c.in-Ok.ensures.tree) one)
     right_read (subst (λ v. IsGiven (view v)) (c.tree-right.ensures.tree ∙ c.in-Ok-accepted.ensures.tree) other)
-    (returns-in-Ok-first_difference-clause-ok c)
+    (returns-in-Ok-first_difference-clause-ok g c)
 
-pub returns-clause-refused : goal.returns-clause-refused
-returns-clause-refused c =
+pub returns-in-Err-first_difference-clause-refused : goal.returns-in-Err-first_difference-clause-refused
+returns-in-Err-first_difference-clause-refused g c =
     let left_tree = view c.in_ok-left_tree.left_tree in
-    let left_read : IsTreeOf c.args.left.now left_tree = c.in_ok-left_tree.ensures.read in
+    let left_read : IsTreeOf (g.I.Input.bytes c.args.left) left_tree = c.in_ok-left_tree.ensures.read in
     let right_tree = view c.in_ok-right_tree.right_tree in
-    let right_read : IsTreeOf c.args.right.now right_tree = c.in_ok-right_tree.ensures.read in (
+    let right_read : IsTreeOf (g.I.Input.bytes c.args.right) right_tree = c.in_ok-right_tree.ensures.read in (
       (left_tree, record { read = left_read; accepted = c.in-Ok.ensures.accepted }),
       (right_tree, record { read = right_read; accepted = c.in-Ok-accepted.ensures.accepted }),
     )
 
 pub returns-in_err-left_tree-clause-refused : goal.returns-in_err-left_tree-clause-refused
-returns-in_err-left_tree-clause-refused c =
+returns-in_err-left_tree-clause-refused g c =
     let p = err_from_is_err_and c.from_residual.result c.from_residual.ensures.1 in
-    rw (p.1, p.2) (c.in_err-left_tree.ensures.refused (option_copied c.args.prefer) c.args.right.now)
+    rw (p.1, p.2) (c.in_err-left_tree.ensures.refused (option_copied c.args.prefer) (g.I.Input.bytes c.args.right))
 
 pub returns-in_err-right_tree-clause-refused : goal.returns-in_err-right_tree-clause-refused
-returns-in_err-right_tree-clause-refused c =
+returns-in_err-right_tree-clause-refused g c =
     let tree = view c.in_ok-left_tree.left_tree in
     let p = err_from_is_err_and c.from_residual-in_err-right_tree.result c.from_residual-in_err-right_tree.ensures.1 in
     rw (p.1, p.2)
-    (c.in_err-right_tree.ensures.refused (option_copied c.args.prefer) c.args.left.now (tree, record { read = c.in_ok-left_tree.ensures.read; accepted = c.in-Ok.ensures.accepted }))
+    (c.in_err-right_tree.ensures.refused (option_copied c.args.prefer) (g.I.Input.bytes c.args.left) (tree, record { read = c.in_ok-left_tree.ensures.read; accepted = c.in-Ok.ensures.accepted }))

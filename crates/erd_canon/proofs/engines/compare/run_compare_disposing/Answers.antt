@@ -1,9 +1,9 @@
 use Rattle.std.specs.Option.{option_copied}
-use Rattle.std.proofs.Common.{◌≤◌, sym, subst}
+use Rattle.std.proofs.Common.{◌≤◌, subst}
 use Rattle.erd_canon.specs.Reading.{IsReadWhole}
 use Rattle.erd_canon.specs.Limits.{most_bytes}
 use Rattle.erd_canon.proofs.runs.Comparisons.{told_of_compare}
-use Rattle.erd_canon.proofs.engines.compare.run_compare_with.Goals as goal
+use Rattle.erd_canon.proofs.engines.compare.run_compare_disposing.Goals as goal
 
 pub returns-clause-told : goal.returns-clause-told
 returns-clause-told g c =
@@ -17,7 +17,6 @@ returns-clause-told g c =
     record { came = left.all.0; ended = left.all.1; in_limit = subst (λ n. n ≤ most_bytes) c.in_ok-left_bytes.left_bytes.ok.0 left.limit } in
     let right_whole : IsReadWhole most_bytes right_before right_after c.in_ok-right_bytes.right_bytes.items =
     record { came = right.all.0; ended = right.all.1; in_limit = subst (λ n. n ≤ most_bytes) c.in_ok-right_bytes.right_bytes.ok.0 right.limit } in
-    told_of_compare (option_copied c.args.prefer) most_bytes c.write_compared.result c.as_slice.result.now c.as_slice-2.result.now left_before left_after right_before right_after _ _
-    (subst (λ bytes. IsReadWhole most_bytes left_before left_after bytes) (sym c.as_slice.ensures.value) left_whole)
-    (subst (λ bytes. IsReadWhole most_bytes right_before right_after bytes) (sym c.as_slice-2.ensures.value) right_whole)
+    told_of_compare (option_copied c.args.prefer) most_bytes c.write_compared.result c.in_ok-left_bytes.left_bytes.items c.in_ok-right_bytes.right_bytes.items left_before left_after right_before right_after _ _
+    left_whole right_whole
     c.write_compared.ensures.written

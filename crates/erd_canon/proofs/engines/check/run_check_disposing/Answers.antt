@@ -1,9 +1,9 @@
 use Rattle.std.specs.Option.{option_copied}
-use Rattle.std.proofs.Common.{◌≤◌, sym, subst}
+use Rattle.std.proofs.Common.{◌≤◌, subst}
 use Rattle.erd_canon.specs.Reading.{IsReadWhole}
 use Rattle.erd_canon.specs.Limits.{most_bytes}
 use Rattle.erd_canon.proofs.runs.CheckTexts.{told_of_check}
-use Rattle.erd_canon.proofs.engines.check.run_check_with.Goals as goal
+use Rattle.erd_canon.proofs.engines.check.run_check_disposing.Goals as goal
 
 pub returns-clause-told : goal.returns-clause-told
 returns-clause-told g c =
@@ -11,5 +11,4 @@ returns-clause-told g c =
     let after = g.S.Source.remaining c.read_all.new.source in
     let whole : IsReadWhole most_bytes before after c.in_ok-bytes.bytes.items =
     record { came = c.in_ok-bytes.ensures.all.0; ended = c.in_ok-bytes.ensures.all.1; in_limit = subst (λ n. n ≤ most_bytes) c.in_ok-bytes.bytes.ok.0 c.in_ok-bytes.ensures.limit } in
-    told_of_check (option_copied c.args.prefer) most_bytes c.write_checked.result c.as_slice.result.now before after _ _
-    (subst (λ bytes. IsReadWhole most_bytes before after bytes) (sym c.as_slice.ensures.value) whole) c.write_checked.ensures.written
+    told_of_check (option_copied c.args.prefer) most_bytes c.write_checked.result c.in_ok-bytes.bytes.items before after _ _ whole c.write_checked.ensures.written
