@@ -11,7 +11,7 @@ use Rattle.erd_canon.specs.Writing.{IsBrokenRun}
 use Rattle.erd_meaning.specs.Keys.{Preference}
 use Rattle.erd_program.specs.World.{BeforeAfter, Reader, Writer}
 
--- A report was checked under the preference, as `run_check_with` does it.
+-- A report was checked under the preference, as `run_check_disposing` does it.
 pub record IsCheckRun {S O : Type 0} (source : Reader S) (sink : Writer O) (π : Preference) (answer : Result Outcome RunFault) (reader : BeforeAfter S) (out : BeforeAfter O) : Type 0 where
   pub whole : IfOk answer (λ outcome. IsWholeCheck π most_bytes outcome (source.remaining reader.before) (source.remaining reader.after)
       (sink.contents out.before) (sink.contents out.after))
@@ -25,7 +25,7 @@ pub record IsCheckRun {S O : Type 0} (source : Reader S) (sink : Writer O) (π :
   pub too_many : answer ≡ Err TooLong → source.given reader.before + most_bytes < source.given reader.after
   pub calls : source.reads reader.after ≤ source.reads reader.before + most_reads
 
--- A report was canonicalised under the preference, as `run_canon_with` does it.
+-- A report was canonicalised under the preference, as `run_canon_disposing` does it.
 pub record IsCanonRun {S O E : Type 0} (source : Reader S) (sink : Writer O) (errors : Writer E) (π : Preference) (answer : Result Outcome RunFault) (reader : BeforeAfter S) (out : BeforeAfter O) (err : BeforeAfter E) : Type 0 where
   pub whole : IfOk answer (λ outcome. IsWholeRun π most_bytes outcome (source.remaining reader.before) (source.remaining reader.after)
       (sink.contents out.before) (sink.contents out.after) (errors.contents err.before) (errors.contents err.after))
@@ -49,7 +49,7 @@ pub record IsCanonRun {S O E : Type 0} (source : Reader S) (sink : Writer O) (er
   pub too_many : answer ≡ Err TooLong → source.given reader.before + most_bytes < source.given reader.after
   pub calls : source.reads reader.after ≤ source.reads reader.before + most_reads
 
--- Two reports were compared under the preference, as `run_compare_with` does it.
+-- Two reports were compared under the preference, as `run_compare_disposing` does it.
 pub record IsCompareRun {S O : Type 0} (source : Reader S) (sink : Writer O) (π : Preference) (answer : Result Outcome RunFault) (left right : BeforeAfter S) (out : BeforeAfter O) : Type 0 where
   pub whole : IfOk answer (λ outcome. IsWholeCompare π most_bytes outcome (source.remaining left.before) (source.remaining left.after)
       (source.remaining right.before) (source.remaining right.after) (sink.contents out.before) (sink.contents out.after))

@@ -7,16 +7,20 @@ ghost use Rattle.erd_program.specs.World.{between, outside, reader, writer};
 use crate::files::{Files, WorldFault};
 use crate::messages::{ended, refused};
 use crate::world::World;
-use erd_canon::{FileName, Sink, Source, run_canon_with, run_check_with, run_compare_with};
+use erd_canon::{
+    Disposal, FileName, Sink, Source, run_canon_disposing, run_check_disposing,
+    run_compare_disposing,
+};
 use std::alloc::Global;
 
 // The line for a file that cannot be opened.
 const CANNOT_OPEN: &str = "cannot open\n";
 
 /// Writes the canonical form of standard input, with no preference.
-pub(crate) fn filter<F: Files, I: Source, O: Sink, E: Sink>(
+pub(crate) fn filter<F: Files, I: Source, O: Sink, E: Sink, D: Disposal>(
     alloc: Global,
     world: &mut World<F, I, O, E>,
+    disposal: &D,
 ) -> u8
     requires input_works { I.has_failed world.old.input ≡ false }
     requires out_works { O.has_failed world.old.out ≡ false }
@@ -28,22 +32,24 @@ pub(crate) fn filter<F: Files, I: Source, O: Sink, E: Sink>(
         result (between world.old.input world.new.input) (between world.old.out world.new.out)
         (between world.old.err world.new.err) }
 {
-    let answer = run_canon_with(
+    let answer = run_canon_disposing(
         alloc,
         &mut world.input,
         &mut world.out,
         &mut world.err,
         None,
+        disposal,
     );
     ended(answer, &mut world.err)
 }
 
 /// Opens the file and checks it under the preference.
-pub(crate) fn check<F: Files, I: Source, O: Sink, E: Sink>(
+pub(crate) fn check<F: Files, I: Source, O: Sink, E: Sink, D: Disposal>(
     alloc: Global,
     world: &mut World<F, I, O, E>,
     name: &FileName,
     prefer: Option<&str>,
+    disposal: &D,
 ) -> u8
     requires out_works { O.has_failed world.old.out ≡ false }
     requires err_works { E.has_failed world.old.err ≡ false }
@@ -57,18 +63,19 @@ pub(crate) fn check<F: Files, I: Source, O: Sink, E: Sink>(
         (between world.old.out world.new.out) (between world.old.err world.new.err) }
 {
     match world.files.open(name) {
-        Ok(file) => check_file(alloc, world, name, file, prefer),
+        Ok(file) => check_file(alloc, world, name, file, prefer, disposal),
         Err(fault) => refused(fault, CANNOT_OPEN, &mut world.err),
     }
 }
 
 // Checks the open file and closes it.
-fn check_file<F: Files, I: Source, O: Sink, E: Sink>(
+fn check_file<F: Files, I: Source, O: Sink, E: Sink, D: Disposal>(
     alloc: Global,
     world: &mut World<F, I, O, E>,
     name: &FileName,
     mut file: F::File,
     prefer: Option<&str>,
+    disposal: &D,
 ) -> u8
     requires file_works { F.File.has_failed file ≡ false }
     requires out_works { O.has_failed world.old.out ≡ false }
@@ -81,17 +88,18 @@ fn check_file<F: Files, I: Source, O: Sink, E: Sink>(
         (option_copied prefer.entry) name.now file result (between (F.closed world.old.files) (F.closed world.new.files))
         (between world.old.out world.new.out) (between world.old.err world.new.err) }
 {
-    let answer = run_check_with(alloc, &mut file, &mut world.out, prefer);
+    let answer = run_check_disposing(alloc, &mut file, &mut world.out, prefer, disposal);
     world.files.close(name, file);
     ended(answer, &mut world.err)
 }
 
 /// Opens the file and writes its canonical form under the preference.
-pub(crate) fn canon<F: Files, I: Source, O: Sink, E: Sink>(
+pub(crate) fn canon<F: Files, I: Source, O: Sink, E: Sink, D: Disposal>(
     alloc: Global,
     world: &mut World<F, I, O, E>,
     name: &FileName,
     prefer: Option<&str>,
+    disposal: &D,
 ) -> u8
     requires out_works { O.has_failed world.old.out ≡ false }
     requires err_works { E.has_failed world.old.err ≡ false }
@@ -105,18 +113,19 @@ pub(crate) fn canon<F: Files, I: Source, O: Sink, E: Sink>(
         (between world.old.out world.new.out) (between world.old.err world.new.err) }
 {
     match world.files.open(name) {
-        Ok(file) => canon_file(alloc, world, name, file, prefer),
+        Ok(file) => canon_file(alloc, world, name, file, prefer, disposal),
         Err(fault) => refused(fault, CANNOT_OPEN, &mut world.err),
     }
 }
 
 // Writes the canonical form of the open file and closes it.
-fn canon_file<F: Files, I: Source, O: Sink, E: Sink>(
+fn canon_file<F: Files, I: Source, O: Sink, E: Sink, D: Disposal>(
     alloc: Global,
     world: &mut World<F, I, O, E>,
     name: &FileName,
     mut file: F::File,
     prefer: Option<&str>,
+    disposal: &D,
 ) -> u8
     requires file_works { F.File.has_failed file ≡ false }
     requires out_works { O.has_failed world.old.out ≡ false }
@@ -129,18 +138,26 @@ fn canon_file<F: Files, I: Source, O: Sink, E: Sink>(
         (option_copied prefer.entry) name.now file result (between (F.closed world.old.files) (F.closed world.new.files))
         (between world.old.out world.new.out) (between world.old.err world.new.err) }
 {
-    let answer = run_canon_with(alloc, &mut file, &mut world.out, &mut world.err, prefer);
+    let answer = run_canon_disposing(
+        alloc,
+        &mut file,
+        &mut world.out,
+        &mut world.err,
+        prefer,
+        disposal,
+    );
     world.files.close(name, file);
     ended(answer, &mut world.err)
 }
 
 /// Opens both files and then compares them under the preference.
-pub(crate) fn compare<F: Files, I: Source, O: Sink, E: Sink>(
+pub(crate) fn compare<F: Files, I: Source, O: Sink, E: Sink, D: Disposal>(
     alloc: Global,
     world: &mut World<F, I, O, E>,
     left: &FileName,
     right: &FileName,
     prefer: Option<&str>,
+    disposal: &D,
 ) -> u8
     requires out_works { O.has_failed world.old.out ≡ false }
     requires err_works { E.has_failed world.old.err ≡ false }
@@ -157,7 +174,14 @@ pub(crate) fn compare<F: Files, I: Source, O: Sink, E: Sink>(
     let (left_file, right_file) = open_both(&mut world.files, left, right);
     match (left_file, right_file) {
         (Ok(left_file), Ok(right_file)) => {
-            compare_files(alloc, world, (left, left_file), (right, right_file), prefer)
+            compare_files(
+                alloc,
+                world,
+                (left, left_file),
+                (right, right_file),
+                prefer,
+                disposal,
+            )
         }
         (Ok(left_file), Err(fault)) => {
             world.files.close(left, left_file);
@@ -189,12 +213,13 @@ fn open_both<F: Files>(
 }
 
 // Compares the open files and closes them. Each comes with its name.
-fn compare_files<F: Files, I: Source, O: Sink, E: Sink>(
+fn compare_files<F: Files, I: Source, O: Sink, E: Sink, D: Disposal>(
     alloc: Global,
     world: &mut World<F, I, O, E>,
     left: (&FileName, F::File),
     right: (&FileName, F::File),
     prefer: Option<&str>,
+    disposal: &D,
 ) -> u8
     requires left_works { F.File.has_failed left.1 ≡ false }
     requires right_works { F.File.has_failed right.1 ≡ false }
@@ -212,12 +237,13 @@ fn compare_files<F: Files, I: Source, O: Sink, E: Sink>(
 {
     let (left_name, mut left_file) = left;
     let (right_name, mut right_file) = right;
-    let answer = run_compare_with(
+    let answer = run_compare_disposing(
         alloc,
         &mut left_file,
         &mut right_file,
         &mut world.out,
         prefer,
+        disposal,
     );
     world.files.close(left_name, left_file);
     world.files.close(right_name, right_file);

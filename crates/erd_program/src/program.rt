@@ -9,7 +9,9 @@ use crate::commands::{canon, check, compare, filter};
 use crate::files::{Files, WorldFault};
 use crate::messages::{ended, refused, say};
 use crate::world::World;
-use erd_canon::{Failed, LineFault, Request, RunFault, Sink, Source, command_line, write_out};
+use erd_canon::{
+    Disposal, Failed, LineFault, Request, RunFault, Sink, Source, command_line, write_out,
+};
 use std::alloc::Global;
 
 // The exit status for wrong arguments.
@@ -19,11 +21,12 @@ const WRONG: u8 = 3;
 ///
 /// The words are parsed by `command_line`. Standard input is read only if they ask for nothing else. The files that they
 /// name are opened in the order of the words, both before either is read, and closed before the program ends. The streams
-/// must not have failed before.
-pub fn run_program<F: Files, I: Source, O: Sink, E: Sink>(
+/// must not have failed before. The trees and the reports of a run go to the disposal.
+pub fn run_program<F: Files, I: Source, O: Sink, E: Sink, D: Disposal>(
     alloc: Global,
     words: Result<Vec<String>, WorldFault>,
     world: &mut World<F, I, O, E>,
+    disposal: &D,
 ) -> u8
     requires input_works { I.has_failed world.old.input ≡ false }
     requires out_works { O.has_failed world.old.out ≡ false }
@@ -34,16 +37,17 @@ pub fn run_program<F: Files, I: Source, O: Sink, E: Sink>(
         (words_given (λ all. map string_bytes all.items) words) result (between world.old world.new) }
 {
     match words {
-        Ok(words) => answered(alloc, words.as_slice(), world),
+        Ok(words) => answered(alloc, words.as_slice(), world, disposal),
         Err(fault) => refused(fault, "the arguments are not text\n", &mut world.err),
     }
 }
 
 // Parses the words as a command line, and does what it asks for.
-fn answered<F: Files, I: Source, O: Sink, E: Sink>(
+fn answered<F: Files, I: Source, O: Sink, E: Sink, D: Disposal>(
     alloc: Global,
     words: &[String],
     world: &mut World<F, I, O, E>,
+    disposal: &D,
 ) -> u8
     requires input_works { I.has_failed world.old.input ≡ false }
     requires out_works { O.has_failed world.old.out ≡ false }
@@ -54,16 +58,17 @@ fn answered<F: Files, I: Source, O: Sink, E: Sink>(
         (map string_bytes words.now) result (between world.old world.new) }
 {
     match command_line(alloc, words) {
-        Ok(request) => done(alloc, world, &request),
+        Ok(request) => done(alloc, world, &request, disposal),
         Err(fault) => line_refused(fault, &mut world.out, &mut world.err),
     }
 }
 
 // Does what the request asks for.
-fn done<F: Files, I: Source, O: Sink, E: Sink>(
+fn done<F: Files, I: Source, O: Sink, E: Sink, D: Disposal>(
     alloc: Global,
     world: &mut World<F, I, O, E>,
     request: &Request,
+    disposal: &D,
 ) -> u8
     requires input_works { I.has_failed world.old.input ≡ false }
     requires out_works { O.has_failed world.old.out ≡ false }
@@ -74,11 +79,11 @@ fn done<F: Files, I: Source, O: Sink, E: Sink>(
         request.now result (between world.old world.new) }
 {
     match request {
-        Request::Filter => filter(alloc, world),
-        Request::Check(name, prefer) => check(alloc, world, name, prefer.text()),
-        Request::Canon(name, prefer) => canon(alloc, world, name, prefer.text()),
+        Request::Filter => filter(alloc, world, disposal),
+        Request::Check(name, prefer) => check(alloc, world, name, prefer.text(), disposal),
+        Request::Canon(name, prefer) => canon(alloc, world, name, prefer.text(), disposal),
         Request::Compare(left, right, prefer) => {
-            compare(alloc, world, left, right, prefer.text())
+            compare(alloc, world, left, right, prefer.text(), disposal)
         }
     }
 }

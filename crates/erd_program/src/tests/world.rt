@@ -1,6 +1,6 @@
 //! A world in memory, whose calls fail when they are told to.
 use crate::{Files, World, WorldFault, run_program};
-use erd_canon::{FileName, Log, ReadFrom, WriteTo};
+use erd_canon::{FileName, Free, Log, ReadFrom, WriteTo};
 use std::alloc::{AllocError, Global};
 use std::io;
 use std::io::{ErrorKind, Read, Write};
@@ -214,7 +214,7 @@ pub fn run(alloc: Global, line: Result<&str, WorldFault>, good: Good) -> Ended {
         out: WriteTo::of(Page::empty(good.out)),
         err: WriteTo::of(Page::empty(good.err)),
     };
-    let status = run_program(alloc, words, &mut world);
+    let status = run_program(alloc, words, &mut world, &Free);
     Ended {
         status,
         out: world.out.writer,

@@ -1,10 +1,10 @@
 use Rattle.erd_program.proofs.commands.canon_file.Goals as goal
 
 pub returns-clause-done : goal.returns-clause-done
-returns-clause-done g c = let engine = c.run_canon_with-answer.ensures in record {
-  answer = c.run_canon_with-answer.result;
-  file_left = c.run_canon_with-answer.new.reader;
-  err_left = c.run_canon_with-answer.new.err;
+returns-clause-done g c = let engine = c.run_canon_disposing-answer.ensures in record {
+  answer = c.run_canon_disposing-answer.result;
+  file_left = c.run_canon_disposing-answer.new.reader;
+  err_left = c.run_canon_disposing-answer.new.err;
   run = record {
     whole = engine.whole;
     told = engine.told;

@@ -1,9 +1,9 @@
 use Rattle.erd_program.proofs.commands.check_file.Goals as goal
 
 pub returns-clause-done : goal.returns-clause-done
-returns-clause-done g c = let engine = c.run_check_with-answer.ensures in record {
-  answer = c.run_check_with-answer.result;
-  file_left = c.run_check_with-answer.new.reader;
+returns-clause-done g c = let engine = c.run_check_disposing-answer.ensures in record {
+  answer = c.run_check_disposing-answer.result;
+  file_left = c.run_check_disposing-answer.new.reader;
   run = record {
     whole = engine.whole;
     told = engine.told;

@@ -2,10 +2,10 @@ use Rattle.erd_program.proofs.Closing.{twice}
 use Rattle.erd_program.proofs.commands.compare_files.Goals as goal
 
 pub returns-clause-done : goal.returns-clause-done
-returns-clause-done g c = let engine = c.run_compare_with-answer.ensures in record {
-  answer = c.run_compare_with-answer.result;
-  left_left = c.run_compare_with-answer.new.left;
-  right_left = c.run_compare_with-answer.new.right;
+returns-clause-done g c = let engine = c.run_compare_disposing-answer.ensures in record {
+  answer = c.run_compare_disposing-answer.result;
+  left_left = c.run_compare_disposing-answer.new.left;
+  right_left = c.run_compare_disposing-answer.new.right;
   run = record {
     whole = engine.whole;
     told = engine.told;

@@ -1,9 +1,9 @@
 use Rattle.erd_program.proofs.commands.filter.Goals as goal
 
 pub returns-clause-done : goal.returns-clause-done
-returns-clause-done g c = let engine = c.run_canon_with-answer.ensures in record {
-  answer = c.run_canon_with-answer.result;
-  err_left = c.run_canon_with-answer.new.err;
+returns-clause-done g c = let engine = c.run_canon_disposing-answer.ensures in record {
+  answer = c.run_canon_disposing-answer.result;
+  err_left = c.run_canon_disposing-answer.new.err;
   run = record {
     whole = engine.whole;
     told = engine.told;
