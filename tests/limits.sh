@@ -119,6 +119,20 @@ memory 'a limit on memory, for a canonical form' "$many.canonical" canon "$many.
 memory 'a limit on memory, for a check' "$work/accepted" check "$many.json"
 memory 'a limit on memory, for a comparison' "$work/same" compare "$many.json" "$many.canonical"
 
+# The lines of 6,250 faults below a name of 25,000 bytes: 156 MB of them, which the program writes as it makes them.
+python3 - > "$work/below_a_name" << 'END' || exit 1
+import json, sys
+sys.path.insert(0, "tests")
+import shapes
+json.dump(shapes.faults_below_a_name(25000), sys.stdout)
+END
+lines_below_a_name() {
+    python3 -c 'for at in range(6250): print("/%s/%d: not a whole number" % ("N" * 25000, at))'
+}
+(ulimit -v 24000; "$erd" check "$work/below_a_name" 2> "$work/err") | cmp -s - <(lines_below_a_name) || why+='other lines; '
+status=${PIPESTATUS[0]}
+ended 'a limit on memory, for fault lines below a long name' 1 ''
+
 # times COUNT TEXT: the text so many times, which has no percent sign or backslash
 times() {
     printf "$2%.0s" $(seq "$1")
