@@ -61,7 +61,10 @@ fn counts(rt: &impl Abort, report: &Report) -> Result<(), Fail> {
 
 // What the report finds by keys.
 fn keys(rt: &impl Abort, alloc: Global, report: &Report) -> Result<(), Fail> {
-    assert_eq!(rt; places_in(alloc, &[2, 0, 1])?.as_slice(), [1, 2, 0].as_slice());
+    assert_eq!(rt;
+        places_in(alloc, &[2, 0, 1])?.as_slice(),
+        [1, 2, 0].as_slice()
+    );
     let county = key(alloc, "fips", "20")?;
     assert_eq!(rt; report.key_at(Family::Unit, 0), Some(&county));
     assert_eq!(rt; report.find(Family::Unit, &county), Some(0));
