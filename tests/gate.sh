@@ -70,7 +70,7 @@ lane 'python3 tests/definitions.py' 'python3 tests/pages.py' 'python3 tests/docu
     'conformance/run --in-process reference/erd_reference.py'
 
 edits erd_check erd_meaning erd_normal erd_c
-edits erd_canon erd_program
+edits erd_compare erd_canon erd_program
 for crate in $(sed -n 's|^\([a-z_]*\)/.*|\1|p' tests/edits/gate.txt | sort -u); do
     [[ $tried == *" $crate "* ]] || missing "tests/edits/gate.txt: the edits of $crate are not tried"
 done
