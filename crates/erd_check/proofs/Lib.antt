@@ -9,6 +9,7 @@ pub mod FaultsAsked
 pub mod Walks
 pub mod Alone
 pub mod ShapeWalks
+pub mod TextEntries
 pub mod TableKinds
 pub mod Deciding
 pub mod Reports

@@ -104,3 +104,17 @@ IsOfValueAlone tells w = (outer : Data) (one other : Bool) (d : Data) → tells 
 -- `Known` holds of any value of which this is asked, and of the values inside it.
 abbrev pub IsKnownOfAll : (Want → Data → Type 0) → Want → Type 0
 IsKnownOfAll Known w = (d : Data) → IsKnown Known w d
+
+-- Of the entries of an array, and of the values inside them, nothing is told, wherever the array stands. What is asked of the
+-- array and the value that has it are given.
+abbrev pub AreEntriesSilent : Telling → Data → Want → Items → Type 0
+AreEntriesSilent tells outer w ds =
+    (owner : Data) (p : List Step) → option_map_or (λ v. told_of_items tells outer owner p v (is_compared_set w) [] ds) (entry_want w) [] ≡ []
+
+-- `Known` holds of the entries of an array of which this is asked, and of the values inside them.
+abbrev pub AreEntriesKnown : (Want → Data → Type 0) → Want → Items → Type 0
+AreEntriesKnown Known w ds = IfSome (entry_want w) (λ v. AreItemsKnown Known v ds)
+
+-- In each object among the entries of an array of which this is asked, and inside them, the members stand in order.
+abbrev pub AreEntriesInOrder : Want → Items → Type 0
+AreEntriesInOrder w ds = IfSome (entry_want w) (λ v. AreItemsInOrder v ds)

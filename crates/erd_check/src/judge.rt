@@ -1,11 +1,13 @@
-ghost use Rattle.std.specs.Prelude.{◌≡◌, ◌++◌, map, not, IfOk, IsTrue};
-ghost use Rattle.std.specs.Option.{option_to_list};
+ghost use Rattle.std.specs.Prelude.{◌≡◌, ◌++◌, false, map, not, IfOk, IsTrue};
+ghost use Rattle.std.specs.List.{list_all};
+ghost use Rattle.std.specs.Option.{option_map_or, option_to_list};
 ghost use Rattle.serde_json.specs.Find.{is_float};
 ghost use Rattle.serde_json.specs.View.{view, number_view};
-ghost use Rattle.erd_check.specs.Faults.{has_kind, has_wanted_kind, names_wanted, is_not_whole, is_reference, lacks};
+ghost use Rattle.erd_check.specs.Faults.{has_kind, has_wanted_kind, names_wanted, is_not_whole, is_reference, is_text, lacks};
 ghost use Rattle.erd_check.specs.Numbers.{IsFittingNumber, IsInRange};
 ghost use Rattle.erd_check.specs.code.Walk.{IsAskedInRange, other_reasons, missing};
 ghost use Rattle.erd_check.specs.Visits.{faults_of};
+ghost use Rattle.erd_check.specs.Wants.{entry_want};
 ghost use Rattle.erd_check.specs.Paths.{steps_of};
 
 use crate::equality::is_among;
@@ -40,6 +42,17 @@ impl Visitor for ShapeJudge {
         is_compared_here(want)
     }
 
+    /// Of a reference, the shape asks only that it is a text.
+    fn passes_over(
+        &self,
+        alloc: Global,
+        want: Want,
+        object: &Value,
+        items: &[Value],
+    ) -> Result<bool, AllocError> {
+        Ok(has_references(want) && are_texts(items))
+    }
+
     fn visit(
         &self,
         alloc: Global,
@@ -70,6 +83,28 @@ fn is_compared_here(want: Want) -> bool
     ensures { result ≡ not (is_reference want) }
 {
     !matches!(want, Want::Reference(_))
+}
+
+/// Returns whether the table asks for an array of references.
+fn has_references(want: Want) -> bool
+    ensures { result ≡ option_map_or is_reference (entry_want want) false }
+{
+    matches!(
+        want,
+        Want::Member(MemberKind::Many(_) | MemberKind::Ordered, _)
+    )
+}
+
+/// Returns whether each of the entries is a text.
+fn are_texts(items: &[Value]) -> bool
+    ensures { result ≡ list_all is_text (map view items.now) }
+{
+    for item in items {
+        if !item.is_string() {
+            return false;
+        }
+    }
+    true
 }
 
 /// Returns whether a value is of the JSON kind that is asked for.

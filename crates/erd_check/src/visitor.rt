@@ -2,12 +2,12 @@
 ghost use Rattle.std.specs.Prelude.{◌≡◌, ◌++◌, List, Bool, false, map, IfOk, IsTrue};
 ghost use Rattle.std.specs.List.{list_any};
 ghost use Rattle.serde_json.specs.Data.{Data};
-ghost use Rattle.serde_json.specs.View.{view};
+ghost use Rattle.serde_json.specs.View.{view, items_view};
 ghost use Rattle.erd_tables.specs.declared.fault.Reason.{Reason};
 ghost use Rattle.erd_check.specs.Trees.{is_same_json};
 ghost use Rattle.erd_check.specs.Wants.{scope_inside};
 ghost use Rattle.erd_check.specs.Paths.{steps_of};
-ghost use Rattle.erd_check.specs.Visits.{faults_of, IsKnownOfAll, IsOfValueAlone, IsSilent};
+ghost use Rattle.erd_check.specs.Visits.{faults_of, AreEntriesInOrder, AreEntriesKnown, AreEntriesSilent, IsKnownOfAll, IsOfValueAlone, IsSilent};
 ghost use Rattle.erd_check.specs.declared.want.Want.{Want as Asked};
 
 use crate::path::Path;
@@ -62,6 +62,23 @@ pub trait Visitor {
     /// it tells of the entry does not depend on them, and the walk looks for no equal entry.
     fn compares(&self, want: Want) -> bool
         ensures { result ≡ false → IsOfValueAlone (tells self.now) want };
+
+    /// Returns `true` only if the walk may pass over the entries of an array: then the visitor has nothing to tell of them, nor
+    /// of the values inside them. `want` is what is asked of the array, and `object` is the value that has it.
+    ///
+    /// # Errors
+    ///
+    /// `AllocError` if out of memory.
+    fn passes_over(
+        &self,
+        alloc: Global,
+        want: Want,
+        object: &Value,
+        items: &[Value],
+    ) -> Result<bool, AllocError>
+        ensures silent { IfOk result (λ passes. IsTrue passes → AreEntriesSilent (tells self.now) (view object.now) want (items_view items.now)) }
+        ensures known { IfOk result (λ passes. IsTrue passes → AreEntriesKnown (Known self.now) want (items_view items.now)) }
+        ensures in_order { IfOk result (λ passes. IsTrue passes → IsTrue (is_thorough self.now) → AreEntriesInOrder want (items_view items.now)) };
 
     /// Adds the faults of the value to the end of the list, but not those of the values inside it. `scope` is that
     /// of the members of the value, as `scope_of` returns it.

@@ -1,5 +1,5 @@
 //! The walk over a report.
-ghost use Rattle.std.specs.Prelude.{◌≡◌, ◌++◌, ◌≤◌, ◌&&◌, List, [], map, take, length, IfOk, IfSome, IsTrue};
+ghost use Rattle.std.specs.Prelude.{◌≡◌, ◌++◌, ◌≤◌, ◌&&◌, List, [], map, take, length, IfOk, IsTrue};
 ghost use Rattle.std.specs.List.{list_any};
 ghost use Rattle.std.specs.List.Sorted.{IsStrictlySortedBy};
 ghost use Rattle.std.specs.Option.{option_map_or};
@@ -11,7 +11,7 @@ ghost use Rattle.erd_check.specs.Trees.{is_same_json};
 ghost use Rattle.erd_check.specs.Values.{names};
 ghost use Rattle.erd_check.specs.Wants.{entry_want, is_compared_set};
 ghost use Rattle.erd_check.specs.Paths.{steps_of};
-ghost use Rattle.erd_check.specs.Visits.{told_at, told_of_items, told_of_members, told_of_report, IsKnown, AreItemsKnown, AreMembersKnown, IsInOrder, AreItemsInOrder, AreMembersInOrder};
+ghost use Rattle.erd_check.specs.Visits.{told_at, told_of_items, told_of_members, told_of_report, IsKnown, AreEntriesKnown, AreMembersKnown, IsInOrder, AreEntriesInOrder, AreMembersInOrder};
 ghost use Rattle.erd_check.specs.declared.want.Want.TheVariants.{Object};
 ghost use Rattle.erd_tables.specs.declared.class.Role.TheVariants.{Report};
 
@@ -24,8 +24,8 @@ use serde_json::{Map, Value};
 use std::alloc::{AllocError, Global};
 
 /// Walks a report, and returns the faults that the visitor finds. The walk visits the report and each value in it of which
-/// the member table asks something, except for the members that the visitor does not enter, and what is inside them. It goes
-/// in the order of places: members by name, entries by position.
+/// the member table asks something, except for the members that the visitor does not enter, the entries that it passes over,
+/// and what is inside them. It goes in the order of places: members by name, entries by position.
 ///
 /// # Errors
 ///
@@ -97,12 +97,15 @@ fn walk_items<'a, V: Visitor>(
     ensures told { IfOk result (λ _. faults.new.items ≡ faults.old.items
         ++ option_map_or (λ v. told_of_items (V.tells visitor.now) (view inside.entry.outer.now) (view inside.entry.owner.now)
         (steps_of inside.entry.path.now) v (is_compared_set want) [] (items_view items.now.items)) (entry_want want) []) }
-    ensures known { IfOk result (λ _. IfSome (entry_want want) (λ v. AreItemsKnown (V.Known visitor.now) v (items_view items.now.items))) }
-    ensures in_order { IfOk result (λ _. IsTrue (V.is_thorough visitor.now) → IfSome (entry_want want) (λ v. AreItemsInOrder v (items_view items.now.items))) }
+    ensures known { IfOk result (λ _. AreEntriesKnown (V.Known visitor.now) want (items_view items.now.items)) }
+    ensures in_order { IfOk result (λ _. IsTrue (V.is_thorough visitor.now) → AreEntriesInOrder want (items_view items.now.items)) }
 {
     let Some(entry) = want_of_entry(want) else {
         return Ok(());
     };
+    if visitor.passes_over(alloc, want, inside.outer, &*items)? {
+        return Ok(());
+    }
     let is_set = is_set_compared(visitor, want, entry);
     let told = equal_entries(alloc, is_set, &*items)?;
     for (index, item) in items.iter().enumerate() {

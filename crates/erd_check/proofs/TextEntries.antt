@@ -1,0 +1,65 @@
+-- The walk for the faults of the shape may pass over the entries of an array of references if they are all texts.
+use Rattle.std.proofs.Common.{◌≡◌, ℕ, List, [], ◌∷◌, ◌++◌, Bool, true, false, Option, Some, None, refl, ap, ap₂, ◌&&◌}
+use Rattle.std.specs.List.{list_all, list_any}
+use Rattle.std.specs.Option.{option_map_or}
+use Rattle.std.specs.Prelude.{IfSome, length}
+use Rattle.serde_json.specs.Data.{Data, string}
+use Rattle.serde_json.specs.View.{items_of}
+use Rattle.erd_tables.specs.declared.class.Family.{Family}
+use Rattle.erd_tables.specs.declared.place.Step.{Step}
+use Rattle.erd_tables.specs.declared.place.Step.TheVariants.{At}
+use Rattle.erd_check.specs.Faults.{is_reference, is_text}
+use Rattle.erd_check.specs.Trees.{is_same_json}
+use Rattle.erd_check.specs.Visits.{AreEntriesInOrder, AreEntriesKnown, AreEntriesSilent, AreItemsInOrder, AreItemsKnown, faults_of, told_of_items}
+use Rattle.erd_check.specs.Wants.{entry_want, is_compared_set}
+use Rattle.erd_check.specs.code.Walk.{IsAskedInRange, reasons}
+use Rattle.erd_check.specs.declared.want.Want.{Want}
+use Rattle.erd_check.specs.declared.want.Want.TheVariants.{Reference}
+
+no_reason : (f : Family) (repeated : Bool) (s : List ℕ) → reasons (Reference f) repeated (string s) ≡ []
+no_reason f true s = refl
+no_reason f false s = refl
+
+in_range : (f : Family) (s : List ℕ) → IsAskedInRange (Reference f) (string s)
+in_range f s h = cc
+
+module _ (f : Family) where
+  texts_told : (outer owner : Data) (p : List Step) (is_set : Bool) (earlier ds : List Data) → list_all is_text ds ≡ true → told_of_items (λ outer. reasons) outer owner p (Reference f) is_set earlier (items_of ds) ≡ []
+  texts_told outer owner p is_set earlier [] e = refl
+  texts_told outer owner p is_set earlier (string s ∷ ds) e =
+      ap₂ ◌++◌ (ap (faults_of (p ++ At (length earlier) ∷ [])) (no_reason f (is_set && list_any (is_same_json (string s)) earlier) s))
+      (texts_told outer owner p is_set (earlier ++ string s ∷ []) ds e)
+  texts_told outer owner p is_set earlier (_ ∷ ds) e = cc
+
+  texts_known : (ds : List Data) → list_all is_text ds ≡ true → AreItemsKnown IsAskedInRange (Reference f) (items_of ds)
+  texts_known [] e = tt
+  texts_known (string s ∷ ds) e = (in_range f s, texts_known ds e)
+  texts_known (_ ∷ ds) e = cc
+
+  texts_in_order : (ds : List Data) → list_all is_text ds ≡ true → AreItemsInOrder (Reference f) (items_of ds)
+  texts_in_order [] e = tt
+  texts_in_order (string s ∷ ds) e = (tt, texts_in_order ds e)
+  texts_in_order (_ ∷ ds) e = cc
+
+told_where : (o : Option Want) → option_map_or is_reference o false ≡ true → (outer owner : Data) (p : List Step) (is_set : Bool) (ds : List Data) → list_all is_text ds ≡ true
+    → option_map_or (λ v. told_of_items (λ outer. reasons) outer owner p v is_set [] (items_of ds)) o [] ≡ []
+told_where (Some (Reference f)) e outer owner p is_set ds t = texts_told f outer owner p is_set [] ds t
+told_where _ e outer owner p is_set ds t = cc
+
+known_where : (o : Option Want) → option_map_or is_reference o false ≡ true → (ds : List Data) → list_all is_text ds ≡ true → IfSome o (λ v. AreItemsKnown IsAskedInRange v (items_of ds))
+known_where (Some (Reference f)) e ds t = texts_known f ds t
+known_where _ e ds t = cc
+
+in_order_where : (o : Option Want) → option_map_or is_reference o false ≡ true → (ds : List Data) → list_all is_text ds ≡ true → IfSome o (λ v. AreItemsInOrder v (items_of ds))
+in_order_where (Some (Reference f)) e ds t = texts_in_order f ds t
+in_order_where _ e ds t = cc
+
+module _ (w : Want) (references : option_map_or is_reference (entry_want w) false ≡ true) (ds : List Data) (texts : list_all is_text ds ≡ true) where
+  pub texts_silent : (outer : Data) → AreEntriesSilent (λ outer. reasons) outer w (items_of ds)
+  texts_silent outer owner p = told_where (entry_want w) references outer owner p (is_compared_set w) ds texts
+
+  pub are_texts_known : AreEntriesKnown IsAskedInRange w (items_of ds)
+  are_texts_known = known_where (entry_want w) references ds texts
+
+  pub are_texts_in_order : AreEntriesInOrder w (items_of ds)
+  are_texts_in_order = in_order_where (entry_want w) references ds texts
