@@ -7,3 +7,4 @@ pub mod SilentWalks
 pub mod ReasonsFound
 pub mod ReferenceWalks
 pub mod OwnContests  -- the contest of a selection, by its `@id`
+pub mod ClearArrays  -- arrays of references in which no reason is told

@@ -2,6 +2,7 @@
 
 pub(crate) mod election_table;
 pub(crate) mod holders;
+pub(crate) mod near;
 pub(crate) mod object;
 pub(crate) mod object_walk;
 pub(crate) mod order;

@@ -15,6 +15,7 @@ ghost use Rattle.erd_meaning.specs.code.SelectionWalk.{NumberedName};
 ghost use Rattle.erd_meaning.specs.code.Shown.{shown};
 
 mod orders;
+pub(crate) mod reference_arrays;
 pub(crate) mod reference_judge;
 pub(crate) mod resolving;
 
@@ -311,6 +312,23 @@ impl<'a> Report<'a> {
         ensures { FindsId (view self.now.tree) id.now result }
     {
         self.objects().position_of_id(id)
+    }
+
+    /// Returns what `target` does. It first looks whether the object of a family at one of these positions has the `@id`:
+    /// references often name objects in a row.
+    ///
+    /// ```
+    /// assert_eq!(rt; report.target_near(Family::Contest, &[0], "k1"), Some((Family::Candidate, 0)));
+    /// ```
+    pub fn target_near(
+        &self,
+        family: Family,
+        near: &[usize],
+        id: &str,
+    ) -> Option<(Family, usize)>
+        ensures { FindsId (view self.now.tree) id.now result }
+    {
+        self.objects().position_near(family, near, id)
     }
 
     /// Returns the position of the contest of the selection at the position, and the name of the selection. Returns

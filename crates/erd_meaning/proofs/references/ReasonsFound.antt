@@ -2,7 +2,8 @@
 use Rattle.std.proofs.Common.{◌≡◌, ◌==◌, ◌&&◌, ◌++◌, ℕ, List, [], ◌∷◌, Bool, true, false, not, Option, Some, None, is_none, is_some, option_map, refl, sym, ap, ap₂, ◌∙◌}
 use Rattle.std.specs.Bool.{then_some}
 use Rattle.std.specs.Option.{option_map_or, option_to_list}
-use Rattle.serde_json.specs.Data.{Data}
+use Rattle.serde_json.specs.Data.{Data, string}
+use Rattle.serde_json.specs.Find.{as_str}
 use Rattle.erd_tables.specs.Classes.{family_number}
 use Rattle.erd_tables.specs.declared.class.Family.{Family}
 use Rattle.erd_tables.specs.declared.class.Family.TheVariants as family
@@ -94,3 +95,13 @@ of_references ks = record { nothing = λ outer w repeated d h. at outer w repeat
     at : (outer : Data) (w : Want) (repeated : Bool) (d : Data) → leads_to_references w ≡ false → reference_reasons_told ks outer w repeated d ≡ []
     at outer (Reference f) repeated d h = cc
     at outer w repeated d h = refl
+
+-- a value with this text
+pub text_read : (d : Data) (s : List ℕ) → as_str d ≡ Some s → d ≡ string s
+text_read (string t) s e = let same : t ≡ s = cc in ap string same
+text_read _ s e = cc
+
+-- an object of the family has the text, and no selection of another contest is named
+pub clear_of_family : (ks : List Kept) (outer : Data) (f g : Family) (id : List ℕ) (i : ℕ) → number_of_id ks id ≡ Some (g, i) → (family_number g == family_number f) ≡ true
+    → (is_selection_family f && is_selection_elsewhere ks outer i) ≡ false → id_reasons ks outer f id ≡ []
+clear_of_family ks outer f g id i found same inside = reasons_of_family ks outer f g id i found same ∙ ap (λ b. reason_if b SelectionOfOtherContest) inside

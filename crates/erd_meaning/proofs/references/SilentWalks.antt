@@ -20,7 +20,7 @@ use Rattle.erd_tables.specs.declared.place.Step.TheVariants.{Name, At}
 use Rattle.erd_check.specs.Trees.{is_same_json}
 use Rattle.erd_check.specs.Wants.{class_of_object, carried_want, entry_want, is_compared_set, is_report_class, member_want, scope_inside, want_of_kind, want_of_name}
 use Rattle.erd_meaning.specs.code.ReferenceReasons.{leads_to_references}
-use Rattle.erd_check.specs.Visits.{faults_of, told_at, told_of_items, told_of_members, AreItemsKnown, AreMembersKnown, IsKnown, IsKnownOfAll, IsSilent, Telling}
+use Rattle.erd_check.specs.Visits.{faults_of, told_at, told_of_items, told_of_members, AreEntriesKnown, AreItemsKnown, AreMembersKnown, IsKnown, IsKnownOfAll, IsSilent, Telling}
 use Rattle.erd_check.specs.declared.want.Scope.{Scope}
 use Rattle.erd_check.specs.declared.want.Scope.TheVariants as scope
 use Rattle.erd_check.specs.declared.want.Want.{Want}
@@ -196,3 +196,6 @@ module _ (Known : Want → Data → Type 0) (each : (w : Want) (d : Data) → Kn
 
 pub is_known_of_all : (Known : Want → Data → Type 0) → ((w : Want) (d : Data) → Known w d) → (w : Want) → IsKnownOfAll Known w
 is_known_of_all Known each w = λ d. known_at Known each w d
+
+pub are_entries_known : (Known : Want → Data → Type 0) → ((w : Want) (d : Data) → Known w d) → (w : Want) (ds : Items) → AreEntriesKnown Known w ds
+are_entries_known Known each w ds = if_some (λ v. AreItemsKnown Known v ds) (entry_want w) (λ v. items_known Known each v ds)

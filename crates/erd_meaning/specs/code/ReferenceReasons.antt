@@ -1,9 +1,9 @@
 -- The reasons of a reference as the program reports them, by look-ups among the objects that it keeps. `ReferenceWalks`
 -- proves that they are those of `ReferenceFault`.
-use Rattle.std.specs.Prelude.{ℕ, List, [], ◌∷◌, ◌++◌, Bool, true, false, not, ◌&&◌, if◌then◌else◌, Option, option_map, is_none, codes}
+use Rattle.std.specs.Prelude.{◌≡◌, ℕ, List, [], ◌∷◌, ◌++◌, Bool, true, false, not, ◌&&◌, if◌then◌else◌, Option, Some, option_map, is_none, codes}
 use Rattle.std.specs.List.{list_any}
 use Rattle.std.specs.Option.{option_map_or}
-use Rattle.serde_json.specs.Data.{Data}
+use Rattle.serde_json.specs.Data.{Data, Items, string}
 use Rattle.serde_json.specs.Find.{as_str}
 use Rattle.erd_tables.specs.declared.class.Family.{Family}
 use Rattle.erd_tables.specs.declared.class.Family.TheVariants as family
@@ -11,7 +11,9 @@ use Rattle.erd_tables.specs.declared.class.Role.TheVariants as role
 use Rattle.erd_tables.specs.declared.fault.Reason.{Reason}
 use Rattle.erd_tables.specs.declared.fault.Reason.TheVariants.{Repeated, Unresolved, WrongFamily, SelectionOfOtherContest}
 use Rattle.erd_tables.specs.declared.member.MemberKind.TheVariants as kind
+use Rattle.erd_tables.specs.declared.place.Step.{Step}
 use Rattle.erd_check.specs.Values.{text_at}
+use Rattle.erd_check.specs.Visits.{told_of_items}
 use Rattle.erd_check.specs.declared.want.Want.{Want}
 use Rattle.erd_check.specs.declared.want.Want.TheVariants.{Member, Object, Reference}
 use Rattle.erd_meaning.specs.code.ObjectIndexes.{is_in_contest, number_among}
@@ -79,3 +81,16 @@ id_reasons ks outer f id =
 abbrev pub reference_reasons_told : List Kept → Data → Want → Bool → Data → List Reason
 reference_reasons_told ks outer (Reference f) repeated d = reason_if repeated Repeated ++ option_map_or (id_reasons ks outer f) (as_str d) []
 reference_reasons_told ks outer w repeated d = []
+
+-- ---- in an array
+
+-- The value is a reference to the object at a position of the family, and is refused for no reason, unless it is repeated.
+pub record IsClear (ks : List Kept) (outer : Data) (f : Family) (d : Data) (n : ℕ) : Type 0 where
+  pub text : List ℕ
+  pub is : d ≡ string text
+  pub named : number_among ks f text ≡ Some n
+  pub clear : id_reasons ks outer f text ≡ []
+
+-- No reason is told of references to the family in an array, wherever it stands. The value that has the array is given.
+abbrev pub AreClear : List Kept → Data → Family → Bool → Items → Type 0
+AreClear ks outer f is_set ds = (owner : Data) (p : List Step) → told_of_items (reference_reasons_told ks) outer owner p (Reference f) is_set [] ds ≡ []

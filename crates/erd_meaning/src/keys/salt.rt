@@ -150,8 +150,10 @@ impl Words {
             last = last << 8 | *byte as u64;
         }
         self.write(last, last);
-        self.first.write(&bytes[..whole]);
-        self.second.write(&bytes[..whole]);
+        if whole > 0 {
+            self.first.write(&bytes[..whole]);
+            self.second.write(&bytes[..whole]);
+        }
     }
 
     fn write(&mut self, first: u64, second: u64) {

@@ -1,24 +1,21 @@
-ghost use Rattle.std.specs.Prelude.{◌≡◌, ◌++◌, ◌&&◌, true, false, not, map, IfOk};
-ghost use Rattle.std.specs.Option.{option_map_or, option_to_list};
+ghost use Rattle.std.specs.Prelude.{◌≡◌, ◌++◌, map, IfOk};
+ghost use Rattle.std.specs.Option.{option_to_list};
 ghost use Rattle.serde_json.specs.View.{view};
 ghost use Rattle.erd_tables.specs.Faults.{ListsAll};
-ghost use Rattle.erd_tables.specs.declared.class.Family.TheVariants as family;
 ghost use Rattle.erd_check.specs.Trees.{IsTree};
 ghost use Rattle.erd_check.specs.Paths.{steps_of};
 ghost use Rattle.erd_check.specs.Visits.{faults_of};
 ghost use Rattle.erd_meaning.specs.LaterFaults.{ReferenceFault};
-ghost use Rattle.erd_meaning.specs.code.ObjectIndexes.{is_in_contest, number_among};
 ghost use Rattle.erd_meaning.specs.code.ObjectWalk.{kept_objects};
 ghost use Rattle.erd_meaning.specs.code.OwnIds.{HaveOwnIds};
 ghost use Rattle.erd_meaning.specs.code.Resolved.{IsIdentified};
-ghost use Rattle.erd_meaning.specs.code.ReferenceReasons.{id_reasons, is_selection_elsewhere, is_selection_family, leads_to_references};
+ghost use Rattle.erd_meaning.specs.code.ReferenceReasons.{id_reasons, leads_to_references};
 ghost use Rattle.erd_meaning.specs.code.Shown.{shown};
 
 use crate::keys::key_rule::KeyRule;
 use crate::objects::table::ObjectTable;
 use erd_check::is_among;
 use erd_check::path::{Path, push_fault};
-use erd_check::values::text_at;
 use erd_check::visitor::{Position, Visit, Visitor};
 use erd_check::walk::walk_report;
 use erd_check::want::{Scope, Want};
@@ -47,8 +44,8 @@ pub(crate) fn reference_faults(
 
 /// The visitor that finds the faults of references to these objects. No two of them have the same `@id`.
 #[derive(Drop)]
-struct ReferenceJudge<'b, 'a> {
-    objects: &'b ObjectTable<'a>,
+pub(crate) struct ReferenceJudge<'b, 'a> {
+    pub(crate) objects: &'b ObjectTable<'a>,
     ghost told_apart: { HaveOwnIds (map shown objects.now) },
 }
 
@@ -69,6 +66,24 @@ impl<'b, 'a> Visitor for ReferenceJudge<'b, 'a> {
 
     fn compares(&self, want: Want) -> bool {
         true
+    }
+
+    fn passes_over(
+        &self,
+        alloc: Global,
+        want: Want,
+        object: &Value,
+        items: &[Value],
+    ) -> Result<bool, AllocError> {
+        match want {
+            Want::Member(MemberKind::Many(family), _) => {
+                self.are_clear(alloc, family, true, object, items)
+            }
+            Want::Member(MemberKind::Ordered, _) => {
+                self.are_clear(alloc, Family::Selection, false, object, items)
+            }
+            _ => Ok(false),
+        }
     }
 
     fn visit(
@@ -132,42 +147,6 @@ impl<'b, 'a> ReferenceJudge<'b, 'a> {
         }
         let is_other = self.is_elsewhere(family, index, object);
         is_other.then_some(Reason::SelectionOfOtherContest)
-    }
-
-    /// Returns whether the object at this position of the family is a selection of another contest than the one that
-    /// `ContestId` of the other object names. If this names no contest, returns `false`. An honest ballot names the contest of
-    /// each selection, so its `@id` is compared first, and looked up only if it is another.
-    fn is_elsewhere(&self, family: Family, index: usize, object: &Value) -> bool
-        ensures { result ≡ (is_selection_family family && is_selection_elsewhere (map shown self.now.objects.now) (view object.now) index) }
-    {
-        if family != Family::Selection {
-            return false;
-        }
-        let id = text_at(object, "ContestId");
-        if self.is_in_contest_with(index, id) {
-            return false;
-        }
-        match self.objects.position_in(Family::Contest, id) {
-            Some(contest) => !self.objects.is_in_contest(contest, index),
-            None => false,
-        }
-    }
-
-    /// Returns whether the selection is in the contest with this `@id`.
-    fn is_in_contest_with(&self, selection: usize, id: &str) -> bool
-        ensures { result ≡ true → option_map_or (λ contest. not (is_in_contest (map shown self.now.objects.now) contest selection))
-            (number_among (map shown self.now.objects.now) family.Contest id.now) false ≡ false }
-    {
-        let Some(contest) = self.objects.contest_of(selection) else {
-            return false;
-        };
-        let Some(object) = self.objects.get(Family::Contest, contest) else {
-            return false;
-        };
-        match object.id {
-            Some(own) => own == id,
-            None => false,
-        }
     }
 }
 

@@ -49,6 +49,7 @@ fn objects(rt: &impl Abort, report: &Report) {
     assert!(rt; report.object(Family::Candidate, 0).is_some());
     assert!(rt; report.object(Family::Candidate, 1).is_none());
     assert_eq!(rt; report.target("k1"), Some((Family::Candidate, 0)));
+    assert_eq!(rt; report.target_near(Family::Contest, &[0], "k1"), Some((Family::Candidate, 0)));
     assert_eq!(rt; report.first_selection(0), 0);
 }
 

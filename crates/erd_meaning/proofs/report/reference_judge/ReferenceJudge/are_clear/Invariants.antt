@@ -1,0 +1,13 @@
+use Rattle.std.proofs.Common.{◌≡◌, ◌==◌, ℕ, List, ◌++◌, drop, map, true}
+use Rattle.std.specs.List.{IsDistinct}
+use Rattle.serde_json.specs.View.{items_view, view}
+use Rattle.erd_meaning.specs.code.ReferenceReasons.{AreClear}
+use Rattle.erd_meaning.specs.code.Shown.{shown}
+use Rattle.erd_meaning.proofs.references.ClearArrays.{ArePlaced}
+use Rattle.erd_meaning.proofs.report.reference_judge.ReferenceJudge.are_clear.Given as goal
+
+abbrev pub invariant-loop-item : goal.invariant-loop-item
+invariant-loop-item l =
+    let ks = map shown l.self.objects.now in
+    let outer = view l.object in
+    (ns : List ℕ) → ArePlaced ks outer l.family (map view (drop l.item-index l.items)) ns → (l.is_set ≡ true → IsDistinct (λ a b. a == b) (l.positions.items ++ ns)) → AreClear ks outer l.family l.is_set (items_view l.items)

@@ -1,0 +1,22 @@
+use Rattle.std.proofs.Common.{Bor, ℕ, List, Option, ap, map, option_map, sym, ◌∙◌}
+use Rattle.serde_json.specs.View.{view}
+use Rattle.erd_meaning.specs.code.Shown.{shown}
+use Rattle.erd_meaning.proofs.finding.FoundWithId.{not_false}
+use Rattle.erd_meaning.proofs.finding.OwnedKeys.{families_same}
+use Rattle.erd_meaning.proofs.references.ReasonsFound.{among_family, clear_of_family, text_read}
+use Rattle.erd_meaning.proofs.report.reference_judge.ReferenceJudge.clear_position.Goals as goal
+
+pub returns : goal.returns
+returns c =
+    let ks = map shown c.args.self.now.objects.now in
+    let id = c.in_ok-id.id.now in
+    let own = c.in_ok-own.own in
+    let position = c.in_ok-own.position in
+    let found = sym (c.position_near.ensures c.args.self.now.told_apart) ∙ c.in_ok-own.was in
+    let same = sym (families_same own c.args.family) ∙ not_false _ c.if-ne.ensures in
+    record {
+      text = id;
+      is = text_read (view c.args.item.now) id (sym c.as_str.ensures ∙ ap (option_map (λ (s : Bor (List ℕ)). s.now)) c.in_ok-id.was);
+      named = among_family ks c.args.family own id position found same;
+      clear = clear_of_family ks (view c.args.object.now) c.args.family own id position found same (sym c.is_elsewhere.ensures ∙ c.if-is_elsewhere.false);
+    }
