@@ -98,7 +98,7 @@ fn write_selection(
     ensures { OnOk result (out.new ≡ out.old ++ value_tokens (with_id (Some (canonical_selection_id ranks.0 ranks.1))
         (normal_object_with (λ name k v. normal_value writer.now.prefer (view writer.now.tree) k v) (class_of_object selection_role (view value.now)) (view value.now)))) }
 {
-    let id = selection_id_text(writer.alloc, ranks.0, ranks.1)?;
+    let id = selection_id_text(ranks.0, ranks.1)?;
     let due = [DueMember {
         name: "@id",
         value: DueValue::Text(id.as_str()),

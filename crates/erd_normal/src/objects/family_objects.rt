@@ -1,4 +1,4 @@
-ghost use Rattle.std.specs.Prelude.{◌≡◌, ◌++◌, ◌<◌, Some, false, true, length, option_map, slice_get, string_bytes};
+ghost use Rattle.std.specs.Prelude.{◌≡◌, ◌++◌, ◌<◌, Some, false, true, length, option_map, slice_get};
 ghost use Rattle.std.specs.Result.{OnOk};
 ghost use Rattle.serde_json.specs.View.{view};
 ghost use Rattle.serde_json.specs.Written.{has_float};
@@ -17,7 +17,7 @@ use crate::text::output::Output;
 use crate::values::content::write_content;
 use crate::values::value_of_kind::{is_kept, write_of_kind};
 use crate::writer::Writer;
-use crate::writer::ids::optional_id_text;
+use crate::writer::ids::{IdText, optional_id_text};
 use erd_check::values::is_empty_array;
 use erd_tables::{Family, MemberKind, Role};
 use serde_json::Value;
@@ -97,7 +97,7 @@ fn write_object_at(
     match writer.object(family, position) {
         Some(object) => {
             let rank = writer.rank_at(family, position);
-            let id = optional_id_text(writer.alloc, family, rank)?;
+            let id = optional_id_text(family, rank)?;
             let rule = ObjectMembers { writer, position };
             let role = Role::OfFamily(family);
             write_identified(writer.alloc, &rule, role, &id, object, out)
@@ -111,12 +111,12 @@ fn write_identified<R: MemberRule>(
     alloc: Global,
     rule: &R,
     role: Role,
-    id: &Option<String>,
+    id: &Option<IdText>,
     value: &Value,
     out: &mut Output,
 ) -> Result<(), AllocError>
     requires whole { has_float (view value.now) ≡ false }
-    ensures { OnOk result (out.new ≡ out.old ++ value_tokens (with_id (option_map string_bytes id.now) (normal_object_with (R.value_of rule.now) (class_of_object role (view value.now)) (view value.now)))) }
+    ensures { OnOk result (out.new ≡ out.old ++ value_tokens (with_id (option_map (λ text. text.bytes) id.now) (normal_object_with (R.value_of rule.now) (class_of_object role (view value.now)) (view value.now)))) }
 {
     match id {
         Some(id) => {

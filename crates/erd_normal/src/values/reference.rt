@@ -12,7 +12,7 @@ use crate::writer::ids::{id_text, selection_id_text};
 use erd_check::values::text_of;
 use erd_tables::Family;
 use serde_json::Value;
-use std::alloc::{AllocError, Global};
+use std::alloc::AllocError;
 
 /// Writes the canonical reference for a reference to an object of a family.
 pub(crate) fn write_reference(
@@ -24,19 +24,18 @@ pub(crate) fn write_reference(
     ensures { OnOk result (out.new ≡ out.old ++ value_tokens (normal_reference writer.now.prefer (view writer.now.tree) family (view value.now))) }
 {
     let rank = writer.rank_named(family, text_of(value));
-    write_reference_to(writer.alloc, family, rank, out)
+    write_reference_to(family, rank, out)
 }
 
 /// Writes the canonical reference to the object of a family that has this rank.
 pub(crate) fn write_reference_to(
-    alloc: Global,
     family: Family,
     rank: usize,
     out: &mut Output,
 ) -> Result<(), AllocError>
     ensures { OnOk result (out.new ≡ out.old ++ value_tokens (string (id_of_rank family rank))) }
 {
-    let id = id_text(alloc, family, rank)?;
+    let id = id_text(family, rank)?;
     out.string(id.as_str())
 }
 
@@ -50,7 +49,7 @@ pub(crate) fn write_selection_reference(
 {
     match writer.selection_ranks(text_of(value)) {
         Some((contest, rank)) => {
-            let id = selection_id_text(writer.alloc, contest, rank)?;
+            let id = selection_id_text(contest, rank)?;
             out.string(id.as_str())
         }
         None => out.string(""),

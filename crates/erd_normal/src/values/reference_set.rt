@@ -15,7 +15,7 @@ use crate::writer::Writer;
 use erd_check::values::text_of;
 use erd_tables::Family;
 use serde_json::Value;
-use std::alloc::{AllocError, Global};
+use std::alloc::AllocError;
 
 /// Writes the array of the canonical references for a set of references to objects of a family, sorted by the keys of those
 /// objects. The code sorts the ranks of the objects, which never decrease along the order of keys.
@@ -30,7 +30,7 @@ pub(crate) fn write_rising_references(
 {
     let mut ranks = ranks_named(writer, family, values)?;
     ranks.sort_unstable();
-    write_references_to(writer.alloc, family, &ranks, out)
+    write_references_to(family, &ranks, out)
 }
 
 /// Returns the ranks of the objects that the references name.
@@ -46,17 +46,12 @@ fn ranks_named(writer: &Writer, family: Family, values: &[Value]) -> Result<Vec<
 }
 
 /// Writes the array of the canonical references to the objects that have these ranks.
-fn write_references_to(
-    alloc: Global,
-    family: Family,
-    ranks: &[usize],
-    out: &mut Output,
-) -> Result<(), AllocError>
+fn write_references_to(family: Family, ranks: &[usize], out: &mut Output) -> Result<(), AllocError>
     ensures { OnOk result (out.new ≡ out.old ++ value_tokens (array_of (map (λ rank. string (id_of_rank family rank)) ranks.now))) }
 {
     out.begin_array()?;
     for rank in ranks {
-        write_reference_to(alloc, family, *rank, out)?;
+        write_reference_to(family, *rank, out)?;
     }
     out.end_array()
 }

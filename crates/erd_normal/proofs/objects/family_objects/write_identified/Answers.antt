@@ -1,4 +1,4 @@
-use Rattle.std.proofs.Common.{◌++◌, Some, option_map, string_bytes, ap, sym, ◌∙◌}
+use Rattle.std.proofs.Common.{◌++◌, Some, option_map, ap, sym, ◌∙◌}
 use Rattle.std.proofs.lemmas.Result.{on_ok_weaker}
 use Rattle.serde_json.specs.View.{view}
 use Rattle.erd_check.specs.Wants.{class_of_object}
@@ -16,5 +16,5 @@ returns-in-Some g c =
     ∙ ap (λ d. c.args.out.now ++ value_tokens d)
     (put_id c.as_str.result.now built
     ∙ (ap (λ s. with_id (Some s) built) c.as_str.ensures.value
-    ∙ ap (λ id. with_id (option_map string_bytes id) built) (sym c.in-Some.is))))
+    ∙ ap (λ id. with_id (option_map (λ text. text.bytes) id) built) (sym c.in-Some.is))))
     c.write_object.ensures

@@ -1,4 +1,4 @@
-use Rattle.std.proofs.Common.{◌≡◌, ◌++◌, option_map, slice_get, string_bytes, sym, ap, ap₂, ◌∙◌}
+use Rattle.std.proofs.Common.{◌≡◌, ◌++◌, option_map, slice_get, sym, ap, ap₂, ◌∙◌}
 use Rattle.std.proofs.lemmas.Result.{on_ok_weaker}
 use Rattle.serde_json.specs.Data.{Data}
 use Rattle.serde_json.specs.View.{view}
@@ -28,7 +28,7 @@ returns c =
     on_ok_weaker c.write_identified.result
     (λ written o at.
     let same : v ≡ o.value = found_value (slice_get (objects f t) i) v o (sym (ap (option_map (λ v. view v.now)) c.in-Some.is) ∙ c.object.ensures.object) at in
-    let id : option_map string_bytes c.in_ok-id-in-Some.id ≡ canonical_id f (rank_of π t f (key_of π o.value)) =
+    let id : option_map (λ text. text.bytes) c.in_ok-id-in-Some.id ≡ canonical_id f (rank_of π t f (key_of π o.value)) =
     c.in_ok-id-in-Some.ensures ∙ ap (canonical_id f) (c.rank_at-rank.ensures ∙ ap (rank_of π t f) (found_key π t f i o c.requires.keyed at)) in
     written ∙ ap (λ d. c.args.out.now ++ value_tokens d) (ap₂ (λ x d. with_id x (built d)) id same))
     c.write_identified.ensures
