@@ -19,11 +19,10 @@ use Rattle.erd_check.proofs.Entries.{entries_in}
 use Rattle.erd_check.proofs.Exact.{text_exact}
 use Rattle.erd_check.proofs.Rising.{Has}
 use Rattle.erd_check.proofs.TableKinds.{kind_of_id, kind_of_name}
-use Rattle.erd_meaning.proofs.accepted.Skeleton.{Skeleton, values_in_elections}
-use Rattle.erd_meaning.specs.Objects.{elections, objects, placed_entries}
+use Rattle.erd_meaning.proofs.accepted.Skeleton.{Skeleton, values-placed_entries, values_in_elections}
+use Rattle.erd_meaning.specs.Objects.{elections, objects, placed_entries, report_of}
 use Rattle.erd_meaning.proofs.meanings.SelectionKinds.{kind_of_type}
 use Rattle.erd_normal.proofs.lists.ListParts.{IsPart, part_flat, part_self}
-use Rattle.erd_normal.proofs.unique.FamilyArrays.{values_in_report}
 
 -- the name of the member that holds the objects of a family
 abbrev pub family_name : Family → List ℕ
@@ -75,6 +74,9 @@ contest_of_selections class.PartyContest f r is = cc
 contest_of_selections c f r is = cc
 
 -- ---- the objects of families
+
+values_in_report : (t : Data) (s : Skeleton t) (name : List ℕ) → map (λ o. o.value) (placed_entries name (report_of t)) ≡ entries_in (get_member name s.ms)
+values_in_report t s name = values-placed_entries name (report_of t) ∙ ap (entries_at name) s.is_object
 
 pub report_objects : (t : Data) (s : Skeleton t) (f : Family) (d : Data) → kind_of_member class.ElectionReport (family_name f) ≡ kind.Keyed f → get_member (family_name f) s.ms ≡ Some d
     → map (λ o. o.value) (objects f t) ≡ entries_of d

@@ -23,7 +23,7 @@ use Rattle.erd_meaning.specs.SelectionNames.{name_cmp, name_of}
 use Rattle.erd_meaning.proofs.orders.EqualNames.{equal_names, options_exact}
 use Rattle.erd_meaning.proofs.meanings.SelectionKinds.{is_selections}
 use Rattle.erd_normal.specs.code.NormalTree.{by_name}
-use Rattle.erd_normal.proofs.unique.Records.{record_with-Some}
+use Rattle.erd_normal.proofs.meaning.ObjectRecords.{record_with-Some}
 
 -- ---- records
 

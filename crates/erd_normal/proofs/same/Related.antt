@@ -45,7 +45,7 @@ use Rattle.erd_normal.proofs.same.Types.{scope_same}
 
 -- ---- lists
 
-paired_within_both : {A B : Type 0} {R : A → B → Type 0} (S : A → B → Type 0) {xs : List A} {ys : List B} → ((x : A) (y : B) → Has xs x → Has ys y → R x y → S x y) → Paired R xs ys → Paired S xs ys
+pub paired_within_both : {A B : Type 0} {R : A → B → Type 0} (S : A → B → Type 0) {xs : List A} {ys : List B} → ((x : A) (y : B) → Has xs x → Has ys y → R x y → S x y) → Paired R xs ys → Paired S xs ys
 paired_within_both S h none = none
 paired_within_both S h (more {x = x} {y = y} r rest) = more (h x y here here r) (paired_within_both S (λ a b i j. h a b (later i) (later j)) rest)
 

@@ -7,7 +7,7 @@ use Rattle.std.specs.List.{list_any}
 use Rattle.std.specs.Option.{option_map_or}
 use Rattle.std.specs.Ordering.{match_ordering}
 use Rattle.std.specs.Str.{bytes_eq}
-use Rattle.serde_json.specs.Data.{Data, null, boolean, number, string, array, object, Items, no_items, Members, no_members, member}
+use Rattle.serde_json.specs.Data.{Data, null, boolean, number, string, array, object, Items, no_items, Members, member}
 use Rattle.serde_json.specs.Find.{as_str, get, get_member}
 use Rattle.erd_tables.specs.Table.{kind_of_member, required_names}
 use Rattle.erd_tables.specs.declared.class.Class.{Class}
@@ -38,7 +38,7 @@ use Rattle.erd_meaning.specs.SelectionNames.{key_named, name_named}
 use Rattle.erd_meaning.proofs.accepted.Phases.{no_shape_fault}
 use Rattle.erd_meaning.proofs.meanings.SelectionKinds.{kind_of_type}
 use Rattle.erd_normal.proofs.canonical.ChosenEntries.{list_name}
-use Rattle.erd_normal.proofs.unique.Contents.{content_class}
+use Rattle.erd_normal.proofs.same.complete.ContentNodes.{content_at, content_class, content_inside-get, inner_name}
 use Rattle.erd_normal.specs.SaysTheSame.{Sides, MayBeAbsent, Same, not_asked, a_null, a_flag, a_number, a_text, an_id, a_list, a_set, an_object, SameEntries, no_entry, one_entry, SameMembers, no_member, in_both, left_only, right_only}
 use Rattle.erd_normal.proofs.same.FromAlike.{Stands}
 use Rattle.erd_normal.proofs.same.Related.{Related}
@@ -69,19 +69,8 @@ module _ (m : Sides) (c : Class) (d e : Data) (h : HaveMembers m c d e) (inside 
 
 -- ---- the member inside a header
 
-abbrev inner_name : List ℕ
-inner_name = codes "OrderedContent"
-
 none_inside : (π : Preference) (t : Data) (ms : Members) → get_member inner_name ms ≡ None → content_inside π t ms ≡ no_content
-none_inside π t no_members e = refl
-none_inside π t (member k d ms) e =
-    ap (λ b. cond b (content_of π t d) (content_inside π t ms)) (sym (is_eq-slice_cmp inner_name k)) ∙ at (slice_cmp nat_cmp inner_name k) e (none_inside π t ms)
-  where
-    at : (o : Ordering) → match_ordering o (get_member inner_name ms) (Some d) (get_member inner_name ms) ≡ None → (get_member inner_name ms ≡ None → content_inside π t ms ≡ no_content)
-        → cond (is_eq o) (content_of π t d) (content_inside π t ms) ≡ no_content
-    at Less e rest = rest e
-    at Equal e rest = cc
-    at Greater e rest = rest e
+none_inside π t ms e = content_inside-get π t ms ∙ ap (content_at π t) e
 
 absent_content : (π : Preference) (t : Data) (s : Scope) (k : List ℕ) (d : Data) → s ≡ scope.Members role.Content (Some class.OrderedHeader) → inner_name ≡ k → MayBeAbsent t s k d → content_of π t d ≡ no_content
 absent_content π t s k d is named h =
