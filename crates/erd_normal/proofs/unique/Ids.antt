@@ -32,14 +32,14 @@ use Rattle.erd_meaning.specs.declared.keys.key.Key.{Key}
 use Rattle.erd_meaning.proofs.accepted.Phases.{no_shape_fault}
 use Rattle.erd_meaning.proofs.accepted.References.{Contains-Has}
 use Rattle.erd_meaning.proofs.accepted.Skeleton.{values-placed_entries}
-use Rattle.erd_meaning.proofs.accepted.Standing.{contest_selections, one_named, stands}
+use Rattle.erd_meaning.proofs.accepted.Standing.{contest_selections, one_named, stands, has_id-Some}
 use Rattle.erd_normal.specs.Canonical.{IsCanonical, canonical_id, canonical_selection_id}
 use Rattle.erd_normal.proofs.lists.Matched.{AtMostOne, Matched, apart_distinct, matched_count, matched_find, matched_mapped, one_if_apart, said_same}
 use Rattle.erd_normal.proofs.lists.MatchedRising.{matched_rising}
 use Rattle.erd_normal.proofs.lists.Paired.{Paired, none, more}
 use Rattle.erd_normal.proofs.same.FamilyValues.{family_values, object_values}
 use Rattle.erd_normal.proofs.same.Related.{matched_within_both}
-use Rattle.erd_normal.proofs.same.SharedIds.{by_one_id, has_id-is, have_one_id, ids_distinct, owner_found}
+use Rattle.erd_normal.proofs.same.SharedIds.{by_one_id, have_one_id, ids_distinct, owner_found}
 use Rattle.erd_normal.proofs.same.complete.Counterparts.{SelectionsAlike, alike_by_key, family_matched, name_at, selection_name, selections_matched}
 use Rattle.erd_normal.proofs.same.complete.Texts.{Counterpart, by_key, by_name}
 use Rattle.erd_normal.proofs.same.complete.TwoMeanings.{MeanOne}
@@ -110,7 +110,7 @@ module _ (π : Preference) (t u : Data) (canonical : IsCanonical π t) (canonica
   pub one_key : (f : Family) (s : List ℕ) → has_keys f ≡ true → key_named π t f s ≡ key_named π u f s
   one_key f s keyed =
       let few : AtMostOne (has_id s) (family_values f t) =
-      one_if_apart (has_id s) (family_values f t) (apart_distinct (has_id s) have_one_id (family_values f t) (λ x y h k. by_one_id x y s (has_id-is s x h) (has_id-is s y k)) (ids_distinct π t canonical.accepted f)) in
+      one_if_apart (has_id s) (family_values f t) (apart_distinct (has_id s) have_one_id (family_values f t) (λ x y h k. by_one_id x y s (has_id-Some s x h) (has_id-Some s y k)) (ids_distinct π t canonical.accepted f)) in
       ap (option_and_then (key_of π)) (owner_found t f s)
       ∙ said_same (key_of π) (key_of π) (λ x y h. h.1) (find (has_id s) (family_values f t)) (find (has_id s) (family_values f u))
       (matched_find (has_id s) (has_id s) (λ x y h. ap (λ o. option_map_or (bytes_eq s) o false) h.0) (values_alike f keyed) few)

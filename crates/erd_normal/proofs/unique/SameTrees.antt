@@ -20,7 +20,6 @@ use Rattle.erd_check.specs.declared.want.Want.TheVariants.{Member, Object}
 use Rattle.erd_check.proofs.Entries.{list_of_items_exact}
 use Rattle.erd_check.proofs.Members.{get_member-depth, members_unique}
 use Rattle.erd_check.proofs.Rising.{Has, all-Has, rising_unique}
-use Rattle.erd_check.proofs.Shapes.{within-tree}
 use Rattle.erd_meaning.specs.Keys.{Preference, has_keys, key_cmp, key_of}
 use Rattle.erd_meaning.specs.SelectionNames.{compact_cmp, name_cmp, name_of}
 use Rattle.erd_meaning.specs.code.Orders.{compact_cmp_total, key_cmp_total, name_cmp_total}
@@ -31,10 +30,10 @@ use Rattle.erd_normal.proofs.lists.BuiltLists.{listed_depth}
 use Rattle.erd_normal.proofs.lists.Matched.{Matched, matched_equal, paired_equal}
 use Rattle.erd_normal.proofs.lists.MatchedRising.{matched_rising}
 use Rattle.erd_normal.proofs.same.Back.{entries_paired}
-use Rattle.erd_normal.proofs.same.FromAlike.{Stands}
+use Rattle.erd_normal.proofs.same.FromAlike.{Stands, entry_stands, member_stands, stands_tree}
 use Rattle.erd_normal.proofs.same.IdsOfObjects.{asked_id, part_at, IsPart}
 use Rattle.erd_normal.proofs.same.Lookups.{Aligned, both_there, not_both, lookups}
-use Rattle.erd_normal.proofs.same.Related.{entries_matched, entry_stands, matched_within_both, member_stands, paired_within_both}
+use Rattle.erd_normal.proofs.same.Related.{entries_matched, matched_within_both, paired_within_both}
 use Rattle.erd_normal.proofs.same.SharedIds.{IsId}
 use Rattle.erd_normal.proofs.same.Steady.{steady_same}
 use Rattle.erd_normal.proofs.same.Types.{scope_same}
@@ -164,8 +163,8 @@ module _ (π : Preference) (t u : Data) (canonical : IsCanonical π t) (canonica
       let k = set_kind w is in
       ap array (sets_equal w w k.0 k.1 k.1 ds es k.2 k.2 is st st' (matched_within_both (λ x y. x ≡ y) (entry_equal n below w w (entry_want w) refl refl ds es small st st') (entries_matched m w (a_set {es = es} fs is p h))))
   value_equal n below w d e small st st' (an_object {ms = ms} {ns = ns} h) =
-      let tree : AreMembers ms = within-tree t (record { want = w; value = object ms; repeated = st.repeated }) both.left_tree st.inside in
-      let tree' : AreMembers ns = within-tree u (record { want = w; value = object ns; repeated = st'.repeated }) both.right_tree st'.inside in
+      let tree : AreMembers ms = stands_tree t w (object ms) both.left_tree st in
+      let tree' : AreMembers ns = stands_tree u w (object ns) both.right_tree st' in
       ap object (members_unique ms ns tree tree' (members_equal n below w ms ns small st st' (scope_same m w ms ns h) h tree tree'))
 
   all_below : (n : ℕ) → Below n

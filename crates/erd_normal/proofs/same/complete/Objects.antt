@@ -13,7 +13,7 @@ use Rattle.erd_tables.specs.declared.class.Role.{Role}
 use Rattle.erd_tables.specs.declared.class.Role.TheVariants as role
 use Rattle.erd_tables.specs.declared.member.MemberKind.TheVariants as kind
 use Rattle.erd_check.specs.Values.{entries_at}
-use Rattle.erd_check.specs.Wants.{asked, class_of_object, member_want, want_of_name, want_of_kind}
+use Rattle.erd_check.specs.Wants.{asked, class_of_object, want_of_name, want_of_kind}
 use Rattle.erd_check.specs.declared.want.Scope.{Scope}
 use Rattle.erd_check.specs.declared.want.Scope.TheVariants as scope
 use Rattle.erd_check.specs.declared.want.Want.TheVariants.{Member, Object}
@@ -44,6 +44,7 @@ use Rattle.erd_normal.proofs.same.complete.Texts.{Counterpart, by_key, by_name, 
 use Rattle.erd_normal.proofs.same.complete.TwoMeanings.{MeanOne}
 use Rattle.erd_normal.proofs.meaning.ObjectRecords.{class_of_record, members_in}
 use Rattle.erd_normal.proofs.same.FamilyValues.{InElections, InReport, candidates, contests_home, headers, offices, parties, persons, styles, units}
+use Rattle.erd_normal.proofs.same.Types.{asked_of_name}
 use Rattle.erd_normal.specs.SaysTheSame.{Sides, IsUnused, Same, an_id, an_unused_id, of_the_envelope}
 
 id_text : (π : Preference) (t : Data) → IsAccepted π t → (b : Bool) (r : Bool) (v : Data) → Within t (asked (want_of_kind (if b then kind.Identity else kind.StrangeIdentity) r) v) → Some v ≡ option_map string (as_str v)
@@ -97,9 +98,6 @@ two_objects π t u accepted accepted' q d e w w' same =
     let both : Some b.class ≡ Some a.class = sym b.at.among ∙ ap (class_of_object q) (sym b.is_object) ∙ sym same ∙ ap (class_of_object q) a.is_object ∙ a.at.among in
     let one : b.class ≡ a.class = cc in
     record { ms = a.ms; ns = b.ms; class = a.class; role = a.role; is = a.is_object; is' = b.is_object; at = a.at; at' = subst (λ c. ObjectAt u (Object q) q c b.ms) one b.at }
-
-asked_name : (q : Role) (c : Class) (k : List ℕ) → bytes_eq k (codes "@type") ≡ false → want_of_name (scope.Members q (Some c)) k ≡ Some (member_want c k)
-asked_name q c k e = rw e refl
 
 -- an `@id` of the one report is unused in l if its object's counterpart has none, and one of the other in r
 pub record AloneUnused (π : Preference) (t u l r : Data) : Type 0 where
@@ -186,7 +184,7 @@ module _ (π : Preference) (t u : Data) (both : MeanOne π t u) (default : List 
   keyed_aligned : (q : Role) (c : Class) (ms ns : Members) → ObjectAt t (Object q) q c ms → ObjectAt u (Object q) q c ns → (f : Family) (name : List ℕ) → bytes_eq name (codes "@type") ≡ false → kind_of_member c name ≡ kind.Keyed f
       → (d e : Placed) → d.value ≡ object ms → e.value ≡ object ns → Matched (λ o p. Same m (Some (Object (role.OfFamily f))) o.value p.value) (placed_entries name d) (placed_entries name e) → AlignedIn q c ms ns name
   keyed_aligned q c ms ns a b f name other keyed d e is is' matched =
-      sets_aligned m (scope.Members q (Some c)) name (kind.Keyed f) (is_required c name) (asked_name q c name other ∙ ap Some (want_by_kind c name (kind.Keyed f) keyed refl)) refl _ _ (get_member name ms) (get_member name ns) refl
+      sets_aligned m (scope.Members q (Some c)) name (kind.Keyed f) (is_required c name) (asked_of_name q c name other ∙ ap Some (want_by_kind c name (kind.Keyed f) keyed refl)) refl _ _ (get_member name ms) (get_member name ns) refl
       (keyed_list t (no_shape_fault π t both.left) (Object q) q c ms a f name other keyed (get_member name ms) refl)
       (keyed_list u (no_shape_fault π u both.right) (Object q) q c ns b f name other keyed (get_member name ns) refl)
       (subst (λ xs. Matched (Same m (Some (Object (role.OfFamily f)))) xs (entries_in (get_member name ns))) (values-placed_entries name d ∙ ap (entries_at name) is)

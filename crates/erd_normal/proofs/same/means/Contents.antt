@@ -40,10 +40,10 @@ use Rattle.erd_meaning.proofs.meanings.SelectionKinds.{kind_of_type}
 use Rattle.erd_normal.proofs.canonical.ChosenEntries.{list_name}
 use Rattle.erd_normal.proofs.same.complete.ContentNodes.{content_at, content_class, content_inside-get, inner_name}
 use Rattle.erd_normal.specs.SaysTheSame.{Sides, MayBeAbsent, Same, not_asked, a_null, a_flag, a_number, a_text, an_id, a_list, a_set, an_object, SameEntries, no_entry, one_entry, SameMembers, no_member, in_both, left_only, right_only}
-use Rattle.erd_normal.proofs.same.FromAlike.{Stands}
+use Rattle.erd_normal.proofs.same.FromAlike.{Stands, entry_stands, stands_tree}
 use Rattle.erd_normal.proofs.same.Related.{Related}
 use Rattle.erd_normal.proofs.same.Steady.{is_steady_kind, is_plain}
-use Rattle.erd_normal.proofs.same.means.Members.{BothObjects, HaveMembers, MeansNothing, is_absent, is_empty, is_identity, is_outside, TwoReports, Told, both_told, none_told, absent_nothing, both_objects, entry_there, member_there, nothing_empty, stands_tree, steady_nothing, told_plain}
+use Rattle.erd_normal.proofs.same.means.Members.{BothObjects, HaveMembers, MeansNothing, is_absent, is_empty, is_identity, is_outside, TwoReports, Told, both_told, none_told, absent_nothing, both_objects, member_there, nothing_empty, steady_nothing, told_plain}
 use Rattle.erd_normal.proofs.same.means.Names.{name_named_alike}
 use Rattle.erd_normal.proofs.same.means.References.{key_alike_text, said_in_turn}
 
@@ -132,8 +132,8 @@ module _ (m : Sides) (π : Preference) (g : TwoReports m π) where
   chosen_in_turn (an_id is h) l r = refl
   chosen_in_turn (a_list {ds = ds} {es = es} is h) l r =
       said_in_turn m family.Selection (name_named π m.left) (name_named π m.right) (name_named_alike m π g) refl h
-      (λ x i. entry_there m.left (Member kind.Ordered false) (Reference family.Selection) (array ds) refl l x i)
-      (λ x i. entry_there m.right (Member kind.Ordered false) (Reference family.Selection) (array es) refl r x i)
+      (λ x i. entry_stands m.left (Member kind.Ordered false) (Reference family.Selection) (array ds) refl l x i)
+      (λ x i. entry_stands m.right (Member kind.Ordered false) (Reference family.Selection) (array es) refl r x i)
   chosen_in_turn (a_set fs is p h) l r = cc
   chosen_in_turn (an_object h) l r = refl
 
@@ -219,8 +219,8 @@ module _ (m : Sides) (π : Preference) (g : TwoReports m π) where
     content_same required asks (an_id is h) l r = refl
     content_same required asks (a_list {w = w} {ds = ds} {es = es} is h) l r =
         let want : w ≡ Member kind.Content required = cc in
-        nodes_same (ap entry_want want) h (λ x i. entry_there m.left (Member kind.Content required) (Object role.Content) (array ds) refl l x i)
-        (λ x i. entry_there m.right (Member kind.Content required) (Object role.Content) (array es) refl r x i)
+        nodes_same (ap entry_want want) h (λ x i. entry_stands m.left (Member kind.Content required) (Object role.Content) (array ds) refl l x i)
+        (λ x i. entry_stands m.right (Member kind.Content required) (Object role.Content) (array es) refl r x i)
     content_same required asks (a_set {w = w} fs is p h) l r =
         let want : w ≡ Member kind.Content required = cc in let no : true ≡ false = sym is ∙ ap is_table_set want in cc
     content_same required asks (an_object h) l r = refl
@@ -245,7 +245,7 @@ module _ (m : Sides) (π : Preference) (g : TwoReports m π) where
         node_by_class ms ns (record { left = l; right = r; same = subst (λ o. Same m o (object ms) (object ns)) asks (an_object h) })
         (λ left right.
         inside_same h (ap (λ x. scope_inside x (object ms)) want ∙ ap (scope.Members role.Content) left)
-        (stands_tree m m.left (Object role.Content) (object ms) g.left_tree l) (stands_tree m m.right (Object role.Content) (object ns) g.right_tree r)
+        (stands_tree m.left (Object role.Content) (object ms) g.left_tree l) (stands_tree m.right (Object role.Content) (object ns) g.right_tree r)
         (λ d found. member_there m m.left (Object role.Content) role.Content class.OrderedHeader ms inner_name d of_role left refl l found)
         (λ d found. member_there m m.right (Object role.Content) role.Content class.OrderedHeader ns inner_name d of_role right refl r found))
 
