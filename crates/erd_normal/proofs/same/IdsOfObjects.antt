@@ -1,15 +1,12 @@
 -- What a value is, by what the table asks of it: so an `@id` that it asks for is that of an object of a family.
 use Rattle.std.proofs.Common.{◌≡◌, ℕ, List, [], ◌∷◌, flat_map, Bool, true, false, cond, is_some, ◌&&◌, Option, Some, None, option_and_then, option_map, codes, refl, sym, ap, ◌∙◌, subst}
-use Rattle.std.specs.List.{list_all}
 use Rattle.std.specs.Option.{option_map_or}
 use Rattle.std.specs.Str.{bytes_eq}
 use Rattle.serde_json.specs.Data.{Data, string, array, object, Items, Members}
 use Rattle.serde_json.specs.Find.{as_str, get_item, get_member}
 use Rattle.erd_tables.specs.Classes.{family_of_class, family_of_role, role_of_class}
-use Rattle.erd_tables.specs.Rows.{rows_of_class}
-use Rattle.erd_tables.specs.Table.{is_required, kind_of_identity, kind_of_member}
+use Rattle.erd_tables.specs.Table.{is_required, kind_of_member}
 use Rattle.erd_tables.specs.declared.class.Class.{Class}
-use Rattle.erd_tables.specs.declared.class.Class.TheVariants as class
 use Rattle.erd_tables.specs.declared.class.Family.{Family}
 use Rattle.erd_tables.specs.declared.class.Family.TheVariants as family
 use Rattle.erd_tables.specs.declared.class.Role.{Role}
@@ -25,60 +22,13 @@ use Rattle.erd_check.specs.declared.want.Want.{Want}
 use Rattle.erd_check.specs.declared.want.Want.TheVariants.{Carried, ClassText, Member, Object, Reference, Status}
 use Rattle.erd_check.proofs.Exact.{both_true, text_exact}
 use Rattle.erd_check.proofs.Rising.{Has}
-use Rattle.erd_check.proofs.TableKinds.{kind_of_id, kind_of_name}
 use Rattle.erd_meaning.specs.Keys.{has_keys}
 use Rattle.erd_meaning.proofs.accepted.Standing.{flat-has}
-use Rattle.erd_normal.proofs.built.FamilyNames.{family_name}
+use Rattle.erd_normal.proofs.built.FamilyNames.{family_name, holds, home, is_home, is_report_role}
 use Rattle.erd_normal.proofs.built.NormalGets.{class_has_role}
 use Rattle.erd_normal.proofs.same.FamilyValues.{family_values}
 use Rattle.erd_normal.proofs.same.Lists.{entry_has}
 use Rattle.erd_normal.proofs.same.SharedIds.{IsId}
-
--- ---- where the objects of a family stand
-
--- objects with this role hold those of the family
-abbrev holds : Role → Family → Bool
-holds role.Report family.Unit = true
-holds role.Report family.Party = true
-holds role.Report family.Person = true
-holds role.Report family.Office = true
-holds role.Report family.Header = true
-holds role.Election family.Candidate = true
-holds role.Election family.Contest = true
-holds role.Election family.Style = true
-holds (role.OfFamily family.Contest) family.Selection = true
-holds r f = false
-
-abbrev is_report_role : Role → Bool
-is_report_role role.Report = true
-is_report_role r = false
-
--- what the table says of a member of this kind
-abbrev is_home : Class → List ℕ → MemberKind → Bool
-is_home c n (kind.Keyed f) = holds (role_of_class c) f && bytes_eq n (family_name f)
-is_home c n kind.Elections = is_report_role (role_of_class c) && bytes_eq n (codes "Election")
-is_home c n kind.Identity = is_some (family_of_class c) && bytes_eq n (codes "@id")
-is_home c n (kind.Many f) = has_keys f
-is_home c n k = true
-
-home_rows : (c : Class) → list_all (λ row. is_home c row.name row.kind) (rows_of_class c) ≡ true
-home_rows class.ElectionReport = refl
-home_rows c = refl
-
-home_identity : (c : Class) → is_home c (codes "@id") (kind_of_identity c) ≡ true
-home_identity class.ElectionReport = refl
-home_identity c = refl
-
-home : (c : Class) (n : List ℕ) → bytes_eq n (codes "@type") ≡ false → is_home c n (kind_of_member c n) ≡ true
-home c n no_type = at (bytes_eq n (codes "@id")) refl
-  where
-    at : (b : Bool) → bytes_eq n (codes "@id") ≡ b → is_home c n (kind_of_member c n) ≡ true
-    at true is =
-        subst (λ x. is_home c x (kind_of_member c x) ≡ true) (sym (text_exact n (codes "@id") is))
-        (subst (λ k. is_home c (codes "@id") k ≡ true) (sym (kind_of_id c)) (home_identity c))
-    at false is =
-        kind_of_name (λ row. is_home c row.name row.kind) (is_home c n) c n no_type is (home_rows c)
-        (λ m h e. subst (λ x. is_home c x m.kind ≡ true) (sym (text_exact n m.name e)) h) refl refl
 
 -- ---- what a value is, by what is asked of it
 
@@ -147,7 +97,7 @@ module _ (t : Data) (ms : Members) (x : Data) where
     where
       at : (b : Bool) → IsPart t (cond b Status (want_of_kind (kind_of_member c n) (is_required c n))) x
       at true = tt
-      at false = kind_part r c n (kind_of_member c n) (is_required c n) role (home c n no_type) part found
+      at false = kind_part r c n (kind_of_member c n) (is_required c n) role (home c n) part found
 
   class_part : (r : Role) (o : Option Class) (n : List ℕ) (v : Want) → class_of_object r (object ms) ≡ o → IsPart t (Object r) (object ms) → want_of_name (scope.Members r o) n ≡ Some v → get_member n ms ≡ Some x
       → IsPart t v x
