@@ -2,4 +2,5 @@
 pub mod RisingMeanings
 pub mod MatchedMeanings
 pub mod MeantKinds
+pub mod ObjectRecords
 pub mod AlikeRecords

@@ -1,14 +1,9 @@
--- Canonical reports that mean the same are equal.
-pub mod Arrays
-pub mod Labels
-pub mod Contents
-pub mod Records
-pub mod FamilyArrays
-pub mod ElectionPairs
-pub mod Selections
-pub mod SelectionPairs
-pub mod Agreement
+-- Canonical reports that mean the same say the same, and are equal.
+pub mod Ids
+pub mod Closed
+pub mod Envelope
+pub mod SameTrees
+pub mod Unique
 pub mod NamesAlike
 pub mod ReferencesAlike
 pub mod ObjectsAlike
-pub mod Unique

@@ -21,7 +21,7 @@ use Rattle.erd_check.specs.Wants.{Asked, asked, asked_inside, asked_of_member, c
 use Rattle.erd_check.specs.declared.want.Want.{Want}
 use Rattle.erd_check.specs.declared.want.Want.TheVariants.{ClassText, Member}
 use Rattle.erd_check.proofs.Entries.{array_from}
-use Rattle.erd_check.proofs.Exact.{both_true, text_exact}
+use Rattle.erd_check.proofs.Exact.{text_exact}
 use Rattle.erd_check.proofs.ObjectsAt.{ObjectAt}
 use Rattle.erd_check.proofs.Shapes.{AsksObject, Classed, Within, Within-step, classed, lacks_none, member_within, of_label, of_role, wanted_within}
 use Rattle.erd_check.proofs.TableKinds.{want_unless_status}
@@ -40,9 +40,10 @@ asked_as_kind t kind.ClassText r d w = tt
 asked_as_kind t kind.Word r d w = tt
 asked_as_kind t k r d w = (r, w)
 
-pub status_kind : (c : Class) → is_report_class c ≡ true → kind_of_member c (codes "Status") ≡ kind.Word
-status_kind class.ElectionReport e = refl
-status_kind c e = cc
+-- `Status` of the report is a word
+pub status_kind : (c : Class) (name : List ℕ) → (is_report_class c && bytes_eq name (codes "Status")) ≡ true → kind_of_member c name ≡ kind.Word
+status_kind class.ElectionReport name e = ap (kind_of_member class.ElectionReport) (text_exact name (codes "Status") e)
+status_kind c name e = cc
 
 asked_as_other : (t : Data) → NoneOf (ShapeFault t) → (w : Want) (q : Role) (c : Class) (ms : Members) → ObjectAt t w q c ms → (name : List ℕ) (v : Data) → get_member name ms ≡ Some v
     → bytes_eq name (codes "@type") ≡ false → AskedAs t (kind_of_member c name) v
@@ -50,8 +51,7 @@ asked_as_other t clean w q c ms o name v found other = at (is_report_class c && 
   where
     at : (b : Bool) → (is_report_class c && bytes_eq name (codes "Status")) ≡ b → AskedAs t (kind_of_member c name) v
     at true is =
-        let both = both_true (is_report_class c) (bytes_eq name (codes "Status")) is in
-        let word : kind_of_member c name ≡ kind.Word = ap (kind_of_member c) (text_exact name (codes "Status") both.1) ∙ status_kind c both.0 in
+        let word : kind_of_member c name ≡ kind.Word = status_kind c name is in
         subst (λ k. AskedAs t k v) (sym word) tt
     at false is =
         asked_as_kind t (kind_of_member c name) (is_required c name) v

@@ -1,5 +1,5 @@
 -- The members of an object that is built come from members of the object that it is built of.
-use Rattle.std.proofs.Common.{◌≡◌, ◌⊎◌, inl, inr, ℕ, List, Option, Some, None, option_and_then, Bool, true, false, ◌&&◌, codes, refl, sym, ap, ◌∙◌, subst}
+use Rattle.std.proofs.Common.{◌≡◌, ◌⊎◌, inl, inr, ℕ, List, Option, Some, None, option_and_then, Bool, true, false, ◌&&◌, codes, refl, sym, ◌∙◌, subst}
 use Rattle.std.specs.Str.{bytes_eq}
 use Rattle.serde_json.specs.Data.{Data, Members}
 use Rattle.serde_json.specs.Find.{get, get_member}
@@ -14,7 +14,6 @@ use Rattle.erd_check.specs.Faults.{NoneOf, ShapeFault}
 use Rattle.erd_check.specs.Wants.{Asked, asked, asked_inside, class_of_object, is_report_class, member_want, want_of_kind}
 use Rattle.erd_check.specs.declared.want.Want.{Want}
 use Rattle.erd_check.specs.declared.want.Want.TheVariants.{Object, Status}
-use Rattle.erd_check.proofs.Exact.{both_true, text_exact}
 use Rattle.erd_check.proofs.ObjectsAt.{ObjectAt}
 use Rattle.erd_check.proofs.Shapes.{Within, member_within, of_role}
 use Rattle.erd_check.proofs.TableKinds.{want_unless_status}
@@ -75,8 +74,7 @@ module _ (t : Data) (clean : NoneOf (ShapeFault t)) where
     where
       at : (apart : Bool) → (is_report_class c && bytes_eq name (codes "Status")) ≡ apart → Q (asked (member_want c name) v)
       at true is =
-          let both = both_true (is_report_class c) (bytes_eq name (codes "Status")) is in
-          let kept : kind_of_member c name ≡ kind.Word = ap (kind_of_member c) (text_exact name (codes "Status") both.1) ∙ status_kind c both.0 in
+          let kept : kind_of_member c name ≡ kind.Word = status_kind c name is in
           let want : member_want c name ≡ Status = rw is refl in
           subst (λ w. Q (asked w v)) (sym want) (subst (λ x. Q (asked Status x)) (word kept) (status b.from (subst (λ w. Within t (asked w b.from)) want b.inside)))
       at false is =

@@ -1,10 +1,9 @@
 -- Members that are put one after another, in the order of their names, stand in that order.
-use Rattle.std.proofs.Common.{◌≡◌, ℕ, List, ◌∷◌, Bool, true, false, ◌||◌, Less, Option, Some, None, string_bytes, string_cmp, refl, sym, ap, ap₂, ◌∙◌}
+use Rattle.std.proofs.Common.{◌≡◌, ℕ, List, ◌∷◌, Bool, true, false, ◌||◌, Less, Option, Some, None, string_bytes, refl, sym, ap, ◌∙◌}
 use Rattle.std.proofs.lemmas.Cmp.{nat_list_cmp_total}
 use Rattle.std.specs.Bool.{⊤}
 use Rattle.std.specs.List.{AllByRecursion}
 use Rattle.std.specs.List.Sorted.{IsStrictlySortedBy}
-use Rattle.std.specs.Map.{keys_of}
 use Rattle.std.specs.Option.{option_map_or}
 use Rattle.std.specs.Ordering.{ordering_reverse}
 use Rattle.serde_json.specs.Data.{Data, Members, no_members, member, put}
@@ -13,7 +12,6 @@ use Rattle.serde_json.specs.Written.{has_float, members_have_float}
 use Rattle.serde_json.proofs.Views.{Entry}
 use Rattle.erd_tables.specs.Texts.{text_cmp}
 use Rattle.erd_check.specs.Values.{names}
-use Rattle.erd_check.proofs.Lists.{names_sorted}
 use Rattle.erd_normal.specs.code.Building.{put_if}
 use Rattle.erd_normal.proofs.built.NormalMembers.{each_member}
 
@@ -96,24 +94,6 @@ module _ (value : List ℕ → Data → Option Data) where
           ap (put_each value ms) (put_above k v built low.0)
           ∙ (rest (joined built (member k v no_members)) (are_below_one built k v ms low.1 rise.0) rise.1
           ∙ joined_one built k v (each_member value ms))
-
-  -- what is put for each of the members stands in their order
-  put_all : (ms : Members) → IsStrictlySortedBy text_cmp (names ms) → put_each value ms no_members ≡ each_member value ms
-  put_all ms rise = put_after ms no_members (none_below ms) rise
-
-  -- where none of the members of a map is left
-  pub put_all_of : (es : List Entry) (built : Members) → IsStrictlySortedBy string_cmp (keys_of es) → put_each value no_members built ≡ put_each value (members_view es) no_members
-      → built ≡ each_member value (members_view es)
-  put_all_of es built rise done = done ∙ put_all (members_view es) (names_sorted es rise)
-
-  -- where one of those that are left is put
-  pub put_one : (all : Members) (left rest : List Entry) (e : Entry) (name : List ℕ) (was : Members) (r : Option Data) (built : Members)
-      → left ≡ e ∷ rest → name ≡ string_bytes e.0 → r ≡ value (string_bytes e.0) (view e.1) → built ≡ put_if name r was
-      → put_each value (members_view left) was ≡ put_each value all no_members → put_each value (members_view rest) built ≡ put_each value all no_members
-  put_one all left rest e name was r built split named given put before =
-      ap (put_each value (members_view rest)) (put ∙ ap₂ (λ n v. put_if n v was) named given)
-      ∙ (ap (λ es. put_each value (members_view es) was) (sym split)
-      ∙ before)
 
 -- what is left is whole, and so are the first and those after it
 pub whole_first : (left rest : List Entry) (e : Entry) → left ≡ e ∷ rest → members_have_float (members_view left) ≡ false → has_float (view e.1) ≡ false

@@ -1,12 +1,12 @@
 -- The entries of a list of contests and headers, one by one.
-use Rattle.std.proofs.Common.{◌≡◌, ℕ, zero, suc, ◌<◌, List, [], ◌∷◌, map, length, get_or, Bool, true, false, ◌||◌, Some, refl, sym, ap, ◌∙◌, subst, arith}
-use Rattle.serde_json.specs.Data.{Data, array}
-use Rattle.serde_json.specs.View.{items_of, items_view, view}
+use Rattle.std.proofs.Common.{◌≡◌, ℕ, zero, suc, ◌<◌, List, [], ◌∷◌, length, get_or, Bool, true, false, ◌||◌, Some, refl, sym, subst, arith}
+use Rattle.serde_json.specs.Data.{Data}
+use Rattle.serde_json.specs.View.{items_view, view}
 use Rattle.serde_json.specs.Written.{has_float, items_have_float}
 use Rattle.serde_json.specs.declared.value.Value.{Value}
 use Rattle.erd_tables.specs.declared.member.MemberKind.{MemberKind}
 use Rattle.erd_tables.specs.declared.member.MemberKind.TheVariants as kind
-use Rattle.erd_normal.specs.code.NormalTree.{normal_content, normal_node, normal_node_value, normal_nodes, normal_value}
+use Rattle.erd_normal.specs.code.NormalTree.{normal_node_value, normal_value}
 use Rattle.erd_meaning.specs.Keys.{Preference}
 
 first_whole : (a b : Bool) → a || b ≡ false → a ≡ false
@@ -22,14 +22,6 @@ pub whole_item : (vs : List Value) (i : ℕ) (v : Value) → items_have_float (i
 whole_item [] i v h low e = absurd (omega arith)
 whole_item (w ∷ vs) zero v h low e = subst (λ u. has_float (view u) ≡ false) (sym e) (first_whole (has_float (view w)) (items_have_float (items_view vs)) h)
 whole_item (w ∷ vs) (suc i) v h low e = whole_item vs i v (rest_whole (has_float (view w)) (items_have_float (items_view vs)) h) (omega arith) e
-
--- what each entry becomes is what all become
-pub nodes_from_map : (π : Preference) (t : Data) (vs : List Value) → items_of (map (λ v. normal_node π t (view v)) vs) ≡ normal_nodes π t (items_view vs)
-nodes_from_map π t [] = refl
-nodes_from_map π t (v ∷ vs) = rw (nodes_from_map π t vs) refl
-
-pub content_from_map : (π : Preference) (t : Data) (built vs : List Value) → map view built ≡ map (λ v. normal_node π t (view v)) vs → array (items_view built) ≡ normal_content π t (array (items_view vs))
-content_from_map π t built vs each = ap (λ ds. array (items_of ds)) each ∙ ap array (nodes_from_map π t vs)
 
 -- a member that is no list of contests and headers
 pub other_node_value : (π : Preference) (t : Data) (k : MemberKind) (d inside : Data) → (k ≡ kind.Content → ⊥) → normal_node_value π t (Some k) d inside ≡ normal_value π t k d

@@ -1,10 +1,10 @@
 -- The names of the members that hold objects: what stands there is the array of the objects of the family.
-use Rattle.std.proofs.Common.{◌≡◌, ℕ, List, Some, flat_map, map, Bool, true, false, codes, refl, sym, ap, ◌∙◌, subst}
+use Rattle.std.proofs.Common.{◌≡◌, ℕ, List, Some, flat_map, map, Bool, true, false, codes, refl, sym, ap, ◌∙◌, subst, is_some, ◌&&◌}
 use Rattle.std.specs.List.{list_all}
 use Rattle.std.specs.Str.{bytes_eq}
 use Rattle.serde_json.specs.Data.{Data, Members, object}
 use Rattle.serde_json.specs.Find.{get_member}
-use Rattle.erd_tables.specs.Classes.{role_of_class}
+use Rattle.erd_tables.specs.Classes.{role_of_class, family_of_class}
 use Rattle.erd_tables.specs.Rows.{rows_of_class}
 use Rattle.erd_tables.specs.Table.{kind_of_identity, kind_of_member}
 use Rattle.erd_tables.specs.declared.class.Class.{Class}
@@ -12,18 +12,19 @@ use Rattle.erd_tables.specs.declared.class.Class.TheVariants as class
 use Rattle.erd_tables.specs.declared.class.Family.{Family}
 use Rattle.erd_tables.specs.declared.class.Family.TheVariants as family
 use Rattle.erd_tables.specs.declared.class.Role.TheVariants as role
+use Rattle.erd_tables.specs.declared.class.Role.{Role}
 use Rattle.erd_tables.specs.declared.member.MemberKind.{MemberKind}
 use Rattle.erd_tables.specs.declared.member.MemberKind.TheVariants as kind
 use Rattle.erd_check.specs.Values.{entries_at, entries_of, list_of_items}
 use Rattle.erd_check.proofs.Entries.{entries_in}
-use Rattle.erd_check.proofs.Exact.{text_exact}
+use Rattle.erd_check.proofs.Exact.{text_exact, both_true}
 use Rattle.erd_check.proofs.Rising.{Has}
 use Rattle.erd_check.proofs.TableKinds.{kind_of_id, kind_of_name}
-use Rattle.erd_meaning.proofs.accepted.Skeleton.{Skeleton, values_in_elections}
-use Rattle.erd_meaning.specs.Objects.{elections, objects, placed_entries}
+use Rattle.erd_meaning.proofs.accepted.Skeleton.{Skeleton, values-placed_entries, values_in_elections}
+use Rattle.erd_meaning.specs.Objects.{elections, objects, placed_entries, report_of}
+use Rattle.erd_meaning.specs.Keys.{has_keys}
 use Rattle.erd_meaning.proofs.meanings.SelectionKinds.{kind_of_type}
 use Rattle.erd_normal.proofs.lists.ListParts.{IsPart, part_flat, part_self}
-use Rattle.erd_normal.proofs.unique.FamilyArrays.{values_in_report}
 
 -- the name of the member that holds the objects of a family
 abbrev pub family_name : Family → List ℕ
@@ -37,44 +38,71 @@ family_name family.Contest = codes "Contest"
 family_name family.Style = codes "BallotStyle"
 family_name family.Selection = codes "ContestSelection"
 
--- a member of this kind has this name, if it holds objects of a family or the elections
-abbrev is_named : List ℕ → MemberKind → Bool
-is_named name (kind.Keyed f) = bytes_eq name (family_name f)
-is_named name kind.Elections = bytes_eq name (codes "Election")
-is_named name k = true
+-- objects with this role hold those of the family
+abbrev pub holds : Role → Family → Bool
+holds role.Report family.Unit = true
+holds role.Report family.Party = true
+holds role.Report family.Person = true
+holds role.Report family.Office = true
+holds role.Report family.Header = true
+holds role.Election family.Candidate = true
+holds role.Election family.Contest = true
+holds role.Election family.Style = true
+holds (role.OfFamily family.Contest) family.Selection = true
+holds r f = false
 
-named_rows : (c : Class) → list_all (λ m. is_named m.name m.kind) (rows_of_class c) ≡ true
-named_rows class.ElectionReport = refl
-named_rows c = refl
+abbrev pub is_report_role : Role → Bool
+is_report_role role.Report = true
+is_report_role r = false
 
-named_identity : (c : Class) (name : List ℕ) → is_named name (kind_of_identity c) ≡ true
-named_identity class.ElectionReport name = refl
-named_identity c name = refl
+-- what the table says of a member of this kind
+abbrev pub is_home : Class → List ℕ → MemberKind → Bool
+is_home c n (kind.Keyed f) = holds (role_of_class c) f && bytes_eq n (family_name f)
+is_home c n kind.Elections = is_report_role (role_of_class c) && bytes_eq n (codes "Election")
+is_home c n kind.Identity = is_some (family_of_class c) && bytes_eq n (codes "@id")
+is_home c n (kind.Many f) = has_keys f
+is_home c n k = true
 
-holds_objects : (c : Class) (name : List ℕ) → is_named name (kind_of_member c name) ≡ true
-holds_objects c name = at (bytes_eq name (codes "@type")) refl (bytes_eq name (codes "@id")) refl
+home_rows : (c : Class) → list_all (λ row. is_home c row.name row.kind) (rows_of_class c) ≡ true
+home_rows class.ElectionReport = refl
+home_rows c = refl
+
+home_identity : (c : Class) → is_home c (codes "@id") (kind_of_identity c) ≡ true
+home_identity class.ElectionReport = refl
+home_identity c = refl
+
+pub home : (c : Class) (name : List ℕ) → is_home c name (kind_of_member c name) ≡ true
+home c name = at (bytes_eq name (codes "@type")) refl (bytes_eq name (codes "@id")) refl
   where
-    at : (type : Bool) → bytes_eq name (codes "@type") ≡ type → (id : Bool) → bytes_eq name (codes "@id") ≡ id → is_named name (kind_of_member c name) ≡ true
-    at true is id is' = ap (is_named name) (ap (kind_of_member c) (text_exact name (codes "@type") is) ∙ kind_of_type c)
-    at false is true is' = ap (is_named name) (ap (kind_of_member c) (text_exact name (codes "@id") is') ∙ kind_of_id c) ∙ named_identity c name
+    at : (type : Bool) → bytes_eq name (codes "@type") ≡ type → (id : Bool) → bytes_eq name (codes "@id") ≡ id → is_home c name (kind_of_member c name) ≡ true
+    at true is id is' = ap (is_home c name) (ap (kind_of_member c) (text_exact name (codes "@type") is) ∙ kind_of_type c)
+    at false is true is' =
+        subst (λ n. is_home c n (kind_of_member c n) ≡ true) (sym (text_exact name (codes "@id") is')) (ap (is_home c (codes "@id")) (kind_of_id c) ∙ home_identity c)
     at false is false is' =
-        kind_of_name (λ m. is_named m.name m.kind) (is_named name) c name is is' (named_rows c) (λ m h e. subst (λ n. is_named n m.kind ≡ true) (sym (text_exact name m.name e)) h) refl refl
+        kind_of_name (λ m. is_home c m.name m.kind) (is_home c name) c name is is' (home_rows c) (λ m h e. subst (λ n. is_home c n m.kind ≡ true) (sym (text_exact name m.name e)) h) refl refl
+
+keyed_home : (c : Class) (name : List ℕ) (f : Family) → kind_of_member c name ≡ kind.Keyed f → (holds (role_of_class c) f ≡ true) × (bytes_eq name (family_name f) ≡ true)
+keyed_home c name f is = both_true (holds (role_of_class c) f) (bytes_eq name (family_name f)) (subst (λ k. is_home c name k ≡ true) is (home c name))
 
 pub keyed_name : (c : Class) (name : List ℕ) (f : Family) → kind_of_member c name ≡ kind.Keyed f → name ≡ family_name f
-keyed_name c name f is = text_exact name (family_name f) (subst (λ k. is_named name k ≡ true) is (holds_objects c name))
+keyed_name c name f is = text_exact name (family_name f) (keyed_home c name f is).1
 
 pub elections_name : (c : Class) (name : List ℕ) → kind_of_member c name ≡ kind.Elections → name ≡ codes "Election"
-elections_name c name is = text_exact name (codes "Election") (subst (λ k. is_named name k ≡ true) is (holds_objects c name))
+elections_name c name is =
+    text_exact name (codes "Election") (both_true (is_report_role (role_of_class c)) (bytes_eq name (codes "Election")) (subst (λ k. is_home c name k ≡ true) is (home c name))).1
 
 -- contests alone hold selections
 pub contest_of_selections : (c : Class) (f : Family) → role_of_class c ≡ role.OfFamily f → kind_of_member c (family_name family.Selection) ≡ kind.Keyed family.Selection → f ≡ family.Contest
-contest_of_selections class.CandidateContest f r is = cc
-contest_of_selections class.BallotMeasureContest f r is = cc
-contest_of_selections class.RetentionContest f r is = cc
-contest_of_selections class.PartyContest f r is = cc
-contest_of_selections c f r is = cc
+contest_of_selections c f r is = at f (subst (λ q. holds q family.Selection ≡ true) r (keyed_home c (family_name family.Selection) family.Selection is).0)
+  where
+    at : (f : Family) → holds (role.OfFamily f) family.Selection ≡ true → f ≡ family.Contest
+    at family.Contest e = refl
+    at f e = cc
 
 -- ---- the objects of families
+
+values_in_report : (t : Data) (s : Skeleton t) (name : List ℕ) → map (λ o. o.value) (placed_entries name (report_of t)) ≡ entries_in (get_member name s.ms)
+values_in_report t s name = values-placed_entries name (report_of t) ∙ ap (entries_at name) s.is_object
 
 pub report_objects : (t : Data) (s : Skeleton t) (f : Family) (d : Data) → kind_of_member class.ElectionReport (family_name f) ≡ kind.Keyed f → get_member (family_name f) s.ms ≡ Some d
     → map (λ o. o.value) (objects f t) ≡ entries_of d

@@ -42,10 +42,6 @@ module _ (π : Preference) (t : Data) (accepted : IsAccepted π t)
           (asked_inside_object (Object role.Content) role.Content ms class.OrderedContest (codes "ContestId") v of_role among refl is) in
           (v, is, reference_refers π t accepted family.Contest v inside)
 
-  -- the text of the reference
-  pub contest_text : text_at (codes "ContestId") (object ms) ≡ contest_named.2.0
-  contest_text = ap (λ o. unwrap_or (option_and_then as_str o) []) contest_named.1 ∙ ap text_of contest_named.2.1
-
   -- a reference names a selection of the contest
   abbrev pub IsChosen : Data → Type 0
   IsChosen e = Refers t family.Selection e × (is_selection_in contest_named.2.2.0 (text_of e) ≡ true)

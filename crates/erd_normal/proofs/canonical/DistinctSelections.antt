@@ -21,7 +21,7 @@ use Rattle.erd_meaning.proofs.accepted.Standing.{flat-has, one_named, stands}
 use Rattle.erd_normal.specs.code.NormalTree.{by_name}
 use Rattle.erd_meaning.proofs.orders.DistinctEntries.{distinct_from_one_place, distinct_map}
 use Rattle.erd_meaning.proofs.orders.RisingSets.{has_from_In}
-use Rattle.erd_normal.proofs.unique.Selections.{has_name}
+use Rattle.erd_normal.proofs.meaning.ObjectRecords.{has_name}
 use Rattle.erd_meaning.proofs.accepted.Skeleton.{values-placed_from}
 
 placed_at : (p : List Step) (n : ℕ) (ds : List Data) (i : ℕ) (o : Placed) → slice_get (placed_from p n ds) i ≡ Some o → o.place ≡ p ++ At (n + i) ∷ []

@@ -14,10 +14,11 @@ use Rattle.erd_meaning.specs.SelectionNames.{rising_list}
 use Rattle.erd_meaning.proofs.accepted.References.{Has-Contains, option_map-Some}
 use Rattle.erd_meaning.proofs.accepted.Skeleton.{values-placed_entries}
 use Rattle.erd_meaning.proofs.accepted.Standing.{flat-has}
+use Rattle.erd_meaning.proofs.orders.RisingAlike.{all_rising}
 use Rattle.erd_normal.specs.Canonical.{HasCanonicalIds, canonical_selection_id}
 use Rattle.erd_meaning.specs.Lookups.{rank_of}
 use Rattle.erd_normal.specs.code.NormalTree.{by_name, normal_selection, normal_tree}
-use Rattle.erd_normal.proofs.lists.BuiltLists.{all_map, all_rising}
+use Rattle.erd_normal.proofs.lists.BuiltLists.{all_map}
 use Rattle.erd_normal.proofs.built.NormalGets.{id_of_built_selection}
 use Rattle.erd_normal.proofs.built.LeastKeys.{key_of_object}
 use Rattle.erd_normal.proofs.canonical.NormalKeys.{IsClassed, ids_by_rank, object_classed, object_from, rank_kept}

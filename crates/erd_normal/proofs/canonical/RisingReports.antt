@@ -1,5 +1,5 @@
 -- The sets of an accepted report in rising order: they rise strictly, and positions are ranks.
-use Rattle.std.proofs.Common.{◌≡◌, ℕ, List, map, Bool, true, codes, Some, slice_get, refl, sym, ap, ap₂, ◌∙◌}
+use Rattle.std.proofs.Common.{◌≡◌, ℕ, List, map, Bool, true, codes, Some, slice_get, refl, sym, ap₂, ◌∙◌}
 use Rattle.std.specs.Cmp.{IsTotalOrder}
 use Rattle.std.specs.Cmp.Lexicographic.{options_total}
 use Rattle.std.specs.List.Sorted.{IsStrictlySortedBy}
@@ -24,9 +24,9 @@ use Rattle.erd_meaning.specs.Keys.{Preference, has_keys, key_cmp, key_of}
 use Rattle.erd_meaning.specs.Objects.{Placed, objects}
 use Rattle.erd_meaning.specs.code.Orders.{compact_cmp_total, key_cmp_total, name_cmp_total}
 use Rattle.erd_meaning.specs.SelectionNames.{compact_cmp, key_named, name_cmp, name_of, rising_list}
-use Rattle.erd_normal.specs.Canonical.{canonical_id, canonical_selection_id}
+use Rattle.erd_normal.specs.Canonical.{canonical_selection_id}
 use Rattle.erd_meaning.specs.Lookups.{rank_of}
-use Rattle.erd_normal.specs.code.NormalTree.{by_key, by_name, id_of_key, id_of_selection, rank_of_name, reference_cmp}
+use Rattle.erd_normal.specs.code.NormalTree.{by_key, by_name, id_of_selection, rank_of_name, reference_cmp}
 use Rattle.erd_normal.proofs.texts.CompactTexts.{compact_exact}
 use Rattle.erd_meaning.proofs.accepted.Phases.{no_identity_fault}
 use Rattle.erd_meaning.proofs.accepted.DistinctKeys.{elections_distinct, values_distinct}
@@ -67,10 +67,6 @@ pub object_ranks : (π : Preference) (t : Data) → IsAccepted π t → (f : Fam
 object_ranks π t accepted f i d keyed e =
     sym (rank_map (λ (o : Placed). o.value) (key_of π) (option_cmp key_cmp) (key_of π d) (objects f t))
     ∙ rank_by_at (key_of π) (option_cmp key_cmp) (options_total key_cmp_total) (map (λ o. o.value) (objects f t)) i d (values_distinct π t (no_identity_fault π t accepted) f keyed) e
-
--- the `@id` of the object at a position
-pub object_ids : (π : Preference) (t : Data) → IsAccepted π t → (f : Family) (i : ℕ) (d : Data) → has_keys f ≡ true → slice_get (rising_list (by_key π) (map (λ o. o.value) (objects f t))) i ≡ Some d → id_of_key π t f (key_of π d) ≡ canonical_id f i
-object_ids π t accepted f i d keyed e = ap (canonical_id f) (object_ranks π t accepted f i d keyed e)
 
 -- ---- selections of a contest
 

@@ -1,5 +1,5 @@
 -- Whole reports that are canonical, and the canonical forms of two, by tests that compute.
-use Rattle.std.proofs.Common.{◌≡◌, List, [], ◌∷◌, Bool, true, false, not, ◌&&◌, true≢false, Ordering, Less, is_lt, Option, Some, None, length, map, refl, sym, subst, arith}
+use Rattle.std.proofs.Common.{◌≡◌, List, [], ◌∷◌, Bool, true, false, not, ◌&&◌, Ordering, Less, is_lt, Option, Some, None, length, map, refl, subst, arith}
 use Rattle.std.specs.List.{AllByRecursion, list_all}
 use Rattle.std.specs.List.Sorted.{IsStrictlySortedBy}
 use Rattle.std.specs.Option.{option_cmp}
@@ -18,6 +18,7 @@ use Rattle.erd_check.proofs.AllAsked.{AskedPlace, all_asked, tested_at}
 use Rattle.erd_check.proofs.Deciding.{faults_found, is_tree, no_fault_listed, tree_sound}
 use Rattle.erd_check.proofs.Reasons.{and_true}
 use Rattle.erd_check.proofs.Reports.{tree_of, one_unit, small_ballot, small_ballot_canonical}
+use Rattle.erd_check.proofs.Whole.{not_true}
 use Rattle.erd_meaning.specs.Accepted.{IsAccepted}
 use Rattle.erd_meaning.specs.Keys.{key_cmp}
 use Rattle.erd_meaning.specs.SelectionNames.{compact_cmp, name_cmp, name_of}
@@ -90,16 +91,12 @@ is_in_form t (Some k) d = not (is_empty_array d) && rises_as t k (entries_of d)
 abbrev are_in_form : Data → Bool
 are_in_form t = list_all {X = AskedPlace} (λ x. is_in_form t (kind_wanted x.1.want) x.1.value) (all_asked t)
 
-not_false : (b : Bool) → not b ≡ true → b ≡ false
-not_false true e = absurd (true≢false (sym e))
-not_false false e = refl
-
 in_form : (t : Data) → are_in_form t ≡ true → (p : List Step) (a : Asked) (k : MemberKind) → asked_at t p ≡ Some a → kind_wanted a.want ≡ Some k
     → (is_empty_array a.value ≡ false) × RisesAs None t k (entries_of a.value)
 in_form t test p a k at wanted =
     let here : is_in_form t (kind_wanted a.want) a.value ≡ true = tested_at (λ x. is_in_form t (kind_wanted x.1.want) x.1.value) t test p a at in
     let both = and_true (not (is_empty_array a.value)) (rises_as t k (entries_of a.value)) (subst (λ o. is_in_form t o a.value ≡ true) wanted here) in
-    (not_false (is_empty_array a.value) both.0, rising_as t k (entries_of a.value) both.1)
+    (not_true (is_empty_array a.value) both.0, rising_as t k (entries_of a.value) both.1)
 
 no_empty_array : (t : Data) → are_in_form t ≡ true → HasNoEmptyArray t
 no_empty_array t test p a k at wanted = (in_form t test p a k at wanted).0

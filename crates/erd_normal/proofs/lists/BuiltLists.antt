@@ -1,5 +1,5 @@
 -- Lists that are put in order and built entry by entry, and the arrays of them.
-use Rattle.std.proofs.Common.{◌≡◌, ◌≤◌, ℕ, zero, suc, List, [], ◌∷◌, map, length, Bool, true, false, ◌==◌, if◌then◌else◌, is_lt, Ordering, Option, Some, None, refl, ap, ◌∙◌, subst, arith}
+use Rattle.std.proofs.Common.{◌≡◌, ◌≤◌, ℕ, zero, suc, List, [], ◌∷◌, map, length, Bool, true, false, ◌==◌, if◌then◌else◌, Option, Some, None, refl, ap, ◌∙◌, subst, arith}
 use Rattle.std.specs.Bool.{⊤}
 use Rattle.std.specs.List.{AllByRecursion}
 use Rattle.serde_json.specs.Data.{Data, array, Items, no_items, item, items_depth, depth}
@@ -9,7 +9,6 @@ use Rattle.erd_check.specs.Trees.{IsTree, AreTrees}
 use Rattle.erd_check.specs.Values.{entries_of, list_of_items}
 use Rattle.erd_check.specs.Faults.{is_array, is_empty_array}
 use Rattle.erd_check.proofs.Lists.{list_of_items-items_of}
-use Rattle.erd_meaning.specs.SelectionNames.{with_inserted, rising_list}
 use Rattle.erd_normal.specs.code.NormalTree.{array_of, unless_no_entry}
 
 -- ---- any lists
@@ -22,19 +21,6 @@ IfSome P (Some x) = P x
 pub if_some_is : {A : Type 0} (P : A → Type 0) (o : Option A) (x : A) → IfSome P o → o ≡ Some x → P x
 if_some_is P None x h e = cc
 if_some_is P (Some y) x h e = let same : y ≡ x = cc in subst P same h
-
-pub all_inserted : {A : Type 0} (P : A → Type 0) (cmp : A → A → Ordering) (x : A) (ys : List A) → P x → AllByRecursion P ys → AllByRecursion P (with_inserted cmp x ys)
-all_inserted P cmp x [] h all = (h, tt)
-all_inserted P cmp x (y ∷ ys) h all = at (is_lt (cmp y x)) (all_inserted P cmp x ys h all.1)
-  where
-    at : (b : Bool) → AllByRecursion P (with_inserted cmp x ys) → AllByRecursion P (if b then y ∷ with_inserted cmp x ys else x ∷ (y ∷ ys))
-    at true later = (all.0, later)
-    at false later = (h, all)
-
--- the entries of a list put in order are its entries
-pub all_rising : {A : Type 0} (P : A → Type 0) (cmp : A → A → Ordering) (xs : List A) → AllByRecursion P xs → AllByRecursion P (rising_list cmp xs)
-all_rising P cmp [] all = tt
-all_rising P cmp (x ∷ xs) all = all_inserted P cmp x (rising_list cmp xs) all.0 (all_rising P cmp xs all.1)
 
 pub all_map : {A : Type 0} {B : Type 0} (P : A → Type 0) (Q : B → Type 0) (f : A → B) (xs : List A) → ((x : A) → P x → Q (f x)) → AllByRecursion P xs → AllByRecursion Q (map f xs)
 all_map P Q f [] each all = tt
@@ -99,3 +85,8 @@ given_unless d v v' = at (is_empty_array d) refl
     at : (b : Bool) → is_empty_array d ≡ b → (if b then None else Some v) ≡ Some v' → (is_empty_array d ≡ false) × (v ≡ v')
     at true is e = cc
     at false is e = let same : v ≡ v' = cc in (is, same)
+
+-- the entries of an array make it again
+pub items_again : (ds : Items) → items_of (list_of_items ds) ≡ ds
+items_again no_items = refl
+items_again (item d ds) = ap (item d) (items_again ds)

@@ -3,7 +3,7 @@ use Rattle.std.proofs.Common.{◌≡◌, List, [], ◌∷◌, map, Ordering, Les
 use Rattle.std.specs.Cmp.{IsTotalOrder, on_total}
 use Rattle.std.specs.List.Sorted.{IsStrictlySortedBy}
 use Rattle.erd_check.proofs.Positions.{all_by_entry, has_mapped}
-use Rattle.erd_check.proofs.Rising.{Has, all-Has, rising_unique}
+use Rattle.erd_check.proofs.Rising.{all-Has, rising_unique}
 use Rattle.erd_meaning.proofs.orders.Reordered.{reordered-has, reordered_back}
 use Rattle.erd_normal.proofs.lists.Matched.{Matched, paired_map}
 use Rattle.erd_normal.proofs.lists.Paired.{Paired}

@@ -1,6 +1,5 @@
--- What is kept of a list whose entries are numbered.
-use Rattle.std.proofs.Common.{◌≡◌, ℕ, suc, ◌+◌, inl, inr, List, [], ◌∷◌, ◌++◌, map, filter, length, Bool, true, false, cond, Some, slice_get, refl, sym, ap, ◌∙◌, subst, arith}
-use Rattle.std.proofs.lemmas.List.Elements.{filter-append}
+-- What a test keeps of a list, and an entry of a list whose entries are numbered.
+use Rattle.std.proofs.Common.{◌≡◌, ℕ, suc, ◌+◌, inl, inr, List, [], ◌∷◌, map, filter, Bool, true, false, cond, Some, slice_get, refl, sym, ap, ◌∙◌, subst, arith}
 use Rattle.std.specs.List.{enumerate_from}
 use Rattle.erd_check.proofs.Rising.{Has, Has-cases, here, later}
 
@@ -12,26 +11,6 @@ kept_map {A} f q (x ∷ xs) = at (q (f x)) (kept_map f q xs)
     at : (b : Bool) → filter q (map f xs) ≡ map f (filter (λ x. q (f x)) xs) → cond b (f x ∷ filter q (map f xs)) (filter q (map f xs)) ≡ map f (cond b (x ∷ filter (λ x. q (f x)) xs) (filter (λ x. q (f x)) xs))
     at true h = ap (λ ys. f x ∷ ys) h
     at false h = h
-
--- without the numbers
-pub kept_numbered : {A : Type 0} (q : A → Bool) (n : ℕ) (xs : List A) → map (λ (o : ℕ × A). o.1) (filter (λ o. q o.1) (enumerate_from n xs)) ≡ filter q xs
-kept_numbered q n [] = refl
-kept_numbered {A} q n (x ∷ xs) = at (q x) (kept_numbered q (n + 1) xs)
-  where
-    at : (b : Bool) → map (λ (o : ℕ × A). o.1) (filter (λ o. q o.1) (enumerate_from (n + 1) xs)) ≡ filter q xs
-        → map (λ (o : ℕ × A). o.1) (cond b ((n, x) ∷ filter (λ o. q o.1) (enumerate_from (n + 1) xs)) (filter (λ o. q o.1) (enumerate_from (n + 1) xs))) ≡ cond b (x ∷ filter q xs) (filter q xs)
-    at true h = ap (λ ys. x ∷ ys) h
-    at false h = h
-
--- all pass
-pub all_pass : {A : Type 0} (q : A → Bool) (xs : List A) → ((x : A) → Has xs x → q x ≡ true) → filter q xs ≡ xs
-all_pass q [] each = refl
-all_pass q (x ∷ xs) each = rw (each x here) (ap (λ ys. x ∷ ys) (all_pass q xs (λ y h. each y (later h))))
-
--- none passes
-pub none_passes : {A : Type 0} (q : A → Bool) (xs : List A) → ((x : A) → Has xs x → q x ≡ false) → filter q xs ≡ []
-none_passes q [] each = refl
-none_passes q (x ∷ xs) each = rw (each x here) (none_passes q xs (λ y h. each y (later h)))
 
 -- what is kept stands in the list
 pub kept_has : {A : Type 0} (q : A → Bool) (xs : List A) (x : A) → Has (filter q xs) x → Has xs x
@@ -52,14 +31,3 @@ numbered_stands {A} n (x ∷ xs) o h = elim (Has-cases (n, x) o (enumerate_from 
       let next : rest.0 + (n + 1) ≡ suc rest.0 + n = omega arith in
       (suc rest.0, rest.1 ∙ next, rest.2)
 ]
-
-numbered_append : {A : Type 0} (n : ℕ) (xs : List A) (y : A) → enumerate_from n (xs ++ y ∷ []) ≡ enumerate_from n xs ++ (n + length xs, y) ∷ []
-numbered_append n [] y = let none : n ≡ n + 0 = omega arith in ap (λ m. (m, y) ∷ []) none
-numbered_append n (x ∷ xs) y =
-    let next : n + 1 + length xs ≡ n + length (x ∷ xs) = omega arith in
-    ap (λ os. (n, x) ∷ os) (numbered_append (n + 1) xs y ∙ ap (λ m. enumerate_from (n + 1) xs ++ (m, y) ∷ []) next)
-
--- one entry more
-pub kept_more : {A : Type 0} (q : ℕ × A → Bool) (n : ℕ) (xs : List A) (y : A)
-    → filter q (enumerate_from n (xs ++ y ∷ [])) ≡ filter q (enumerate_from n xs) ++ cond (q (n + length xs, y)) ((n + length xs, y) ∷ []) []
-kept_more q n xs y = ap (filter q) (numbered_append n xs y) ∙ filter-append q (enumerate_from n xs) ((n + length xs, y) ∷ [])

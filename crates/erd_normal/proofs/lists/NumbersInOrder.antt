@@ -23,7 +23,7 @@ swaps_reordered xs (p ∷ ps) below =
     let long : length xs ≡ length (apply_swaps xs ps) = length-reordered before in
     in_turn before (reordered_swap (apply_swaps xs ps) p.0 p.1 (omega (arith, below.0, long)) (omega (arith, below.1, long)))
 
-permuted_reordered : {A : Type 0} (xs ys : List A) → IsPermutation xs ys → Reordered xs ys
+pub permuted_reordered : {A : Type 0} (xs ys : List A) → IsPermutation xs ys → Reordered xs ys
 permuted_reordered xs ys h = subst (Reordered xs) (sym h.is) (swaps_reordered xs h.moves h.below)
 
 -- ---- a list that never falls is in order

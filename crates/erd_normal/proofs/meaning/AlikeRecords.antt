@@ -1,13 +1,11 @@
 -- Records that are alike: objects of one class whose members mean the same, and selections of one name.
 use mathlib.Core.Path.{fun_ext}
-use Rattle.std.proofs.Common.{◌≡◌, ℕ, List, Bool, true, false, if◌then◌else◌, Equal, Option, Some, None, option_and_then, option_map, refl, sym, ap, ap₂, ◌∙◌}
+use Rattle.std.proofs.Common.{◌≡◌, ℕ, List, Bool, true, false, Equal, Option, Some, None, option_and_then, option_map, refl, sym, ap, ap₂, ◌∙◌}
 use Rattle.std.proofs.lemmas.Cmp.{tied_itself}
 use Rattle.std.specs.Cmp.Lexicographic.{options_total}
 use Rattle.std.specs.Option.{option_cmp}
 use Rattle.std.specs.Ordering.{is_eq}
 use Rattle.serde_json.specs.Data.{Data}
-use Rattle.serde_json.specs.Find.{get}
-use Rattle.erd_tables.specs.Table.{kind_of_member}
 use Rattle.erd_tables.specs.declared.class.Class.{Class}
 use Rattle.erd_tables.specs.declared.class.Family.TheVariants as family
 use Rattle.erd_tables.specs.declared.class.Role.{Role}
@@ -18,12 +16,12 @@ use Rattle.erd_meaning.specs.Keys.{Preference}
 use Rattle.erd_meaning.specs.Meaning.{PlainValue, Record, a_plain}
 use Rattle.erd_meaning.specs.NameParts.{NameParts}
 use Rattle.erd_meaning.specs.code.Orders.{name_cmp_total}
-use Rattle.erd_meaning.specs.Records.{is_in_envelope, member_value, plain_member, plain_value, record_with}
+use Rattle.erd_meaning.specs.Records.{member_value, record_with}
 use Rattle.erd_meaning.specs.SelectionNames.{name_cmp, name_of}
 use Rattle.erd_meaning.proofs.orders.EqualNames.{equal_names, options_exact}
 use Rattle.erd_meaning.proofs.meanings.SelectionKinds.{is_selections}
 use Rattle.erd_normal.specs.code.NormalTree.{by_name}
-use Rattle.erd_normal.proofs.unique.Records.{record_with-Some}
+use Rattle.erd_normal.proofs.meaning.ObjectRecords.{record_with-Some}
 
 -- ---- records
 
@@ -42,16 +40,6 @@ record_alike {V} m n r e d c its own same =
 pub nothing_of : {A B : Type 0} (f : A → Option B) (o : Option A) → ((x : A) → f x ≡ None) → option_and_then f o ≡ None
 nothing_of f None none = refl
 nothing_of f (Some x) none = none x
-
-outside : {A : Type 0} (b : Bool) (x y : Option A) → x ≡ y → (if b then None else x) ≡ (if b then None else y)
-outside true x y same = refl
-outside false x y same = same
-
--- members that mean the same, in or out of the envelope
-pub member_alike : (π : Preference) (t u d e : Data) (c : Class) (name : List ℕ) → option_and_then (plain_value π u (kind_of_member c name)) (get name e) ≡ option_and_then (plain_value π t (kind_of_member c name)) (get name d)
-    → plain_member π u e c name ≡ plain_member π t d c name
-member_alike π t u d e c name same =
-    outside (is_in_envelope c name) (option_and_then (plain_value π u (kind_of_member c name)) (get name e)) (option_and_then (plain_value π t (kind_of_member c name)) (get name d)) same
 
 -- a member that is no array of selections means what it means by itself
 pub member_plain : (π : Preference) (t : Data) (k : MemberKind) (found : Option Data) (plain : Option PlainValue) → is_selections k ≡ false → member_value π t k found plain ≡ option_map a_plain plain

@@ -11,13 +11,6 @@ use Rattle.std.specs.Option.{option_map_or}
 abbrev pub in_part : {T A : Type 0} → (T → List A) → List T → ℕ → List A
 in_part items parts i = option_map_or items (slice_get parts i) []
 
--- one part more, without entries
-pub part_added : {T A : Type 0} (items : T → List A) (parts : List T) (new : T) (i : ℕ) → items new ≡ [] → in_part items (parts ++ new ∷ []) i ≡ in_part items parts i
-part_added items [] new zero none = none
-part_added items [] new (suc i) none = refl
-part_added items (p ∷ parts) new zero none = refl
-part_added items (p ∷ parts) new (suc i) none = part_added items parts new i none
-
 pub part_set : {T A : Type 0} (items : T → List A) (parts : List T) (i : ℕ) (new : T) → i < length parts → in_part items (slice_set parts i new) i ≡ items new
 part_set items [] i new low = absurd (omega arith)
 part_set items (p ∷ parts) zero new low = refl

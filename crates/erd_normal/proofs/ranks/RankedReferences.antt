@@ -46,10 +46,6 @@ module _ (π : Preference) (t : Data) (f : Family) where
   abbrev lent_rank : Option Key → Option ℕ
   lent_rank k = option_map (λ k. rank_of π t f (Some k)) k
 
-  pub rank_lent : (k : Option Key) (n : ℕ) → lent_rank k ≡ Some n → n ≡ rank_of π t f k
-  rank_lent None n e = cc
-  rank_lent (Some k) n e = cc
-
   pub none_lent : (k : Option Key) → lent_rank k ≡ None → 0 ≡ rank_of π t f k
   none_lent None e = sym (none_lesser π (objects f t))
   none_lent (Some k) e = cc

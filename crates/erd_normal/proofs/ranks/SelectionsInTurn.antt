@@ -36,11 +36,6 @@ value_there [] i d e = cc
 value_there (x ∷ ds) zero d e = let same : x ≡ d = cc in sym same
 value_there (x ∷ ds) (suc i) d e = value_there ds i d e
 
-pub none_below_end : {A : Type 0} (xs : List A) (i : ℕ) → i < length xs → slice_get xs i ≡ None → ⊥
-none_below_end [] i low e = absurd (omega arith)
-none_below_end (x ∷ xs) zero low e = cc
-none_below_end (x ∷ xs) (suc i) low e = none_below_end xs i (omega arith) e
-
 module _ (t : Data) where
   selections_are : map (λ o. o.value) (objects family.Selection t) ≡ flat_map selections_of (contest_values t)
   selections_are = values-placed_flat (codes "ContestSelection") (contests t)

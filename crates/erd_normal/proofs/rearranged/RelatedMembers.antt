@@ -16,7 +16,7 @@ use Rattle.erd_check.specs.Values.{entries_at, entries_of}
 use Rattle.erd_check.specs.Wants.{asked, class_of_object, entry_want, is_compared_set, member_want, scope_inside, want_of_name}
 use Rattle.erd_check.specs.declared.want.Scope.TheVariants as scope
 use Rattle.erd_check.specs.declared.want.Want.{Want}
-use Rattle.erd_check.specs.declared.want.Want.TheVariants.{ClassText, Member, Object}
+use Rattle.erd_check.specs.declared.want.Want.TheVariants.{Member, Object}
 use Rattle.erd_check.proofs.Entries.{list_of_items-place}
 use Rattle.erd_check.proofs.ObjectsAt.{ObjectAt, ObjectIn}
 use Rattle.erd_check.proofs.Rising.{Has}
@@ -26,6 +26,7 @@ use Rattle.erd_normal.specs.Rearranged.{is_id_text}
 use Rattle.erd_normal.proofs.lists.Matched.{Both, both, neither, Matched, matched_none, matched_within}
 use Rattle.erd_normal.proofs.rearranged.Alike.{Alike}
 use Rattle.erd_normal.proofs.rearranged.AlikeParts.{alike_array, alike_member}
+use Rattle.erd_normal.proofs.same.Types.{asked_of_name}
 
 -- ---- arrays
 
@@ -79,16 +80,13 @@ module _ (ρ : List ℕ → List ℕ) (t : Data) where
     scope_known w q c ms of_role among = ap (scope.Members q) among
     scope_known w q c ms of_label among = ap (scope.Members role.Label) among
 
-    want_known : (q : Role) (c : Class) (name : List ℕ) → bytes_eq name (codes "@type") ≡ false → want_of_name (scope.Members q (Some c)) name ≡ Some (member_want c name)
-    want_known q c name other = ap (λ b. if b then Some (ClassText q) else Some (member_want c name)) other
-
     -- under each name but `@type` stand values that are related, or none
     pub related_member : (w : Want) (q : Role) (c : Class) (ms : Members) → ObjectAt t w q c ms → (e : Data) → Alike ρ (Some w) (object ms) e
         → (name : List ℕ) → bytes_eq name (codes "@type") ≡ false → Both (Related ρ t (member_want c name)) (get_member name ms) (get name e)
     related_member w q c ms a e h name other =
         subst (λ x. Both (Related ρ t (member_want c name)) (get_member name ms) (get name x)) (sym h.1)
         (at (get_member name ms) (get_member name h.0) refl
-        (subst (λ o. Both (Alike ρ o) (get_member name ms) (get_member name h.0)) (ap (λ s. want_of_name s name) (scope_known w q c ms a.asks a.among) ∙ want_known q c name other)
+        (subst (λ o. Both (Alike ρ o) (get_member name ms) (get_member name h.0)) (ap (λ s. want_of_name s name) (scope_known w q c ms a.asks a.among) ∙ asked_of_name q c name other)
         (alike_member ρ (scope_inside w (object ms)) ms h.0 h.2 name)))
       where
         at : (o p : Option Data) → get_member name ms ≡ o → Both (Alike ρ (Some (member_want c name))) o p → Both (Related ρ t (member_want c name)) o p

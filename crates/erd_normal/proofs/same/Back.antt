@@ -1,8 +1,8 @@
 -- If u says what t says, t says what u says.
-use Rattle.std.proofs.Common.{◌≡◌, List, Option, refl, sym, ap, subst}
+use Rattle.std.proofs.Common.{List, Option, sym, subst}
 use Rattle.std.specs.List.Sorted.{IsPermutation}
 use Rattle.std.proofs.lemmas.List.Sorted.{IsPermutation-sym}
-use Rattle.serde_json.specs.Data.{Data, Items, no_items, item, Members}
+use Rattle.serde_json.specs.Data.{Data, Items, Members}
 use Rattle.serde_json.specs.View.{items_of}
 use Rattle.erd_check.specs.Values.{list_of_items}
 use Rattle.erd_check.specs.Wants.{entry_want}
@@ -10,9 +10,11 @@ use Rattle.erd_check.specs.declared.want.Scope.{Scope}
 use Rattle.erd_check.specs.declared.want.Want.{Want}
 use Rattle.erd_check.proofs.Lists.{list_of_items-items_of}
 use Rattle.erd_normal.proofs.lists.Paired.{Paired, none, more}
+use Rattle.erd_normal.proofs.lists.NumbersInOrder.{permuted_reordered}
+use Rattle.erd_normal.proofs.lists.BuiltLists.{items_again}
 use Rattle.erd_normal.specs.SaysTheSame.{Sides, Same, not_asked, a_null, a_flag, a_number, a_text, an_id, a_list, a_set, an_object, SameEntries, no_entry, one_entry, SameMembers, no_member, in_both, left_only, right_only}
 use Rattle.erd_normal.specs.SameLaws.{SaysBack}
-use Rattle.erd_normal.proofs.same.Lists.{follows, permuted_reordered, reordered_permuted}
+use Rattle.erd_normal.proofs.same.Lists.{follows, reordered_permuted}
 use Rattle.erd_normal.proofs.same.Types.{scope_same}
 
 abbrev pub turned : Sides → Sides
@@ -31,10 +33,6 @@ paired_entries m w (more h rest) = one_entry h (paired_entries m w rest)
 pub paired_flip : {A B : Type 0} {R : A → B → Type 0} {xs : List A} {ys : List B} → Paired R xs ys → Paired (λ y x. R x y) ys xs
 paired_flip none = none
 paired_flip (more r rest) = more r (paired_flip rest)
-
-pub items_again : (ds : Items) → items_of (list_of_items ds) ≡ ds
-items_again no_items = refl
-items_again (item d ds) = ap (item d) (items_again ds)
 
 -- where the entries of the right list are reordered, those of the left one can be
 pub record SetMoved (m : Sides) (w : Option Want) (es ds : Items) : Type 0 where

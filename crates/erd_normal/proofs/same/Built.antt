@@ -14,8 +14,9 @@ use Rattle.erd_meaning.proofs.orders.Reordered.{reordered_back, reordered-has, r
 use Rattle.erd_meaning.proofs.orders.RisingSets.{permuted_rising}
 use Rattle.erd_normal.specs.code.NormalTree.{array_of}
 use Rattle.erd_normal.proofs.lists.Paired.{Paired, none, more}
+use Rattle.erd_normal.proofs.lists.BuiltLists.{items_again}
 use Rattle.erd_normal.specs.SaysTheSame.{Sides, Same, SameEntries, a_list, a_set}
-use Rattle.erd_normal.proofs.same.Back.{items_again, paired_entries}
+use Rattle.erd_normal.proofs.same.Back.{paired_entries}
 
 module _ (m : Sides) (w : Want) (g : Data → Data) where
   -- what is built of each of these says the same

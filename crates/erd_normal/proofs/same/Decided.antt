@@ -21,8 +21,9 @@ use Rattle.erd_normal.specs.Rearranged.{is_id_text}
 use Rattle.erd_meaning.proofs.orders.Reordered.{Reordered, one_kept, two_exchanged, in_turn, reordered_self}
 use Rattle.erd_normal.proofs.examples.EqualTrees.{equal_trees, same_tree}
 use Rattle.erd_normal.proofs.lists.Paired.{Paired, none, more}
+use Rattle.erd_normal.proofs.lists.BuiltLists.{items_again}
 use Rattle.erd_normal.specs.SaysTheSame.{Sides, IsUnused, MayBeAbsent, an_empty_array, of_the_envelope, an_unused_id, is_array_kind, is_envelope, Same, not_asked, a_null, a_flag, a_number, a_text, an_id, a_list, a_set, an_object, SameEntries, no_entry, one_entry, SameMembers, no_member, in_both, left_only, right_only, SaysTheSame}
-use Rattle.erd_normal.proofs.same.Back.{items_again, paired_entries, paired_flip}
+use Rattle.erd_normal.proofs.same.Back.{paired_entries, paired_flip}
 use Rattle.erd_normal.proofs.same.Lists.{follows, reordered_permuted}
 
 -- ---- what may be absent

@@ -1,10 +1,14 @@
 -- The values of a report's objects, family by family, without their places.
-use Rattle.std.proofs.Common.{◌≡◌, ℕ, List, map, flat_map, Less, Equal, codes, sym, ap, ◌∙◌, subst}
+use Rattle.std.proofs.Common.{◌≡◌, ℕ, List, map, flat_map, Less, Equal, codes, sym, ap, ◌∙◌, subst, false, refl}
 use Rattle.std.proofs.lemmas.Cmp.{tied_itself}
+use Rattle.std.specs.Str.{bytes_eq}
 use Rattle.serde_json.specs.Data.{Data}
 use Rattle.erd_tables.specs.Places.{place_cmp}
 use Rattle.erd_tables.specs.declared.class.Family.{Family}
 use Rattle.erd_tables.specs.declared.class.Family.TheVariants as family
+use Rattle.erd_tables.specs.declared.class.Class.TheVariants as class
+use Rattle.erd_tables.specs.declared.member.MemberKind.TheVariants as kind
+use Rattle.erd_tables.specs.Table.{kind_of_member}
 use Rattle.erd_tables.proofs.PlaceOrder.{place_cmp_total}
 use Rattle.erd_check.specs.Values.{entries_at}
 use Rattle.erd_check.proofs.Positions.{has_mapped, map_has}
@@ -53,3 +57,41 @@ placed_value f t o h = subst (λ ds. Has ds o.value) (object_values f t) (has_ma
 -- no object stands before itself
 pub not_before_itself : (o p : Placed) → o ≡ p → IsBefore o p → ⊥
 not_before_itself o p e h = let g : Less ≡ Equal = sym h ∙ ap (λ (x : Placed). place_cmp x.place p.place) e ∙ tied_itself place_cmp_total p.place in cc
+
+-- ---- where the objects of a family stand
+
+-- in an array of the report
+pub record InReport (f : Family) (name : List ℕ) : Type 0 where
+  pub other : bytes_eq name (codes "@type") ≡ false
+  pub keyed : kind_of_member class.ElectionReport name ≡ kind.Keyed f
+  pub are : (t : Data) → objects f t ≡ placed_entries name (report_of t)
+
+-- in an array of each election
+pub record InElections (f : Family) (name : List ℕ) : Type 0 where
+  pub other : bytes_eq name (codes "@type") ≡ false
+  pub keyed : kind_of_member class.Election name ≡ kind.Keyed f
+  pub are : (t : Data) → objects f t ≡ flat_map (placed_entries name) (elections t)
+
+pub units : InReport family.Unit (codes "GpUnit")
+units = record { other = refl; keyed = refl; are = λ t. refl }
+
+pub parties : InReport family.Party (codes "Party")
+parties = record { other = refl; keyed = refl; are = λ t. refl }
+
+pub persons : InReport family.Person (codes "Person")
+persons = record { other = refl; keyed = refl; are = λ t. refl }
+
+pub offices : InReport family.Office (codes "Office")
+offices = record { other = refl; keyed = refl; are = λ t. refl }
+
+pub headers : InReport family.Header (codes "Header")
+headers = record { other = refl; keyed = refl; are = λ t. refl }
+
+pub candidates : InElections family.Candidate (codes "Candidate")
+candidates = record { other = refl; keyed = refl; are = λ t. refl }
+
+pub contests_home : InElections family.Contest (codes "Contest")
+contests_home = record { other = refl; keyed = refl; are = λ t. refl }
+
+pub styles : InElections family.Style (codes "BallotStyle")
+styles = record { other = refl; keyed = refl; are = λ t. refl }

@@ -7,7 +7,7 @@ use Rattle.serde_json.specs.View.{items_of}
 use Rattle.erd_tables.specs.declared.class.Role.TheVariants as role
 use Rattle.erd_tables.specs.declared.place.Step.TheVariants.{Name, At}
 use Rattle.erd_check.specs.Trees.{AreMembers, AreTrees, IsTree}
-use Rattle.erd_check.specs.Values.{list_of_items}
+use Rattle.erd_check.specs.Values.{list_of_items, entries_of}
 use Rattle.erd_check.specs.Wants.{Asked, asked, entry_want, is_compared_set, is_repeated, is_table_set, scope_inside, want_of_name}
 use Rattle.erd_check.specs.declared.want.Scope.{Scope}
 use Rattle.erd_check.specs.declared.want.Want.{Want}
@@ -16,14 +16,15 @@ use Rattle.erd_check.proofs.Entries.{list_of_items-place}
 use Rattle.erd_check.proofs.Lists.{list_of_items-items_of}
 use Rattle.erd_check.proofs.Members.{get_member-first}
 use Rattle.erd_check.proofs.Rising.{Has, here, later}
-use Rattle.erd_check.proofs.Shapes.{Within, Within-root, Within-step}
+use Rattle.erd_check.proofs.Shapes.{Within, Within-root, Within-step, within-tree}
 use Rattle.erd_check.proofs.Whole.{get_member-later}
 use Rattle.erd_normal.specs.Rearranged.{is_id_text}
 use Rattle.erd_normal.proofs.lists.Paired.{Paired, none, more}
+use Rattle.erd_normal.proofs.lists.BuiltLists.{items_again}
 use Rattle.erd_normal.proofs.rearranged.Alike.{Alike, AlikeMembers, AreAlike, IsArranged}
 use Rattle.erd_normal.proofs.rearranged.AlikeParts.{alike_unasked}
 use Rattle.erd_normal.specs.SaysTheSame.{Sides, Same, not_asked, a_null, a_flag, a_number, a_text, an_id, a_list, a_set, an_object, SameEntries, SameMembers, no_member, in_both, SaysTheSame}
-use Rattle.erd_normal.proofs.same.Back.{items_again, paired_entries, paired_flip}
+use Rattle.erd_normal.proofs.same.Back.{paired_entries, paired_flip}
 use Rattle.erd_normal.proofs.same.Lists.{follows, reordered_permuted}
 
 -- each text of an `@id` or a reference of the report comes back
@@ -34,6 +35,27 @@ pub record ComesBack (ρ σ : List ℕ → List ℕ) (t : Data) : Type 0 where
 pub record Stands (t : Data) (w : Want) (d : Data) : Type 0 where
   pub repeated : Bool
   pub inside : Within t (record { want = w; value = d; repeated = repeated })
+
+-- what stands in arrays and objects
+pub entry_stands : (t : Data) (w v : Want) (d : Data) → entry_want w ≡ Some v → Stands t w d → (x : Data) → Has (entries_of d) x → Stands t v x
+entry_stands t w v (array ds) asks st x h =
+    let j = list_of_items-place ds x h in
+    let a : Asked = record { want = w; value = array ds; repeated = st.repeated } in
+    let b : Asked = record { want = v; value = x; repeated = is_compared_set w && is_repeated ds j.0 x } in
+    record { repeated = is_compared_set w && is_repeated ds j.0 x; inside = Within-step t a b (At j.0) st.inside (rw (asks, j.1) refl) }
+entry_stands t w v null asks st x h = elim h [ ]
+entry_stands t w v (boolean b) asks st x h = elim h [ ]
+entry_stands t w v (number n) asks st x h = elim h [ ]
+entry_stands t w v (string s) asks st x h = elim h [ ]
+entry_stands t w v (object ms) asks st x h = elim h [ ]
+
+pub member_stands : (t : Data) (w : Want) (ms : Members) → Stands t w (object ms) → (k : List ℕ) (v : Want) (d : Data) → want_of_name (scope_inside w (object ms)) k ≡ Some v → get_member k ms ≡ Some d → Stands t v d
+member_stands t w ms st k v d asks found =
+    let a : Asked = record { want = w; value = object ms; repeated = st.repeated } in
+    record { repeated = false; inside = Within-step t a (asked v d) (Name k) st.inside (rw (asks, found) refl) }
+
+pub stands_tree : (t : Data) (w : Want) (d : Data) → IsTree t → Stands t w d → IsTree d
+stands_tree t w d tree st = within-tree t (record { want = w; value = d; repeated = st.repeated }) tree st.inside
 
 module _ (ρ σ : List ℕ → List ℕ) (t u : Data) (back : ComesBack ρ σ t) where
   abbrev m : Sides
@@ -54,19 +76,6 @@ module _ (ρ σ : List ℕ → List ℕ) (t u : Data) (back : ComesBack ρ σ t)
       (subst (λ x. SameEntries m (entry_want w) x es) (items_again ds)
       (subst (SameEntries m (entry_want w) (items_of (list_of_items ds))) (ap items_of arranged ∙ items_again es) (paired_entries m (entry_want w) p)))
 
-  -- what stands in arrays and objects
-  entry_stands : (w v : Want) (ds : Items) → entry_want w ≡ Some v → Stands t w (array ds) → (x : Data) → Has (list_of_items ds) x → Stands t v x
-  entry_stands w v ds asks st x h =
-      let j = list_of_items-place ds x h in
-      let a : Asked = record { want = w; value = array ds; repeated = st.repeated } in
-      let b : Asked = record { want = v; value = x; repeated = is_compared_set w && is_repeated ds j.0 x } in
-      record { repeated = is_compared_set w && is_repeated ds j.0 x; inside = Within-step t a b (At j.0) st.inside (rw (asks, j.1) refl) }
-
-  member_stands : (w : Want) (ms : Members) → Stands t w (object ms) → (k : List ℕ) (v : Want) (d : Data) → want_of_name (scope_inside w (object ms)) k ≡ Some v → get_member k ms ≡ Some d → Stands t v d
-  member_stands w ms st k v d asks found =
-      let a : Asked = record { want = w; value = object ms; repeated = st.repeated } in
-      record { repeated = false; inside = Within-step t a (asked v d) (Name k) st.inside (rw (asks, found) refl) }
-
   abbrev EntriesStand : Option Want → List Data → Type 0
   EntriesStand o ds = (v : Want) → o ≡ Some v → (x : Data) → Has ds x → Stands t v x
 
@@ -85,10 +94,10 @@ module _ (ρ σ : List ℕ → List ℕ) (t u : Data) (back : ComesBack ρ σ t)
     alike_same w (string s) e h st tree = subst (Same m (Some w) (string s)) (sym h) (text_same w s (is_id_text w) refl st)
     alike_same w (array ds) e h st tree =
         subst (Same m (Some w) (array ds)) (sym h.2)
-        (array_same w ds h.0 h.1 (is_table_set w) refl (entries_same (entry_want w) ds h.0 h.3 (λ v asks x i. entry_stands w v ds asks st x i) tree) h.4)
+        (array_same w ds h.0 h.1 (is_table_set w) refl (entries_same (entry_want w) ds h.0 h.3 (λ v asks x i. entry_stands t w v (array ds) asks st x i) tree) h.4)
     alike_same w (object ms) e h st tree =
         subst (Same m (Some w) (object ms)) (sym h.1)
-        (an_object (members_same (scope_inside w (object ms)) ms h.0 h.2 (λ k v d asks found. member_stands w ms st k v d asks found) tree))
+        (an_object (members_same (scope_inside w (object ms)) ms h.0 h.2 (λ k v d asks found. member_stands t w ms st k v d asks found) tree))
 
     entries_same : (o : Option Want) (ds : Items) (es : List Data) → AreAlike ρ o ds es → EntriesStand o (list_of_items ds) → AreTrees ds → Paired (Same m o) (list_of_items ds) es
     entries_same o no_items es h stand trees = subst (Paired (Same m o) []) (sym h) none

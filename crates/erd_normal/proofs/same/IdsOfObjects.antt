@@ -1,15 +1,12 @@
--- An `@id` that the table asks for is that of an object of a family.
+-- What a value is, by what the table asks of it: so an `@id` that it asks for is that of an object of a family.
 use Rattle.std.proofs.Common.{◌≡◌, ℕ, List, [], ◌∷◌, flat_map, Bool, true, false, cond, is_some, ◌&&◌, Option, Some, None, option_and_then, option_map, codes, refl, sym, ap, ◌∙◌, subst}
-use Rattle.std.specs.List.{list_all}
 use Rattle.std.specs.Option.{option_map_or}
 use Rattle.std.specs.Str.{bytes_eq}
 use Rattle.serde_json.specs.Data.{Data, string, array, object, Items, Members}
 use Rattle.serde_json.specs.Find.{as_str, get_item, get_member}
 use Rattle.erd_tables.specs.Classes.{family_of_class, family_of_role, role_of_class}
-use Rattle.erd_tables.specs.Rows.{rows_of_class}
-use Rattle.erd_tables.specs.Table.{is_required, kind_of_identity, kind_of_member}
+use Rattle.erd_tables.specs.Table.{is_required, kind_of_member}
 use Rattle.erd_tables.specs.declared.class.Class.{Class}
-use Rattle.erd_tables.specs.declared.class.Class.TheVariants as class
 use Rattle.erd_tables.specs.declared.class.Family.{Family}
 use Rattle.erd_tables.specs.declared.class.Family.TheVariants as family
 use Rattle.erd_tables.specs.declared.class.Role.{Role}
@@ -25,78 +22,24 @@ use Rattle.erd_check.specs.declared.want.Want.{Want}
 use Rattle.erd_check.specs.declared.want.Want.TheVariants.{Carried, ClassText, Member, Object, Reference, Status}
 use Rattle.erd_check.proofs.Exact.{both_true, text_exact}
 use Rattle.erd_check.proofs.Rising.{Has}
-use Rattle.erd_check.proofs.TableKinds.{kind_of_id, kind_of_name}
+use Rattle.erd_meaning.specs.Keys.{has_keys}
 use Rattle.erd_meaning.proofs.accepted.Standing.{flat-has}
+use Rattle.erd_normal.proofs.built.FamilyNames.{family_name, holds, home, is_home, is_report_role}
 use Rattle.erd_normal.proofs.built.NormalGets.{class_has_role}
 use Rattle.erd_normal.proofs.same.FamilyValues.{family_values}
 use Rattle.erd_normal.proofs.same.Lists.{entry_has}
 use Rattle.erd_normal.proofs.same.SharedIds.{IsId}
 
--- ---- where the objects of a family stand
-
-abbrev home_name : Family → List ℕ
-home_name family.Unit = codes "GpUnit"
-home_name family.Party = codes "Party"
-home_name family.Person = codes "Person"
-home_name family.Office = codes "Office"
-home_name family.Header = codes "Header"
-home_name family.Candidate = codes "Candidate"
-home_name family.Contest = codes "Contest"
-home_name family.Style = codes "BallotStyle"
-home_name family.Selection = codes "ContestSelection"
-
--- objects with this role hold those of the family
-abbrev holds : Role → Family → Bool
-holds role.Report family.Unit = true
-holds role.Report family.Party = true
-holds role.Report family.Person = true
-holds role.Report family.Office = true
-holds role.Report family.Header = true
-holds role.Election family.Candidate = true
-holds role.Election family.Contest = true
-holds role.Election family.Style = true
-holds (role.OfFamily family.Contest) family.Selection = true
-holds r f = false
-
-abbrev is_report_role : Role → Bool
-is_report_role role.Report = true
-is_report_role r = false
-
--- what the table says of a member of this kind
-abbrev is_home : Class → List ℕ → MemberKind → Bool
-is_home c n (kind.Keyed f) = holds (role_of_class c) f && bytes_eq n (home_name f)
-is_home c n kind.Elections = is_report_role (role_of_class c) && bytes_eq n (codes "Election")
-is_home c n kind.Identity = is_some (family_of_class c) && bytes_eq n (codes "@id")
-is_home c n k = true
-
-home_rows : (c : Class) → list_all (λ row. is_home c row.name row.kind) (rows_of_class c) ≡ true
-home_rows class.ElectionReport = refl
-home_rows c = refl
-
-home_identity : (c : Class) → is_home c (codes "@id") (kind_of_identity c) ≡ true
-home_identity class.ElectionReport = refl
-home_identity c = refl
-
-home : (c : Class) (n : List ℕ) → bytes_eq n (codes "@type") ≡ false → is_home c n (kind_of_member c n) ≡ true
-home c n no_type = at (bytes_eq n (codes "@id")) refl
-  where
-    at : (b : Bool) → bytes_eq n (codes "@id") ≡ b → is_home c n (kind_of_member c n) ≡ true
-    at true is =
-        subst (λ x. is_home c x (kind_of_member c x) ≡ true) (sym (text_exact n (codes "@id") is))
-        (subst (λ k. is_home c (codes "@id") k ≡ true) (sym (kind_of_id c)) (home_identity c))
-    at false is =
-        kind_of_name (λ row. is_home c row.name row.kind) (is_home c n) c n no_type is (home_rows c)
-        (λ m h e. subst (λ x. is_home c x m.kind ≡ true) (sym (text_exact n m.name e)) h) refl refl
-
 -- ---- what a value is, by what is asked of it
 
-abbrev IsPart : Data → Want → Data → Type 0
+abbrev pub IsPart : Data → Want → Data → Type 0
 IsPart t (Object role.Report) d = d ≡ t
 IsPart t (Object role.Election) d = Has (entries_at (codes "Election") t) d
 IsPart t (Object (role.OfFamily f)) d = Has (family_values f t) d
 IsPart t (Member (kind.Keyed f) required) d = (x : Data) → Has (entries_of d) x → Has (family_values f t) x
 IsPart t (Member kind.Elections required) d = (x : Data) → Has (entries_of d) x → Has (entries_at (codes "Election") t) x
 IsPart t (Member kind.Identity required) d = (s : List ℕ) → d ≡ string s → IsId t s
+IsPart t (Member (kind.Many f) required) d = has_keys f ≡ true
 IsPart t w d = Unit {0}
 
 found_entry : (name : List ℕ) (ms : Members) (x y : Data) → get_member name ms ≡ Some x → Has (entries_of x) y → Has (entries_at name (object ms)) y
@@ -112,7 +55,7 @@ module _ (t : Data) (ms : Members) (x : Data) where
   nested_entry : (name : List ℕ) (ds : List Data) → Has ds (object ms) → get_member name ms ≡ Some x → (y : Data) → Has (entries_of x) y → Has (flat_map (entries_at name) ds) y
   nested_entry name ds part found y h = flat-has (entries_at name) ds (object ms) y part (found_entry name ms x y found h)
 
-  home_entry : (r : Role) (f : Family) → holds r f ≡ true → IsPart t (Object r) (object ms) → get_member (home_name f) ms ≡ Some x → (y : Data) → Has (entries_of x) y → Has (family_values f t) y
+  home_entry : (r : Role) (f : Family) → holds r f ≡ true → IsPart t (Object r) (object ms) → get_member (family_name f) ms ≡ Some x → (y : Data) → Has (entries_of x) y → Has (family_values f t) y
   home_entry role.Report family.Unit p part found = top_entry (codes "GpUnit") part found
   home_entry role.Report family.Party p part found = top_entry (codes "Party") part found
   home_entry role.Report family.Person p part found = top_entry (codes "Person") part found
@@ -138,14 +81,15 @@ module _ (t : Data) (ms : Members) (x : Data) where
   kind_part r c n (kind.One f) required role at part found = tt
   kind_part r c n kind.Carried required role at part found = tt
   kind_part r c n (kind.Keyed f) required role at part found =
-      let b = both_true (holds (role_of_class c) f) (bytes_eq n (home_name f)) at in
-      home_entry r f (subst (λ q. holds q f ≡ true) role b.0) part (subst (λ z. get_member z ms ≡ Some x) (text_exact n (home_name f) b.1) found)
+      let b = both_true (holds (role_of_class c) f) (bytes_eq n (family_name f)) at in
+      home_entry r f (subst (λ q. holds q f ≡ true) role b.0) part (subst (λ z. get_member z ms ≡ Some x) (text_exact n (family_name f) b.1) found)
   kind_part r c n kind.Elections required role at part found =
       let b = both_true (is_report_role (role_of_class c)) (bytes_eq n (codes "Election")) at in
       elections_part r (subst (λ q. is_report_role q ≡ true) role b.0) part (subst (λ z. get_member z ms ≡ Some x) (text_exact n (codes "Election") b.1) found)
   kind_part r c n kind.Identity required role at part found =
       let b = both_true (is_some (family_of_class c)) (bytes_eq n (codes "@id")) at in
       id_part r (subst (λ q. is_some (family_of_role q) ≡ true) role b.0) part (subst (λ z. get_member z ms ≡ Some x) (text_exact n (codes "@id") b.1) found)
+  kind_part r c n (kind.Many f) required role at part found = at
   kind_part r c n k required role at part found = tt
 
   member_part : (r : Role) (c : Class) (n : List ℕ) → role_of_class c ≡ r → bytes_eq n (codes "@type") ≡ false → IsPart t (Object r) (object ms) → get_member n ms ≡ Some x → IsPart t (member_want c n) x
@@ -153,7 +97,7 @@ module _ (t : Data) (ms : Members) (x : Data) where
     where
       at : (b : Bool) → IsPart t (cond b Status (want_of_kind (kind_of_member c n) (is_required c n))) x
       at true = tt
-      at false = kind_part r c n (kind_of_member c n) (is_required c n) role (home c n no_type) part found
+      at false = kind_part r c n (kind_of_member c n) (is_required c n) role (home c n) part found
 
   class_part : (r : Role) (o : Option Class) (n : List ℕ) (v : Want) → class_of_object r (object ms) ≡ o → IsPart t (Object r) (object ms) → want_of_name (scope.Members r o) n ≡ Some v → get_member n ms ≡ Some x
       → IsPart t v x
@@ -211,8 +155,11 @@ part_from t (s ∷ ss) a c part e = at (asked_inside a.want a.value s) refl (λ 
     at None is step = let g : None ≡ Some c = ap (option_and_then (λ b. asked_from b ss)) (sym is) ∙ e in cc
     at (Some b) is step = step b (part_step t a.want a.value s b part is) (ap (option_and_then (λ b. asked_from b ss)) (sym is) ∙ e)
 
+pub part_at : (t : Data) (p : List Step) (a : Asked) → asked_at t p ≡ Some a → IsPart t a.want a.value
+part_at t p a stands = part_from t p (asked (Object role.Report) t) a refl stands
+
 -- the text where an `@id` is asked for is the `@id` of an object
 pub asked_id : (t : Data) (p : List Step) (a : Asked) (required : Bool) (s : List ℕ) → asked_at t p ≡ Some a → a.want ≡ Member kind.Identity required → a.value ≡ string s → IsId t s
 asked_id t p a required s stands want text =
-    let part : IsPart t (Member kind.Identity required) a.value = subst (λ w. IsPart t w a.value) want (part_from t p (asked (Object role.Report) t) a refl stands) in
+    let part : IsPart t (Member kind.Identity required) a.value = subst (λ w. IsPart t w a.value) want (part_at t p a stands) in
     part s text

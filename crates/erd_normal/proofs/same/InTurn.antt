@@ -17,8 +17,8 @@ use Rattle.erd_normal.specs.SaysTheSame.{Sides, StandsFor, IsUnused, MayBeAbsent
 use Rattle.erd_normal.specs.SameLaws.{SaysInTurn}
 use Rattle.erd_normal.proofs.same.Back.{same_back, set_swapped, turned}
 use Rattle.erd_normal.proofs.same.CameFrom.{CameFrom, reference_came_from}
-use Rattle.erd_normal.proofs.same.Lists.{permuted_reordered}
 use Rattle.erd_normal.proofs.same.Types.{scope_same}
+use Rattle.erd_normal.proofs.lists.NumbersInOrder.{permuted_reordered}
 
 -- ---- what may be absent, along the relation
 

@@ -78,7 +78,7 @@ in_label = scope.Members role.Label (Some class.InternationalizedText)
 pub plain_beside : (k : List ℕ) → bytes_eq k (codes "@type") ≡ false → bytes_eq k (codes "Text") ≡ false → is_plain_kind (kind_of_member class.InternationalizedText k) ≡ true
 plain_beside k e f = rw f (kind_of_unlisted_has is_plain_kind class.InternationalizedText k e refl refl refl)
 
-steady_beside : (k : List ℕ) → bytes_eq k (codes "@type") ≡ false → bytes_eq k (codes "Text") ≡ false → is_steady_kind (kind_of_member class.InternationalizedText k) ≡ true
+pub steady_beside : (k : List ℕ) → bytes_eq k (codes "@type") ≡ false → bytes_eq k (codes "Text") ≡ false → is_steady_kind (kind_of_member class.InternationalizedText k) ≡ true
 steady_beside k e f = rw f (kind_of_unlisted_has is_steady_kind class.InternationalizedText k e refl refl refl)
 
 -- what holds of all that is asked beside `Text`

@@ -24,10 +24,12 @@ use Rattle.erd_meaning.specs.Keys.{Preference, key_of}
 use Rattle.erd_meaning.specs.Objects.{has_id, id_of, owner}
 use Rattle.erd_meaning.specs.SelectionNames.{key_named}
 use Rattle.erd_meaning.proofs.accepted.Phases.{no_shape_fault}
+use Rattle.erd_meaning.proofs.accepted.Standing.{has_id-Some}
+use Rattle.erd_meaning.proofs.references.ReferenceLookups.{both_tests}
 use Rattle.erd_normal.proofs.built.NormalGets.{kind_of_family_id}
 use Rattle.erd_normal.proofs.lists.Matched.{AtMostOne, Both, apart_distinct, matched_find, one_if_apart, said_same}
 use Rattle.erd_normal.proofs.same.FamilyValues.{family_values}
-use Rattle.erd_normal.proofs.same.SharedIds.{owner_found, by_one_id, has_id-is, have_one_id, ids_distinct}
+use Rattle.erd_normal.proofs.same.SharedIds.{owner_found, by_one_id, have_one_id, ids_distinct}
 use Rattle.erd_normal.specs.SaysTheSame.{Sides, StandsFor, IsUnused, MayBeAbsent, an_empty_array, of_the_envelope, an_unused_id, is_array_kind, is_envelope, Same, a_null, a_flag, a_number, a_text, an_id, a_list, a_set, an_object}
 use Rattle.erd_normal.specs.SameLaws.{IsUsed, ReferencesNameTheSame}
 use Rattle.erd_normal.proofs.same.Lookups.{Aligned, both_there, not_both, MayLack}
@@ -67,22 +69,17 @@ ids_found m s required (Some x) (Some y) asks other (both_there h) d e left righ
 ids_found m s required o p asks other (not_both h k) d e left right =
     no_ids (λ a is. unused_of m.left s required o asks other h a (sym left ∙ is)) (λ b is. unused_of m.right s required p asks other k b (sym right ∙ is))
 
-both_ways : (a b : Bool) → (a ≡ true → b ≡ true) → (b ≡ true → a ≡ true) → a ≡ b
-both_ways true b to from = sym (to refl)
-both_ways false true to from = from refl
-both_ways false false to from = refl
-
 -- texts that stand for one another pass alike, if both are used
 pub has_same : (m : Sides) (s s' : List ℕ) (d e : Data) → StandsFor m s s' → IsUsed m.left s → IsUsed m.right s' → IdsAlike m d e → has_id s d ≡ has_id s' e
 has_same m s s' d e pair left right (two_ids a b is is' ab) =
     ap (λ o. option_map_or (bytes_eq s) o false) is
-    ∙ both_ways (bytes_eq s a) (bytes_eq s' b)
+    ∙ both_tests (bytes_eq s a) (bytes_eq s' b)
     (λ h. let one : s' ≡ b = pair.0 ∙ ap m.there (text_exact s a h) ∙ sym ab.0 in subst (λ x. bytes_eq s' x ≡ true) one (text_itself s'))
     (λ h. let one : s ≡ a = pair.1 ∙ ap m.back (text_exact s' b h) ∙ sym ab.1 in subst (λ x. bytes_eq s x ≡ true) one (text_itself s))
     ∙ sym (ap (λ o. option_map_or (bytes_eq s') o false) is')
 has_same m s s' d e pair left right (no_ids none_left none_right) =
-    false_unless (has_id s d) (λ h. none_left s (has_id-is s d h) left.place left.asked left.stands left.reference left.text)
-    ∙ sym (false_unless (has_id s' e) (λ h. none_right s' (has_id-is s' e h) right.place right.asked right.stands right.reference right.text))
+    false_unless (has_id s d) (λ h. none_left s (has_id-Some s d h) left.place left.asked left.stands left.reference left.text)
+    ∙ sym (false_unless (has_id s' e) (λ h. none_right s' (has_id-Some s' e h) right.place right.asked right.stands right.reference right.text))
 
 module _ (m : Sides) (left_tree : IsTree m.left) (right_tree : IsTree m.right) (π : Preference) (accepted : IsAccepted π m.left) (root : Related m (Object role.Report) m.left m.right) where
   clean : NoneOf (ShapeFault m.left)
@@ -106,7 +103,7 @@ module _ (m : Sides) (left_tree : IsTree m.left) (right_tree : IsTree m.right) (
   one_owner : (f : Family) (s : List ℕ) → AtMostOne (has_id s) (family_values f m.left)
   one_owner f s =
       one_if_apart (has_id s) (family_values f m.left)
-      (apart_distinct (has_id s) have_one_id (family_values f m.left) (λ x y h k. by_one_id x y s (has_id-is s x h) (has_id-is s y k)) (ids_distinct π m.left accepted f))
+      (apart_distinct (has_id s) have_one_id (family_values f m.left) (λ x y h k. by_one_id x y s (has_id-Some s x h) (has_id-Some s y k)) (ids_distinct π m.left accepted f))
 
   -- what texts that stand for one another name
   pub owners_related : (f : Family) (s s' : List ℕ) → StandsFor m s s' → IsUsed m.left s → IsUsed m.right s' → Both (Related m (Object (role.OfFamily f))) (owner m.left f s) (owner m.right f s')

@@ -14,20 +14,16 @@ use Rattle.erd_tables.specs.declared.member.MemberKind.TheVariants as kind
 use Rattle.erd_tables.specs.declared.place.Step.{Step}
 use Rattle.erd_tables.specs.declared.place.Step.TheVariants.{Name, At}
 use Rattle.erd_check.specs.Faults.{is_reference}
-use Rattle.erd_check.specs.Wants.{Asked, asked, asked_from, asked_inside, asked_of_entry, entry_want, is_compared_set, is_repeated, member_want, scope_inside, want_of_kind, want_of_name}
+use Rattle.erd_check.specs.Wants.{Asked, asked, asked_from, asked_inside, asked_of_entry, entry_want, is_compared_set, is_repeated, member_want, scope_inside, want_of_name}
 use Rattle.erd_check.specs.declared.want.Scope.{Scope}
 use Rattle.erd_check.specs.declared.want.Scope.TheVariants as scope
 use Rattle.erd_check.specs.declared.want.Want.{Want}
 use Rattle.erd_check.specs.declared.want.Want.TheVariants.{ClassText, Member, Object, Reference}
 use Rattle.erd_check.proofs.Exact.{both_true, text_exact}
 use Rattle.erd_normal.specs.SaysTheSame.{MayBeAbsent, an_empty_array, of_the_envelope, an_unused_id, is_envelope}
-use Rattle.erd_normal.proofs.same.Steady.{plain_entry, plain_scope, is_plain, is_plain_kind}
+use Rattle.erd_normal.proofs.same.Steady.{plain_entry, plain_scope, is_plain}
 
 -- ---- no reference is asked for in what is plain, nor in identifiers
-
-abbrev is_quiet_kind : MemberKind → Bool
-is_quiet_kind kind.Identifiers = true
-is_quiet_kind k = is_plain_kind k
 
 abbrev pub is_quiet : Want → Bool
 is_quiet (Member kind.Identifiers required) = true
@@ -36,11 +32,6 @@ is_quiet w = is_plain w
 quiet_plain : (w : Want) → is_plain w ≡ true → is_quiet w ≡ true
 quiet_plain (Member kind.Identifiers required) h = refl
 quiet_plain w h = h
-
-quiet_of_kind : (k : MemberKind) (required : Bool) → is_quiet_kind k ≡ true → is_quiet (want_of_kind k required) ≡ true
-quiet_of_kind (kind.One f) required h = h
-quiet_of_kind kind.Carried required h = refl
-quiet_of_kind k required h = h
 
 pub quiet_no_reference : (w : Want) → is_quiet w ≡ true → is_reference w ≡ true → ⊥
 quiet_no_reference (Reference f) h r = cc
@@ -75,10 +66,6 @@ quiet_from a (s ∷ ss) c h e = at (asked_inside a.want a.value s) refl (λ b. q
     at (Some b) is step = step b (quiet_step a.want a.value s b h is) (ap (option_and_then (λ b. asked_from b ss)) (sym is) ∙ e)
 
 -- ---- what may be absent
-
--- a name that stands in rows
-record InRows (Q : List ℕ → Bool) (n : List ℕ) : Type 0 where
-  passes : Q n ≡ true
 
 in_rows : (Q : List ℕ → Bool) (rows : List Row) (n : List ℕ) → is_some (kind_in_rows rows n) ≡ true → list_all (λ row. Q row.name) rows ≡ true → Q n ≡ true
 in_rows Q [] n h all = cc

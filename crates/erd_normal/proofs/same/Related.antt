@@ -1,8 +1,8 @@
 -- The objects of two reports that say the same: those of each family are matched, and matched ones have one key.
-use Rattle.std.proofs.Common.{◌≡◌, ℕ, List, [], flat_map, true, false, ◌&&◌, Option, Some, None, codes, refl, sym, ap, ◌∙◌, subst}
+use Rattle.std.proofs.Common.{◌≡◌, ℕ, List, [], flat_map, true, false, Option, Some, None, codes, refl, sym, ap, ◌∙◌, subst}
 use Rattle.std.specs.Option.{option_map_or}
 use Rattle.std.specs.Str.{bytes_eq}
-use Rattle.serde_json.specs.Data.{Data, null, boolean, number, string, array, object, Members}
+use Rattle.serde_json.specs.Data.{Data, object, Members}
 use Rattle.serde_json.specs.Find.{get_member}
 use Rattle.erd_tables.specs.Classes.{role_of_class}
 use Rattle.erd_tables.specs.Table.{is_required, is_envelope_name, kind_of_member}
@@ -14,19 +14,17 @@ use Rattle.erd_tables.specs.declared.class.Role.{Role}
 use Rattle.erd_tables.specs.declared.class.Role.TheVariants as role
 use Rattle.erd_tables.specs.declared.member.MemberKind.{MemberKind}
 use Rattle.erd_tables.specs.declared.member.MemberKind.TheVariants as kind
-use Rattle.erd_tables.specs.declared.place.Step.TheVariants.{Name, At}
 use Rattle.erd_check.specs.Faults.{NoneOf, ShapeFault}
 use Rattle.erd_check.specs.Trees.{IsTree}
 use Rattle.erd_check.specs.Values.{entries_at, entries_of, list_of_items}
-use Rattle.erd_check.specs.Wants.{Asked, asked, class_of_object, entry_want, is_compared_set, is_repeated, member_want, scope_inside, want_of_name}
+use Rattle.erd_check.specs.Wants.{class_of_object, entry_want, member_want, scope_inside, want_of_name}
 use Rattle.erd_check.specs.declared.want.Scope.{Scope}
 use Rattle.erd_check.specs.declared.want.Scope.TheVariants as scope
 use Rattle.erd_check.specs.declared.want.Want.{Want}
 use Rattle.erd_check.specs.declared.want.Want.TheVariants.{Member, Object}
-use Rattle.erd_check.proofs.Entries.{list_of_items-place}
 use Rattle.erd_check.proofs.ObjectsAt.{ObjectIn, election_class, object_in, report_class}
 use Rattle.erd_check.proofs.Rising.{Has, here, later}
-use Rattle.erd_check.proofs.Shapes.{Within-step, unrepeated, within-tree}
+use Rattle.erd_check.proofs.Shapes.{unrepeated}
 use Rattle.erd_check.proofs.TableKinds.{want_by_kind}
 use Rattle.erd_meaning.specs.Keys.{Preference, key_of}
 use Rattle.erd_meaning.proofs.accepted.Standing.{contest_selections}
@@ -34,18 +32,19 @@ use Rattle.erd_meaning.proofs.orders.Reordered.{Reordered, reordered_back, reord
 use Rattle.erd_normal.proofs.built.LeastKeys.{key_of_identifiers-reordered, kind_of_identifiers}
 use Rattle.erd_normal.proofs.lists.Matched.{Matched, matched_equal, matched_flat, matched_none}
 use Rattle.erd_normal.proofs.lists.Paired.{Paired, none, more}
+use Rattle.erd_normal.proofs.lists.NumbersInOrder.{permuted_reordered}
 use Rattle.erd_normal.proofs.same.FamilyValues.{family_values}
 use Rattle.erd_normal.specs.SaysTheSame.{Sides, MayBeAbsent, an_empty_array, of_the_envelope, an_unused_id, is_envelope, Same, a_null, a_flag, a_number, a_text, an_id, a_list, a_set, an_object}
 use Rattle.erd_normal.proofs.same.Back.{entries_paired}
-use Rattle.erd_normal.proofs.same.FromAlike.{Stands}
-use Rattle.erd_normal.proofs.same.Lists.{follows, permuted_reordered}
+use Rattle.erd_normal.proofs.same.FromAlike.{Stands, entry_stands, member_stands, stands_tree}
+use Rattle.erd_normal.proofs.same.Lists.{follows}
 use Rattle.erd_normal.proofs.same.Lookups.{Aligned, both_there, not_both, MayLack, lookups, of_object}
 use Rattle.erd_normal.proofs.same.Steady.{steady_same, is_plain}
 use Rattle.erd_normal.proofs.same.Types.{scope_same}
 
 -- ---- lists
 
-paired_within_both : {A B : Type 0} {R : A → B → Type 0} (S : A → B → Type 0) {xs : List A} {ys : List B} → ((x : A) (y : B) → Has xs x → Has ys y → R x y → S x y) → Paired R xs ys → Paired S xs ys
+pub paired_within_both : {A B : Type 0} {R : A → B → Type 0} (S : A → B → Type 0) {xs : List A} {ys : List B} → ((x : A) (y : B) → Has xs x → Has ys y → R x y → S x y) → Paired R xs ys → Paired S xs ys
 paired_within_both S h none = none
 paired_within_both S h (more {x = x} {y = y} r rest) = more (h x y here here r) (paired_within_both S (λ a b i j. h a b (later i) (later j)) rest)
 
@@ -98,23 +97,6 @@ pub record Related (m : Sides) (w : Want) (d e : Data) : Type 0 where
   pub right : Stands m.right w e
   pub same : Same m (Some w) d e
 
-pub entry_stands : (t : Data) (w v : Want) (d : Data) → entry_want w ≡ Some v → Stands t w d → (x : Data) → Has (entries_of d) x → Stands t v x
-entry_stands t w v (array ds) asks st x h =
-    let j = list_of_items-place ds x h in
-    let a : Asked = record { want = w; value = array ds; repeated = st.repeated } in
-    let b : Asked = record { want = v; value = x; repeated = is_compared_set w && is_repeated ds j.0 x } in
-    record { repeated = is_compared_set w && is_repeated ds j.0 x; inside = Within-step t a b (At j.0) st.inside (rw (asks, j.1) refl) }
-entry_stands t w v null asks st x h = elim h [ ]
-entry_stands t w v (boolean b) asks st x h = elim h [ ]
-entry_stands t w v (number n) asks st x h = elim h [ ]
-entry_stands t w v (string s) asks st x h = elim h [ ]
-entry_stands t w v (object ms) asks st x h = elim h [ ]
-
-pub member_stands : (t : Data) (w : Want) (ms : Members) → Stands t w (object ms) → (k : List ℕ) (v : Want) (d : Data) → want_of_name (scope_inside w (object ms)) k ≡ Some v → get_member k ms ≡ Some d → Stands t v d
-member_stands t w ms st k v d asks found =
-    let a : Asked = record { want = w; value = object ms; repeated = st.repeated } in
-    record { repeated = false; inside = Within-step t a (asked v d) (Name k) st.inside (rw (asks, found) refl) }
-
 -- entries of a member, wherever they stand
 entries_in_stand : (t : Data) (w v u : Want) (ms : Members) (name : List ℕ) → Stands t w (object ms) → want_of_name (scope_inside w (object ms)) name ≡ Some v → entry_want v ≡ Some u
     → (x : Data) → Has (option_map_or entries_of (get_member name ms) []) x → Stands t u x
@@ -135,9 +117,6 @@ module _ (m : Sides) (left_tree : IsTree m.left) (right_tree : IsTree m.right) w
     pub found : (name : List ℕ) → Aligned m (scope_inside w (object ms)) name (get_member name ms) (get_member name ns)
     pub left : Stands m.left w (object ms)
     pub right : Stands m.right w (object ns)
-
-  stands_tree : (t : Data) (w : Want) (d : Data) → IsTree t → Stands t w d → IsTree d
-  stands_tree t w d tree st = within-tree t (record { want = w; value = d; repeated = st.repeated }) tree st.inside
 
   pub objects_of : (w : Want) (ms : Members) (e : Data) → Related m w (object ms) e → Objects w (object ms) e
   objects_of w ms e r =

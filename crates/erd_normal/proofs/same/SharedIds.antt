@@ -3,10 +3,8 @@ use Rattle.std.proofs.Common.{◌≡◌, ℕ, List, Bool, true, false, Option, S
 use Rattle.std.specs.List.{IsDistinct}
 use Rattle.std.specs.Option.{option_map_or}
 use Rattle.std.specs.Prelude.{slice_get}
-use Rattle.std.specs.Str.{bytes_eq}
 use Rattle.serde_json.specs.Data.{Data}
 use Rattle.erd_tables.specs.declared.class.Family.{Family}
-use Rattle.erd_check.proofs.Exact.{text_exact, text_itself}
 use Rattle.erd_check.proofs.Positions.{position_of}
 use Rattle.erd_check.proofs.Rising.{Has}
 use Rattle.erd_meaning.specs.Keys.{Preference}
@@ -15,6 +13,7 @@ use Rattle.erd_meaning.specs.Lookups.{id_in}
 use Rattle.erd_meaning.specs.Objects.{Placed, has_id, id_of, objects, owner}
 use Rattle.erd_meaning.proofs.accepted.Phases.{no_identity_fault}
 use Rattle.erd_meaning.proofs.accepted.References.{find-Some}
+use Rattle.erd_meaning.proofs.accepted.Standing.{has_id-Some, has_id-from}
 use Rattle.erd_meaning.proofs.finding.OneObject.{one_id}
 use Rattle.erd_meaning.proofs.orders.DistinctEntries.{distinct_from_one_place, distinct_map}
 use Rattle.erd_normal.proofs.lists.FoundBuilt.{find_values}
@@ -31,25 +30,15 @@ pub record IsId (t : Data) (id : List ℕ) : Type 0 where
 abbrev pub have_one_id : Data → Data → Bool
 have_one_id d e = option_map_or (λ id. has_id id e) (id_of d) false
 
-pub has_id-is : (id : List ℕ) (d : Data) → has_id id d ≡ true → id_of d ≡ Some id
-has_id-is id d h = at (id_of d) refl h
-  where
-    at : (o : Option (List ℕ)) → id_of d ≡ o → option_map_or (bytes_eq id) o false ≡ true → id_of d ≡ Some id
-    at None is h = cc
-    at (Some x) is h = is ∙ ap Some (sym (text_exact id x h))
-
-pub is-has_id : (id : List ℕ) (d : Data) → id_of d ≡ Some id → has_id id d ≡ true
-is-has_id id d e = rw e (text_itself id)
-
 pub id_of_both : (d e : Data) → have_one_id d e ≡ true → (id : List ℕ) × (id_of d ≡ Some id) × (id_of e ≡ Some id)
 id_of_both d e h = at (id_of d) refl h
   where
     at : (o : Option (List ℕ)) → id_of d ≡ o → option_map_or (λ id. has_id id e) o false ≡ true → (id : List ℕ) × (id_of d ≡ Some id) × (id_of e ≡ Some id)
     at None is h = cc
-    at (Some x) is h = (x, is, has_id-is x e h)
+    at (Some x) is h = (x, is, has_id-Some x e h)
 
 pub by_one_id : (d e : Data) (id : List ℕ) → id_of d ≡ Some id → id_of e ≡ Some id → have_one_id d e ≡ true
-by_one_id d e id a b = rw a (is-has_id id e b)
+by_one_id d e id a b = rw a (has_id-from id e b)
 
 -- ---- what a text names
 
@@ -58,7 +47,7 @@ pub owner_found : (t : Data) (f : Family) (id : List ℕ) → owner t f id ≡ f
 owner_found t f id = find_values (has_id id) (λ (o : Placed). o.value) (objects f t) ∙ ap (find (has_id id)) (object_values f t)
 
 pub owner_stands : (t : Data) (f : Family) (id : List ℕ) (o : Data) → owner t f id ≡ Some o → Has (family_values f t) o × (id_of o ≡ Some id)
-owner_stands t f id o e = let x = find-Some (has_id id) (family_values f t) o (sym (owner_found t f id) ∙ e) in (x.0, has_id-is id o x.1)
+owner_stands t f id o e = let x = find-Some (has_id id) (family_values f t) o (sym (owner_found t f id) ∙ e) in (x.0, has_id-Some id o x.1)
 
 -- a text that names an object is an `@id` of the report
 pub owned_id : (t : Data) (f : Family) (id : List ℕ) (o : Data) → owner t f id ≡ Some o → IsId t id

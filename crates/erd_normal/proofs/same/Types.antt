@@ -2,14 +2,16 @@
 use Rattle.std.proofs.Common.{◌≡◌, ℕ, List, true, false, Option, Some, option_and_then, Ordering, Less, Equal, Greater, nat_cmp, codes, refl, sym, ap, ◌∙◌, subst}
 use Rattle.std.specs.Cmp.Lexicographic.{slice_cmp}
 use Rattle.std.specs.Ordering.{match_ordering}
+use Rattle.std.specs.Str.{bytes_eq}
 use Rattle.serde_json.specs.Data.{Data, object, Members}
 use Rattle.serde_json.specs.Find.{as_str, get_member}
 use Rattle.erd_tables.specs.Classes.{class_in_role}
 use Rattle.erd_tables.specs.declared.class.Class.TheVariants as class
+use Rattle.erd_tables.specs.declared.class.Class.{Class}
 use Rattle.erd_tables.specs.declared.class.Role.{Role}
 use Rattle.erd_tables.specs.declared.class.Role.TheVariants as role
 use Rattle.erd_tables.specs.declared.member.MemberKind.TheVariants as kind
-use Rattle.erd_check.specs.Wants.{class_of_object, scope_of_object, want_of_name}
+use Rattle.erd_check.specs.Wants.{class_of_object, scope_of_object, want_of_name, member_want}
 use Rattle.erd_check.specs.declared.want.Scope.{Scope}
 use Rattle.erd_check.specs.declared.want.Scope.TheVariants as scope
 use Rattle.erd_check.specs.declared.want.Want.{Want}
@@ -93,3 +95,7 @@ module _ (m : Sides) where
   scope_same (Member kind.Label required) ms ns h = ap (scope.Members role.Label) (class_same role.Label ms ns h)
   scope_same Carried ms ns h = refl
   scope_same w ms ns h = refl
+
+-- what is asked of a name in an object of a known class
+pub asked_of_name : (r : Role) (c : Class) (name : List ℕ) → bytes_eq name (codes "@type") ≡ false → want_of_name (scope.Members r (Some c)) name ≡ Some (member_want c name)
+asked_of_name r c name other = rw other refl

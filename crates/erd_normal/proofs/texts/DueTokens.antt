@@ -1,6 +1,6 @@
 -- Members that are put into an object, written in the order of their names.
-use Rattle.std.proofs.Common.{◌≡◌, ◌+◌, ◌<◌, ◌≤◌, ℕ, zero, suc, List, [], ◌∷◌, ◌++◌, length, get_or, drop, Bool, true, false, Less, Equal, Greater, refl, sym, ap, ◌∙◌, subst}
-use Rattle.std.proofs.lemmas.List.{drop_all, drop_more}
+use Rattle.std.proofs.Common.{◌≡◌, ◌+◌, ◌<◌, ℕ, zero, suc, List, [], ◌∷◌, ◌++◌, length, get_or, drop, Bool, true, false, Less, Equal, Greater, refl, sym, ap, ◌∙◌, subst}
+use Rattle.std.proofs.lemmas.List.{drop_more}
 use Rattle.std.proofs.lemmas.Cmp.{nat_list_cmp_total}
 use Rattle.std.proofs.lemmas.Map.Lookups.{exact_bytes}
 use Rattle.std.specs.Ordering.{ordering_reverse}
@@ -128,7 +128,3 @@ module _ (ms : List DueMember) (at : ℕ) (m : DueMember) (low : at < length ms)
   rest_at was mid now written rest =
       ap (λ ps. was ++ members_tokens (put_all ps no_members)) apart
       ∙ first_of_all (m.name.now, due_value m.value) (due_list (drop (at + 1) ms)) was mid now rises written rest
-
--- past the end none is left
-pub none_at : (ms : List DueMember) (at : ℕ) → length ms ≤ at → due_list (drop at ms) ≡ []
-none_at ms at high = ap due_list (drop_all at ms high)

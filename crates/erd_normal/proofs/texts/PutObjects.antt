@@ -1,5 +1,5 @@
 -- Objects with members put in.
-use Rattle.std.proofs.Common.{◌≡◌, ℕ, List, [], ◌∷◌, Bool, true, false, not, if◌then◌else◌, Option, Some, None, codes, refl, ap}
+use Rattle.std.proofs.Common.{◌≡◌, ℕ, List, [], ◌∷◌, Bool, true, false, not, if◌then◌else◌, Some, None, codes, refl, ap}
 use Rattle.serde_json.specs.Data.{Data, null, boolean, number, string, array, object, Members, no_members, member}
 use Rattle.erd_tables.specs.declared.class.Class.{Class}
 use Rattle.erd_tables.specs.Table.{is_envelope_name}
@@ -13,7 +13,7 @@ use Rattle.std.specs.Option.{is_some}
 use Rattle.erd_check.specs.Faults.{is_empty_array}
 use Rattle.erd_check.specs.Values.{entries_at}
 use Rattle.erd_normal.specs.code.Building.{put_in}
-use Rattle.erd_normal.specs.code.NormalTree.{array_of, envelope_values, in_envelope, normal_members, normal_object_with, normal_value, unless_no_entry, with_id}
+use Rattle.erd_normal.specs.code.NormalTree.{array_of, envelope_values, in_envelope, normal_members, normal_value, unless_no_entry, with_id}
 use Rattle.erd_normal.specs.code.WrittenTree.{holds_parts, written_election_value, written_object_value, written_report_value}
 
 -- members that are kept as they are
@@ -56,15 +56,6 @@ put_envelope (number n) = refl
 put_envelope (string s) = refl
 put_envelope (array ds) = refl
 put_envelope (object ms) = refl
-
--- what has no class stays
-pub unclassed : (value : List ℕ → MemberKind → Data → Option Data) (d : Data) → normal_object_with value None d ≡ d
-unclassed value null = refl
-unclassed value (boolean b) = refl
-unclassed value (number n) = refl
-unclassed value (string s) = refl
-unclassed value (array ds) = refl
-unclassed value (object ms) = refl
 
 -- a member of an election that holds no objects
 pub other_election_value : (π : Preference) (t : Data) (part : ℕ) (k : MemberKind) (d : Data) → ((f : Family) → k ≡ kind.Keyed f → ⊥) → written_election_value π t part k d ≡ normal_value π t k d

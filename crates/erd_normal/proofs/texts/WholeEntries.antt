@@ -2,22 +2,19 @@
 use Rattle.std.proofs.Common.{◌≡◌, ℕ, Ordering, List, [], ◌∷◌, Bool, true, false, ◌||◌, map, Option, Some, None, refl, ap, ◌∙◌}
 use Rattle.std.specs.List.{AllByRecursion}
 use Rattle.std.specs.Option.{option_map_or}
-use Rattle.serde_json.specs.Data.{Data, array, Items, no_items, item}
+use Rattle.serde_json.specs.Data.{Data, array}
 use Rattle.serde_json.specs.Find.{get}
 use Rattle.serde_json.specs.View.{items_of, items_view, view}
 use Rattle.serde_json.specs.Written.{has_float, items_have_float}
 use Rattle.serde_json.specs.declared.value.Value.{Value}
-use Rattle.erd_check.specs.Values.{entries_of, list_of_items, entries_at}
+use Rattle.erd_check.specs.Values.{entries_of, entries_at}
 use Rattle.erd_meaning.specs.SelectionNames.{rising_list}
 use Rattle.erd_meaning.proofs.selections.WholeParts.{whole_get}
-use Rattle.erd_normal.proofs.lists.BuiltLists.{all_rising}
-
-pub listed_items : (ds : Items) → items_of (list_of_items ds) ≡ ds
-listed_items no_items = refl
-listed_items (item d ds) = ap (item d) (listed_items ds)
+use Rattle.erd_meaning.proofs.orders.RisingAlike.{all_rising}
+use Rattle.erd_normal.proofs.lists.BuiltLists.{items_again}
 
 whole_entries : (d : Data) → has_float d ≡ false → items_have_float (items_of (entries_of d)) ≡ false
-whole_entries (array ds) h = ap items_have_float (listed_items ds) ∙ h
+whole_entries (array ds) h = ap items_have_float (items_again ds) ∙ h
 whole_entries d h = refl
 
 neither : (a b : Bool) → a || b ≡ false → (a ≡ false) × (b ≡ false)

@@ -30,10 +30,11 @@ use Rattle.erd_check.proofs.TableKinds.{kind_of_class, want_by_kind}
 use Rattle.erd_meaning.specs.Keys.{Preference}
 use Rattle.erd_meaning.specs.Objects.{Placed, objects}
 use Rattle.erd_meaning.specs.SelectionNames.{rising_list, selection_role}
+use Rattle.erd_meaning.proofs.orders.RisingAlike.{all_rising}
 use Rattle.erd_normal.specs.code.NormalTree.{array_of, by_key, by_name, id_of_selection, normal_content, normal_node, normal_node_value, normal_nodes, normal_object, normal_object_value, normal_objects, normal_selection, normal_value}
 use Rattle.erd_normal.proofs.built.AskedMembers.{entries_asked, entry_asked}
 use Rattle.erd_normal.proofs.built.BuiltFrom.{Builder, BuiltFrom, BuiltObject, inside_built, member_holds}
-use Rattle.erd_normal.proofs.lists.BuiltLists.{all_map, all_rising, given_unless}
+use Rattle.erd_normal.proofs.lists.BuiltLists.{all_map, given_unless}
 use Rattle.erd_normal.proofs.lists.ListParts.{IsPart, part_has}
 use Rattle.erd_normal.proofs.built.BuiltObjects.{built_node, built_object, built_selection, is_id, no_name, node_builder, object_builder, object_id, plain_builder, selection_id}
 use Rattle.erd_normal.proofs.built.FamilyNames.{contest_of_selections, family_name, keyed_name}

@@ -24,13 +24,14 @@ use Rattle.erd_check.proofs.Rising.{Has}
 use Rattle.erd_check.proofs.Shapes.{Within}
 use Rattle.erd_check.proofs.TableKinds.{kind_of_class}
 use Rattle.erd_meaning.proofs.accepted.Skeleton.{Skeleton, election_entries, election_object, election_within, skeleton_of_shape}
+use Rattle.erd_meaning.proofs.orders.RisingAlike.{all_rising}
 use Rattle.erd_meaning.specs.Keys.{Preference, has_keys}
 use Rattle.erd_meaning.specs.Objects.{objects}
 use Rattle.erd_meaning.specs.SelectionNames.{rising_list}
 use Rattle.erd_normal.specs.code.NormalTree.{array_of, by_key, normal_election, normal_election_value, normal_objects, normal_report_value, normal_tree, normal_value}
 use Rattle.erd_normal.proofs.built.BuiltFrom.{BuiltFrom, member_holds}
 use Rattle.erd_normal.proofs.built.BuiltObjects.{built_election, built_report, election_builder, no_name}
-use Rattle.erd_normal.proofs.lists.BuiltLists.{all_map, all_rising, given_unless}
+use Rattle.erd_normal.proofs.lists.BuiltLists.{all_map, given_unless}
 use Rattle.erd_normal.proofs.built.FamilyNames.{election_part, elections_name, family_name, keyed_name, report_part}
 use Rattle.erd_normal.proofs.lists.ListParts.{IsPart}
 use Rattle.erd_normal.proofs.built.NormalReports.{has_canonical_envelope}

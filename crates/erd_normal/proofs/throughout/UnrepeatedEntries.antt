@@ -17,9 +17,10 @@ use Rattle.erd_check.proofs.Shapes.{Within, Within-step, false_unless, faultless
 use Rattle.erd_check.proofs.Lists.{list_of_items-items_of}
 use Rattle.erd_meaning.specs.SelectionNames.{rising_list, with_inserted}
 use Rattle.erd_normal.proofs.built.AskedMembers.{all_items}
-use Rattle.erd_normal.proofs.lists.BuiltLists.{all_rising, entry_holds, trees_listed}
+use Rattle.erd_normal.proofs.lists.BuiltLists.{entry_holds, trees_listed}
 use Rattle.erd_meaning.proofs.orders.DistinctEntries.{unrepeated_distinct}
 use Rattle.erd_meaning.proofs.orders.RisingSets.{In-inserted, In-rising}
+use Rattle.erd_meaning.proofs.orders.RisingAlike.{all_rising}
 
 -- ---- lists no two entries of which pass a test
 

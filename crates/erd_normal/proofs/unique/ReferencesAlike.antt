@@ -1,35 +1,43 @@
 -- Two canonical reports that mean the same write references, sets of them and contents alike.
-use Rattle.std.proofs.Common.{◌≡◌, List, Some, Contains, Bool, true, refl, sym, ap, ◌∙◌, subst}
+use Rattle.std.proofs.Common.{◌≡◌, Some, refl, sym, ap, ◌∙◌, subst, Bool, true, [], false}
 use Rattle.serde_json.specs.Data.{Data, array}
 use Rattle.erd_tables.specs.declared.class.Family.{Family}
 use Rattle.erd_tables.specs.declared.class.Family.TheVariants as family
+use Rattle.erd_tables.specs.declared.class.Role.TheVariants as role
 use Rattle.erd_tables.specs.declared.member.MemberKind.{MemberKind}
 use Rattle.erd_tables.specs.declared.member.MemberKind.TheVariants as kind
 use Rattle.erd_tables.specs.declared.place.Step.{Step}
+use Rattle.std.specs.Prelude.{List}
 use Rattle.erd_check.specs.declared.want.Want.{Want}
-use Rattle.erd_check.specs.declared.want.Want.TheVariants.{Member}
+use Rattle.erd_check.specs.declared.want.Want.TheVariants.{Member, Object, Reference}
 use Rattle.erd_check.specs.Faults.{NoneOf, ShapeFault}
-use Rattle.erd_check.specs.Trees.{IsTree}
 use Rattle.erd_check.specs.Values.{entries_of}
 use Rattle.erd_check.specs.Wants.{Asked, asked, asked_at}
-use Rattle.erd_check.proofs.Entries.{array_from}
+use Rattle.erd_check.proofs.Entries.{array_from, list_of_items_exact}
 use Rattle.erd_check.proofs.Shapes.{Within, unrepeated, wanted_within, within-tree}
-use Rattle.erd_meaning.specs.declared.keys.key.Key.{Key}
-use Rattle.erd_meaning.specs.Accepted.{IsAccepted}
-use Rattle.erd_meaning.specs.Keys.{Preference, has_keys}
-use Rattle.erd_meaning.specs.NameParts.{NameParts}
-use Rattle.erd_meaning.specs.Objects.{Placed, id_of, objects, selections_of_contest}
+use Rattle.erd_meaning.specs.Keys.{has_keys}
+use Rattle.erd_meaning.specs.Objects.{contests, objects, selections_of_contest}
 use Rattle.erd_meaning.specs.Records.{content_of, key_set}
 use Rattle.erd_meaning.specs.SelectionNames.{keys_named}
+use Rattle.erd_meaning.specs.Keys.{Preference}
 use Rattle.erd_meaning.proofs.accepted.Phases.{no_shape_fault}
 use Rattle.erd_meaning.proofs.accepted.References.{Has-Contains}
-use Rattle.erd_meaning.proofs.accepted.Standing.{one_keyed, one_named}
+use Rattle.erd_meaning.proofs.accepted.Standing.{flat-has}
 use Rattle.erd_normal.specs.Canonical.{kind_wanted}
-use Rattle.erd_normal.specs.Laws.{IsSelection, MeanAlike, ReferencesAgree}
-use Rattle.erd_normal.proofs.unique.Agreement.{same_names}
-use Rattle.erd_normal.proofs.unique.Arrays.{many_same}
-use Rattle.erd_normal.proofs.unique.Contents.{SameNames, content_same}
-use Rattle.erd_normal.proofs.unique.Unique.{mean_one, unique}
+use Rattle.erd_normal.specs.Laws.{MeanAlike, ReferencesAgree}
+use Rattle.erd_normal.specs.SaysTheSame.{Sides}
+use Rattle.erd_normal.proofs.lists.Matched.{paired_equal}
+use Rattle.erd_normal.proofs.same.Back.{entries_paired}
+use Rattle.erd_normal.proofs.same.FromAlike.{Stands}
+use Rattle.erd_normal.proofs.same.Related.{matched_within_both, paired_within_both}
+use Rattle.erd_normal.proofs.same.complete.Contents.{content_says}
+use Rattle.erd_normal.proofs.same.complete.Sets.{references_matched}
+use Rattle.erd_normal.proofs.same.complete.Texts.{by_name, texts_tied}
+use Rattle.erd_normal.proofs.same.complete.TwoMeanings.{MeanOne, TextsTied}
+use Rattle.erd_normal.proofs.unique.Closed.{closed_sides, one_text, referring_to_all}
+use Rattle.erd_normal.proofs.unique.Ids.{ids_alike}
+use Rattle.erd_normal.proofs.unique.SameTrees.{entries_equal, sets_equal}
+use Rattle.erd_normal.proofs.unique.Unique.{mean_one}
 
 -- what is asked of a member of a kind
 member_wanted : (w : Want) (k : MemberKind) → kind_wanted w ≡ Some k → (r : Bool) × (w ≡ Member k r)
@@ -43,42 +51,56 @@ within_kind t clean p a k is e =
     let stands : Within t (record { want = a.want; value = a.value; repeated = a.repeated }) = record { place = p; is = is } in
     (m.0, unrepeated t clean (Member k m.0) a.value a.repeated refl (subst (λ w. Within t (record { want = w; value = a.value; repeated = a.repeated })) m.1 stands))
 
-set_alike : (π : Preference) (t u : Data) → MeanAlike π t u → (f : Family) (r r' : Bool) (v w : Data) → has_keys f ≡ true → Within t (asked (Member (kind.Many f) r) v) → Within u (asked (Member (kind.Many f) r') w)
-    → key_set (keys_named π t f (entries_of v)) ≡ key_set (keys_named π u f (entries_of w)) → v ≡ w
-set_alike π t u alike f r r' v w h inside inside' same =
-    let names : SameNames π t u = same_names π t u alike.left alike.right (mean_one π t u alike) in
-    let ds = array_from v (wanted_within t (no_shape_fault π t alike.left.accepted) (asked (Member (kind.Many f) r) v) inside) in
-    let es = array_from w (wanted_within u (no_shape_fault π u alike.right.accepted) (asked (Member (kind.Many f) r') w) inside') in
-    ds.1 ∙ ap array (many_same π t u names.one_name names.one_name' names.key_same alike.left alike.right f r r' ds.0 es.0 h
-    (subst (λ x. Within t (asked (Member (kind.Many f) r) x)) ds.1 inside) (subst (λ x. Within u (asked (Member (kind.Many f) r') x)) es.1 inside')
-    (sym (ap (λ x. key_set (keys_named π t f (entries_of x))) ds.1) ∙ same ∙ ap (λ x. key_set (keys_named π u f (entries_of x))) es.1)) ∙ sym es.1
+module _ (π : Preference) (t u : Data) (alike : MeanAlike π t u) where
+  both : MeanOne π t u
+  both = mean_one π t u alike
 
-content_alike : (π : Preference) (t u : Data) → MeanAlike π t u → (r r' : Bool) (v w : Data) → Within t (asked (Member kind.Content r) v) → Within u (asked (Member kind.Content r') w) → content_of π t v ≡ content_of π u w → v ≡ w
-content_alike π t u alike r r' v w inside inside' same =
-    let ds = array_from v (wanted_within t (no_shape_fault π t alike.left.accepted) (asked (Member kind.Content r) v) inside) in
-    let es = array_from w (wanted_within u (no_shape_fault π u alike.right.accepted) (asked (Member kind.Content r') w) inside') in
-    ds.1 ∙ ap array (content_same π t u alike.left alike.right (same_names π t u alike.left alike.right (mean_one π t u alike)) r r' ds.0 es.0
-    (subst IsTree ds.1 (within-tree t (asked (Member kind.Content r) v) alike.left_tree inside)) (subst IsTree es.1 (within-tree u (asked (Member kind.Content r') w) alike.right_tree inside'))
-    (subst (λ x. Within t (asked (Member kind.Content r) x)) ds.1 inside) (subst (λ x. Within u (asked (Member kind.Content r') x)) es.1 inside')
-    (sym (ap (content_of π t) ds.1) ∙ same ∙ ap (content_of π u) es.1)) ∙ sym es.1
+  abbrev m : Sides
+  m = closed_sides π t u alike.left alike.right both
 
--- a contest has one selection of a name
-one_of_name : (π : Preference) (t : Data) → IsAccepted π t → (k : Key) (n : NameParts) (one other : Placed) → IsSelection π t k n one → IsSelection π t k n other → one ≡ other
-one_of_name π t accepted k n one other a b =
-    let stands = Has-Contains (objects family.Contest t) a.contest a.contest_stands in
-    let same : b.contest ≡ a.contest = one_keyed π t accepted family.Contest b.contest a.contest k refl (Has-Contains (objects family.Contest t) b.contest b.contest_stands) stands b.contest_key a.contest_key in
-    one_named π t accepted a.contest one other n stands (Has-Contains (selections_of_contest a.contest) one a.stands)
-    (Has-Contains (selections_of_contest a.contest) other (subst (λ c. Contains (selections_of_contest c) other) same b.stands)) a.its_name b.its_name
+  tied : TextsTied π t u m
+  tied = texts_tied π t u both [] (referring_to_all t) (referring_to_all u)
+
+  set_alike : (f : Family) (r r' : Bool) (v w : Data) → has_keys f ≡ true → Within t (asked (Member (kind.Many f) r) v) → Within u (asked (Member (kind.Many f) r') w)
+      → key_set (keys_named π t f (entries_of v)) ≡ key_set (keys_named π u f (entries_of w)) → v ≡ w
+  set_alike f r r' v w h inside inside' same =
+      let ds = array_from v (wanted_within t (no_shape_fault π t alike.left.accepted) (asked (Member (kind.Many f) r) v) inside) in
+      let es = array_from w (wanted_within u (no_shape_fault π u alike.right.accepted) (asked (Member (kind.Many f) r') w) inside') in
+      let left : Within t (asked (Member (kind.Many f) r) (array ds.0)) = subst (λ x. Within t (asked (Member (kind.Many f) r) x)) ds.1 inside in
+      let right : Within u (asked (Member (kind.Many f) r') (array es.0)) = subst (λ x. Within u (asked (Member (kind.Many f) r') x)) es.1 inside' in
+      let st : Stands t (Member (kind.Many f) r) (array ds.0) = record { repeated = false; inside = left } in
+      let st' : Stands u (Member (kind.Many f) r') (array es.0) = record { repeated = false; inside = right } in
+      ds.1 ∙ ap array (sets_equal π t u alike.left alike.right both (Member (kind.Many f) r) (Member (kind.Many f) r') (kind.Many f) r r' ds.0 es.0 refl refl refl st st'
+      (matched_within_both (λ x y. x ≡ y) (entries_equal π t u alike.left alike.right both (Member (kind.Many f) r) (Member (kind.Many f) r') (Reference f) ds.0 es.0 refl refl st st')
+      (references_matched π t u m alike.left.accepted alike.right.accepted tied f h r r' ds.0 es.0 left right
+      (sym (ap (λ x. key_set (keys_named π t f (entries_of x))) ds.1) ∙ same ∙ ap (λ x. key_set (keys_named π u f (entries_of x))) es.1)))) ∙ sym es.1
+
+  content_alike : (r r' : Bool) (v w : Data) → Within t (asked (Member kind.Content r) v) → Within u (asked (Member kind.Content r') w) → content_of π t v ≡ content_of π u w → v ≡ w
+  content_alike r r' v w inside inside' same =
+      let ds = array_from v (wanted_within t (no_shape_fault π t alike.left.accepted) (asked (Member kind.Content r) v) inside) in
+      let es = array_from w (wanted_within u (no_shape_fault π u alike.right.accepted) (asked (Member kind.Content r') w) inside') in
+      let left : Within t (asked (Member kind.Content r) (array ds.0)) = subst (λ x. Within t (asked (Member kind.Content r) x)) ds.1 inside in
+      let right : Within u (asked (Member kind.Content r') (array es.0)) = subst (λ x. Within u (asked (Member kind.Content r') x)) es.1 inside' in
+      ds.1 ∙ ap array (list_of_items_exact ds.0 es.0 (paired_equal (λ x y e. e) (paired_within_both (λ x y. x ≡ y)
+      (entries_equal π t u alike.left alike.right both (Member kind.Content r) (Member kind.Content r') (Object role.Content) ds.0 es.0 refl refl (record { repeated = false; inside = left }) (record { repeated = false; inside = right }))
+      (entries_paired m (content_says π t u m alike.left.accepted alike.right.accepted tied r r' ds.0 es.0
+      (within-tree t (asked (Member kind.Content r) (array ds.0)) alike.left_tree left) (within-tree u (asked (Member kind.Content r') (array es.0)) alike.right_tree right) left right
+      (sym (ap (content_of π t) ds.1) ∙ same ∙ ap (content_of π u) es.1)))))) ∙ sym es.1
 
 pub references_agree : ReferencesAgree
 references_agree π t u alike = record {
-  references = λ f a b k h e g. let names : SameNames π t u = same_names π t u alike.left alike.right (mean_one π t u alike) in names.one_name.one_name f a b k h e (names.key_same f b h ∙ g);
+  references = λ f a b k h e g. one_text π t u alike.left alike.right (both π t u alike) a b ((tied π t u alike).objects f a b k h e g);
   sets = λ f p q a b h is is' e g same.
       let w = within_kind t (no_shape_fault π t alike.left.accepted) p a (kind.Many f) is e in
       let w' = within_kind u (no_shape_fault π u alike.right.accepted) q b (kind.Many f) is' g in
       set_alike π t u alike f w.0 w'.0 a.value b.value h w.1 w'.1 same;
   selections = λ k n one other a b.
-      ap (λ o. id_of o.value) (one_of_name π t alike.left.accepted k n one other a (subst (λ x. IsSelection π x k n other) (sym (unique π t u alike)) b));
+      let c = Has-Contains (objects family.Contest t) a.contest a.contest_stands in
+      let d = Has-Contains (objects family.Contest u) b.contest b.contest_stands in
+      let x = Has-Contains (selections_of_contest a.contest) one a.stands in
+      let y = Has-Contains (selections_of_contest b.contest) other b.stands in
+      ids_alike π t u alike.left alike.right (both π t u alike) family.Selection one other (flat-has selections_of_contest (contests t) a.contest one c x) (flat-has selections_of_contest (contests u) b.contest other d y)
+      (by_name refl a.contest b.contest c d (a.contest_key ∙ sym b.contest_key) x y (a.its_name ∙ sym b.its_name));
   contents = λ p q a b is is' e g same.
       let w = within_kind t (no_shape_fault π t alike.left.accepted) p a kind.Content is e in
       let w' = within_kind u (no_shape_fault π u alike.right.accepted) q b kind.Content is' g in

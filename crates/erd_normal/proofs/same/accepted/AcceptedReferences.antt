@@ -40,11 +40,11 @@ use Rattle.erd_normal.proofs.same.accepted.SoundReferences.{and_no, names_sound}
 use Rattle.erd_normal.proofs.lists.Matched.{Both, both, Matched, matched_any, matched_back}
 use Rattle.erd_normal.specs.SameLaws.{HasSoundEnvelope, IsUsed}
 use Rattle.erd_normal.specs.SaysTheSame.{Sides, StandsFor, Same}
-use Rattle.erd_normal.proofs.same.FromAlike.{Stands}
+use Rattle.erd_normal.proofs.same.FromAlike.{Stands, member_stands}
 use Rattle.erd_normal.proofs.same.InTurn.{OtherText, id_text}
 use Rattle.erd_normal.proofs.same.Lookups.{Aligned, both_there, not_both, MayLack}
 use Rattle.erd_normal.proofs.same.Owners.{has_same, ids_alike, owners_related}
-use Rattle.erd_normal.proofs.same.Related.{Objects, Related, member_stands, no_report, object_of, objects_of, related_array, selections_matched}
+use Rattle.erd_normal.proofs.same.Related.{Objects, Related, no_report, object_of, objects_of, related_array, selections_matched}
 use Rattle.erd_normal.proofs.same.accepted.AbsentMembers.{IsSound, is_lone}
 use Rattle.erd_normal.proofs.same.accepted.AskedAgain.{AskedAgain, asked_again, none_repeated}
 use Rattle.erd_normal.proofs.same.accepted.RequiredMembers.{required_stays}

@@ -27,8 +27,8 @@ use Rattle.erd_meaning.proofs.accepted.Phases.{no_reference_fault, no_shape_faul
 use Rattle.erd_meaning.proofs.orders.DistinctEntries.{unrepeated_distinct}
 use Rattle.erd_meaning.proofs.orders.Reordered.{reordered-has}
 use Rattle.erd_normal.proofs.lists.Matched.{Matched, distinct-paired, distinct-reordered, matched_back}
+use Rattle.erd_normal.proofs.lists.BuiltLists.{items_again}
 use Rattle.erd_normal.proofs.same.Lists.{entry_has}
-use Rattle.erd_normal.proofs.texts.WholeEntries.{listed_items}
 use Rattle.erd_normal.proofs.throughout.UnrepeatedEntries.{AreUnlike, same_turned, unlike_unrepeated}
 use Rattle.erd_normal.specs.SameLaws.{HasSoundEnvelope}
 use Rattle.erd_normal.specs.SaysTheSame.{Sides, Same, an_object, a_list, a_set, SameMembers, is_envelope}
@@ -142,8 +142,8 @@ module _ (m : Sides) (left_tree : IsTree m.left) (right_tree : IsTree m.right) (
   first_of_set a ds es v i f inside value asks trees matched found =
       flag_clear (is_compared_set a.want) (is_repeated es i f)
       (λ set.
-      subst (λ x. is_repeated x i f ≡ false) (listed_items es)
-      (unlike_unrepeated (list_of_items es) i f (unlike a ds es v inside value asks set trees matched) (subst (λ x. get_item i x ≡ Some f) (sym (listed_items es)) found)))
+      subst (λ x. is_repeated x i f ≡ false) (items_again es)
+      (unlike_unrepeated (list_of_items es) i f (unlike a ds es v inside value asks set trees matched) (subst (λ x. get_item i x ≡ Some f) (sym (items_again es)) found)))
 
   -- ---- one step
 

@@ -15,7 +15,8 @@ use Rattle.erd_check.proofs.ObjectsAt.{MayBeArray, is_absent, is_filled_array}
 use Rattle.erd_check.proofs.Rising.{here}
 use Rattle.erd_normal.proofs.lists.Matched.{Matched, matched_back, matched_on}
 use Rattle.erd_normal.proofs.lists.Paired.{Paired}
-use Rattle.erd_normal.proofs.same.Back.{items_again, paired_entries, paired_flip}
+use Rattle.erd_normal.proofs.lists.BuiltLists.{items_again}
+use Rattle.erd_normal.proofs.same.Back.{paired_entries, paired_flip}
 use Rattle.erd_normal.proofs.same.Lists.{follows, reordered_permuted}
 use Rattle.erd_normal.proofs.same.Lookups.{Aligned, both_there, not_both, lacks_none, lacks_one}
 use Rattle.erd_normal.specs.SaysTheSame.{Sides, Same, SameEntries, a_list, a_set, an_empty_array, is_array_kind}

@@ -1,13 +1,16 @@
 -- The contests and headers of the ballots of an accepted report: what they refer to, and the arrays inside them.
-use Rattle.std.proofs.Common.{◌≡◌, ℕ, List, Option, Some, None, true, false, ◌⊎◌, inl, inr, codes, refl, sym, ap, ◌∙◌, subst}
+use Rattle.std.proofs.Common.{◌≡◌, ℕ, List, Option, Some, None, true, false, ◌⊎◌, inl, inr, codes, refl, sym, ap, ◌∙◌, subst, Ordering, Less, Equal, Greater, is_eq}
+use Rattle.std.proofs.lemmas.Map.Text.{is_eq-slice_cmp}
 use Rattle.std.specs.Str.{bytes_eq}
-use Rattle.serde_json.specs.Data.{Data, string, array, object, Items, Members}
+use Rattle.serde_json.specs.Data.{Data, string, array, object, Items, Members, no_members, member}
 use Rattle.serde_json.specs.Find.{get_member}
+use Rattle.erd_tables.specs.Classes.{role_of_class}
 use Rattle.erd_tables.specs.declared.class.Class.{Class}
 use Rattle.erd_tables.specs.declared.class.Class.TheVariants as class
 use Rattle.erd_tables.specs.declared.class.Family.TheVariants as family
 use Rattle.erd_tables.specs.declared.class.Role.TheVariants as role
 use Rattle.erd_tables.specs.declared.member.MemberKind.TheVariants as kind
+use Rattle.erd_tables.specs.Texts.{text_cmp}
 use Rattle.erd_check.specs.Faults.{NoneOf, ShapeFault, has_wanted_kind}
 use Rattle.erd_check.specs.Values.{entries_at, text_of}
 use Rattle.erd_check.specs.Wants.{asked, member_want}
@@ -21,12 +24,34 @@ use Rattle.erd_meaning.specs.Accepted.{IsAccepted}
 use Rattle.erd_meaning.specs.Keys.{Preference}
 use Rattle.erd_meaning.specs.LaterFaults.{is_selection_in}
 use Rattle.erd_meaning.specs.Objects.{owner}
+use Rattle.erd_meaning.specs.Meaning.{Content, no_content}
+use Rattle.erd_meaning.specs.Records.{content_inside, content_of}
 use Rattle.erd_meaning.proofs.accepted.Phases.{no_shape_fault}
 use Rattle.erd_normal.proofs.canonical.ChosenEntries.{IsChosen, contest_named, entries_chosen, list_name}
-use Rattle.erd_normal.proofs.unique.Contents.{content_class}
 
 abbrev pub inner_name : List ℕ
 inner_name = codes "OrderedContent"
+
+pub content_class : (c : Class) → role_of_class c ≡ role.Content → (c ≡ class.OrderedContest) ⊎ (c ≡ class.OrderedHeader)
+content_class class.OrderedContest e = inl refl
+content_class class.OrderedHeader e = inr refl
+content_class c e = cc
+
+-- the content that a member gives, if it is there
+abbrev pub content_at : Preference → Data → Option Data → Content
+content_at π t None = no_content
+content_at π t (Some v) = content_of π t v
+
+-- what stands inside a header is its member's
+pub content_inside-get : (π : Preference) (t : Data) (ms : Members) → content_inside π t ms ≡ content_at π t (get_member (codes "OrderedContent") ms)
+content_inside-get π t no_members = refl
+content_inside-get π t (member k d ms) = at (text_cmp (codes "OrderedContent") k) refl (content_inside-get π t ms)
+  where
+    at : (o : Ordering) → text_cmp (codes "OrderedContent") k ≡ o → content_inside π t ms ≡ content_at π t (get_member (codes "OrderedContent") ms)
+        → content_inside π t (member k d ms) ≡ content_at π t (get_member (codes "OrderedContent") (member k d ms))
+    at Less is h = rw (is, sym (is_eq-slice_cmp (codes "OrderedContent") k) ∙ ap is_eq is) h
+    at Equal is h = rw (is, sym (is_eq-slice_cmp (codes "OrderedContent") k) ∙ ap is_eq is)
+    at Greater is h = rw (is, sym (is_eq-slice_cmp (codes "OrderedContent") k) ∙ ap is_eq is) h
 
 -- an object of a ballot's content, of this class
 abbrev pub NodeAt : Data → Class → Members → Type 0

@@ -1,5 +1,5 @@
 -- Contents of ballots that mean the same say the same, headers inside headers included.
-use Rattle.std.proofs.Common.{◌≡◌, ◌≤◌, max, ℕ, zero, suc, List, [], ◌∷◌, Bool, true, false, cond, Option, Some, option_and_then, map, codes, arith, refl, sym, ap, ◌∙◌, subst}
+use Rattle.std.proofs.Common.{◌≡◌, ◌≤◌, max, ℕ, zero, suc, List, [], ◌∷◌, Bool, true, false, cond, Option, Some, option_and_then, map, codes, arith, refl, sym, ap, ◌∙◌, subst, None}
 use Rattle.std.specs.Str.{bytes_eq}
 use Rattle.serde_json.specs.Data.{Data, string, array, object, Items, no_items, item, Members, depth, items_depth, members_depth}
 use Rattle.serde_json.specs.Find.{as_str, get_item, get_member}
@@ -18,6 +18,8 @@ use Rattle.erd_check.proofs.Members.{get_member-depth, get_member-tree}
 use Rattle.erd_check.proofs.ObjectsAt.{MayBeArray, is_absent, is_filled_array}
 use Rattle.erd_check.proofs.Rising.{Has, here, later}
 use Rattle.erd_check.proofs.Shapes.{Within, Within-step, member_within, of_role}
+use Rattle.erd_check.proofs.TableKinds.{kind_of_unlisted_has}
+use Rattle.erd_check.proofs.Whole.{no_strange, no_unknown}
 use Rattle.erd_check.specs.Trees.{AreMembers, AreTrees, IsTree}
 use Rattle.erd_check.specs.Wants.{asked, member_want, want_of_kind, want_of_name}
 use Rattle.erd_check.specs.declared.want.Scope.{Scope}
@@ -25,10 +27,11 @@ use Rattle.erd_check.specs.declared.want.Scope.TheVariants as scope
 use Rattle.erd_check.specs.declared.want.Want.TheVariants.{ClassText, Member, Object, Reference}
 use Rattle.erd_meaning.specs.Accepted.{IsAccepted}
 use Rattle.erd_meaning.specs.Keys.{Preference, has_keys, key_of}
-use Rattle.erd_meaning.specs.Meaning.{Node}
+use Rattle.erd_meaning.specs.Meaning.{Node, Content, JsonMap, a_contest, a_header, no_content}
 use Rattle.erd_meaning.specs.NameParts.{NameParts}
-use Rattle.erd_meaning.specs.Records.{carried_members, contest_node, content_inside, header_node, node_of, nodes_of}
+use Rattle.erd_meaning.specs.Records.{carried_members, contest_node, content_inside, header_node, node_of, nodes_of, if_carried}
 use Rattle.erd_meaning.specs.SelectionNames.{key_named, name_named}
+use Rattle.erd_meaning.specs.declared.keys.key.Key.{Key}
 use Rattle.erd_meaning.proofs.accepted.Phases.{no_shape_fault}
 use Rattle.erd_meaning.proofs.accepted.References.{resolves}
 use Rattle.erd_normal.specs.SaysTheSame.{Sides, Same, a_text, an_id, an_object, SameEntries, SameMembers, StandsFor, no_entry, one_entry}
@@ -40,9 +43,48 @@ use Rattle.erd_normal.proofs.same.Lookups.{Aligned, both_there}
 use Rattle.erd_normal.proofs.same.Merged.{merged}
 use Rattle.erd_normal.proofs.same.Steady.{AllPlain, is_plain, is_plain_kind, plain_of_kind}
 use Rattle.erd_normal.proofs.same.complete.Arrays.{lists_aligned}
-use Rattle.erd_normal.proofs.same.complete.ContentNodes.{ContestNode, HeaderNode, IsSelected, NodeAt, NodeView, contest_view, header_view, inner_name, node_view}
+use Rattle.erd_normal.proofs.same.complete.ContentNodes.{ContestNode, HeaderNode, IsSelected, NodeAt, NodeView, content_at, content_inside-get, contest_view, header_view, inner_name, node_view}
 use Rattle.erd_normal.proofs.same.complete.TwoMeanings.{TextsTied}
-use Rattle.erd_normal.proofs.unique.Contents.{content_at, content_inside-get, contest_rest, header_rest, is_rest, node_inside, node_key, node_names, node_others, rest_same}
+
+-- a member of a ballot's node that neither refers nor has content
+abbrev is_rest : MemberKind → Bool
+is_rest kind.Carried = true
+is_rest kind.StrangeReference = true
+is_rest kind.StrangeIdentity = true
+is_rest k = false
+
+rest_same : (π : Preference) (t u : Data) → IsAccepted π t → IsAccepted π u → (k : MemberKind) (r : Bool) (o p : Option Data) → is_rest k ≡ true
+    → ((v : Data) → o ≡ Some v → Within t (asked (want_of_kind k r) v)) → ((v : Data) → p ≡ Some v → Within u (asked (want_of_kind k r) v)) → if_carried k o ≡ if_carried k p → o ≡ p
+rest_same π t u accepted accepted' kind.Carried r o p rest inside inside' same = same
+rest_same π t u accepted accepted' kind.StrangeReference r None None rest inside inside' same = refl
+rest_same π t u accepted accepted' kind.StrangeReference r (Some v) p rest inside inside' same = absurd (no_unknown t (no_shape_fault π t accepted) v r (inside v refl))
+rest_same π t u accepted accepted' kind.StrangeReference r None (Some w) rest inside inside' same = absurd (no_unknown u (no_shape_fault π u accepted') w r (inside' w refl))
+rest_same π t u accepted accepted' kind.StrangeIdentity r None None rest inside inside' same = refl
+rest_same π t u accepted accepted' kind.StrangeIdentity r (Some v) p rest inside inside' same = absurd (no_strange t (no_shape_fault π t accepted) v r (inside v refl))
+rest_same π t u accepted accepted' kind.StrangeIdentity r None (Some w) rest inside inside' same = absurd (no_strange u (no_shape_fault π u accepted') w r (inside' w refl))
+rest_same π t u accepted accepted' k r o p rest inside inside' same = cc
+
+abbrev node_key : Node → Option Key
+node_key (a_contest k ns others) = k
+node_key (a_header k inside others) = k
+
+abbrev node_names : Node → List (Option NameParts)
+node_names (a_contest k ns others) = ns
+node_names (a_header k inside others) = []
+
+abbrev node_inside : Node → Content
+node_inside (a_contest k ns others) = no_content
+node_inside (a_header k inside others) = inside
+
+abbrev node_others : Node → JsonMap
+node_others (a_contest k ns others) = others
+node_others (a_header k inside others) = others
+
+contest_rest : (k : List ℕ) → bytes_eq k (codes "@type") ≡ false → bytes_eq k (codes "ContestId") ≡ false → bytes_eq k (codes "OrderedContestSelectionIds") ≡ false → is_rest (kind_of_member class.OrderedContest k) ≡ true
+contest_rest k e f g = rw (f, g) (kind_of_unlisted_has is_rest class.OrderedContest k e refl refl refl)
+
+header_rest : (k : List ℕ) → bytes_eq k (codes "@type") ≡ false → bytes_eq k (codes "HeaderId") ≡ false → bytes_eq k (codes "OrderedContent") ≡ false → is_rest (kind_of_member class.OrderedHeader k) ≡ true
+header_rest k e f g = rw (f, g) (kind_of_unlisted_has is_rest class.OrderedHeader k e refl refl refl)
 
 -- lists with the same values, entry by entry
 paired_by : {A B C : Type 0} (R : A → B → Type 0) (f : A → C) (g : B → C) (xs : List A) (ys : List B) → ((x : A) (y : B) → Has xs x → Has ys y → f x ≡ g y → R x y) → map f xs ≡ map g ys → Paired R xs ys

@@ -43,9 +43,8 @@ use Rattle.erd_normal.proofs.same.complete.ByRecords.{apart_map, apart_one, reco
 use Rattle.erd_normal.proofs.same.complete.Sets.{apart_by}
 use Rattle.erd_normal.proofs.same.complete.TwoMeanings.{MeanOne}
 use Rattle.erd_normal.proofs.same.complete.PlacedRecords.{has_record, records_apart, records_of-keyed}
-use Rattle.erd_normal.proofs.unique.FamilyArrays.{InElections}
-use Rattle.erd_normal.proofs.unique.Records.{class_within, members_in, record_with-Some}
-use Rattle.erd_normal.proofs.unique.Selections.{has_name, has_selection_record, map_in, selections_value}
+use Rattle.erd_normal.proofs.same.FamilyValues.{InElections}
+use Rattle.erd_normal.proofs.meaning.ObjectRecords.{class_within, has_name, has_selection_record, map_in, members_in, record_with-Some, selections_value}
 
 -- two elections with one key and one record
 pub record ElectionsAlike (π : Preference) (t u : Data) (e f : Placed) : Type 0 where
@@ -211,7 +210,7 @@ module _ (π : Preference) (t u : Data) (both : MeanOne π t u) where
       (λ o i. let k = has_identifier π u (no_identity_fault π u both.right) f o keyed i in recorded_alike f keyed (key_at π o) k.0 k.1))
 
   -- objects of a family with one key are alike
-  alike_by_key : (f : Family) → has_keys f ≡ true → (o p : Placed) → Has (objects f t) o → Has (objects f u) p → key_at π o ≡ key_at π p → ObjectsAlike π t u f o p
+  pub alike_by_key : (f : Family) → has_keys f ≡ true → (o p : Placed) → Has (objects f t) o → Has (objects f u) p → key_at π o ≡ key_at π p → ObjectsAlike π t u f o p
   alike_by_key f keyed o p i j same =
       let m = matched_on o (family_matched f keyed) i in
       let one : m.0 ≡ p = apart_one (key_at π) (objects f u) (family_apart π u both.right f keyed) m.0 p m.1 j (sym m.2.key ∙ same) in

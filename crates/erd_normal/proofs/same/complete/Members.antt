@@ -16,7 +16,7 @@ use Rattle.erd_tables.specs.declared.class.Role.TheVariants as role
 use Rattle.erd_tables.specs.declared.member.MemberKind.{MemberKind}
 use Rattle.erd_tables.specs.declared.member.MemberKind.TheVariants as kind
 use Rattle.erd_check.specs.Trees.{AreMembers}
-use Rattle.erd_check.specs.Wants.{asked, is_report_class, member_want, want_of_name}
+use Rattle.erd_check.specs.Wants.{asked, is_report_class, member_want}
 use Rattle.erd_check.specs.declared.want.Scope.TheVariants as scope
 use Rattle.erd_check.specs.declared.want.Want.TheVariants.{ClassText, Object, Status}
 use Rattle.erd_check.proofs.Exact.{both_true, text_exact}
@@ -37,6 +37,8 @@ use Rattle.erd_normal.proofs.same.Lookups.{Aligned}
 use Rattle.erd_normal.proofs.same.Merged.{merged}
 use Rattle.erd_normal.proofs.same.complete.TwoMeanings.{TextsTied}
 use Rattle.erd_normal.proofs.same.complete.Values.{all_plain, means_itself, plain_aligned}
+use Rattle.erd_normal.proofs.same.Types.{asked_of_name}
+use Rattle.erd_normal.proofs.built.AskedMembers.{status_kind}
 use Rattle.erd_normal.specs.SaysTheSame.{Sides, Same, SameMembers, an_object}
 
 -- ---- what records leave out
@@ -130,10 +132,6 @@ plain_from_value π t u k o o' p q h e = sym (plain_again p) ∙ ap plain_of_val
 
 -- ---- `Status` is a word
 
-pub status_kind : (c : Class) (k : List ℕ) → (is_report_class c && bytes_eq k (codes "Status")) ≡ true → kind_of_member c k ≡ kind.Word
-status_kind class.ElectionReport k e = ap (kind_of_member class.ElectionReport) (text_exact k (codes "Status") e)
-status_kind c k e = cc
-
 json_in : Option PlainValue → Data
 json_in (Some (a_json d)) = d
 json_in o = null
@@ -152,9 +150,6 @@ module _ (π : Preference) (t u : Data) (m : Sides) (accepted : IsAccepted π t)
     abbrev pub AlignedAt : List ℕ → Type 0
     AlignedAt k = Aligned m (scope.Members q (Some c)) k (get_member k ms) (get_member k ns)
 
-    asks : (k : List ℕ) → bytes_eq k (codes "@type") ≡ false → want_of_name (scope.Members q (Some c)) k ≡ Some (member_want c k)
-    asks k e = rw e refl
-
     asks_status : (k : List ℕ) → (is_report_class c && bytes_eq k (codes "Status")) ≡ true → member_want c k ≡ Status
     asks_status k e = rw e refl
 
@@ -162,10 +157,10 @@ module _ (π : Preference) (t u : Data) (m : Sides) (accepted : IsAccepted π t)
         → option_and_then (plain_value π t (kind_of_member c k)) (get_member k ms) ≡ option_and_then (plain_value π u (kind_of_member c k)) (get_member k ns)
         → (s : Bool) → (is_report_class c && bytes_eq k (codes "Status")) ≡ s → AlignedAt k
     plain_at tree tree' k e plain means true status =
-        equal_aligned m (scope.Members q (Some c)) k (get_member k ms) (get_member k ns) (all_plain _ Status (asks k e ∙ ap Some (asks_status k status)) refl)
+        equal_aligned m (scope.Members q (Some c)) k (get_member k ms) (get_member k ns) (all_plain _ Status (asked_of_name q c k e ∙ ap Some (asks_status k status)) refl)
         (word_same π t u (get_member k ms) (get_member k ns) (subst (λ x. option_and_then (plain_value π t x) (get_member k ms) ≡ option_and_then (plain_value π u x) (get_member k ns)) (status_kind c k status) means))
     plain_at tree tree' k e plain means false other =
-        plain_aligned π t u m accepted accepted' tied (scope.Members q (Some c)) k (kind_of_member c k) (is_required c k) (get_member k ms) (get_member k ns) (asks k e ∙ ap Some (want_unless_status c k other)) plain
+        plain_aligned π t u m accepted accepted' tied (scope.Members q (Some c)) k (kind_of_member c k) (is_required c k) (get_member k ms) (get_member k ns) (asked_of_name q c k e ∙ ap Some (want_unless_status c k other)) plain
         (λ v i. get_member-tree k v ms tree i) (λ v i. get_member-tree k v ns tree' i)
         (λ v i. subst (λ x. Within t (asked x v)) (want_unless_status c k other) (member_within t (no_shape_fault π t accepted) (Object q) q ms c k v a.asks a.among e a.inside i))
         (λ v i. subst (λ x. Within u (asked x v)) (want_unless_status c k other) (member_within u (no_shape_fault π u accepted') (Object q) q ns c k v b.asks b.among e b.inside i))

@@ -1,10 +1,10 @@
 -- Objects of families, elections and reports that mean the same say the same.
-use Rattle.std.proofs.Common.{◌≡◌, ℕ, List, [], ◌∷◌, map, Option, Some, None, option_map, is_some, true, false, codes, refl, sym, ap, ◌∙◌, subst, ⊎_elim}
+use Rattle.std.proofs.Common.{◌≡◌, ℕ, List, [], ◌∷◌, map, Option, Some, None, option_map, is_some, true, false, codes, refl, sym, ap, ◌∙◌, subst, ⊎_elim, option_and_then, Bool, if◌then◌else◌}
 use Rattle.std.specs.Str.{bytes_eq}
 use Rattle.serde_json.specs.Data.{Data, string, array, object, Members}
-use Rattle.serde_json.specs.Find.{get_member}
+use Rattle.serde_json.specs.Find.{get_member, as_str}
 use Rattle.erd_tables.specs.Classes.{family_of_class, role_of_class}
-use Rattle.erd_tables.specs.Table.{is_required, kind_of_member}
+use Rattle.erd_tables.specs.Table.{is_required, kind_of_member, kind_of_identity}
 use Rattle.erd_tables.specs.declared.class.Class.{Class}
 use Rattle.erd_tables.specs.declared.class.Class.TheVariants as class
 use Rattle.erd_tables.specs.declared.class.Family.{Family}
@@ -13,15 +13,17 @@ use Rattle.erd_tables.specs.declared.class.Role.{Role}
 use Rattle.erd_tables.specs.declared.class.Role.TheVariants as role
 use Rattle.erd_tables.specs.declared.member.MemberKind.TheVariants as kind
 use Rattle.erd_check.specs.Values.{entries_at}
-use Rattle.erd_check.specs.Wants.{asked, class_of_object, member_want, want_of_name}
+use Rattle.erd_check.specs.Wants.{asked, class_of_object, want_of_name, want_of_kind}
 use Rattle.erd_check.specs.declared.want.Scope.{Scope}
 use Rattle.erd_check.specs.declared.want.Scope.TheVariants as scope
 use Rattle.erd_check.specs.declared.want.Want.TheVariants.{Member, Object}
-use Rattle.erd_check.proofs.Entries.{entries_in}
+use Rattle.erd_check.specs.declared.want.Want.{Want}
+use Rattle.erd_check.proofs.Entries.{entries_in, string_from_text}
 use Rattle.erd_check.proofs.ObjectsAt.{MayBeArray, ObjectAt, ObjectIn, is_filled_array, keyed_list, object_in}
 use Rattle.erd_check.proofs.Rising.{Has, Has-cases}
-use Rattle.erd_check.proofs.Shapes.{Within, within-tree}
-use Rattle.erd_check.proofs.TableKinds.{want_by_kind}
+use Rattle.erd_check.proofs.Shapes.{Within, within-tree, member_within, wanted_within}
+use Rattle.erd_check.proofs.TableKinds.{want_by_kind, is_word, kind_of_id}
+use Rattle.erd_check.proofs.Whole.{no_strange}
 use Rattle.erd_meaning.specs.Accepted.{IsAccepted}
 use Rattle.erd_meaning.specs.Keys.{Preference, has_keys}
 use Rattle.erd_meaning.specs.Meaning.{ObjectRecord, SelectionRecord}
@@ -40,10 +42,43 @@ use Rattle.erd_normal.proofs.same.complete.Counterparts.{ElectionsAlike, Objects
 use Rattle.erd_normal.proofs.same.complete.Members.{apart_cases, apart_named, is_apart, leaves, leaves_out, left_out, meant_unless_apart, object_says, plain_from_value}
 use Rattle.erd_normal.proofs.same.complete.Texts.{Counterpart, by_key, by_name, ids_stand, sides, texts_tied}
 use Rattle.erd_normal.proofs.same.complete.TwoMeanings.{MeanOne}
-use Rattle.erd_normal.proofs.unique.FamilyArrays.{InElections, InReport, candidates, headers, offices, parties, persons, styles, units}
-use Rattle.erd_normal.proofs.unique.FamilyArrays.{contests as contests_home}
-use Rattle.erd_normal.proofs.unique.Records.{class_of_record, id_member, members_in, no_id}
+use Rattle.erd_normal.proofs.meaning.ObjectRecords.{class_of_record, members_in}
+use Rattle.erd_normal.proofs.same.FamilyValues.{InElections, InReport, candidates, contests_home, headers, offices, parties, persons, styles, units}
+use Rattle.erd_normal.proofs.same.Types.{asked_of_name}
 use Rattle.erd_normal.specs.SaysTheSame.{Sides, IsUnused, Same, an_id, an_unused_id, of_the_envelope}
+
+id_text : (π : Preference) (t : Data) → IsAccepted π t → (b : Bool) (r : Bool) (v : Data) → Within t (asked (want_of_kind (if b then kind.Identity else kind.StrangeIdentity) r) v) → Some v ≡ option_map string (as_str v)
+id_text π t accepted true r v w = let s = string_from_text v (wanted_within t (no_shape_fault π t accepted) (asked (Member kind.Identity r) v) w) in rw s.1
+id_text π t accepted false r v w = absurd (no_strange t (no_shape_fault π t accepted) v r w)
+
+identity_no_word : (b : Bool) → is_word (if b then kind.Identity else kind.StrangeIdentity) ≡ false
+identity_no_word true = refl
+identity_no_word false = refl
+
+-- what is asked of an `@id`
+id_within : (π : Preference) (t : Data) → IsAccepted π t → (w : Want) (r : Role) (c : Class) (ms : Members) → ObjectAt t w r c ms → (v : Data) → get_member (codes "@id") ms ≡ Some v
+    → Within t (asked (want_of_kind (kind_of_identity c) (is_required c (codes "@id"))) v)
+id_within π t accepted w r c ms a v e =
+    subst (λ x. Within t (asked x v)) (want_by_kind c (codes "@id") (kind_of_identity c) (kind_of_id c) (identity_no_word (is_some (family_of_class c))))
+    (member_within t (no_shape_fault π t accepted) w r ms c (codes "@id") v a.asks a.among refl a.inside e)
+
+-- an object's `@id` is a text, where it stands
+id_member : (π : Preference) (t : Data) → IsAccepted π t → (w : Want) (r : Role) (c : Class) (ms : Members) → ObjectAt t w r c ms → get_member (codes "@id") ms ≡ option_map string (id_of (object ms))
+id_member π t accepted w r c ms a = at (get_member (codes "@id") ms) refl
+  where
+    at : (o : Option Data) → get_member (codes "@id") ms ≡ o → o ≡ option_map string (option_and_then as_str o)
+    at None e = refl
+    at (Some v) e = id_text π t accepted (is_some (family_of_class c)) (is_required c (codes "@id")) v (id_within π t accepted w r c ms a v e)
+
+-- an object of a class that has no family has no `@id`
+no_id : (π : Preference) (t : Data) → IsAccepted π t → (w : Want) (q : Role) (c : Class) (ms : Members) → ObjectAt t w q c ms → is_some (family_of_class c) ≡ false → id_of (object ms) ≡ None
+no_id π t accepted w q c ms a h = at (get_member (codes "@id") ms) refl
+  where
+    at : (o : Option Data) → get_member (codes "@id") ms ≡ o → option_and_then as_str (get_member (codes "@id") ms) ≡ None
+    at None e = ap (option_and_then as_str) e
+    at (Some v) e =
+        let strange : kind_of_identity c ≡ kind.StrangeIdentity = rw h in
+        absurd (no_strange t (no_shape_fault π t accepted) v (is_required c (codes "@id")) (subst (λ k. Within t (asked (want_of_kind k (is_required c (codes "@id"))) v)) strange (id_within π t accepted w q c ms a v e)))
 
 -- two objects of one class
 pub record Two (t u : Data) (q : Role) (d e : Data) : Type 0 where
@@ -63,9 +98,6 @@ two_objects π t u accepted accepted' q d e w w' same =
     let both : Some b.class ≡ Some a.class = sym b.at.among ∙ ap (class_of_object q) (sym b.is_object) ∙ sym same ∙ ap (class_of_object q) a.is_object ∙ a.at.among in
     let one : b.class ≡ a.class = cc in
     record { ms = a.ms; ns = b.ms; class = a.class; role = a.role; is = a.is_object; is' = b.is_object; at = a.at; at' = subst (λ c. ObjectAt u (Object q) q c b.ms) one b.at }
-
-asked_name : (q : Role) (c : Class) (k : List ℕ) → bytes_eq k (codes "@type") ≡ false → want_of_name (scope.Members q (Some c)) k ≡ Some (member_want c k)
-asked_name q c k e = rw e refl
 
 -- an `@id` of the one report is unused in l if its object's counterpart has none, and one of the other in r
 pub record AloneUnused (π : Preference) (t u l r : Data) : Type 0 where
@@ -99,31 +131,37 @@ module _ (π : Preference) (t u : Data) (both : MeanOne π t u) (default : List 
           not_both (lacks_none l s (codes "@id")) (lacks_one r s (codes "@id") (string b) (an_unused_id b (is_required c (codes "@id")) (id_asked f c plays) refl (alone.right f o p b h k related is is')))
       at None None is is' = not_both (lacks_none l s (codes "@id")) (lacks_none r s (codes "@id"))
 
-  within_t : (f : Family) (o : Placed) → Has (objects f t) o → Within t (asked (Object (role.OfFamily f)) o.value)
+  pub within_t : (f : Family) (o : Placed) → Has (objects f t) o → Within t (asked (Object (role.OfFamily f)) o.value)
   within_t f o h = record { place = o.place; is = stands π t both.left f o h }
 
-  within_u : (f : Family) (o : Placed) → Has (objects f u) o → Within u (asked (Object (role.OfFamily f)) o.value)
+  pub within_u : (f : Family) (o : Placed) → Has (objects f u) o → Within u (asked (Object (role.OfFamily f)) o.value)
   within_u f o h = record { place = o.place; is = stands π u both.right f o h }
 
-  -- two objects of a family, whose records leave out these names
+  -- two objects of one class, whose records leave out these names
+  pub two_say : (names : List (List ℕ)) (q : Role) (d e : Data) → Within t (asked (Object q) d) → Within u (asked (Object q) e) → class_of_object q d ≡ class_of_object q e → ((c : Class) → role_of_class c ≡ q → leaves_out names c ≡ true)
+      → ((two : Two t u q d e) → AlignedIn q two.class two.ms two.ns (codes "@id")) → ((two : Two t u q d e) (k : List ℕ) → Has names k → AlignedIn q two.class two.ms two.ns k)
+      → ((two : Two t u q d e) (k : List ℕ) → is_apart two.class k ≡ false → plain_member π t (object two.ms) two.class k ≡ plain_member π u (object two.ns) two.class k) → Same m (Some (Object q)) d e
+  two_say names q d e w w' classes plain ids given same =
+      let two : Two t u q d e = two_objects π t u both.left both.right q d e w w' classes in
+      subst (λ x. Same m (Some (Object q)) x e) (sym two.is) (subst (Same m (Some (Object q)) (object two.ms)) (sym two.is')
+      (object_says π t u m both.left both.right (texts_tied π t u both default l r) q two.class two.ms two.ns two.at two.at'
+      (within-tree t (asked (Object q) (object two.ms)) both.left_tree two.at.inside) (within-tree u (asked (Object q) (object two.ns)) both.right_tree two.at'.inside) (ids two)
+      (λ n f g i. given two n (left_out names two.class n (plain two.class two.role) f g i)) (same two)))
+
+  -- two objects of a family
   family_says : (names : List (List ℕ)) (f : Family) (o p : Placed) → Has (objects f t) o → Has (objects f u) p → Counterpart π t u f o p → class_of_object (role.OfFamily f) o.value ≡ class_of_object (role.OfFamily f) p.value
       → ((c : Class) → role_of_class c ≡ role.OfFamily f → leaves_out names c ≡ true)
       → ((two : Two t u (role.OfFamily f) o.value p.value) (k : List ℕ) → Has names k → AlignedIn (role.OfFamily f) two.class two.ms two.ns k)
       → ((two : Two t u (role.OfFamily f) o.value p.value) (k : List ℕ) → is_apart two.class k ≡ false → plain_member π t (object two.ms) two.class k ≡ plain_member π u (object two.ns) two.class k)
       → Same m (Some (Object (role.OfFamily f))) o.value p.value
-  family_says names f o p h k related classes plain given same =
-      let q : Role = role.OfFamily f in
-      let two : Two t u q o.value p.value = two_objects π t u both.left both.right q o.value p.value (within_t f o h) (within_u f p k) classes in
-      let ids : Aligned m (scope.Members q (Some two.class)) (codes "@id") (get_member (codes "@id") two.ms) (get_member (codes "@id") two.ns) =
-      subst (λ x. Aligned m (scope.Members q (Some two.class)) (codes "@id") x (get_member (codes "@id") two.ns)) (ap (λ d. option_map string (id_of d)) two.is ∙ sym (id_member π t both.left (Object q) q two.class two.ms two.at))
-      (subst (Aligned m (scope.Members q (Some two.class)) (codes "@id") (option_map string (id_of o.value))) (ap (λ d. option_map string (id_of d)) two.is' ∙ sym (id_member π u both.right (Object q) q two.class two.ns two.at'))
-      (ids_aligned f two.class o p two.role h k related)) in
-      subst (λ x. Same m (Some (Object q)) x p.value) (sym two.is) (subst (Same m (Some (Object q)) (object two.ms)) (sym two.is')
-      (object_says π t u m both.left both.right (texts_tied π t u both default l r) q two.class two.ms two.ns two.at two.at'
-      (within-tree t (asked (Object q) (object two.ms)) both.left_tree two.at.inside) (within-tree u (asked (Object q) (object two.ns)) both.right_tree two.at'.inside) ids
-      (λ n e g i. given two n (left_out names two.class n (plain two.class two.role) e g i)) (same two)))
+  family_says names f o p h k related classes plain =
+      two_say names (role.OfFamily f) o.value p.value (within_t f o h) (within_u f p k) classes plain
+      (λ two.
+      subst (λ x. Aligned m (scope.Members (role.OfFamily f) (Some two.class)) (codes "@id") x (get_member (codes "@id") two.ns)) (ap (λ d. option_map string (id_of d)) two.is ∙ sym (id_member π t both.left (Object (role.OfFamily f)) (role.OfFamily f) two.class two.ms two.at))
+      (subst (Aligned m (scope.Members (role.OfFamily f) (Some two.class)) (codes "@id") (option_map string (id_of o.value))) (ap (λ d. option_map string (id_of d)) two.is' ∙ sym (id_member π u both.right (Object (role.OfFamily f)) (role.OfFamily f) two.class two.ns two.at'))
+      (ids_aligned f two.class o p two.role h k related)))
 
-  members_value : (q : Role) (c : Class) (ms ns : Members) → ObjectAt t (Object q) q c ms → ObjectAt u (Object q) q c ns → object_record π t q (object ms) ≡ object_record π u q (object ns)
+  pub members_value : (q : Role) (c : Class) (ms ns : Members) → ObjectAt t (Object q) q c ms → ObjectAt u (Object q) q c ns → object_record π t q (object ms) ≡ object_record π u q (object ns)
       → (k : List ℕ) → is_apart c k ≡ false → plain_member π t (object ms) c k ≡ plain_member π u (object ns) c k
   members_value q c ms ns a b e k plain =
       plain_from_value π t u (kind_of_member c k) (get_member k ms) (get_member k ns) _ _ (meant_unless_apart c k plain) (rw (a.among, b.among) at (ap (λ r. members_in r k) e))
@@ -138,7 +176,7 @@ module _ (π : Preference) (t u : Data) (both : MeanOne π t u) (default : List 
       (leaves family.Selection) (λ two k i. elim i [ ])
       (λ two k g. rw (two.at.among, two.at'.among) at (ap (λ x. members_in x k) (sym (ap (selection_record π t) two.is) ∙ alike ∙ ap (selection_record π u) two.is')))
 
-  classes_same : (q : Role) (d e : Data) → object_record π t q d ≡ object_record π u q e → class_of_object q d ≡ class_of_object q e
+  pub classes_same : (q : Role) (d e : Data) → object_record π t q d ≡ object_record π u q e → class_of_object q d ≡ class_of_object q e
   classes_same q d e records = sym (class_of_record (member_of_class π t d) q d) ∙ ap (option_map (λ (x : ObjectRecord). x.class)) records ∙ class_of_record (member_of_class π u e) q e
 
   -- ---- arrays of objects of a family
@@ -146,7 +184,7 @@ module _ (π : Preference) (t u : Data) (both : MeanOne π t u) (default : List 
   keyed_aligned : (q : Role) (c : Class) (ms ns : Members) → ObjectAt t (Object q) q c ms → ObjectAt u (Object q) q c ns → (f : Family) (name : List ℕ) → bytes_eq name (codes "@type") ≡ false → kind_of_member c name ≡ kind.Keyed f
       → (d e : Placed) → d.value ≡ object ms → e.value ≡ object ns → Matched (λ o p. Same m (Some (Object (role.OfFamily f))) o.value p.value) (placed_entries name d) (placed_entries name e) → AlignedIn q c ms ns name
   keyed_aligned q c ms ns a b f name other keyed d e is is' matched =
-      sets_aligned m (scope.Members q (Some c)) name (kind.Keyed f) (is_required c name) (asked_name q c name other ∙ ap Some (want_by_kind c name (kind.Keyed f) keyed refl)) refl _ _ (get_member name ms) (get_member name ns) refl
+      sets_aligned m (scope.Members q (Some c)) name (kind.Keyed f) (is_required c name) (asked_of_name q c name other ∙ ap Some (want_by_kind c name (kind.Keyed f) keyed refl)) refl _ _ (get_member name ms) (get_member name ns) refl
       (keyed_list t (no_shape_fault π t both.left) (Object q) q c ms a f name other keyed (get_member name ms) refl)
       (keyed_list u (no_shape_fault π u both.right) (Object q) q c ns b f name other keyed (get_member name ns) refl)
       (subst (λ xs. Matched (Same m (Some (Object (role.OfFamily f)))) xs (entries_in (get_member name ns))) (values-placed_entries name d ∙ ap (entries_at name) is)
@@ -175,11 +213,11 @@ module _ (π : Preference) (t u : Data) (both : MeanOne π t u) (default : List 
 
   -- ---- what has no `@id`
 
-  none_aligned : (q : Role) (c : Class) (ms ns : Members) → ObjectAt t (Object q) q c ms → ObjectAt u (Object q) q c ns → is_some (family_of_class c) ≡ false → AlignedIn q c ms ns (codes "@id")
-  none_aligned q c ms ns a b none =
+  pub none_aligned : (q : Role) (c : Class) (ms ns : Members) → ObjectAt t (Object q) q c ms → ObjectAt u (Object q) q c ns → id_of (object ms) ≡ None → id_of (object ns) ≡ None → AlignedIn q c ms ns (codes "@id")
+  none_aligned q c ms ns a b none none' =
       let s : Scope = scope.Members q (Some c) in
-      let left : get_member (codes "@id") ms ≡ None = id_member π t both.left (Object q) q c ms a ∙ ap (option_map string) (no_id π t both.left (Object q) q c ms a none) in
-      let right : get_member (codes "@id") ns ≡ None = id_member π u both.right (Object q) q c ns b ∙ ap (option_map string) (no_id π u both.right (Object q) q c ns b none) in
+      let left : get_member (codes "@id") ms ≡ None = id_member π t both.left (Object q) q c ms a ∙ ap (option_map string) none in
+      let right : get_member (codes "@id") ns ≡ None = id_member π u both.right (Object q) q c ns b ∙ ap (option_map string) none' in
       subst (λ x. Aligned m s (codes "@id") x (get_member (codes "@id") ns)) (sym left) (subst (Aligned m s (codes "@id") None) (sym right) (not_both (lacks_none l s (codes "@id")) (lacks_none r s (codes "@id"))))
 
   -- what holds of each of these names holds of one of them
@@ -198,7 +236,7 @@ module _ (π : Preference) (t u : Data) (both : MeanOne π t u) (default : List 
       subst (λ z. Same m (Some (Object role.Election)) z e.value) (sym x.1) (subst (Same m (Some (Object role.Election)) (object x.0)) (sym y.1)
       (object_says π t u m both.left both.right (texts_tied π t u both default l r) role.Election class.Election x.0 y.0 x.2 y.2
       (within-tree t (asked (Object role.Election) (object x.0)) both.left_tree x.2.inside) (within-tree u (asked (Object role.Election) (object y.0)) both.right_tree y.2.inside)
-      (none_aligned role.Election class.Election x.0 y.0 x.2 y.2 refl)
+      (none_aligned role.Election class.Election x.0 y.0 x.2 y.2 (no_id π t both.left (Object role.Election) role.Election class.Election x.0 x.2 refl) (no_id π u both.right (Object role.Election) role.Election class.Election y.0 y.2 refl))
       (λ n f g i. by_name_in x.0 y.0 x.1 y.1 x.2 y.2 n (left_out election_names class.Election n refl f g i))
       (members_value role.Election class.Election x.0 y.0 x.2 y.2 (sym (ap (object_record π t role.Election) x.1) ∙ alike.record_same ∙ ap (object_record π u role.Election) y.1))))
     where
@@ -264,7 +302,7 @@ module _ (π : Preference) (t u : Data) (both : MeanOne π t u) (default : List 
         subst (λ z. Same m (Some (Object role.Report)) z u) (sym a.is_object) (subst (Same m (Some (Object role.Report)) (object a.ms)) (sym b.is_object)
         (object_says π t u m both.left both.right (texts_tied π t u both default l r) role.Report class.ElectionReport a.ms b.ms a.report b.report
         (within-tree t (asked (Object role.Report) (object a.ms)) both.left_tree a.report.inside) (within-tree u (asked (Object role.Report) (object b.ms)) both.right_tree b.report.inside)
-        (none_aligned role.Report class.ElectionReport a.ms b.ms a.report b.report refl)
+        (none_aligned role.Report class.ElectionReport a.ms b.ms a.report b.report (no_id π t both.left (Object role.Report) role.Report class.ElectionReport a.ms a.report refl) (no_id π u both.right (Object role.Report) role.Report class.ElectionReport b.ms b.report refl))
         (λ n f g i. ⊎_elim (in_envelope n (get_member n a.ms) (get_member n b.ms)) (λ plain. by_name_in_report n (apart_named report_names class.ElectionReport n f g refl plain)) (apart_cases class.ElectionReport n i))
         (members_value role.Report class.ElectionReport a.ms b.ms a.report b.report (sym (ap (object_record π t role.Report) a.is_object) ∙ ap (λ x. x.report) both.same ∙ ap (object_record π u role.Report) b.is_object))))
 

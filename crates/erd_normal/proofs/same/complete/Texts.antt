@@ -43,7 +43,7 @@ pub counterpart_back : (π : Preference) (t u : Data) (f : Family) (o p : Placed
 counterpart_back π t u f o p (by_key keyed same) = by_key keyed (sym same)
 counterpart_back π t u f o p (by_name is c d h k keys i j names) = by_name is d c k h (sym keys) j i (sym names)
 
-no_keys : (f : Family) → has_keys f ≡ true → f ≡ family.Selection → ⊥
+pub no_keys : (f : Family) → has_keys f ≡ true → f ≡ family.Selection → ⊥
 no_keys f keyed is = let h : has_keys family.Selection ≡ true = ap has_keys (sym is) ∙ keyed in cc
 
 -- an object has one counterpart

@@ -39,6 +39,7 @@ use Rattle.erd_normal.proofs.same.complete.Arrays.{left_empty, list_says, right_
 use Rattle.erd_normal.proofs.same.complete.Contents.{content_says}
 use Rattle.erd_normal.proofs.same.complete.Sets.{entry_key, named_by, paired_self, reference_says, references_matched, values_apart, values_sound}
 use Rattle.erd_normal.proofs.same.complete.TwoMeanings.{TextsTied}
+use Rattle.erd_normal.proofs.built.AskedMembers.{label_class}
 use Rattle.erd_normal.specs.SaysTheSame.{Sides, Same, SameEntries, SameMembers, a_text, an_object, is_array_kind, no_entry}
 
 -- the kinds of members that mean something by themselves, or never stand in an accepted report but as an empty array
@@ -58,10 +59,6 @@ means_itself kind.Carried = true
 means_itself k = false
 
 -- ---- labels
-
-label_class : (c : Class) → role_of_class c ≡ role.Label → c ≡ class.InternationalizedText
-label_class class.InternationalizedText e = refl
-label_class c e = cc
 
 pub language_simple : (c : Class) → role_of_class c ≡ role.Language → is_simple_class c ≡ true
 language_simple class.LanguageString e = refl

@@ -7,7 +7,7 @@ use Rattle.std.specs.List.{list_any}
 use Rattle.std.specs.Option.{option_map_or}
 use Rattle.std.specs.Ordering.{match_ordering}
 use Rattle.std.specs.Str.{bytes_eq}
-use Rattle.serde_json.specs.Data.{Data, null, boolean, number, string, array, object, Items, no_items, Members, no_members, member}
+use Rattle.serde_json.specs.Data.{Data, null, boolean, number, string, array, object, Items, no_items, Members, member}
 use Rattle.serde_json.specs.Find.{as_str, get, get_member}
 use Rattle.erd_tables.specs.Table.{kind_of_member, required_names}
 use Rattle.erd_tables.specs.declared.class.Class.{Class}
@@ -38,12 +38,12 @@ use Rattle.erd_meaning.specs.SelectionNames.{key_named, name_named}
 use Rattle.erd_meaning.proofs.accepted.Phases.{no_shape_fault}
 use Rattle.erd_meaning.proofs.meanings.SelectionKinds.{kind_of_type}
 use Rattle.erd_normal.proofs.canonical.ChosenEntries.{list_name}
-use Rattle.erd_normal.proofs.unique.Contents.{content_class}
+use Rattle.erd_normal.proofs.same.complete.ContentNodes.{content_at, content_class, content_inside-get, inner_name}
 use Rattle.erd_normal.specs.SaysTheSame.{Sides, MayBeAbsent, Same, not_asked, a_null, a_flag, a_number, a_text, an_id, a_list, a_set, an_object, SameEntries, no_entry, one_entry, SameMembers, no_member, in_both, left_only, right_only}
-use Rattle.erd_normal.proofs.same.FromAlike.{Stands}
+use Rattle.erd_normal.proofs.same.FromAlike.{Stands, entry_stands, stands_tree}
 use Rattle.erd_normal.proofs.same.Related.{Related}
 use Rattle.erd_normal.proofs.same.Steady.{is_steady_kind, is_plain}
-use Rattle.erd_normal.proofs.same.means.Members.{BothObjects, HaveMembers, MeansNothing, is_absent, is_empty, is_identity, is_outside, TwoReports, Told, both_told, none_told, absent_nothing, both_objects, entry_there, member_there, nothing_empty, stands_tree, steady_nothing, told_plain}
+use Rattle.erd_normal.proofs.same.means.Members.{BothObjects, HaveMembers, MeansNothing, is_absent, is_empty, is_identity, is_outside, TwoReports, Told, both_told, none_told, absent_nothing, both_objects, member_there, nothing_empty, steady_nothing, told_plain}
 use Rattle.erd_normal.proofs.same.means.Names.{name_named_alike}
 use Rattle.erd_normal.proofs.same.means.References.{key_alike_text, said_in_turn}
 
@@ -69,19 +69,8 @@ module _ (m : Sides) (c : Class) (d e : Data) (h : HaveMembers m c d e) (inside 
 
 -- ---- the member inside a header
 
-abbrev inner_name : List ℕ
-inner_name = codes "OrderedContent"
-
 none_inside : (π : Preference) (t : Data) (ms : Members) → get_member inner_name ms ≡ None → content_inside π t ms ≡ no_content
-none_inside π t no_members e = refl
-none_inside π t (member k d ms) e =
-    ap (λ b. cond b (content_of π t d) (content_inside π t ms)) (sym (is_eq-slice_cmp inner_name k)) ∙ at (slice_cmp nat_cmp inner_name k) e (none_inside π t ms)
-  where
-    at : (o : Ordering) → match_ordering o (get_member inner_name ms) (Some d) (get_member inner_name ms) ≡ None → (get_member inner_name ms ≡ None → content_inside π t ms ≡ no_content)
-        → cond (is_eq o) (content_of π t d) (content_inside π t ms) ≡ no_content
-    at Less e rest = rest e
-    at Equal e rest = cc
-    at Greater e rest = rest e
+none_inside π t ms e = content_inside-get π t ms ∙ ap (content_at π t) e
 
 absent_content : (π : Preference) (t : Data) (s : Scope) (k : List ℕ) (d : Data) → s ≡ scope.Members role.Content (Some class.OrderedHeader) → inner_name ≡ k → MayBeAbsent t s k d → content_of π t d ≡ no_content
 absent_content π t s k d is named h =
@@ -143,8 +132,8 @@ module _ (m : Sides) (π : Preference) (g : TwoReports m π) where
   chosen_in_turn (an_id is h) l r = refl
   chosen_in_turn (a_list {ds = ds} {es = es} is h) l r =
       said_in_turn m family.Selection (name_named π m.left) (name_named π m.right) (name_named_alike m π g) refl h
-      (λ x i. entry_there m.left (Member kind.Ordered false) (Reference family.Selection) (array ds) refl l x i)
-      (λ x i. entry_there m.right (Member kind.Ordered false) (Reference family.Selection) (array es) refl r x i)
+      (λ x i. entry_stands m.left (Member kind.Ordered false) (Reference family.Selection) (array ds) refl l x i)
+      (λ x i. entry_stands m.right (Member kind.Ordered false) (Reference family.Selection) (array es) refl r x i)
   chosen_in_turn (a_set fs is p h) l r = cc
   chosen_in_turn (an_object h) l r = refl
 
@@ -230,8 +219,8 @@ module _ (m : Sides) (π : Preference) (g : TwoReports m π) where
     content_same required asks (an_id is h) l r = refl
     content_same required asks (a_list {w = w} {ds = ds} {es = es} is h) l r =
         let want : w ≡ Member kind.Content required = cc in
-        nodes_same (ap entry_want want) h (λ x i. entry_there m.left (Member kind.Content required) (Object role.Content) (array ds) refl l x i)
-        (λ x i. entry_there m.right (Member kind.Content required) (Object role.Content) (array es) refl r x i)
+        nodes_same (ap entry_want want) h (λ x i. entry_stands m.left (Member kind.Content required) (Object role.Content) (array ds) refl l x i)
+        (λ x i. entry_stands m.right (Member kind.Content required) (Object role.Content) (array es) refl r x i)
     content_same required asks (a_set {w = w} fs is p h) l r =
         let want : w ≡ Member kind.Content required = cc in let no : true ≡ false = sym is ∙ ap is_table_set want in cc
     content_same required asks (an_object h) l r = refl
@@ -256,7 +245,7 @@ module _ (m : Sides) (π : Preference) (g : TwoReports m π) where
         node_by_class ms ns (record { left = l; right = r; same = subst (λ o. Same m o (object ms) (object ns)) asks (an_object h) })
         (λ left right.
         inside_same h (ap (λ x. scope_inside x (object ms)) want ∙ ap (scope.Members role.Content) left)
-        (stands_tree m m.left (Object role.Content) (object ms) g.left_tree l) (stands_tree m m.right (Object role.Content) (object ns) g.right_tree r)
+        (stands_tree m.left (Object role.Content) (object ms) g.left_tree l) (stands_tree m.right (Object role.Content) (object ns) g.right_tree r)
         (λ d found. member_there m m.left (Object role.Content) role.Content class.OrderedHeader ms inner_name d of_role left refl l found)
         (λ d found. member_there m m.right (Object role.Content) role.Content class.OrderedHeader ns inner_name d of_role right refl r found))
 

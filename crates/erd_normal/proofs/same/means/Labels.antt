@@ -5,9 +5,7 @@ use Rattle.std.specs.Str.{bytes_eq}
 use Rattle.serde_json.specs.Data.{Data, array, object, Members}
 use Rattle.serde_json.specs.Find.{get}
 use Rattle.serde_json.specs.Written.{compact_text}
-use Rattle.erd_tables.specs.Classes.{role_of_class}
 use Rattle.erd_tables.specs.Table.{is_required, kind_of_member}
-use Rattle.erd_tables.specs.declared.class.Class.{Class}
 use Rattle.erd_tables.specs.declared.class.Class.TheVariants as class
 use Rattle.erd_tables.specs.declared.class.Role.TheVariants as role
 use Rattle.erd_tables.specs.declared.member.MemberKind.TheVariants as kind
@@ -17,7 +15,6 @@ use Rattle.erd_check.specs.Wants.{class_of_object, scope_inside}
 use Rattle.erd_check.specs.declared.want.Want.{Want}
 use Rattle.erd_check.specs.declared.want.Want.TheVariants.{Member, Object}
 use Rattle.erd_check.proofs.Shapes.{Classed, classed, of_label, unrepeated, wanted_within}
-use Rattle.erd_check.proofs.TableKinds.{kind_of_unlisted_has}
 use Rattle.erd_meaning.specs.Keys.{Preference}
 use Rattle.erd_meaning.specs.Meaning.{translated}
 use Rattle.erd_meaning.specs.Records.{label_of}
@@ -27,19 +24,12 @@ use Rattle.erd_meaning.proofs.orders.Reordered.{Reordered}
 use Rattle.erd_normal.proofs.lists.Matched.{matched_equal}
 use Rattle.erd_normal.proofs.meaning.RisingMeanings.{json_set-reordered}
 use Rattle.erd_normal.specs.SaysTheSame.{Sides, Same, a_null, a_flag, a_number, a_text, an_id, a_list, a_set, an_object, SameMembers}
-use Rattle.erd_normal.proofs.same.FromAlike.{Stands}
-use Rattle.erd_normal.proofs.same.Labels.{label_text, plain_beside}
+use Rattle.erd_normal.proofs.same.FromAlike.{Stands, stands_tree}
+use Rattle.erd_normal.proofs.same.Labels.{label_text, plain_beside, steady_beside}
 use Rattle.erd_normal.proofs.same.Related.{Related}
-use Rattle.erd_normal.proofs.same.Steady.{is_steady_kind, steady_same, is_plain, plain_of_kind}
-use Rattle.erd_normal.proofs.same.means.Members.{TwoReports, HaveMembers, both_members, stands_tree, told_entries, told_plain}
-
-label_class : (c : Class) → role_of_class c ≡ role.Label → c ≡ class.InternationalizedText
-label_class class.InternationalizedText e = refl
-label_class c e = cc
-
--- what stands beside the translations never may be absent
-steady_beside : (k : List ℕ) → bytes_eq k (codes "@type") ≡ false → bytes_eq k (codes "Text") ≡ false → is_steady_kind (kind_of_member class.InternationalizedText k) ≡ true
-steady_beside k e f = rw f (kind_of_unlisted_has is_steady_kind class.InternationalizedText k e refl refl refl)
+use Rattle.erd_normal.proofs.same.Steady.{steady_same, is_plain, plain_of_kind}
+use Rattle.erd_normal.proofs.same.means.Members.{TwoReports, HaveMembers, both_members, told_entries, told_plain}
+use Rattle.erd_normal.proofs.built.AskedMembers.{label_class}
 
 module _ (m : Sides) where
   -- labels of the class
@@ -100,8 +90,8 @@ module _ (m : Sides) (π : Preference) (g : TwoReports m π) where
   text_at required (a_list {ds = ds} is h) l r = let x = wanted_within m.left clean (record { want = Member kind.Label required; value = array ds; repeated = l.repeated }) l.inside in cc
   text_at required (a_set fs is p h) l r = cc
   text_at required (an_object {ms = ms} {ns = ns} h) l r =
-      label_text m required ms (object ns) (among required ms l) (stands_tree m m.left (Member kind.Label required) (object ms) g.left_tree l)
-      (stands_tree m m.right (Member kind.Label required) (object ns) g.right_tree r) (an_object h)
+      label_text m required ms (object ns) (among required ms l) (stands_tree m.left (Member kind.Label required) (object ms) g.left_tree l)
+      (stands_tree m.right (Member kind.Label required) (object ns) g.right_tree r) (an_object h)
 
   pub label_text_alike : (required : Bool) (d e : Data) → Related m (Member kind.Label required) d e → compact_text (with_rising_text d) ≡ compact_text (with_rising_text e)
   label_text_alike required d e r = text_at required r.same r.left r.right

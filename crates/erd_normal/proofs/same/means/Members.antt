@@ -2,7 +2,7 @@
 use Rattle.std.proofs.Common.{◌≡◌, ℕ, List, [], length, Bool, true, false, ◌&&◌, Option, Some, None, codes, refl, sym, ap, ◌∙◌, subst, arith}
 use Rattle.std.specs.Option.{option_map_or}
 use Rattle.std.specs.Str.{bytes_eq}
-use Rattle.serde_json.specs.Data.{Data, null, boolean, number, string, array, object, Items, no_items, item, Members}
+use Rattle.serde_json.specs.Data.{Data, array, object, Items, no_items, item, Members}
 use Rattle.serde_json.specs.Find.{get, get_member}
 use Rattle.erd_tables.specs.Classes.{role_of_class}
 use Rattle.erd_tables.specs.Table.{is_required, kind_of_member}
@@ -12,29 +12,27 @@ use Rattle.erd_tables.specs.declared.class.Role.{Role}
 use Rattle.erd_tables.specs.declared.class.Role.TheVariants as role
 use Rattle.erd_tables.specs.declared.member.MemberKind.{MemberKind}
 use Rattle.erd_tables.specs.declared.member.MemberKind.TheVariants as kind
-use Rattle.erd_tables.specs.declared.place.Step.TheVariants.{Name, At}
+use Rattle.erd_tables.specs.declared.place.Step.TheVariants.{Name}
 use Rattle.erd_check.specs.Faults.{NoneOf, ShapeFault}
 use Rattle.erd_check.specs.Trees.{IsTree}
 use Rattle.erd_check.specs.Values.{entries_of, list_of_items}
-use Rattle.erd_check.specs.Wants.{Asked, asked, class_of_object, entry_want, is_compared_set, is_repeated, is_report_class, member_want, scope_inside, want_of_kind, want_of_name}
+use Rattle.erd_check.specs.Wants.{asked, class_of_object, entry_want, is_report_class, member_want, scope_inside, want_of_kind, want_of_name}
 use Rattle.erd_check.specs.declared.want.Scope.TheVariants as scope
 use Rattle.erd_check.specs.declared.want.Want.{Want}
 use Rattle.erd_check.specs.declared.want.Want.TheVariants.{Member, Object, Status}
-use Rattle.erd_check.proofs.Entries.{list_of_items-place}
 use Rattle.erd_check.proofs.ObjectsAt.{ObjectIn, object_in}
-use Rattle.erd_check.proofs.Rising.{Has}
-use Rattle.erd_check.proofs.Shapes.{AsksObject, Within-step, asked_inside_object, of_label, of_role, unrepeated, within-tree}
+use Rattle.erd_check.proofs.Shapes.{AsksObject, Within-step, asked_inside_object, of_label, of_role, unrepeated}
 use Rattle.erd_check.proofs.TableKinds.{want_unless_status}
 use Rattle.erd_meaning.specs.Accepted.{IsAccepted}
 use Rattle.erd_meaning.specs.Keys.{Preference}
 use Rattle.erd_meaning.specs.Records.{is_in_envelope, unless_empty}
 use Rattle.erd_normal.proofs.lists.Matched.{Matched, matched_length, matched_none}
 use Rattle.erd_normal.specs.SaysTheSame.{Sides, MayBeAbsent, an_empty_array, of_the_envelope, an_unused_id, is_array_kind, is_envelope, Same, a_null, a_flag, a_number, a_text, an_id, a_list, a_set, an_object, SameMembers}
-use Rattle.erd_normal.proofs.same.FromAlike.{Stands}
+use Rattle.erd_normal.proofs.same.FromAlike.{Stands, entry_stands, stands_tree}
 use Rattle.erd_normal.proofs.same.Lookups.{Aligned, both_there, not_both, MayLack, lookups, of_object}
 use Rattle.erd_normal.proofs.same.Related.{Related, entries_matched, matched_within_both}
 use Rattle.erd_normal.proofs.same.Steady.{is_steady_kind, steady_same, is_plain}
-use Rattle.erd_normal.proofs.same.Types.{class_same}
+use Rattle.erd_normal.proofs.same.Types.{class_same, asked_of_name}
 
 -- two trees that say the same, the left one an accepted report
 pub record TwoReports (m : Sides) (π : Preference) : Type 0 where
@@ -63,9 +61,6 @@ kind_from_want c name k required e = at (is_report_class c && bytes_eq name (cod
     at : (b : Bool) → (is_report_class c && bytes_eq name (codes "Status")) ≡ b → kind_of_member c name ≡ k
     at true is = let g : Status ≡ Member k required = rw is at e in cc
     at false is = kind_of_want (kind_of_member c name) k (is_required c name) required (sym (want_unless_status c name is) ∙ e)
-
-pub asked_of_name : (r : Role) (c : Class) (name : List ℕ) → bytes_eq name (codes "@type") ≡ false → want_of_name (scope.Members r (Some c)) name ≡ Some (member_want c name)
-asked_of_name r c name other = rw other refl
 
 kind_asked : (r : Role) (c : Class) (name : List ℕ) (k : MemberKind) (required : Bool) → bytes_eq name (codes "@type") ≡ false
     → want_of_name (scope.Members r (Some c)) name ≡ Some (Member k required) → kind_of_member c name ≡ k
@@ -115,18 +110,6 @@ nothing_empty c name o listed inside (is_outside e) = let g : true ≡ false = s
 
 -- ---- entries of values
 
-pub entry_there : (t : Data) (w v : Want) (d : Data) → entry_want w ≡ Some v → Stands t w d → (x : Data) → Has (entries_of d) x → Stands t v x
-entry_there t w v (array ds) asks st x h =
-    let j = list_of_items-place ds x h in
-    let a : Asked = record { want = w; value = array ds; repeated = st.repeated } in
-    let b : Asked = record { want = v; value = x; repeated = is_compared_set w && is_repeated ds j.0 x } in
-    record { repeated = is_compared_set w && is_repeated ds j.0 x; inside = Within-step t a b (At j.0) st.inside (rw (asks, j.1) refl) }
-entry_there t w v null asks st x h = elim h [ ]
-entry_there t w v (boolean b) asks st x h = elim h [ ]
-entry_there t w v (number n) asks st x h = elim h [ ]
-entry_there t w v (string s) asks st x h = elim h [ ]
-entry_there t w v (object ms) asks st x h = elim h [ ]
-
 empty_by_length : {V : Type 0} (v : V) (ds es : Items) → length (list_of_items ds) ≡ length (list_of_items es) → unless_empty v (array ds) ≡ unless_empty v (array es)
 empty_by_length v no_items no_items e = refl
 empty_by_length v no_items (item d es) e = absurd (omega arith)
@@ -139,8 +122,8 @@ module _ (m : Sides) where
   related_entries_of w u d e asks r =
       matched_within_both (Related m u)
       (λ x y i j h. record {
-        left = entry_there m.left w u d asks r.left x i;
-        right = entry_there m.right w u e asks r.right y j;
+        left = entry_stands m.left w u d asks r.left x i;
+        right = entry_stands m.right w u e asks r.right y j;
         same = subst (λ o. Same m o x y) asks h;
       })
       (entries_matched m w r.same)
@@ -194,9 +177,6 @@ module _ (m : Sides) where
       → SameMembers m (scope.Members r (Some c)) ms ns
   scope_known w r c ms ns of_role among h = subst (λ o. SameMembers m (scope.Members r o) ms ns) among h
   scope_known w r c ms ns of_label among h = subst (λ o. SameMembers m (scope.Members r o) ms ns) among h
-
-  pub stands_tree : (t : Data) (w : Want) (d : Data) → IsTree t → Stands t w d → IsTree d
-  stands_tree t w d tree st = within-tree t (record { want = w; value = d; repeated = st.repeated }) tree st.inside
 
   -- the class of two objects, and their members
   pub record BothObjects (r : Role) (d e : Data) : Type 0 where

@@ -5,7 +5,6 @@ use Rattle.serde_json.specs.Data.{Data, array, no_items}
 use Rattle.serde_json.specs.Find.{get}
 use Rattle.erd_tables.specs.Table.{is_required, kind_of_member}
 use Rattle.erd_tables.specs.declared.class.Class.{Class}
-use Rattle.erd_tables.specs.declared.class.Class.TheVariants as class
 use Rattle.erd_tables.specs.declared.class.Family.TheVariants as family
 use Rattle.erd_tables.specs.declared.class.Role.TheVariants as role
 use Rattle.erd_tables.specs.declared.member.MemberKind.{MemberKind}
@@ -33,6 +32,7 @@ use Rattle.erd_normal.proofs.same.means.Contents.{content_alike}
 use Rattle.erd_normal.proofs.same.means.Labels.{label_alike}
 use Rattle.erd_normal.proofs.same.means.Members.{BothObjects, HaveMembers, MeansNothing, is_absent, is_empty, is_identity, is_outside, TwoReports, Told, both_told, none_told, both_objects, related_entries_of, unless_empty_same}
 use Rattle.erd_normal.proofs.same.means.References.{key_alike, keys_set_alike}
+use Rattle.erd_normal.proofs.built.AskedMembers.{status_kind}
 
 -- ---- what means nothing
 
@@ -53,10 +53,6 @@ nothing_meant π t c name o inside (is_empty listed e) =
     ap (option_and_then (plain_value π t (kind_of_member c name))) e ∙ empty_means_nothing π t (kind_of_member c name) listed
 nothing_meant π t c name o inside (is_identity e) = ap (λ k. option_and_then (plain_value π t k) o) e ∙ nothing_of (plain_value π t kind.Identity) o (λ x. refl)
 nothing_meant π t c name o inside (is_outside e) = let g : true ≡ false = sym e ∙ inside in cc
-
-status_word : (c : Class) (name : List ℕ) → (is_report_class c && bytes_eq name (codes "Status")) ≡ true → kind_of_member c name ≡ kind.Word
-status_word class.ElectionReport name is = ap (kind_of_member class.ElectionReport) (text_exact name (codes "Status") is)
-status_word c name is = cc
 
 -- a value of which nothing is asked that may be absent or written in another way
 plain_same : (m : Sides) (w : Want) (d e : Data) → is_plain w ≡ true → Same m (Some w) d e → d ≡ e
@@ -98,7 +94,7 @@ module _ (m : Sides) (π : Preference) (g : TwoReports m π) where
     both_same : (b : Bool) → (is_report_class c && bytes_eq name (codes "Status")) ≡ b → (d e : Data) → Related m (member_want c name) d e → plain_value π m.left k d ≡ plain_value π m.right k e
     both_same true status d e r =
         let asks : member_want c name ≡ Status = rw status refl in
-        let word : k ≡ kind.Word = status_word c name status in
+        let word : k ≡ kind.Word = status_kind c name status in
         ap (λ x. plain_value π m.left x d) word ∙ ap (λ x. Some (a_json x)) (plain_same m (member_want c name) d e (ap is_plain asks) r.same) ∙ sym (ap (λ x. plain_value π m.right x e) word)
     both_same false status d e r = value_same k (is_required c name) d e (subst (λ w. Related m w d e) (want_unless_status c name status) r)
 

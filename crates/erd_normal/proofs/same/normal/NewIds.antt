@@ -1,6 +1,6 @@
 -- The canonical `@id` of each object of a report. It tells objects apart, and two functions lead from the `@id` texts of the report
 -- to the canonical ones and back.
-use Rattle.std.proofs.Common.{◌≡◌, ⊎_elim, decimal, ◌<◌, ◌+◌, ◌^◌, ℕ, List, [], ◌∷◌, ◌++◌, map, flat_map, find, length, unwrap_or, true, false, Option, Some, None, option_map, Equal, is_eq, is_some, refl, sym, ap, ◌∙◌, subst, arith}
+use Rattle.std.proofs.Common.{◌≡◌, ⊎_elim, decimal, ◌<◌, ◌+◌, ◌^◌, ℕ, List, [], ◌∷◌, ◌++◌, map, flat_map, find, length, unwrap_or, true, Option, Some, None, option_map, Equal, is_eq, is_some, refl, sym, ap, ◌∙◌, subst, arith}
 use Rattle.std.proofs.lemmas.Cmp.{tied_back}
 use Rattle.std.proofs.lemmas.List.{length-map}
 use Rattle.std.specs.Cmp.Lexicographic.{options_total}
@@ -41,6 +41,7 @@ use Rattle.erd_normal.proofs.canonical.SelectionIds.{listed, selection_values}
 use Rattle.erd_normal.proofs.canonical.SelectionTexts.{canonical_selection_id_exact}
 use Rattle.erd_normal.proofs.lists.KeyedRanks.{rank_exact, rank_low}
 use Rattle.erd_normal.proofs.throughout.ThroughoutMembers.{is_prefixed}
+use Rattle.erd_normal.proofs.same.complete.Texts.{no_keys}
 use Rattle.erd_normal.specs.SaysTheSame.{Sides, StandsFor}
 
 -- ---- the canonical `@id` of an object
@@ -64,17 +65,14 @@ module _ (π : Preference) (t : Data) (accepted : IsAccepted π t) where
       let wants : Object (role.OfFamily f) ≡ Object (role.OfFamily g) = ap (λ (a : Asked). a.want) one in
       cc
 
-  never_keyed : (f : Family) → has_keys f ≡ true → f ≡ family.Selection → ⊥
-  never_keyed f keyed is = let x : false ≡ true = ap has_keys (sym is) ∙ keyed in cc
-
   -- an object has one canonical `@id`
   pub new_once : (f g : Family) (o : Placed) (id id' : List ℕ) → NewId π t f o id → NewId π t g o id' → id ≡ id'
   new_once f g o id id' (of_family keyed h is) (of_family keyed' h' is') =
       same_in_some id id' (sym is ∙ ap (λ x. id_of_key π t x (key_of π o.value)) (one_family f g o h h') ∙ is')
   new_once f g o id id' (of_family keyed h is) (of_contest c sel in_c of_c its) =
-      absurd (never_keyed f keyed (one_family f g o h (stands_new g o id' (of_contest c sel in_c of_c its)) ∙ sel))
+      absurd (no_keys f keyed (one_family f g o h (stands_new g o id' (of_contest c sel in_c of_c its)) ∙ sel))
   new_once f g o id id' (of_contest c sel in_c of_c its) (of_family keyed h is) =
-      absurd (never_keyed g keyed (one_family g f o h (stands_new f o id (of_contest c sel in_c of_c its)) ∙ sel))
+      absurd (no_keys g keyed (one_family g f o h (stands_new f o id (of_contest c sel in_c of_c its)) ∙ sel))
   new_once f g o id id' (of_contest c sel in_c of_c its) (of_contest d sel' in_d of_d its') =
       its ∙ ap (λ x. id_of_selection π t x.value o.value) (one_contest π t accepted c d o in_c in_d of_c of_d) ∙ sym its'
 

@@ -49,11 +49,11 @@ use Rattle.erd_normal.proofs.canonical.SelectionIds.{listed}
 use Rattle.erd_normal.proofs.lists.ListParts.{IsPart, part_has}
 use Rattle.erd_normal.specs.SaysTheSame.{Sides, Same, a_list, a_text, an_id, an_object, an_unused_id, SameEntries, no_entry, one_entry, SameMembers}
 use Rattle.erd_normal.proofs.same.Built.{set_built}
-use Rattle.erd_normal.proofs.same.Lookups.{Aligned, both_there, not_both, lacks_none}
+use Rattle.erd_normal.proofs.same.Lookups.{Aligned, both_there, not_both, lacks_none, lacks_one}
 use Rattle.erd_normal.proofs.same.Merged.{merged}
 use Rattle.erd_normal.proofs.same.normal.NewIds.{NewId, of_contest, of_family, sides, stands_for}
 use Rattle.erd_normal.proofs.same.normal.NewReferences.{new_unused, style_unused}
-use Rattle.erd_normal.proofs.same.normal.SaidValues.{Said, aligned_said, is_simple_kind, lacks_this, said_member, said_unless, said_value}
+use Rattle.erd_normal.proofs.same.normal.SaidValues.{Said, aligned_said, is_simple_kind, said_member, said_unless, said_value}
 
 -- ---- objects of a class
 
@@ -178,7 +178,7 @@ module _ (π : Preference) (t : Data) (accepted : IsAccepted π t) (tree : IsTre
         → Aligned m (in_class r c) (codes "@id") found (Some (string id))
     id_given o id None new own texts =
         not_both (lacks_none t (in_class r c) (codes "@id"))
-        (lacks_this (normal_tree π t) (in_class r c) (codes "@id") (string id) (an_unused_id id (is_required c (codes "@id")) wants_id refl (new_unused π t accepted tree bounded f o id new own)))
+        (lacks_one (normal_tree π t) (in_class r c) (codes "@id") (string id) (an_unused_id id (is_required c (codes "@id")) wants_id refl (new_unused π t accepted tree bounded f o id new own)))
     id_given o id (Some v) new own texts =
         let s = texts v refl in
         let own' : id_of o.value ≡ Some s.0 = own ∙ ap as_str s.1 in
@@ -193,7 +193,7 @@ module _ (π : Preference) (t : Data) (accepted : IsAccepted π t) (tree : IsTre
         let s = texts v refl in
         let own' : id_of o.value ≡ Some s.0 = own ∙ ap as_str s.1 in
         not_both
-        (lacks_this t (in_class r c) (codes "@id") v (an_unused_id s.0 (is_required c (codes "@id")) wants_id s.1 (style_unused π t accepted o s.0 (subst (λ g. Has (objects g t) o) style h) own')))
+        (lacks_one t (in_class r c) (codes "@id") v (an_unused_id s.0 (is_required c (codes "@id")) wants_id s.1 (style_unused π t accepted o s.0 (subst (λ g. Has (objects g t) o) style h) own')))
         (lacks_none (normal_tree π t) (in_class r c) (codes "@id"))
 
     id_aligned : (o : Placed) (k : Option (List ℕ)) (found given : Option Data) → has_keys f ≡ true → Has (objects f t) o → id_of_key π t f (key_of π o.value) ≡ k → given ≡ option_map string k

@@ -23,7 +23,7 @@ use Rattle.erd_check.specs.declared.want.Scope.TheVariants as scope
 use Rattle.erd_check.specs.declared.want.Want.{Want}
 use Rattle.erd_check.specs.declared.want.Want.TheVariants.{Carried, Member, Object, Reference, Status}
 use Rattle.erd_check.proofs.Entries.{array_from}
-use Rattle.erd_check.proofs.Exact.{both_true, text_exact}
+use Rattle.erd_check.proofs.Exact.{text_exact}
 use Rattle.erd_check.proofs.Rising.{all-Has}
 use Rattle.erd_check.proofs.Shapes.{Within, faultless, not_false, wanted_within, within-tree}
 use Rattle.erd_check.proofs.TableKinds.{want_unless_status}
@@ -41,20 +41,16 @@ use Rattle.erd_normal.proofs.built.NormalTrees.{with_rising_text-tree}
 use Rattle.erd_normal.proofs.same.Refers.{Refers, reference_refers, references_refer}
 use Rattle.erd_normal.proofs.same.Steady.{is_plain, plain_of_kind}
 use Rattle.erd_normal.proofs.throughout.ThroughoutMembers.{BuiltLabel, built_label, is_prefixed}
-use Rattle.erd_normal.specs.SaysTheSame.{Sides, MayBeAbsent, Same, a_text, an_id, an_object, an_empty_array, is_array_kind, SameMembers}
+use Rattle.erd_normal.specs.SaysTheSame.{Sides, Same, a_text, an_id, an_object, an_empty_array, is_array_kind, SameMembers}
 use Rattle.erd_normal.proofs.same.Built.{list_built, set_built}
 use Rattle.erd_normal.proofs.same.Labels.{asked_beside, in_label, plain_beside}
 use Rattle.erd_normal.proofs.same.LabelsBack.{plain_self}
-use Rattle.erd_normal.proofs.same.Lookups.{Aligned, MayLack, both_there, not_both, lacks_none}
+use Rattle.erd_normal.proofs.same.Lookups.{Aligned, both_there, not_both, lacks_none, lacks_one}
 use Rattle.erd_normal.proofs.same.Merged.{merged}
 use Rattle.erd_normal.proofs.same.normal.NewIds.{sides}
 use Rattle.erd_normal.proofs.same.normal.NewReferences.{pair_of, renamed_reference, renamed_selection}
 
 -- ---- what is built of a value
-
--- what may be absent
-pub lacks_this : (t : Data) (s : Scope) (name : List ℕ) (d : Data) → MayBeAbsent t s name d → MayLack t s name (Some d)
-lacks_this t s name d h = record { each = λ e is. let same : d ≡ e = cc in subst (MayBeAbsent t s name) same h }
 
 -- a value says the same, or there is none and the value before is an empty array
 pub data Said (m : Sides) (w : Want) (d : Data) : Option Data → Type 0 where
@@ -65,7 +61,7 @@ pub data Said (m : Sides) (w : Want) (d : Data) : Option Data → Type 0 where
 pub aligned_said : (m : Sides) (s : Scope) (name : List ℕ) (w : Want) (d : Data) (o : Option Data) → want_of_name s name ≡ Some w → Said m w d o → Aligned m s name (Some d) o
 aligned_said m s name w d (Some v) asks (kept h) = both_there (subst (λ x. Same m x d v) (sym asks) h)
 aligned_said m s name w d None asks (dropped k required is in_array empty) =
-    not_both (lacks_this m.left s name d (an_empty_array k required (asks ∙ ap Some is) in_array empty)) (lacks_none m.right s name)
+    not_both (lacks_one m.left s name d (an_empty_array k required (asks ∙ ap Some is) in_array empty)) (lacks_none m.right s name)
 
 empty_is : (d : Data) → is_empty_array d ≡ true → d ≡ array no_items
 empty_is (array no_items) h = refl
@@ -91,8 +87,7 @@ said_member m t value_of c name d w built word = at (is_report_class c && bytes_
   where
     at : (b : Bool) → (is_report_class c && bytes_eq name (codes "Status")) ≡ b → Said m (member_want c name) d (value_of name (kind_of_member c name) d)
     at true is =
-        let both = both_true (is_report_class c) (bytes_eq name (codes "Status")) is in
-        let a_word : kind_of_member c name ≡ kind.Word = ap (kind_of_member c) (text_exact name (codes "Status") both.1) ∙ status_kind c both.0 in
+        let a_word : kind_of_member c name ≡ kind.Word = status_kind c name is in
         let want : member_want c name ≡ Status = rw is refl in
         subst (λ x. Said m x d (value_of name (kind_of_member c name) d)) (sym want)
         (subst (Said m Status d) (sym (ap (λ k. value_of name k d) a_word ∙ word)) (kept (plain_one m Status d refl)))

@@ -1,0 +1,130 @@
+-- Counterparts in canonical reports that mean the same have one `@id`, and so a text names one key in both.
+use Rattle.std.proofs.Common.{◌≡◌, ℕ, zero, suc, List, [], Ordering, Option, Some, None, option_and_then, option_map, map, true, false, codes, find, is_lt, slice_get, refl, sym, ap, ◌∙◌, subst}
+use Rattle.std.proofs.lemmas.Simd.{map-map}
+use Rattle.std.specs.Cmp.Lexicographic.{options_total}
+use Rattle.std.specs.List.{filter_map}
+use Rattle.std.specs.List.Sorted.{IsStrictlySortedBy}
+use Rattle.std.specs.Option.{option_cmp, option_map_or}
+use Rattle.std.specs.Str.{bytes_eq}
+use Rattle.serde_json.specs.Data.{Data}
+use Rattle.serde_json.specs.Find.{as_str, get_member}
+use Rattle.erd_tables.specs.declared.class.Class.{Class}
+use Rattle.erd_tables.specs.declared.class.Class.TheVariants as class
+use Rattle.erd_tables.specs.declared.class.Family.{Family}
+use Rattle.erd_tables.specs.declared.class.Family.TheVariants as family
+use Rattle.erd_tables.specs.declared.class.Role.TheVariants as role
+use Rattle.erd_tables.specs.declared.member.MemberKind.TheVariants as kind
+use Rattle.erd_tables.specs.Table.{is_required}
+use Rattle.erd_check.proofs.ObjectsAt.{ObjectIn, object_in}
+use Rattle.erd_check.proofs.Positions.{has_at, position_of}
+use Rattle.erd_check.proofs.Rising.{Has}
+use Rattle.erd_check.proofs.Shapes.{Within, member_within}
+use Rattle.erd_check.proofs.TableKinds.{want_by_kind}
+use Rattle.erd_check.specs.Values.{entries_at, entries_of}
+use Rattle.erd_check.specs.Wants.{asked, class_of_object}
+use Rattle.erd_check.specs.declared.want.Want.TheVariants.{Member, Object}
+use Rattle.erd_meaning.specs.Keys.{Preference, has_keys, key_cmp, key_of}
+use Rattle.erd_meaning.specs.Lookups.{rank_of}
+use Rattle.erd_meaning.specs.Objects.{Placed, has_id, id_of, objects, selections_of_contest}
+use Rattle.erd_meaning.specs.SelectionNames.{is_write_in, key_named, keys_named, keys_of_selection, label_of_selection, name_cmp, name_of, order_of_selection, rising_list, selection_role}
+use Rattle.erd_meaning.specs.code.Orders.{name_cmp_total}
+use Rattle.erd_meaning.specs.declared.keys.key.Key.{Key}
+use Rattle.erd_meaning.proofs.accepted.Phases.{no_shape_fault}
+use Rattle.erd_meaning.proofs.accepted.References.{Contains-Has}
+use Rattle.erd_meaning.proofs.accepted.Skeleton.{values-placed_entries}
+use Rattle.erd_meaning.proofs.accepted.Standing.{contest_selections, one_named, stands, has_id-Some}
+use Rattle.erd_normal.specs.Canonical.{IsCanonical, canonical_id, canonical_selection_id}
+use Rattle.erd_normal.proofs.lists.Matched.{AtMostOne, Matched, apart_distinct, matched_count, matched_find, matched_mapped, one_if_apart, said_same}
+use Rattle.erd_normal.proofs.lists.MatchedRising.{matched_rising}
+use Rattle.erd_normal.proofs.lists.Paired.{Paired, none, more}
+use Rattle.erd_normal.proofs.same.FamilyValues.{family_values, object_values}
+use Rattle.erd_normal.proofs.same.Related.{matched_within_both}
+use Rattle.erd_normal.proofs.same.SharedIds.{by_one_id, have_one_id, ids_distinct, owner_found}
+use Rattle.erd_normal.proofs.same.complete.Counterparts.{SelectionsAlike, alike_by_key, family_matched, name_at, selection_name, selections_matched}
+use Rattle.erd_normal.proofs.same.complete.Texts.{Counterpart, by_key, by_name}
+use Rattle.erd_normal.proofs.same.complete.TwoMeanings.{MeanOne}
+
+-- the fellow of an entry of a paired list
+fellow_at : {A B : Type 0} (R : A → B → Type 0) {xs : List A} {ys : List B} → Paired R xs ys → (i : ℕ) (x : A) → slice_get xs i ≡ Some x → (y : B) × (slice_get ys i ≡ Some y) × R x y
+fellow_at R none i x e = cc
+fellow_at R (more {x = z} {y = y} r rest) zero x e = let same : z ≡ x = cc in (y, refl, subst (λ a. R a y) same r)
+fellow_at R (more r rest) (suc i) x e = fellow_at R rest i x e
+
+nothing_rises : {K : Type 0} (cmp : K → K → Ordering) → IsStrictlySortedBy cmp []
+unfolding IsStrictlySortedBy
+nothing_rises cmp = tt
+
+-- the selections of a contest rise by their names
+names_rise : (π : Preference) (t : Data) → IsCanonical π t → (c : Placed) → Has (objects family.Contest t) c → IsStrictlySortedBy (option_cmp name_cmp) (map (name_at π t) (selections_of_contest c))
+names_rise π t canonical c h =
+    subst (IsStrictlySortedBy (option_cmp name_cmp))
+    (sym (sym (map-map (name_of π t) (λ (x : Placed). x.value) (selections_of_contest c)) ∙ ap (map (name_of π t)) (values-placed_entries (codes "ContestSelection") c ∙ ap (entries_at (codes "ContestSelection")) o.is_object)))
+    (at (get_member (codes "ContestSelection") o.ms) refl)
+  where
+    o : ObjectIn t (role.OfFamily family.Contest) c.value
+    o = object_in t (no_shape_fault π t canonical.accepted) (role.OfFamily family.Contest) c.value (record { place = c.place; is = stands π t canonical.accepted family.Contest c h })
+
+    at : (x : Option Data) → get_member (codes "ContestSelection") o.ms ≡ x → IsStrictlySortedBy (option_cmp name_cmp) (map (name_of π t) (option_map_or entries_of x []))
+    at None e = nothing_rises (option_cmp name_cmp)
+    at (Some v) e =
+        let r = is_required o.class (codes "ContestSelection") in
+        let w : Within t (asked (Member (kind.Keyed family.Selection) r) v) =
+        subst (λ x. Within t (asked x v)) (want_by_kind o.class (codes "ContestSelection") (kind.Keyed family.Selection) (contest_selections o.class o.role) refl)
+        (member_within t (no_shape_fault π t canonical.accepted) (Object (role.OfFamily family.Contest)) (role.OfFamily family.Contest) o.ms o.class (codes "ContestSelection") v o.at.asks o.at.among refl o.at.inside e) in
+        canonical.in_order w.place (asked (Member (kind.Keyed family.Selection) r) v) (kind.Keyed family.Selection) w.is refl
+
+module _ (π : Preference) (t u : Data) (canonical : IsCanonical π t) (canonical' : IsCanonical π u) (both : MeanOne π t u) where
+  -- a key has one rank in both
+  one_rank : (f : Family) → has_keys f ≡ true → (k l : Option Key) → k ≡ l → rank_of π t f k ≡ rank_of π u f l
+  one_rank f keyed k l same =
+      ap (rank_of π t f) same
+      ∙ matched_count (λ (x : Placed). is_lt (option_cmp key_cmp (key_of π x.value) l)) (λ (x : Placed). is_lt (option_cmp key_cmp (key_of π x.value) l))
+      (λ x y r. ap (λ k. is_lt (option_cmp key_cmp k l)) r.key) (family_matched π t u both f keyed)
+
+  pub ids_alike : (f : Family) (o p : Placed) → Has (objects f t) o → Has (objects f u) p → Counterpart π t u f o p → id_of o.value ≡ id_of p.value
+  ids_alike f o p h k (by_key keyed same) =
+      canonical.ids.families f o keyed (Contains-Has (objects f t) o h) ∙ ap (canonical_id f) (one_rank f keyed _ _ same) ∙ sym (canonical'.ids.families f p keyed (Contains-Has (objects f u) p k))
+  ids_alike f o p h k (by_name is c d i j keys x y names) =
+      let paired : Paired (SelectionsAlike π t u) (selections_of_contest c) (selections_of_contest d) =
+      matched_rising (option_cmp name_cmp) (options_total name_cmp_total) (name_at π t) (name_at π u) (λ x y r. r.name) (selections_of_contest c) (selections_of_contest d)
+      (names_rise π t canonical c i) (names_rise π u canonical' d j) (selections_matched π t u both c d i j (alike_by_key π t u both family.Contest refl c d i j keys)) in
+      let n = position_of (selections_of_contest c) o x in
+      let q = fellow_at (SelectionsAlike π t u) paired n.0 o n.1 in
+      let name = selection_name π u both.right d p j y in
+      let one : q.0 ≡ p = one_named π u both.right d q.0 p name.0 j (has_at (selections_of_contest d) n.0 q.0 q.1) y (sym q.2.name ∙ names ∙ name.1) name.1 in
+      canonical.ids.selections n.0 c o (Contains-Has (objects family.Contest t) c i) n.1 ∙ ap (λ r. Some (canonical_selection_id r n.0)) (one_rank family.Contest refl _ _ keys)
+      ∙ sym (canonical'.ids.selections n.0 d q.0 (Contains-Has (objects family.Contest u) d j) q.1) ∙ ap (λ (z : Placed). id_of z.value) one
+
+  -- ---- what texts name
+
+  -- two values with one `@id` and one key
+  abbrev NamedAlike : Data → Data → Type 0
+  NamedAlike d e = (id_of d ≡ id_of e) × (key_of π d ≡ key_of π e)
+
+  values_alike : (f : Family) → has_keys f ≡ true → Matched NamedAlike (family_values f t) (family_values f u)
+  values_alike f keyed =
+      subst (λ ds. Matched NamedAlike ds (family_values f u)) (object_values f t) (subst (Matched NamedAlike (map (λ (o : Placed). o.value) (objects f t))) (object_values f u)
+      (matched_mapped (λ (o : Placed). o.value) (λ (o : Placed). o.value) (λ x y h. h)
+      (matched_within_both (λ o p. NamedAlike o.value p.value) (λ o p i j alike. (ids_alike f o p i j (by_key keyed alike.key), alike.key)) (family_matched π t u both f keyed))))
+
+  pub one_key : (f : Family) (s : List ℕ) → has_keys f ≡ true → key_named π t f s ≡ key_named π u f s
+  one_key f s keyed =
+      let few : AtMostOne (has_id s) (family_values f t) =
+      one_if_apart (has_id s) (family_values f t) (apart_distinct (has_id s) have_one_id (family_values f t) (λ x y h k. by_one_id x y s (has_id-Some s x h) (has_id-Some s y k)) (ids_distinct π t canonical.accepted f)) in
+      ap (option_and_then (key_of π)) (owner_found t f s)
+      ∙ said_same (key_of π) (key_of π) (λ x y h. h.1) (find (has_id s) (family_values f t)) (find (has_id s) (family_values f u))
+      (matched_find (has_id s) (has_id s) (λ x y h. ap (λ o. option_map_or (bytes_eq s) o false) h.0) (values_alike f keyed) few)
+      ∙ sym (ap (option_and_then (key_of π)) (owner_found u f s))
+
+  keys_alike : (f : Family) → has_keys f ≡ true → (ds : List Data) → keys_named π t f ds ≡ keys_named π u f ds
+  keys_alike f keyed ds = λ i. filter_map (λ r. option_and_then (λ s. one_key f s keyed i) (as_str r)) ds
+
+  selection_keys : (c : Class) (d : Data) → keys_of_selection π t c d ≡ keys_of_selection π u c d
+  selection_keys class.CandidateSelection d = keys_alike family.Candidate refl (entries_at (codes "CandidateIds") d)
+  selection_keys class.PartySelection d = keys_alike family.Party refl (entries_at (codes "PartyIds") d)
+  selection_keys c d = refl
+
+  -- and so a selection has one name in both
+  pub one_name : (d : Data) → name_of π t d ≡ name_of π u d
+  one_name d = λ i. option_map (λ c. record { class = c; keys = rising_list key_cmp (selection_keys c d i); write_in = is_write_in c d; order = order_of_selection d; label = label_of_selection c d; identifier = key_of π d })
+      (class_of_object selection_role d)
