@@ -1,6 +1,7 @@
 pub mod StepWalks
 pub mod NameWalks
 pub mod MemberWalks
+pub mod PairWalks
 pub mod HeldRecords
 pub mod KeyedRecords
 pub mod RisingKeys

@@ -7,6 +7,7 @@ pub mod CommonNames  -- ranks: which number stands for the name of a selection
 pub mod SelectionsByName  -- objects: which selection has a name, and the selections of a contest by the numbers of their names
 pub mod NamesInStep  -- objects: the members that are left, as those of two objects are walked in step by their names
 pub mod LeastNames  -- objects: the least name of a member at which two objects differ
+pub mod MemberPairs  -- objects: what two objects have under one name, and the answers that decide whether it is the same
 pub mod HeldDifferences  -- objects: how two objects differ with the keys of the elections that hold them
 pub mod KeyedDifferences  -- the first difference: the least key at which two reports differ in a part
 pub mod CommonRanks  -- ranks: which rank stands for a key of either report

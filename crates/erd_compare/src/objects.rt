@@ -1,6 +1,7 @@
 //! How two objects differ, and whether their members mean the same.
 
 pub(crate) mod held;
+pub(crate) mod least_name;
 mod members_left;
 pub(crate) mod placed;
 mod plain_members;

@@ -1,5 +1,5 @@
 -- The keys of the objects with a role, in rising order: no key stands twice, and each stands at its rank.
-use Rattle.std.proofs.Common.{◌≡◌, ◌+◌, ℕ, List, map, filter, length, cond, true, Option, Some, None, option_and_then, option_map, Ordering, is_lt, slice_get, refl, sym, ap, ◌∙◌, subst, arith}
+use Rattle.std.proofs.Common.{◌≡◌, ◌+◌, ℕ, List, map, filter, length, cond, true, Option, Some, None, option_and_then, option_map, Ordering, is_lt, slice_get, refl, sym, ap, ◌∙◌, arith}
 use Rattle.std.specs.Cmp.{IsTotalOrder}
 use Rattle.std.specs.Cmp.Lexicographic.{options_total}
 use Rattle.std.specs.List.{AllByRecursion, IsDistinct}

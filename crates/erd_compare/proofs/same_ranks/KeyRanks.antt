@@ -1,5 +1,5 @@
 -- The common ranks of the keys of two reports: equal ranks for equal keys.
-use Rattle.std.proofs.Common.{◌≡◌, ◌==◌, ℕ, List, [], ◌∷◌, ◌++◌, map, true≢false, true, Option, Some, None, option_map, refl, sym, ap, ◌∙◌, subst}
+use Rattle.std.proofs.Common.{◌≡◌, ◌==◌, ℕ, List, ◌++◌, true≢false, true, Option, Some, None, option_map, refl, sym, ap, ◌∙◌}
 use Rattle.std.specs.List.{slice_get}
 use Rattle.std.specs.Option.{option_eq}
 use Rattle.std.proofs.lemmas.Bool.Decides.{Decides-eqb}
@@ -13,7 +13,7 @@ use Rattle.erd_meaning.specs.code.KeyOrders.{rank_in_keys}
 use Rattle.erd_meaning.specs.declared.keys.key.Key.{Key}
 use Rattle.erd_meaning.proofs.orders.DistinctEntries.{place_of as place_in}
 use Rattle.erd_compare.specs.code.Comparing.{Decides}
-use Rattle.erd_compare.specs.code.CommonRanks.{AreAllCommonRanks, AreCommonRanks, common_rank, common_rank_of, common_ranks_in, place_of, rank_of_key}
+use Rattle.erd_compare.specs.code.CommonRanks.{AreAllCommonRanks, AreCommonRanks, common_rank, common_ranks_in, place_of, rank_of_key}
 use Rattle.erd_compare.specs.code.KeyedDifferences.{HasKeyAt, IsComparable, is_ranked, keys_in_role, rising_in_role}
 use Rattle.erd_compare.specs.code.RankedSides.{AreCommonByRank, on_side}
 use Rattle.erd_compare.specs.declared.ranks.common_ranks.CommonRanks.{CommonRanks}

@@ -1,11 +1,8 @@
 -- Two rising lists of keys are merged: how far the merge has come, and its steps.
-use Rattle.std.proofs.Common.{◌≡◌, ◌≤◌, ◌<◌, ◌+◌, ◌++◌, ◌⊎◌, ℕ, zero, suc, inl, inr, List, [], ◌∷◌, map, take, length, Bool, false, true, Option, Some, None, Ordering, Less, Equal, Greater, is_eq, slice_get, refl, sym, ap, ◌∙◌, subst, arith}
-use Rattle.std.proofs.lemmas.Bool.{cases_lt}
-use Rattle.std.proofs.lemmas.Cmp.{tied_itself}
-use Rattle.std.proofs.lemmas.List.{length-map, map-append, take_all, take_more}
+use Rattle.std.proofs.Common.{◌≡◌, ◌≤◌, ◌<◌, ◌+◌, ◌++◌, ◌⊎◌, ℕ, zero, suc, inl, inr, List, [], ◌∷◌, map, take, length, Option, Some, None, Ordering, Less, Equal, Greater, is_eq, slice_get, refl, sym, ap, ◌∙◌, subst, arith}
+use Rattle.std.proofs.lemmas.List.{map-append, take_all, take_more}
 use Rattle.std.proofs.lemmas.Option.{get_or_from_slice_get, slice_get_within}
 use Rattle.std.specs.List.Sorted.{IsStrictlySortedBy}
-use Rattle.std.specs.Option.{option_cmp, option_map_or}
 use Rattle.erd_meaning.specs.Keys.{key_cmp}
 use Rattle.erd_meaning.specs.declared.keys.key.Key.{Key}
 use Rattle.erd_meaning.proofs.finding.OneObject.{sorted_at, which_first}

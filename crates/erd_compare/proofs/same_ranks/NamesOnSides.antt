@@ -29,7 +29,6 @@ use Rattle.erd_compare.specs.code.RankedSides.{AreCommonByRank, on_side}
 use Rattle.erd_compare.specs.code.CommonNames.{name_by_ranks, name_by_ranks_of, name_told, ranks_in_name, ranks_told, role_of_name}
 use Rattle.erd_compare.specs.declared.ranks.common_ranks.CommonRanks.{CommonRanks}
 use Rattle.erd_compare.specs.declared.ranks.side.Side.{Side}
-use Rattle.erd_compare.specs.declared.ranks.side.Side.TheVariants.{Left, Right}
 use Rattle.erd_compare.proofs.least_difference.RisingKeys.{family_rank}
 use Rattle.erd_compare.proofs.same_ranks.KeyRanks.{both_keys, known_on, one_rank}
 use Rattle.erd_compare.proofs.same_ranks.KeyPlaces.{Stands}

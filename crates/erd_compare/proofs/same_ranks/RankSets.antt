@@ -1,23 +1,23 @@
 -- The common ranks of the keys that references name are put into a set one after another, and two such sets are equal if and
 -- only if the sets of the keys are.
-use Rattle.std.proofs.Common.{◌≡◌, ◌==◌, ◌<◌, ◌+◌, ℕ, List, [], ◌∷◌, map, drop, length, get_or, Bool, true, false, ◌||◌, Ordering, Less, Equal, Greater, is_eq, inl, inr, Option, Some, None, option_and_then, option_map, refl, sym, ap, ap₂, ◌∙◌, subst}
+use Rattle.std.proofs.Common.{◌≡◌, ◌==◌, ℕ, List, [], ◌∷◌, map, Bool, true, false, ◌||◌, Ordering, Less, Equal, Greater, is_eq, inl, inr, Option, Some, None, option_and_then, option_map, refl, sym, ap, ap₂, ◌∙◌, subst}
 use Rattle.std.proofs.Math.Path.{fun_ext}
 use Rattle.std.proofs.lemmas.Bool.{and_from, and_parts}
 use Rattle.std.proofs.lemmas.Bool.Decides.{Decides-eqb}
 use Rattle.std.proofs.lemmas.Cmp.{nat_cmp_total, tied_itself}
-use Rattle.std.proofs.lemmas.List.{drop_more}
+use Rattle.std.proofs.lemmas.List.Kept.{Contains-dedup_nat, Contains-from_dedup, IsStrictlySortedBy-dedup}
+use Rattle.std.proofs.lemmas.List.Sorted.{list_any-IsPermutation}
 use Rattle.std.proofs.lemmas.Map.Lookups.{CmpEqualImpliesEq, exact_unsigned}
-use Rattle.std.specs.BTreeSet.{BTreeSet, insert_key}
-use Rattle.std.specs.Cmp.{IsTotalOrder}
+use Rattle.std.specs.Cmp.{IsTotalOrder, unsigned_ties}
 use Rattle.std.specs.Cmp.Lexicographic.{pointwise}
-use Rattle.std.specs.List.{cons_option, list_any}
-use Rattle.std.specs.List.Sorted.{IsStrictlySortedBy}
+use Rattle.std.specs.List.{cons_option, dedup, filter_map, list_any}
+use Rattle.std.specs.List.Sorted.{IsPermutation, IsSorted}
 use Rattle.std.specs.Ordering.{nat_cmp}
 use Rattle.serde_json.specs.Data.{Data}
 use Rattle.serde_json.specs.Find.{as_str}
 use Rattle.serde_json.specs.View.{view}
 use Rattle.serde_json.specs.declared.value.Value.{Value}
-use Rattle.erd_check.proofs.Order.{In, In-map, In-map_from}
+use Rattle.erd_check.proofs.Order.{In, In-from_contains, In-map, In-map_from, contains_from_In}
 use Rattle.erd_tables.specs.declared.class.Family.{Family}
 use Rattle.erd_tables.specs.declared.class.Role.{Role}
 use Rattle.erd_tables.specs.declared.class.Role.TheVariants as role
@@ -37,89 +37,20 @@ use Rattle.erd_compare.proofs.same_ranks.KeyRanks.{both_keys, one_rank}
 use Rattle.erd_compare.proofs.same_ranks.KeyPlaces.{Stands}
 use Rattle.erd_compare.proofs.same_ranks.NamedRanks.{value_named, value_known}
 
--- ---- a rank is put into a set
+-- ---- the ranks of references
 
-again : (a b : Bool) → a || b ≡ a || (a || b)
-again true b = refl
-again false b = refl
-
-exchanged : (a b c : Bool) → a || (b || c) ≡ b || (a || c)
-exchanged true true c = refl
-exchanged true false c = refl
-exchanged false b c = refl
-
--- the ranks of a set that has one more
-put : (ns : List ℕ) (m n : ℕ) → rank_set (insert_key nat_cmp ns m) n ≡ is_eq (nat_cmp m n) || rank_set ns n
-put [] m n = refl
-put (x ∷ xs) m n = at (nat_cmp m x) refl (put xs m n)
-  where
-    at : (o : Ordering) → nat_cmp m x ≡ o → rank_set (insert_key nat_cmp xs m) n ≡ is_eq (nat_cmp m n) || rank_set xs n
-        → rank_set (insert_key nat_cmp (x ∷ xs) m) n ≡ is_eq (nat_cmp m n) || rank_set (x ∷ xs) n
-    at Less is later = rw is refl
-    at Equal is later =
-        let one : m ≡ x = exact_unsigned m x is in
-        rw is (again (is_eq (nat_cmp x n)) (rank_set xs n) ∙ ap (λ y. is_eq (nat_cmp y n) || (is_eq (nat_cmp x n) || rank_set xs n)) (sym one))
-    at Greater is later = rw is (ap (λ b. is_eq (nat_cmp x n) || b) later ∙ exchanged (is_eq (nat_cmp x n)) (is_eq (nat_cmp m n)) (rank_set xs n))
-
--- ---- the ranks of references are put into a set
-
--- the set has the ranks, but for these, which are left
-pub record IsCollecting (all left : List ℕ) (s : BTreeSet ℕ) : Type 0 where
-  pub rises : IsStrictlySortedBy nat_cmp s.keys
-  pub same : (n : ℕ) → rank_set s.keys n || rank_set left n ≡ rank_set all n
-
-nothing_more : (b : Bool) → b || false ≡ b
-nothing_more true = refl
-nothing_more false = refl
-
-third : (a b c : Bool) → (b || a) || c ≡ a || (b || c)
-third true true c = refl
-third true false c = refl
-third false true c = refl
-third false false c = refl
-
-module _ (a b : Judged) (side : Side) (f : Family) (vs : List Value) where
-  -- the ranks of the references from a place on
-  abbrev pub ranks_left : ℕ → List ℕ
-  ranks_left i = list_of_ranks a b side f (map view (drop i vs))
-
-  abbrev pub all_ranks : List ℕ
-  all_ranks = list_of_ranks a b side f (map view vs)
-
-  pub none_put : (s : BTreeSet ℕ) → s.keys ≡ [] → IsStrictlySortedBy nat_cmp s.keys → IsCollecting all_ranks (ranks_left 0) s
-  none_put s none rises = record { rises = rises; same = λ n. rw none refl }
-
-  pub all_put : (s : BTreeSet ℕ) (i : ℕ) → drop i vs ≡ [] → IsCollecting all_ranks (ranks_left i) s → IsRankSet all_ranks s
-  all_put s i none h = record {
-    rises = h.rises;
-    same = λ n. sym (nothing_more (rank_set s.keys n)) ∙ (ap (λ ws. rank_set s.keys n || rank_set (list_of_ranks a b side f (map view ws)) n) (sym none) ∙ h.same n);
-  }
-
+module _ (a b : Judged) (side : Side) (f : Family) where
   more : (o : Option Key) (ks : List Key) → map (rank_of_key a b (role.OfFamily f)) (cons_option o ks) ≡ cons_option (option_map (rank_of_key a b (role.OfFamily f)) o) (map (rank_of_key a b (role.OfFamily f)) ks)
   more None ks = refl
   more (Some k) ks = refl
 
-  -- the references from a place on, of which the first has this rank or none
-  pub named_left : (i : ℕ) (v : Value) (o : Option ℕ) → i < length vs → v ≡ get_or vs i v → o ≡ option_and_then (rank_with_id a b side f) (as_str (view v)) → ranks_left i ≡ cons_option o (ranks_left (i + 1))
-  named_left i v o low is named =
-      ap (λ ws. list_of_ranks a b side f (map view ws)) (drop_more vs i v low ∙ ap (λ w. w ∷ drop (i + 1) vs) (sym is))
-      ∙ (more (option_and_then (key_named (on_side side a b).prefer (view (on_side side a b).tree) f) (as_str (view v))) (keys_named (on_side side a b).prefer (view (on_side side a b).tree) f (map view (drop (i + 1) vs)))
-      ∙ ap (λ x. cons_option x (ranks_left (i + 1))) (sym (named ∙ value_named a b side f (as_str (view v)))))
-
-  pub unnamed : (s : BTreeSet ℕ) (i : ℕ) (v : Value) → i < length vs → v ≡ get_or vs i v → None ≡ option_and_then (rank_with_id a b side f) (as_str (view v)) → IsCollecting all_ranks (ranks_left i) s
-      → IsCollecting all_ranks (ranks_left (i + 1)) s
-  unnamed s i v low is named h = subst (λ ns. IsCollecting all_ranks ns s) (named_left i v None low is named) h
-
-  pub one_put : (s n : BTreeSet ℕ) (i : ℕ) (v : Value) (m : ℕ) → i < length vs → v ≡ get_or vs i v → Some m ≡ option_and_then (rank_with_id a b side f) (as_str (view v)) → n.keys ≡ insert_key nat_cmp s.keys m
-      → IsStrictlySortedBy nat_cmp n.keys → IsCollecting all_ranks (ranks_left i) s → IsCollecting all_ranks (ranks_left (i + 1)) n
-  one_put s n i v m low is named keys rises h = record {
-    rises = rises;
-    same = λ k.
-        ap (λ ks. rank_set ks k || rank_set (ranks_left (i + 1)) k) keys
-        ∙ (ap (λ b. b || rank_set (ranks_left (i + 1)) k) (put s.keys m k)
-        ∙ (third (rank_set s.keys k) (is_eq (nat_cmp m k)) (rank_set (ranks_left (i + 1)) k)
-        ∙ (ap (λ ks. rank_set s.keys k || rank_set ks k) (sym (named_left i v (Some m) low is named)) ∙ h.same k)));
-  }
+  -- the ranks of what references name are those of the keys that they name
+  pub ranks_of_keys : (vs : List Value) → filter_map (λ v. option_and_then (rank_with_id a b side f) (as_str (view v))) vs ≡ list_of_ranks a b side f (map view vs)
+  ranks_of_keys [] = refl
+  ranks_of_keys (v ∷ vs) =
+      let j = on_side side a b in
+      ap₂ cons_option (value_named a b side f (as_str (view v))) (ranks_of_keys vs)
+      ∙ sym (more (option_and_then (key_named j.prefer (view j.tree) f) (as_str (view v))) (keys_named j.prefer (view j.tree) f (map view vs)))
 
 -- ---- what is in a list
 
@@ -151,6 +82,19 @@ both_ways true q to back = sym (to refl)
 both_ways false true to back = back refl
 both_ways false false to back = refl
 
+-- ranks that were sorted, each of them once
+pub sorted_once : (ns sorted once : List ℕ) → IsPermutation ns sorted → IsSorted nat_cmp sorted → once ≡ dedup ◌==◌ sorted → IsRankSet ns once
+sorted_once ns sorted once all rises is = subst (IsRankSet ns) (sym is) (record {
+  rises = IsStrictlySortedBy-dedup nat_cmp_total unsigned_ties sorted rises;
+  same = λ n. both_ways (rank_set (dedup ◌==◌ sorted) n) (rank_set sorted n) (fewer n) (kept n) ∙ sym (list_any-IsPermutation (λ m. is_eq (nat_cmp m n)) ns sorted all);
+})
+  where
+    fewer : (n : ℕ) → rank_set (dedup ◌==◌ sorted) n ≡ true → rank_set sorted n ≡ true
+    fewer n h = any_from_in nat_cmp nat_cmp_total exact_unsigned n sorted (In-from_contains n sorted (Contains-from_dedup ◌==◌ sorted n (contains_from_In n (dedup ◌==◌ sorted) (in_from_any nat_cmp nat_cmp_total exact_unsigned n (dedup ◌==◌ sorted) h))))
+
+    kept : (n : ℕ) → rank_set sorted n ≡ true → rank_set (dedup ◌==◌ sorted) n ≡ true
+    kept n h = any_from_in nat_cmp nat_cmp_total exact_unsigned n (dedup ◌==◌ sorted) (In-from_contains n (dedup ◌==◌ sorted) (Contains-dedup_nat sorted n (contains_from_In n sorted (in_from_any nat_cmp nat_cmp_total exact_unsigned n sorted h))))
+
 -- ---- sets of keys, by their common ranks
 
 module _ (a b : Judged) (r : Role) where
@@ -181,10 +125,10 @@ module _ (a b : Judged) (r : Role) where
   pub same_ranks : (ks ls : List Key) → ((k : Key) → key_set ks k ≡ key_set ls k) → (n : ℕ) → rank_set (map rank ks) n ≡ rank_set (map rank ls) n
   same_ranks ks ls same n = both_ways (rank_set (map rank ks) n) (rank_set (map rank ls) n) (ranks_over ks ls same n) (ranks_over ls ks (λ k. sym (same k)) n)
 
-  pub sets_decide : (ks ls : List Key) → AllKnown ks → AllKnown ls → (s t : BTreeSet ℕ) (answer : Bool) → IsRankSet (map rank ks) s → IsRankSet (map rank ls) t → Decides answer s.keys t.keys → Decides answer (key_set ks) (key_set ls)
+  pub sets_decide : (ks ls : List Key) → AllKnown ks → AllKnown ls → (s t : List ℕ) (answer : Bool) → IsRankSet (map rank ks) s → IsRankSet (map rank ls) t → Decides answer s t → Decides answer (key_set ks) (key_set ls)
   sets_decide ks ls here there s t answer mine its decides = (
     λ h. fun_ext (same_keys ks ls here there (λ n. sym (mine.same n) ∙ (ap (λ xs. rank_set xs n) (decides.0 h) ∙ its.same n))),
-    λ same. decides.1 (set_unique nat_cmp nat_cmp_total exact_unsigned s.keys t.keys mine.rises its.rises
+    λ same. decides.1 (set_unique nat_cmp nat_cmp_total exact_unsigned s t mine.rises its.rises
         (λ n. mine.same n ∙ (same_ranks ks ls (λ k. ap (λ (x : KeySet). x k) same) n ∙ sym (its.same n)))),
   )
 

@@ -1,6 +1,7 @@
 -- What members mean: the selections of a contest, and all others, which mean what they do by themselves.
-use Rattle.std.proofs.Common.{◌≡◌, Bor, List, Bool, false, Option, Some, None, Result, Ok, Err, IfOk, option_map, refl, sym, ap, ◌∙◌, subst}
+use Rattle.std.proofs.Common.{◌≡◌, ℕ, Bor, List, Bool, false, not, is_some, Option, Some, None, Result, Ok, Err, IfOk, option_map, refl, sym, ap, ◌∙◌, subst}
 use Rattle.std.specs.Prelude.{IfSome}
+use Rattle.std.proofs.Math.Path.{fun_ext}
 use Rattle.serde_json.specs.Data.{Data, null, boolean, number, string, array, object, no_items, item}
 use Rattle.serde_json.specs.View.{view}
 use Rattle.serde_json.specs.declared.value.Value.{Value}
@@ -13,6 +14,7 @@ use Rattle.erd_meaning.specs.Meaning.{PlainValue, MemberValue, SelectionRecord, 
 use Rattle.erd_meaning.specs.NameParts.{NameParts}
 use Rattle.erd_meaning.specs.Records.{member_value, selection_map}
 use Rattle.erd_compare.specs.code.Comparing.{Decides, IsWholeTree}
+use Rattle.erd_compare.specs.code.LeastNames.{MemberMap, TellsLeastName}
 use Rattle.erd_compare.specs.code.SelectionMembers.{if_filled, is_selections, selections_meant}
 
 -- ---- selections
@@ -66,14 +68,19 @@ selections-Decide π ρ (Ok answer) t u d e found other ds es left right of_d of
 -- ---- other members
 
 -- what a member means that it does by itself is determined by that
-plain-Decides : (answer : Bool) (p q : Option PlainValue) → Decides answer p q → Decides answer (option_map a_plain p) (option_map a_plain q)
-plain-Decides answer p q h = (λ is. ap (option_map a_plain) (h.0 is), λ same. h.1 (inner p q same))
-  where
-    inner : (p q : Option PlainValue) → option_map a_plain p ≡ option_map a_plain q → p ≡ q
-    inner None None same = refl
-    inner None (Some w) same = cc
-    inner (Some v) None same = cc
-    inner (Some v) (Some w) same = cc
+one_plain : (p q : Option PlainValue) → option_map a_plain p ≡ option_map a_plain q → p ≡ q
+one_plain None None same = refl
+one_plain None (Some w) same = cc
+one_plain (Some v) None same = cc
+one_plain (Some v) (Some w) same = cc
+
+pub plain-Decides : (answer : Bool) (p q : Option PlainValue) → Decides answer p q → Decides answer (option_map a_plain p) (option_map a_plain q)
+plain-Decides answer p q h = (λ is. ap (option_map a_plain) (h.0 is), λ same. h.1 (one_plain p q same))
+
+-- what all members mean by themselves is the same exactly if there is no least name at which they differ
+pub plain_maps-Decide : (p q : List ℕ → Option PlainValue) (found : Option (List ℕ)) → TellsLeastName (λ k. option_map a_plain (p k)) (λ k. option_map a_plain (q k)) found → Decides (not (is_some found)) p q
+plain_maps-Decide p q None told = (λ h. fun_ext (λ k. one_plain (p k) (q k) (ap (λ (m : MemberMap). m k) told)), λ same. refl)
+plain_maps-Decide p q (Some name) told = (λ h. cc, λ same. absurd (told.differ (ap (λ (m : List ℕ → Option PlainValue). option_map a_plain (m name)) same)))
 
 -- members of a kind other than selections mean the same exactly if they do so by themselves
 pub other_kind-Decides : (π ρ : Preference) (answer : Bool) (t u : Data) (k : MemberKind) (found other : Option Data) (p q : Option PlainValue) → is_selections k ≡ false

@@ -21,8 +21,10 @@ use Rattle.erd_meaning.proofs.selections.NumberedSelections.{numbered_at}
 use Rattle.erd_meaning.specs.Judged.{Judged}
 use Rattle.erd_meaning.specs.code.SelectionWalk.{StandFrom, if_of_contest, selection_of}
 use Rattle.erd_meaning.specs.Objects.{Placed, contests, numbered_selections, objects, selections_of_contest}
+use Rattle.erd_compare.specs.code.MemberPairs.{IsPairOf}
 use Rattle.erd_compare.specs.code.PlacedObjects.{AreSelectionsAt, AreSelectionsIn, IsPlaced}
 use Rattle.erd_compare.specs.code.SelectionMembers.{is_selections}
+use Rattle.erd_compare.specs.declared.objects.least_name.MemberPair.{MemberPair}
 
 -- ---- the member of a contest
 
@@ -35,12 +37,21 @@ through name d None e = cc
 through name d (Some o) e = let same : o.value ≡ d = cc in ap (get name) same
 
 -- a member that holds selections is that of the contest at the position
-pub placed_selections : (a : Judged) (c : Class) (name : List ℕ) (i : ℕ) (d : Data) (found : Option Data) → IsPlaced a (role_of_class c) i d → found ≡ get name d
+placed_selections : (a : Judged) (c : Class) (name : List ℕ) (i : ℕ) (d : Data) (found : Option Data) → IsPlaced a (role_of_class c) i d → found ≡ get name d
     → is_selections (kind_of_member c name) ≡ true → AreSelectionsAt a i found
 placed_selections a c name i d found placed is holds =
     let selections : kinds.is_selections (kind_of_member c name) ≡ true = holds_selections (kind_of_member c name) holds in
     let contest : IsPlaced a (role.OfFamily family.Contest) i d = subst (λ r. IsPlaced a r i d) (kinds.selections_role c name selections) placed in
     through (codes "ContestSelection") d (slice_get (contests (view a.tree)) i) contest ∙ ap (λ n. get n d) (sym (kinds.selections_name c name selections)) ∙ sym is
+
+-- what the objects at two positions have under a name
+pub pair_one : (a : Judged) (c : Class) (i : ℕ) (d e : Data) (pair : MemberPair) → IsPlaced a (role_of_class c) i d → IsPairOf d e pair
+    → is_selections (kind_of_member c pair.name.now) ≡ true → AreSelectionsAt a i (option_map (λ v. view v.now) pair.one)
+pair_one a c i d e pair placed is = placed_selections a c pair.name.now i d (option_map (λ v. view v.now) pair.one) placed is.one
+
+pub pair_other : (a : Judged) (c : Class) (i : ℕ) (d e : Data) (pair : MemberPair) → IsPlaced a (role_of_class c) i e → IsPairOf d e pair
+    → is_selections (kind_of_member c pair.name.now) ≡ true → AreSelectionsAt a i (option_map (λ v. view v.now) pair.other)
+pair_other a c i d e pair placed is = placed_selections a c pair.name.now i e (option_map (λ v. view v.now) pair.other) placed is.other
 
 -- ---- the selections of a contest
 

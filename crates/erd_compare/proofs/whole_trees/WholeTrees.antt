@@ -16,6 +16,8 @@ use Rattle.erd_check.proofs.Exact.{is_same_exact, text_itself}
 use Rattle.erd_check.proofs.Members.{get_member-tree}
 use Rattle.erd_meaning.proofs.selections.WholeParts.{whole_get}
 use Rattle.erd_compare.specs.code.Comparing.{Decides, IsWholeTree}
+use Rattle.erd_compare.specs.code.MemberPairs.{IsPairOf}
+use Rattle.erd_compare.specs.declared.objects.least_name.MemberPair.{MemberPair}
 
 -- values that are whole trees
 abbrev pub AreWholeTrees : List Data → Type 0
@@ -40,6 +42,13 @@ whole_tree-get name d v h e = record { is_tree = get-tree name d v h.is_tree e; 
 pub whole_found : (name : List ℕ) (d : Data) (o : Option (Bor Value)) → IsWholeTree d → option_map (λ v. view v.now) o ≡ get name d → IfSome o (λ v. IsWholeTree (view v.now))
 whole_found name d None h e = tt
 whole_found name d (Some v) h e = whole_tree-get name d (view v.now) h (sym e)
+
+-- what two objects have under a name
+pub whole_one : (d e : Data) (pair : MemberPair) → IsWholeTree d → IsPairOf d e pair → IfSome pair.one (λ v. IsWholeTree (view v.now))
+whole_one d e pair whole is = whole_found pair.name.now d pair.one whole is.one
+
+pub whole_other : (d e : Data) (pair : MemberPair) → IsWholeTree e → IsPairOf d e pair → IfSome pair.other (λ v. IsWholeTree (view v.now))
+whole_other d e pair whole is = whole_found pair.name.now e pair.other whole is.other
 
 -- ---- entries
 

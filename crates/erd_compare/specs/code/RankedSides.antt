@@ -1,6 +1,5 @@
 -- The common ranks of keys on either side.
 use Rattle.std.specs.Prelude.{◌≡◌, ℕ, List, map, Bool, true, Option, Some, option_map}
-use Rattle.std.specs.BTreeSet.{BTreeSet}
 use Rattle.std.specs.List.{list_any}
 use Rattle.std.specs.List.Sorted.{IsStrictlySortedBy}
 use Rattle.std.specs.Ordering.{is_eq, nat_cmp}
@@ -37,9 +36,9 @@ abbrev pub rank_set : List ℕ → ℕ → Bool
 rank_set ns n = list_any (λ m. is_eq (nat_cmp m n)) ns
 
 -- The set has the ranks of the list, each of them once and in rising order.
-pub record IsRankSet (ns : List ℕ) (s : BTreeSet ℕ) : Type 0 where
-  pub rises : IsStrictlySortedBy nat_cmp s.keys
-  pub same : (n : ℕ) → rank_set s.keys n ≡ rank_set ns n
+pub record IsRankSet (ns set : List ℕ) : Type 0 where
+  pub rises : IsStrictlySortedBy nat_cmp set
+  pub same : (n : ℕ) → rank_set set n ≡ rank_set ns n
 
 -- On either side, the common rank at the rank of an object's key is that of the key.
 abbrev pub AreCommonByRank : Judged → Judged → CommonRanks → Type 0

@@ -5,6 +5,7 @@ ghost use Rattle.erd_meaning.specs.Records.{is_in_envelope, json_set, plain_valu
 ghost use Rattle.erd_compare.specs.code.Comparing.{Decides, IsWholeTree, NamesKeys};
 ghost use Rattle.erd_compare.specs.code.PlainParts.{means_nothing, meant_value, plain_found};
 
+use crate::objects::least_name::MemberPair;
 use crate::sides::Sides;
 use crate::values::content::is_same_content;
 use crate::values::labels::is_same_label;
@@ -15,26 +16,24 @@ use erd_tables::{Class, MemberKind, is_envelope, member_kind};
 use serde_json::Value;
 use std::alloc::{AllocError, Global};
 
-/// Whether the members with this name, of two objects of the same class, mean the same, apart from the objects inside them.
-/// Each object has the value that is given, or lacks the member.
+/// Returns whether the members with one name, of two objects of the same class, mean the same, apart from the objects inside
+/// them.
 pub(crate) fn is_same_plain_member(
     alloc: Global,
     sides: Sides,
     class: Class,
-    name: &str,
-    one: Option<&Value>,
-    other: Option<&Value>,
+    pair: MemberPair,
 ) -> Result<bool, AllocError>
-    requires one { IfSome one (λ v. IsWholeTree (view v.now)) }
-    requires other { IfSome other (λ v. IsWholeTree (view v.now)) }
-    ensures { IfOk result (λ answer. Decides answer (plain_found sides.entry.left.now.prefer (view sides.entry.left.now.tree) class name.now (option_map (λ v. view v.now) one.entry))
-        (plain_found sides.entry.right.now.prefer (view sides.entry.right.now.tree) class name.now (option_map (λ v. view v.now) other.entry))) }
+    requires one { IfSome pair.one (λ v. IsWholeTree (view v.now)) }
+    requires other { IfSome pair.other (λ v. IsWholeTree (view v.now)) }
+    ensures { IfOk result (λ answer. Decides answer (plain_found sides.entry.left.now.prefer (view sides.entry.left.now.tree) class pair.entry.name.now (option_map (λ v. view v.now) pair.entry.one))
+        (plain_found sides.entry.right.now.prefer (view sides.entry.right.now.tree) class pair.entry.name.now (option_map (λ v. view v.now) pair.entry.other))) }
 {
-    if is_in_envelope(class, name) {
+    if is_in_envelope(class, pair.name) {
         return Ok(true);
     }
-    let kind = member_kind(class, name);
-    match (one, other) {
+    let kind = member_kind(class, pair.name);
+    match (pair.one, pair.other) {
         (Some(one), Some(other)) => is_same_plain(alloc, sides, kind, one, other),
         (Some(one), None) => Ok(means_nothing(kind, one)),
         (None, Some(other)) => Ok(means_nothing(kind, other)),

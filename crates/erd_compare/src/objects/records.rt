@@ -2,15 +2,15 @@ ghost use Rattle.std.specs.Prelude.{◌≡◌, option_map, true, IfOk, IfSome, S
 ghost use Rattle.serde_json.specs.View.{view};
 ghost use Rattle.erd_tables.specs.Classes.{role_of_class};
 ghost use Rattle.erd_tables.specs.Table.{kind_of_member};
-ghost use Rattle.erd_meaning.specs.Records.{member_of_class, object_record};
+ghost use Rattle.erd_meaning.specs.Records.{object_record};
 ghost use Rattle.erd_compare.specs.code.Comparing.{IsWholeTree, TellsHow, Decides};
-ghost use Rattle.erd_compare.specs.code.LeastNames.{IsObject, TellsLeastName, record_of_class};
+ghost use Rattle.erd_compare.specs.code.LeastNames.{IsObject, record_of_class};
 ghost use Rattle.erd_compare.specs.code.PlacedObjects.{AreSelectionsAt, IsPlaced};
 ghost use Rattle.erd_compare.specs.code.PlainParts.{member_found};
 ghost use Rattle.erd_compare.specs.code.SelectionMembers.{is_selections};
 
 use crate::difference::How;
-use crate::objects::members_left::{MembersLeft, lesser_name};
+use crate::objects::least_name::{MemberPair, least_differing_name};
 use crate::objects::placed::{Found, Placed};
 use crate::objects::plain_members::is_same_plain_member;
 use crate::objects::selections::is_same_selections;
@@ -51,7 +51,8 @@ pub(crate) fn object_difference<'a>(
     }
 }
 
-/// How two objects of the same class differ: at the least name of a member that differs.
+/// Returns how two objects of the same class differ: at the least name of a member that differs.
+#[tactic(auto, using(crate::proofs::whole_trees::WholeTrees::whole_one, crate::proofs::whole_trees::WholeTrees::whole_other, crate::proofs::same_selections::PlacedSelections::pair_one, crate::proofs::same_selections::PlacedSelections::pair_other))]
 fn member_difference<'a>(
     alloc: Global,
     sides: Sides<'a>,
@@ -68,7 +69,10 @@ fn member_difference<'a>(
     ensures { IfOk result (TellsHow (Some (record_of_class sides.entry.left.now.prefer (view sides.entry.left.now.tree) class (view one.entry.value.now)))
         (Some (record_of_class sides.entry.right.now.prefer (view sides.entry.right.now.tree) class (view other.entry.value.now)))) }
 {
-    match least_differing_name(alloc, sides, class, one, other)? {
+    let found = least_differing_name(one.value, other.value, |pair| {
+        is_same_member(alloc, sides, class, pair, one.index, other.index)
+    })?;
+    match found {
         Some(name) => {
             let name = String::from_str(alloc, name)?;
             Ok(Some(How::Member(Text::of(name))))
@@ -77,68 +81,34 @@ fn member_difference<'a>(
     }
 }
 
-/// The least name at which the members of two objects of the same class differ. The members of both are walked in step.
-fn least_differing_name<'a>(
+/// Returns whether the members with one name, of two objects of the same class at these positions, mean the same.
+fn is_same_member(
     alloc: Global,
-    sides: Sides<'a>,
+    sides: Sides,
     class: Class,
-    one: Placed<'a>,
-    other: Placed<'a>,
-) -> Result<Option<&'a str>, AllocError>
-    requires one { IsWholeTree (view one.value.now) }
-    requires other { IsWholeTree (view other.value.now) }
-    requires one_object { IsObject (view one.value.now) }
-    requires other_object { IsObject (view other.value.now) }
-    requires one_placed { IsPlaced sides.left.now (role_of_class class) one.index (view one.value.now) }
-    requires other_placed { IsPlaced sides.right.now (role_of_class class) other.index (view other.value.now) }
-    ensures { IfOk result (λ found. TellsLeastName (member_of_class sides.entry.left.now.prefer (view sides.entry.left.now.tree) (view one.entry.value.now) class)
-        (member_of_class sides.entry.right.now.prefer (view sides.entry.right.now.tree) (view other.entry.value.now) class) (option_map (λ s. s.now) found)) }
-{
-    // a value with a class is an object
-    let (Some(ones), Some(others)) = (one.value.as_object(), other.value.as_object()) else {
-        return Ok(None);
-    };
-    let mut ones = MembersLeft::of(ones);
-    let mut others = MembersLeft::of(others);
-    while let Some(name) = lesser_name(ones.first_name(), others.first_name()) {
-        let mine = Found {
-            value: ones.value_in(one.value, name),
-            index: one.index,
-        };
-        let its = Found {
-            value: others.value_in(other.value, name),
-            index: other.index,
-        };
-        if !is_same_member(alloc, sides, class, name, mine, its)? {
-            return Ok(Some(name));
-        }
-        ones.pass(name);
-        others.pass(name);
-    }
-    Ok(None)
-}
-
-/// Whether the members with this name, of two objects of the same class, mean the same. Each object has the value that is
-/// given, or lacks the member.
-fn is_same_member<'a>(
-    alloc: Global,
-    sides: Sides<'a>,
-    class: Class,
-    name: &str,
-    one: Found<'a>,
-    other: Found<'a>,
+    pair: MemberPair,
+    position: usize,
+    other_position: usize,
 ) -> Result<bool, AllocError>
-    requires one { IfSome one.value (λ v. IsWholeTree (view v.now)) }
-    requires other { IfSome other.value (λ v. IsWholeTree (view v.now)) }
-    requires one_placed { is_selections (kind_of_member class name.now) ≡ true → AreSelectionsAt sides.left.now one.index (option_map (λ v. view v.now) one.value) }
-    requires other_placed { is_selections (kind_of_member class name.now) ≡ true → AreSelectionsAt sides.right.now other.index (option_map (λ v. view v.now) other.value) }
-    ensures { IfOk result (λ answer. Decides answer (member_found sides.entry.left.now.prefer (view sides.entry.left.now.tree) class name.now (option_map (λ v. view v.now) one.entry.value))
-        (member_found sides.entry.right.now.prefer (view sides.entry.right.now.tree) class name.now (option_map (λ v. view v.now) other.entry.value))) }
+    requires one { IfSome pair.one (λ v. IsWholeTree (view v.now)) }
+    requires other { IfSome pair.other (λ v. IsWholeTree (view v.now)) }
+    requires one_placed { is_selections (kind_of_member class pair.name.now) ≡ true → AreSelectionsAt sides.left.now position (option_map (λ v. view v.now) pair.one) }
+    requires other_placed { is_selections (kind_of_member class pair.name.now) ≡ true → AreSelectionsAt sides.right.now other_position (option_map (λ v. view v.now) pair.other) }
+    ensures { IfOk result (λ answer. Decides answer (member_found sides.entry.left.now.prefer (view sides.entry.left.now.tree) class pair.entry.name.now (option_map (λ v. view v.now) pair.entry.one))
+        (member_found sides.entry.right.now.prefer (view sides.entry.right.now.tree) class pair.entry.name.now (option_map (λ v. view v.now) pair.entry.other))) }
 {
-    if is_selections(member_kind(class, name)) {
+    if is_selections(member_kind(class, pair.name)) {
+        let one = Found {
+            value: pair.one,
+            index: position,
+        };
+        let other = Found {
+            value: pair.other,
+            index: other_position,
+        };
         is_same_selections(alloc, sides, one, other)
     } else {
-        is_same_plain_member(alloc, sides, class, name, one.value, other.value)
+        is_same_plain_member(alloc, sides, class, pair)
     }
 }
 

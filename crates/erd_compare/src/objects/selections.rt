@@ -12,7 +12,7 @@ ghost use Rattle.erd_compare.specs.code.PlacedObjects.{AreSelectionsIn, AreSelec
 ghost use Rattle.erd_compare.specs.code.SelectionMembers.{if_filled, selections_meant};
 ghost use Rattle.erd_compare.specs.code.SelectionsByName.{IsByNumber};
 
-use crate::objects::members_left::{MembersLeft, lesser_name};
+use crate::objects::least_name::least_differing_name;
 use crate::objects::placed::{Found, Selections};
 use crate::objects::plain_members::is_same_plain_member;
 use crate::ranks::lookups::{name_number_at, report_on};
@@ -151,7 +151,8 @@ fn is_same_selection(
     }
 }
 
-/// Whether the members of two selections of the same class mean the same. The members of both are walked in step.
+/// Returns whether the members of two selections of the same class mean the same.
+#[tactic(auto, using(crate::proofs::whole_trees::WholeTrees::whole_one, crate::proofs::whole_trees::WholeTrees::whole_other))]
 fn is_same_by_members(
     alloc: Global,
     sides: Sides,
@@ -165,20 +166,8 @@ fn is_same_by_members(
     requires other_object { IsObject (view other.now) }
     ensures { IfOk result (λ answer. Decides answer (plain_member sides.entry.left.now.prefer (view sides.entry.left.now.tree) (view one.now) class) (plain_member sides.entry.right.now.prefer (view sides.entry.right.now.tree) (view other.now) class)) }
 {
-    // a value with a class is an object
-    let (Some(ones), Some(others)) = (one.as_object(), other.as_object()) else {
-        return Ok(true);
-    };
-    let mut ones = MembersLeft::of(ones);
-    let mut others = MembersLeft::of(others);
-    while let Some(name) = lesser_name(ones.first_name(), others.first_name()) {
-        let mine = ones.value_in(one, name);
-        let its = others.value_in(other, name);
-        if !is_same_plain_member(alloc, sides, class, name, mine, its)? {
-            return Ok(false);
-        }
-        ones.pass(name);
-        others.pass(name);
-    }
-    Ok(true)
+    let found = least_differing_name(one, other, |pair| {
+        is_same_plain_member(alloc, sides, class, pair)
+    })?;
+    Ok(found.is_none())
 }

@@ -5,7 +5,7 @@ ghost use Rattle.serde_json.specs.View.{view};
 ghost use Rattle.erd_meaning.specs.Keys.{has_keys};
 ghost use Rattle.erd_check.specs.Values.{text_at};
 ghost use Rattle.erd_meaning.specs.Meaning.{no_content};
-ghost use Rattle.erd_meaning.specs.Records.{carried_members, content_of, node_of, contest_node, header_node, class_of_node, is_header_class};
+ghost use Rattle.erd_meaning.specs.Records.{content_of, node_of, contest_node, header_node, class_of_node, is_header_class};
 ghost use Rattle.erd_meaning.specs.SelectionNames.{key_named, name_named};
 ghost use Rattle.erd_compare.specs.code.Comparing.{Decides, IsWholeTree};
 ghost use Rattle.erd_compare.specs.code.ContentParts.{content_within};
@@ -59,24 +59,34 @@ fn is_same_node(sides: Sides, one: &Value, other: &Value) -> bool
     requires other { IsWholeTree (view other.now) }
     ensures { Decides result (node_of sides.entry.left.now.prefer (view sides.entry.left.now.tree) (view one.now)) (node_of sides.entry.right.now.prefer (view sides.entry.right.now.tree) (view other.now)) }
 {
-    match (is_header(one), is_header(other)) {
-        (true, true) => is_same_header(sides, one, other),
+    let class = class_of_node(one);
+    let other_class = class_of_node(other);
+    match (is_header(class), is_header(other_class)) {
+        (true, true) => is_same_header(sides, class, one, other_class, other),
         (true, false) => false,
         (false, true) => false,
-        (false, false) => is_same_contest(sides, one, other),
+        (false, false) => is_same_contest(sides, class, one, other_class, other),
     }
 }
 
-/// Whether two headers mean the same.
+/// Returns whether two headers, which are of these classes, mean the same.
 #[cycle(content)]
-fn is_same_header(sides: Sides, one: &Value, other: &Value) -> bool
+fn is_same_header(
+    sides: Sides,
+    class: Option<Class>,
+    one: &Value,
+    other_class: Option<Class>,
+    other: &Value,
+) -> bool
     requires one { IsWholeTree (view one.now) }
     requires other { IsWholeTree (view other.now) }
+    requires class { class ≡ class_of_node (view one.now) }
+    requires other_class { other_class ≡ class_of_node (view other.now) }
     ensures { Decides result (header_node sides.entry.left.now.prefer (view sides.entry.left.now.tree) (view one.now) (content_within sides.entry.left.now.prefer (view sides.entry.left.now.tree) (view one.now)))
         (header_node sides.entry.right.now.prefer (view sides.entry.right.now.tree) (view other.now) (content_within sides.entry.right.now.prefer (view sides.entry.right.now.tree) (view other.now))) }
 {
     is_same_owner(sides, Family::Header, "HeaderId", one, other)
-        && is_same_rest(one, other)
+        && is_same_carried(class, one, other_class, other)
         && is_same_within(sides, one, other)
 }
 
@@ -102,26 +112,24 @@ fn has_no_content(report: &Report, value: &Value) -> bool
     entries_of(value).is_empty()
 }
 
-/// Whether two contests in the contents of a ballot mean the same.
-fn is_same_contest(sides: Sides, one: &Value, other: &Value) -> bool
+/// Returns whether two contests in the contents of a ballot, which are of these classes, mean the same.
+fn is_same_contest(
+    sides: Sides,
+    class: Option<Class>,
+    one: &Value,
+    other_class: Option<Class>,
+    other: &Value,
+) -> bool
     requires one { IsWholeTree (view one.now) }
     requires other { IsWholeTree (view other.now) }
+    requires class { class ≡ class_of_node (view one.now) }
+    requires other_class { other_class ≡ class_of_node (view other.now) }
     ensures { Decides result (contest_node sides.entry.left.now.prefer (view sides.entry.left.now.tree) (view one.now)) (contest_node sides.entry.right.now.prefer (view sides.entry.right.now.tree) (view other.now)) }
 {
     let name = "OrderedContestSelectionIds";
     is_same_owner(sides, Family::Contest, "ContestId", one, other)
-        && is_same_rest(one, other)
+        && is_same_carried(class, one, other_class, other)
         && are_same_names(sides, entries_at(one, name), entries_at(other, name))
-}
-
-/// Whether two nodes of the contents of a ballot carry the same members.
-fn is_same_rest(one: &Value, other: &Value) -> bool
-    requires one { IsWholeTree (view one.now) }
-    requires other { IsWholeTree (view other.now) }
-    ensures { Decides result (carried_members (class_of_node (view one.now)) (view one.now))
-        (carried_members (class_of_node (view other.now)) (view other.now)) }
-{
-    is_same_carried(class_of_node(one), one, class_of_node(other), other)
 }
 
 /// Whether two lists of references name selections with the same names, in the same order.
@@ -159,11 +167,11 @@ fn is_same_owner(sides: Sides, family: Family, name: &str, one: &Value, other: &
         == rank_with_id(sides, Side::Right, family, text_at(other, name))
 }
 
-/// Whether a node of the contents of a ballot is a header.
-fn is_header(node: &Value) -> bool
-    ensures { result ≡ is_header_class (class_of_node (view node.now)) }
+/// Returns whether the class is that of a header in the contents of a ballot.
+fn is_header(class: Option<Class>) -> bool
+    ensures { result ≡ is_header_class class }
 {
-    matches!(class_of_node(node), Some(Class::OrderedHeader))
+    matches!(class, Some(Class::OrderedHeader))
 }
 
 /// The class of a node of the contents of a ballot.

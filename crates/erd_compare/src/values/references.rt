@@ -1,4 +1,5 @@
 ghost use Rattle.std.specs.Prelude.{◌≡◌, ◌==◌, true, IfOk, map, option_and_then, option_map};
+ghost use Rattle.std.specs.List.{filter_map};
 ghost use Rattle.serde_json.specs.Find.{as_str};
 ghost use Rattle.serde_json.specs.View.{view};
 ghost use Rattle.erd_meaning.specs.Keys.{has_keys};
@@ -15,7 +16,6 @@ use crate::sides::Sides;
 use erd_tables::{Family, Role};
 use serde_json::Value;
 use std::alloc::{AllocError, Global};
-use std::collections::BTreeSet;
 
 /// Returns the number of the name of the selection that a reference names, if there is one.
 pub(crate) fn number_of_name_named(sides: Sides, side: Side, value: &Value) -> Option<usize>
@@ -92,14 +92,32 @@ fn set_of_ranks(
     side: Side,
     family: Family,
     values: &[Value],
-) -> Result<BTreeSet<usize>, AllocError>
+) -> Result<Vec<usize>, AllocError>
     requires keyed { has_keys family ≡ true }
-    ensures { IfOk result (IsRankSet (list_of_ranks sides.entry.left.now sides.entry.right.now side family (map view values.now))) }
+    ensures { IfOk result (λ set. IsRankSet (list_of_ranks sides.entry.left.now sides.entry.right.now side family (map view values.now)) set.items) }
 {
-    let mut ranks = BTreeSet::new(alloc);
+    let mut ranks = ranks_named(alloc, sides, side, family, values)?;
+    ranks.sort_unstable();
+    ranks.dedup();
+    Ok(ranks)
+}
+
+/// Returns the common ranks of the objects of a family that the references name, in the order of the references.
+fn ranks_named(
+    alloc: Global,
+    sides: Sides,
+    side: Side,
+    family: Family,
+    values: &[Value],
+) -> Result<Vec<usize>, AllocError>
+    requires keyed { has_keys family ≡ true }
+    ensures { IfOk result (λ ranks. ranks.items
+        ≡ filter_map (λ v. option_and_then (rank_with_id sides.entry.left.now sides.entry.right.now side family) (as_str (view v))) values.now) }
+{
+    let mut ranks = Vec::with_capacity(alloc, values.len())?;
     for value in values {
         if let Some(rank) = rank_named(sides, side, family, value) {
-            ranks.insert(rank)?;
+            ranks.push(rank)?;
         }
     }
     Ok(ranks)

@@ -1,4 +1,4 @@
-use Rattle.std.proofs.Common.{◌≡◌, ◌+◌, ◌<◌, Some, None, slice_get, length, sym, ap, ◌∙◌, subst, arith}
+use Rattle.std.proofs.Common.{◌<◌, Some, None, slice_get, length, sym, ap, ◌∙◌, subst, arith}
 use Rattle.serde_json.specs.View.{view}
 use Rattle.erd_compare.specs.code.KeyedDifferences.{TellsAtPositions, TellsNext, key_in_role, keys_in_role, rising_in_role}
 use Rattle.erd_meaning.specs.code.KeyOrders.{rising_positions}

@@ -4,4 +4,4 @@ use Rattle.erd_compare.proofs.same_values.KeyedKinds.{member_keyed}
 use Rattle.erd_compare.proofs.objects.plain_members.is_same_plain_member.Goals as goal
 
 pub is_same_plain-requires-clause-keyed : goal.is_same_plain-requires-clause-keyed
-is_same_plain-requires-clause-keyed c = subst NamesKeys (sym c.member_kind-kind.ensures) (member_keyed c.args.class c.args.name.now)
+is_same_plain-requires-clause-keyed c = subst NamesKeys (sym c.member_kind-kind.ensures) (member_keyed c.args.class c.args.pair.name.now)

@@ -17,10 +17,10 @@ returns-else-is_selections c =
     let ρ = c.args.sides.right.now.prefer in
     let t = view c.args.sides.left.now.tree in
     let u = view c.args.sides.right.now.tree in
-    let k = kind_of_member c.args.class c.args.name.now in
-    let name = c.args.name.now in
-    let found = option_map (λ (v : Bor Value). view v.now) c.args.one.value in
-    let other = option_map (λ (v : Bor Value). view v.now) c.args.other.value in
+    let k = kind_of_member c.args.class c.args.pair.name.now in
+    let name = c.args.pair.name.now in
+    let found = option_map (λ (v : Bor Value). view v.now) c.args.pair.one in
+    let other = option_map (λ (v : Bor Value). view v.now) c.args.pair.other in
     let p = plain_found π t c.args.class name found in
     let q = plain_found ρ u c.args.class name other in
     IfOk-weaker c.is_same_plain_member.result (λ answer. Decides answer p q) (λ answer. Decides answer (member_value π t k found p) (member_value ρ u k other q))

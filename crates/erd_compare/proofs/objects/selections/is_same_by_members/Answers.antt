@@ -1,108 +1,26 @@
-use Rattle.std.proofs.Common.{◌+◌, ◌<◌, Bor, List, ℕ, length, Option, Some, None, option_map, true≢false, sym, ap, ◌∙◌, subst}
+use Rattle.std.proofs.Common.{◌≡◌, Bor, Bool, true, false, not, is_some, List, ℕ, Option, Some, None, option_map, refl, ap, subst, rules}
 use Rattle.serde_json.specs.Data.{Data}
 use Rattle.serde_json.specs.Find.{get}
-use Rattle.serde_json.specs.View.{members_view, view}
+use Rattle.serde_json.specs.View.{view}
 use Rattle.serde_json.specs.declared.value.Value.{Value}
-use Rattle.erd_tables.specs.Texts.{text_cmp}
-use Rattle.erd_check.specs.Values.{names}
-use Rattle.erd_meaning.specs.Meaning.{PlainValue}
+use Rattle.erd_meaning.specs.Meaning.{PlainValue, a_plain}
 use Rattle.erd_meaning.specs.Records.{plain_member}
 use Rattle.erd_meaning.proofs.meanings.WholeRecords.{absent_plain}
-use Rattle.erd_compare.specs.code.NamesInStep.{AreMembersOf, names_left, names_past}
+use Rattle.erd_compare.specs.code.Comparing.{Decides}
 use Rattle.erd_compare.specs.code.PlainParts.{plain_found}
-use Rattle.erd_compare.proofs.least_difference.MemberWalks.{all_members, found-Decides}
-use Rattle.erd_compare.proofs.least_difference.NameWalks.{both_objects, firsts_left, next_name, none_left}
-use Rattle.erd_compare.proofs.least_difference.StepWalks.{IsInStep}
-use Rattle.erd_compare.proofs.same_selections.SelectionWalks.{decided, decided_not}
-use Rattle.erd_compare.proofs.whole_trees.WholeTrees.{whole_found}
+use Rattle.erd_compare.proofs.least_difference.MemberWalks.{found-Decides}
+use Rattle.erd_compare.proofs.same_selections.MemberValues.{plain-Decides, plain_maps-Decide}
 use Rattle.erd_compare.proofs.objects.selections.is_same_by_members.Goals as goal
 
 -- a value that was found, as its data
 abbrev seen : Option (Bor Value) → Option Data
 seen found = option_map (λ v. view v.now) found
 
-abbrev PlainMap : Type 0
-PlainMap = List ℕ → Option PlainValue
-
-pub loop-name-init : goal.loop-name-init
-loop-name-init c =
-    let π = c.args.sides.left.now.prefer in
-    let ρ = c.args.sides.right.now.prefer in
-    let t = view c.args.sides.left.now.tree in
-    let u = view c.args.sides.right.now.tree in
-    let d = view c.args.one.now in
-    let e = view c.args.other.now in
-    let m : PlainMap = plain_member π t d c.args.class in
-    let n : PlainMap = plain_member ρ u e c.args.class in
-    let ms = members_view c.in-Some-Some.ones.now.entries in
-    let ns = members_view c.in-Some-Some.others.now.entries in
-    record {
-      in_step = subst (λ xs. IsInStep text_cmp m n (names xs) (names_left c.of-others.result)) (sym c.of-ones.ensures)
-          (subst (λ xs. IsInStep text_cmp m n (names ms) (names xs)) (sym c.of-others.ensures)
-          (both_objects m n d e ms ns c.requires.one.is_tree c.requires.other.is_tree c.in-Some-Some.ensures c.in-Some-Some.ensures'
-          (absent_plain π t d c.args.class) (absent_plain ρ u e c.args.class)));
-      ones = subst (AreMembersOf d) (sym c.of-ones.ensures) (all_members d ms c.requires.one.is_tree c.in-Some-Some.ensures);
-      others = subst (AreMembersOf e) (sym c.of-others.ensures) (all_members e ns c.requires.other.is_tree c.in-Some-Some.ensures');
-    }
-
-pub is_same_plain_member-requires-clause-one : goal.is_same_plain_member-requires-clause-one
-is_same_plain_member-requires-clause-one c = whole_found c.in-Some.name.now (view c.args.one.now) c.value_in-mine.result c.requires.one c.value_in-mine.ensures
-
-pub is_same_plain_member-requires-clause-other : goal.is_same_plain_member-requires-clause-other
-is_same_plain_member-requires-clause-other c = whole_found c.in-Some.name.now (view c.args.other.now) c.value_in-its.result c.requires.other c.value_in-its.ensures
-
-pub returns-then-not-branch : goal.returns-then-not-branch
-returns-then-not-branch c =
-    let π = c.args.sides.left.now.prefer in
-    let ρ = c.args.sides.right.now.prefer in
-    let t = view c.args.sides.left.now.tree in
-    let u = view c.args.sides.right.now.tree in
-    let d = view c.args.one.now in
-    let e = view c.args.other.now in
-    let m : PlainMap = plain_member π t d c.args.class in
-    let n : PlainMap = plain_member ρ u e c.args.class in
-    let k = c.in-Some.name.now in
-    let decides = found-Decides (plain_found π t c.args.class k) (plain_found ρ u c.args.class k) _ (seen c.value_in-mine.result) (seen c.value_in-its.result) (get k d) (get k e) c.value_in-mine.ensures c.value_in-its.ensures c.in_ok-is_same_plain_member.ensures in
-    decided_not m n (λ same. absurd (true≢false (sym (decides.1 (ap (λ (q : PlainMap). q k) same)) ∙ c.if-not-branch.true)))
-
-pub loop-name-smaller : goal.loop-name-smaller
-loop-name-smaller c =
-    let π = c.args.sides.left.now.prefer in
-    let ρ = c.args.sides.right.now.prefer in
-    let t = view c.args.sides.left.now.tree in
-    let u = view c.args.sides.right.now.tree in
-    let d = view c.args.one.now in
-    let e = view c.args.other.now in
-    let m : PlainMap = plain_member π t d c.args.class in
-    let n : PlainMap = plain_member ρ u e c.args.class in
-    let ls = names_left c.loop-name.ones in
-    let rs = names_left c.loop-name.others in
-    let k = c.in-Some.name.now in
-    let next = next_name m n ls rs k c.loop-name.invariant.in_step (firsts_left c.first_name.result c.first_name-in-loop-name.result ls rs (Some k) c.first_name.ensures c.first_name-in-loop-name.ensures c.in-Some.ensures) in
-    subst (λ xs. length xs + length (names_left c.pass-in-Some.new.self) < length ls + length rs) (sym c.pass.ensures.names)
-    (subst (λ xs. length (names_past k ls) + length xs < length ls + length rs) (sym c.pass-in-Some.ensures.names) next.fewer)
-
-pub loop-name-preserved : goal.loop-name-preserved
-loop-name-preserved c =
-    let π = c.args.sides.left.now.prefer in
-    let ρ = c.args.sides.right.now.prefer in
-    let t = view c.args.sides.left.now.tree in
-    let u = view c.args.sides.right.now.tree in
-    let d = view c.args.one.now in
-    let e = view c.args.other.now in
-    let m : PlainMap = plain_member π t d c.args.class in
-    let n : PlainMap = plain_member ρ u e c.args.class in
-    let ls = names_left c.loop-name.ones in
-    let rs = names_left c.loop-name.others in
-    let k = c.in-Some.name.now in
-    let next = next_name m n ls rs k c.loop-name.invariant.in_step (firsts_left c.first_name.result c.first_name-in-loop-name.result ls rs (Some k) c.first_name.ensures c.first_name-in-loop-name.ensures c.in-Some.ensures) in
-    let decides = found-Decides (plain_found π t c.args.class k) (plain_found ρ u c.args.class k) _ (seen c.value_in-mine.result) (seen c.value_in-its.result) (get k d) (get k e) c.value_in-mine.ensures c.value_in-its.ensures c.in_ok-is_same_plain_member.ensures in
-    record {
-      in_step = subst (λ xs. IsInStep text_cmp m n xs (names_left c.pass-in-Some.new.self)) (sym c.pass.ensures.names)
-          (subst (IsInStep text_cmp m n (names_past k ls)) (sym c.pass-in-Some.ensures.names) (next.pass (decides.0 c.if-not-branch.false)));
-      ones = c.pass.ensures.members d c.loop-name.invariant.ones;
-      others = c.pass-in-Some.ensures.members e c.loop-name.invariant.others;
-    }
+none_told : (found : Option (Bor (List ℕ))) (none : Bool) → is_some found ≡ not none → not (is_some (option_map (λ (s : Bor (List ℕ)). s.now) found)) ≡ none
+none_told None true e = refl
+none_told None false e = cc
+none_told (Some s) true e = cc
+none_told (Some s) false e = refl
 
 pub returns : goal.returns
 returns c =
@@ -112,8 +30,12 @@ returns c =
     let u = view c.args.sides.right.now.tree in
     let d = view c.args.one.now in
     let e = view c.args.other.now in
-    let m : PlainMap = plain_member π t d c.args.class in
-    let n : PlainMap = plain_member ρ u e c.args.class in
-    let ls = names_left c.loop-name.ones in
-    let rs = names_left c.loop-name.others in
-    decided m n (none_left m n ls rs c.loop-name.invariant.in_step (firsts_left c.first_name.result c.first_name-in-loop-name.result ls rs None c.first_name.ensures c.first_name-in-loop-name.ensures c.in_default-lesser_name.ensures))
+    let m : List ℕ → Option PlainValue = plain_member π t d c.args.class in
+    let n : List ℕ → Option PlainValue = plain_member ρ u e c.args.class in
+    let told = c.in_ok-found.ensures (λ k. option_map a_plain (m k)) (λ k. option_map a_plain (n k)) (λ k none. ap (option_map a_plain) (absent_plain π t d c.args.class k none)) (λ k none. ap (option_map a_plain) (absent_plain ρ u e c.args.class k none))
+    (λ pair answer is h.
+    let name = pair.name.now in
+    let its : Decides answer (plain_found π t c.args.class name (seen pair.one)) (plain_found ρ u c.args.class name (seen pair.other)) = search rules in
+    plain-Decides answer (m name) (n name) (found-Decides (plain_found π t c.args.class name) (plain_found ρ u c.args.class name) answer (seen pair.one) (seen pair.other) (get name d) (get name e) is.one is.other its))
+    in
+    subst (λ answer. Decides answer m n) (none_told c.in_ok-found.found c.is_none.result c.is_none.ensures) (plain_maps-Decide m n (option_map (λ s. s.now) c.in_ok-found.found) told)

@@ -7,7 +7,7 @@ use Rattle.serde_json.specs.declared.value.Value.{Value, the_lemmas}
 use Rattle.serde_json.proofs.Views.{view-Array}
 use Rattle.erd_check.specs.Values.{entries_of, text_at}
 use Rattle.erd_tables.specs.declared.class.Family.TheVariants as family
-use Rattle.erd_meaning.specs.Records.{carried_members, class_of_node, node_of}
+use Rattle.erd_meaning.specs.Records.{carried_members, class_of_node, is_header_class, node_of}
 use Rattle.erd_meaning.specs.SelectionNames.{key_named}
 use Rattle.erd_compare.specs.code.ContentParts.{content_within}
 use Rattle.erd_check.proofs.Lists.{list_of_items-items_of}
@@ -92,22 +92,22 @@ are_same_nodes-returns-then-not-is_same_node t c =
 
 pub is_same_node-returns-in-true-true : goal.is_same_node-returns-in-true-true
 is_same_node-returns-in-true-true t c =
-    decides_as refl (sym (node_header c.args.sides.left.now.prefer (view c.args.sides.left.now.tree) (view c.args.one.now) (sym c.in-true-true.ensures))) (sym (node_header c.args.sides.right.now.prefer (view c.args.sides.right.now.tree) (view c.args.other.now) (sym c.in-true-true.ensures')))
+    decides_as refl (sym (node_header c.args.sides.left.now.prefer (view c.args.sides.left.now.tree) (view c.args.one.now) (ap is_header_class (sym c.class_of_node-class.ensures) ∙ sym c.in-true-true.ensures))) (sym (node_header c.args.sides.right.now.prefer (view c.args.sides.right.now.tree) (view c.args.other.now) (ap is_header_class (sym c.class_of_node-other_class.ensures) ∙ sym c.in-true-true.ensures')))
     c.is_same_header.ensures
 
 pub is_same_node-returns-in-false-false : goal.is_same_node-returns-in-false-false
 is_same_node-returns-in-false-false t c =
-    decides_as refl (sym (node_contest c.args.sides.left.now.prefer (view c.args.sides.left.now.tree) (view c.args.one.now) (sym c.in-false-false.ensures))) (sym (node_contest c.args.sides.right.now.prefer (view c.args.sides.right.now.tree) (view c.args.other.now) (sym c.in-false-false.ensures')))
+    decides_as refl (sym (node_contest c.args.sides.left.now.prefer (view c.args.sides.left.now.tree) (view c.args.one.now) (ap is_header_class (sym c.class_of_node-class.ensures) ∙ sym c.in-false-false.ensures))) (sym (node_contest c.args.sides.right.now.prefer (view c.args.sides.right.now.tree) (view c.args.other.now) (ap is_header_class (sym c.class_of_node-other_class.ensures) ∙ sym c.in-false-false.ensures')))
     c.is_same_contest.ensures
 
 pub is_same_node-returns-in-true-false : goal.is_same_node-returns-in-true-false
 is_same_node-returns-in-true-false t c =
-    decides_as refl (sym (node_header c.args.sides.left.now.prefer (view c.args.sides.left.now.tree) (view c.args.one.now) (sym c.in-true-false.ensures))) (sym (node_contest c.args.sides.right.now.prefer (view c.args.sides.right.now.tree) (view c.args.other.now) (sym c.in-true-false.ensures')))
+    decides_as refl (sym (node_header c.args.sides.left.now.prefer (view c.args.sides.left.now.tree) (view c.args.one.now) (ap is_header_class (sym c.class_of_node-class.ensures) ∙ sym c.in-true-false.ensures))) (sym (node_contest c.args.sides.right.now.prefer (view c.args.sides.right.now.tree) (view c.args.other.now) (ap is_header_class (sym c.class_of_node-other_class.ensures) ∙ sym c.in-true-false.ensures')))
     header-contest
 
 pub is_same_node-returns-in-false-true : goal.is_same_node-returns-in-false-true
 is_same_node-returns-in-false-true t c =
-    decides_as refl (sym (node_contest c.args.sides.left.now.prefer (view c.args.sides.left.now.tree) (view c.args.one.now) (sym c.in-false-true.ensures))) (sym (node_header c.args.sides.right.now.prefer (view c.args.sides.right.now.tree) (view c.args.other.now) (sym c.in-false-true.ensures')))
+    decides_as refl (sym (node_contest c.args.sides.left.now.prefer (view c.args.sides.left.now.tree) (view c.args.one.now) (ap is_header_class (sym c.class_of_node-class.ensures) ∙ sym c.in-false-true.ensures))) (sym (node_header c.args.sides.right.now.prefer (view c.args.sides.right.now.tree) (view c.args.other.now) (ap is_header_class (sym c.class_of_node-other_class.ensures) ∙ sym c.in-false-true.ensures')))
     contest-header
 
 pub is_same_within-is_same_content-requires : goal.is_same_within-is_same_content-requires
@@ -149,8 +149,8 @@ is_same_within-returns-in-None-None t c = (
   λ h. refl,
 )
 
-pub is_same_header-returns-then-is_same_rest : goal.is_same_header-returns-then-is_same_rest
-is_same_header-returns-then-is_same_rest t c =
+pub is_same_header-returns-then-is_same_carried : goal.is_same_header-returns-then-is_same_carried
+is_same_header-returns-then-is_same_carried t c =
     let left = view c.args.sides.left.now.tree in
     let right = view c.args.sides.right.now.tree in
     let d = view c.args.one.now in
@@ -161,8 +161,8 @@ is_same_header-returns-then-is_same_rest t c =
     let n = carried_members (class_of_node e) e in
     let both : (k ≡ l) × (m ≡ n) =
     elim c.if-is_same_owner.branch [
-      | is_same_header-then-is_same_owner w ↦ (c.is_same_owner.ensures.0 w.if-is_same_owner.true, w.is_same_rest.ensures.0 (sym w.value-is ∙ c.if-is_same_rest.true))
-      | is_same_header-else-is_same_owner w ↦ absurd (true≢false (sym c.if-is_same_rest.true ∙ (w.value-is ∙ w.if-is_same_owner.false)))
+      | is_same_header-then-is_same_owner w ↦ (c.is_same_owner.ensures.0 w.if-is_same_owner.true, ap (λ x. carried_members x d) (sym c.requires.class) ∙ (w.is_same_carried.ensures.0 (sym w.value-is ∙ c.if-is_same_carried.true) ∙ ap (λ x. carried_members x e) c.requires.other_class))
+      | is_same_header-else-is_same_owner w ↦ absurd (true≢false (sym c.if-is_same_carried.true ∙ (w.value-is ∙ w.if-is_same_owner.false)))
     ] in
     header-Decides c.is_same_within.result k l (content_within c.args.sides.left.now.prefer left d) (content_within c.args.sides.right.now.prefer right e) m n
     (λ h. (both.0, both.1, c.is_same_within.ensures.0 h))

@@ -14,5 +14,5 @@ returns c =
     let ds = map view c.args.ones.now in
     let es = map view c.args.others.now in
     sets_decide a b (OfFamily c.args.family) (keys_named a.prefer (view a.tree) c.args.family ds) (keys_named b.prefer (view b.tree) c.args.family es)
-    (named_known a b Left c.args.family c.requires.keyed ds) (named_known a b Right c.args.family c.requires.keyed es) c.in_ok-ones.ones c.in_ok-others.others c.eq.result c.in_ok-ones.ensures c.in_ok-others.ensures
-    (subst (λ answer. Decides answer c.in_ok-ones.ones.keys c.in_ok-others.others.keys) (sym c.eq.ensures) (each_decide c.in_ok-ones.ones.keys c.in_ok-others.others.keys))
+    (named_known a b Left c.args.family c.requires.keyed ds) (named_known a b Right c.args.family c.requires.keyed es) c.in_ok-ones.ones.items c.in_ok-others.others.items c.eq.result c.in_ok-ones.ensures c.in_ok-others.ensures
+    (subst (λ answer. Decides answer c.in_ok-ones.ones.items c.in_ok-others.others.items) (sym c.eq.ensures) (each_decide c.in_ok-ones.ones.items c.in_ok-others.others.items))
