@@ -15,5 +15,6 @@ pub use names::ranked_name::RankedName;
 pub use names::selection_name::SelectionName;
 pub use objects::order::places_in;
 pub use objects::per_family::PerFamily;
+pub use objects::row::Row;
 pub use report::Report;
 pub use report::resolving::{resolve, resolve_with};

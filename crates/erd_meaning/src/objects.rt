@@ -2,11 +2,11 @@
 
 pub(crate) mod election_table;
 pub(crate) mod holders;
-pub(crate) mod near;
 pub(crate) mod object;
 pub(crate) mod object_walk;
 pub(crate) mod order;
 pub(crate) mod per_family;
 pub(crate) mod places;
 pub(crate) mod ranked_objects;
+pub(crate) mod row;
 pub(crate) mod table;

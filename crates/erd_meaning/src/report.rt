@@ -29,6 +29,7 @@ use crate::objects::election_table::ElectionTable;
 use crate::objects::holders::Holders;
 use crate::objects::order::Order;
 use crate::objects::ranked_objects::RankedObjects;
+use crate::objects::row::Row;
 use crate::objects::table::ObjectTable;
 use erd_check::values::entries_at;
 use erd_tables::{Family, Text};
@@ -314,21 +315,21 @@ impl<'a> Report<'a> {
         self.objects().position_of_id(id)
     }
 
-    /// Returns what `target` does. It first looks whether the object of a family at one of these positions has the `@id`:
-    /// references often name objects in a row.
+    /// Returns what `target` does, for a reference of an array. It looks first at the objects of a family where the row says.
     ///
     /// ```
-    /// assert_eq!(rt; report.target_near(Family::Contest, &[0], "k1"), Some((Family::Candidate, 0)));
+    /// let mut row = Row::of(1);
+    /// assert_eq!(rt; report.target_in_row(Family::Contest, &mut row, "k1"), Some((Family::Candidate, 0)));
     /// ```
-    pub fn target_near(
+    pub fn target_in_row(
         &self,
         family: Family,
-        near: &[usize],
+        row: &mut Row,
         id: &str,
     ) -> Option<(Family, usize)>
         ensures { FindsId (view self.now.tree) id.now result }
     {
-        self.objects().position_near(family, near, id)
+        self.objects().position_in_row(family, row, id)
     }
 
     /// Returns the position of the contest of the selection at the position, and the name of the selection. Returns

@@ -11,7 +11,7 @@ ghost use Rattle.erd_tables.specs.Classes.{family_number};
 ghost use Rattle.erd_tables.specs.declared.class.Family.TheVariants as family;
 ghost use Rattle.erd_meaning.specs.Accepted.{IsAccepted};
 ghost use Rattle.erd_meaning.specs.Keys.{has_keys};
-ghost use Rattle.erd_meaning.specs.Lookups.{id_in, key_in, rank_of};
+ghost use Rattle.erd_meaning.specs.Lookups.{FindsId, id_in, key_in, rank_of};
 ghost use Rattle.erd_meaning.specs.Objects.{contests, elections, objects};
 ghost use Rattle.erd_normal.specs.Canonical.{canonical_selection_id};
 ghost use Rattle.erd_normal.specs.code.ElectionParts.{objects_in_part, part_seen};
@@ -27,7 +27,7 @@ pub(crate) mod selection_orders;
 use crate::writer::election_parts::election_parts;
 use crate::writer::orders::Orders;
 use crate::writer::selection_orders::selection_orders;
-use erd_meaning::Report;
+use erd_meaning::{Report, Row};
 use erd_tables::Family;
 use serde_json::Value;
 use std::alloc::{AllocError, Global};
@@ -132,17 +132,29 @@ impl<'a> Writer<'a> {
     {
         match family {
             Family::Selection => 0,
-            _ => self.rank_of_id(family, id),
+            _ => self.rank_of(family, self.report.target(id)),
         }
     }
 
-    fn rank_of_id(&self, family: Family, id: &str) -> usize
-        requires keyed { has_keys family ≡ true }
+    /// Returns what `rank_named` does, for a reference of an array.
+    pub(crate) fn rank_in_row(&self, family: Family, row: &mut Row, id: &str) -> usize
         ensures { result ≡ rank_named self.now.prefer (view self.now.tree) family id.now }
     {
-        match self.report.target(id) {
-            Some((found, position)) => {
-                if is_same(found, family) {
+        match family {
+            Family::Selection => 0,
+            _ => self.rank_of(family, self.report.target_in_row(family, row, id)),
+        }
+    }
+
+    /// Returns the rank of the object that was found by its `@id`. If there is none of the family, the rank is 0.
+    fn rank_of(&self, family: Family, found: Option<(Family, usize)>) -> usize
+        requires keyed { has_keys family ≡ true }
+        requires accepted { IsAccepted self.now.prefer (view self.now.tree) }
+        ensures { (id : List ℕ) → FindsId (view self.now.tree) id found → result ≡ rank_named self.now.prefer (view self.now.tree) family id }
+    {
+        match found {
+            Some((own, position)) => {
+                if is_same(own, family) {
                     self.rank_at(family, position)
                 } else {
                     0
@@ -160,11 +172,11 @@ impl<'a> Writer<'a> {
     }
 
     /// Returns the rank of the contest of the selection that has the `@id`, and the rank of the selection there. Returns `None` if
-    /// no selection has it.
-    pub(crate) fn selection_ranks(&self, id: &str) -> Option<(usize, usize)>
+    /// no selection has it. The `@id` is a reference of an array.
+    pub(crate) fn selection_ranks(&self, row: &mut Row, id: &str) -> Option<(usize, usize)>
         ensures { string (option_map_or (λ r. canonical_selection_id r.0 r.1) result []) ≡ normal_selection_reference self.now.prefer (view self.now.tree) (string id.now) }
     {
-        match self.report.target(id) {
+        match self.report.target_in_row(Family::Selection, row, id) {
             Some((found, position)) => {
                 if is_same(found, Family::Selection) {
                     self.ranks_at(position)

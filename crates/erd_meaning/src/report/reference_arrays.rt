@@ -9,6 +9,7 @@ ghost use Rattle.erd_meaning.specs.code.ReferenceReasons.{AreClear, IsClear, is_
 ghost use Rattle.erd_meaning.specs.code.RisingNumbers.{IsRisingFrom};
 ghost use Rattle.erd_meaning.specs.code.Shown.{shown};
 
+use crate::objects::row::Row;
 use crate::report::reference_judge::ReferenceJudge;
 use erd_check::values::text_at;
 use erd_tables::Family;
@@ -17,8 +18,7 @@ use std::alloc::{AllocError, Global};
 
 impl<'b, 'a> ReferenceJudge<'b, 'a> {
     /// Returns `true` only if no reference to the family in an array has a fault. `object` is the value that has the array. No two
-    /// entries of a set may name one object. In most arrays, the objects that are named stand in a row, which may start anywhere
-    /// and go on from its front. So each is looked for next to the one before, and then as many places back as there are entries.
+    /// entries of a set may name one object.
     pub(crate) fn are_clear(
         &self,
         alloc: Global,
@@ -30,33 +30,31 @@ impl<'b, 'a> ReferenceJudge<'b, 'a> {
         ensures { IfOk result (λ clear. IsTrue clear → AreClear (map shown self.now.objects.now) (view object.now) family is_set (items_view items.now)) }
     {
         let mut positions = Vec::new(alloc);
-        let mut next = 0usize;
+        let mut row = Row::of(items.len());
         for item in items {
-            let near = [next, next.wrapping_sub(items.len())];
-            let Some(position) = self.clear_position(family, &near, object, item) else {
+            let Some(position) = self.clear_position(family, &mut row, object, item) else {
                 return Ok(false);
             };
             if is_set {
                 positions.push(position)?;
             }
-            next = position.wrapping_add(1);
         }
         Ok(are_distinct(positions))
     }
 
-    /// Returns the position of the object that a reference names, if the reference has no fault but that it may be repeated. The
-    /// object is looked for first at the positions `near`.
+    /// Returns the position of the object that a reference of an array names, if the reference has no fault but that it may be
+    /// repeated.
     fn clear_position(
         &self,
         family: Family,
-        near: &[usize],
+        row: &mut Row,
         object: &Value,
         item: &Value,
     ) -> Option<usize>
         ensures { IfSome result (IsClear (map shown self.now.objects.now) (view object.now) family (view item.now)) }
     {
         let id = item.as_str()?;
-        let (own, position) = self.objects.position_near(family, near, id)?;
+        let (own, position) = self.objects.position_in_row(family, row, id)?;
         if own != family || self.is_elsewhere(family, position, object) {
             return None;
         }

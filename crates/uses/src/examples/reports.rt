@@ -2,10 +2,7 @@
 use crate::report_of;
 use erd_check::{same_json, shape};
 use erd_compare::first_difference;
-use erd_meaning::{
-    Key, NumberedName, PerFamily, Report, SaltedSet, SelectionName, key_of, places_in, resolve,
-    resolve_with,
-};
+use erd_meaning::{Key, NumberedName, PerFamily, Report, Row, SaltedSet, SelectionName, key_of, places_in, resolve, resolve_with};
 use erd_normal::{CompactText, SetOrder, in_order, normal_text, normal_tree};
 use erd_tables::{Family, Text};
 use serde_json::Value;
@@ -49,7 +46,8 @@ fn objects(rt: &impl Abort, report: &Report) {
     assert!(rt; report.object(Family::Candidate, 0).is_some());
     assert!(rt; report.object(Family::Candidate, 1).is_none());
     assert_eq!(rt; report.target("k1"), Some((Family::Candidate, 0)));
-    assert_eq!(rt; report.target_near(Family::Contest, &[0], "k1"), Some((Family::Candidate, 0)));
+    let mut row = Row::of(1);
+    assert_eq!(rt; report.target_in_row(Family::Contest, &mut row, "k1"), Some((Family::Candidate, 0)));
     assert_eq!(rt; report.first_selection(0), 0);
 }
 
