@@ -5,6 +5,7 @@ ghost use Rattle.std.specs.Option.{option_copied};
 ghost use Rattle.serde_json.specs.Data.{string};
 ghost use Rattle.serde_json.specs.View.{view};
 ghost use Rattle.serde_json.specs.Written.{compact_text};
+ghost use Rattle.erd_compare.specs.declared.difference.How.TheVariants.{Member};
 ghost use Rattle.erd_compare.specs.DifferenceLine.{difference_line, how_text, key_as_json, key_text, part_text};
 
 use erd_meaning::Key;
@@ -52,6 +53,16 @@ pub enum How {
     Member(Text),
 }
 
+impl How {
+    /// Returns that two objects differ in the member with this name.
+    pub(crate) fn in_member(alloc: Global, name: &str) -> Result<How, AllocError>
+        ensures { IfOk result (λ how. how ≡ Member name.now) }
+    {
+        let name = String::from_str(alloc, name)?;
+        Ok(How::Member(Text::of(name)))
+    }
+}
+
 /// The first difference between two reports.
 #[derive(Debug, Drop)]
 pub struct Difference {
@@ -85,7 +96,7 @@ impl Difference {
     }
 }
 
-/// The word for a part.
+/// Returns the word for a part.
 pub(crate) fn part_words(part: Part) -> &'static str
     ensures { result.now ≡ part_text part }
 {
@@ -103,7 +114,7 @@ pub(crate) fn part_words(part: Part) -> &'static str
     }
 }
 
-/// A space and the key as JSON, or the empty text if there is no key.
+/// Returns a space and the key as JSON, or the empty text if there is no key.
 fn key_words(alloc: Global, key: Option<&Key>) -> Result<String, AllocError>
     ensures { IfOk result (λ words. string_bytes words ≡ key_text (option_copied key.entry)) }
 {
@@ -116,7 +127,7 @@ fn key_words(alloc: Global, key: Option<&Key>) -> Result<String, AllocError>
     }
 }
 
-/// The words for how two reports differ. The name of a member is written as JSON.
+/// Returns the words for how two reports differ. The name of a member is written as JSON.
 fn how_words(alloc: Global, how: &How) -> Result<String, AllocError>
     ensures { IfOk result (λ words. string_bytes words ≡ how_text how.now) }
 {
@@ -131,7 +142,7 @@ fn how_words(alloc: Global, how: &How) -> Result<String, AllocError>
     }
 }
 
-/// The three texts of a key as a compact JSON array.
+/// Returns the three texts of a key as a compact JSON array.
 fn key_in_json(alloc: Global, key: &Key) -> Result<String, AllocError>
     ensures { IfOk result (λ json. string_bytes json ≡ compact_text (key_as_json key.now)) }
 {
@@ -139,7 +150,7 @@ fn key_in_json(alloc: Global, key: &Key) -> Result<String, AllocError>
     value.to_string(alloc)
 }
 
-/// The three texts of a key as a JSON array.
+/// Returns the three texts of a key as a JSON array.
 pub(crate) fn key_value(alloc: Global, key: &Key) -> Result<Value, AllocError>
     ensures { IfOk result (λ value. view value ≡ key_as_json key.now) }
 {
@@ -150,7 +161,7 @@ pub(crate) fn key_value(alloc: Global, key: &Key) -> Result<Value, AllocError>
     Ok(Value::Array(texts))
 }
 
-/// A text as compact JSON.
+/// Returns a text as compact JSON.
 fn text_in_json(alloc: Global, text: &Text) -> Result<String, AllocError>
     ensures { IfOk result (λ json. string_bytes json ≡ compact_text (string text.now)) }
 {
@@ -158,7 +169,7 @@ fn text_in_json(alloc: Global, text: &Text) -> Result<String, AllocError>
     value.to_string(alloc)
 }
 
-/// A text as a JSON value.
+/// Returns a text as a JSON value.
 fn string_value(alloc: Global, text: &Text) -> Result<Value, AllocError>
     ensures { IfOk result (λ value. view value ≡ string text.now) }
 {

@@ -42,7 +42,7 @@ impl Difference {
     }
 }
 
-/// The object of a difference that is not in a member.
+/// Returns the object of a difference that is not in a member.
 fn without_member(alloc: Global, part: &str, key: Value, how: &str) -> Result<Value, AllocError>
     ensures { IfOk result (λ value. view value ≡ object (member (codes "how") (string how.now)
         (member (codes "key") (view key) (member (codes "part") (string part.now) no_members)))) }
@@ -50,7 +50,7 @@ fn without_member(alloc: Global, part: &str, key: Value, how: &str) -> Result<Va
     json!(in alloc; {"how": how, "key": key, "part": part})
 }
 
-/// The key as a JSON array, or null if there is no key.
+/// Returns the key as a JSON array, or null if there is no key.
 fn key_or_null(alloc: Global, key: Option<&Key>) -> Result<Value, AllocError>
     ensures { IfOk result (λ value. view value ≡ key_data (option_copied key.entry)) }
 {

@@ -6,11 +6,11 @@ ghost use Rattle.erd_compare.specs.Differences.{IsDifference};
 mod parts;
 mod tables;
 
+use crate::comparer::Comparer;
 use crate::difference::{Difference, Part};
 use crate::first::parts::part_difference;
 use crate::ranks::common_ranks::CommonRanks;
 use crate::ranks::name_numbers::names_of_both;
-use crate::sides::Sides;
 use erd_meaning::Report;
 use std::alloc::{AllocError, Global};
 
@@ -60,16 +60,11 @@ pub fn first_difference(
     // read for what they ensure: both trees are accepted, and their numbers are whole
     let _one = left.tree();
     let _other = right.tree();
-    let common = CommonRanks::of_both(alloc, left, right)?;
-    let names = names_of_both(alloc, left, right, &common)?;
-    let sides = Sides {
-        left,
-        right,
-        common: &common,
-        names: &names,
-    };
+    let ranks = CommonRanks::of_both(alloc, left, right)?;
+    let names = names_of_both(alloc, left, right, &ranks)?;
+    let comparer = Comparer::of(alloc, left, right, &ranks, &names);
     for part in PARTS {
-        if let Some(difference) = part_difference(alloc, sides, part)? {
+        if let Some(difference) = part_difference(&comparer, part)? {
             return Ok(Some(difference));
         }
     }

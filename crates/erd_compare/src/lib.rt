@@ -1,12 +1,12 @@
 //! The first difference between the meanings of two reports. The rules are those of docs/PROFILE.md.
 #![tactic(auto)]
 
+mod comparer;
 pub mod difference;
 mod difference_value;
 mod first;
 mod objects;
 mod ranks;
-mod sides;
 mod values;
 
 pub use difference::{Difference, How, Part};

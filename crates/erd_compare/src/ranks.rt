@@ -3,7 +3,6 @@
 //! common. Then each name is looked up once. From then on ranks and numbers are compared.
 
 pub(crate) mod common_ranks;
-pub(crate) mod lookups;
 pub(crate) mod merging;
 pub(crate) mod name_numbers;
 pub(crate) mod role_objects;

@@ -1,12 +1,20 @@
 -- The members of two objects are walked in step, and a test of the pairs decides whether the maps of the two are equal.
-use Rattle.std.proofs.Common.{◌≡◌, ◌<◌, ◌+◌, ℕ, List, length, Bool, true, false, true≢false, Some, None, refl, sym}
+use Rattle.std.proofs.Common.{◌≡◌, ◌<◌, ◌+◌, ℕ, List, length, Bool, true, false, true≢false, Option, Some, None, option_map, refl, sym}
 use Rattle.std.proofs.lemmas.Cmp.{nat_list_cmp_total}
 use Rattle.serde_json.specs.Data.{Data, Members}
-use Rattle.serde_json.specs.Find.{as_object}
+use Rattle.serde_json.specs.Find.{as_object, get}
+use Rattle.serde_json.specs.View.{view}
 use Rattle.erd_tables.specs.Texts.{text_cmp}
+use Rattle.erd_tables.specs.declared.class.Class.{Class}
 use Rattle.erd_check.specs.Trees.{IsTree}
 use Rattle.erd_check.specs.Values.{names}
-use Rattle.erd_compare.specs.code.LeastNames.{DifferAtName, MemberMap, lesser_name}
+use Rattle.erd_meaning.specs.Keys.{Preference}
+use Rattle.erd_meaning.specs.Records.{member_of_class}
+use Rattle.erd_meaning.proofs.meanings.WholeRecords.{absent_member}
+use Rattle.erd_compare.specs.code.Comparing.{Decides}
+use Rattle.erd_compare.specs.code.PlainParts.{member_found}
+use Rattle.erd_compare.proofs.least_difference.MemberWalks.{found-Decides}
+use Rattle.erd_compare.specs.code.LeastNames.{DifferAtName, MemberMap, TellsLeastName, lesser_name}
 use Rattle.erd_compare.specs.code.MemberPairs.{DecideNames, IsMapOf, IsPairOf}
 use Rattle.erd_compare.specs.code.NamesInStep.{first_of, names_past}
 use Rattle.erd_compare.specs.declared.objects.least_name.MemberPair.{MemberPair}
@@ -54,3 +62,11 @@ module _ (answers : MemberPair → Bool → Type 0) (d e : Data) where
             differ = λ same. absurd (true≢false (sym ((decided pair false is told).1 same)));
             least = equal_below nat_list_cmp_total m n ls rs step pair.name.now its.left its.right;
           }
+
+-- what is told of the maps of two objects of a class, if the answers decide what their members mean
+pub members_told : (π ρ : Preference) (t u d e : Data) (c : Class) (answers : MemberPair → Bool → Type 0) (found : Option (List ℕ))
+    → ((m n : MemberMap) → IsMapOf d m → IsMapOf e n → DecideNames answers d e m n → TellsLeastName m n found)
+    → ((pair : MemberPair) (answer : Bool) → answers pair answer → Decides answer (member_found π t c pair.name.now (option_map (λ v. view v.now) pair.one)) (member_found ρ u c pair.name.now (option_map (λ v. view v.now) pair.other)))
+    → TellsLeastName (member_of_class π t d c) (member_of_class ρ u e c) found
+members_told π ρ t u d e c answers found told decided = told (member_of_class π t d c) (member_of_class ρ u e c) (absent_member π t d c) (absent_member ρ u e c)
+    (λ pair answer is h. found-Decides (member_found π t c pair.name.now) (member_found ρ u c pair.name.now) answer _ _ (get pair.name.now d) (get pair.name.now e) is.one is.other (decided pair answer h))

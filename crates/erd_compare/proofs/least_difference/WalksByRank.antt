@@ -13,18 +13,17 @@ use Rattle.erd_meaning.specs.code.KeyOrders.{rising_positions}
 use Rattle.erd_meaning.specs.declared.keys.key.Key.{Key}
 use Rattle.erd_meaning.proofs.selections.PositionedKeys.{KeyPosition}
 use Rattle.erd_compare.specs.Differences.{record_at}
-use Rattle.erd_compare.specs.code.CommonRanks.{AreAllCommonRanks, common_ranks_in}
+use Rattle.erd_compare.specs.code.CommonRanks.{AreCommonRanks}
 use Rattle.erd_compare.specs.code.Comparing.{DifferAtKey}
 use Rattle.erd_compare.specs.code.KeyedDifferences.{IsComparable, TellsAtPositions, TellsLeast, TellsNext, key_in_role, keys_in_role, rising_in_role, role_of_part, shared_at}
 use Rattle.erd_compare.specs.declared.difference.How.{How}
 use Rattle.erd_compare.specs.declared.difference.Part.{Part}
 use Rattle.erd_compare.specs.declared.first.tables.KeyedDifference.{KeyedDifference}
-use Rattle.erd_compare.specs.declared.ranks.common_ranks.CommonRanks.{CommonRanks}
 use Rattle.erd_compare.proofs.least_difference.KeyWalks.{AreLeft, both_differ, both_heads, both_same, part_ranked, told_next}
 use Rattle.erd_compare.proofs.least_difference.RisingKeys.{entries, entry_keys, key_there}
 use Rattle.erd_compare.proofs.least_difference.SharedRanks.{HaveShared, found_shared, none_found}
 
-module _ (a b : Judged) (p : Part) (c : IsComparable a.prefer (view a.tree)) (d : IsComparable b.prefer (view b.tree)) (common : CommonRanks) (are : AreAllCommonRanks a b common) where
+module _ (a b : Judged) (p : Part) (c : IsComparable a.prefer (view a.tree)) (d : IsComparable b.prefer (view b.tree)) (ranks : List ℕ) (are : AreCommonRanks a b (role_of_part p) ranks) where
   abbrev role : Role
   role = role_of_part p
 
@@ -39,25 +38,24 @@ module _ (a b : Judged) (p : Part) (c : IsComparable a.prefer (view a.tree)) (d 
   IsLeft n = AreLeft a.prefer b.prefer (view a.tree) (view b.tree) p (drop n ones) (drop n others)
 
   -- the positions that both have at a rank
-  abbrev pub shared_here : Role → ℕ → Option (ℕ × ℕ)
-  shared_here r n = shared_at (rising_positions (keys_in_role a.prefer (view a.tree) r)) (rising_positions (keys_in_role b.prefer (view b.tree) r)) (common_ranks_in r common) n
+  abbrev pub shared_here : ℕ → Option (ℕ × ℕ)
+  shared_here n = shared_at (rising_positions (keys_in_role a.prefer (view a.tree) role)) (rising_positions (keys_in_role b.prefer (view b.tree) role)) ranks n
 
   -- what the code has of the positions is that
-  pub as_shared : (xs ys ranks : List ℕ) (r : Role) (n : ℕ) (o : Option (ℕ × ℕ)) → r ≡ role → xs ≡ rising_positions (keys_in_role a.prefer (view a.tree) r) → ys ≡ rising_positions (keys_in_role b.prefer (view b.tree) r)
-      → ranks ≡ common_ranks_in r common → o ≡ shared_at xs ys ranks n → shared_here role n ≡ o
-  as_shared xs ys ranks r n o same left right commons is = subst (λ s. shared_here s n ≡ o) same (sym (is
+  pub as_shared : (xs ys : List ℕ) (n : ℕ) (o : Option (ℕ × ℕ)) → xs ≡ rising_positions (keys_in_role a.prefer (view a.tree) role) → ys ≡ rising_positions (keys_in_role b.prefer (view b.tree) role) → o ≡ shared_at xs ys ranks n
+      → shared_here n ≡ o
+  as_shared xs ys n o left right is = sym (is
       ∙ (ap (λ ks. shared_at ks ys ranks n) left
-      ∙ (ap (λ ks. shared_at (rising_positions (keys_in_role a.prefer (view a.tree) r)) ks ranks n) right
-      ∙ ap (λ ks. shared_at (rising_positions (keys_in_role a.prefer (view a.tree) r)) (rising_positions (keys_in_role b.prefer (view b.tree) r)) ks n) commons))))
+      ∙ ap (λ ks. shared_at (rising_positions (keys_in_role a.prefer (view a.tree) role)) ks ranks n) right))
 
   -- the least key of the part at which the reports differ
   abbrev pub IsLeast : Option KeyedDifference → Type 0
   IsLeast x = TellsLeast (record_at (meaning a.prefer (view a.tree)) p) (record_at (meaning b.prefer (view b.tree)) p) x
 
   module _ (n : ℕ) (left : IsLeft n) where
-    module _ (i j : ℕ) (is : shared_here role n ≡ Some (i, j)) where
-      both : HaveShared a b role c (part_ranked p) (common_ranks_in role common) (are role (part_ranked p)) n i j
-      both = found_shared a b role c (part_ranked p) (common_ranks_in role common) (are role (part_ranked p)) n i j is
+    module _ (i j : ℕ) (is : shared_here n ≡ Some (i, j)) where
+      both : HaveShared a b role c (part_ranked p) ranks are n i j
+      both = found_shared a b role c (part_ranked p) ranks are n i j is
 
       heads : AreLeft a.prefer b.prefer (view a.tree) (view b.tree) p (both.one ∷ drop (n + 1) ones) (both.other ∷ drop (n + 1) others)
       heads = both_heads a.prefer b.prefer (view a.tree) (view b.tree) p c d ones others n both.one both.other both.here both.there left
@@ -87,9 +85,9 @@ module _ (a b : Judged) (p : Part) (c : IsComparable a.prefer (view a.tree)) (d 
     key_at π t = ap (λ ks. slice_get ks n) (sym (entry_keys π t role)) ∙ slice_get-map (λ (e : KeyPosition). e.0) (entries π t role) n
 
     -- they have no key in common there
-    pub none_there : shared_here role n ≡ None → (x : Option KeyedDifference)
+    pub none_there : shared_here n ≡ None → (x : Option KeyedDifference)
         → TellsNext (slice_get (rising_in_role a.prefer (view a.tree) role) n) (slice_get (rising_in_role b.prefer (view b.tree) role) n) x → IsLeast x
     none_there is x told =
-        told_next a.prefer b.prefer (view a.tree) (view b.tree) p c d ones others n x left (none_found a b role c (part_ranked p) (common_ranks_in role common) (are role (part_ranked p)) n is)
+        told_next a.prefer b.prefer (view a.tree) (view b.tree) p c d ones others n x left (none_found a b role c (part_ranked p) ranks are n is)
         (subst (λ o. TellsNext o (option_map (λ e. e.0) (slice_get others n)) x) (key_at a.prefer (view a.tree))
         (subst (λ o. TellsNext (slice_get (rising_in_role a.prefer (view a.tree) role) n) o x) (key_at b.prefer (view b.tree)) told))

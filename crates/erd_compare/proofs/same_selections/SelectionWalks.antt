@@ -205,7 +205,3 @@ module _ (a b : Judged) (ds es : List Data) where
 -- different maps are told so
 pub decided_not : {A : Type 0} (a b : A) → (a ≡ b → ⊥) → Decides false a b
 decided_not a b apart = (λ h. cc, λ same. absurd (apart same))
-
--- and equal ones
-pub decided : {A : Type 0} (a b : A) → a ≡ b → Decides true a b
-decided a b same = (λ h. same, λ e. refl)

@@ -11,7 +11,7 @@ use Rattle.erd_tables.specs.declared.class.Role.TheVariants as role
 use Rattle.erd_meaning.specs.Accepted.{IsAccepted}
 use Rattle.erd_meaning.specs.Keys.{Preference, has_keys, is_keyed_role, key_cmp, key_of}
 use Rattle.erd_meaning.specs.Lookups.{election_in, election_key_in, key_in}
-use Rattle.erd_meaning.specs.Objects.{Placed, elections, objects, report_of}
+use Rattle.erd_meaning.specs.Objects.{IsBounded, Placed, elections, objects, report_of}
 use Rattle.erd_meaning.specs.Records.{meaning}
 use Rattle.erd_meaning.specs.SelectionNames.{rising_list}
 use Rattle.erd_meaning.specs.declared.keys.key.Key.{Key}
@@ -23,9 +23,10 @@ use Rattle.erd_compare.specs.declared.difference.Part.{Part}
 use Rattle.erd_compare.specs.declared.difference.Part.TheVariants as part
 use Rattle.erd_compare.specs.declared.first.tables.KeyedDifference.{KeyedDifference}
 
--- The report is accepted, and it is a tree whose numbers are whole.
+-- The report is accepted, a machine word can count its objects, and it is a tree whose numbers are whole.
 pub record IsComparable (π : Preference) (t : Data) : Type 0 where
   pub accepted : IsAccepted π t
+  pub bounded : IsBounded t
   pub whole : IsWholeTree t
 
 -- ---- objects by role and position

@@ -4,26 +4,22 @@ ghost use Rattle.serde_json.specs.View.{view};
 ghost use Rattle.erd_meaning.specs.Records.{meaning};
 ghost use Rattle.erd_compare.specs.code.Comparing.{TellsPart};
 
+use crate::comparer::Comparer;
 use crate::difference::{Difference, Part};
 use crate::first::tables::{KeyedDifference, least_difference};
-use crate::sides::Sides;
 use erd_meaning::Key;
 use std::alloc::{AllocError, Global};
 
 /// Returns the first difference between the two reports at a part.
 pub(crate) fn part_difference(
-    alloc: Global,
-    sides: Sides,
+    comparer: &Comparer,
     part: Part,
 ) -> Result<Option<Difference>, AllocError>
-    ensures { IfOk result (TellsPart (meaning sides.entry.left.now.prefer (view sides.entry.left.now.tree)) (meaning sides.entry.right.now.prefer (view sides.entry.right.now.tree)) part) }
+    ensures { IfOk result (TellsPart (meaning comparer.now.left.prefer (view comparer.now.left.tree)) (meaning comparer.now.right.prefer (view comparer.now.right.tree)) part) }
 {
-    // read for what they ensure: both trees are accepted, and their numbers are whole
-    let _one = sides.left.tree();
-    let _other = sides.right.tree();
-    match least_difference(alloc, sides, part)? {
+    match least_difference(comparer, part)? {
         Some(KeyedDifference { key, how }) => {
-            let key = copied(alloc, key)?;
+            let key = copied(comparer.alloc, key)?;
             Ok(Some(Difference { part, key, how }))
         }
         None => Ok(None),

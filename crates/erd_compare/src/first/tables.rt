@@ -3,18 +3,18 @@ ghost use Rattle.std.specs.Option.{option_copied};
 ghost use Rattle.serde_json.specs.View.{view};
 ghost use Rattle.erd_meaning.specs.Records.{meaning};
 ghost use Rattle.erd_compare.specs.Differences.{record_at};
-ghost use Rattle.erd_compare.specs.code.KeyedDifferences.{IsComparable, TellsAtPositions, TellsLeast, TellsNext, is_ranked, rising_in_role, shared_at};
+ghost use Rattle.erd_compare.specs.code.KeyedDifferences.{TellsAtPositions, TellsLeast, TellsNext, is_ranked, rising_in_role, shared_at};
 ghost use Rattle.erd_compare.specs.declared.difference.How.TheVariants.{OnlyLeft, OnlyRight};
 
+use crate::comparer::Comparer;
 use crate::difference::{How, Part};
 use crate::objects::held::{held_difference, is_same_holder};
 use crate::objects::placed::Placed;
 use crate::objects::records::object_difference;
 use crate::ranks::role_objects::{key_at, key_at_rank, object_at, rising, role_of};
-use crate::sides::Sides;
 use erd_meaning::Key;
 use erd_tables::Role;
-use std::alloc::{AllocError, Global};
+use std::alloc::AllocError;
 use std::cmp::Ordering;
 
 /// A difference between two reports at a key of a part. The report has no key, and an election may have none.
@@ -48,27 +48,24 @@ impl<'a> KeyedDifference<'a> {
 /// both in step, by rank. As long as the common ranks are the ranks, both reports have the same keys, and no keys are
 /// compared. The least key at which they differ is the first one that only one report has, or whose objects differ.
 pub(crate) fn least_difference<'a>(
-    alloc: Global,
-    sides: Sides<'a>,
+    comparer: &'a Comparer,
     part: Part,
 ) -> Result<Option<KeyedDifference<'a>>, AllocError>
-    requires left { IsComparable sides.left.now.prefer (view sides.left.now.tree) }
-    requires right { IsComparable sides.right.now.prefer (view sides.right.now.tree) }
-    ensures { IfOk result (TellsLeast (record_at (meaning sides.entry.left.now.prefer (view sides.entry.left.now.tree)) part) (record_at (meaning sides.entry.right.now.prefer (view sides.entry.right.now.tree)) part)) }
+    ensures { IfOk result (TellsLeast (record_at (meaning comparer.now.left.prefer (view comparer.now.left.tree)) part) (record_at (meaning comparer.now.right.prefer (view comparer.now.right.tree)) part)) }
 {
     let role = role_of(part);
-    let ones = rising(sides.left, role);
-    let others = rising(sides.right, role);
-    let common = sides.common.of(role);
+    let ones = rising(comparer.left(), role);
+    let others = rising(comparer.right(), role);
+    let common = comparer.common_ranks(role);
     let mut rank = 0;
     while let Some((position, other_position)) = shared_at(ones, others, common, rank) {
-        if let Some(how) = difference_at(alloc, sides, part, position, other_position)? {
-            let key = key_at(sides.left, role, position);
+        if let Some(how) = difference_at(comparer, part, position, other_position)? {
+            let key = key_at(comparer.left(), role, position);
             return Ok(Some(KeyedDifference { key, how }));
         }
         rank += 1;
     }
-    Ok(one_sided(sides, role, rank))
+    Ok(one_sided(comparer, role, rank))
 }
 
 /// Returns the positions of the objects of both reports at a rank, if they have the same key.
@@ -88,14 +85,14 @@ fn shared_at(
 
 /// Returns the difference at a rank up to which both reports have the same keys, where they have not: only the report with
 /// the lesser key has an object with it. Returns `None` if neither report has an object there.
-fn one_sided<'a>(sides: Sides<'a>, role: Role, rank: usize) -> Option<KeyedDifference<'a>>
+fn one_sided<'a>(comparer: &'a Comparer, role: Role, rank: usize) -> Option<KeyedDifference<'a>>
     requires ranked { is_ranked role ≡ true }
-    ensures { TellsNext (slice_get (rising_in_role sides.entry.left.now.prefer (view sides.entry.left.now.tree) role) rank)
-        (slice_get (rising_in_role sides.entry.right.now.prefer (view sides.entry.right.now.tree) role) rank) result }
+    ensures { TellsNext (slice_get (rising_in_role comparer.now.left.prefer (view comparer.now.left.tree) role) rank)
+        (slice_get (rising_in_role comparer.now.right.prefer (view comparer.now.right.tree) role) rank) result }
 {
     match (
-        key_at_rank(sides.left, role, rank),
-        key_at_rank(sides.right, role, rank),
+        key_at_rank(comparer.left(), role, rank),
+        key_at_rank(comparer.right(), role, rank),
     ) {
         (Some(key), Some(other)) => match key.cmp(&other) {
             Ordering::Less => Some(KeyedDifference::only_left(key)),
@@ -108,21 +105,18 @@ fn one_sided<'a>(sides: Sides<'a>, role: Role, rank: usize) -> Option<KeyedDiffe
 }
 
 /// Returns how the objects of the two reports at these positions of a part differ. Both have the same key, or none.
-fn difference_at<'a>(
-    alloc: Global,
-    sides: Sides<'a>,
+fn difference_at(
+    comparer: &Comparer,
     part: Part,
     position: usize,
     other_position: usize,
 ) -> Result<Option<How>, AllocError>
-    requires left { IsComparable sides.left.now.prefer (view sides.left.now.tree) }
-    requires right { IsComparable sides.right.now.prefer (view sides.right.now.tree) }
-    ensures { IfOk result (TellsAtPositions sides.entry.left.now.prefer sides.entry.right.now.prefer (view sides.entry.left.now.tree) (view sides.entry.right.now.tree) part position other_position) }
+    ensures { IfOk result (TellsAtPositions comparer.now.left.prefer comparer.now.right.prefer (view comparer.now.left.tree) (view comparer.now.right.tree) part position other_position) }
 {
     let role = role_of(part);
     match (
-        object_at(sides.left, role, position),
-        object_at(sides.right, role, other_position),
+        object_at(comparer.left(), role, position),
+        object_at(comparer.right(), role, other_position),
     ) {
         (Some(value), Some(other_value)) => {
             let one = Placed {
@@ -133,11 +127,11 @@ fn difference_at<'a>(
                 value: other_value,
                 index: other_position,
             };
-            let own = object_difference(alloc, sides, role, one, other)?;
+            let own = object_difference(comparer, role, one, other)?;
             held_difference(
-                alloc,
+                comparer.alloc,
                 own,
-                is_same_holder(sides, role, position, other_position),
+                is_same_holder(comparer, role, position, other_position),
             )
         }
         // a position in an order has an object

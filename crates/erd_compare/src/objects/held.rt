@@ -5,29 +5,28 @@ ghost use Rattle.erd_compare.specs.code.Comparing.{Decides};
 ghost use Rattle.erd_compare.specs.code.HeldDifferences.{TellsHeld, is_before_election};
 ghost use Rattle.erd_compare.specs.code.KeyedDifferences.{holder_key_in};
 
+use crate::comparer::Comparer;
 use crate::difference::How;
-use crate::ranks::lookups::holder_rank;
 use crate::ranks::side::Side;
-use crate::sides::Sides;
-use erd_tables::{Role, Text};
+use erd_tables::Role;
 use std::alloc::{AllocError, Global};
 
 /// Returns whether the objects with a role at these positions are in elections with the same key, or in none with a key.
 pub(crate) fn is_same_holder(
-    sides: Sides,
+    comparer: &Comparer,
     role: Role,
     position: usize,
     other_position: usize,
 ) -> bool
-    ensures { Decides result (holder_key_in sides.entry.left.now.prefer role (view sides.entry.left.now.tree) position)
-        (holder_key_in sides.entry.right.now.prefer role (view sides.entry.right.now.tree) other_position) }
+    ensures { Decides result (holder_key_in comparer.now.left.prefer role (view comparer.now.left.tree) position)
+        (holder_key_in comparer.now.right.prefer role (view comparer.now.right.tree) other_position) }
 {
-    holder_rank(sides, Side::Left, role, position)
-        == holder_rank(sides, Side::Right, role, other_position)
+    comparer.holder_rank(Side::Left, role, position)
+        == comparer.holder_rank(Side::Right, role, other_position)
 }
 
-/// How two objects differ, given how they differ by themselves, and whether the keys of their elections are the same. If the
-/// keys differ, the objects differ in a member `ElectionId`, which no object has of its own.
+/// Returns how two objects differ, given how they differ by themselves, and whether the keys of their elections are the same.
+/// If the keys differ, the objects differ in a member `ElectionId`, which no object has of its own.
 pub(crate) fn held_difference(
     alloc: Global,
     own: Option<How>,
@@ -38,11 +37,10 @@ pub(crate) fn held_difference(
     if is_same_holder || is_before_election(&own) {
         return Ok(own);
     }
-    let name = String::from_str(alloc, "ElectionId")?;
-    Ok(Some(How::Member(Text::of(name))))
+    Ok(Some(How::in_member(alloc, "ElectionId")?))
 }
 
-/// Whether the difference comes before one in the member `ElectionId`.
+/// Returns whether the difference comes before one in the member `ElectionId`.
 fn is_before_election(own: &Option<How>) -> bool
     ensures { result ≡ is_before_election own.now }
 {

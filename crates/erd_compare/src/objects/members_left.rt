@@ -26,7 +26,7 @@ impl<'a> MembersLeft<'a> {
         MembersLeft { first, rest }
     }
 
-    /// The name of the first remaining member.
+    /// Returns the name of the first remaining member.
     pub(crate) fn first_name(&self) -> Option<&'a str>
         ensures { option_map (λ s. s.now) result ≡ first_of (names_left self.now) }
     {
@@ -36,8 +36,8 @@ impl<'a> MembersLeft<'a> {
         }
     }
 
-    /// The value of the member of the object with this name. The first remaining member is at hand, and any other is looked
-    /// up in the object, whose members these are.
+    /// Returns the value of the member of the object with this name. The first remaining member is at hand, and any other is
+    /// looked up in the object, whose members these are.
     pub(crate) fn value_in(&self, object: &'a Value, name: &str) -> Option<&'a Value>
         requires { AreMembersOf (view object.now) (members_left self.now) }
         ensures { option_map (λ v. view v.now) result ≡ get name.now (view object.now) }
@@ -71,7 +71,7 @@ fn next_member<'a>(rest: &mut Iter<'a, String, Value>) -> Option<(&'a str, &'a V
     }
 }
 
-/// The lesser of two names, or the only one.
+/// Returns the lesser of two names, or the only one.
 pub(crate) fn lesser_name<'a>(one: Option<&'a str>, other: Option<&'a str>) -> Option<&'a str>
     ensures { option_map (λ s. s.now) result ≡ lesser_name (option_map (λ s. s.now) one.entry) (option_map (λ s. s.now) other.entry) }
 {

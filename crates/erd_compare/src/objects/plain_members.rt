@@ -5,8 +5,8 @@ ghost use Rattle.erd_meaning.specs.Records.{is_in_envelope, json_set, plain_valu
 ghost use Rattle.erd_compare.specs.code.Comparing.{Decides, IsWholeTree, NamesKeys};
 ghost use Rattle.erd_compare.specs.code.PlainParts.{means_nothing, meant_value, plain_found};
 
+use crate::comparer::Comparer;
 use crate::objects::least_name::MemberPair;
-use crate::sides::Sides;
 use crate::values::content::is_same_content;
 use crate::values::labels::is_same_label;
 use crate::values::references::{is_same_key_set, is_same_reference};
@@ -14,34 +14,34 @@ use crate::values::sets::{is_same_set, is_same_value};
 use erd_check::values::{entries_of, is_empty_array};
 use erd_tables::{Class, MemberKind, is_envelope, member_kind};
 use serde_json::Value;
-use std::alloc::{AllocError, Global};
+use std::alloc::AllocError;
 
 /// Returns whether the members with one name, of two objects of the same class, mean the same, apart from the objects inside
 /// them.
 pub(crate) fn is_same_plain_member(
-    alloc: Global,
-    sides: Sides,
+    comparer: &Comparer,
     class: Class,
     pair: MemberPair,
 ) -> Result<bool, AllocError>
     requires one { IfSome pair.one (λ v. IsWholeTree (view v.now)) }
     requires other { IfSome pair.other (λ v. IsWholeTree (view v.now)) }
-    ensures { IfOk result (λ answer. Decides answer (plain_found sides.entry.left.now.prefer (view sides.entry.left.now.tree) class pair.entry.name.now (option_map (λ v. view v.now) pair.entry.one))
-        (plain_found sides.entry.right.now.prefer (view sides.entry.right.now.tree) class pair.entry.name.now (option_map (λ v. view v.now) pair.entry.other))) }
+    ensures { IfOk result (λ answer. Decides answer (plain_found comparer.now.left.prefer (view comparer.now.left.tree) class pair.entry.name.now (option_map (λ v. view v.now) pair.entry.one))
+        (plain_found comparer.now.right.prefer (view comparer.now.right.tree) class pair.entry.name.now (option_map (λ v. view v.now) pair.entry.other))) }
 {
     if is_in_envelope(class, pair.name) {
         return Ok(true);
     }
     let kind = member_kind(class, pair.name);
     match (pair.one, pair.other) {
-        (Some(one), Some(other)) => is_same_plain(alloc, sides, kind, one, other),
+        (Some(one), Some(other)) => is_same_plain(comparer, kind, one, other),
         (Some(one), None) => Ok(means_nothing(kind, one)),
         (None, Some(other)) => Ok(means_nothing(kind, other)),
         (None, None) => Ok(true),
     }
 }
 
-/// Whether a member with this name, of an object of the class, is in the envelope, which is not part of what a report means.
+/// Returns whether a member with this name, of an object of the class, is in the envelope, which is not part of what a report
+/// means.
 fn is_in_envelope(class: Class, name: &str) -> bool
     ensures { result ≡ is_in_envelope class name.now }
 {
@@ -51,10 +51,9 @@ fn is_in_envelope(class: Class, name: &str) -> bool
     }
 }
 
-/// Whether two values of members of the same kind mean the same, apart from the objects inside them.
+/// Returns whether two values of members of the same kind mean the same, apart from the objects inside them.
 fn is_same_plain(
-    alloc: Global,
-    sides: Sides,
+    comparer: &Comparer,
     kind: MemberKind,
     one: &Value,
     other: &Value,
@@ -62,19 +61,18 @@ fn is_same_plain(
     requires one { IsWholeTree (view one.now) }
     requires other { IsWholeTree (view other.now) }
     requires keyed { NamesKeys kind }
-    ensures { IfOk result (λ answer. Decides answer (plain_value sides.entry.left.now.prefer (view sides.entry.left.now.tree) kind (view one.now)) (plain_value sides.entry.right.now.prefer (view sides.entry.right.now.tree) kind (view other.now))) }
+    ensures { IfOk result (λ answer. Decides answer (plain_value comparer.now.left.prefer (view comparer.now.left.tree) kind (view one.now)) (plain_value comparer.now.right.prefer (view comparer.now.right.tree) kind (view other.now))) }
 {
     match (means_nothing(kind, one), means_nothing(kind, other)) {
         (true, true) => Ok(true),
-        (false, false) => is_same_meant(alloc, sides, kind, one, other),
+        (false, false) => is_same_meant(comparer, kind, one, other),
         _ => Ok(false),
     }
 }
 
-/// Whether two values of members of the same kind mean the same. Both mean something.
+/// Returns whether two values of members of the same kind mean the same. Both mean something.
 fn is_same_meant(
-    alloc: Global,
-    sides: Sides,
+    comparer: &Comparer,
     kind: MemberKind,
     one: &Value,
     other: &Value,
@@ -82,30 +80,30 @@ fn is_same_meant(
     requires one { IsWholeTree (view one.now) }
     requires other { IsWholeTree (view other.now) }
     requires keyed { NamesKeys kind }
-    ensures { IfOk result (λ answer. Decides answer (meant_value sides.entry.left.now.prefer (view sides.entry.left.now.tree) kind (view one.now)) (meant_value sides.entry.right.now.prefer (view sides.entry.right.now.tree) kind (view other.now))) }
+    ensures { IfOk result (λ answer. Decides answer (meant_value comparer.now.left.prefer (view comparer.now.left.tree) kind (view one.now)) (meant_value comparer.now.right.prefer (view comparer.now.right.tree) kind (view other.now))) }
 {
     match kind {
-        MemberKind::Label => is_same_label(alloc, one, other),
-        MemberKind::One(family) => Ok(is_same_reference(sides, family, one, other)),
+        MemberKind::Label => is_same_label(comparer.alloc, one, other),
+        MemberKind::One(family) => Ok(is_same_reference(comparer, family, one, other)),
         MemberKind::Many(family) => {
-            is_same_key_set(alloc, sides, family, entries_of(one), entries_of(other))
+            is_same_key_set(comparer, family, entries_of(one), entries_of(other))
         }
-        MemberKind::Identifiers | MemberKind::Languages => is_same_array(alloc, one, other),
-        MemberKind::Content => Ok(is_same_content(sides, one, other)),
+        MemberKind::Identifiers | MemberKind::Languages => is_same_array(comparer, one, other),
+        MemberKind::Content => Ok(is_same_content(comparer, one, other)),
         _ => Ok(is_same_value(one, other)),
     }
 }
 
-/// Whether two arrays hold the same set of values.
-fn is_same_array(alloc: Global, one: &Value, other: &Value) -> Result<bool, AllocError>
+/// Returns whether two arrays hold the same set of values.
+fn is_same_array(comparer: &Comparer, one: &Value, other: &Value) -> Result<bool, AllocError>
     requires one { IsWholeTree (view one.now) }
     requires other { IsWholeTree (view other.now) }
     ensures { IfOk result (λ answer. Decides answer (json_set (entries_of (view one.now))) (json_set (entries_of (view other.now)))) }
 {
-    is_same_set(alloc, entries_of(one), entries_of(other))
+    is_same_set(comparer.alloc, entries_of(one), entries_of(other))
 }
 
-/// Whether a value of this kind means nothing by itself: an empty array of the table, or a value of a kind that has no
+/// Returns whether a value of this kind means nothing by itself: an empty array of the table, or a value of a kind that has no
 /// meaning of its own, such as an array of objects.
 fn means_nothing(kind: MemberKind, value: &Value) -> bool
     ensures { result ≡ means_nothing kind (view value.now) }

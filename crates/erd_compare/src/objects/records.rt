@@ -9,30 +9,29 @@ ghost use Rattle.erd_compare.specs.code.PlacedObjects.{AreSelectionsAt, IsPlaced
 ghost use Rattle.erd_compare.specs.code.PlainParts.{member_found};
 ghost use Rattle.erd_compare.specs.code.SelectionMembers.{is_selections};
 
+use crate::comparer::Comparer;
 use crate::difference::How;
 use crate::objects::least_name::{MemberPair, least_differing_name};
 use crate::objects::placed::{Found, Placed};
 use crate::objects::plain_members::is_same_plain_member;
 use crate::objects::selections::is_same_selections;
-use crate::sides::Sides;
 use erd_check::values::class_of_object;
-use erd_tables::{Class, Family, MemberKind, Role, Text, member_kind};
-use std::alloc::{AllocError, Global};
+use erd_tables::{Class, Family, MemberKind, Role, member_kind};
+use std::alloc::AllocError;
 
-/// How two objects with a role differ: in their class, or else at the least name of a member that differs.
-pub(crate) fn object_difference<'a>(
-    alloc: Global,
-    sides: Sides<'a>,
+/// Returns how two objects with a role differ: in their class, or else at the least name of a member that differs.
+pub(crate) fn object_difference(
+    comparer: &Comparer,
     role: Role,
-    one: Placed<'a>,
-    other: Placed<'a>,
+    one: Placed,
+    other: Placed,
 ) -> Result<Option<How>, AllocError>
     requires one { IsWholeTree (view one.value.now) }
     requires other { IsWholeTree (view other.value.now) }
-    requires one_placed { IsPlaced sides.left.now role one.index (view one.value.now) }
-    requires other_placed { IsPlaced sides.right.now role other.index (view other.value.now) }
-    ensures { IfOk result (TellsHow (object_record sides.entry.left.now.prefer (view sides.entry.left.now.tree) role (view one.entry.value.now))
-        (object_record sides.entry.right.now.prefer (view sides.entry.right.now.tree) role (view other.entry.value.now))) }
+    requires one_placed { IsPlaced comparer.now.left role one.index (view one.value.now) }
+    requires other_placed { IsPlaced comparer.now.right role other.index (view other.value.now) }
+    ensures { IfOk result (TellsHow (object_record comparer.now.left.prefer (view comparer.now.left.tree) role (view one.entry.value.now))
+        (object_record comparer.now.right.prefer (view comparer.now.right.tree) role (view other.entry.value.now))) }
 {
     match (
         class_of_object(role, one.value),
@@ -43,7 +42,7 @@ pub(crate) fn object_difference<'a>(
         (None, Some(_)) => Ok(Some(How::OnlyRight)),
         (Some(class), Some(other_class)) => {
             if class == other_class {
-                member_difference(alloc, sides, class, one, other)
+                member_difference(comparer, class, one, other)
             } else {
                 Ok(Some(How::OtherClass))
             }
@@ -53,38 +52,33 @@ pub(crate) fn object_difference<'a>(
 
 /// Returns how two objects of the same class differ: at the least name of a member that differs.
 #[tactic(auto, using(crate::proofs::whole_trees::WholeTrees::whole_one, crate::proofs::whole_trees::WholeTrees::whole_other, crate::proofs::same_selections::PlacedSelections::pair_one, crate::proofs::same_selections::PlacedSelections::pair_other))]
-fn member_difference<'a>(
-    alloc: Global,
-    sides: Sides<'a>,
+fn member_difference(
+    comparer: &Comparer,
     class: Class,
-    one: Placed<'a>,
-    other: Placed<'a>,
+    one: Placed,
+    other: Placed,
 ) -> Result<Option<How>, AllocError>
     requires one { IsWholeTree (view one.value.now) }
     requires other { IsWholeTree (view other.value.now) }
     requires one_object { IsObject (view one.value.now) }
     requires other_object { IsObject (view other.value.now) }
-    requires one_placed { IsPlaced sides.left.now (role_of_class class) one.index (view one.value.now) }
-    requires other_placed { IsPlaced sides.right.now (role_of_class class) other.index (view other.value.now) }
-    ensures { IfOk result (TellsHow (Some (record_of_class sides.entry.left.now.prefer (view sides.entry.left.now.tree) class (view one.entry.value.now)))
-        (Some (record_of_class sides.entry.right.now.prefer (view sides.entry.right.now.tree) class (view other.entry.value.now)))) }
+    requires one_placed { IsPlaced comparer.now.left (role_of_class class) one.index (view one.value.now) }
+    requires other_placed { IsPlaced comparer.now.right (role_of_class class) other.index (view other.value.now) }
+    ensures { IfOk result (TellsHow (Some (record_of_class comparer.now.left.prefer (view comparer.now.left.tree) class (view one.entry.value.now)))
+        (Some (record_of_class comparer.now.right.prefer (view comparer.now.right.tree) class (view other.entry.value.now)))) }
 {
     let found = least_differing_name(one.value, other.value, |pair| {
-        is_same_member(alloc, sides, class, pair, one.index, other.index)
+        is_same_member(comparer, class, pair, one.index, other.index)
     })?;
     match found {
-        Some(name) => {
-            let name = String::from_str(alloc, name)?;
-            Ok(Some(How::Member(Text::of(name))))
-        }
+        Some(name) => Ok(Some(How::in_member(comparer.alloc, name)?)),
         None => Ok(None),
     }
 }
 
 /// Returns whether the members with one name, of two objects of the same class at these positions, mean the same.
 fn is_same_member(
-    alloc: Global,
-    sides: Sides,
+    comparer: &Comparer,
     class: Class,
     pair: MemberPair,
     position: usize,
@@ -92,10 +86,10 @@ fn is_same_member(
 ) -> Result<bool, AllocError>
     requires one { IfSome pair.one (λ v. IsWholeTree (view v.now)) }
     requires other { IfSome pair.other (λ v. IsWholeTree (view v.now)) }
-    requires one_placed { is_selections (kind_of_member class pair.name.now) ≡ true → AreSelectionsAt sides.left.now position (option_map (λ v. view v.now) pair.one) }
-    requires other_placed { is_selections (kind_of_member class pair.name.now) ≡ true → AreSelectionsAt sides.right.now other_position (option_map (λ v. view v.now) pair.other) }
-    ensures { IfOk result (λ answer. Decides answer (member_found sides.entry.left.now.prefer (view sides.entry.left.now.tree) class pair.entry.name.now (option_map (λ v. view v.now) pair.entry.one))
-        (member_found sides.entry.right.now.prefer (view sides.entry.right.now.tree) class pair.entry.name.now (option_map (λ v. view v.now) pair.entry.other))) }
+    requires one_placed { is_selections (kind_of_member class pair.name.now) ≡ true → AreSelectionsAt comparer.now.left position (option_map (λ v. view v.now) pair.one) }
+    requires other_placed { is_selections (kind_of_member class pair.name.now) ≡ true → AreSelectionsAt comparer.now.right other_position (option_map (λ v. view v.now) pair.other) }
+    ensures { IfOk result (λ answer. Decides answer (member_found comparer.now.left.prefer (view comparer.now.left.tree) class pair.entry.name.now (option_map (λ v. view v.now) pair.entry.one))
+        (member_found comparer.now.right.prefer (view comparer.now.right.tree) class pair.entry.name.now (option_map (λ v. view v.now) pair.entry.other))) }
 {
     if is_selections(member_kind(class, pair.name)) {
         let one = Found {
@@ -106,13 +100,13 @@ fn is_same_member(
             value: pair.other,
             index: other_position,
         };
-        is_same_selections(alloc, sides, one, other)
+        is_same_selections(comparer, one, other)
     } else {
-        is_same_plain_member(alloc, sides, class, pair)
+        is_same_plain_member(comparer, class, pair)
     }
 }
 
-/// Whether a member of this kind holds selections.
+/// Returns whether a member of this kind holds selections.
 fn is_selections(kind: MemberKind) -> bool
     ensures { result ≡ is_selections kind }
 {

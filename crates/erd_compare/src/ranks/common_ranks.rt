@@ -2,11 +2,12 @@ ghost use Rattle.std.specs.Prelude.{◌≡◌, true, IfOk};
 ghost use Rattle.serde_json.specs.View.{view};
 ghost use Rattle.erd_tables.specs.declared.class.Role.TheVariants.{OfFamily};
 ghost use Rattle.erd_meaning.specs.Keys.{has_keys};
-ghost use Rattle.erd_compare.specs.code.CommonRanks.{AreAllCommonRanks, AreCommonRanks, common_ranks_in};
+ghost use Rattle.erd_compare.specs.code.CommonRanks.{AreAllCommonRanks, AreCommonRanks, common_rank_of, common_ranks_in};
 ghost use Rattle.erd_compare.specs.code.KeyedDifferences.{IsComparable};
 ghost use Rattle.erd_compare.specs.code.RankedSides.{AreCommonByRank};
 
 use crate::ranks::merging::common_ranks;
+use crate::ranks::side::Side;
 use erd_meaning::{PerFamily, Report};
 use erd_tables::{Family, Role};
 use std::alloc::{AllocError, Global};
@@ -51,6 +52,16 @@ impl CommonRanks {
             Role::OfFamily(family) => self.families.get(family),
             Role::Election => &self.elections,
             _ => &[0],
+        }
+    }
+
+    /// Returns the common rank of the key with a rank on a side, if there is such a key. On the left it is the rank.
+    pub(crate) fn common_rank(&self, side: Side, role: Role, rank: usize) -> Option<usize>
+        ensures { result ≡ common_rank_of self.now side role rank }
+    {
+        match side {
+            Side::Left => Some(rank),
+            Side::Right => self.of(role).get(rank).copied(),
         }
     }
 }

@@ -12,7 +12,6 @@ ghost use Rattle.erd_compare.specs.code.CommonRanks.{common_rank_of};
 ghost use Rattle.erd_compare.specs.code.RankedSides.{AreCommonByRank};
 
 use crate::ranks::common_ranks::CommonRanks;
-use crate::ranks::lookups::common_rank_of;
 use crate::ranks::side::Side;
 use erd_meaning::{NumberedName, RankedName, Report, SaltedSet};
 use erd_tables::{Family, Role};
@@ -117,7 +116,7 @@ fn common_ranks_of(
 {
     let mut found = Vec::with_capacity(alloc, ranks.len())?;
     for rank in ranks {
-        if let Some(rank) = common_rank_of(common, side, role, *rank) {
+        if let Some(rank) = common.common_rank(side, role, *rank) {
             found.push(rank)?;
         }
     }

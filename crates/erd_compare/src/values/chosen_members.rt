@@ -21,7 +21,7 @@ pub(crate) enum Choice {
 }
 
 impl Choice {
-    /// Whether a member with this name is chosen.
+    /// Returns whether a member with this name is chosen.
     fn takes(self, name: &str) -> bool
         ensures { result ≡ takes_name self name.now }
     {
@@ -33,8 +33,8 @@ impl Choice {
     }
 }
 
-/// Whether the chosen members of two values are the same: equal names with equal values. A value that is not an object has
-/// none.
+/// Returns whether the chosen members of two values are the same: equal names with equal values. A value that is not an object
+/// has none.
 pub(crate) fn is_same_choice(
     one_choice: Choice,
     one: &Value,
@@ -54,7 +54,7 @@ pub(crate) fn is_same_choice(
     }
 }
 
-/// Whether the chosen members of two objects are the same.
+/// Returns whether the chosen members of two objects are the same.
 fn are_same_chosen(
     one_choice: Choice,
     ones: &Map<String, Value>,
@@ -78,7 +78,7 @@ fn are_same_chosen(
     next_chosen(other_choice, &mut rest).is_none()
 }
 
-/// Whether an object has no chosen member.
+/// Returns whether an object has no chosen member.
 fn has_none(choice: Choice, members: &Map<String, Value>) -> bool
     ensures { result
         ≡ are_same_members (chosen_members choice (members_view members.now.entries)) no_members }
@@ -103,7 +103,7 @@ fn next_chosen<'a>(
     None
 }
 
-/// Whether two objects of these classes carry the same members.
+/// Returns whether two objects of these classes carry the same members.
 pub(crate) fn is_same_carried(
     one_class: Option<Class>,
     one: &Value,

@@ -1,8 +1,9 @@
 ghost use Rattle.std.specs.Prelude.{◌≡◌, true, map, option_and_then};
 ghost use Rattle.std.specs.List.{AllByRecursion};
+ghost use Rattle.serde_json.specs.Data.{Data};
 ghost use Rattle.serde_json.specs.Find.{as_str};
 ghost use Rattle.serde_json.specs.View.{view};
-ghost use Rattle.erd_meaning.specs.Keys.{has_keys};
+ghost use Rattle.erd_meaning.specs.Keys.{Preference, has_keys};
 ghost use Rattle.erd_check.specs.Values.{text_at};
 ghost use Rattle.erd_meaning.specs.Meaning.{no_content};
 ghost use Rattle.erd_meaning.specs.Records.{content_of, node_of, contest_node, header_node, class_of_node, is_header_class};
@@ -10,69 +11,68 @@ ghost use Rattle.erd_meaning.specs.SelectionNames.{key_named, name_named};
 ghost use Rattle.erd_compare.specs.code.Comparing.{Decides, IsWholeTree};
 ghost use Rattle.erd_compare.specs.code.ContentParts.{content_within};
 
+use crate::comparer::Comparer;
 use crate::ranks::side::Side;
-use crate::sides::Sides;
 use crate::values::chosen_members::is_same_carried;
 use crate::values::references::{number_of_name_named, rank_with_id};
 use erd_check::values::{class_of_object, entries_at, entries_of, text_at};
-use erd_meaning::Report;
 use erd_tables::{Class, Family, Role};
 use serde_json::Value;
 
-/// Whether two lists of contests and headers mean the same, in the same order, at every depth of headers.
+/// Returns whether two lists of contests and headers mean the same, in the same order, at every depth of headers.
 #[cycle(content)]
-pub(crate) fn is_same_content(sides: Sides, one: &Value, other: &Value) -> bool
+pub(crate) fn is_same_content(comparer: &Comparer, one: &Value, other: &Value) -> bool
     requires one { IsWholeTree (view one.now) }
     requires other { IsWholeTree (view other.now) }
-    ensures { Decides result (content_of sides.entry.left.now.prefer (view sides.entry.left.now.tree) (view one.now)) (content_of sides.entry.right.now.prefer (view sides.entry.right.now.tree) (view other.now)) }
+    ensures { Decides result (content_of comparer.now.left.prefer (view comparer.now.left.tree) (view one.now)) (content_of comparer.now.right.prefer (view comparer.now.right.tree) (view other.now)) }
 {
     match one {
-        Value::Array(ones) => are_same_nodes(sides, ones, entries_of(other)),
-        _ => has_no_content(sides.right, other),
+        Value::Array(ones) => are_same_nodes(comparer, ones, entries_of(other)),
+        _ => has_no_content(other),
     }
 }
 
-/// Whether two lists have contests and headers that mean the same, in the same order.
+/// Returns whether two lists have contests and headers that mean the same, in the same order.
 #[cycle(content)]
-fn are_same_nodes(sides: Sides, ones: &Vec<Value>, others: &[Value]) -> bool
+fn are_same_nodes(comparer: &Comparer, ones: &Vec<Value>, others: &[Value]) -> bool
     requires ones { AllByRecursion (λ v. IsWholeTree (view v)) ones.now.items }
     requires others { AllByRecursion (λ v. IsWholeTree (view v)) others.now }
-    ensures { Decides result (map (λ v. node_of sides.entry.left.now.prefer (view sides.entry.left.now.tree) (view v)) ones.now.items)
-        (map (λ v. node_of sides.entry.right.now.prefer (view sides.entry.right.now.tree) (view v)) others.now) }
+    ensures { Decides result (map (λ v. node_of comparer.now.left.prefer (view comparer.now.left.tree) (view v)) ones.now.items)
+        (map (λ v. node_of comparer.now.right.prefer (view comparer.now.right.tree) (view v)) others.now) }
 {
     let mut rest = others.iter();
     for one in ones {
         let Some(other) = rest.next() else {
             return false;
         };
-        if !is_same_node(sides, one, other) {
+        if !is_same_node(comparer, one, other) {
             return false;
         }
     }
     rest.next().is_none()
 }
 
-/// Whether two contests or headers mean the same.
+/// Returns whether two contests or headers mean the same.
 #[cycle(content)]
-fn is_same_node(sides: Sides, one: &Value, other: &Value) -> bool
+fn is_same_node(comparer: &Comparer, one: &Value, other: &Value) -> bool
     requires one { IsWholeTree (view one.now) }
     requires other { IsWholeTree (view other.now) }
-    ensures { Decides result (node_of sides.entry.left.now.prefer (view sides.entry.left.now.tree) (view one.now)) (node_of sides.entry.right.now.prefer (view sides.entry.right.now.tree) (view other.now)) }
+    ensures { Decides result (node_of comparer.now.left.prefer (view comparer.now.left.tree) (view one.now)) (node_of comparer.now.right.prefer (view comparer.now.right.tree) (view other.now)) }
 {
     let class = class_of_node(one);
     let other_class = class_of_node(other);
     match (is_header(class), is_header(other_class)) {
-        (true, true) => is_same_header(sides, class, one, other_class, other),
+        (true, true) => is_same_header(comparer, class, one, other_class, other),
         (true, false) => false,
         (false, true) => false,
-        (false, false) => is_same_contest(sides, class, one, other_class, other),
+        (false, false) => is_same_contest(comparer, class, one, other_class, other),
     }
 }
 
 /// Returns whether two headers, which are of these classes, mean the same.
 #[cycle(content)]
 fn is_same_header(
-    sides: Sides,
+    comparer: &Comparer,
     class: Option<Class>,
     one: &Value,
     other_class: Option<Class>,
@@ -82,39 +82,39 @@ fn is_same_header(
     requires other { IsWholeTree (view other.now) }
     requires class { class ≡ class_of_node (view one.now) }
     requires other_class { other_class ≡ class_of_node (view other.now) }
-    ensures { Decides result (header_node sides.entry.left.now.prefer (view sides.entry.left.now.tree) (view one.now) (content_within sides.entry.left.now.prefer (view sides.entry.left.now.tree) (view one.now)))
-        (header_node sides.entry.right.now.prefer (view sides.entry.right.now.tree) (view other.now) (content_within sides.entry.right.now.prefer (view sides.entry.right.now.tree) (view other.now))) }
+    ensures { Decides result (header_node comparer.now.left.prefer (view comparer.now.left.tree) (view one.now) (content_within comparer.now.left.prefer (view comparer.now.left.tree) (view one.now)))
+        (header_node comparer.now.right.prefer (view comparer.now.right.tree) (view other.now) (content_within comparer.now.right.prefer (view comparer.now.right.tree) (view other.now))) }
 {
-    is_same_owner(sides, Family::Header, "HeaderId", one, other)
+    is_same_owner(comparer, Family::Header, "HeaderId", one, other)
         && is_same_carried(class, one, other_class, other)
-        && is_same_within(sides, one, other)
+        && is_same_within(comparer, one, other)
 }
 
-/// Whether the contents of two headers mean the same, in the same order.
+/// Returns whether the contents of two headers mean the same, in the same order.
 #[cycle(content)]
-fn is_same_within(sides: Sides, one: &Value, other: &Value) -> bool
+fn is_same_within(comparer: &Comparer, one: &Value, other: &Value) -> bool
     requires one { IsWholeTree (view one.now) }
     requires other { IsWholeTree (view other.now) }
-    ensures { Decides result (content_within sides.entry.left.now.prefer (view sides.entry.left.now.tree) (view one.now)) (content_within sides.entry.right.now.prefer (view sides.entry.right.now.tree) (view other.now)) }
+    ensures { Decides result (content_within comparer.now.left.prefer (view comparer.now.left.tree) (view one.now)) (content_within comparer.now.right.prefer (view comparer.now.right.tree) (view other.now)) }
 {
     match (one.get("OrderedContent"), other.get("OrderedContent")) {
-        (Some(one), Some(other)) => is_same_content(sides, one, other),
-        (Some(one), None) => has_no_content(sides.left, one),
-        (None, Some(other)) => has_no_content(sides.right, other),
+        (Some(one), Some(other)) => is_same_content(comparer, one, other),
+        (Some(one), None) => has_no_content(one),
+        (None, Some(other)) => has_no_content(other),
         (None, None) => true,
     }
 }
 
-/// Whether a list of contests and headers is empty.
-fn has_no_content(report: &Report, value: &Value) -> bool
-    ensures { Decides result no_content (content_of report.now.prefer (view report.now.tree) (view value.now)) }
+/// Returns whether a list of contests and headers is empty.
+fn has_no_content(value: &Value) -> bool
+    ensures { (π : Preference) (t : Data) → Decides result no_content (content_of π t (view value.now)) }
 {
     entries_of(value).is_empty()
 }
 
 /// Returns whether two contests in the contents of a ballot, which are of these classes, mean the same.
 fn is_same_contest(
-    sides: Sides,
+    comparer: &Comparer,
     class: Option<Class>,
     one: &Value,
     other_class: Option<Class>,
@@ -124,47 +124,54 @@ fn is_same_contest(
     requires other { IsWholeTree (view other.now) }
     requires class { class ≡ class_of_node (view one.now) }
     requires other_class { other_class ≡ class_of_node (view other.now) }
-    ensures { Decides result (contest_node sides.entry.left.now.prefer (view sides.entry.left.now.tree) (view one.now)) (contest_node sides.entry.right.now.prefer (view sides.entry.right.now.tree) (view other.now)) }
+    ensures { Decides result (contest_node comparer.now.left.prefer (view comparer.now.left.tree) (view one.now)) (contest_node comparer.now.right.prefer (view comparer.now.right.tree) (view other.now)) }
 {
     let name = "OrderedContestSelectionIds";
-    is_same_owner(sides, Family::Contest, "ContestId", one, other)
+    is_same_owner(comparer, Family::Contest, "ContestId", one, other)
         && is_same_carried(class, one, other_class, other)
-        && are_same_names(sides, entries_at(one, name), entries_at(other, name))
+        && are_same_names(comparer, entries_at(one, name), entries_at(other, name))
 }
 
-/// Whether two lists of references name selections with the same names, in the same order.
-fn are_same_names(sides: Sides, ones: &[Value], others: &[Value]) -> bool
-    ensures { Decides result (map (λ v. option_and_then (name_named sides.entry.left.now.prefer (view sides.entry.left.now.tree)) (as_str (view v))) ones.now)
-        (map (λ v. option_and_then (name_named sides.entry.right.now.prefer (view sides.entry.right.now.tree)) (as_str (view v))) others.now) }
+/// Returns whether two lists of references name selections with the same names, in the same order.
+fn are_same_names(comparer: &Comparer, ones: &[Value], others: &[Value]) -> bool
+    ensures { Decides result (map (λ v. option_and_then (name_named comparer.now.left.prefer (view comparer.now.left.tree)) (as_str (view v))) ones.now)
+        (map (λ v. option_and_then (name_named comparer.now.right.prefer (view comparer.now.right.tree)) (as_str (view v))) others.now) }
 {
     let mut rest = others.iter();
     for one in ones {
         let Some(other) = rest.next() else {
             return false;
         };
-        if !is_same_name(sides, one, other) {
+        if !is_same_name(comparer, one, other) {
             return false;
         }
     }
     rest.next().is_none()
 }
 
-/// Whether two references name selections with the same name.
-fn is_same_name(sides: Sides, one: &Value, other: &Value) -> bool
-    ensures { Decides result (option_and_then (name_named sides.entry.left.now.prefer (view sides.entry.left.now.tree)) (as_str (view one.now)))
-        (option_and_then (name_named sides.entry.right.now.prefer (view sides.entry.right.now.tree)) (as_str (view other.now))) }
+/// Returns whether two references name selections with the same name.
+fn is_same_name(comparer: &Comparer, one: &Value, other: &Value) -> bool
+    ensures { Decides result (option_and_then (name_named comparer.now.left.prefer (view comparer.now.left.tree)) (as_str (view one.now)))
+        (option_and_then (name_named comparer.now.right.prefer (view comparer.now.right.tree)) (as_str (view other.now))) }
 {
-    number_of_name_named(sides, Side::Left, one) == number_of_name_named(sides, Side::Right, other)
+    number_of_name_named(comparer, Side::Left, one)
+        == number_of_name_named(comparer, Side::Right, other)
 }
 
-/// Whether the members with this name refer to objects of the family with the same key.
-fn is_same_owner(sides: Sides, family: Family, name: &str, one: &Value, other: &Value) -> bool
+/// Returns whether the members with this name refer to objects of the family with the same key.
+fn is_same_owner(
+    comparer: &Comparer,
+    family: Family,
+    name: &str,
+    one: &Value,
+    other: &Value,
+) -> bool
     requires keyed { has_keys family ≡ true }
-    ensures { Decides result (key_named sides.entry.left.now.prefer (view sides.entry.left.now.tree) family (text_at name.now (view one.now)))
-        (key_named sides.entry.right.now.prefer (view sides.entry.right.now.tree) family (text_at name.now (view other.now))) }
+    ensures { Decides result (key_named comparer.now.left.prefer (view comparer.now.left.tree) family (text_at name.now (view one.now)))
+        (key_named comparer.now.right.prefer (view comparer.now.right.tree) family (text_at name.now (view other.now))) }
 {
-    rank_with_id(sides, Side::Left, family, text_at(one, name))
-        == rank_with_id(sides, Side::Right, family, text_at(other, name))
+    rank_with_id(comparer, Side::Left, family, text_at(one, name))
+        == rank_with_id(comparer, Side::Right, family, text_at(other, name))
 }
 
 /// Returns whether the class is that of a header in the contents of a ballot.
@@ -174,7 +181,7 @@ fn is_header(class: Option<Class>) -> bool
     matches!(class, Some(Class::OrderedHeader))
 }
 
-/// The class of a node of the contents of a ballot.
+/// Returns the class of a node of the contents of a ballot.
 fn class_of_node(node: &Value) -> Option<Class>
     ensures { result ≡ class_of_node (view node.now) }
 {

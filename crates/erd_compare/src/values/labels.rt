@@ -10,7 +10,7 @@ use erd_check::values::{entries_at, text_of};
 use serde_json::Value;
 use std::alloc::{AllocError, Global};
 
-/// Whether two labels mean the same: equal texts, or the same set of translations with the same other members.
+/// Returns whether two labels mean the same: equal texts, or the same set of translations with the same other members.
 pub(crate) fn is_same_label(alloc: Global, one: &Value, other: &Value) -> Result<bool, AllocError>
     requires one { IsWholeTree (view one.now) }
     requires other { IsWholeTree (view other.now) }
@@ -25,7 +25,7 @@ pub(crate) fn is_same_label(alloc: Global, one: &Value, other: &Value) -> Result
     }
 }
 
-/// Whether two labels that are objects mean the same.
+/// Returns whether two labels that are objects mean the same.
 fn is_same_translated(alloc: Global, one: &Value, other: &Value) -> Result<bool, AllocError>
     requires one { IsWholeTree (view one.now) }
     requires other { IsWholeTree (view other.now) }

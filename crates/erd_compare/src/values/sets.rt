@@ -9,7 +9,7 @@ use erd_check::{FEW_VALUES, ValueSet, is_among, same_json};
 use serde_json::Value;
 use std::alloc::{AllocError, Global};
 
-/// Whether two values are equal as JSON.
+/// Returns whether two values are equal as JSON.
 pub(crate) fn is_same_value(one: &Value, other: &Value) -> bool
     requires one { IsWholeTree (view one.now) }
     requires other { IsWholeTree (view other.now) }
@@ -18,7 +18,7 @@ pub(crate) fn is_same_value(one: &Value, other: &Value) -> bool
     same_json(one, other)
 }
 
-/// Whether two lists hold the same set of values.
+/// Returns whether two lists hold the same set of values.
 pub(crate) fn is_same_set(
     alloc: Global,
     ones: &[Value],
@@ -44,7 +44,7 @@ fn is_same_few(ones: &[Value], others: &[Value]) -> bool
     are_among(ones, others) && are_among(others, ones)
 }
 
-/// Whether each value is equal to one of the others.
+/// Returns whether each value is equal to one of the others.
 fn are_among(values: &[Value], others: &[Value]) -> bool
     ensures { result ≡ list_all (json_set (map view others.now)) (map view values.now) }
 {
@@ -71,7 +71,7 @@ fn is_same_many<'a>(
     Ok(are_in(ones, &right) && are_in(others, &left))
 }
 
-/// Whether each value is equal to one in the set.
+/// Returns whether each value is equal to one in the set.
 fn are_in<'a>(values: &'a [Value], set: &ValueSet<'a>) -> bool
     ensures { result ≡ list_all (json_set (values_in set.now)) (map view values.now) }
 {

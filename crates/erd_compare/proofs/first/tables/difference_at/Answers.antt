@@ -1,7 +1,8 @@
-use Rattle.std.proofs.Common.{Option, sym, ap, ◌∙◌, option_map, subst}
+use Rattle.std.proofs.Common.{Option, sym, ap, ap₂, ◌∙◌, option_map, subst}
 use Rattle.std.specs.List.{slice_get}
 use Rattle.std.proofs.lemmas.Result.{IfOk-weaker}
 use Rattle.serde_json.specs.View.{view}
+use Rattle.erd_meaning.specs.Judged.{Judged}
 use Rattle.erd_meaning.specs.Records.{object_record}
 use Rattle.erd_meaning.specs.declared.keys.key.Key.{Key}
 use Rattle.erd_compare.specs.code.Comparing.{Decides, TellsHow}
@@ -12,26 +13,26 @@ use Rattle.erd_compare.proofs.first.tables.difference_at.Goals as goal
 
 pub object_difference-requires-clause-one : goal.object_difference-requires-clause-one
 object_difference-requires-clause-one c =
-    whole_here c.args.sides.left.now.prefer (view c.args.sides.left.now.tree) c.requires.left c.args.part c.args.position (view c.in-Some-Some.value.now)
-    (c.in-Some-Some.ensures ∙ ap (λ r. option_map (λ o. o.value) (slice_get (objects_in r (view c.args.sides.left.now.tree)) c.args.position)) c.role_of-role.ensures.role)
+    whole_here c.args.comparer.now.left.prefer (view c.args.comparer.now.left.tree) c.left.ensures.comparable c.args.part c.args.position (view c.in-Some-Some.value.now)
+    (c.in-Some-Some.ensures ∙ ap₂ (λ (x : Judged) r. option_map (λ o. o.value) (slice_get (objects_in r (view x.tree)) c.args.position)) c.left.ensures.same c.role_of-role.ensures.role)
 
 pub object_difference-requires-clause-other : goal.object_difference-requires-clause-other
 object_difference-requires-clause-other c =
-    whole_here c.args.sides.right.now.prefer (view c.args.sides.right.now.tree) c.requires.right c.args.part c.args.other_position (view c.in-Some-Some.other_value.now)
-    (c.in-Some-Some.ensures' ∙ ap (λ r. option_map (λ o. o.value) (slice_get (objects_in r (view c.args.sides.right.now.tree)) c.args.other_position)) c.role_of-role.ensures.role)
+    whole_here c.args.comparer.now.right.prefer (view c.args.comparer.now.right.tree) c.right.ensures.comparable c.args.part c.args.other_position (view c.in-Some-Some.other_value.now)
+    (c.in-Some-Some.ensures' ∙ ap₂ (λ (x : Judged) r. option_map (λ o. o.value) (slice_get (objects_in r (view x.tree)) c.args.other_position)) c.right.ensures.same c.role_of-role.ensures.role)
 
 pub object_difference-requires-clause-one_placed : goal.object_difference-requires-clause-one_placed
-object_difference-requires-clause-one_placed c = sym c.in-Some-Some.ensures
+object_difference-requires-clause-one_placed c = sym (c.in-Some-Some.ensures ∙ ap (λ (x : Judged). option_map (λ o. o.value) (slice_get (objects_in c.role_of-role.result (view x.tree)) c.args.position)) c.left.ensures.same)
 
 pub object_difference-requires-clause-other_placed : goal.object_difference-requires-clause-other_placed
-object_difference-requires-clause-other_placed c = sym c.in-Some-Some.ensures'
+object_difference-requires-clause-other_placed c = sym (c.in-Some-Some.ensures' ∙ ap (λ (x : Judged). option_map (λ o. o.value) (slice_get (objects_in c.role_of-role.result (view x.tree)) c.args.other_position)) c.right.ensures.same)
 
 pub returns-in_ok-own-in-Some-Some : goal.returns-in_ok-own-in-Some-Some
 returns-in_ok-own-in-Some-Some c =
-    let π = c.args.sides.left.now.prefer in
-    let ρ = c.args.sides.right.now.prefer in
-    let t = view c.args.sides.left.now.tree in
-    let u = view c.args.sides.right.now.tree in
+    let π = c.args.comparer.now.left.prefer in
+    let ρ = c.args.comparer.now.right.prefer in
+    let t = view c.args.comparer.now.left.tree in
+    let u = view c.args.comparer.now.right.tree in
     let one = view c.in-Some-Some.value.now in
     let other = view c.in-Some-Some.other_value.now in
     let p = c.args.part in
@@ -40,8 +41,8 @@ returns-in_ok-own-in-Some-Some c =
     let k = holder_key_in π (role_of_part p) t c.args.position in
     let l = holder_key_in ρ (role_of_part p) u c.args.other_position in
     IfOk-weaker c.held_difference.result (λ how. (k l : Option Key) → Decides c.is_same_holder.result k l → TellsHeld own k l how) (TellsAtPositions π ρ t u p c.args.position c.args.other_position)
-    (λ how held. records_here π ρ t u c.requires.left c.requires.right p c.args.position c.args.other_position one other
-    (c.in-Some-Some.ensures ∙ ap (λ r. option_map (λ o. o.value) (slice_get (objects_in r t) c.args.position)) role.ensures.role)
-    (c.in-Some-Some.ensures' ∙ ap (λ r. option_map (λ o. o.value) (slice_get (objects_in r u) c.args.other_position)) role.ensures.role) own
+    (λ how held. records_here π ρ t u c.left.ensures.comparable c.right.ensures.comparable p c.args.position c.args.other_position one other
+    (c.in-Some-Some.ensures ∙ ap₂ (λ (x : Judged) r. option_map (λ o. o.value) (slice_get (objects_in r (view x.tree)) c.args.position)) c.left.ensures.same role.ensures.role)
+    (c.in-Some-Some.ensures' ∙ ap₂ (λ (x : Judged) r. option_map (λ o. o.value) (slice_get (objects_in r (view x.tree)) c.args.other_position)) c.right.ensures.same role.ensures.role) own
     (subst (λ r. TellsHow (object_record π t r one) (object_record ρ u r other) own) role.ensures.role c.in_ok-own-in-Some-Some.ensures) how (held k l (subst (λ r. Decides c.is_same_holder.result (holder_key_in π r t c.args.position) (holder_key_in ρ r u c.args.other_position)) role.ensures.role c.is_same_holder.ensures)))
     c.held_difference.ensures

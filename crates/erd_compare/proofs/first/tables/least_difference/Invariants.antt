@@ -7,10 +7,10 @@ use Rattle.erd_compare.proofs.first.tables.least_difference.Given as goal
 
 abbrev pub invariant-loop-position : goal.invariant-loop-position
 invariant-loop-position l =
-    let π = l.sides.left.now.prefer in
-    let ρ = l.sides.right.now.prefer in
-    let t = view l.sides.left.now.tree in
-    let u = view l.sides.right.now.tree in
+    let π = l.comparer.left.prefer in
+    let ρ = l.comparer.right.prefer in
+    let t = view l.comparer.left.tree in
+    let u = view l.comparer.right.tree in
     let r = role_of_part l.part in
     AreLeft π ρ t u l.part (drop l.rank (entries π t r)) (drop l.rank (entries ρ u r))
 

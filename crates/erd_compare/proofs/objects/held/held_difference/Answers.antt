@@ -2,7 +2,6 @@
 -- before.
 use Rattle.std.proofs.Common.{Some, true≢false, sym, ◌∙◌, subst}
 use Rattle.erd_compare.specs.code.HeldDifferences.{TellsHeld}
-use Rattle.erd_compare.specs.declared.difference.How.TheVariants.{Member}
 use Rattle.erd_compare.proofs.least_difference.HeldRecords.{told_at_election, told_before, told_of_one}
 use Rattle.erd_compare.proofs.objects.held.held_difference.Goals as goal
 use Rattle.erd_compare.proofs.objects.held.held_difference.Goals.{then-is_same_holder-via-then-is_same_holder, then-is_same_holder-via-else-is_same_holder+then-is_before_election}
@@ -15,5 +14,5 @@ returns-then-is_same_holder c k l decides = elim c.then-is_same_holder.branch [
 
 pub returns : goal.returns
 returns c k l decides =
-    subst (λ name. TellsHeld c.args.own k l (Some (Member name))) (sym (c.of.ensures ∙ c.in_ok-name.ensures.ok))
+    subst (λ how. TellsHeld c.args.own k l (Some how)) (sym c.in_ok-in_member.ensures)
     (told_at_election c.args.own k l (λ same. true≢false (sym (decides.1 same) ∙ c.if-is_same_holder.false)) (sym c.is_before_election.ensures ∙ c.if-is_before_election.false))

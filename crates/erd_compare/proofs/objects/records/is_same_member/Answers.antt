@@ -13,10 +13,10 @@ use Rattle.erd_compare.proofs.objects.records.is_same_member.Goals as goal
 
 pub returns-else-is_selections : goal.returns-else-is_selections
 returns-else-is_selections c =
-    let π = c.args.sides.left.now.prefer in
-    let ρ = c.args.sides.right.now.prefer in
-    let t = view c.args.sides.left.now.tree in
-    let u = view c.args.sides.right.now.tree in
+    let π = c.args.comparer.now.left.prefer in
+    let ρ = c.args.comparer.now.right.prefer in
+    let t = view c.args.comparer.now.left.tree in
+    let u = view c.args.comparer.now.right.tree in
     let k = kind_of_member c.args.class c.args.pair.name.now in
     let name = c.args.pair.name.now in
     let found = option_map (λ (v : Bor Value). view v.now) c.args.pair.one in

@@ -11,8 +11,8 @@ use Rattle.erd_compare.proofs.objects.records.object_difference.Goals as goal
 
 pub returns-then-eq : goal.returns-then-eq
 returns-then-eq c =
-    let a = c.args.sides.left.now in
-    let b = c.args.sides.right.now in
+    let a = c.args.comparer.now.left in
+    let b = c.args.comparer.now.right in
     let one = view c.args.one.value.now in
     let other = view c.args.other.value.now in
     let class = c.in-Some-Some.class in
@@ -30,10 +30,10 @@ returns-then-eq c =
 pub member_difference-requires-clause-one_placed : goal.member_difference-requires-clause-one_placed
 member_difference-requires-clause-one_placed c =
     let role : role_of_class c.in-Some-Some.class ≡ c.args.role = class_role c.args.role (view c.args.one.value.now) c.in-Some-Some.class (sym c.class_of_object.ensures ∙ c.in-Some-Some.is-0) in
-    subst (λ r. IsPlaced c.args.sides.left.now r c.args.one.index (view c.args.one.value.now)) (sym role) c.requires.one_placed
+    subst (λ r. IsPlaced c.args.comparer.now.left r c.args.one.index (view c.args.one.value.now)) (sym role) c.requires.one_placed
 
 pub member_difference-requires-clause-other_placed : goal.member_difference-requires-clause-other_placed
 member_difference-requires-clause-other_placed c =
     let same : c.in-Some-Some.class ≡ c.in-Some-Some.other_class = search rules in
     let role : role_of_class c.in-Some-Some.other_class ≡ c.args.role = class_role c.args.role (view c.args.other.value.now) c.in-Some-Some.other_class (sym c.class_of_object-2.ensures ∙ c.in-Some-Some.is-1) in
-    subst (λ r. IsPlaced c.args.sides.right.now r c.args.other.index (view c.args.other.value.now)) (sym (ap role_of_class same ∙ role)) c.requires.other_placed
+    subst (λ r. IsPlaced c.args.comparer.now.right r c.args.other.index (view c.args.other.value.now)) (sym (ap role_of_class same ∙ role)) c.requires.other_placed

@@ -3,4 +3,4 @@ use Rattle.erd_compare.proofs.same_selections.NameMaps.{IsFilling}
 use Rattle.erd_compare.proofs.objects.selections.by_number.Given as goal
 
 abbrev pub invariant-loop-index : goal.invariant-loop-index
-invariant-loop-index l = IsFilling l.sides.left.now l.sides.right.now l.side l.values (drop l.index l.values) l.numbered.entries
+invariant-loop-index l = IsFilling l.comparer.left l.comparer.right l.side l.values (drop l.index l.values) l.numbered.entries

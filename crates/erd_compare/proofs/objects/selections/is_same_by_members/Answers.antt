@@ -24,10 +24,10 @@ none_told (Some s) false e = refl
 
 pub returns : goal.returns
 returns c =
-    let π = c.args.sides.left.now.prefer in
-    let ρ = c.args.sides.right.now.prefer in
-    let t = view c.args.sides.left.now.tree in
-    let u = view c.args.sides.right.now.tree in
+    let π = c.args.comparer.now.left.prefer in
+    let ρ = c.args.comparer.now.right.prefer in
+    let t = view c.args.comparer.now.left.tree in
+    let u = view c.args.comparer.now.right.tree in
     let d = view c.args.one.now in
     let e = view c.args.other.now in
     let m : List ℕ → Option PlainValue = plain_member π t d c.args.class in

@@ -10,8 +10,8 @@ use Rattle.erd_compare.proofs.objects.selections.is_same_selection_map.Goals as 
 
 pub loop-number-init : goal.loop-number-init
 loop-number-init c =
-    let a = c.args.sides.left.now in
-    let b = c.args.sides.right.now in
+    let a = c.args.comparer.now.left in
+    let b = c.args.comparer.now.right in
     let ds = map view c.args.ones.values.now in
     let es = map view c.args.others.values.now in
     let gives = c.into_iter-number-iterator.ensures.into_iter_gives in
@@ -20,8 +20,8 @@ loop-number-init c =
 
 pub returns-in_default : goal.returns-in_default
 returns-in_default c =
-    let a = c.args.sides.left.now in
-    let b = c.args.sides.right.now in
+    let a = c.args.comparer.now.left in
+    let b = c.args.comparer.now.right in
     let ds = map view c.args.ones.values.now in
     let es = map view c.args.others.values.now in
     let e : Entry = (c.in-Some.number.now, c.in-Some.one.now) in
@@ -30,8 +30,8 @@ returns-in_default c =
 
 pub is_same_selection-requires-clause-one : goal.is_same_selection-requires-clause-one
 is_same_selection-requires-clause-one c =
-    let a = c.args.sides.left.now in
-    let b = c.args.sides.right.now in
+    let a = c.args.comparer.now.left in
+    let b = c.args.comparer.now.right in
     let ds = map view c.args.ones.values.now in
     let es = map view c.args.others.values.now in
     let e : Entry = (c.in-Some.number.now, c.in-Some.one.now) in
@@ -40,8 +40,8 @@ is_same_selection-requires-clause-one c =
 
 pub is_same_selection-requires-clause-other : goal.is_same_selection-requires-clause-other
 is_same_selection-requires-clause-other c =
-    let a = c.args.sides.left.now in
-    let b = c.args.sides.right.now in
+    let a = c.args.comparer.now.left in
+    let b = c.args.comparer.now.right in
     let ds = map view c.args.ones.values.now in
     let es = map view c.args.others.values.now in
     let e : Entry = (c.in-Some.number.now, c.in-Some.one.now) in
@@ -51,8 +51,8 @@ is_same_selection-requires-clause-other c =
 
 pub returns-then-not-branch : goal.returns-then-not-branch
 returns-then-not-branch c =
-    let a = c.args.sides.left.now in
-    let b = c.args.sides.right.now in
+    let a = c.args.comparer.now.left in
+    let b = c.args.comparer.now.right in
     let ds = map view c.args.ones.values.now in
     let es = map view c.args.others.values.now in
     let e : Entry = (c.in-Some.number.now, c.in-Some.one.now) in
@@ -64,8 +64,8 @@ returns-then-not-branch c =
 
 pub loop-number-preserved : goal.loop-number-preserved
 loop-number-preserved c =
-    let a = c.args.sides.left.now in
-    let b = c.args.sides.right.now in
+    let a = c.args.comparer.now.left in
+    let b = c.args.comparer.now.right in
     let ds = map view c.args.ones.values.now in
     let es = map view c.args.others.values.now in
     let e : Entry = (c.in-Some.number.now, c.in-Some.one.now) in
@@ -76,8 +76,8 @@ loop-number-preserved c =
 
 pub returns : goal.returns
 returns c =
-    let a = c.args.sides.left.now in
-    let b = c.args.sides.right.now in
+    let a = c.args.comparer.now.left in
+    let b = c.args.comparer.now.right in
     let ds = map view c.args.ones.values.now in
     let es = map view c.args.others.values.now in
     let h = subst (λ ls. AreSelectionsLeft a b ds es ls c.loop-number.others.entries) c.in-None.ensures.steps.0 c.loop-number.invariant in

@@ -5,4 +5,4 @@ use Rattle.erd_compare.proofs.objects.selections.is_same_selection_map.Given as 
 
 abbrev pub invariant-loop-number : goal.invariant-loop-number
 invariant-loop-number l =
-    AreSelectionsLeft l.sides.left.now l.sides.right.now (map view l.fn.ones.values.now) (map view l.fn.others.values.now) l.number-iterator l.others.entries
+    AreSelectionsLeft l.comparer.left l.comparer.right (map view l.fn.ones.values.now) (map view l.fn.others.values.now) l.number-iterator l.others.entries

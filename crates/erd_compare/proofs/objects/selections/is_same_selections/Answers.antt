@@ -24,15 +24,15 @@ is_same_selection_map-requires-clause-others c =
 
 pub returns-in-Some-Some : goal.returns-in-Some-Some
 returns-in-Some-Some c =
-    selections-Decide c.args.sides.left.now.prefer c.args.sides.right.now.prefer c.is_same_selection_map.result (view c.args.sides.left.now.tree) (view c.args.sides.right.now.tree) (view c.in-Some-Some.ones.now) (view c.in-Some-Some.others.now) _ _ _ _
+    selections-Decide c.args.comparer.now.left.prefer c.args.comparer.now.right.prefer c.is_same_selection_map.result (view c.args.comparer.now.left.tree) (view c.args.comparer.now.right.tree) (view c.in-Some-Some.ones.now) (view c.in-Some-Some.others.now) _ _ _ _
     (sym c.filled.ensures ∙ ap seen c.in-Some-Some.is-0) (sym c.filled-2.ensures ∙ ap seen c.in-Some-Some.is-1) c.entries_of.ensures c.entries_of-in-Some-Some.ensures c.is_same_selection_map.ensures
 
 pub is_same_selection_map-requires-clause-ones_named : goal.is_same_selection_map-requires-clause-ones_named
 is_same_selection_map-requires-clause-ones_named c =
-    selections_in c.args.sides.left.now c.args.one.index (seen c.args.one.value) (view c.in-Some-Some.ones.now) _ c.requires.one_placed
+    selections_in c.args.comparer.now.left c.args.one.index (seen c.args.one.value) (view c.in-Some-Some.ones.now) _ c.requires.one_placed
     (filled-there (seen c.args.one.value) (view c.in-Some-Some.ones.now) (sym c.filled.ensures ∙ ap seen c.in-Some-Some.is-0)) c.entries_of.ensures
 
 pub is_same_selection_map-requires-clause-others_named : goal.is_same_selection_map-requires-clause-others_named
 is_same_selection_map-requires-clause-others_named c =
-    selections_in c.args.sides.right.now c.args.other.index (seen c.args.other.value) (view c.in-Some-Some.others.now) _ c.requires.other_placed
+    selections_in c.args.comparer.now.right c.args.other.index (seen c.args.other.value) (view c.in-Some-Some.others.now) _ c.requires.other_placed
     (filled-there (seen c.args.other.value) (view c.in-Some-Some.others.now) (sym c.filled-2.ensures ∙ ap seen c.in-Some-Some.is-1)) c.entries_of-in-Some-Some.ensures

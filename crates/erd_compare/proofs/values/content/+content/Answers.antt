@@ -44,7 +44,7 @@ is_same_content-are_same_nodes-requires t c =
 pub is_same_content-returns-in-Array : goal.is_same_content-returns-in-Array
 is_same_content-returns-in-Array t c =
     let seen = ap view c.in-Array.is ∙ view-Array c.in-Array.ones in
-    content-Decides c.args.sides.left.now.prefer c.args.sides.right.now.prefer (view c.args.sides.left.now.tree) (view c.args.sides.right.now.tree) (view c.args.one.now) (view c.args.other.now) c.in-Array.ones.items c.entries_of.result.now c.are_same_nodes.result
+    content-Decides c.args.comparer.now.left.prefer c.args.comparer.now.right.prefer (view c.args.comparer.now.left.tree) (view c.args.comparer.now.right.tree) (view c.args.one.now) (view c.args.other.now) c.in-Array.ones.items c.entries_of.result.now c.are_same_nodes.result
     (sym (list_of_items-items_of (map view c.in-Array.ones.items)) ∙ sym (ap entries_of seen))
     c.entries_of.ensures
     c.are_same_nodes.ensures
@@ -52,7 +52,7 @@ is_same_content-returns-in-Array t c =
 pub is_same_content-returns-in_default : goal.is_same_content-returns-in_default
 is_same_content-returns-in_default t c =
     let none : [] ≡ entries_of (view c.args.one.now) = search (rules, the_lemmas) in
-    decides_as refl (sym (content_of-none c.args.sides.left.now.prefer (view c.args.sides.left.now.tree) (view c.args.one.now) none)) refl c.has_no_content.ensures
+    decides_as refl (sym (content_of-none c.args.comparer.now.left.prefer (view c.args.comparer.now.left.tree) (view c.args.one.now) none)) refl (c.has_no_content.ensures c.args.comparer.now.right.prefer (view c.args.comparer.now.right.tree))
 
 pub are_same_nodes-is_same_node-requires : goal.are_same_nodes-is_same_node-requires
 are_same_nodes-is_same_node-requires t c =
@@ -69,8 +69,8 @@ are_same_nodes-is_same_node-requires t c =
 
 pub are_same_nodes-loop-one-preserved : goal.are_same_nodes-loop-one-preserved
 are_same_nodes-loop-one-preserved t c =
-    let f = λ (v : Value). node_of c.args.sides.left.now.prefer (view c.args.sides.left.now.tree) (view v) in
-    let g = λ (v : Value). node_of c.args.sides.right.now.prefer (view c.args.sides.right.now.tree) (view v) in
+    let f = λ (v : Value). node_of c.args.comparer.now.left.prefer (view c.args.comparer.now.left.tree) (view v) in
+    let g = λ (v : Value). node_of c.args.comparer.now.right.prefer (view c.args.comparer.now.right.tree) (view v) in
     let item = item_at c.args.ones.now.items c.deref-one-items.result.now c.loop-one.one-index c.one-item.result c.deref-one-items.ensures.value c.loop-one-test.true c.one-item.is in
     record {
       same = one_further f g c.args.ones.now.items c.loop-one.one-index c.one-item.result c.in-Some.other.now (iter_rest c.loop-one.rest) (iter_rest c.next.new.self)
@@ -82,8 +82,8 @@ are_same_nodes-loop-one-preserved t c =
 
 pub are_same_nodes-returns-then-not-is_same_node : goal.are_same_nodes-returns-then-not-is_same_node
 are_same_nodes-returns-then-not-is_same_node t c =
-    let f = λ (v : Value). node_of c.args.sides.left.now.prefer (view c.args.sides.left.now.tree) (view v) in
-    let g = λ (v : Value). node_of c.args.sides.right.now.prefer (view c.args.sides.right.now.tree) (view v) in
+    let f = λ (v : Value). node_of c.args.comparer.now.left.prefer (view c.args.comparer.now.left.tree) (view v) in
+    let g = λ (v : Value). node_of c.args.comparer.now.right.prefer (view c.args.comparer.now.right.tree) (view v) in
     let item = item_at c.args.ones.now.items c.deref-one-items.result.now c.loop-one.one-index c.one-item.result c.deref-one-items.ensures.value c.loop-one-test.true c.one-item.is in
     differ_here f g c.args.ones.now.items c.loop-one.one-index c.one-item.result c.in-Some.other.now (iter_rest c.loop-one.rest) (iter_rest c.next.new.self)
     (map f c.args.ones.now.items) (map g c.args.others.now) item.0 item.1 c.in-Some.ensures.steps
@@ -92,22 +92,22 @@ are_same_nodes-returns-then-not-is_same_node t c =
 
 pub is_same_node-returns-in-true-true : goal.is_same_node-returns-in-true-true
 is_same_node-returns-in-true-true t c =
-    decides_as refl (sym (node_header c.args.sides.left.now.prefer (view c.args.sides.left.now.tree) (view c.args.one.now) (ap is_header_class (sym c.class_of_node-class.ensures) ∙ sym c.in-true-true.ensures))) (sym (node_header c.args.sides.right.now.prefer (view c.args.sides.right.now.tree) (view c.args.other.now) (ap is_header_class (sym c.class_of_node-other_class.ensures) ∙ sym c.in-true-true.ensures')))
+    decides_as refl (sym (node_header c.args.comparer.now.left.prefer (view c.args.comparer.now.left.tree) (view c.args.one.now) (ap is_header_class (sym c.class_of_node-class.ensures) ∙ sym c.in-true-true.ensures))) (sym (node_header c.args.comparer.now.right.prefer (view c.args.comparer.now.right.tree) (view c.args.other.now) (ap is_header_class (sym c.class_of_node-other_class.ensures) ∙ sym c.in-true-true.ensures')))
     c.is_same_header.ensures
 
 pub is_same_node-returns-in-false-false : goal.is_same_node-returns-in-false-false
 is_same_node-returns-in-false-false t c =
-    decides_as refl (sym (node_contest c.args.sides.left.now.prefer (view c.args.sides.left.now.tree) (view c.args.one.now) (ap is_header_class (sym c.class_of_node-class.ensures) ∙ sym c.in-false-false.ensures))) (sym (node_contest c.args.sides.right.now.prefer (view c.args.sides.right.now.tree) (view c.args.other.now) (ap is_header_class (sym c.class_of_node-other_class.ensures) ∙ sym c.in-false-false.ensures')))
+    decides_as refl (sym (node_contest c.args.comparer.now.left.prefer (view c.args.comparer.now.left.tree) (view c.args.one.now) (ap is_header_class (sym c.class_of_node-class.ensures) ∙ sym c.in-false-false.ensures))) (sym (node_contest c.args.comparer.now.right.prefer (view c.args.comparer.now.right.tree) (view c.args.other.now) (ap is_header_class (sym c.class_of_node-other_class.ensures) ∙ sym c.in-false-false.ensures')))
     c.is_same_contest.ensures
 
 pub is_same_node-returns-in-true-false : goal.is_same_node-returns-in-true-false
 is_same_node-returns-in-true-false t c =
-    decides_as refl (sym (node_header c.args.sides.left.now.prefer (view c.args.sides.left.now.tree) (view c.args.one.now) (ap is_header_class (sym c.class_of_node-class.ensures) ∙ sym c.in-true-false.ensures))) (sym (node_contest c.args.sides.right.now.prefer (view c.args.sides.right.now.tree) (view c.args.other.now) (ap is_header_class (sym c.class_of_node-other_class.ensures) ∙ sym c.in-true-false.ensures')))
+    decides_as refl (sym (node_header c.args.comparer.now.left.prefer (view c.args.comparer.now.left.tree) (view c.args.one.now) (ap is_header_class (sym c.class_of_node-class.ensures) ∙ sym c.in-true-false.ensures))) (sym (node_contest c.args.comparer.now.right.prefer (view c.args.comparer.now.right.tree) (view c.args.other.now) (ap is_header_class (sym c.class_of_node-other_class.ensures) ∙ sym c.in-true-false.ensures')))
     header-contest
 
 pub is_same_node-returns-in-false-true : goal.is_same_node-returns-in-false-true
 is_same_node-returns-in-false-true t c =
-    decides_as refl (sym (node_contest c.args.sides.left.now.prefer (view c.args.sides.left.now.tree) (view c.args.one.now) (ap is_header_class (sym c.class_of_node-class.ensures) ∙ sym c.in-false-true.ensures))) (sym (node_header c.args.sides.right.now.prefer (view c.args.sides.right.now.tree) (view c.args.other.now) (ap is_header_class (sym c.class_of_node-other_class.ensures) ∙ sym c.in-false-true.ensures')))
+    decides_as refl (sym (node_contest c.args.comparer.now.left.prefer (view c.args.comparer.now.left.tree) (view c.args.one.now) (ap is_header_class (sym c.class_of_node-class.ensures) ∙ sym c.in-false-true.ensures))) (sym (node_header c.args.comparer.now.right.prefer (view c.args.comparer.now.right.tree) (view c.args.other.now) (ap is_header_class (sym c.class_of_node-other_class.ensures) ∙ sym c.in-false-true.ensures')))
     contest-header
 
 pub is_same_within-is_same_content-requires : goal.is_same_within-is_same_content-requires
@@ -125,38 +125,38 @@ is_same_within-is_same_content-requires t c =
 pub is_same_within-returns-in-Some-Some : goal.is_same_within-returns-in-Some-Some
 is_same_within-returns-in-Some-Some t c =
     decides_as refl
-    (sym (within_some c.args.sides.left.now.prefer (view c.args.sides.left.now.tree) (view c.args.one.now) (view c.in-Some-Some.one.now) (sym c.in-Some-Some.ensures)))
-    (sym (within_some c.args.sides.right.now.prefer (view c.args.sides.right.now.tree) (view c.args.other.now) (view c.in-Some-Some.other.now) (sym c.in-Some-Some.ensures')))
+    (sym (within_some c.args.comparer.now.left.prefer (view c.args.comparer.now.left.tree) (view c.args.one.now) (view c.in-Some-Some.one.now) (sym c.in-Some-Some.ensures)))
+    (sym (within_some c.args.comparer.now.right.prefer (view c.args.comparer.now.right.tree) (view c.args.other.now) (view c.in-Some-Some.other.now) (sym c.in-Some-Some.ensures')))
     c.is_same_content.ensures
 
 pub is_same_within-returns-in-Some-None : goal.is_same_within-returns-in-Some-None
 is_same_within-returns-in-Some-None t c =
     decides_as refl
-    (sym (within_some c.args.sides.left.now.prefer (view c.args.sides.left.now.tree) (view c.args.one.now) (view c.in-Some-None.one.now) (sym c.in-Some-None.ensures)))
-    (sym (within_none c.args.sides.right.now.prefer (view c.args.sides.right.now.tree) (view c.args.other.now) (sym c.in-Some-None.ensures')))
-    (decides_swap c.has_no_content.ensures)
+    (sym (within_some c.args.comparer.now.left.prefer (view c.args.comparer.now.left.tree) (view c.args.one.now) (view c.in-Some-None.one.now) (sym c.in-Some-None.ensures)))
+    (sym (within_none c.args.comparer.now.right.prefer (view c.args.comparer.now.right.tree) (view c.args.other.now) (sym c.in-Some-None.ensures')))
+    (decides_swap (c.has_no_content.ensures c.args.comparer.now.left.prefer (view c.args.comparer.now.left.tree)))
 
 pub is_same_within-returns-in-None-Some : goal.is_same_within-returns-in-None-Some
 is_same_within-returns-in-None-Some t c =
     decides_as refl
-    (sym (within_none c.args.sides.left.now.prefer (view c.args.sides.left.now.tree) (view c.args.one.now) (sym c.in-None-Some.ensures)))
-    (sym (within_some c.args.sides.right.now.prefer (view c.args.sides.right.now.tree) (view c.args.other.now) (view c.in-None-Some.other.now) (sym c.in-None-Some.ensures')))
-    c.has_no_content-in-None-Some.ensures
+    (sym (within_none c.args.comparer.now.left.prefer (view c.args.comparer.now.left.tree) (view c.args.one.now) (sym c.in-None-Some.ensures)))
+    (sym (within_some c.args.comparer.now.right.prefer (view c.args.comparer.now.right.tree) (view c.args.other.now) (view c.in-None-Some.other.now) (sym c.in-None-Some.ensures')))
+    (c.has_no_content-in-None-Some.ensures c.args.comparer.now.right.prefer (view c.args.comparer.now.right.tree))
 
 pub is_same_within-returns-in-None-None : goal.is_same_within-returns-in-None-None
 is_same_within-returns-in-None-None t c = (
-  λ h. within_none c.args.sides.left.now.prefer (view c.args.sides.left.now.tree) (view c.args.one.now) (sym c.in-None-None.ensures) ∙ sym (within_none c.args.sides.right.now.prefer (view c.args.sides.right.now.tree) (view c.args.other.now) (sym c.in-None-None.ensures')),
+  λ h. within_none c.args.comparer.now.left.prefer (view c.args.comparer.now.left.tree) (view c.args.one.now) (sym c.in-None-None.ensures) ∙ sym (within_none c.args.comparer.now.right.prefer (view c.args.comparer.now.right.tree) (view c.args.other.now) (sym c.in-None-None.ensures')),
   λ h. refl,
 )
 
 pub is_same_header-returns-then-is_same_carried : goal.is_same_header-returns-then-is_same_carried
 is_same_header-returns-then-is_same_carried t c =
-    let left = view c.args.sides.left.now.tree in
-    let right = view c.args.sides.right.now.tree in
+    let left = view c.args.comparer.now.left.tree in
+    let right = view c.args.comparer.now.right.tree in
     let d = view c.args.one.now in
     let e = view c.args.other.now in
-    let k = key_named c.args.sides.left.now.prefer left family.Header (text_at (codes "HeaderId") d) in
-    let l = key_named c.args.sides.right.now.prefer right family.Header (text_at (codes "HeaderId") e) in
+    let k = key_named c.args.comparer.now.left.prefer left family.Header (text_at (codes "HeaderId") d) in
+    let l = key_named c.args.comparer.now.right.prefer right family.Header (text_at (codes "HeaderId") e) in
     let m = carried_members (class_of_node d) d in
     let n = carried_members (class_of_node e) e in
     let both : (k ≡ l) × (m ≡ n) =
@@ -164,6 +164,6 @@ is_same_header-returns-then-is_same_carried t c =
       | is_same_header-then-is_same_owner w ↦ (c.is_same_owner.ensures.0 w.if-is_same_owner.true, ap (λ x. carried_members x d) (sym c.requires.class) ∙ (w.is_same_carried.ensures.0 (sym w.value-is ∙ c.if-is_same_carried.true) ∙ ap (λ x. carried_members x e) c.requires.other_class))
       | is_same_header-else-is_same_owner w ↦ absurd (true≢false (sym c.if-is_same_carried.true ∙ (w.value-is ∙ w.if-is_same_owner.false)))
     ] in
-    header-Decides c.is_same_within.result k l (content_within c.args.sides.left.now.prefer left d) (content_within c.args.sides.right.now.prefer right e) m n
+    header-Decides c.is_same_within.result k l (content_within c.args.comparer.now.left.prefer left d) (content_within c.args.comparer.now.right.prefer right e) m n
     (λ h. (both.0, both.1, c.is_same_within.ensures.0 h))
     (λ a b s. c.is_same_within.ensures.1 s)

@@ -12,10 +12,10 @@ abbrev pub invariant-are_same_nodes-loop-one : goal.invariant-are_same_nodes-loo
 invariant-are_same_nodes-loop-one l = record {
   same :
       AreSameIfLeft
-      (map (λ v. node_of l.sides.left.now.prefer (view l.sides.left.now.tree) (view v)) l.ones.items)
-      (map (λ v. node_of l.sides.right.now.prefer (view l.sides.right.now.tree) (view v)) l.others)
-      (map (λ v. node_of l.sides.left.now.prefer (view l.sides.left.now.tree) (view v)) (drop l.one-index l.ones.items))
-      (map (λ v. node_of l.sides.right.now.prefer (view l.sides.right.now.tree) (view v)) (iter_rest l.rest));
+      (map (λ v. node_of l.comparer.left.prefer (view l.comparer.left.tree) (view v)) l.ones.items)
+      (map (λ v. node_of l.comparer.right.prefer (view l.comparer.right.tree) (view v)) l.others)
+      (map (λ v. node_of l.comparer.left.prefer (view l.comparer.left.tree) (view v)) (drop l.one-index l.ones.items))
+      (map (λ v. node_of l.comparer.right.prefer (view l.comparer.right.tree) (view v)) (iter_rest l.rest));
   whole : AllByRecursion (λ v. IsWholeTree (view v)) (iter_rest l.rest);
 }
 

@@ -9,7 +9,7 @@ use Rattle.erd_compare.proofs.values.content.are_same_names.Given as goal
 abbrev pub invariant-loop-one : goal.invariant-loop-one
 invariant-loop-one l =
     AreSameIfLeft
-    (map (λ v. option_and_then (name_named l.sides.left.now.prefer (view l.sides.left.now.tree)) (as_str (view v))) l.ones)
-    (map (λ v. option_and_then (name_named l.sides.right.now.prefer (view l.sides.right.now.tree)) (as_str (view v))) l.others)
-    (map (λ v. option_and_then (name_named l.sides.left.now.prefer (view l.sides.left.now.tree)) (as_str (view v))) (drop l.one-index l.ones))
-    (map (λ v. option_and_then (name_named l.sides.right.now.prefer (view l.sides.right.now.tree)) (as_str (view v))) (iter_rest l.rest))
+    (map (λ v. option_and_then (name_named l.comparer.left.prefer (view l.comparer.left.tree)) (as_str (view v))) l.ones)
+    (map (λ v. option_and_then (name_named l.comparer.right.prefer (view l.comparer.right.tree)) (as_str (view v))) l.others)
+    (map (λ v. option_and_then (name_named l.comparer.left.prefer (view l.comparer.left.tree)) (as_str (view v))) (drop l.one-index l.ones))
+    (map (λ v. option_and_then (name_named l.comparer.right.prefer (view l.comparer.right.tree)) (as_str (view v))) (iter_rest l.rest))

@@ -25,12 +25,12 @@ names_at π t d vs is = sym (map-map (name_in π t) view vs) ∙ ap (map (name_i
 
 pub returns-then-is_same_carried : goal.returns-then-is_same_carried
 returns-then-is_same_carried c =
-    let t = view c.args.sides.left.now.tree in
-    let u = view c.args.sides.right.now.tree in
+    let t = view c.args.comparer.now.left.tree in
+    let u = view c.args.comparer.now.right.tree in
     let d = view c.args.one.now in
     let e = view c.args.other.now in
-    let k = key_named c.args.sides.left.now.prefer t family.Contest (text_at (codes "ContestId") d) in
-    let l = key_named c.args.sides.right.now.prefer u family.Contest (text_at (codes "ContestId") e) in
+    let k = key_named c.args.comparer.now.left.prefer t family.Contest (text_at (codes "ContestId") d) in
+    let l = key_named c.args.comparer.now.right.prefer u family.Contest (text_at (codes "ContestId") e) in
     let m = carried_members (class_of_node d) d in
     let n = carried_members (class_of_node e) e in
     let both : (k ≡ l) × (m ≡ n) =
@@ -38,7 +38,7 @@ returns-then-is_same_carried c =
       | then-is_same_owner w ↦ (c.is_same_owner.ensures.0 w.if-is_same_owner.true, ap (λ x. carried_members x d) (sym c.requires.class) ∙ (w.is_same_carried.ensures.0 (sym w.value-is ∙ c.if-is_same_carried.true) ∙ ap (λ x. carried_members x e) c.requires.other_class))
       | else-is_same_owner w ↦ absurd (true≢false (sym c.if-is_same_carried.true ∙ (w.value-is ∙ w.if-is_same_owner.false)))
     ] in
-    let names = decides_as refl (names_at c.args.sides.left.now.prefer t d c.entries_at.result.now c.entries_at.ensures) (names_at c.args.sides.right.now.prefer u e c.entries_at-then-is_same_carried.result.now c.entries_at-then-is_same_carried.ensures) c.are_same_names.ensures in
-    contest-Decides c.are_same_names.result k l (map (name_in c.args.sides.left.now.prefer t) (entries_at (codes "OrderedContestSelectionIds") d)) (map (name_in c.args.sides.right.now.prefer u) (entries_at (codes "OrderedContestSelectionIds") e)) m n
+    let names = decides_as refl (names_at c.args.comparer.now.left.prefer t d c.entries_at.result.now c.entries_at.ensures) (names_at c.args.comparer.now.right.prefer u e c.entries_at-then-is_same_carried.result.now c.entries_at-then-is_same_carried.ensures) c.are_same_names.ensures in
+    contest-Decides c.are_same_names.result k l (map (name_in c.args.comparer.now.left.prefer t) (entries_at (codes "OrderedContestSelectionIds") d)) (map (name_in c.args.comparer.now.right.prefer u) (entries_at (codes "OrderedContestSelectionIds") e)) m n
     (λ h. (both.0, both.1, names.0 h))
     (λ a b s. names.1 s)

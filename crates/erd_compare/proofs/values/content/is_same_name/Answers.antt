@@ -10,8 +10,8 @@ use Rattle.erd_compare.proofs.values.content.is_same_name.Goals as goal
 
 pub returns : goal.returns
 returns c =
-    let a = c.args.sides.left.now in
-    let b = c.args.sides.right.now in
+    let a = c.args.comparer.now.left in
+    let b = c.args.comparer.now.right in
     let one = as_str (view c.args.one.now) in
     let other = as_str (view c.args.other.now) in
     decides_as (c.eq.ensures ∙ ap₂ (option_eq ◌==◌) c.number_of_name_named.ensures c.number_of_name_named-2.ensures) refl refl

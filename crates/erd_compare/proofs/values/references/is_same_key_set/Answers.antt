@@ -1,18 +1,22 @@
-use Rattle.std.proofs.Common.{map, sym, subst}
+use Rattle.std.proofs.Common.{ℕ, List, map, sym, subst, ◌∙◌}
 use Rattle.serde_json.specs.View.{view}
 use Rattle.erd_tables.specs.declared.class.Role.TheVariants.{OfFamily}
 use Rattle.erd_meaning.specs.SelectionNames.{keys_named}
 use Rattle.erd_compare.specs.code.Comparing.{Decides}
+use Rattle.erd_compare.specs.code.RankedSides.{IsRankSet}
 use Rattle.erd_compare.specs.declared.ranks.side.Side.TheVariants.{Left, Right}
-use Rattle.erd_compare.proofs.same_ranks.RankSets.{each_decide, named_known, sets_decide}
+use Rattle.erd_compare.proofs.same_ranks.RankSets.{each_decide, named_known, ranks_of_keys, sets_decide}
 use Rattle.erd_compare.proofs.values.references.is_same_key_set.Goals as goal
 
 pub returns : goal.returns
 returns c =
-    let a = c.args.sides.left.now in
-    let b = c.args.sides.right.now in
-    let ds = map view c.args.ones.now in
-    let es = map view c.args.others.now in
-    sets_decide a b (OfFamily c.args.family) (keys_named a.prefer (view a.tree) c.args.family ds) (keys_named b.prefer (view b.tree) c.args.family es)
-    (named_known a b Left c.args.family c.requires.keyed ds) (named_known a b Right c.args.family c.requires.keyed es) c.in_ok-ones.ones.items c.in_ok-others.others.items c.eq.result c.in_ok-ones.ensures c.in_ok-others.ensures
-    (subst (λ answer. Decides answer c.in_ok-ones.ones.items c.in_ok-others.others.items) (sym c.eq.ensures) (each_decide c.in_ok-ones.ones.items c.in_ok-others.others.items))
+    let a = c.args.comparer.now.left in
+    let b = c.args.comparer.now.right in
+    let f = c.args.family in
+    let s = c.set_of-ones.result.items in
+    let t = c.set_of-others.result.items in
+    sets_decide a b (OfFamily f) (keys_named a.prefer (view a.tree) f (map view c.args.ones.now)) (keys_named b.prefer (view b.tree) f (map view c.args.others.now))
+    (named_known a b Left f c.requires.keyed (map view c.args.ones.now)) (named_known a b Right f c.requires.keyed (map view c.args.others.now)) s t c.eq.result
+    (subst (λ (ns : List ℕ). IsRankSet ns s) (c.in_ok-ranks_named.ensures ∙ ranks_of_keys a b Left f c.args.ones.now) c.set_of-ones.ensures)
+    (subst (λ (ns : List ℕ). IsRankSet ns t) (c.in_ok-ranks_named-2.ensures ∙ ranks_of_keys a b Right f c.args.others.now) c.set_of-others.ensures)
+    (subst (λ answer. Decides answer s t) (sym c.eq.ensures) (each_decide s t))

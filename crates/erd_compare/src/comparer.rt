@@ -1,0 +1,144 @@
+//! The two reports that are compared, and what they have in common.
+ghost use Rattle.std.specs.Prelude.{◌≡◌, true, option_and_then, option_map, slice_get};
+ghost use Rattle.serde_json.specs.View.{view};
+ghost use Rattle.erd_tables.specs.declared.class.Family.TheVariants as family;
+ghost use Rattle.erd_tables.specs.declared.class.Role.TheVariants.{Election};
+ghost use Rattle.erd_meaning.specs.Objects.{IsBounded, objects};
+ghost use Rattle.erd_compare.specs.code.CommonNames.{AreNameNumbers, number_of_selection};
+ghost use Rattle.erd_compare.specs.code.CommonRanks.{AreAllCommonRanks, AreCommonRanks, rank_of_key};
+ghost use Rattle.erd_compare.specs.code.KeyedDifferences.{IsComparable, holder_key_in, is_ranked, key_in_role};
+ghost use Rattle.erd_compare.specs.code.RankedSides.{AreCommonByRank, on_side};
+
+use crate::ranks::common_ranks::CommonRanks;
+use crate::ranks::name_numbers::NameNumbers;
+use crate::ranks::role_objects::{election_of, rank_at};
+use crate::ranks::side::Side;
+use erd_meaning::Report;
+use erd_tables::Role;
+use std::alloc::Global;
+use std::marker::Model;
+
+/// Compares two reports, by the ranks of their keys and the numbers of the names of their selections. Contracts see the two
+/// reports. Elsewhere, `one` and `ones` belong to the left report, and `other` and `others` to the right report.
+#[derive(Drop)]
+pub(crate) struct Comparer<'a> {
+    pub(crate) alloc: Global,
+    left: &'a Report<'a>,
+    right: &'a Report<'a>,
+    ranks: &'a CommonRanks,
+    names: &'a NameNumbers,
+}
+
+impl<'a> Model for Comparer<'a> {
+    ghost use Rattle.std.specs.Coded.{codes};
+    ghost use Rattle.serde_json.specs.contracts.value.Value as tree_value;
+    ghost use Rattle.erd_compare.specs.code.Compared.{AreInCommon, Compared};
+
+    ghost Value = { Compared };
+
+    ghost coded = { Prim.hlevel (codes, tree_value.the_row.coded) };
+
+    ghost view = { λ c. record {
+      left = c.left.now;
+      right = c.right.now;
+    } };
+
+    ghost invariant = { λ c. AreInCommon c.left.now c.right.now c.ranks.now c.names.now };
+}
+
+impl<'a> Comparer<'a> {
+    /// Returns a comparer of two reports, which have these ranks and numbers in common.
+    pub(crate) fn of(
+        alloc: Global,
+        left: &'a Report<'a>,
+        right: &'a Report<'a>,
+        ranks: &'a CommonRanks,
+        names: &'a NameNumbers,
+    ) -> Comparer<'a>
+        requires left { IsComparable left.now.prefer (view left.now.tree) }
+        requires right { IsComparable right.now.prefer (view right.now.tree) }
+        requires ranks { AreAllCommonRanks left.now right.now ranks.now }
+        requires by_rank { AreCommonByRank left.now right.now ranks.now }
+        requires names { AreNameNumbers left.now right.now names.now }
+        ensures left { result.left ≡ left.now }
+        ensures right { result.right ≡ right.now }
+    {
+        Comparer {
+            alloc,
+            left,
+            right,
+            ranks,
+            names,
+        }
+    }
+
+    /// Returns the left report.
+    pub(crate) fn left(&self) -> &'a Report<'a>
+        ensures same { result.now ≡ self.now.left }
+        ensures comparable { IsComparable self.now.left.prefer (view self.now.left.tree) }
+    {
+        self.left
+    }
+
+    /// Returns the right report.
+    pub(crate) fn right(&self) -> &'a Report<'a>
+        ensures same { result.now ≡ self.now.right }
+        ensures comparable { IsComparable self.now.right.prefer (view self.now.right.tree) }
+    {
+        self.right
+    }
+
+    /// Returns the report on a side.
+    pub(crate) fn on(&self, side: Side) -> &'a Report<'a>
+        ensures same { result.now ≡ on_side side self.now.left self.now.right }
+        ensures bounded { IsBounded (view (on_side side self.now.left self.now.right).tree) }
+    {
+        match side {
+            Side::Left => self.left,
+            Side::Right => self.right,
+        }
+    }
+
+    /// Returns the common ranks of the keys of the right report with a role, in the rising order of these keys.
+    pub(crate) fn common_ranks(&self, role: Role) -> &'a [usize]
+        requires ranked { is_ranked role ≡ true }
+        ensures { AreCommonRanks self.now.left self.now.right role result.now }
+    {
+        self.ranks.of(role)
+    }
+
+    /// Returns the common rank of the key of the object with a role at a position, if it has a key.
+    pub(crate) fn rank_at(&self, side: Side, role: Role, position: usize) -> Option<usize>
+        requires ranked { is_ranked role ≡ true }
+        ensures { result ≡ option_map (rank_of_key self.now.left self.now.right role)
+            (key_in_role (on_side side self.now.left self.now.right).prefer role (view (on_side side self.now.left self.now.right).tree) position) }
+    {
+        let rank = rank_at(self.on(side), role, position)?;
+        self.ranks.common_rank(side, role, rank)
+    }
+
+    /// Returns the common rank of the key of the election that holds the object with a role at a position, if there is one
+    /// with a key.
+    pub(crate) fn holder_rank(&self, side: Side, role: Role, position: usize) -> Option<usize>
+        ensures { result ≡ option_map (rank_of_key self.now.left self.now.right Election)
+            (holder_key_in (on_side side self.now.left self.now.right).prefer role (view (on_side side self.now.left self.now.right).tree) position) }
+    {
+        let election = election_of(self.on(side), role, position)?;
+        self.rank_at(side, Role::Election, election)
+    }
+
+    /// Returns the number of the name of the selection at a position, if there is such a selection and it has a name.
+    pub(crate) fn name_number_at(&self, side: Side, position: usize) -> Option<usize>
+        ensures { result ≡ option_and_then (λ o. number_of_selection self.now.left self.now.right side o.value)
+            (slice_get (objects family.Selection (view (on_side side self.now.left self.now.right).tree)) position) }
+    {
+        let numbers = match side {
+            Side::Left => &self.names.left,
+            Side::Right => &self.names.right,
+        };
+        match numbers.get(position) {
+            Some(number) => *number,
+            None => None,
+        }
+    }
+}
