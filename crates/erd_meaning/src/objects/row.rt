@@ -21,13 +21,15 @@ pub struct Row {
 }
 
 impl Row {
-    /// Returns the row for an array of so many references, before the first of them.
+    /// Returns the row for an array of so many references, before the first of them. With no reference there is no row, and
+    /// nothing is looked at first.
     ///
     /// ```
     /// let mut row = Row::of(1);
     /// ```
     pub fn of(count: usize) -> Row {
-        Row { next: 0, count }
+        let next = if count == 0 { usize::MAX } else { 0 };
+        Row { next, count }
     }
 }
 
