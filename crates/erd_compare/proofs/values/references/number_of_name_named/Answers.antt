@@ -14,7 +14,7 @@ returns-in_err-found c =
     let b = c.args.comparer.now.right in
     let j = on_side c.args.side a b in
     c.from_residual-in_err-found.ensures
-    ∙ (name_nowhere a b c.args.side c.in_ok-id.id.now (subst (λ (x : Judged). FindsId (view x.tree) c.in_ok-id.id.now None) c.on.ensures.same c.in_err-found.ensures)
+    ∙ (name_nowhere a b c.args.side c.in_ok-id.id.now (subst (λ (x : Judged). FindsId (view x.tree) c.in_ok-id.id.now None) c.on-report.ensures.same c.in_err-found.ensures)
     ∙ ap (λ o. option_map (number_of_name a b) (option_and_then (name_named j.prefer (view j.tree)) o)) c.in_ok-id.ensures)
 
 pub returns-then-is_same_family : goal.returns-then-is_same_family
@@ -23,7 +23,7 @@ returns-then-is_same_family c =
     let b = c.args.comparer.now.right in
     let j = on_side c.args.side a b in
     c.name_number_at.ensures
-    ∙ (name_here a b c.args.side c.in_ok-id.id.now c.in_ok-found.found c.in_ok-found.position (subst (λ (x : Judged). FindsId (view x.tree) c.in_ok-id.id.now (Some (c.in_ok-found.found, c.in_ok-found.position))) c.on.ensures.same c.in_ok-found.ensures)
+    ∙ (name_here a b c.args.side c.in_ok-id.id.now c.in_ok-found.found c.in_ok-found.position (subst (λ (x : Judged). FindsId (view x.tree) c.in_ok-id.id.now (Some (c.in_ok-found.found, c.in_ok-found.position))) c.on-report.ensures.same c.in_ok-found.ensures)
     (sym c.is_same_family.ensures ∙ c.if-is_same_family.true)
     ∙ ap (λ o. option_map (number_of_name a b) (option_and_then (name_named j.prefer (view j.tree)) o)) c.in_ok-id.ensures)
 
@@ -32,6 +32,6 @@ returns-else-is_same_family c =
     let a = c.args.comparer.now.left in
     let b = c.args.comparer.now.right in
     let j = on_side c.args.side a b in
-    name_elsewhere a b c.args.side c.in_ok-id.id.now c.in_ok-found.found c.in_ok-found.position (subst (λ (x : Judged). FindsId (view x.tree) c.in_ok-id.id.now (Some (c.in_ok-found.found, c.in_ok-found.position))) c.on.ensures.same c.in_ok-found.ensures)
+    name_elsewhere a b c.args.side c.in_ok-id.id.now c.in_ok-found.found c.in_ok-found.position (subst (λ (x : Judged). FindsId (view x.tree) c.in_ok-id.id.now (Some (c.in_ok-found.found, c.in_ok-found.position))) c.on-report.ensures.same c.in_ok-found.ensures)
     (sym c.is_same_family.ensures ∙ c.if-is_same_family.false)
     ∙ ap (λ o. option_map (number_of_name a b) (option_and_then (name_named j.prefer (view j.tree)) o)) c.in_ok-id.ensures
