@@ -12,5 +12,6 @@ pub mod HeldDifferences  -- objects: how two objects differ with the keys of the
 pub mod KeyedDifferences  -- the first difference: the least key at which two reports differ in a part
 pub mod CommonRanks  -- ranks: which rank stands for a key of either report
 pub mod RankedSides  -- ranks: the ranks of keys on either side
+pub mod RisingParts  -- the first difference: what two reports have in a part, in the rising order of keys
 pub mod Compared  -- the two reports, and what the code knows of them
 pub mod PlacedObjects  -- objects: where they stand in their reports

@@ -1,5 +1,5 @@
 -- The rising keys of two reports in a part, walked in step by rank.
-use Rattle.std.proofs.Common.{◌≡◌, ◌+◌, ◌<◌, ℕ, List, ◌∷◌, drop, length, Option, Some, None, option_map, Bor, slice_get, sym, ap, ◌∙◌, subst}
+use Rattle.std.proofs.Common.{◌≡◌, ◌+◌, ◌<◌, ℕ, List, ◌∷◌, drop, length, Option, Some, None, option_map, Bor, slice_get, sym, ap, ap₂, ◌∙◌, subst}
 use Rattle.std.specs.Option.{option_copied}
 use Rattle.std.proofs.lemmas.List.{length-map}
 use Rattle.std.proofs.lemmas.Option.{slice_get-map, slice_get_within}
@@ -13,17 +13,18 @@ use Rattle.erd_meaning.specs.code.KeyOrders.{rising_positions}
 use Rattle.erd_meaning.specs.declared.keys.key.Key.{Key}
 use Rattle.erd_meaning.proofs.selections.PositionedKeys.{KeyPosition}
 use Rattle.erd_compare.specs.Differences.{record_at}
-use Rattle.erd_compare.specs.code.CommonRanks.{AreCommonRanks}
 use Rattle.erd_compare.specs.code.Comparing.{DifferAtKey}
-use Rattle.erd_compare.specs.code.KeyedDifferences.{IsComparable, TellsAtPositions, TellsLeast, TellsNext, key_in_role, keys_in_role, rising_in_role, role_of_part, shared_at}
+use Rattle.erd_compare.specs.code.KeyedDifferences.{TellsAtPositions, TellsLeast, TellsNext, key_in_role, keys_in_role, rising_in_role, role_of_part, shared_at}
+use Rattle.erd_compare.specs.code.RisingParts.{AreRising}
 use Rattle.erd_compare.specs.declared.difference.How.{How}
 use Rattle.erd_compare.specs.declared.difference.Part.{Part}
 use Rattle.erd_compare.specs.declared.first.tables.KeyedDifference.{KeyedDifference}
+use Rattle.erd_compare.specs.declared.first.tables.Rising.{Rising}
 use Rattle.erd_compare.proofs.least_difference.KeyWalks.{AreLeft, both_differ, both_heads, both_same, part_ranked, told_next}
 use Rattle.erd_compare.proofs.least_difference.RisingKeys.{entries, entry_keys, key_there}
 use Rattle.erd_compare.proofs.least_difference.SharedRanks.{HaveShared, found_shared, none_found}
 
-module _ (a b : Judged) (p : Part) (c : IsComparable a.prefer (view a.tree)) (d : IsComparable b.prefer (view b.tree)) (ranks : List ℕ) (are : AreCommonRanks a b (role_of_part p) ranks) where
+module _ (a b : Judged) (p : Part) (rising : Rising) (h : AreRising a b p rising) where
   abbrev role : Role
   role = role_of_part p
 
@@ -39,14 +40,10 @@ module _ (a b : Judged) (p : Part) (c : IsComparable a.prefer (view a.tree)) (d 
 
   -- the positions that both have at a rank
   abbrev pub shared_here : ℕ → Option (ℕ × ℕ)
-  shared_here n = shared_at (rising_positions (keys_in_role a.prefer (view a.tree) role)) (rising_positions (keys_in_role b.prefer (view b.tree) role)) ranks n
+  shared_here n = shared_at rising.ones.now rising.others.now rising.common.now n
 
-  -- what the code has of the positions is that
-  pub as_shared : (xs ys : List ℕ) (n : ℕ) (o : Option (ℕ × ℕ)) → xs ≡ rising_positions (keys_in_role a.prefer (view a.tree) role) → ys ≡ rising_positions (keys_in_role b.prefer (view b.tree) role) → o ≡ shared_at xs ys ranks n
-      → shared_here n ≡ o
-  as_shared xs ys n o left right is = sym (is
-      ∙ (ap (λ ks. shared_at ks ys ranks n) left
-      ∙ ap (λ ks. shared_at (rising_positions (keys_in_role a.prefer (view a.tree) role)) ks ranks n) right))
+  exact : (n : ℕ) (o : Option (ℕ × ℕ)) → shared_here n ≡ o → shared_at (rising_positions (keys_in_role a.prefer (view a.tree) role)) (rising_positions (keys_in_role b.prefer (view b.tree) role)) rising.common.now n ≡ o
+  exact n o is = ap₂ (λ xs ys. shared_at xs ys rising.common.now n) (sym h.ones) (sym h.others) ∙ is
 
   -- the least key of the part at which the reports differ
   abbrev pub IsLeast : Option KeyedDifference → Type 0
@@ -54,11 +51,11 @@ module _ (a b : Judged) (p : Part) (c : IsComparable a.prefer (view a.tree)) (d 
 
   module _ (n : ℕ) (left : IsLeft n) where
     module _ (i j : ℕ) (is : shared_here n ≡ Some (i, j)) where
-      both : HaveShared a b role c (part_ranked p) ranks are n i j
-      both = found_shared a b role c (part_ranked p) ranks are n i j is
+      both : HaveShared a b role h.left (part_ranked p) rising.common.now h.common n i j
+      both = found_shared a b role h.left (part_ranked p) rising.common.now h.common n i j (exact n (Some (i, j)) is)
 
       heads : AreLeft a.prefer b.prefer (view a.tree) (view b.tree) p (both.one ∷ drop (n + 1) ones) (both.other ∷ drop (n + 1) others)
-      heads = both_heads a.prefer b.prefer (view a.tree) (view b.tree) p c d ones others n both.one both.other both.here both.there left
+      heads = both_heads a.prefer b.prefer (view a.tree) (view b.tree) p h.left h.right ones others n both.one both.other both.here both.there left
 
       told_there : (how : Option How) → TellsAtPositions a.prefer b.prefer (view a.tree) (view b.tree) p i j how → TellsAtPositions a.prefer b.prefer (view a.tree) (view b.tree) p both.one.1 both.other.1 how
       told_there how told =
@@ -67,7 +64,7 @@ module _ (a b : Judged) (p : Part) (c : IsComparable a.prefer (view a.tree)) (d 
 
       -- the objects there mean the same
       pub same_there : TellsAtPositions a.prefer b.prefer (view a.tree) (view b.tree) p i j None → IsLeft (n + 1)
-      same_there told = both_same a.prefer b.prefer (view a.tree) (view b.tree) p c d both.one both.other (drop (n + 1) ones) (drop (n + 1) others) heads both.same (told_there None told)
+      same_there told = both_same a.prefer b.prefer (view a.tree) (view b.tree) p h.left h.right both.one both.other (drop (n + 1) ones) (drop (n + 1) others) heads both.same (told_there None told)
 
       -- they differ
       pub differ_there : (how : How) → TellsAtPositions a.prefer b.prefer (view a.tree) (view b.tree) p i j (Some how) → (k : Option (Bor Key)) → option_copied k ≡ key_in_role a.prefer role (view a.tree) i
@@ -75,11 +72,11 @@ module _ (a b : Judged) (p : Part) (c : IsComparable a.prefer (view a.tree)) (d 
       differ_there how told k key =
           let its : option_copied k ≡ both.one.0 = key ∙ (ap (key_in_role a.prefer role (view a.tree)) (sym both.first) ∙ key_there a.prefer (view a.tree) role (part_ranked p) n both.one both.here) in
           subst (λ x. DifferAtKey (record_at (meaning a.prefer (view a.tree)) p) (record_at (meaning b.prefer (view b.tree)) p) x how) (sym its)
-          (both_differ a.prefer b.prefer (view a.tree) (view b.tree) p c d both.one both.other (drop (n + 1) ones) (drop (n + 1) others) heads both.same how (told_there (Some how) told))
+          (both_differ a.prefer b.prefer (view a.tree) (view b.tree) p h.left h.right both.one both.other (drop (n + 1) ones) (drop (n + 1) others) heads both.same how (told_there (Some how) told))
 
       -- the rank is below the number of keys
-      pub low_there : n < length (rising_positions (keys_in_role a.prefer (view a.tree) role))
-      low_there = subst (λ m. n < m) (sym (length-map ones (λ (e : KeyPosition). e.1))) (slice_get_within ones n both.one both.here)
+      pub low_there : n < length rising.ones.now
+      low_there = subst (λ m. n < m) (sym (ap length h.ones ∙ length-map ones (λ (e : KeyPosition). e.1))) (slice_get_within ones n both.one both.here)
 
     key_at : (π : Preference) (t : Data) → slice_get (rising_in_role π t role) n ≡ option_map (λ e. e.0) (slice_get (entries π t role) n)
     key_at π t = ap (λ ks. slice_get ks n) (sym (entry_keys π t role)) ∙ slice_get-map (λ (e : KeyPosition). e.0) (entries π t role) n
@@ -88,6 +85,6 @@ module _ (a b : Judged) (p : Part) (c : IsComparable a.prefer (view a.tree)) (d 
     pub none_there : shared_here n ≡ None → (x : Option KeyedDifference)
         → TellsNext (slice_get (rising_in_role a.prefer (view a.tree) role) n) (slice_get (rising_in_role b.prefer (view b.tree) role) n) x → IsLeast x
     none_there is x told =
-        told_next a.prefer b.prefer (view a.tree) (view b.tree) p c d ones others n x left (none_found a b role c (part_ranked p) ranks are n is)
+        told_next a.prefer b.prefer (view a.tree) (view b.tree) p h.left h.right ones others n x left (none_found a b role h.left (part_ranked p) rising.common.now h.common n (exact n None is))
         (subst (λ o. TellsNext o (option_map (λ e. e.0) (slice_get others n)) x) (key_at a.prefer (view a.tree))
         (subst (λ o. TellsNext (slice_get (rising_in_role a.prefer (view a.tree) role) n) o x) (key_at b.prefer (view b.tree)) told))

@@ -3,6 +3,7 @@ ghost use Rattle.std.specs.Option.{option_copied};
 ghost use Rattle.serde_json.specs.View.{view};
 ghost use Rattle.erd_meaning.specs.Records.{meaning};
 ghost use Rattle.erd_compare.specs.Differences.{record_at};
+ghost use Rattle.erd_compare.specs.code.RisingParts.{AreRising};
 ghost use Rattle.erd_compare.specs.code.KeyedDifferences.{TellsAtPositions, TellsLeast, TellsNext, is_ranked, rising_in_role, shared_at};
 ghost use Rattle.erd_compare.specs.declared.difference.How.TheVariants.{OnlyLeft, OnlyRight};
 
@@ -22,6 +23,15 @@ use std::cmp::Ordering;
 pub(crate) struct KeyedDifference<'a> {
     pub(crate) key: Option<&'a Key>,
     pub(crate) how: How,
+}
+
+/// The positions of the objects of two reports in a part, in the rising order of their keys, and the common ranks of the keys of
+/// the right report.
+#[derive(Clone, Copy)]
+pub(crate) struct Rising<'a> {
+    ones: &'a [usize],
+    others: &'a [usize],
+    common: &'a [usize],
 }
 
 impl<'a> KeyedDifference<'a> {
@@ -54,9 +64,11 @@ pub(crate) fn least_difference<'a>(
     ensures { IfOk result (TellsLeast (record_at (meaning comparer.now.left.prefer (view comparer.now.left.tree)) part) (record_at (meaning comparer.now.right.prefer (view comparer.now.right.tree)) part)) }
 {
     let role = role_of(part);
-    let ones = rising(comparer.left(), role);
-    let others = rising(comparer.right(), role);
-    let common = comparer.common_ranks(role);
+    let Rising {
+        ones,
+        others,
+        common,
+    } = rising_in(comparer, part);
     let mut rank = 0;
     while let Some((position, other_position)) = shared_at(ones, others, common, rank) {
         if let Some(how) = difference_at(comparer, part, position, other_position)? {
@@ -66,6 +78,18 @@ pub(crate) fn least_difference<'a>(
         rank += 1;
     }
     Ok(one_sided(comparer, role, rank))
+}
+
+/// Returns what both reports have of the objects in a part, in the rising order of their keys.
+fn rising_in<'a>(comparer: &'a Comparer, part: Part) -> Rising<'a>
+    ensures { AreRising comparer.now.left comparer.now.right part result }
+{
+    let role = role_of(part);
+    Rising {
+        ones: rising(comparer.left(), role),
+        others: rising(comparer.right(), role),
+        common: comparer.common_ranks(role),
+    }
 }
 
 /// Returns the positions of the objects of both reports at a rank, if they have the same key.

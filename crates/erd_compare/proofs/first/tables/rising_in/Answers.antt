@@ -1,0 +1,18 @@
+use Rattle.std.proofs.Common.{◌∙◌, ap₂, subst}
+use Rattle.serde_json.specs.View.{view}
+use Rattle.erd_meaning.specs.Judged.{Judged}
+use Rattle.erd_meaning.specs.code.KeyOrders.{rising_positions}
+use Rattle.erd_compare.specs.code.CommonRanks.{AreCommonRanks}
+use Rattle.erd_compare.specs.code.KeyedDifferences.{keys_in_role}
+use Rattle.erd_compare.proofs.first.tables.rising_in.Goals as goal
+
+pub returns : goal.returns
+returns c =
+    let same = c.role_of-role.ensures.role in
+    record {
+      left = c.left.ensures.comparable;
+      right = c.right.ensures.comparable;
+      ones = c.rising.ensures ∙ ap₂ (λ (j : Judged) r. rising_positions (keys_in_role j.prefer (view j.tree) r)) c.left.ensures.same same;
+      others = c.rising-2.ensures ∙ ap₂ (λ (j : Judged) r. rising_positions (keys_in_role j.prefer (view j.tree) r)) c.right.ensures.same same;
+      common = subst (λ r. AreCommonRanks c.args.comparer.now.left c.args.comparer.now.right r c.common_ranks.result.now) same c.common_ranks.ensures;
+    }
