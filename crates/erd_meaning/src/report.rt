@@ -321,12 +321,7 @@ impl<'a> Report<'a> {
     /// let mut row = Row::of(1);
     /// assert_eq!(rt; report.target_in_row(Family::Contest, &mut row, "k1"), Some((Family::Candidate, 0)));
     /// ```
-    pub fn target_in_row(
-        &self,
-        family: Family,
-        row: &mut Row,
-        id: &str,
-    ) -> Option<(Family, usize)>
+    pub fn target_in_row(&self, family: Family, row: &mut Row, id: &str) -> Option<(Family, usize)>
         ensures { FindsId (view self.now.tree) id.now result }
     {
         self.objects().position_in_row(family, row, id)

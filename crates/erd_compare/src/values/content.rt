@@ -179,8 +179,19 @@ fn is_same_owner(
     ensures { Decides result (key_named comparer.now.left.prefer (view comparer.now.left.tree) family (text_at name.now (view one.now)))
         (key_named comparer.now.right.prefer (view comparer.now.right.tree) family (text_at name.now (view other.now))) }
 {
-    rank_with_id(comparer, Side::Left, family, &mut Row::of(0), text_at(one, name))
-        == rank_with_id(comparer, Side::Right, family, &mut Row::of(0), text_at(other, name))
+    rank_with_id(
+        comparer,
+        Side::Left,
+        family,
+        &mut Row::of(0),
+        text_at(one, name),
+    ) == rank_with_id(
+        comparer,
+        Side::Right,
+        family,
+        &mut Row::of(0),
+        text_at(other, name),
+    )
 }
 
 /// Returns whether the class is that of a header in the contents of a ballot.

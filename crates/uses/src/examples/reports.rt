@@ -2,7 +2,10 @@
 use crate::report_of;
 use erd_check::{same_json, shape};
 use erd_compare::first_difference;
-use erd_meaning::{Key, NumberedName, PerFamily, Report, Row, SaltedSet, SelectionName, key_of, places_in, resolve, resolve_with};
+use erd_meaning::{
+    Key, NumberedName, PerFamily, Report, Row, SaltedSet, SelectionName, key_of, places_in,
+    resolve, resolve_with,
+};
 use erd_normal::{CompactText, SetOrder, in_order, normal_text, normal_tree};
 use erd_tables::{Family, Text};
 use serde_json::Value;
@@ -47,7 +50,10 @@ fn objects(rt: &impl Abort, report: &Report) {
     assert!(rt; report.object(Family::Candidate, 1).is_none());
     assert_eq!(rt; report.target("k1"), Some((Family::Candidate, 0)));
     let mut row = Row::of(1);
-    assert_eq!(rt; report.target_in_row(Family::Contest, &mut row, "k1"), Some((Family::Candidate, 0)));
+    assert_eq!(rt;
+        report.target_in_row(Family::Contest, &mut row, "k1"),
+        Some((Family::Candidate, 0))
+    );
     assert_eq!(rt; report.first_selection(0), 0);
 }
 

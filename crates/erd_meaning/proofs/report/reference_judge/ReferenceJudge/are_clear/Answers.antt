@@ -18,8 +18,8 @@ loop-item-preserved c ns placed differ =
     c.loop-item.invariant (n ∷ ns)
     (placed_left (map shown c.args.self.now.objects.now) (view c.args.object.now) c.args.family c.args.items.now c.loop-item.item-index c.item-item.result n ns c.loop-item-test.true c.item-item.is c.in-Some.ensures placed)
     (λ t. elim c.if-is_set.branch [
-      then-is_set+in_ok-push w ↦ subst (IsDistinct (λ a b. a == b)) (ap (λ (ms : List ℕ). ms ++ ns) (ap vec_items w.positions-is ∙ w.in_ok-push.ensures.items) ∙ append_assoc before (n ∷ []) ns) (differ t)
-    | else-is_set w ↦ absurd (true≢false (sym t ∙ w.if-is_set.false))
+      | then-is_set+in_ok-push w ↦ subst (IsDistinct (λ a b. a == b)) (ap (λ (ms : List ℕ). ms ++ ns) (ap vec_items w.positions-is ∙ w.in_ok-push.ensures.items) ∙ append_assoc before (n ∷ []) ns) (differ t)
+      | else-is_set w ↦ absurd (true≢false (sym t ∙ w.if-is_set.false))
     ])
 
 pub returns : goal.returns
