@@ -1,13 +1,13 @@
 -- Names of selections with numbers in place of their keys. Such names are compared in no more time if keys are long.
 use Rattle.std.specs.Prelude.{ℕ, List, [], ◌++◌}
 use Rattle.std.specs.Cmp.Lexicographic.{slice_cmp}
-use Rattle.std.specs.Hash.{HashWrites, str, slice, option, bool, i128, usize}
+use Rattle.std.specs.Hash.{HashWrites, str, slice, usize}
 use Rattle.std.specs.Ordering.{nat_cmp, ordering_then}
 use Rattle.std.specs.declared.cmp.Ordering.{Ordering}
 use Rattle.erd_tables.specs.Classes.{text_of_class}
 use Rattle.erd_meaning.specs.NameParts.{NameParts}
 use Rattle.erd_meaning.specs.SelectionNames.{class_cmp, name_cmp}
-use Rattle.erd_meaning.specs.Hashes.{key_writes}
+use Rattle.erd_meaning.specs.Hashes.{after_keys_writes}
 
 -- A name without keys, and a list of numbers.
 pub record NumberedParts : Type 0 where
@@ -30,6 +30,4 @@ numbered_name_cmp a b =
 
 -- What the hasher is given of such a name.
 abbrev pub numbered_name_writes : NumberedParts → HashWrites
-numbered_name_writes n =
-    str (text_of_class n.name.class)
-    ++ (slice usize n.numbers ++ (bool n.name.write_in ++ (option i128 n.name.order ++ (option str n.name.label ++ option key_writes n.name.identifier))))
+numbered_name_writes n = str (text_of_class n.name.class) ++ (slice usize n.numbers ++ after_keys_writes n.name)

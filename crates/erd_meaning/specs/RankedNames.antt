@@ -2,18 +2,16 @@
 -- keys. Names of one report are compared by these ranks in no more time if keys are long.
 use Rattle.std.specs.Prelude.{◌≡◌, ℕ, List, Option, Some, map, option_map}
 use Rattle.std.specs.Hash.{HashWrites}
-use Rattle.std.specs.Ordering.{nat_cmp, ordering_then}
 use Rattle.std.specs.declared.cmp.Ordering.{Ordering}
 use Rattle.serde_json.specs.Data.{Data}
 use Rattle.erd_tables.specs.declared.class.Class.{Class}
 use Rattle.erd_tables.specs.declared.class.Class.TheVariants as class
 use Rattle.erd_tables.specs.declared.class.Family.{Family}
 use Rattle.erd_tables.specs.declared.class.Family.TheVariants as family
-use Rattle.erd_meaning.specs.Hashes.{name_digest, name_writes}
 use Rattle.erd_meaning.specs.Keys.{Preference}
 use Rattle.erd_meaning.specs.Lookups.{rank_of, selection_in}
 use Rattle.erd_meaning.specs.NameParts.{NameParts}
-use Rattle.erd_meaning.specs.NumberedNames.{numbered_name_cmp, numbered_parts}
+use Rattle.erd_meaning.specs.NumberedNames.{numbered_name_cmp, numbered_name_writes, numbered_parts}
 
 -- The family of the objects that a selection of the class is for. Only candidates and parties have selections.
 abbrev pub family_chosen : Class → Family
@@ -43,10 +41,10 @@ pub record IsRankedIn (π : Preference) (t : Data) (r : RankedParts) : Type 0 wh
   pub index : ℕ
   pub is : ranked_selection_in π t index ≡ Some (contest, r)
 
--- These are compared by the numbers by which the names are hashed, then by the names with ranks in place of keys.
+-- These are compared as names are, with the ranks in place of the keys.
 abbrev pub ranked_name_cmp : RankedParts → RankedParts → Ordering
-ranked_name_cmp a b = ordering_then (nat_cmp (name_digest a.name) (name_digest b.name)) (numbered_name_cmp (numbered_parts a.name a.ranks) (numbered_parts b.name b.ranks))
+ranked_name_cmp a b = numbered_name_cmp (numbered_parts a.name a.ranks) (numbered_parts b.name b.ranks)
 
 -- What the hasher is given of such a name.
 abbrev pub ranked_name_writes : RankedParts → HashWrites
-ranked_name_writes r = name_writes r.name
+ranked_name_writes r = numbered_name_writes (numbered_parts r.name r.ranks)

@@ -382,7 +382,7 @@ impl<'a> Report<'a> {
             contest,
             name,
         };
-        indexes.names.get_index_of(&sought)
+        indexes.names.position(sought)
     }
 }
 

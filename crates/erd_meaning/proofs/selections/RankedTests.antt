@@ -1,25 +1,29 @@
 -- The tests by which an index of names with ranks is asked are those of the names.
-use Rattle.std.proofs.Common.{◌≡◌, ◌<◌, ◌≤◌, ◌==◌, ◌&&◌, ◌||◌, ◌+◌, ℕ, suc, drop, get_or, length, arith, List, [], ◌∷◌, ◌++◌, map, Bool, true, false, cond, Some, Ordering, Less, Equal, Greater, nat_cmp, is_eq, refl, sym, ap, ap₂, ◌∙◌, subst}
+use Rattle.std.proofs.Common.{◌≡◌, ◌<◌, ◌≤◌, ◌==◌, ◌&&◌, ◌||◌, ◌+◌, ℕ, suc, drop, get_or, length, arith, List, [], ◌∷◌, ◌++◌, map, Bool, true, false, cond, if◌then◌else◌, flat_map, Some, Ordering, Less, Equal, Greater, nat_cmp, is_eq, refl, sym, ap, ap₂, ◌∙◌, subst}
 use Rattle.std.proofs.lemmas.Bool.Decides.{Decides-eqb}
 use Rattle.std.proofs.lemmas.Cmp.{lists_total, nat_cmp_total, tied_itself}
-use Rattle.std.proofs.lemmas.List.{at_drop_all, at_drop_more}
+use Rattle.std.proofs.lemmas.List.{at_drop_all, at_drop_more, length-map}
 use Rattle.std.proofs.lemmas.Map.Lookups.{exact_unsigned}
 use Rattle.std.proofs.lemmas.Iterator.Adapters.{position_from-zero}
 use Rattle.std.specs.Cmp.{Equal-is}
+use Rattle.std.specs.Hash.{HashWrites, str, usize}
 use Rattle.std.specs.Cmp.Lexicographic.{slice_cmp}
 use Rattle.std.specs.List.{list_all, list_any, position, position_from}
 use Rattle.std.specs.Ordering.{eq_by_cmp, ordering_then}
 use Rattle.erd_check.proofs.Order.{In, In-all}
+use Rattle.erd_check.proofs.Reasons.{and_true}
+use Rattle.erd_tables.specs.Classes.{text_of_class}
 use Rattle.erd_meaning.specs.Keys.{key_cmp}
 use Rattle.erd_meaning.specs.NameParts.{NameParts}
 use Rattle.erd_meaning.specs.SelectionNames.{class_cmp, name_cmp}
-use Rattle.erd_meaning.specs.Hashes.{name_digest}
+use Rattle.erd_meaning.specs.Hashes.{after_keys_writes}
 use Rattle.erd_meaning.specs.NumberedNames.{numbered_name_cmp, numbered_parts, without_keys}
 use Rattle.erd_meaning.specs.code.NumberedOrders.{numbered_as_named, numbers_as_keys}
 use Rattle.erd_meaning.specs.code.ObjectWalk.{Kept}
-use Rattle.erd_meaning.specs.code.Orders.{classes_exact, name_cmp_exact}
-use Rattle.erd_meaning.specs.code.RanksAmong.{AllAreRanked, IsRanked, are_ranks_of, has_keys_among, is_key_among, is_sought, names_of, rank_among, ranked_parts}
-use Rattle.erd_meaning.specs.RankedNames.{PlacedName, RankedParts, family_chosen, ranked_name_cmp}
+use Rattle.erd_meaning.specs.code.Orders.{classes_exact}
+use Rattle.erd_meaning.specs.code.RanksAmong.{AllAreRanked, IsRanked, are_ranks_of, fed_rank, has_keys_among, is_key_among, is_sought, names_of, rank_among, ranked_parts}
+use Rattle.erd_meaning.specs.RankedNames.{PlacedName, RankedParts, family_chosen, ranked_name_cmp, ranked_name_writes}
+use Rattle.erd_meaning.specs.code.RankedOrders.{equal_ranked_alike}
 use Rattle.erd_meaning.specs.code.SelectionWalk.{NumberedName, added_name, is_selection_named, is_taken}
 use Rattle.erd_meaning.specs.declared.keys.key.Key.{Key}
 use Rattle.erd_tables.specs.declared.class.Class.{Class}
@@ -51,23 +55,10 @@ ranks_as_keys ks m n a b same = with_class n.class (sym (classes_exact m.class n
         ∙ numbers_as_keys (λ k. rank_among ks (family_chosen m.class) (Some k)) m.keys n.keys
         (λ k l i j. rank_as_key ks (family_chosen m.class) k l (keys_known ks m.class m.keys k a i) (keys_known ks m.class n.keys l known_too j))
 
-then_equal : (a b : Ordering) → (b ≡ Equal → a ≡ Equal) → is_eq (ordering_then a b) ≡ is_eq b
-then_equal Less Less h = refl
-then_equal Less Equal h = let clash : Less ≡ Equal = h refl in cc
-then_equal Less Greater h = refl
-then_equal Equal b h = refl
-then_equal Greater Less h = refl
-then_equal Greater Equal h = let clash : Greater ≡ Equal = h refl in cc
-then_equal Greater Greater h = refl
-
 -- names with the ranks of their keys are equal as the names are
 ranked_made : (ks : List Kept) (m n : NameParts) → has_keys_among ks m ≡ true → has_keys_among ks n ≡ true
     → eq_by_cmp ranked_name_cmp (ranked_parts ks m) (ranked_parts ks n) ≡ is_eq (name_cmp m n)
-ranked_made ks m n a b =
-    let compared = numbered_as_named m n (ranked_parts ks m).ranks (ranked_parts ks n).ranks (ranks_as_keys ks m n a b) in
-    ap (λ o. is_eq (ordering_then (nat_cmp (name_digest m) (name_digest n)) o)) compared
-    ∙ then_equal (nat_cmp (name_digest m) (name_digest n)) (name_cmp m n)
-    (λ e. ap (λ x. nat_cmp (name_digest m) (name_digest x)) (sym (name_cmp_exact m n e)) ∙ tied_itself nat_cmp_total (name_digest m))
+ranked_made ks m n a b = ap is_eq (numbered_as_named m n (ranked_parts ks m).ranks (ranked_parts ks n).ranks (ranks_as_keys ks m n a b))
 
 pub ranked_equal : (ks : List Kept) (r q : RankedParts) → IsRanked ks r → IsRanked ks q → eq_by_cmp ranked_name_cmp r q ≡ is_eq (name_cmp r.name q.name)
 ranked_equal ks r q a b = ap₂ (eq_by_cmp ranked_name_cmp) a.ranks b.ranks ∙ ranked_made ks r.name q.name a.known b.known
@@ -219,43 +210,55 @@ parts_told m n ks ls =
     is_eq_then (class_cmp m.class n.class) (ordering_then (slice_cmp nat_cmp ks ls) (name_cmp (without_keys m) (without_keys n)))
     ∙ ap (λ b. is_eq (class_cmp m.class n.class) && b) (is_eq_then (slice_cmp nat_cmp ks ls) (name_cmp (without_keys m) (without_keys n)))
 
-in_turn : (d h e c r : Bool) → (d && ((h && e) && (c && (true && r)))) ≡ (h && (d && (c && (e && r))))
-in_turn true true true c r = refl
-in_turn true true false true r = refl
-in_turn true true false false r = refl
-in_turn true false e c r = refl
-in_turn false true e c r = refl
-in_turn false false e c r = refl
+in_turn : (h e c r : Bool) → ((h && e) && (c && (true && r))) ≡ (h && (c && (e && r)))
+in_turn true true c r = refl
+in_turn true false true r = refl
+in_turn true false false r = refl
+in_turn false e c r = refl
 
--- the index has the name that is looked up if it is hashed alike, if these are the ranks of its keys, and if the other parts are equal
-pub sought_told : (ks : List Kept) (n : NameParts) (s : RankedParts)
-    → ((name_digest n == name_digest s.name) && (are_ranks_of ks (family_chosen n.class) n.keys s.ranks && is_eq (numbered_name_cmp (numbered_parts n s.ranks) (numbered_parts s.name s.ranks))))
+-- the index has the name that is looked up if these are the ranks of its keys, and if the other parts are equal
+sought_told : (ks : List Kept) (n : NameParts) (s : RankedParts)
+    → (are_ranks_of ks (family_chosen n.class) n.keys s.ranks && is_eq (numbered_name_cmp (numbered_parts n s.ranks) (numbered_parts s.name s.ranks)))
     ≡ (has_keys_among ks n && eq_by_cmp ranked_name_cmp (ranked_parts ks n) s)
 sought_told ks n s =
-    let d = is_eq (nat_cmp (name_digest n) (name_digest s.name)) in
     let e = is_eq (slice_cmp nat_cmp (ranked_parts ks n).ranks s.ranks) in
     let c = is_eq (class_cmp n.class s.name.class) in
     let r = is_eq (name_cmp (without_keys n) (without_keys s.name)) in
     let own : is_eq (slice_cmp nat_cmp s.ranks s.ranks) ≡ true = ap is_eq (tied_itself (lists_total nat_cmp_total) s.ranks) in
-    ap₂ (λ x y. x && (y && is_eq (numbered_name_cmp (numbered_parts n s.ranks) (numbered_parts s.name s.ranks)))) (equal_numbers (name_digest n) (name_digest s.name)) (ranks_told ks (family_chosen n.class) n.keys s.ranks)
-    ∙ ap (λ x. d && ((has_keys_among ks n && e) && x)) (parts_told n s.name s.ranks s.ranks ∙ ap (λ x. c && (x && r)) own)
-    ∙ in_turn d (has_keys_among ks n) e c r
-    ∙ ap (λ x. has_keys_among ks n && x)
-    (ap (λ x. d && x) (sym (parts_told n s.name (ranked_parts ks n).ranks s.ranks))
-    ∙ sym (is_eq_then (nat_cmp (name_digest n) (name_digest s.name)) (numbered_name_cmp (numbered_parts n (ranked_parts ks n).ranks) (numbered_parts s.name s.ranks))))
+    ap₂ (λ x y. x && y) (ranks_told ks (family_chosen n.class) n.keys s.ranks) (parts_told n s.name s.ranks s.ranks ∙ ap (λ x. c && (x && r)) own)
+    ∙ in_turn (has_keys_among ks n) e c r
+    ∙ ap (λ x. has_keys_among ks n && x) (sym (parts_told n s.name (ranked_parts ks n).ranks s.ranks))
 
 pub sought_misses : (ks : List Kept) (n : NameParts) (s : RankedParts) → are_ranks_of ks (family_chosen n.class) n.keys s.ranks ≡ false → false ≡ (has_keys_among ks n && eq_by_cmp ranked_name_cmp (ranked_parts ks n) s)
 sought_misses ks n s none_has =
-    let d = name_digest n == name_digest s.name in
-    let x = is_eq (numbered_name_cmp (numbered_parts n s.ranks) (numbered_parts s.name s.ranks)) in
-    none d ∙ ap (λ b. d && (b && x)) (sym none_has) ∙ sought_told ks n s
-  where
-    none : (b : Bool) → false ≡ (b && false)
-    none true = refl
-    none false = refl
+    ap (λ b. b && is_eq (numbered_name_cmp (numbered_parts n s.ranks) (numbered_parts s.name s.ranks))) (sym none_has) ∙ sought_told ks n s
 
-pub sought_hits : (ks : List Kept) (n : NameParts) (s : RankedParts) → name_digest n ≡ name_digest s.name → are_ranks_of ks (family_chosen n.class) n.keys s.ranks ≡ true
+pub sought_hits : (ks : List Kept) (n : NameParts) (s : RankedParts) → are_ranks_of ks (family_chosen n.class) n.keys s.ranks ≡ true
     → is_eq (numbered_name_cmp (numbered_parts n s.ranks) (numbered_parts s.name s.ranks)) ≡ (has_keys_among ks n && eq_by_cmp ranked_name_cmp (ranked_parts ks n) s)
-sought_hits ks n s hashed are =
-    let x = is_eq (numbered_name_cmp (numbered_parts n s.ranks) (numbered_parts s.name s.ranks)) in
-    ap₂ (λ a b. a && (b && x)) (sym ((Decides-eqb (name_digest n) (name_digest s.name)).1 hashed)) (sym are) ∙ sought_told ks n s
+sought_hits ks n s are =
+    ap (λ b. b && is_eq (numbered_name_cmp (numbered_parts n s.ranks) (numbered_parts s.name s.ranks))) (sym are) ∙ sought_told ks n s
+
+-- ---- what a hasher is given of the name that is looked up
+
+fed_ranks : (ks : List Kept) (f : Family) (keys : List Key) → list_all (is_key_among ks f) keys ≡ true
+    → map (fed_rank ks f) keys ≡ map (λ key. rank_among ks f (Some key)) keys
+fed_ranks ks f [] known = refl
+fed_ranks ks f (k ∷ keys) known =
+    let both = and_true (is_key_among ks f k) (list_all (is_key_among ks f) keys) known in
+    ap₂ (λ r rs. r ∷ rs) (ap (λ b. if b then rank_among ks f (Some k) else 0) both.0) (fed_ranks ks f keys both.1)
+
+-- the contest, the class, the number of keys, their ranks, and the other parts
+abbrev pub sought_writes : List Kept → ℕ → NameParts → HashWrites
+sought_writes ks c n =
+    usize c
+    ++ (str (text_of_class n.class)
+    ++ (usize (length n.keys) ++ (flat_map usize (map (fed_rank ks (family_chosen n.class)) n.keys) ++ after_keys_writes n)))
+
+pub sought_fed : (ks : List Kept) (c : ℕ) (n : NameParts) (s : PlacedName) → is_sought ks c n s ≡ true → sought_writes ks c n ≡ usize s.0 ++ ranked_name_writes s.1
+sought_fed ks c n s e =
+    let outer = and_true (has_keys_among ks n) ((c == s.0) && eq_by_cmp ranked_name_cmp (ranked_parts ks n) s.1) e in
+    let both = and_true (c == s.0) (eq_by_cmp ranked_name_cmp (ranked_parts ks n) s.1) outer.1 in
+    let f = family_chosen n.class in
+    ap₂ (λ many ranks. usize c ++ (str (text_of_class n.class) ++ (usize many ++ (flat_map usize ranks ++ after_keys_writes n))))
+    (sym (length-map n.keys (λ key. rank_among ks f (Some key)))) (fed_ranks ks f n.keys outer.0)
+    ∙ ap₂ (λ (d : ℕ) (w : HashWrites). usize d ++ w) ((Decides-eqb c s.0).0 both.0) (equal_ranked_alike (ranked_parts ks n) s.1 both.1)

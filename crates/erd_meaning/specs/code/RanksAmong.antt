@@ -1,18 +1,15 @@
 -- Names of selections with the ranks of their keys among the objects that the program keeps. They do not define the profile:
 -- `RankedKeys` proves that equal ranks mean equal keys, and `RankedReports` that the names are those of `RankedNames`.
-use Rattle.std.specs.Prelude.{◌≡◌, ℕ, List, [], ◌∷◌, ◌++◌, Bool, true, false, ◌&&◌, ◌==◌, Option, Some, is_some, filter, length, map, option_and_then, option_map}
-use Rattle.std.specs.Hash.{HashWrites, usize}
+use Rattle.std.specs.Prelude.{◌≡◌, ℕ, List, [], ◌∷◌, ◌++◌, Bool, true, false, ◌&&◌, ◌==◌, Option, Some, is_some, filter, length, map, option_and_then, option_map, if◌then◌else◌}
 use Rattle.std.specs.List.{AllByRecursion, list_all, slice_get}
 use Rattle.std.specs.Option.{option_cmp}
-use Rattle.std.specs.Ordering.{eq_by_cmp, is_lt, nat_cmp, ordering_then}
-use Rattle.std.specs.declared.cmp.Ordering.{Ordering}
+use Rattle.std.specs.Ordering.{eq_by_cmp, is_lt}
 use Rattle.serde_json.specs.Data.{Data}
 use Rattle.erd_tables.specs.declared.class.Family.{Family}
 use Rattle.erd_meaning.specs.Keys.{Preference, key_cmp, key_of}
 use Rattle.erd_meaning.specs.NameParts.{NameParts}
 use Rattle.erd_meaning.specs.Objects.{IsObject, Placed}
-use Rattle.erd_meaning.specs.SelectionNames.{name_cmp, rising_list}
-use Rattle.erd_meaning.specs.Hashes.{name_writes}
+use Rattle.erd_meaning.specs.SelectionNames.{rising_list}
 use Rattle.erd_meaning.specs.code.KeyOrders.{family_keys, positioned}
 use Rattle.erd_meaning.specs.code.NamesAmong.{name_among}
 use Rattle.erd_meaning.specs.RankedNames.{PlacedName, RankedParts, family_chosen, ranked_name_cmp}
@@ -47,6 +44,10 @@ ranked_key ks f key = (rank_among ks f (Some key), key)
 -- True if an object of the family has the key.
 abbrev pub is_key_among : List Kept → Family → Key → Bool
 is_key_among ks f key = is_some (number_of_key ks f key)
+
+-- The rank of the key, or 0 if no object of the family has it.
+abbrev pub fed_rank : List Kept → Family → Key → ℕ
+fed_rank ks f key = if is_key_among ks f key then rank_among ks f (Some key) else 0
 
 -- ---- names
 
@@ -92,14 +93,6 @@ are_ranks_of ks f keys ranks = false
 -- True if this is the selection of contest c with name n, in an index of names whose ranks are those among the objects.
 abbrev pub is_sought : List Kept → ℕ → NameParts → PlacedName → Bool
 is_sought ks c n s = has_keys_among ks n && ((c == s.0) && eq_by_cmp ranked_name_cmp (ranked_parts ks n) s.1)
-
--- Selections that are looked up are compared by contest, then by name.
-abbrev pub sought_cmp : NumberedName → NumberedName → Ordering
-sought_cmp a b = ordering_then (nat_cmp a.0 b.0) (name_cmp a.1 b.1)
-
--- What the hasher is given of such a selection.
-abbrev pub sought_writes : NumberedName → HashWrites
-sought_writes s = usize s.0 ++ name_writes s.1
 
 -- Each name has the ranks of its keys.
 abbrev pub AllAreRanked : List Kept → List PlacedName → Type 0

@@ -1,4 +1,3 @@
-use indexmap::Equivalent;
 use std::hash::{Hash, Hasher};
 
 /// A key of an index, and the number by which the index hashes it: that of the key under the salt of the report.
@@ -38,20 +37,5 @@ impl<K: Eq> Hash for Salted<K> {
 
     fn hash<H: Hasher>(&self, state: &mut H) {
         self.number.hash(state);
-    }
-}
-
-impl<K: Eq + Hash, Q: Equivalent<K>> Equivalent<Salted<K>> for Salted<Q> {
-    ghost use Rattle.std.specs.Prelude.{◌&&◌, ◌==◌};
-    ghost use Rattle.erd_meaning.specs.code.SaltedQueries.{asked_alike, asked_equal};
-
-    ghost equivalent = { λ q k. (q.number == k.number) && Q.equivalent q.key k.key };
-
-    ghost respects_hash = { asked_alike Q.equivalent };
-
-    ghost respects_eq = { asked_equal K.eq Q.equivalent Q.Equivalent.respects_eq };
-
-    fn equivalent(&self, key: &Salted<K>) -> bool {
-        self.number == key.number && self.key.equivalent(&key.key)
     }
 }

@@ -1,14 +1,87 @@
-ghost use Rattle.std.specs.Prelude.{◌≡◌, [], not, position, slice_get, IfOk, OnErr, OnOk};
+ghost use Rattle.std.specs.Prelude.{◌≡◌, [], Bool, IsTrue, not, position, slice_get, IfOk, OnErr, OnOk};
 ghost use Rattle.std.specs.List.{list_any, position_or_len};
 ghost use Rattle.std.specs.Option.{option_copied};
 ghost use Rattle.indexmap.specs.IndexSet.{insert_key};
+ghost use Rattle.erd_meaning.specs.code.Salts.{salted_number};
 
 use crate::keys::salt::Salt;
 use crate::keys::salted::Salted;
 use indexmap::{Equivalent, IndexSet};
 use std::alloc::{AllocError, Global};
-use std::hash::Hash;
+use std::hash::{Hash, Hasher};
 use std::marker::Model;
+
+/// What is looked up in a salted set: it stands for a key of the set without being one.
+pub(crate) trait Sought<K: Eq + Hash>: Copy {
+    // What `finds` answers.
+    ghost finds: { Self → K → Bool };
+
+    /// Returns the number under the salt of the key that is sought. If no key can be found, it may be any number.
+    fn number(&self, salt: &Salt) -> u64
+        ensures { (k : K) → IsTrue (finds self.now k) → result ≡ salted_number salt.now (K.hash_input k) };
+
+    /// Returns whether this is the key that is sought.
+    fn finds(&self, key: &K) -> bool
+        ensures { result ≡ finds self.now key.now };
+
+    // It tells keys apart as the set does.
+    ghost respects_eq: { (q : Self) (x y : K) → IsTrue (finds q x) → finds q y ≡ K.eq x y };
+}
+
+/// What is looked up, with its number.
+#[derive(Clone, Copy, Drop)]
+struct Numbered<Q> {
+    number: u64,
+    sought: Q,
+}
+
+impl<Q> PartialEq for Numbered<Q> {
+    ghost use Rattle.std.specs.Prelude.{◌==◌};
+    ghost use Rattle.std.specs.Cmp.{nat_eq_equiv, on_per, partial_equiv_from_equiv};
+
+    ghost eq = { λ a b. a.number == b.number };
+
+    ghost laws = { on_per (λ s. s.number) (partial_equiv_from_equiv nat_eq_equiv) };
+
+    fn eq(&self, other: &Numbered<Q>) -> bool {
+        self.number == other.number
+    }
+}
+
+impl<Q> Eq for Numbered<Q> {
+    ghost use Rattle.std.specs.Cmp.{nat_eq_equiv, on_equiv};
+
+    ghost laws = { on_equiv (λ s. s.number) nat_eq_equiv };
+}
+
+impl<Q> Hash for Numbered<Q> {
+    ghost use Rattle.std.proofs.Common.{rules};
+    ghost use Rattle.std.specs.Cmp.Rules.{hashing};
+    ghost use Rattle.std.specs.Hash as fed;
+
+    ghost hash_input = { λ s. fed.u64 s.number };
+
+    ghost respects_eq = { Prim.search (hashing, rules) };
+
+    fn hash<H: Hasher>(&self, state: &mut H) {
+        self.number.hash(state);
+    }
+}
+
+impl<K: Eq + Hash, Q: Sought<K>> Equivalent<Salted<K>> for Numbered<Q> {
+    ghost use Rattle.std.specs.Prelude.{◌&&◌, ◌==◌};
+    ghost use Rattle.erd_meaning.specs.code.SaltedQueries.{asked_alike, asked_equal};
+
+    ghost equivalent = { λ q k. (q.number == k.number) && Q.finds q.sought k.key };
+
+    ghost respects_hash = { asked_alike Q.finds };
+
+    ghost respects_eq = { asked_equal K.eq Q.finds Q.Sought.respects_eq };
+
+    fn equivalent(&self, key: &Salted<K>) -> bool {
+        self.number == key.number && self.sought.finds(&key.key)
+    }
+}
 
 /// A set whose keys stand in the order in which they came. It hashes them under a salt, so that keys which crowd it are hard
 /// to choose. Contracts see the keys.
@@ -87,11 +160,11 @@ impl<K: Eq + Hash + Drop> SaltedSet<K> {
         }
     }
 
-    /// Returns the position of the key that the query stands for, if there is one.
-    pub(crate) fn get_index_of<Q: Equivalent<K>>(&self, query: Q) -> Option<usize>
-        ensures { result ≡ position (Q.equivalent query) self.now }
+    /// Returns the position of the key that is sought, if the set has it.
+    pub(crate) fn position<Q: Sought<K>>(&self, sought: Q) -> Option<usize>
+        ensures { result ≡ position (Q.finds sought) self.now }
     {
-        let number = self.salt.number(&query);
-        self.set.get_index_of(Salted { number, key: query })
+        let number = sought.number(&self.salt);
+        self.set.get_index_of(Numbered { number, sought })
     }
 }

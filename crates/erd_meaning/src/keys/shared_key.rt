@@ -1,31 +1,25 @@
 ghost use Rattle.std.specs.Prelude.{◌≡◌, IfOk};
-ghost use Rattle.erd_meaning.specs.Hashes.{key_digest};
 
 use crate::keys::key::Key;
 use crate::keys::triple::Triple;
 use std::alloc::{AllocError, Global};
 use std::cmp::Ordering;
-use std::hash::{DefaultHasher, Hash, Hasher};
+use std::hash::{Hash, Hasher};
 use std::marker::Model;
 use std::rc::Rc;
 
-/// A key that is stored once and may have several owners, with the number by which it is hashed. Contracts see the key.
+/// A key that is stored once and may have several owners. Contracts see the key.
 #[derive(Debug, Drop)]
 pub(crate) struct SharedKey {
     key: Rc<Key>,
-    digest: u64,
 }
 
 impl Model for SharedKey {
-    ghost use Rattle.std.specs.Prelude.{◌≡◌};
     ghost use Rattle.erd_meaning.specs.declared.keys.key.Key.{Key};
-    ghost use Rattle.erd_meaning.specs.Hashes.{key_digest};
 
     ghost Value = { Key };
 
     ghost view = { λ s. s.key.value };
-
-    ghost invariant = { λ s. s.digest ≡ key_digest s.key.value };
 }
 
 impl SharedKey {
@@ -33,10 +27,8 @@ impl SharedKey {
     pub(crate) fn of(alloc: Global, key: Key) -> Result<SharedKey, AllocError>
         ensures { IfOk result (λ shared. shared ≡ key) }
     {
-        let digest = digest_of(&key);
         Ok(SharedKey {
             key: Rc::new(alloc, key)?,
-            digest,
         })
     }
 
@@ -66,18 +58,8 @@ impl SharedKey {
     {
         Ok(SharedKey {
             key: self.key.clone()?,
-            digest: self.digest,
         })
     }
-}
-
-/// Returns the number by which a key is hashed.
-fn digest_of(key: &Key) -> u64
-    ensures { result ≡ key_digest key.now }
-{
-    let mut hasher = DefaultHasher::new();
-    key.hash(&mut hasher);
-    hasher.finish()
 }
 
 impl PartialEq for SharedKey {
@@ -136,14 +118,14 @@ impl Ord for SharedKey {
 }
 
 impl Hash for SharedKey {
-    ghost use Rattle.erd_meaning.specs.Hashes.{shared_key_writes};
+    ghost use Rattle.erd_meaning.specs.Hashes.{key_writes};
     ghost use Rattle.erd_meaning.specs.code.Orders.{equal_keys_alike};
 
-    ghost hash_input = { shared_key_writes };
+    ghost hash_input = { key_writes };
 
-    ghost respects_eq = { equal_keys_alike shared_key_writes };
+    ghost respects_eq = { equal_keys_alike key_writes };
 
     fn hash<H: Hasher>(&self, state: &mut H) {
-        self.digest.hash(state);
+        self.key().hash(state);
     }
 }

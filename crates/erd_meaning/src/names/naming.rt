@@ -13,7 +13,6 @@ ghost use Rattle.erd_meaning.specs.code.Shown.{shown};
 use crate::keys::key_rule::KeyRule;
 use crate::keys::shared_key::SharedKey;
 use crate::names::label::label_text;
-use crate::names::parts::Parts;
 use crate::names::ranked_name::RankedName;
 use crate::names::selection_name::SelectionName;
 use crate::objects::ranked_objects::RankedObjects;
@@ -40,14 +39,14 @@ pub(crate) fn name_of_selection(
     let named = keys_of(keys.alloc, &chosen)?;
     let label = selection_label(keys.alloc, class, selection)?;
     let identifier = keys.key_of(selection)?;
-    let name = SelectionName::of(Parts {
+    let name = SelectionName {
         class,
         keys: named,
         write_in: is_write_in(class, selection),
         order: sequence_order(selection),
         label,
         identifier,
-    });
+    };
     Ok(Some(RankedName::of(name, ranks)))
 }
 

@@ -2,9 +2,7 @@
 ghost use Rattle.std.specs.Prelude.{◌≡◌};
 ghost use Rattle.erd_meaning.specs.NumberedNames.{numbered_name_cmp, numbered_parts};
 
-use crate::names::parts::compare_numbered;
-use crate::names::selection_name::SelectionName;
-use erd_tables::type_text;
+use crate::names::selection_name::{SelectionName, compare_numbered};
 use std::cmp::Ordering;
 use std::hash::{Hash, Hasher};
 use std::marker::Model;
@@ -44,12 +42,7 @@ impl<'a> NumberedName<'a> {
     fn compare(&self, other: &NumberedName<'a>) -> Ordering
         ensures { result ≡ numbered_name_cmp self.now other.now }
     {
-        compare_numbered(
-            self.name.parts(),
-            &self.numbers,
-            other.name.parts(),
-            &other.numbers,
-        )
+        compare_numbered(self.name, &self.numbers, other.name, &other.numbers)
     }
 }
 
@@ -84,12 +77,6 @@ impl<'a> Hash for NumberedName<'a> {
     ghost respects_eq = { equal_numbered_alike numbered_name_writes };
 
     fn hash<H: Hasher>(&self, state: &mut H) {
-        let parts = self.name.parts();
-        type_text(parts.class).hash(state);
-        self.numbers.hash(state);
-        parts.write_in.hash(state);
-        parts.order.hash(state);
-        parts.label.hash(state);
-        parts.identifier.hash(state);
+        self.name.hash_numbered(&self.numbers, state);
     }
 }

@@ -5,8 +5,7 @@ ghost use Rattle.erd_meaning.specs.NumberedNames.{numbered_name_cmp, numbered_pa
 ghost use Rattle.erd_meaning.specs.RankedNames.{IsRankedIn, family_chosen};
 ghost use Rattle.erd_meaning.specs.SelectionNames.{name_cmp};
 
-use crate::names::parts::compare_numbered;
-use crate::names::selection_name::SelectionName;
+use crate::names::selection_name::{SelectionName, compare_numbered};
 use crate::objects::ranked_objects::family_chosen;
 use erd_tables::Family;
 use std::cmp::Ordering;
@@ -63,7 +62,7 @@ impl RankedName {
     pub fn family(&self) -> Family
         ensures { result ≡ family_chosen self.now.name.class }
     {
-        family_chosen(self.name.parts().class)
+        family_chosen(self.name.class)
     }
 
     /// Returns the ranks of the keys, in the order of the keys.
@@ -88,12 +87,7 @@ impl RankedName {
         ensures names { (π : Preference) (t : Data) → IsRankedIn π t self.now → IsRankedIn π t other.now
             → result ≡ name_cmp self.now.name other.now.name }
     {
-        compare_numbered(
-            self.name.parts(),
-            &self.ranks,
-            other.name.parts(),
-            &other.ranks,
-        )
+        compare_numbered(&self.name, &self.ranks, &other.name, &other.ranks)
     }
 }
 
@@ -108,7 +102,7 @@ impl PartialEq for RankedName {
     ghost laws = { partial_equiv_from_equiv (eq_by_cmp_equiv ranked_name_cmp_total) };
 
     fn eq(&self, other: &RankedName) -> bool {
-        self.name.digest() == other.name.digest() && self.compare(other).is_eq()
+        self.compare(other).is_eq()
     }
 }
 
@@ -128,6 +122,6 @@ impl Hash for RankedName {
     ghost respects_eq = { equal_ranked_alike };
 
     fn hash<H: Hasher>(&self, state: &mut H) {
-        self.name.hash(state);
+        self.name.hash_numbered(&self.ranks, state);
     }
 }

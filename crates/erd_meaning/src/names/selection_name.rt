@@ -1,11 +1,14 @@
 //! The name of a selection.
-ghost use Rattle.std.specs.Prelude.{◌≡◌, IfOk};
+ghost use Rattle.std.specs.Prelude.{◌≡◌, IfOk, fold};
 ghost use Rattle.std.specs.Ordering.{eq_by_cmp};
 ghost use Rattle.erd_meaning.specs.SelectionNames.{name_cmp};
-ghost use Rattle.erd_meaning.specs.Hashes.{name_digest};
-ghost use Rattle.erd_meaning.specs.NumberedNames.{without_keys};
+ghost use Rattle.erd_meaning.specs.Hashes.{after_keys_writes};
+ghost use Rattle.erd_meaning.specs.NumberedNames.{numbered_name_cmp, numbered_name_writes, numbered_parts};
+ghost use Rattle.erd_meaning.specs.code.NumberedOrders.{after_keys_cmp};
 
-use crate::names::parts::Parts;
+use crate::keys::key::{Key, copied};
+use crate::keys::shared_key::SharedKey;
+use erd_tables::{Class, Text, type_text};
 use std::alloc::{AllocError, Global};
 use std::cmp::Ordering;
 use std::hash::{Hash, Hasher};
@@ -16,50 +19,32 @@ use std::marker::Model;
 ///
 /// Names are ordered by the name of the class, by bytes; then by the list of keys, key by key; then by whether the selection
 /// is for a write-in, false before true; then by sequence order, label and identifier, with none before any value.
-///
-/// A name is hashed by a number that is computed once from its parts. Equal names have the same number, so names with
-/// different numbers are different and their parts need not be compared.
 #[derive(Debug, Drop)]
 pub struct SelectionName {
-    parts: Parts,
-    digest: u64,
+    pub(crate) class: Class,
+    pub(crate) keys: Vec<SharedKey>,
+    pub(crate) write_in: bool,
+    pub(crate) order: Option<i128>,
+    pub(crate) label: Option<Text>,
+    pub(crate) identifier: Option<Key>,
 }
 
 impl Model for SelectionName {
-    ghost use Rattle.std.specs.Prelude.{◌≡◌};
     ghost use Rattle.erd_meaning.specs.NameParts.{NameParts};
-    ghost use Rattle.erd_meaning.specs.Hashes.{name_digest};
 
     ghost Value = { NameParts };
 
-    ghost view = { λ n. n.parts };
-
-    ghost invariant = { λ n. n.digest ≡ name_digest n.parts };
+    ghost view = { λ n. record {
+      class = n.class;
+      keys = n.keys.items;
+      write_in = n.write_in;
+      order = n.order;
+      label = n.label;
+      identifier = n.identifier;
+    } };
 }
 
 impl SelectionName {
-    /// Returns the name with these parts.
-    pub(crate) fn of(parts: Parts) -> SelectionName
-        ensures { result ≡ parts }
-    {
-        let digest = parts.digest();
-        SelectionName { parts, digest }
-    }
-
-    /// Returns the parts of the name.
-    pub(crate) fn parts(&self) -> &Parts
-        ensures { result.now ≡ self.now }
-    {
-        &self.parts
-    }
-
-    /// Returns the number by which the name is hashed.
-    pub(crate) fn digest(&self) -> u64
-        ensures { result ≡ name_digest self.now }
-    {
-        self.digest
-    }
-
     /// Returns an equal name. The two names share the keys of candidates or parties; the other parts are copied.
     ///
     /// # Errors
@@ -72,12 +57,73 @@ impl SelectionName {
     pub fn try_clone(&self, alloc: Global) -> Result<SelectionName, AllocError>
         ensures { IfOk result (λ name. name ≡ self.now) }
     {
-        let parts = self.parts.try_clone(alloc)?;
+        let keys = copied_keys(alloc, &self.keys)?;
+        let label = copied_label(alloc, &self.label)?;
+        let identifier = copied_identifier(alloc, &self.identifier)?;
         Ok(SelectionName {
-            parts,
-            digest: self.digest,
+            class: self.class,
+            keys,
+            write_in: self.write_in,
+            order: self.order,
+            label,
+            identifier,
         })
     }
+
+    /// Compares the name with another, one part after another.
+    fn compare(&self, other: &SelectionName) -> Ordering
+        ensures { result ≡ name_cmp self.now other.now }
+    {
+        type_text(self.class)
+            .cmp(type_text(other.class))
+            .then(self.keys.cmp(&other.keys))
+            .then(self.compare_after_keys(other))
+    }
+
+    /// Compares the parts after the keys with those of another name.
+    fn compare_after_keys(&self, other: &SelectionName) -> Ordering
+        ensures { result ≡ after_keys_cmp self.now other.now }
+    {
+        self.write_in
+            .cmp(&other.write_in)
+            .then(self.order.cmp(&other.order))
+            .then(self.label.cmp(&other.label))
+            .then(self.identifier.cmp(&other.identifier))
+    }
+
+    /// Feeds a hasher the parts after the keys.
+    pub(crate) fn hash_after_keys<H: Hasher>(&self, state: &mut H)
+        ensures { state.new ≡ fold H.write state.old (after_keys_writes self.now) }
+    {
+        self.write_in.hash(state);
+        self.order.hash(state);
+        self.label.hash(state);
+        self.identifier.hash(state);
+    }
+
+    /// Feeds a hasher the name, with numbers in place of its keys.
+    pub(crate) fn hash_numbered<H: Hasher>(&self, numbers: &[usize], state: &mut H)
+        ensures { state.new ≡ fold H.write state.old (numbered_name_writes (numbered_parts self.now numbers.now)) }
+    {
+        type_text(self.class).hash(state);
+        numbers.hash(state);
+        self.hash_after_keys(state);
+    }
+}
+
+/// Compares two names, one part after another, with numbers in place of their keys.
+pub(crate) fn compare_numbered(
+    one: &SelectionName,
+    numbers: &[usize],
+    other: &SelectionName,
+    others: &[usize],
+) -> Ordering
+    ensures { result ≡ numbered_name_cmp (numbered_parts one.now numbers.now) (numbered_parts other.now others.now) }
+{
+    type_text(one.class)
+        .cmp(type_text(other.class))
+        .then(numbers.cmp(others))
+        .then(one.compare_after_keys(other))
 }
 
 impl PartialEq for SelectionName {
@@ -91,7 +137,7 @@ impl PartialEq for SelectionName {
     ghost laws = { partial_equiv_from_equiv (eq_by_cmp_equiv name_cmp_total) };
 
     fn eq(&self, other: &SelectionName) -> bool {
-        self.digest == other.digest && self.parts.compare(&other.parts).is_eq()
+        self.compare(other).is_eq()
     }
 }
 
@@ -113,7 +159,7 @@ impl PartialOrd for SelectionName {
     ghost laws = { partial_order_from_total name_cmp_total };
 
     fn partial_cmp(&self, other: &SelectionName) -> Option<Ordering> {
-        Some(self.parts.compare(&other.parts))
+        Some(self.compare(other))
     }
 }
 
@@ -131,7 +177,7 @@ impl Ord for SelectionName {
     ghost matches_eq = { λ a b. refl };
 
     fn cmp(&self, other: &SelectionName) -> Ordering {
-        self.parts.compare(&other.parts)
+        self.compare(other)
     }
 }
 
@@ -144,6 +190,36 @@ impl Hash for SelectionName {
     ghost respects_eq = { equal_names_alike name_writes };
 
     fn hash<H: Hasher>(&self, state: &mut H) {
-        self.digest.hash(state);
+        type_text(self.class).hash(state);
+        self.keys.hash(state);
+        self.hash_after_keys(state);
+    }
+}
+
+fn copied_keys(alloc: Global, keys: &[SharedKey]) -> Result<Vec<SharedKey>, AllocError>
+    ensures { IfOk result (λ copies. copies.items ≡ keys.now) }
+{
+    let mut copies = Vec::with_capacity(alloc, keys.len())?;
+    for key in keys {
+        copies.push(key.try_clone()?)?;
+    }
+    Ok(copies)
+}
+
+fn copied_label(alloc: Global, label: &Option<Text>) -> Result<Option<Text>, AllocError>
+    ensures { IfOk result (λ copy. copy ≡ label.now) }
+{
+    match label {
+        Some(text) => Ok(Some(copied(alloc, text)?)),
+        None => Ok(None),
+    }
+}
+
+fn copied_identifier(alloc: Global, identifier: &Option<Key>) -> Result<Option<Key>, AllocError>
+    ensures { IfOk result (λ copy. copy ≡ identifier.now) }
+{
+    match identifier {
+        Some(key) => Ok(Some(key.try_clone(alloc)?)),
+        None => Ok(None),
     }
 }

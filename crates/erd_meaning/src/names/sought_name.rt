@@ -1,20 +1,24 @@
-ghost use Rattle.std.specs.Prelude.{◌≡◌, ◌&&◌, ◌==◌, map, Some};
+ghost use Rattle.std.specs.Prelude.{◌≡◌, ◌&&◌, ◌==◌, fold, map, Some};
+ghost use Rattle.std.specs.Hash as fed;
+ghost use Rattle.std.specs.Hash.DefaultHasher.{write};
+ghost use Rattle.std.specs.List.{flat_map};
 ghost use Rattle.std.specs.Ordering.{eq_by_cmp};
-ghost use Rattle.erd_meaning.specs.code.RanksAmong.{are_ranks_of, has_keys_among, is_key_among, rank_among, ranked_parts};
+ghost use Rattle.erd_meaning.specs.code.RanksAmong.{are_ranks_of, fed_rank, has_keys_among, is_key_among, rank_among, ranked_parts};
 ghost use Rattle.erd_meaning.specs.RankedNames.{family_chosen, ranked_name_cmp};
 ghost use Rattle.erd_meaning.specs.code.Shown.{shown};
 
 use crate::keys::key::Key;
-use crate::names::parts::compare_numbered;
+use crate::keys::salt::Salt;
+use crate::keys::salted_set::Sought;
 use crate::names::ranked_name::RankedName;
-use crate::names::selection_name::SelectionName;
+use crate::names::selection_name::{SelectionName, compare_numbered};
 use crate::objects::ranked_objects::RankedObjects;
-use indexmap::Equivalent;
-use std::hash::{Hash, Hasher};
+use erd_tables::type_text;
+use std::hash::{DefaultHasher, Hash, Hasher};
 
 /// A selection that is looked up in an index of names: the position of its contest, and its name. The ranks in the index are
 /// those among `objects`.
-#[derive(Drop)]
+#[derive(Clone, Copy, Drop)]
 pub(crate) struct SoughtName<'b, 'a> {
     pub(crate) objects: &'b RankedObjects<'a>,
     pub(crate) contest: usize,
@@ -27,21 +31,18 @@ impl<'b, 'a> SoughtName<'b, 'a> {
         ensures { result ≡ (has_keys_among (map shown self.now.objects.now) self.now.name.now
             && eq_by_cmp ranked_name_cmp (ranked_parts (map shown self.now.objects.now) self.now.name.now) name.now) }
     {
-        let (one, other) = (self.name, name.name());
-        if one.digest() != other.digest() {
-            return false;
-        }
         if !self.has_ranks(name.ranks()) {
             return false;
         }
-        compare_numbered(one.parts(), name.ranks(), other.parts(), name.ranks()).is_eq()
+        compare_numbered(self.name, name.ranks(), name.name(), name.ranks()).is_eq()
     }
 
     /// Returns whether each key in the name is that of an object and these are the ranks of the keys.
     fn has_ranks(&self, ranks: &[usize]) -> bool
         ensures { result ≡ are_ranks_of (map shown self.now.objects.now) (family_chosen self.now.name.now.class) self.now.name.now.keys ranks.now }
     {
-        let keys = &self.name.parts().keys;
+        let name = self.name;
+        let keys = &name.keys;
         if keys.len() != ranks.len() {
             return false;
         }
@@ -58,65 +59,55 @@ impl<'b, 'a> SoughtName<'b, 'a> {
         ensures { result ≡ (is_key_among (map shown self.now.objects.now) (family_chosen self.now.name.now.class) key.now
             && (rank_among (map shown self.now.objects.now) (family_chosen self.now.name.now.class) (Some key.now) == rank)) }
     {
-        match self.objects.rank_of(self.name.parts().class, key) {
+        let name = self.name;
+        match self.objects.rank_of(name.class, key) {
             Some(own) => own == rank,
             None => false,
         }
     }
-}
 
-impl<'b, 'a> PartialEq for SoughtName<'b, 'a> {
-    ghost use Rattle.std.specs.Cmp.{eq_by_cmp_equiv, on_per, partial_equiv_from_equiv};
-    ghost use Rattle.std.specs.Ordering.{eq_by_cmp};
-    ghost use Rattle.erd_meaning.specs.code.RanksAmong.{sought_cmp};
-    ghost use Rattle.erd_meaning.specs.code.RankedOrders.{sought_cmp_total};
+    /// Feeds a hasher the ranks of the keys, and 0 for a key that is of no object.
+    fn feed_ranks(&self, hasher: &mut DefaultHasher)
+        ensures { hasher.new ≡ fold write hasher.old
+            (flat_map fed.usize (map (fed_rank (map shown self.now.objects.now) (family_chosen self.now.name.now.class)) self.now.name.now.keys)) }
+    {
+        let name = self.name;
+        for key in &name.keys {
+            self.fed_rank(key.key()).hash(hasher);
+        }
+    }
 
-    ghost eq = { λ a b. eq_by_cmp sought_cmp (a.contest, a.name.now) (b.contest, b.name.now) };
-
-    ghost laws = { on_per (λ a. (a.contest, a.name.now)) (partial_equiv_from_equiv (eq_by_cmp_equiv sought_cmp_total)) };
-
-    fn eq(&self, other: &SoughtName<'b, 'a>) -> bool {
-        self.contest
-            .cmp(&other.contest)
-            .then(self.name.cmp(other.name))
-            .is_eq()
+    /// Returns the rank of the key, or 0 if the key is of no object.
+    fn fed_rank(&self, key: &Key) -> usize
+        ensures { result ≡ fed_rank (map shown self.now.objects.now) (family_chosen self.now.name.now.class) key.now }
+    {
+        let name = self.name;
+        self.objects.rank_of(name.class, key).unwrap_or_default()
     }
 }
 
-impl<'b, 'a> Eq for SoughtName<'b, 'a> {
-    ghost use Rattle.std.specs.Cmp.{eq_by_cmp_equiv, on_equiv};
-    ghost use Rattle.erd_meaning.specs.code.RankedOrders.{sought_cmp_total};
-
-    ghost laws = { on_equiv (λ a. (a.contest, a.name.now)) (eq_by_cmp_equiv sought_cmp_total) };
-}
-
-impl<'b, 'a> Hash for SoughtName<'b, 'a> {
-    ghost use Rattle.erd_meaning.specs.code.RanksAmong.{sought_writes};
-    ghost use Rattle.erd_meaning.specs.code.RankedOrders.{equal_sought_alike};
-
-    ghost hash_input = { λ q. sought_writes (q.contest, q.name.now) };
-
-    ghost respects_eq = { λ a b. equal_sought_alike (a.contest, a.name.now) (b.contest, b.name.now) };
-
-    fn hash<H: Hasher>(&self, state: &mut H) {
-        self.contest.hash(state);
-        self.name.hash(state);
-    }
-}
-
-impl<'b, 'a> Equivalent<(usize, RankedName)> for &SoughtName<'b, 'a> {
+impl<'b, 'a> Sought<(usize, RankedName)> for SoughtName<'b, 'a> {
     ghost use Rattle.std.specs.Prelude.{map};
     ghost use Rattle.erd_meaning.specs.code.RanksAmong.{is_sought};
-    ghost use Rattle.erd_meaning.specs.code.RankedOrders.{sought_alike, sought_equal};
+    ghost use Rattle.erd_meaning.specs.code.RankedOrders.{sought_equal};
     ghost use Rattle.erd_meaning.specs.code.Shown.{shown};
 
-    ghost equivalent = { λ q. is_sought (map shown q.now.objects.now) q.now.contest q.now.name.now };
+    ghost finds = { λ q. is_sought (map shown q.objects.now) q.contest q.name.now };
 
-    ghost respects_hash = { λ q. sought_alike (map shown q.now.objects.now) q.now.contest q.now.name.now };
+    ghost respects_eq = { λ q. sought_equal (map shown q.objects.now) q.contest q.name.now };
 
-    ghost respects_eq = { λ q. sought_equal (map shown q.now.objects.now) q.now.contest q.now.name.now };
+    fn number(&self, salt: &Salt) -> u64 {
+        let name = self.name;
+        let mut hasher = salt.start;
+        self.contest.hash(&mut hasher);
+        type_text(name.class).hash(&mut hasher);
+        name.keys.len().hash(&mut hasher);
+        self.feed_ranks(&mut hasher);
+        name.hash_after_keys(&mut hasher);
+        hasher.finish()
+    }
 
-    fn equivalent(&self, key: &(usize, RankedName)) -> bool {
+    fn finds(&self, key: &(usize, RankedName)) -> bool {
         self.contest == key.0 && self.is_name(&key.1)
     }
 }

@@ -1,6 +1,5 @@
 use Rattle.std.proofs.Common.{◌≡◌, ℕ, List, false, is_eq, map, true, sym, ap, ap₂, ◌∙◌}
 use Rattle.erd_meaning.specs.NameParts.{NameParts}
-use Rattle.erd_meaning.specs.Hashes.{name_digest}
 use Rattle.erd_meaning.specs.NumberedNames.{numbered_name_cmp, numbered_parts}
 use Rattle.erd_meaning.specs.code.RanksAmong.{are_ranks_of}
 use Rattle.erd_meaning.specs.RankedNames.{family_chosen}
@@ -22,8 +21,7 @@ returns c =
     let n = c.args.self.now.name.now in
     let s = c.args.name.now in
     let are : are_ranks_of ks (family_chosen n.class) n.keys s.ranks ≡ true = ap (are_ranks_of ks (family_chosen n.class) n.keys) (sym c.ranks.ensures) ∙ sym c.has_ranks.ensures ∙ c.if-not-has_ranks.false in
-    let hashed : name_digest n ≡ name_digest s.name = sym c.digest.ensures ∙ c.if-digest.false ∙ c.digest-2.ensures ∙ ap name_digest c.name-other.ensures in
     c.is_eq.ensures ∙ ap is_eq c.compare_numbered.ensures
-    ∙ ap₂ (λ (m : NameParts) (ks : List ℕ). is_eq (numbered_name_cmp (numbered_parts m ks) (numbered_parts c.parts-2.result.now c.ranks-3.result.now))) c.parts.ensures c.ranks-2.ensures
-    ∙ ap₂ (λ (m : NameParts) (ls : List ℕ). is_eq (numbered_name_cmp (numbered_parts n s.ranks) (numbered_parts m ls))) (c.parts-2.ensures ∙ c.name-other.ensures) c.ranks-3.ensures
-    ∙ sought_hits ks n s hashed are
+    ∙ ap₂ (λ (m : NameParts) (ls : List ℕ). is_eq (numbered_name_cmp (numbered_parts n c.ranks-2.result.now) (numbered_parts m ls))) c.name.ensures c.ranks-3.ensures
+    ∙ ap (λ (ks : List ℕ). is_eq (numbered_name_cmp (numbered_parts n ks) (numbered_parts s.name s.ranks))) c.ranks-2.ensures
+    ∙ sought_hits ks n s are

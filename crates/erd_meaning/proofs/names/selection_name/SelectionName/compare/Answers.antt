@@ -1,6 +1,6 @@
 use Rattle.std.proofs.Common.{refl}
 use Rattle.erd_meaning.proofs.orders.ComparisonChains.{then_assoc}
-use Rattle.erd_meaning.proofs.names.parts.Parts.compare.Goals as goal
+use Rattle.erd_meaning.proofs.names.selection_name.SelectionName.compare.Goals as goal
 
 pub returns : goal.returns
 returns c =

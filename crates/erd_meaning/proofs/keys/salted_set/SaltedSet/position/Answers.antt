@@ -1,0 +1,11 @@
+use Rattle.std.proofs.Common.{ap, ◌∙◌}
+use Rattle.std.specs.List.{position}
+use Rattle.erd_meaning.proofs.finding.NumberedKeys.{position_numbered}
+use Rattle.erd_meaning.proofs.keys.salted_set.SaltedSet.position.Goals as goal
+
+pub returns : goal.returns
+returns g c =
+    c.get_index_of.ensures.index
+    ∙ position_numbered g.K.Hash.hash_input c.self.inside.salt c.number-number.result (g.Q.Sought.finds c.args.sought) c.number-number.ensures
+    c.self.inside.set.keys c.self.invariant
+    ∙ ap (λ ks. position (g.Q.Sought.finds c.args.sought) ks) c.self.view_is
