@@ -11,7 +11,7 @@ use Rattle.erd_tables.specs.declared.class.Family.TheVariants as family
 use Rattle.erd_meaning.specs.Keys.{Preference}
 use Rattle.erd_meaning.specs.Lookups.{rank_of, selection_in}
 use Rattle.erd_meaning.specs.NameParts.{NameParts}
-use Rattle.erd_meaning.specs.NumberedNames.{numbered_name_cmp, numbered_name_writes, numbered_parts}
+use Rattle.erd_meaning.specs.NumberedNames.{NumberedParts, numbered_name_cmp, numbered_name_writes, numbered_parts}
 
 -- The family of the objects that a selection of the class is for. Only candidates and parties have selections.
 abbrev pub family_chosen : Class → Family
@@ -41,10 +41,14 @@ pub record IsRankedIn (π : Preference) (t : Data) (r : RankedParts) : Type 0 wh
   pub index : ℕ
   pub is : ranked_selection_in π t index ≡ Some (contest, r)
 
+-- The name with the ranks in place of its keys.
+abbrev pub with_ranks : RankedParts → NumberedParts
+with_ranks r = numbered_parts r.name r.ranks
+
 -- These are compared as names are, with the ranks in place of the keys.
 abbrev pub ranked_name_cmp : RankedParts → RankedParts → Ordering
-ranked_name_cmp a b = numbered_name_cmp (numbered_parts a.name a.ranks) (numbered_parts b.name b.ranks)
+ranked_name_cmp a b = numbered_name_cmp (with_ranks a) (with_ranks b)
 
 -- What the hasher is given of such a name.
 abbrev pub ranked_name_writes : RankedParts → HashWrites
-ranked_name_writes r = numbered_name_writes (numbered_parts r.name r.ranks)
+ranked_name_writes r = numbered_name_writes (with_ranks r)

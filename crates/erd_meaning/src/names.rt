@@ -3,7 +3,6 @@
 mod label;
 mod label_output;
 pub(crate) mod naming;
-pub mod numbered_name;
 pub mod ranked_name;
 pub mod selection_name;
 pub(crate) mod selection_walk;

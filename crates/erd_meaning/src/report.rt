@@ -57,7 +57,7 @@ pub struct Report<'a> {
 #[derive(Debug, Drop)]
 pub(crate) struct Indexes<'a> {
     pub(crate) objects: RankedObjects<'a>,
-    pub(crate) names: SaltedSet<(usize, RankedName)>,
+    pub(crate) names: SaltedSet<(usize, RankedName<SelectionName>)>,
     pub(crate) elections: Elections<'a>,
 }
 
@@ -348,7 +348,7 @@ impl<'a> Report<'a> {
     /// let (_, ranked) = report.ranked_name_at(0).ok_or("no selection")?;
     /// assert_eq!(rt; ranked.family(), Family::Candidate);
     /// ```
-    pub fn ranked_name_at(&self, index: usize) -> Option<(usize, &RankedName)>
+    pub fn ranked_name_at(&self, index: usize) -> Option<(usize, &RankedName<SelectionName>)>
         ensures { option_map (λ s. (s.0, s.1.now)) result ≡ ranked_selection_in self.now.prefer (view self.now.tree) index }
     {
         let (contest, name) = self.indexes().names.get_index(index)?;

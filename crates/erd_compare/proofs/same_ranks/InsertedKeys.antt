@@ -2,7 +2,7 @@
 use Rattle.std.proofs.Common.{◌≡◌, ◌≤◌, ◌+◌, ℕ, List, [], ◌∷◌, ◌++◌, length, map, drop, Bool, true, false, not, cond, ◌||◌, eqb, Option, Some, None, option_map, Ordering, is_eq, inl, inr, refl, sym, ap, ap₂, ◌∙◌, subst, append-nil, arith}
 use Rattle.std.proofs.lemmas.Bool.Decides.{Decides-eqb}
 use Rattle.std.proofs.lemmas.Cmp.{tied_itself}
-use Rattle.std.proofs.lemmas.List.{drop_all, drop_more}
+use Rattle.std.proofs.lemmas.List.{drop_all, drop_more, map-append}
 use Rattle.std.proofs.lemmas.Option.{get_or_from_slice_get, slice_get_within}
 use Rattle.std.proofs.lemmas.List.Folds.{list_any-append, position_or_len_push}
 use Rattle.std.proofs.lemmas.Map.Lookups.{CmpEqualImpliesEq}
@@ -191,3 +191,21 @@ module _ {K : Type 0} (cmp : K → K → Ordering) (total : IsTotalOrder cmp) (e
     none_left old ks all i ns past h =
         let ended = subst (λ left. IsAdding old all left ks ns) (drop_all i all past) h in
         sym (append-nil ns) ∙ (ended.positions ∙ ap (λ xs. map (position_in xs) all) (sym ended.keys))
+
+-- ---- keys that are seen through a function
+
+module _ {A K : Type 0} (see : A → K) (eq : K → K → Bool) (x : A) where
+  any_seen : (ks : List A) → list_any (λ y. eq (see x) (see y)) ks ≡ list_any (eq (see x)) (map see ks)
+  any_seen [] = refl
+  any_seen (k ∷ ks) = ap (λ b. eq (see x) (see k) || b) (any_seen ks)
+
+  pub place_seen : (ks : List A) → position_or_len (λ y. eq (see x) (see y)) ks ≡ position_or_len (eq (see x)) (map see ks)
+  place_seen [] = refl
+  place_seen (k ∷ ks) = ap (λ n. cond (not (eq (see x) (see k))) (1 + n) 0) (place_seen ks)
+
+  pub inserted_seen : (ks : List A) → map see (insert_key (λ a b. eq (see a) (see b)) ks x) ≡ insert_key eq (map see ks) (see x)
+  inserted_seen ks = at (list_any (λ y. eq (see x) (see y)) ks) ∙ ap (λ b. cond b (map see ks) (map see ks ++ see x ∷ [])) (any_seen ks)
+    where
+      at : (b : Bool) → map see (cond b ks (ks ++ x ∷ [])) ≡ cond b (map see ks) (map see ks ++ see x ∷ [])
+      at true = refl
+      at false = map-append see ks (x ∷ [])

@@ -7,13 +7,14 @@ ghost use Rattle.indexmap.specs.IndexSet.{insert_all};
 ghost use Rattle.erd_tables.specs.declared.class.Family.TheVariants as family;
 ghost use Rattle.erd_tables.specs.declared.class.Role.TheVariants.{OfFamily};
 ghost use Rattle.erd_meaning.specs.Objects.{objects};
+ghost use Rattle.erd_meaning.specs.RankedNames.{with_ranks};
 ghost use Rattle.erd_compare.specs.code.CommonNames.{AreNameNumbers, name_eq, name_told, ranks_told};
 ghost use Rattle.erd_compare.specs.code.CommonRanks.{common_rank_of};
 ghost use Rattle.erd_compare.specs.code.RankedSides.{AreCommonByRank};
 
 use crate::ranks::common_ranks::CommonRanks;
 use crate::ranks::side::Side;
-use erd_meaning::{NumberedName, RankedName, Report, SaltedSet};
+use erd_meaning::{RankedName, Report, SaltedSet, SelectionName};
 use erd_tables::{Family, Role};
 use std::alloc::{AllocError, Global};
 
@@ -52,12 +53,12 @@ fn numbers_of_names<'a>(
     report: &'a Report,
     common: &CommonRanks,
     side: Side,
-    names: &mut SaltedSet<NumberedName<'a>>,
+    names: &mut SaltedSet<RankedName<&'a SelectionName>>,
 ) -> Result<Vec<Option<usize>>, AllocError>
-    ensures names { IfOk result (λ _. names.new
-        ≡ insert_all name_eq names.old (filter_map (λ o. name_told common.now side report.now o.value) (objects family.Selection (view report.now.tree)))) }
+    ensures names { IfOk result (λ _. map with_ranks names.new
+        ≡ insert_all name_eq (map with_ranks names.old) (filter_map (λ o. name_told common.now side report.now o.value) (objects family.Selection (view report.now.tree)))) }
     ensures numbers { IfOk result (λ numbers. numbers.items
-        ≡ map (λ o. option_map (λ name. position_or_len (name_eq name) names.new) (name_told common.now side report.now o.value)) (objects family.Selection (view report.now.tree))) }
+        ≡ map (λ o. option_map (λ name. position_or_len (name_eq name) (map with_ranks names.new)) (name_told common.now side report.now o.value)) (objects family.Selection (view report.now.tree))) }
 {
     let count = report.count(Family::Selection);
     let mut numbers = Vec::with_capacity(alloc, count)?;
@@ -79,13 +80,13 @@ fn name_at<'a>(
     common: &CommonRanks,
     side: Side,
     position: usize,
-) -> Result<Option<NumberedName<'a>>, AllocError>
-    ensures { IfOk result (λ name. name ≡ option_and_then (λ o. name_told common.now side report.now o.value) (slice_get (objects family.Selection (view report.now.tree)) position)) }
+) -> Result<Option<RankedName<&'a SelectionName>>, AllocError>
+    ensures { IfOk result (λ name. option_map with_ranks name ≡ option_and_then (λ o. name_told common.now side report.now o.value) (slice_get (objects family.Selection (view report.now.tree)) position)) }
 {
     match report.ranked_name_at(position) {
         Some((_, name)) => {
             let ranks = ranks_in_name(alloc, common, side, name)?;
-            Ok(Some(NumberedName::lent(name.name(), ranks)))
+            Ok(Some(RankedName::of(name.name(), ranks)))
         }
         None => Ok(None),
     }
@@ -96,7 +97,7 @@ fn ranks_in_name(
     alloc: Global,
     common: &CommonRanks,
     side: Side,
-    name: &RankedName,
+    name: &RankedName<SelectionName>,
 ) -> Result<Vec<usize>, AllocError>
     ensures { IfOk result (λ ranks. ranks.items ≡ ranks_told common.now side name.now) }
 {

@@ -6,17 +6,17 @@ use Rattle.std.proofs.lemmas.Bool.Decides.{Decides-eqb}
 use Rattle.std.proofs.lemmas.Cmp.{on_total}
 use Rattle.erd_check.proofs.Reasons.{and_true}
 use Rattle.erd_meaning.specs.NameParts.{NameParts}
-use Rattle.erd_meaning.specs.NumberedNames.{numbered_name_writes, numbered_parts}
+use Rattle.erd_meaning.specs.NumberedNames.{numbered_name_writes}
 use Rattle.erd_meaning.specs.code.NumberedOrders.{equal_numbered_alike, numbered_name_cmp_total}
 use Rattle.erd_meaning.specs.code.ObjectWalk.{Kept}
-use Rattle.erd_meaning.specs.RankedNames.{PlacedName, RankedParts, ranked_name_cmp, ranked_name_writes}
+use Rattle.erd_meaning.specs.RankedNames.{PlacedName, RankedParts, ranked_name_cmp, ranked_name_writes, with_ranks}
 use Rattle.erd_meaning.specs.code.RanksAmong.{has_keys_among, is_sought, ranked_parts}
 
 pub ranked_name_cmp_total : IsTotalOrder ranked_name_cmp
-ranked_name_cmp_total = on_total (λ r. numbered_parts r.name r.ranks) numbered_name_cmp_total
+ranked_name_cmp_total = on_total with_ranks numbered_name_cmp_total
 
 pub equal_ranked_alike : (a b : RankedParts) → eq_by_cmp ranked_name_cmp a b ≡ true → ranked_name_writes a ≡ ranked_name_writes b
-equal_ranked_alike a b e = equal_numbered_alike numbered_name_writes (numbered_parts a.name a.ranks) (numbered_parts b.name b.ranks) e
+equal_ranked_alike a b e = equal_numbered_alike numbered_name_writes (with_ranks a) (with_ranks b) e
 
 -- a name that is looked up is told from the others as the index tells them apart
 pub sought_equal : (ks : List Kept) (c : ℕ) (n : NameParts) (x y : PlacedName) → is_sought ks c n x ≡ true

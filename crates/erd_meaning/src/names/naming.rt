@@ -27,7 +27,7 @@ pub(crate) fn name_of_selection(
     keys: &KeyRule,
     objects: &RankedObjects,
     selection: &Value,
-) -> Result<Option<RankedName>, AllocError>
+) -> Result<Option<RankedName<SelectionName>>, AllocError>
     requires whole { has_float (view selection.now) ≡ false }
     ensures { IfOk result (λ name. name ≡ ranked_name_among keys.now (map shown objects.now) (view selection.now)) }
 {

@@ -1,8 +1,8 @@
 ghost use Rattle.std.specs.Prelude.{◌≡◌};
 ghost use Rattle.serde_json.specs.Data.{Data};
 ghost use Rattle.erd_meaning.specs.Keys.{Preference};
-ghost use Rattle.erd_meaning.specs.NumberedNames.{numbered_name_cmp, numbered_parts};
-ghost use Rattle.erd_meaning.specs.RankedNames.{IsRankedIn, family_chosen};
+ghost use Rattle.erd_meaning.specs.NameParts.{NameParts};
+ghost use Rattle.erd_meaning.specs.RankedNames.{IsRankedIn, family_chosen, ranked_name_cmp};
 ghost use Rattle.erd_meaning.specs.SelectionNames.{name_cmp};
 
 use crate::names::selection_name::{SelectionName, compare_numbered};
@@ -12,32 +12,68 @@ use std::cmp::Ordering;
 use std::hash::{Hash, Hasher};
 use std::marker::Model;
 
-/// The name of a selection of a report, with the ranks of its keys. The rank of a key is the number of candidates, or of
-/// parties, of the report that have lesser keys. Contracts see the name and the ranks.
+/// A name of a selection that is owned or lent.
+pub trait Named {
+    // The name.
+    ghost name_of: { Self → NameParts };
+
+    /// Returns the name.
+    ///
+    /// ```
+    /// assert!(rt; Named::name(name) == name);
+    /// ```
+    fn name(&self) -> &SelectionName
+        ensures { result.now ≡ name_of self.now };
+}
+
+impl Named for SelectionName {
+    ghost name_of = { λ n. n };
+
+    fn name(&self) -> &SelectionName {
+        self
+    }
+}
+
+impl<'a> Named for &'a SelectionName {
+    ghost name_of = { λ n. n.now };
+
+    fn name(&self) -> &SelectionName {
+        self
+    }
+}
+
+/// The name of a selection, owned or lent, with ranks of its keys. In a report, the rank of a key is the number of candidates,
+/// or of parties, that have lesser keys; between two reports, the caller gives common ranks. Contracts see the name and the
+/// ranks.
 ///
-/// Two names of one report are compared by their ranks and their other parts, so long keys take no longer. Do not compare
-/// names of different reports with `==` or `compare`: there, equal ranks may stand for different keys.
+/// Two names are compared by their ranks and their other parts, so long keys take no longer. Do not compare names whose
+/// ranks are of different reports with `==` or `compare`: there, equal ranks may stand for different keys.
 #[derive(Debug, Drop)]
-pub struct RankedName {
-    name: SelectionName,
+pub struct RankedName<N: Named> {
+    name: N,
     ranks: Vec<usize>,
 }
 
-impl Model for RankedName {
+impl<N: Named> Model for RankedName<N> {
     ghost use Rattle.erd_meaning.specs.RankedNames.{RankedParts};
 
     ghost Value = { RankedParts };
 
     ghost view = { λ r. record {
-      name = r.name;
+      name = N.name_of r.name;
       ranks = r.ranks.items;
     } };
 }
 
-impl RankedName {
+impl<N: Named> RankedName<N> {
     /// Returns the name with these ranks.
-    pub(crate) fn of(name: SelectionName, ranks: Vec<usize>) -> RankedName
-        ensures name { result.name ≡ name }
+    ///
+    /// ```
+    /// let lent = RankedName::of(name, Vec::new(alloc));
+    /// assert!(rt; lent == RankedName::of(name, Vec::new(alloc)));
+    /// ```
+    pub fn of(name: N, ranks: Vec<usize>) -> RankedName<N>
+        ensures name { result.name ≡ N.name_of name }
         ensures ranks { result.ranks ≡ ranks.items }
     {
         RankedName { name, ranks }
@@ -51,7 +87,7 @@ impl RankedName {
     pub fn name(&self) -> &SelectionName
         ensures { result.now ≡ self.now.name }
     {
-        &self.name
+        self.name.name()
     }
 
     /// Returns the family of the objects whose keys are in the name. For a name without keys it may be `Family::Candidate`.
@@ -62,7 +98,8 @@ impl RankedName {
     pub fn family(&self) -> Family
         ensures { result ≡ family_chosen self.now.name.class }
     {
-        family_chosen(self.name.class)
+        let name = self.name();
+        family_chosen(name.class)
     }
 
     /// Returns the ranks of the keys, in the order of the keys.
@@ -82,16 +119,16 @@ impl RankedName {
     /// ```
     /// assert_eq!(rt; write_in.compare(ranked), Ordering::Less);
     /// ```
-    pub fn compare(&self, other: &RankedName) -> Ordering
-        ensures ranks { result ≡ numbered_name_cmp (numbered_parts self.now.name self.now.ranks) (numbered_parts other.now.name other.now.ranks) }
+    pub fn compare(&self, other: &RankedName<N>) -> Ordering
+        ensures ranks { result ≡ ranked_name_cmp self.now other.now }
         ensures names { (π : Preference) (t : Data) → IsRankedIn π t self.now → IsRankedIn π t other.now
             → result ≡ name_cmp self.now.name other.now.name }
     {
-        compare_numbered(&self.name, &self.ranks, &other.name, &other.ranks)
+        compare_numbered(self.name(), &self.ranks, other.name(), &other.ranks)
     }
 }
 
-impl PartialEq for RankedName {
+impl<N: Named> PartialEq for RankedName<N> {
     ghost use Rattle.std.specs.Cmp.{eq_by_cmp_equiv, partial_equiv_from_equiv};
     ghost use Rattle.std.specs.Ordering.{eq_by_cmp};
     ghost use Rattle.erd_meaning.specs.RankedNames.{ranked_name_cmp};
@@ -101,19 +138,19 @@ impl PartialEq for RankedName {
 
     ghost laws = { partial_equiv_from_equiv (eq_by_cmp_equiv ranked_name_cmp_total) };
 
-    fn eq(&self, other: &RankedName) -> bool {
+    fn eq(&self, other: &RankedName<N>) -> bool {
         self.compare(other).is_eq()
     }
 }
 
-impl Eq for RankedName {
+impl<N: Named> Eq for RankedName<N> {
     ghost use Rattle.std.specs.Cmp.{eq_by_cmp_equiv};
     ghost use Rattle.erd_meaning.specs.code.RankedOrders.{ranked_name_cmp_total};
 
     ghost laws = { eq_by_cmp_equiv ranked_name_cmp_total };
 }
 
-impl Hash for RankedName {
+impl<N: Named> Hash for RankedName<N> {
     ghost use Rattle.erd_meaning.specs.RankedNames.{ranked_name_writes};
     ghost use Rattle.erd_meaning.specs.code.RankedOrders.{equal_ranked_alike};
 
@@ -122,6 +159,6 @@ impl Hash for RankedName {
     ghost respects_eq = { equal_ranked_alike };
 
     fn hash<H: Hasher>(&self, state: &mut H) {
-        self.name.hash_numbered(&self.ranks, state);
+        self.name().hash_numbered(&self.ranks, state);
     }
 }

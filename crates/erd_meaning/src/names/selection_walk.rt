@@ -14,6 +14,7 @@ use crate::keys::key_rule::KeyRule;
 use crate::keys::salted_set::SaltedSet;
 use crate::names::naming::name_of_selection;
 use crate::names::ranked_name::RankedName;
+use crate::names::selection_name::SelectionName;
 use crate::objects::ranked_objects::RankedObjects;
 use erd_check::path::{Path, push_fault};
 use erd_check::values::entries_at;
@@ -25,7 +26,7 @@ use std::alloc::{AllocError, Global};
 /// places; and the faults of selections. If several selections of a contest have the same name, the first is kept.
 #[derive(Drop)]
 pub(crate) struct SelectionWalk {
-    pub(crate) names: SaltedSet<(usize, RankedName)>,
+    pub(crate) names: SaltedSet<(usize, RankedName<SelectionName>)>,
     pub(crate) faults: Vec<Fault>,
 }
 
@@ -131,7 +132,7 @@ fn meet_selection(
 fn meet_name(
     alloc: Global,
     contest: usize,
-    name: RankedName,
+    name: RankedName<SelectionName>,
     path: &Path,
     walk: &mut SelectionWalk,
 ) -> Result<(), AllocError>

@@ -27,7 +27,7 @@ pub(crate) struct SoughtName<'b, 'a> {
 
 impl<'b, 'a> SoughtName<'b, 'a> {
     /// Returns whether the index has the name as this one.
-    fn is_name(&self, name: &RankedName) -> bool
+    fn is_name(&self, name: &RankedName<SelectionName>) -> bool
         ensures { result ≡ (has_keys_among (map shown self.now.objects.now) self.now.name.now
             && eq_by_cmp ranked_name_cmp (ranked_parts (map shown self.now.objects.now) self.now.name.now) name.now) }
     {
@@ -86,7 +86,7 @@ impl<'b, 'a> SoughtName<'b, 'a> {
     }
 }
 
-impl<'b, 'a> Sought<(usize, RankedName)> for SoughtName<'b, 'a> {
+impl<'b, 'a> Sought<(usize, RankedName<SelectionName>)> for SoughtName<'b, 'a> {
     ghost use Rattle.std.specs.Prelude.{map};
     ghost use Rattle.erd_meaning.specs.code.RanksAmong.{is_sought};
     ghost use Rattle.erd_meaning.specs.code.RankedOrders.{sought_equal};
@@ -107,7 +107,7 @@ impl<'b, 'a> Sought<(usize, RankedName)> for SoughtName<'b, 'a> {
         hasher.finish()
     }
 
-    fn finds(&self, key: &(usize, RankedName)) -> bool {
+    fn finds(&self, key: &(usize, RankedName<SelectionName>)) -> bool {
         self.contest == key.0 && self.is_name(&key.1)
     }
 }

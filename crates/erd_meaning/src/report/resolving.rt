@@ -17,6 +17,7 @@ use crate::keys::key_rule::KeyRule;
 use crate::keys::salt::salt_of;
 use crate::keys::salted_set::SaltedSet;
 use crate::names::ranked_name::RankedName;
+use crate::names::selection_name::SelectionName;
 use crate::names::selection_walk::{SelectionWalk, meet_selections};
 use crate::objects::election_table::ElectionTable;
 use crate::objects::holders::Holders;
@@ -93,7 +94,7 @@ fn indexed<'a>(
     keys: &KeyRule,
     tree: &'a Value,
     objects: RankedObjects<'a>,
-    names: SaltedSet<(usize, RankedName)>,
+    names: SaltedSet<(usize, RankedName<SelectionName>)>,
     elections: ElectionTable<'a>,
 ) -> Result<Report<'a>, AllocError>
     requires resolved { IsResolved keys.now tree.now objects (names_of names) }
@@ -179,7 +180,7 @@ fn names_told_apart(
     keys: &KeyRule,
     tree: &Value,
     objects: &RankedObjects,
-) -> Result<SaltedSet<(usize, RankedName)>, CheckError>
+) -> Result<SaltedSet<(usize, RankedName<SelectionName>)>, CheckError>
     requires kept { map shown objects.now ≡ kept_objects keys.now (view tree.now) }
     requires identified { IsIdentified keys.now tree.now }
     requires faultless { IsFaultless tree.now }

@@ -11,7 +11,7 @@ ghost use Rattle.erd_normal.specs.code.SelectionOrders.{AreNamedFrom, AreSelecti
 
 use crate::writer::orders::SelectionOrders;
 use erd_check::values::entries_at;
-use erd_meaning::{RankedName, Report, places_in};
+use erd_meaning::{RankedName, Report, SelectionName, places_in};
 use erd_tables::Family;
 use serde_json::Value;
 use std::alloc::{AllocError, Global};
@@ -78,7 +78,7 @@ fn names_from<'a>(
     report: &'a Report,
     start: usize,
     selections: &[Value],
-) -> Result<Vec<(Option<&'a RankedName>, usize)>, AllocError>
+) -> Result<Vec<(Option<&'a RankedName<SelectionName>>, usize)>, AllocError>
     requires named { AreNamedFrom report.now.prefer (view report.now.tree) start (map view selections.now) }
     requires few { start + length selections.now < 2 ^ 64 }
     ensures { IfOk result (λ names. map (λ p. (option_copied p.0, p.1)) names.items
@@ -93,7 +93,7 @@ fn names_from<'a>(
 }
 
 /// Returns the name of the selection at a position of the report, if there is one.
-fn name_at<'a>(report: &'a Report, position: usize) -> Option<&'a RankedName>
+fn name_at<'a>(report: &'a Report, position: usize) -> Option<&'a RankedName<SelectionName>>
     ensures { option_copied result ≡ option_map (ranked_name report.now.prefer (view report.now.tree)) (name_in report.now.prefer (view report.now.tree) position) }
 {
     match report.ranked_name_at(position) {
@@ -104,8 +104,8 @@ fn name_at<'a>(report: &'a Report, position: usize) -> Option<&'a RankedName>
 
 /// Returns the same names in rising order. Names of one report are compared by the ranks of their keys.
 fn in_rising_order(
-    mut names: Vec<(Option<&RankedName>, usize)>,
-) -> Result<Vec<(Option<&RankedName>, usize)>, AllocError>
+    mut names: Vec<(Option<&RankedName<SelectionName>>, usize)>,
+) -> Result<Vec<(Option<&RankedName<SelectionName>>, usize)>, AllocError>
     ensures { IfOk result (λ rising. rising.items ≡ rising_list (λ a b. lent_name_cmp a.0 b.0) names.entry.items) }
 {
     names.sort_by(|one, other| compare_names(one.0, other.0))?;
@@ -113,7 +113,7 @@ fn in_rising_order(
 }
 
 /// Compares two names of one report. A missing name comes before every other.
-fn compare_names(one: Option<&RankedName>, other: Option<&RankedName>) -> Ordering
+fn compare_names(one: Option<&RankedName<SelectionName>>, other: Option<&RankedName<SelectionName>>) -> Ordering
     ensures { result ≡ lent_name_cmp one.entry other.entry }
 {
     match (one, other) {
@@ -127,7 +127,7 @@ fn compare_names(one: Option<&RankedName>, other: Option<&RankedName>) -> Orderi
 /// Returns the positions that stand with the names.
 fn positions_of(
     alloc: Global,
-    names: &[(Option<&RankedName>, usize)],
+    names: &[(Option<&RankedName<SelectionName>>, usize)],
 ) -> Result<Vec<usize>, AllocError>
     ensures { IfOk result (λ positions. positions.items ≡ map (λ p. p.1) names.now) }
 {

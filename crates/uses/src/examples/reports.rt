@@ -3,7 +3,7 @@ use crate::report_of;
 use erd_check::{same_json, shape};
 use erd_compare::first_difference;
 use erd_meaning::{
-    Key, NumberedName, PerFamily, Report, Row, SaltedSet, SelectionName, key_of, places_in,
+    Key, Named, PerFamily, RankedName, Report, Row, SaltedSet, SelectionName, key_of, places_in,
     resolve, resolve_with,
 };
 use erd_normal::{CompactText, SetOrder, in_order, normal_text, normal_tree};
@@ -99,8 +99,9 @@ fn names(rt: &impl Abort, alloc: Global, report: &Report) -> Result<(), Fail> {
 
 fn copies(rt: &impl Abort, alloc: Global, name: &SelectionName) -> Result<(), Fail> {
     assert!(rt; name.try_clone(alloc)? == *name);
-    let numbered = NumberedName::lent(name, Vec::new(alloc));
-    assert!(rt; numbered == NumberedName::lent(name, Vec::new(alloc)));
+    let lent = RankedName::of(name, Vec::new(alloc));
+    assert!(rt; lent == RankedName::of(name, Vec::new(alloc)));
+    assert!(rt; Named::name(name) == name);
     Ok(())
 }
 

@@ -1,12 +1,13 @@
-use Rattle.std.proofs.Common.{◌<◌, ◌≤◌, Option, Some, length, option_and_then, sym, ap, ◌∙◌, subst}
+use Rattle.std.proofs.Common.{◌<◌, ◌≤◌, Option, Some, length, map, option_and_then, option_map, sym, ap, ◌∙◌, subst}
 use Rattle.serde_json.specs.View.{view}
 use Rattle.erd_tables.specs.declared.class.Family.TheVariants as family
 use Rattle.erd_meaning.specs.Objects.{Placed, objects}
 use Rattle.erd_meaning.specs.NumberedNames.{NumberedParts, numbered_name_cmp}
 use Rattle.erd_meaning.specs.code.NumberedOrders.{numbered_name_cmp_exact, numbered_name_cmp_total}
 use Rattle.erd_meaning.proofs.finding.OneObject.{at_low}
-use Rattle.erd_compare.specs.code.CommonNames.{name_told}
-use Rattle.erd_compare.proofs.same_ranks.InsertedKeys.{next_none, next_one, none_left}
+use Rattle.erd_meaning.specs.RankedNames.{with_ranks}
+use Rattle.erd_compare.specs.code.CommonNames.{name_eq, name_told}
+use Rattle.erd_compare.proofs.same_ranks.InsertedKeys.{inserted_seen, next_none, next_one, none_left, place_seen}
 use Rattle.erd_compare.proofs.ranks.name_numbers.numbers_of_names.Goals as goal
 use Rattle.erd_compare.proofs.ranks.name_numbers.numbers_of_names.Goals.{in-Some+in_ok-insert_full-in-Some, in-None}
 
@@ -15,7 +16,7 @@ loop-position-preserved c =
     let told : Placed → Option NumberedParts = λ o. name_told c.args.common.now c.args.side c.args.report.now o.value in
     let os = objects family.Selection (view c.args.report.now.tree) in
     let i = c.loop-position.position in
-    let ks = c.loop-position.names in
+    let ks = map with_ranks c.loop-position.names in
     let ns = c.loop-position.numbers.items in
     let low : i < length os = subst (λ n. i < n) c.count-count.ensures c.loop-position-test.true in
     let o = at_low os i low in
@@ -23,14 +24,16 @@ loop-position-preserved c =
     let total = numbered_name_cmp_total in
     let exact = numbered_name_cmp_exact in
     elim c.match-branch-3.branch [
-      | in-Some+in_ok-insert_full-in-Some w ↦ next_one numbered_name_cmp total exact told _ ks c.match-branch-3.names os i o.0 c.match-branch-3.number ns _ o.1 c.loop-position.invariant c.in_ok-push.ensures.items
-          w.in-Some.name (sym name ∙ w.in-Some.is) (w.names-is ∙ w.in_ok-insert_full-in-Some.ensures.keys) (w.number-is ∙ ap Some w.in_ok-insert_full-in-Some.ensures.index)
-      | in-None w ↦ next_none numbered_name_cmp total exact told _ ks c.match-branch-3.names os i o.0 c.match-branch-3.number ns _ o.1 c.loop-position.invariant c.in_ok-push.ensures.items
-          (sym name ∙ w.in-None.is) w.names-is w.number-is
+      | in-Some+in_ok-insert_full-in-Some w ↦ next_one numbered_name_cmp total exact told _ ks (map with_ranks c.match-branch-3.names) os i o.0 c.match-branch-3.number ns _ o.1 c.loop-position.invariant c.in_ok-push.ensures.items
+          (with_ranks w.in-Some.name) (sym name ∙ ap (option_map with_ranks) w.in-Some.is)
+          (ap (map with_ranks) (w.names-is ∙ w.in_ok-insert_full-in-Some.ensures.keys) ∙ inserted_seen with_ranks name_eq w.in-Some.name c.loop-position.names)
+          (w.number-is ∙ ap Some (w.in_ok-insert_full-in-Some.ensures.index ∙ place_seen with_ranks name_eq w.in-Some.name c.loop-position.names))
+      | in-None w ↦ next_none numbered_name_cmp total exact told _ ks (map with_ranks c.match-branch-3.names) os i o.0 c.match-branch-3.number ns _ o.1 c.loop-position.invariant c.in_ok-push.ensures.items
+          (sym name ∙ ap (option_map with_ranks) w.in-None.is) (ap (map with_ranks) w.names-is) w.number-is
     ]
 
 pub returns-clause-numbers : goal.returns-clause-numbers
 returns-clause-numbers c =
     let os = objects family.Selection (view c.args.report.now.tree) in
     let past : length os ≤ c.loop-position.position = subst (λ n. n ≤ c.loop-position.position) c.count-count.ensures c.loop-position-test.false in
-    none_left numbered_name_cmp numbered_name_cmp_total numbered_name_cmp_exact (λ o. name_told c.args.common.now c.args.side c.args.report.now o.value) _ c.loop-position.names os c.loop-position.position c.loop-position.numbers.items past c.loop-position.invariant
+    none_left numbered_name_cmp numbered_name_cmp_total numbered_name_cmp_exact (λ o. name_told c.args.common.now c.args.side c.args.report.now o.value) _ (map with_ranks c.loop-position.names) os c.loop-position.position c.loop-position.numbers.items past c.loop-position.invariant

@@ -1,11 +1,11 @@
 use Rattle.std.proofs.Common.{◌≡◌, ◌∙◌, rules}
-use Rattle.erd_meaning.specs.NumberedNames.{numbered_name_cmp, numbered_parts}
+use Rattle.erd_meaning.specs.RankedNames.{ranked_name_cmp}
 use Rattle.erd_meaning.proofs.selections.RanksInTurn.{names_in_order}
 use Rattle.erd_meaning.proofs.names.ranked_name.RankedName.compare.Goals as goal
 
 pub returns-clause-names : goal.returns-clause-names
-returns-clause-names c π t h k =
+returns-clause-names g c π t h k =
     let one = c.args.self.now in
     let other = c.args.other.now in
-    let by_ranks : c.compare_numbered.result ≡ numbered_name_cmp (numbered_parts one.name one.ranks) (numbered_parts other.name other.ranks) = search rules in
+    let by_ranks : c.compare_numbered.result ≡ ranked_name_cmp one other = search rules in
     by_ranks ∙ names_in_order π t one other h k

@@ -9,7 +9,7 @@ use Rattle.erd_meaning.specs.code.RanksAmong.{fed_rank}
 use Rattle.erd_meaning.specs.code.Salts.{salted_number}
 use Rattle.erd_meaning.specs.code.Shown.{shown}
 use Rattle.erd_meaning.proofs.selections.RankedTests.{sought_fed}
-use Rattle.erd_meaning.proofs.names.sought_name.SoughtNameSoughtTuple2UsizeRankedName.number.Goals as goal
+use Rattle.erd_meaning.proofs.names.sought_name.SoughtNameSoughtTuple2UsizeRankedNameSelectionName.number.Goals as goal
 
 pub returns : goal.returns
 returns c k found =
