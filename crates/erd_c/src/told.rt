@@ -57,7 +57,7 @@ pub(crate) fn tell(answer: Result<(Outcome, Vec<u8>), RunFault>, room: &mut [u8]
     }
 }
 
-/// A result without a text.
+/// Returns a result without a text.
 fn textless(outcome: u32) -> Told
     ensures outcome { result.outcome ≡ outcome }
     ensures length { result.length ≡ 0 }

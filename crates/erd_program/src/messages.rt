@@ -43,7 +43,7 @@ pub(crate) fn refused<E: Sink>(fault: WorldFault, line: &str, err: &mut E) -> u8
     fault.status()
 }
 
-/// The line that says why a run ended early, with its line feed.
+/// Returns the line that says why a run ended early, with its line feed.
 pub(crate) fn line_of(fault: RunFault) -> &'static str
     ensures { result.now ≡ fault_text fault }
 {

@@ -58,7 +58,7 @@ pub fn check_data_with(
     }
 }
 
-/// The answer for an accepted report, which has no faults.
+/// Returns the answer for an accepted report, which has no faults.
 fn accepted(alloc: Global) -> Result<Answer, AllocError>
     ensures outcome { IfOk result (λ answer. answer.outcome ≡ Outcome.Good) }
     ensures text { IfOk result (λ answer. IsDataText (string_bytes answer.text) (faults_data [])) }
@@ -70,7 +70,7 @@ fn accepted(alloc: Global) -> Result<Answer, AllocError>
     })
 }
 
-/// The answer for a report that is refused.
+/// Returns the answer for a report that is refused.
 fn refused(alloc: Global, refusal: &Refusal) -> Result<Answer, AllocError>
     ensures { IfOk result (λ answer. IsRefusalAnswer refusal.now answer.outcome (string_bytes answer.text)) }
 {

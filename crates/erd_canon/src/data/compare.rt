@@ -67,7 +67,7 @@ pub fn compare_data_with(
     }
 }
 
-/// The answer if the report on one side is refused.
+/// Returns the answer if the report on one side is refused.
 fn refused_side(alloc: Global, side: &str, refusal: &Refusal) -> Result<Answer, AllocError>
     ensures { IfOk result (λ answer. IsSideAnswer side.now refusal.now answer.outcome (string_bytes answer.text)) }
 {

@@ -8,7 +8,7 @@ use erd_tables::{Fault, Place, Reason, Step};
 use serde_json::{Value, json};
 use std::alloc::{AllocError, Global};
 
-/// The JSON object of a fault. A number in it fits 64 bits.
+/// Returns the JSON object of a fault. A number in it fits 64 bits.
 pub(crate) fn fault_value(alloc: Global, fault: &Fault) -> Result<Value, AllocError>
     ensures value { IfOk result (λ value. view value ≡ fault_data fault.now) }
     ensures fits { OnOk result (HasFittingNumbers (fault_data fault.now)) }
@@ -24,7 +24,7 @@ pub(crate) fn fault_value(alloc: Global, fault: &Fault) -> Result<Value, AllocEr
     }
 }
 
-/// The JSON array of the steps of a place.
+/// Returns the JSON array of the steps of a place.
 fn place_value(alloc: Global, place: &Place) -> Result<Value, AllocError>
     ensures value { IfOk result (λ value. view value ≡ place_data place.now) }
     ensures fits { OnOk result (HasFittingNumbers (place_data place.now)) }
@@ -36,7 +36,7 @@ fn place_value(alloc: Global, place: &Place) -> Result<Value, AllocError>
     Ok(Value::Array(values))
 }
 
-/// A step of a place as a JSON string or number.
+/// Returns a step of a place as a JSON string or number.
 fn step_value(alloc: Global, step: &Step) -> Result<Value, AllocError>
     ensures value { IfOk result (λ value. view value ≡ step_data step.now) }
     ensures fits { OnOk result (HasFittingNumbers (step_data step.now)) }
@@ -47,7 +47,7 @@ fn step_value(alloc: Global, step: &Step) -> Result<Value, AllocError>
     }
 }
 
-/// The number of a reason, from 1 to 18.
+/// Returns the number of a reason, from 1 to 18.
 fn number_of(reason: &Reason) -> u8
     ensures { result ≡ reason_number reason.now }
 {

@@ -15,14 +15,14 @@ impl<A, B> Model for Log<A, B> {
 }
 
 impl<A, B> Log<A, B> {
-    /// An empty log.
+    /// Returns an empty log.
     pub fn new() -> Log<A, B>
         ensures { result.items ≡ [] }
     {
         Log { of: PhantomData }
     }
 
-    /// The log with this pair at its end.
+    /// Returns the log with this pair at its end.
     #[inline(always)]
     pub fn and(&self, _first: &A, _second: &B) -> Log<A, B>
         ensures { result.items ≡ self.now.items ++ (_first.now, _second.now) ∷ [] }

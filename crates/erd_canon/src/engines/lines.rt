@@ -223,7 +223,7 @@ fn write_digit<O: Sink>(out: &mut O, buffer: &mut Vec<u8>, digit: usize) -> Resu
     write_buffered(out, buffer, &[digit])
 }
 
-/// The words for a side, then a line, ended by one line feed.
+/// Returns the words for a side, then a line, ended by one line feed.
 pub(crate) fn line_of_side(alloc: Global, side: &[u8], line: &[u8]) -> Result<Vec<u8>, AllocError>
     ensures { IfOk result (λ text. text.items ≡ text_of_lines (lines_of_side side.now (line.now ∷ []))) }
 {

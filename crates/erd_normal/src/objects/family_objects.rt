@@ -55,7 +55,7 @@ impl<'a> MemberRule for ObjectMembers<'a> {
     }
 }
 
-/// Whether a member of this kind holds the content of an object or its selections.
+/// Returns whether a member of this kind holds the content of an object or its selections.
 fn holds_parts(kind: MemberKind) -> bool
     ensures { result ≡ holds_parts kind }
 {

@@ -20,7 +20,7 @@ pub(crate) trait MemberRule {
     // The canonical value of a member, by its name and kind, if the member is kept.
     ghost value_of: { Self → List ℕ → Asked → Data → Option Data };
 
-    /// Whether the member is kept.
+    /// Returns whether the member is kept.
     fn keeps(&self, name: &str, kind: MemberKind, member: &Value) -> bool
         ensures { result ≡ is_some (value_of self.now name.now kind (view member.now)) };
 

@@ -29,7 +29,7 @@ impl Model for Output {
 }
 
 impl Output {
-    /// An output without tokens.
+    /// Returns an output without tokens.
     pub(crate) fn new(alloc: Global) -> Output
         ensures { result ≡ [] }
     {
@@ -38,7 +38,7 @@ impl Output {
         }
     }
 
-    /// The text of the tokens.
+    /// Returns the text of the tokens.
     pub(crate) fn into_text(self) -> Vec<u8>
         ensures text { result.items ≡ print self }
         ensures reads_back { tokens (print self) ≡ self }

@@ -136,7 +136,7 @@ fn write_listed(
     }
 }
 
-/// Whether a member of a contest or a header is kept. `kind` is what the table gives it.
+/// Returns whether a member of a contest or a header is kept. `kind` is what the table gives it.
 fn is_kept_in_node(kind: Option<MemberKind>, value: &Value) -> bool
     ensures { (π : Preference) (t inside : Data) → result ≡ is_some (normal_node_value π t kind (view value.now) inside) }
 {
@@ -146,7 +146,7 @@ fn is_kept_in_node(kind: Option<MemberKind>, value: &Value) -> bool
     }
 }
 
-/// Whether a member of this kind of a contest or a header is kept.
+/// Returns whether a member of this kind of a contest or a header is kept.
 fn is_listed_kept(kind: MemberKind, value: &Value) -> bool
     ensures { (π : Preference) (t inside : Data) → result ≡ is_some (normal_node_value π t (Some kind) (view value.now) inside) }
 {
@@ -156,7 +156,7 @@ fn is_listed_kept(kind: MemberKind, value: &Value) -> bool
     }
 }
 
-/// The kind that the table gives a member of an object, if the object has a class.
+/// Returns the kind that the table gives a member of an object, if the object has a class.
 fn kind_in(class: Option<Class>, name: &str) -> Option<MemberKind>
     ensures { result ≡ option_map (λ c. kind_of_member c name.now) class }
 {

@@ -48,7 +48,7 @@ fn write_sorted(alloc: Global, values: &[Value], out: &mut Output) -> Result<(),
     write_each(&sorted, out)
 }
 
-/// The values with their compact texts.
+/// Returns the values with their compact texts.
 fn with_texts<'a>(
     alloc: Global,
     values: &'a [Value],

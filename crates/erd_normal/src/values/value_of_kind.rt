@@ -19,8 +19,8 @@ use erd_tables::MemberKind;
 use serde_json::Value;
 use std::alloc::AllocError;
 
-/// Whether a member of this kind, which holds no objects, is kept. An empty set or list is left out, and so are `@id` and
-/// members outside the profile.
+/// Returns whether a member of this kind, which holds no objects, is kept. An empty set or list is left out, and so are `@id`
+/// and members outside the profile.
 pub(crate) fn is_kept(kind: MemberKind, value: &Value) -> bool
     ensures { (π : Preference) (t : Data) → result ≡ is_some (normal_value π t kind (view value.now)) }
 {

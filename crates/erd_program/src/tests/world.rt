@@ -191,7 +191,7 @@ pub struct Ended {
 }
 
 impl Ended {
-    /// Whether the run has ended with this status and these texts.
+    /// Returns whether the run has ended with this status and these texts.
     pub fn is(&self, status: u8, out: &[u8], err: &[u8]) -> bool {
         self.status == status && self.out.text() == out && self.err.text() == err
     }
