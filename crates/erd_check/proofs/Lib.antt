@@ -8,6 +8,7 @@ pub mod AskedInside
 pub mod FaultsAsked
 pub mod Walks
 pub mod Alone
+pub mod TwoWalks
 pub mod ShapeWalks
 pub mod TextEntries
 pub mod TableKinds

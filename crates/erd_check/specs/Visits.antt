@@ -27,6 +27,10 @@ faults_of p = map (fault_at p)
 abbrev pub Telling : Type 0
 Telling = Data → Want → Bool → Data → List Reason
 
+-- What two walks report of a value, one after the other.
+abbrev pub both_tell : Telling → Telling → Telling
+both_tell one other outer w repeated d = one outer w repeated d ++ other outer w repeated d
+
 -- What is reported of a value, or of entries or members, and of all values inside. Each is given the values two steps and
 -- one step above it. For the report itself and its members, these are the report.
 abbrev mutual

@@ -5,6 +5,7 @@
 mod earlier;
 mod equality;
 pub mod error;
+pub mod joined_walk;
 mod json_order;
 mod judge;
 mod ordered_value;

@@ -4,7 +4,7 @@ ghost use Rattle.serde_json.specs.Written.{has_float};
 ghost use Rattle.erd_check.specs.Faults.{ShapeFault};
 ghost use Rattle.erd_check.specs.Numbers.{HasFittingNumbers};
 ghost use Rattle.erd_check.specs.Refusals.{RefusedFor};
-ghost use Rattle.erd_check.specs.Shapes.{IsFaultless};
+ghost use Rattle.erd_check.specs.Shapes.{IsFaultless, IsShaped};
 ghost use Rattle.erd_check.specs.Trees.{IsShallow, IsTree};
 
 use crate::error::CheckError;
@@ -35,6 +35,14 @@ impl<'a> Model for Shaped<'a> {
 }
 
 impl<'a> Shaped<'a> {
+    /// Returns the report as a `Shaped`.
+    pub(crate) fn of(tree: &'a Value) -> Shaped<'a>
+        requires shaped { IsShaped tree.now }
+        ensures { result ≡ tree.now }
+    {
+        Shaped { tree }
+    }
+
     /// Returns the report. Its shape has no fault, and it is nested at most 127 deep. The names of the members of each
     /// object in it strictly rise, and each number in it is whole and fits 64 bits.
     ///

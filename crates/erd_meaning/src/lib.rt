@@ -16,4 +16,5 @@ pub use objects::order::places_in;
 pub use objects::per_family::PerFamily;
 pub use objects::row::Row;
 pub use report::Report;
+pub use report::accepting::accept_with;
 pub use report::resolving::{resolve, resolve_with};

@@ -14,6 +14,7 @@ ghost use Rattle.erd_meaning.specs.code.ResolvedElections.{AreElections};
 ghost use Rattle.erd_meaning.specs.code.SelectionWalk.{NumberedName};
 ghost use Rattle.erd_meaning.specs.code.Shown.{shown};
 
+pub(crate) mod accepting;
 mod orders;
 pub(crate) mod reference_arrays;
 pub(crate) mod reference_judge;

@@ -3,23 +3,14 @@ use Rattle.std.proofs.Common.{◌≡◌, ℕ, List, [], ◌∷◌, Some, refl, s
 use Rattle.serde_json.specs.Data.{Data}
 use Rattle.erd_tables.specs.declared.fault.Fault.{Fault}
 use Rattle.erd_check.proofs.Order.{contains_from_In}
-use Rattle.erd_check.specs.Faults.{ShapeFault}
 use Rattle.erd_check.specs.Refusals.{RefusedFor}
 use Rattle.erd_check.specs.declared.error.CheckError.{CheckError}
 use Rattle.erd_check.specs.declared.error.CheckError.TheVariants.{Faults, Memory}
-use Rattle.erd_meaning.proofs.refused.RefusedLists.{first_refused}
 use Rattle.erd_meaning.specs.Keys.{Preference}
-use Rattle.erd_meaning.specs.Accepted.{IsFault, OrElse}
-use Rattle.erd_meaning.specs.LaterFaults.{IdentityFault, ReferenceFault, SelectionFault}
+use Rattle.erd_meaning.specs.Accepted.{IsFault}
 use Rattle.erd_canon.specs.Bytes.{IsTreeOf}
 use Rattle.erd_canon.specs.EngineTexts.{IsRefusedReport}
 use Rattle.erd_canon.specs.Refused.{IsSomeReport, RefusedAs, refusal_for}
-
--- where the shape has faults, they are all
-pub refused_shape : (π : Preference) (t : Data) (e : CheckError) → RefusedFor (ShapeFault t) e → RefusedFor (IsFault π t) e
-refused_shape π t (Faults faults) (all, some) =
-    (first_refused (ShapeFault t) (OrElse (IdentityFault π t) (OrElse (ReferenceFault t) (SelectionFault π t))) faults all some, some)
-refused_shape π t Memory h = tt
 
 -- bytes are no two trees
 pub one_tree : (b : List ℕ) (t u : Data) → IsTreeOf b t → IsTreeOf b u → t ≡ u

@@ -11,8 +11,8 @@ ghost use Rattle.erd_canon.specs.Refused.{IsSomeReport, RefusedAs};
 use crate::bytes::disposal::{Disposal, Free};
 use crate::bytes::input::Input;
 use crate::bytes::refusal::Refusal;
-use erd_check::{CheckError, shape};
-use erd_meaning::{Report, resolve_with};
+use erd_check::CheckError;
+use erd_meaning::{Report, accept_with};
 use serde_json::Value;
 use std::alloc::Global;
 
@@ -86,8 +86,7 @@ pub(crate) fn tree_of(alloc: Global, bytes: &[u8]) -> Result<Value, Refusal>
     }
 }
 
-/// Resolves the tree as a report that is accepted under the preference. The shape is checked first. If the shape has a
-/// fault, nothing else is checked.
+/// Resolves the tree as a report that is accepted under the preference. If the shape has a fault, its faults alone are listed.
 pub(crate) fn accepted<'a>(
     alloc: Global,
     tree: &'a Value,
@@ -99,6 +98,5 @@ pub(crate) fn accepted<'a>(
     ensures accepted { IfOk result (λ _. IsAccepted (option_copied prefer.entry) (view tree.now)) }
     ensures refused { IfErr result (RefusedFor (IsFault (option_copied prefer.entry) (view tree.now))) }
 {
-    let shaped = shape(alloc, tree)?;
-    resolve_with(alloc, shaped, prefer)
+    accept_with(alloc, tree, prefer)
 }

@@ -27,6 +27,9 @@ FromReferences π t = OrElse (ReferenceFault t) (SelectionFault π t)
 abbrev FromIdentity : Preference → Data → List Step → Reason → Type 0
 FromIdentity π t = OrElse (IdentityFault π t) (FromReferences π t)
 
+pub refused_for_shape : (π : Preference) (t : Data) (e : CheckError) → RefusedFor (ShapeFault t) e → RefusedFor (IsFault π t) e
+refused_for_shape π t e h = first_phase (ShapeFault t) (FromIdentity π t) e h
+
 pub refused_for_identity : (π : Preference) (t : Data) (e : CheckError) → NoneOf (ShapeFault t) → RefusedFor (IdentityFault π t) e → RefusedFor (IsFault π t) e
 refused_for_identity π t e shape h = second_phase (ShapeFault t) (FromIdentity π t) e shape (first_phase (IdentityFault π t) (FromReferences π t) e h)
 

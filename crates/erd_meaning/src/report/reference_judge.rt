@@ -1,24 +1,26 @@
-ghost use Rattle.std.specs.Prelude.{◌≡◌, ◌++◌, map, IfOk};
+ghost use Rattle.std.specs.Prelude.{◌≡◌, ◌++◌, map, IfOk, IfSome};
 ghost use Rattle.std.specs.Option.{option_to_list};
 ghost use Rattle.serde_json.specs.View.{view};
 ghost use Rattle.erd_tables.specs.Faults.{ListsAll};
-ghost use Rattle.erd_check.specs.Trees.{IsTree};
+ghost use Rattle.erd_check.specs.Shapes.{IsFaultless};
+ghost use Rattle.erd_check.specs.Trees.{IsShallow, IsTree};
 ghost use Rattle.erd_check.specs.Paths.{steps_of};
 ghost use Rattle.erd_check.specs.Visits.{faults_of};
 ghost use Rattle.erd_meaning.specs.LaterFaults.{ReferenceFault};
 ghost use Rattle.erd_meaning.specs.code.ObjectWalk.{kept_objects};
 ghost use Rattle.erd_meaning.specs.code.OwnIds.{HaveOwnIds};
-ghost use Rattle.erd_meaning.specs.code.Resolved.{IsIdentified};
+ghost use Rattle.erd_meaning.specs.code.Resolved.{IsIdentified, IsReferred};
 ghost use Rattle.erd_meaning.specs.code.ReferenceReasons.{id_reasons, leads_to_references};
 ghost use Rattle.erd_meaning.specs.code.Shown.{shown};
 
 use crate::keys::key_rule::KeyRule;
 use crate::objects::table::ObjectTable;
-use erd_check::is_among;
+use erd_check::joined_walk::shape_with;
 use erd_check::path::{Path, push_fault};
 use erd_check::visitor::{Position, Visit, Visitor};
 use erd_check::walk::walk_report;
 use erd_check::want::{Scope, Want};
+use erd_check::{Shaped, is_among};
 use erd_tables::{Family, Fault, FaultList, MemberKind, Reason, Role};
 use serde_json::Value;
 use std::alloc::{AllocError, Global};
@@ -40,6 +42,26 @@ pub(crate) fn reference_faults(
 {
     let found = walk_report(keys.alloc, &ReferenceJudge { objects }, tree)?;
     Ok(FaultList::of(found))
+}
+
+/// Returns a report as a `Shaped` if it has no fault of the shape and none of references. Otherwise returns `None`. Both are judged
+/// in one walk, and each reference is looked up in `objects`, which are those of the report.
+pub(crate) fn shape_with_references<'a>(
+    keys: &KeyRule,
+    tree: &'a Value,
+    objects: &ObjectTable,
+) -> Result<Option<Shaped<'a>>, AllocError>
+    requires nests { IsShallow (view tree.now) }
+    requires kept { map shown objects.now ≡ kept_objects keys.now (view tree.now) }
+    requires identified { IsIdentified keys.now tree.now }
+    ensures tree { IfOk result (λ found. IfSome found (λ s. s ≡ tree.now)) }
+    ensures faultless { IfOk result (λ found. IfSome found (λ _. IsFaultless tree.now)) }
+    ensures referred { IfOk result (λ found. IfSome found (λ _. IsReferred tree.now)) }
+{
+    let Some(shaped) = shape_with(keys.alloc, &ReferenceJudge { objects }, tree)? else {
+        return Ok(None);
+    };
+    Ok(Some(shaped))
 }
 
 /// The visitor that finds the faults of references to these objects. No two of them have the same `@id`.

@@ -84,9 +84,30 @@ pub fn resolve_with<'a>(
     let keys = KeyRule { alloc, prefer };
     let (objects, elections) = objects_told_apart(&keys, tree)?;
     check_references(&keys, tree, &objects)?;
-    let objects = RankedObjects::of(alloc, objects)?;
-    let names = names_told_apart(&keys, tree, &objects)?;
-    Ok(indexed(&keys, tree, objects, names, elections)?)
+    let report = with_names(&keys, shaped, objects, elections)?;
+    Ok(report)
+}
+
+/// Resolves a report with these objects and elections, of which all is known but that its selections are told apart.
+pub(crate) fn with_names<'a>(
+    keys: &KeyRule,
+    shaped: Shaped<'a>,
+    objects: ObjectTable<'a>,
+    elections: ElectionTable<'a>,
+) -> Result<Report<'a>, CheckError>
+    requires kept { map shown objects ≡ kept_objects keys.now (view shaped) }
+    requires elections { elections ≡ election_keys keys.now (view shaped) }
+    requires identified { IsIdentified keys.now shaped }
+    requires referred { IsReferred shaped }
+    ensures tree { IfOk result (λ r. r.tree ≡ shaped.entry) }
+    ensures prefer { IfOk result (λ r. r.prefer ≡ keys.now) }
+    ensures told_apart { IfOk result (λ _. IsToldApart keys.now shaped.entry) }
+    ensures refused { IfErr result (RefusedFor (SelectionFault keys.now (view shaped.entry))) }
+{
+    let tree = shaped.tree();
+    let objects = RankedObjects::of(keys.alloc, objects)?;
+    let names = names_told_apart(keys, tree, &objects)?;
+    Ok(indexed(keys, tree, objects, names, elections)?)
 }
 
 /// Returns the report with the indexes that were filled while it was judged.
@@ -130,7 +151,7 @@ fn preference_of(keys: &KeyRule) -> Result<Option<Text>, AllocError>
 }
 
 /// Returns the objects of a report and the keys of its elections, or its faults of identity.
-fn objects_told_apart<'a>(
+pub(crate) fn objects_told_apart<'a>(
     keys: &KeyRule,
     tree: &'a Value,
 ) -> Result<(ObjectTable<'a>, ElectionTable<'a>), CheckError>

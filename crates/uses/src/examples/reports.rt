@@ -3,8 +3,8 @@ use crate::report_of;
 use erd_check::{same_json, shape};
 use erd_compare::first_difference;
 use erd_meaning::{
-    Key, Named, PerFamily, RankedName, Report, Row, SaltedSet, SelectionName, key_of, places_in,
-    resolve, resolve_with,
+    Key, Named, PerFamily, RankedName, Report, Row, SaltedSet, SelectionName, accept_with, key_of,
+    places_in, resolve, resolve_with,
 };
 use erd_normal::{CompactText, SetOrder, in_order, normal_text, normal_tree};
 use erd_tables::{Family, Text};
@@ -192,6 +192,15 @@ fn preferences(rt: HostRuntime) -> Result<(), Fail> {
     let report = resolve_with(alloc, shape(alloc, &tree)?, Some("local-level"))?;
     assert_eq!(rt; report.preference(), Some("local-level"));
     preferred_key(&rt, alloc, &report)
+}
+
+#[test]
+fn accepted(rt: HostRuntime) -> Result<(), Fail> {
+    let alloc = rt.alloc();
+    let tree = Value::from_str(alloc, BALLOT)?;
+    let report = accept_with(alloc, &tree, Some("local-level"))?;
+    assert_eq!(rt; report.preference(), Some("local-level"));
+    Ok(())
 }
 
 #[test]

@@ -1,14 +1,14 @@
 use Rattle.std.specs.Option.{option_copied}
-use Rattle.std.proofs.Common.{List, map, sym, ap, ◌∙◌, subst}
+use Rattle.std.proofs.Common.{◌≡◌, map, subst}
 use Rattle.std.proofs.lemmas.Result.{err_from_is_err_and}
 use Rattle.serde_json.specs.View.{view}
 use Rattle.serde_json.specs.declared.value.Value.{Value}
 use Rattle.erd_check.specs.Refusals.{RefusedFor}
-use Rattle.erd_meaning.specs.Accepted.{IsAccepted, IsFault}
-use Rattle.erd_meaning.specs.code.KeyOrders.{HaveDistinctKeys}
+use Rattle.erd_check.specs.Shapes.{IsFaultless}
+use Rattle.erd_meaning.specs.Accepted.{IsFault}
+use Rattle.erd_meaning.specs.code.ObjectWalk.{election_keys, kept_objects}
+use Rattle.erd_meaning.specs.code.Resolved.{IsIdentified, IsReferred}
 use Rattle.erd_meaning.specs.code.Shown.{shown}
-use Rattle.erd_meaning.specs.declared.objects.object.Object.{Object}
-use Rattle.erd_meaning.proofs.accepted.DistinctKeys.{kept_distinct}
 use Rattle.erd_meaning.proofs.accepted.Phases.{accepted_by_phases}
 use Rattle.erd_meaning.proofs.refused.Refused.{refused_for_identity, refused_for_references, refused_for_selections}
 use Rattle.erd_meaning.proofs.report.resolving.resolve_with.Goals as goal
@@ -30,34 +30,31 @@ returns-in_err-check_references-clause-refused c =
     let p = err_from_is_err_and c.from_residual-in_err-check_references.result c.from_residual-in_err-check_references.ensures.1 in
     rw (p.1, p.2) (subst (λ (v : Value). RefusedFor (IsFault (option_copied c.args.prefer) (view v)) e) c.tree-tree.ensures.tree refused)
 
-pub returns-in_err-names-clause-refused : goal.returns-in_err-names-clause-refused
-returns-in_err-names-clause-refused c =
-    let t = c.tree-tree.result.now in
-    let e = c.in_err-names.field-0.0 in
-    let refused : RefusedFor (IsFault (option_copied c.args.prefer) (view t)) e =
-    refused_for_selections (option_copied c.args.prefer) (view t) e c.tree-tree.ensures.faultless c.in_ok-objects.ensures.identified c.in_ok-check_references.ensures.referred c.in_err-names.ensures.refused in
-    let p = err_from_is_err_and c.from_residual-in_err-names.result c.from_residual-in_err-names.ensures.1 in
-    rw (p.1, p.2) (subst (λ (v : Value). RefusedFor (IsFault (option_copied c.args.prefer) (view v)) e) c.tree-tree.ensures.tree refused)
+pub returns-in_err-report-clause-refused : goal.returns-in_err-report-clause-refused
+returns-in_err-report-clause-refused c =
+    let v = c.args.shaped in
+    let e = c.in_err-report.field-0.0 in
+    let identified = subst (λ (w : Value). IsIdentified (option_copied c.args.prefer) w) c.tree-tree.ensures.tree c.in_ok-objects.ensures.identified in
+    let referred = subst IsReferred c.tree-tree.ensures.tree c.in_ok-check_references.ensures.referred in
+    let refused : RefusedFor (IsFault (option_copied c.args.prefer) (view v)) e =
+    refused_for_selections (option_copied c.args.prefer) (view v) e (subst IsFaultless c.tree-tree.ensures.tree c.tree-tree.ensures.faultless) identified referred c.in_err-report.ensures.refused in
+    let p = err_from_is_err_and c.from_residual-in_err-report.result c.from_residual-in_err-report.ensures.1 in
+    rw (p.1, p.2) refused
 
 pub returns-clause-accepted : goal.returns-clause-accepted
 returns-clause-accepted c =
-    subst (λ (v : Value). IsAccepted (option_copied c.args.prefer) (view v)) c.tree-tree.ensures.tree
-    (accepted_by_phases (option_copied c.args.prefer) (view c.tree-tree.result.now) c.tree-tree.ensures.faultless c.in_ok-objects.ensures.identified c.in_ok-check_references.ensures.referred
-    c.in_ok-names.ensures.told_apart)
+    let π = option_copied c.args.prefer in
+    accepted_by_phases π (view c.args.shaped) (subst IsFaultless c.tree-tree.ensures.tree c.tree-tree.ensures.faultless)
+    (subst (λ (v : Value). IsIdentified π v) c.tree-tree.ensures.tree c.in_ok-objects.ensures.identified) (subst IsReferred c.tree-tree.ensures.tree c.in_ok-check_references.ensures.referred)
+    c.in_ok-report.ensures.told_apart
 
-pub of-requires : goal.of-requires
-of-requires c = record { distinct = subst HaveDistinctKeys (sym c.in_ok-objects.ensures.kept) (kept_distinct (option_copied c.args.prefer) (view c.tree-tree.result.now) c.in_ok-objects.ensures.identified) }
-
-pub indexed-requires-clause-resolved : goal.indexed-requires-clause-resolved
-indexed-requires-clause-resolved c = record {
-  faultless = c.tree-tree.ensures.faultless;
-  shallow = c.tree-tree.ensures.nests;
-  is_tree = c.tree-tree.ensures.is_tree;
-  whole = c.tree-tree.ensures.whole;
-  fits = c.tree-tree.ensures.fits;
-  identified = c.in_ok-objects.ensures.identified;
-  referred = c.in_ok-check_references.ensures.referred;
-  told_apart = c.in_ok-names.ensures.told_apart;
-  kept = ap (λ (os : List Object). map shown os) c.in_ok-objects-2.ensures ∙ c.in_ok-objects.ensures.kept;
-  named = c.in_ok-names.ensures.named;
-}
+pub with_names-requires : goal.with_names-requires
+with_names-requires c =
+    let π = option_copied c.args.prefer in
+    let objects = c.in_ok-objects.objects in
+    record {
+      kept = subst (λ (v : Value). map shown objects ≡ kept_objects π (view v)) c.tree-tree.ensures.tree c.in_ok-objects.ensures.kept;
+      elections = subst (λ (v : Value). c.in_ok-objects.elections ≡ election_keys π (view v)) c.tree-tree.ensures.tree c.in_ok-objects.ensures.elections;
+      identified = subst (λ (v : Value). IsIdentified π v) c.tree-tree.ensures.tree c.in_ok-objects.ensures.identified;
+      referred = subst IsReferred c.tree-tree.ensures.tree c.in_ok-check_references.ensures.referred;
+    }
