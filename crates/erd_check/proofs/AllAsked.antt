@@ -4,6 +4,7 @@ use Rattle.std.specs.Cmp.Lexicographic.{slice_cmp}
 use Rattle.std.specs.List.{list_any, list_all}
 use Rattle.std.specs.Option.{option_map_or}
 use Rattle.std.specs.Ordering.{match_ordering}
+use Rattle.std.proofs.lemmas.Bool.{and_parts}
 use Rattle.serde_json.specs.Data.{Data, null, boolean, number, string, array, object, Items, no_items, item, Members, no_members, member}
 use Rattle.serde_json.specs.Find.{get_member, get_item}
 use Rattle.erd_tables.specs.declared.class.Role.TheVariants.{Report}
@@ -18,7 +19,6 @@ use Rattle.erd_check.specs.declared.want.Want.TheVariants.{Object}
 use Rattle.erd_check.specs.declared.want.Scope.{Scope}
 use Rattle.erd_check.proofs.Steps.{text_from_equal, next_index}
 use Rattle.erd_check.proofs.Order.{In, In-append_left, In-append_right}
-use Rattle.erd_check.proofs.Reasons.{and_true}
 
 -- a place and what is asked there
 abbrev pub AskedPlace : Type 0
@@ -154,8 +154,8 @@ all_asked_complete t p a h = listed_from [] (Object Report) false t p a h
 
 pub list_all_at : {A : Type 0} (test : A → Bool) (x : A) (xs : List A) → list_all test xs ≡ true → In x xs → test x ≡ true
 list_all_at test x [] h i = absurd i
-list_all_at test x (y ∷ ys) h (inl e) = subst (λ z. test z ≡ true) e (and_true (test y) (list_all test ys) h).0
-list_all_at test x (y ∷ ys) h (inr t) = list_all_at test x ys (and_true (test y) (list_all test ys) h).1 t
+list_all_at test x (y ∷ ys) h (inl e) = subst (λ z. test z ≡ true) e (and_parts (test y) (list_all test ys) h).0
+list_all_at test x (y ∷ ys) h (inr t) = list_all_at test x ys (and_parts (test y) (list_all test ys) h).1 t
 
 -- what holds of all that is listed holds at each place
 pub tested_at : (test : AskedPlace → Bool) (t : Data) → list_all test (all_asked t) ≡ true → (p : List Step) (a : Asked) → asked_at t p ≡ Some a → test (p, a) ≡ true

@@ -1,6 +1,7 @@
 -- A value is clean if nothing in it has a fault: if it has none itself, and all that is asked one step inside is clean.
 use Rattle.std.proofs.Common.{◌≡◌, List, [], ◌∷◌, Option, Some, None, option_and_then, IsSomeAnd, false, refl, sym, subst}
 use Rattle.std.specs.Prelude.{IsTrue, ◌↔◌}
+use Rattle.std.proofs.lemmas.Bool.{false_from_ne_true}
 use Rattle.serde_json.specs.Data.{Data}
 use Rattle.erd_tables.specs.declared.place.Step.{Step}
 use Rattle.erd_tables.specs.declared.fault.Reason.{Reason}
@@ -8,7 +9,6 @@ use Rattle.erd_tables.specs.declared.class.Role.TheVariants as role
 use Rattle.erd_check.specs.Wants.{Asked, asked_inside, asked_from, asked}
 use Rattle.erd_check.specs.Faults.{is_shape_fault, NoneOf, ShapeFault}
 use Rattle.erd_check.specs.declared.want.Want.TheVariants.{Object}
-use Rattle.erd_check.proofs.Shapes.{false_unless}
 
 pub record IsClean (a : Asked) : Type 0 where
   pub at : (p : List Step) (r : Reason) → ¬ IsSomeAnd (asked_from a p) (λ b. IsTrue (is_shape_fault b r))
@@ -22,7 +22,7 @@ pub record IsCleanInside (a : Asked) : Type 0 where
   pub each : (s : Step) (b : Asked) → asked_inside a.want a.value s ≡ Some b → IsClean b
 
 clean_local : (a : Asked) → IsClean a → HasNoLocalFault a
-clean_local a c = record { none = λ r. false_unless (is_shape_fault a r) (c.at [] r) }
+clean_local a c = record { none = λ r. false_from_ne_true (is_shape_fault a r) (c.at [] r) }
 
 clean_inside : (a : Asked) → IsClean a → IsCleanInside a
 clean_inside a c = record { each = λ s b e. record { at = λ p r h. c.at (s ∷ p) r (subst (λ o. IsSomeAnd (option_and_then (λ x. asked_from x p) o) (λ x. IsTrue (is_shape_fault x r))) (sym e) h) } }

@@ -4,6 +4,7 @@ use Rattle.std.specs.Prelude.{pos, IfSome}
 use Rattle.std.proofs.lemmas.Cmp.{nat_list_cmp_total}
 use Rattle.std.specs.List.{AllByRecursion}
 use Rattle.std.specs.List.Sorted.{IsStrictlySortedBy}
+use Rattle.std.proofs.lemmas.Bool.{and_parts}
 use Rattle.serde_json.specs.Data.{Num, negative, Data, null, boolean, number, string, array, object, Items, no_items, item, Members, no_members, member}
 use Rattle.erd_tables.specs.Faults.{ListsAll}
 use Rattle.erd_tables.specs.Texts.{text_cmp}
@@ -20,7 +21,6 @@ use Rattle.erd_check.specs.declared.want.Want.{Want}
 use Rattle.erd_check.specs.declared.want.Want.TheVariants.{Object}
 use Rattle.erd_check.proofs.FaultLists.{no_fault_from_empty}
 use Rattle.erd_check.proofs.ShapeWalks.{shape_walk_lists}
-use Rattle.erd_check.proofs.Reasons.{and_true}
 
 -- ---- the test
 
@@ -49,7 +49,7 @@ abbrev mutual
   are_members no_members = true
   are_members (member k d ms) = is_before_first k ms && (is_tree d && are_members ms)
 
-less : (o : Ordering) → is_lt o ≡ true → o ≡ Less
+pub less : (o : Ordering) → is_lt o ≡ true → o ≡ Less
 less Less h = refl
 less Equal h = cc
 less Greater h = cc
@@ -74,14 +74,14 @@ mutual
   trees_sound : (ds : Items) → are_trees ds ≡ true → AreTrees ds
   trees_sound no_items h = tt
   trees_sound (item d ds) h =
-      let both = and_true (is_tree d) (are_trees ds) h in
+      let both = and_parts (is_tree d) (are_trees ds) h in
       (tree_sound d both.0, trees_sound ds both.1)
 
   members_sound : (ms : Members) → are_members ms ≡ true → AreMembers ms
   members_sound no_members h = tt
   members_sound (member k d ms) h =
-      let first = and_true (is_before_first k ms) (is_tree d && are_members ms) h in
-      let both = and_true (is_tree d) (are_members ms) first.1 in
+      let first = and_parts (is_before_first k ms) (is_tree d && are_members ms) h in
+      let both = and_parts (is_tree d) (are_members ms) first.1 in
       (before_first_sound k ms first.0, tree_sound d both.0, members_sound ms both.1)
 
 -- ---- trees are in order
@@ -94,7 +94,7 @@ pub before_all : (k : List ℕ) (ms : Members) → IsBeforeFirst k ms → AreMem
 before_all k no_members h trees = tt
 before_all k (member l d ms) h trees = (h, before_all k ms (before_later k l ms h trees.0) trees.2)
 
-names_rise : (ms : Members) → AreMembers ms → IsStrictlySortedBy text_cmp (names ms)
+pub names_rise : (ms : Members) → AreMembers ms → IsStrictlySortedBy text_cmp (names ms)
 unfolding IsStrictlySortedBy
 names_rise no_members trees = tt
 names_rise (member k d ms) trees = (before_all k ms trees.0 trees.2, names_rise ms trees.2)

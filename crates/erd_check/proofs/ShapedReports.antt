@@ -1,12 +1,11 @@
 -- A report without a fault of the shape: all that stands in it is asked for, so each number in it is whole and fits 64 bits, and the names of all its objects
 -- rise.
-use Rattle.std.proofs.Common.{◌≡◌, ℕ, suc, List, ◌∷◌, length, Less, Greater, nat_cmp, Bool, true, false, ◌&&◌, ◌||◌, Option, Some, None, refl, sym, ap, ◌∙◌, subst}
-use Rattle.std.proofs.lemmas.Cmp.{nat_list_cmp_total}
+use Rattle.std.proofs.Common.{◌≡◌, ℕ, suc, List, ◌∷◌, length, Less, nat_cmp, Bool, true, false, ◌&&◌, ◌||◌, Option, Some, None, refl, sym, ap, ◌∙◌, subst}
 use Rattle.std.specs.Prelude.{IfSome}
 use Rattle.std.specs.Cmp.Lexicographic.{slice_cmp}
 use Rattle.std.specs.List.{AllByRecursion}
 use Rattle.std.specs.List.Sorted.{IsStrictlySortedBy}
-use Rattle.std.specs.Ordering.{ordering_reverse}
+use Rattle.std.proofs.lemmas.Bool.{or_from}
 use Rattle.serde_json.specs.Data.{Data, null, boolean, number, string, array, object, Items, no_items, item, Members, no_members, member}
 use Rattle.serde_json.specs.Find.{get_item, get_member}
 use Rattle.serde_json.specs.View.{view}
@@ -38,7 +37,7 @@ use Rattle.erd_check.proofs.Numbers.{has_numbers, HasNumbers, HaveNumbers, Membe
 use Rattle.erd_check.proofs.Shapes.{classed, faultless, of_label, of_role, unrepeated, AsksObject, Within, Within-root, Within-step}
 use Rattle.erd_check.proofs.Members.{get_member-first, get_member-later}
 use Rattle.erd_check.proofs.Sought.{array_empty, fitting_number, is_sought, number_whole, sought_carried, sought_entry, sought_named, IsRight, Sought}
-use Rattle.erd_check.proofs.Steps.{found_all, same_text}
+use Rattle.erd_check.proofs.Steps.{found_all}
 
 -- ---- the members of an object
 
@@ -71,9 +70,6 @@ record MembersSound (s : Scope) (ms : Members) : Type 0 where
   whole : members_have_float ms ≡ false
   trees : MembersHaveNumbers ms → AreMembers ms
   fits : AreMembersKnown IsAskedInRange s ms → MembersHaveFittingNumbers ms
-
-nowhere_float : (a b : Bool) → a ≡ false → b ≡ false → a || b ≡ false
-nowhere_float a b h k = rw (h, k)
 
 names_above : (k : List ℕ) (ms : Members) → IsStrictlySortedBy text_cmp (k ∷ names ms) → AllByRecursion (λ n. slice_cmp nat_cmp k n ≡ Less) (names ms)
 unfolding IsStrictlySortedBy
@@ -145,7 +141,7 @@ module _ (t : Data) (clean : NoneOf (ShapeFault t)) where
         let first = sound_at w here.0 d s order.0 here.1 in
         let rest = items_sound w ds s order.1 (λ i e h. each (suc i) e h) in
         record {
-          whole = nowhere_float (has_float d) (items_have_float ds) first.whole rest.whole;
+          whole = or_from (has_float d) (items_have_float ds) first.whole rest.whole;
           trees = λ k. (first.tree k.0, rest.trees k.1);
           fits = λ k. (first.fits k.0, rest.fits k.1);
         }
@@ -158,7 +154,7 @@ module _ (t : Data) (clean : NoneOf (ShapeFault t)) where
         let rest = members_sound s ms all (names_after k ms rising) order.1
         (λ n v e h there. each n v e h (get_member-later n k d e ms (found_all (λ n. slice_cmp nat_cmp k n ≡ Less) n e ms there (names_above k ms rising)) there)) in
         record {
-          whole = nowhere_float (has_float d) (members_have_float ms) first.whole rest.whole;
+          whole = or_from (has_float d) (members_have_float ms) first.whole rest.whole;
           trees = λ h. (before_first k ms rising, first.tree h.0, rest.trees h.1);
           fits = λ h. (first.fits (subst (λ o. IfSome o (λ v. IsKnown IsAskedInRange v d)) sought.is h.0), rest.fits h.1);
         }

@@ -3,6 +3,7 @@ use Rattle.std.proofs.Common.{◌≡◌, ℕ, List, [], ◌∷◌, ◌++◌, Opt
 use Rattle.std.specs.List.{list_any}
 use Rattle.std.specs.Prelude.{IsTrue}
 use Rattle.std.specs.Str.{bytes_eq}
+use Rattle.std.proofs.lemmas.Bool.{false_from_ne_true, and_from, not-false}
 use Rattle.serde_json.specs.Data.{Data, string, array, object, Members}
 use Rattle.serde_json.specs.Find.{get, get_member, get_item}
 use Rattle.erd_tables.specs.Classes.{text_of_class, role_of_class, class_in_role}
@@ -59,21 +60,6 @@ Within-root t = record { place = []; is = refl }
 pub not_within : (t : Data) (a : Asked) (P : Asked → Type 0) (w : Within t a) → (IsSomeAnd (asked_at t w.place) P → ⊥) → P a → ⊥
 not_within t a P w none h = none (subst (λ o. IsSomeAnd o P) (sym w.is) h)
 
-pub true_unless : (b : Bool) → (b ≡ false → ⊥) → b ≡ true
-true_unless true h = refl
-true_unless false h = absurd (h refl)
-
-pub false_unless : (b : Bool) → (b ≡ true → ⊥) → b ≡ false
-false_unless true h = absurd (h refl)
-false_unless false h = refl
-
-pub both_hold : (a b : Bool) → a ≡ true → b ≡ true → a && b ≡ true
-both_hold a b h k = rw (h, k)
-
-pub not_false : (b : Bool) → not b ≡ false → b ≡ true
-not_false true e = refl
-not_false false e = cc
-
 -- an object's `@type` is the text of the class that is found
 pub record Classed (r : Role) (d : Data) : Type 0 where
   pub members : Members
@@ -103,14 +89,14 @@ asked_inside_object w r ms c name v of_label among other e = rw (other, among, e
 
 module _ (t : Data) (clean : NoneOf (ShapeFault t)) where
   pub faultless : (a : Asked) (r : Reason) → Within t a → is_shape_fault a r ≡ false
-  faultless a r w = false_unless (is_shape_fault a r) (not_within t a (λ x. IsTrue (is_shape_fault x r)) w (clean w.place r))
+  faultless a r w = false_from_ne_true (is_shape_fault a r) (not_within t a (λ x. IsTrue (is_shape_fault x r)) w (clean w.place r))
 
   pub wanted_within : (a : Asked) → Within t a → has_wanted_kind a.want a.value ≡ true
-  wanted_within a w = not_false (has_wanted_kind a.want a.value) (faultless a reason.WrongKind w)
+  wanted_within a w = not-false (has_wanted_kind a.want a.value) (faultless a reason.WrongKind w)
 
   -- an object has each member that it must have
   pub lacks_none : (a : Asked) (name : List ℕ) → Within t a → list_any (bytes_eq name) (names_wanted (scope_inside a.want a.value)) ≡ true → get name a.value ≡ None → ⊥
-  lacks_none a name w needed e = let h : true ≡ false = sym (both_hold _ _ needed (ap is_none e)) ∙ faultless a (reason.MissingMember name) w in cc
+  lacks_none a name w needed e = let h : true ≡ false = sym (and_from _ _ needed (ap is_none e)) ∙ faultless a (reason.MissingMember name) w in cc
 
   -- no entry of a set of JSON values repeats an earlier one
   pub unrepeated : (w : Want) (d : Data) (b : Bool) → is_reference w ≡ false → Within t (record { want = w; value = d; repeated = b }) → Within t (asked w d)

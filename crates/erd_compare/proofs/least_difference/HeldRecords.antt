@@ -9,12 +9,12 @@ use Rattle.erd_meaning.specs.Meaning.{MemberValue, ObjectRecord, a_key, a_plain}
 use Rattle.erd_meaning.specs.Records.{record_in_election, with_election_id}
 use Rattle.erd_meaning.specs.declared.keys.key.Key.{Key}
 use Rattle.erd_meaning.proofs.meanings.ElectionIds.{other_than_election}
+use Rattle.erd_meaning.proofs.orders.InsertedValues.{greater_turned}
 use Rattle.erd_compare.specs.code.Comparing.{TellsHow}
 use Rattle.erd_compare.specs.code.HeldDifferences.{HasNoElectionId, TellsHeld, is_before_election}
 use Rattle.erd_compare.specs.Differences.{DifferFirstAt}
 use Rattle.erd_compare.specs.declared.difference.How.{How}
 use Rattle.erd_compare.specs.declared.difference.How.TheVariants.{OnlyLeft, OnlyRight, OtherClass, Member}
-use Rattle.erd_compare.proofs.least_difference.StepWalks.{turned}
 
 abbrev Members : Type 0
 Members = List ℕ → Option MemberValue
@@ -40,7 +40,7 @@ below n one name less not_less = at (text_cmp name one) refl
     at : (o : Ordering) → text_cmp name one ≡ o → text_cmp n name ≡ Less
     at Less is = absurd (true≢false (sym (ap is_lt is) ∙ not_less))
     at Equal is = subst (λ x. text_cmp n x ≡ Less) (sym (exact_bytes name one is)) less
-    at Greater is = nat_list_cmp_total.trans n one name less (turned nat_list_cmp_total name one is)
+    at Greater is = nat_list_cmp_total.trans n one name less (greater_turned nat_list_cmp_total name one is)
 
 -- ---- members
 

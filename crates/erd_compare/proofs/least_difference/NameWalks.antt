@@ -11,15 +11,18 @@ use Rattle.serde_json.specs.Data.{Data, null, boolean, number, string, array, ob
 use Rattle.serde_json.specs.Find.{as_object, get, get_member}
 use Rattle.erd_tables.specs.Texts.{text_cmp}
 use Rattle.erd_tables.specs.declared.class.Class.{Class}
-use Rattle.erd_check.specs.Trees.{AreMembers, IsBeforeFirst, IsTree}
+use Rattle.erd_check.specs.Trees.{AreMembers, IsTree}
 use Rattle.erd_check.specs.Values.{names}
 use Rattle.erd_check.proofs.Order.{In}
+use Rattle.erd_check.proofs.Deciding.{names_rise}
+use Rattle.erd_check.proofs.Exact.{text_itself}
 use Rattle.erd_meaning.specs.Keys.{Preference}
 use Rattle.erd_meaning.specs.Records.{member_of_class}
+use Rattle.erd_meaning.proofs.orders.InsertedValues.{greater_turned}
 use Rattle.erd_compare.specs.Differences.{DifferFirstAt}
 use Rattle.erd_compare.specs.code.LeastNames.{DifferAtName, lesser_name, record_of_class}
 use Rattle.erd_compare.specs.code.NamesInStep.{first_of, names_past}
-use Rattle.erd_compare.proofs.least_difference.StepWalks.{IsInStep, IsNoneBeside, NoneLess, all_left, below_head, equal_all, none_less-before, none_less-empty, none_less-head, pass_both, pass_left, pass_right, turned}
+use Rattle.erd_compare.proofs.least_difference.StepWalks.{IsInStep, IsNoneBeside, NoneLess, all_left, below_head, equal_all, none_less-before, none_less-empty, none_less-head, pass_both, pass_left, pass_right}
 
 -- ---- the first name that is left
 
@@ -28,9 +31,6 @@ pub firsts_left : (f g : Option (Bor (List ℕ))) (ls rs : List (List ℕ)) (o :
 firsts_left f g ls rs o left right e = ap₂ lesser_name (sym left) (sym right) ∙ sym e
 
 -- ---- a name is passed by
-
-name_itself : (k : List ℕ) → bytes_eq k k ≡ true
-name_itself k = (bytes_eq-Decides k k).1 refl
 
 names_apart : (k l : List ℕ) → text_cmp k l ≡ Less → bytes_eq l k ≡ false
 names_apart k l low = at (bytes_eq l k) refl
@@ -42,7 +42,7 @@ names_apart k l low = at (bytes_eq l k) refl
         let clash : Equal ≡ Less = sym (tied_itself nat_list_cmp_total k) ∙ subst (λ x. text_cmp k x ≡ Less) same low in cc
 
 past_first : (k : List ℕ) (ks : List (List ℕ)) → names_past k (k ∷ ks) ≡ ks
-past_first k ks = ap (λ b. cond b ks (k ∷ ks)) (name_itself k)
+past_first k ks = ap (λ b. cond b ks (k ∷ ks)) (text_itself k)
 
 past_later : (k l : List ℕ) (ls : List (List ℕ)) → text_cmp k l ≡ Less → names_past k (l ∷ ls) ≡ l ∷ ls
 past_later k l ls low = ap (λ b. cond b ls (l ∷ ls)) (names_apart k l low)
@@ -101,7 +101,7 @@ module _ {V : Type 0} (m n : List ℕ → Option V) where
       at Greater is =
           let told : Some a ≡ Some k = rw is at e in
           let same : a ≡ k = cc in
-          let low = turned nat_list_cmp_total b a is in
+          let low = greater_turned nat_list_cmp_total b a is in
           subst (IsNextName m n (a ∷ ls) (b ∷ rs)) same (next_left a ls (b ∷ rs) step (below_head nat_list_cmp_total a b rs low step.right) (past_later a b rs low)
           (none_less-before nat_list_cmp_total a b (b ∷ rs) low (none_less-head nat_list_cmp_total b rs step.right)))
 
@@ -118,16 +118,6 @@ module _ {V : Type 0} (m n : List ℕ → Option V) where
       at Greater is = let told : Some a ≡ None = rw is at e in cc
 
 -- ---- at first all names are left
-
-before_all : (k : List ℕ) (ms : Members) → AreMembers ms → IsBeforeFirst k ms → AllByRecursion (λ j. text_cmp k j ≡ Less) (names ms)
-before_all k no_members rise low = tt
-before_all k (member l d no_members) rise low = (low, tt)
-before_all k (member l d (member j e ms)) rise low = (low, before_all k (member j e ms) rise.2 (nat_list_cmp_total.trans k l j low rise.0))
-
-names_rise : (ms : Members) → AreMembers ms → IsStrictlySortedBy text_cmp (names ms)
-unfolding IsStrictlySortedBy
-names_rise no_members trees = tt
-names_rise (member k d ms) trees = (before_all k ms trees.2 trees.0, names_rise ms trees.2)
 
 -- a name that is not among these has no member
 named : (k : List ℕ) (v : Data) (ms : Members) → get_member k ms ≡ Some v → In k (names ms)

@@ -4,9 +4,10 @@ use Rattle.std.specs.List.{slice_get}
 use Rattle.std.specs.List.Sorted.{IsStrictlySortedBy}
 use Rattle.std.specs.Option.{option_cmp}
 use Rattle.std.proofs.lemmas.Cmp.{tied_itself}
+use Rattle.std.proofs.lemmas.Bool.{cases_order}
 use Rattle.erd_meaning.specs.Keys.{key_cmp}
 use Rattle.erd_meaning.specs.declared.keys.key.Key.{Key}
-use Rattle.erd_meaning.proofs.finding.OneObject.{sorted_at, which_first}
+use Rattle.erd_meaning.proofs.finding.OneObject.{sorted_at}
 use Rattle.erd_meaning.proofs.orders.EqualNames.{equal_keys, options_exact}
 use Rattle.erd_compare.specs.code.CommonRanks.{place_of}
 use Rattle.erd_compare.proofs.least_difference.RisingKeys.{by_key, by_key_total}
@@ -83,7 +84,7 @@ not_itself k h = let clash : Equal ≡ Less = sym (tied_itself by_key_total k) �
 
 -- a key is at its place only
 pub place_there : (ks : List (Option Key)) (i : ℕ) (k : Option Key) → IsStrictlySortedBy by_key ks → slice_get ks i ≡ Some k → place_of k ks ≡ i
-place_there ks i k rises e = at (which_first (place_of k ks) i)
+place_there ks i k rises e = at (cases_order (place_of k ks) i)
   where
     stands : slice_get ks (place_of k ks) ≡ Some k
     stands = place_stands k ks i e

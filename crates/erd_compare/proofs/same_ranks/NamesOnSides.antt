@@ -5,6 +5,7 @@ use Rattle.std.specs.List.{AllByRecursion, cons_option, filter_map, slice_get}
 use Rattle.serde_json.specs.Data.{Data}
 use Rattle.serde_json.specs.View.{view}
 use Rattle.erd_check.proofs.Order.{In-from_contains}
+use Rattle.erd_check.proofs.Positions.{all_weakened}
 use Rattle.erd_tables.specs.declared.class.Family.{Family}
 use Rattle.erd_tables.specs.declared.class.Family.TheVariants as family
 use Rattle.erd_tables.specs.declared.class.Role.{Role}
@@ -34,10 +35,6 @@ use Rattle.erd_compare.proofs.same_ranks.KeyRanks.{both_keys, known_on, one_rank
 use Rattle.erd_compare.proofs.same_ranks.KeyPlaces.{Stands}
 use Rattle.erd_compare.proofs.same_ranks.NamedRanks.{kept}
 
-all_weaker : {A : Type 0} (P Q : A → Type 0) → ((x : A) → P x → Q x) → (xs : List A) → AllByRecursion P xs → AllByRecursion Q xs
-all_weaker P Q more [] h = tt
-all_weaker P Q more (x ∷ xs) h = (more x h.0, all_weaker P Q more xs h.1)
-
 -- ---- numbers of names
 
 module _ (a b : Judged) where
@@ -59,8 +56,8 @@ module _ (a b : Judged) where
   -- each key of the name is known
   keys_known : (side : Side) (n : NameParts) → HasKeysIn (prefer_on side) (tree_on side) n → AllByRecursion (λ k. Stands (Some k) (both_keys a b (role_of_name n))) n.keys
   keys_known side n known =
-      all_weaker (IsKeyIn (prefer_on side) (tree_on side) (family_chosen n.class)) (λ k. Stands (Some k) (both_keys a b (role_of_name n)))
-      (λ k h. key_known side (family_chosen n.class) (chosen_keyed n.class) k h) n.keys known
+      all_weakened (IsKeyIn (prefer_on side) (tree_on side) (family_chosen n.class)) (λ k. Stands (Some k) (both_keys a b (role_of_name n))) n.keys
+      (λ k h. key_known side (family_chosen n.class) (chosen_keyed n.class) k h) known
 
   one_keys : (r : Role) (ks ls : List Key) → AllByRecursion (λ k. Stands (Some k) (both_keys a b r)) ks → AllByRecursion (λ k. Stands (Some k) (both_keys a b r)) ls → map (rank_of_key a b r) ks ≡ map (rank_of_key a b r) ls → ks ≡ ls
   one_keys r [] [] mine its e = refl

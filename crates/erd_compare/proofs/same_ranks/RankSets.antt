@@ -8,7 +8,7 @@ use Rattle.std.proofs.lemmas.Cmp.{nat_cmp_total, tied_itself}
 use Rattle.std.proofs.lemmas.List.Kept.{Contains-dedup_nat, Contains-from_dedup, IsStrictlySortedBy-dedup}
 use Rattle.std.proofs.lemmas.List.Sorted.{list_any-IsPermutation}
 use Rattle.std.proofs.lemmas.Map.Lookups.{CmpEqualImpliesEq, exact_unsigned}
-use Rattle.std.specs.Cmp.{IsTotalOrder, unsigned_ties}
+use Rattle.std.specs.Cmp.{IsTotalOrder, unsigned_ties, both_ways}
 use Rattle.std.specs.Cmp.Lexicographic.{pointwise}
 use Rattle.std.specs.List.{cons_option, dedup, filter_map, list_any}
 use Rattle.std.specs.List.Sorted.{IsPermutation, IsSorted}
@@ -76,11 +76,6 @@ module _ {K : Type 0} (cmp : K → K → Ordering) (total : IsTotalOrder cmp) (e
       at Less is h rest = inr (rest h)
       at Equal is h rest = inl (exact l k is)
       at Greater is h rest = inr (rest h)
-
-pub both_ways : (p q : Bool) → (p ≡ true → q ≡ true) → (q ≡ true → p ≡ true) → p ≡ q
-both_ways true q to back = sym (to refl)
-both_ways false true to back = back refl
-both_ways false false to back = refl
 
 -- ranks that were sorted, each of them once
 pub sorted_once : (ns sorted once : List ℕ) → IsPermutation ns sorted → IsSorted nat_cmp sorted → once ≡ dedup ◌==◌ sorted → IsRankSet ns once

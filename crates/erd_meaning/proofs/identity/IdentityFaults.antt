@@ -3,6 +3,7 @@ use Rattle.std.proofs.Common.{◌≡◌, inl, inr, List, [], ◌∷◌, ◌++◌
 use Rattle.std.specs.Prelude.{IsTrue}
 use Rattle.std.proofs.lemmas.Cmp.{tied_itself}
 use Rattle.std.proofs.lemmas.Slice.Eq.{bytes_eq-Decides}
+use Rattle.std.proofs.lemmas.Bool.{and_parts, and_from}
 use Rattle.serde_json.specs.Data.{Data}
 use Rattle.erd_tables.specs.Classes.{family_number}
 use Rattle.erd_tables.specs.Faults.{ListsAll}
@@ -16,7 +17,6 @@ use Rattle.erd_tables.specs.declared.fault.Reason.TheVariants.{NoIdentifier, Twi
 use Rattle.erd_tables.specs.declared.place.Step.{Step}
 use Rattle.erd_check.specs.Paths.{fault_at}
 use Rattle.erd_check.proofs.Order.{In, In-append, In-append_left, In-append_right, In-from_contains, contains_from_In, any_at}
-use Rattle.erd_check.proofs.Reasons.{and_true, both_true}
 use Rattle.erd_meaning.specs.Keys.{Preference, has_keys, is_keyed_role, key_of, key_of_family_object}
 use Rattle.erd_meaning.specs.LaterFaults.{IdentityFault, LacksIdentifier, RepeatsId, RepeatsKey}
 use Rattle.erd_meaning.specs.Objects.{Placed, elections, has_several, id_of, needs_key, objects, objects_with_role}
@@ -48,7 +48,7 @@ earlier_place p {x} {y} e less = subst (λ q. place_cmp q p ≡ Less) (sym (ap (
 module _ (π : Preference) (t : Data) (f : Family) (o : Placed) (there : In o (objects f t)) where
   lacking : is_keyless (object_here π f o) ≡ true → LacksIdentifier π t o.place
   lacking e =
-      let both = and_true (has_keys f) (is_none (key_of_family_object π f o.value)) e in
+      let both = and_parts (has_keys f) (is_none (key_of_family_object π f o.value)) e in
       record {
         role = role.OfFamily f;
         needed = both.0;
@@ -62,7 +62,7 @@ module _ (π : Preference) (t : Data) (f : Family) (o : Placed) (there : In o (o
   twin_object y other less e =
       let g = other.family in
       let twins : are_twins (object_here π f o) (object_here π g other.one) ≡ true = ap (λ (z : Located). are_twins (object_here π f o) z.met) other.is ∙ e in
-      let both = and_true (family_number f == family_number g) (same_key (key_of_family_object π f o.value) (key_of_family_object π g other.one.value)) twins in
+      let both = and_parts (family_number f == family_number g) (same_key (key_of_family_object π f o.value) (key_of_family_object π g other.one.value)) twins in
       let family : f ≡ g = family_exact f g both.0 in
       let key = same_key_from (key_of_family_object π f o.value) (key_of_family_object π g other.one.value) both.1 in
       let mine = kept_keyed π f o.value key.0 key.1 in
@@ -124,7 +124,7 @@ module _ (π : Preference) (t : Data) (f : Family) (o : Placed) (there : In o (o
 module _ (π : Preference) (t : Data) (e : Placed) (there : In e (elections t)) where
   lacking_election : is_keyless (election_here π t e) ≡ true → LacksIdentifier π t e.place
   lacking_election h =
-      let both = and_true (has_several t) (is_none (key_of π e.value)) h in
+      let both = and_parts (has_several t) (is_none (key_of π e.value)) h in
       record {
         role = role.Election;
         needed = both.0;
@@ -253,10 +253,10 @@ lacking_told : (π : Preference) (t : Data) (r : Role) (o : Placed) → IsTrue (
     → In (fault_at o.place NoIdentifier) (identity_told π t)
 lacking_told π t (role.OfFamily f) o needed i keyless =
     let missing : key_of_family_object π f o.value ≡ None = rw (needed, keyless) in
-    tells_lack π t (located_one π f o) (completed π t (located_one π f o) (is_met π t f o i)) (both_true (has_keys f) (is_none (key_of_family_object π f o.value)) needed (ap is_none missing))
+    tells_lack π t (located_one π f o) (completed π t (located_one π f o) (is_met π t f o i)) (and_from (has_keys f) (is_none (key_of_family_object π f o.value)) needed (ap is_none missing))
 lacking_told π t role.Election o needed i keyless =
     let x = located_election π (has_several t) o in
-    tells_lack π t x (completed π t x (election_is_met π t o i)) (both_true (has_several t) (is_none (key_of π o.value)) needed (ap is_none keyless))
+    tells_lack π t x (completed π t x (election_is_met π t o i)) (and_from (has_several t) (is_none (key_of π o.value)) needed (ap is_none keyless))
 lacking_told π t r o needed i keyless = absurd i
 
 key_told : (π : Preference) (t : Data) (r : Role) (o p : Placed) (k : Key) → IsTrue (is_keyed_role r) → In o (objects_with_role r t) → In p (objects_with_role r t)
@@ -266,7 +266,7 @@ key_told π t (role.OfFamily f) o p k keyed i j less a b =
     let its : key_of_family_object π f p.value ≡ Some k = rw (keyed, b) in
     let one : same_key (key_of_family_object π f o.value) (key_of_family_object π f p.value) ≡ true = rw (mine, its, tied_itself key_cmp_total k) in
     tells_twin π t (located_one π f o) (located_one π f p) (completed π t (located_one π f o) (is_met π t f o i)) (is_met π t f p j) less
-    (both_true (family_number f == family_number f) (same_key (key_of_family_object π f o.value) (key_of_family_object π f p.value)) (itself (family_number f)) one)
+    (and_from (family_number f == family_number f) (same_key (key_of_family_object π f o.value) (key_of_family_object π f p.value)) (itself (family_number f)) one)
 key_told π t role.Election o p k keyed i j less a b =
     let x = located_election π (has_several t) o in
     let y = located_election π (has_several t) p in

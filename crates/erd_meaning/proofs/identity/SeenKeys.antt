@@ -30,7 +30,7 @@ seen_is keys seen None are = none keys
     none (k ∷ ks) = none ks
 seen_is keys seen (Some key) are = are key
 
-or_same : (a b : Bool) → (b ≡ true → a ≡ true) → a ≡ (a || b)
+pub or_same : (a b : Bool) → (b ≡ true → a ≡ true) → a ≡ (a || b)
 or_same true b h = refl
 or_same false true h = h refl
 or_same false false h = refl

@@ -4,13 +4,9 @@ use Rattle.std.specs.Cmp.{IsTotalOrder}
 use Rattle.std.specs.Ordering.{ordering_reverse}
 use Rattle.std.proofs.lemmas.Map.Lookups.{CmpEqualImpliesEq}
 use Rattle.erd_meaning.specs.SelectionNames.{with_inserted}
+use Rattle.erd_check.proofs.Deciding.{less}
 
 -- ---- answers of a comparison
-
-pub is_less : (o : Ordering) → is_lt o ≡ true → o ≡ Less
-is_less Less e = refl
-is_less Equal e = cc
-is_less Greater e = cc
 
 module _ {A : Type 0} {cmp : A → A → Ordering} (order : IsTotalOrder cmp) where
   pub greater_turned : (x y : A) → cmp x y ≡ Greater → cmp y x ≡ Less
@@ -35,7 +31,7 @@ module _ {A : Type 0} {cmp : A → A → Ordering} (order : IsTotalOrder cmp) wh
       ap (with_inserted cmp x) (goes_after y z zs q) ∙ goes_after x z (with_inserted cmp y zs) p ∙ ap (λ ws. z ∷ ws) more
       ∙ sym (ap (with_inserted cmp y) (goes_after x z zs p) ∙ goes_after y z (with_inserted cmp x zs) q)
   lesser_at x y z zs true false e p q more =
-      let h : true ≡ false = sym (ap is_lt (order.trans z x y (is_less (cmp z x) p) e)) ∙ q in cc
+      let h : true ≡ false = sym (ap is_lt (order.trans z x y (less (cmp z x) p) e)) ∙ q in cc
   lesser_at x y z zs false true e p q more =
       ap (with_inserted cmp x) (goes_after y z zs q) ∙ goes_before x z (with_inserted cmp y zs) p
       ∙ sym (ap (with_inserted cmp y) (goes_before x z zs p) ∙ goes_after y x (z ∷ zs) (ap is_lt e) ∙ ap (λ ws. x ∷ ws) (goes_after y z zs q))

@@ -2,6 +2,7 @@
 use Rattle.std.proofs.Common.{◌≡◌, ◌==◌, ◌&&◌, ◌++◌, ℕ, List, [], ◌∷◌, Bool, true, false, not, Option, Some, None, is_none, is_some, option_map, refl, sym, ap, ap₂, ◌∙◌}
 use Rattle.std.specs.Bool.{then_some}
 use Rattle.std.specs.Option.{option_map_or, option_to_list}
+use Rattle.std.proofs.Math.Bool.{and-false}
 use Rattle.serde_json.specs.Data.{Data, string}
 use Rattle.serde_json.specs.Find.{as_str}
 use Rattle.erd_tables.specs.Classes.{family_number}
@@ -27,10 +28,6 @@ told-same : (ks : List Kept) (outer : Data) (f : Family) (id : List ℕ) (known 
     → id_reasons ks outer f id ≡ told known others elsewhere
 told-same ks outer f id known others elsewhere a b c =
     ap₂ ◌++◌ (ap (λ k. reason_if (not k) Unresolved) a) (ap₂ (λ o e. reason_if o WrongFamily ++ reason_if e SelectionOfOtherContest) b c)
-
-and_false : (b : Bool) → (b && false) ≡ false
-and_false true = refl
-and_false false = refl
 
 known_by : (ks : List Kept) (id : List ℕ) (o : Option (Family × ℕ)) → number_of_id ks id ≡ o → is_known ks id ≡ is_some o
 known_by ks id o e = sym (id_known ks id) ∙ ap is_some e
@@ -59,7 +56,7 @@ pub reasons_of_unknown : (ks : List Kept) (outer : Data) (f : Family) (id : List
 reasons_of_unknown ks outer f id e =
     let known = known_by ks id None e in
     told-same ks outer f id false false false known (others_by ks f id None false (with_id_none ks f id e) known)
-    (ap (λ b. is_selection_family f && b) (elsewhere_by ks outer id None (among_none ks family.Selection id e)) ∙ and_false (is_selection_family f))
+    (ap (λ b. is_selection_family f && b) (elsewhere_by ks outer id None (among_none ks family.Selection id e)) ∙ and-false (is_selection_family f))
 
 elsewhere_of_other : (ks : List Kept) (outer : Data) (f g : Family) (id : List ℕ) (i : ℕ) → number_of_id ks id ≡ Some (g, i) → (family_number g == family_number f) ≡ false → (is_selection_family f && is_elsewhere ks outer id) ≡ false
 elsewhere_of_other ks outer family.Selection g id i e other = elsewhere_by ks outer id None (among_other ks family.Selection g id i e other)

@@ -5,7 +5,7 @@ use Rattle.std.proofs.lemmas.Cmp.{lists_total, nat_cmp_total, tied_itself}
 use Rattle.std.proofs.lemmas.List.{at_drop_all, at_drop_more}
 use Rattle.std.proofs.lemmas.Map.Lookups.{exact_unsigned}
 use Rattle.std.proofs.lemmas.Iterator.Adapters.{position_from-zero}
-use Rattle.std.specs.Cmp.{Equal-is}
+use Rattle.std.specs.Cmp.{Equal-is, both_ways}
 use Rattle.std.specs.Cmp.Lexicographic.{slice_cmp}
 use Rattle.std.specs.List.{list_all, list_any, position, position_from}
 use Rattle.std.specs.Ordering.{eq_by_cmp, ordering_then}
@@ -24,7 +24,6 @@ use Rattle.erd_meaning.specs.code.SelectionWalk.{NumberedName, added_name, is_se
 use Rattle.erd_meaning.specs.declared.keys.key.Key.{Key}
 use Rattle.erd_tables.specs.declared.class.Class.{Class}
 use Rattle.erd_tables.specs.declared.class.Family.{Family}
-use Rattle.erd_meaning.proofs.references.ReferenceLookups.{both_tests}
 use Rattle.erd_meaning.proofs.selections.NameTests.{name_test}
 use Rattle.erd_meaning.proofs.selections.NamesTold.{is_named_from}
 use Rattle.erd_meaning.proofs.selections.RankedKeys.{each_passes, rank_as_key}
@@ -186,7 +185,7 @@ module _ (ks : List Kept) (f : Family) where
 -- ---- the test of a name that is looked up
 
 equal_numbers : (m n : ℕ) → (m == n) ≡ is_eq (nat_cmp m n)
-equal_numbers m n = both_tests (m == n) (is_eq (nat_cmp m n)) (λ e. ap (λ k. is_eq (nat_cmp m k)) (sym ((Decides-eqb m n).0 e)) ∙ ap is_eq (tied_itself nat_cmp_total m))
+equal_numbers m n = both_ways (m == n) (is_eq (nat_cmp m n)) (λ e. ap (λ k. is_eq (nat_cmp m k)) (sym ((Decides-eqb m n).0 e)) ∙ ap is_eq (tied_itself nat_cmp_total m))
     (λ e. (Decides-eqb m n).1 (exact_unsigned m n ((Equal-is (nat_cmp m n)).0 e)))
 
 is_eq_then : (p o : Ordering) → is_eq (ordering_then p o) ≡ (is_eq p && is_eq o)

@@ -23,10 +23,6 @@ second_false : (a b : Bool) → a || b ≡ false → b ≡ false
 second_false true b e = cc
 second_false false b e = e
 
-both_false : (a b : Bool) → a ≡ false → b ≡ false → a || b ≡ false
-both_false true b e f = e
-both_false false b e f = f
-
 -- ---- members and entries
 
 whole_member : (name : List ℕ) (ms : Members) (d : Data) → members_have_float ms ≡ false → get_member name ms ≡ Some d → has_float d ≡ false

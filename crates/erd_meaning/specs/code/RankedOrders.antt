@@ -6,8 +6,8 @@ use Rattle.std.specs.Ordering.{eq_by_cmp}
 use Rattle.std.proofs.lemmas.Bool.Decides.{Decides-eqb}
 use Rattle.std.proofs.lemmas.Cmp.{nat_cmp_total, then_total, on_total}
 use Rattle.std.proofs.lemmas.Map.Lookups.{exact_unsigned}
+use Rattle.std.proofs.lemmas.Bool.{and_parts}
 use Rattle.erd_tables.proofs.PlaceOrder.{then_both}
-use Rattle.erd_check.proofs.Reasons.{and_true}
 use Rattle.erd_meaning.specs.NameParts.{NameParts}
 use Rattle.erd_meaning.specs.Hashes.{name_digest}
 use Rattle.erd_meaning.specs.NumberedNames.{numbered_name_cmp, numbered_parts}
@@ -43,15 +43,15 @@ equal_sought_alike a b e =
 -- and as the name that is found
 pub sought_alike : (ks : List Kept) (c : ℕ) (n : NameParts) (s : PlacedName) → is_sought ks c n s ≡ true → sought_writes (c, n) ≡ usize s.0 ++ ranked_name_writes s.1
 sought_alike ks c n s e =
-    let inside = (and_true (has_keys_among ks n) ((c == s.0) && eq_by_cmp ranked_name_cmp (ranked_parts ks n) s.1) e).1 in
-    let both = and_true (c == s.0) (eq_by_cmp ranked_name_cmp (ranked_parts ks n) s.1) inside in
+    let inside = (and_parts (has_keys_among ks n) ((c == s.0) && eq_by_cmp ranked_name_cmp (ranked_parts ks n) s.1) e).1 in
+    let both = and_parts (c == s.0) (eq_by_cmp ranked_name_cmp (ranked_parts ks n) s.1) inside in
     ap₂ (λ (d : ℕ) (w : HashWrites). usize d ++ w) ((Decides-eqb c s.0).0 both.0) (equal_ranked_alike (ranked_parts ks n) s.1 both.1)
 
 -- a name that is found is told from the others as the index tells them apart
 pub sought_equal : (ks : List Kept) (c : ℕ) (n : NameParts) (x y : PlacedName) → is_sought ks c n x ≡ true
     → is_sought ks c n y ≡ ((x.0 == y.0) && eq_by_cmp ranked_name_cmp x.1 y.1)
 sought_equal ks c n x y e =
-    let outer = and_true (has_keys_among ks n) ((c == x.0) && eq_by_cmp ranked_name_cmp (ranked_parts ks n) x.1) e in
-    let both = and_true (c == x.0) (eq_by_cmp ranked_name_cmp (ranked_parts ks n) x.1) outer.1 in
+    let outer = and_parts (has_keys_among ks n) ((c == x.0) && eq_by_cmp ranked_name_cmp (ranked_parts ks n) x.1) e in
+    let both = and_parts (c == x.0) (eq_by_cmp ranked_name_cmp (ranked_parts ks n) x.1) outer.1 in
     ap (λ b. b && ((c == y.0) && eq_by_cmp ranked_name_cmp (ranked_parts ks n) y.1)) outer.0
     ∙ ap₂ (λ d b. (d == y.0) && b) ((Decides-eqb c x.0).0 both.0) ((eq_by_cmp_equiv ranked_name_cmp_total).congr (ranked_parts ks n) x.1 y.1 both.1)

@@ -23,8 +23,8 @@ use Rattle.erd_meaning.specs.SelectionNames.{compact_cmp, rising_list}
 use Rattle.erd_meaning.specs.declared.keys.key.Key.{Key}
 use Rattle.erd_normal.specs.code.NormalTree.{normal_election, normal_object}
 use Rattle.erd_normal.proofs.built.NormalEntries.{entries_of_identifiers, identifiers_of_election}
-use Rattle.erd_normal.proofs.built.NormalGets.{class_has_role}
 use Rattle.erd_meaning.proofs.orders.Reordered.{Reordered, reordered_rising, whole-reordered}
+use Rattle.erd_meaning.proofs.meanings.SelectionKinds.{class_role}
 
 -- ---- the lesser of two
 
@@ -129,7 +129,7 @@ kind_of_identifiers c f e = cc
 pub key_of_object : (π ρ : Preference) (t : Data) (f : Family) (c : Class) (d : Data) → IsTree d → class_of_object (role.OfFamily f) d ≡ Some c → key_of ρ (normal_object π t f d) ≡ key_of ρ d
 key_of_object π ρ t f c d tree among =
     ap (key_of_identifiers ρ)
-    (entries_of_identifiers π t f c d tree among (codes "ExternalIdentifier") refl (kind_of_identifiers c f (class_has_role (role.OfFamily f) c d among)))
+    (entries_of_identifiers π t f c d tree among (codes "ExternalIdentifier") refl (kind_of_identifiers c f (class_role (role.OfFamily f) d c among)))
     ∙ key_of_identifiers-rising ρ compact_cmp (entries_at (codes "ExternalIdentifier") d)
 
 -- and of an election

@@ -2,12 +2,13 @@
 use Rattle.std.proofs.Common.{◌≡◌, ◌≤◌, ℕ, List, [], ◌∷◌, Option, Some, Bool, true, false, if◌then◌else◌, true≢false, refl, sym, ap, ◌∙◌, arith}
 use Rattle.std.specs.List.{list_all, AllByRecursion}
 use Rattle.std.specs.Str.{bytes_eq}
+use Rattle.std.proofs.lemmas.Bool.{and_parts}
 use Rattle.serde_json.specs.Data.{Data, Members, put, depth, members_depth}
 use Rattle.serde_json.specs.Find.{get_member}
 use Rattle.serde_json.proofs.Views.{get_member-put}
 use Rattle.erd_tables.specs.Table.{is_envelope_name}
 use Rattle.erd_check.specs.Trees.{IsTree, AreMembers}
-use Rattle.erd_check.proofs.Exact.{both_true, text_exact}
+use Rattle.erd_check.proofs.Exact.{text_exact}
 use Rattle.erd_check.proofs.PutTrees.{put-trees}
 use Rattle.erd_normal.specs.code.Building.{put_all}
 use Rattle.erd_normal.specs.code.NormalTree.{envelope_values, with_envelope}
@@ -37,7 +38,7 @@ put_value-other [] name o names other = refl
 put_value-other (p ∷ ps) name o names other = at (bytes_eq name p.0) refl (put_value-other ps name o both.1 other)
   where
     both : (is_envelope_name p.0 ≡ true) × (list_all (λ p. is_envelope_name p.0) ps ≡ true)
-    both = both_true (is_envelope_name p.0) _ names
+    both = and_parts (is_envelope_name p.0) _ names
 
     at : (b : Bool) → bytes_eq name p.0 ≡ b → put_value ps name o ≡ o → (if b then Some p.1 else put_value ps name o) ≡ o
     at true is h = absurd (true≢false (sym both.0 ∙ ap is_envelope_name (sym (text_exact name p.0 is)) ∙ other))

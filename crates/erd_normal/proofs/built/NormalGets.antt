@@ -13,7 +13,6 @@ use Rattle.erd_tables.specs.declared.class.Role.{Role}
 use Rattle.erd_tables.specs.declared.class.Role.TheVariants as role
 use Rattle.erd_tables.specs.declared.member.MemberKind.{MemberKind}
 use Rattle.erd_tables.specs.declared.member.MemberKind.TheVariants as kind
-use Rattle.erd_tables.proofs.Roles.{class_in_role_named}
 use Rattle.erd_check.specs.Faults.{is_object}
 use Rattle.erd_check.specs.Trees.{IsTree}
 use Rattle.erd_check.specs.Wants.{class_of_object}
@@ -24,18 +23,11 @@ use Rattle.erd_meaning.specs.Objects.{id_of}
 use Rattle.erd_meaning.specs.Records.{class_of_node}
 use Rattle.erd_meaning.specs.SelectionNames.{compact_cmp, rising_list, selection_role, with_rising_text}
 use Rattle.erd_normal.specs.code.NormalTree.{array_of, id_of_key, id_of_selection, normal_content, normal_election, normal_election_value, normal_node, normal_node_value, normal_object, normal_object_value, normal_object_with, normal_selection, normal_value, with_id}
-use Rattle.erd_meaning.proofs.meanings.SelectionKinds.{kind_of_type}
+use Rattle.erd_meaning.proofs.meanings.SelectionKinds.{kind_of_type, class_role}
 use Rattle.erd_normal.proofs.built.NormalMembers.{get_normal, get_normal_node, node_value}
 use Rattle.erd_normal.proofs.built.PutMembers.{put_elsewhere}
 
 -- ---- an object of a class
-
-pub class_has_role : (r : Role) (c : Class) (d : Data) → class_of_object r d ≡ Some c → role_of_class c ≡ r
-class_has_role r c d among = at (option_and_then as_str (get (codes "@type") d)) among
-  where
-    at : (o : Option (List ℕ)) → option_and_then (class_in_role r) o ≡ Some c → role_of_class c ≡ r
-    at None e = cc
-    at (Some s) e = (class_in_role_named r s c e).role
 
 pub class_of_object-object : (r : Role) (c : Class) (d : Data) → class_of_object r d ≡ Some c → is_object d ≡ true
 class_of_object-object r c (object ms) among = refl
@@ -111,7 +103,7 @@ module _ (π : Preference) (t : Data) (f : Family) (c : Class) (d : Data) (tree 
   pub get_object-id : get (codes "@id") (normal_object π t f d) ≡ option_map string (id_of_key π t f (key_of π d))
   get_object-id =
       with_id_holds (λ name k v. normal_object_value π t d k v) (role.OfFamily f) c (id_of_key π t f (key_of π d)) d tree among
-      (λ v. ap (λ k. normal_object_value π t d k v) (kind_of_family_id c f (class_has_role (role.OfFamily f) c d among)))
+      (λ v. ap (λ k. normal_object_value π t d k v) (kind_of_family_id c f (class_role (role.OfFamily f) d c among)))
 
   pub id_of_object : id_of (normal_object π t f d) ≡ id_of_key π t f (key_of π d)
   id_of_object = text_of_id (normal_object π t f d) (id_of_key π t f (key_of π d)) get_object-id

@@ -3,6 +3,7 @@ use Rattle.std.proofs.Common.{◌≡◌, List, [], ◌∷◌, Bool, true, false,
 use Rattle.std.specs.List.{AllByRecursion, list_all}
 use Rattle.std.specs.List.Sorted.{IsStrictlySortedBy}
 use Rattle.std.specs.Option.{option_cmp}
+use Rattle.std.proofs.lemmas.Bool.{and_parts, not-true}
 use Rattle.serde_json.specs.Data.{Data}
 use Rattle.serde_json.proofs.OnLiterals.{serde_json_on_literals}
 use Rattle.erd_tables.specs.declared.class.Family.{Family}
@@ -15,10 +16,8 @@ use Rattle.erd_check.specs.Trees.{IsNoDeeper}
 use Rattle.erd_check.specs.Values.{entries_of}
 use Rattle.erd_check.specs.Wants.{Asked, asked_at}
 use Rattle.erd_check.proofs.AllAsked.{AskedPlace, all_asked, tested_at}
-use Rattle.erd_check.proofs.Deciding.{faults_found, is_tree, no_fault_listed, tree_sound}
-use Rattle.erd_check.proofs.Reasons.{and_true}
+use Rattle.erd_check.proofs.Deciding.{faults_found, is_tree, no_fault_listed, tree_sound, less}
 use Rattle.erd_check.proofs.Reports.{tree_of, one_unit, small_ballot, small_ballot_canonical}
-use Rattle.erd_check.proofs.Whole.{not_true}
 use Rattle.erd_meaning.specs.Accepted.{IsAccepted}
 use Rattle.erd_meaning.specs.Keys.{key_cmp}
 use Rattle.erd_meaning.specs.SelectionNames.{compact_cmp, name_cmp, name_of}
@@ -32,7 +31,6 @@ use Rattle.erd_normal.proofs.examples.BallotMeaningExamples.{canonical_ballot_me
 use Rattle.erd_normal.proofs.examples.CanonicalExamples.{canonical_envelope}
 use Rattle.erd_normal.proofs.examples.CanonicalPartExamples.{envelope_of_one_unit, ids_of_one_unit, ids_of_small_ballot}
 use Rattle.erd_normal.proofs.examples.MeaningExamples.{one_unit_canonical, canonical_means_the_same}
-use Rattle.erd_meaning.proofs.orders.InsertedValues.{is_less}
 
 -- ---- tests
 
@@ -44,14 +42,14 @@ rises cmp (x ∷ xs) = list_all (λ y. is_lt (cmp x y)) xs && rises cmp xs
 all_below : {A : Type 0} (cmp : A → A → Ordering) (x : A) (ys : List A) → list_all (λ y. is_lt (cmp x y)) ys ≡ true → AllByRecursion (λ y. cmp x y ≡ Less) ys
 all_below cmp x [] e = tt
 all_below cmp x (y ∷ ys) e =
-    let both = and_true (is_lt (cmp x y)) (list_all (λ y. is_lt (cmp x y)) ys) e in
-    (is_less (cmp x y) both.0, all_below cmp x ys both.1)
+    let both = and_parts (is_lt (cmp x y)) (list_all (λ y. is_lt (cmp x y)) ys) e in
+    (less (cmp x y) both.0, all_below cmp x ys both.1)
 
 rising : {A : Type 0} (cmp : A → A → Ordering) (xs : List A) → rises cmp xs ≡ true → IsStrictlySortedBy cmp xs
 unfolding IsStrictlySortedBy
 rising cmp [] e = tt
 rising cmp (x ∷ xs) e =
-    let both = and_true (list_all (λ y. is_lt (cmp x y)) xs) (rises cmp xs) e in
+    let both = and_parts (list_all (λ y. is_lt (cmp x y)) xs) (rises cmp xs) e in
     (all_below cmp x xs both.0, rising cmp xs both.1)
 
 -- the same of the entries of a set of this kind
@@ -95,8 +93,8 @@ in_form : (t : Data) → are_in_form t ≡ true → (p : List Step) (a : Asked) 
     → (is_empty_array a.value ≡ false) × RisesAs None t k (entries_of a.value)
 in_form t test p a k at wanted =
     let here : is_in_form t (kind_wanted a.want) a.value ≡ true = tested_at (λ x. is_in_form t (kind_wanted x.1.want) x.1.value) t test p a at in
-    let both = and_true (not (is_empty_array a.value)) (rises_as t k (entries_of a.value)) (subst (λ o. is_in_form t o a.value ≡ true) wanted here) in
-    (not_true (is_empty_array a.value) both.0, rising_as t k (entries_of a.value) both.1)
+    let both = and_parts (not (is_empty_array a.value)) (rises_as t k (entries_of a.value)) (subst (λ o. is_in_form t o a.value ≡ true) wanted here) in
+    (not-true (is_empty_array a.value) both.0, rising_as t k (entries_of a.value) both.1)
 
 no_empty_array : (t : Data) → are_in_form t ≡ true → HasNoEmptyArray t
 no_empty_array t test p a k at wanted = (in_form t test p a k at wanted).0

@@ -3,8 +3,8 @@ use Rattle.std.proofs.Common.{◌≡◌, ◌≤◌, suc, List, [], ◌∷◌, �
 use Rattle.std.specs.Cmp.{IsTotalOrder}
 use Rattle.std.specs.List.{AllByRecursion, IsDistinct, cons_option, list_any}
 use Rattle.std.specs.Ordering.{eq_by_cmp, ordering_reverse}
+use Rattle.std.proofs.lemmas.Bool.{false_from_ne_true}
 use Rattle.erd_check.proofs.Positions.{all_weakened}
-use Rattle.erd_check.proofs.Shapes.{false_unless}
 use Rattle.erd_check.proofs.Rising.{Has, here, later}
 use Rattle.erd_normal.proofs.lists.FoundBuilt.{AreApart}
 use Rattle.erd_normal.proofs.lists.Paired.{Paired, none, more}
@@ -212,7 +212,7 @@ distinct-paired {A} {B} {R} test test' tells (more {x = x} {y = y} {xs = xs} {ys
     apart : {us : List A} {vs : List B} → ((x' : A) → Has us x' → Has xs x') → Paired R us vs → AllByRecursion (λ x'. test x x' ≡ false) us → AllByRecursion (λ y'. test' y y' ≡ false) vs
     apart inside none a = tt
     apart inside (more {x = x'} {y = y'} s more_of) a =
-        (false_unless (test' y y') (λ e. true≢false (sym (tells x x' y y' here (later (inside x' here)) r s e) ∙ a.0)), apart (λ z h. inside z (later h)) more_of a.1)
+        (false_from_ne_true (test' y y') (λ e. true≢false (sym (tells x x' y y' here (later (inside x' here)) r s e) ∙ a.0)), apart (λ z h. inside z (later h)) more_of a.1)
 
 -- a test that sees no order
 abbrev pub IsEven : {A : Type 0} → (A → A → Bool) → Type 0
@@ -259,7 +259,7 @@ pub apart_distinct : {A : Type 0} (test : A → Bool) (both_pass : A → A → B
 unfolding IsDistinct
 apart_distinct test both_pass [] passes d = tt
 apart_distinct test both_pass (x ∷ xs) passes d = (
-  λ h. all_weakened (λ y. both_pass x y ≡ false) (λ y. test y ≡ false) xs (λ y apart. false_unless (test y) (λ k. true≢false (sym (passes x y h k) ∙ apart))) d.0,
+  λ h. all_weakened (λ y. both_pass x y ≡ false) (λ y. test y ≡ false) xs (λ y apart. false_from_ne_true (test y) (λ k. true≢false (sym (passes x y h k) ∙ apart))) d.0,
   apart_distinct test both_pass xs passes d.1,
 )
 

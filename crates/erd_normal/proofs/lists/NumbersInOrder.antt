@@ -11,8 +11,8 @@ use Rattle.erd_meaning.specs.SelectionNames.{rising_list, with_inserted}
 use Rattle.erd_normal.proofs.lists.BuiltLists.{all_map}
 use Rattle.erd_meaning.proofs.orders.Reordered.{Reordered, in_turn, length-reordered, reordered_back, reordered_map, reordered_rising, reordered_self, reordered_swap}
 use Rattle.erd_normal.proofs.lists.RisingAgain.{rising-reordered}
-use Rattle.erd_meaning.proofs.orders.InsertedValues.{is_less}
 use Rattle.erd_meaning.proofs.orders.RisingOrders.{NeverFalls, rising_never_falls}
+use Rattle.erd_check.proofs.Deciding.{less}
 
 -- ---- exchanges
 
@@ -68,7 +68,7 @@ module _ {A : Type 0} {cmp : A → A → Ordering} (order : IsTotalOrder cmp) (n
 
 module _ {K X : Type 0} {cmp : K → K → Ordering} (order : IsTotalOrder cmp) (key : X → K) where
   below_too_at : (k l : K) (x : X) (o : Ordering) → cmp k l ≡ o → is_gt o ≡ false → is_lt (cmp (key x) k) ≡ true → is_lt (cmp (key x) l) ≡ true
-  below_too_at k l x Less is low below = ap is_lt (order.trans (key x) k l (is_less (cmp (key x) k) below) is)
+  below_too_at k l x Less is low below = ap is_lt (order.trans (key x) k l (less (cmp (key x) k) below) is)
   below_too_at k l x Equal is low below = ap is_lt (sym (alike_right order k l (key x) is)) ∙ below
   below_too_at k l x Greater is low below = cc
 

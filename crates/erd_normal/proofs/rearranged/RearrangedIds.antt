@@ -1,13 +1,13 @@
 -- No two objects of a report that is alike to an accepted one have one `@id`, where the function of texts tells `@id`s apart.
 use Rattle.std.proofs.Common.{◌≡◌, ℕ, List, true, true≢false, Some, sym, ap, ◌∙◌, subst}
 use Rattle.std.specs.List.{IsDistinct}
+use Rattle.std.proofs.lemmas.Bool.{false_from_ne_true}
 use Rattle.serde_json.specs.Data.{Data}
 use Rattle.erd_tables.specs.declared.class.Family.{Family}
 use Rattle.erd_tables.specs.declared.class.Role.TheVariants as role
 use Rattle.erd_check.specs.Faults.{NoneOf, ShapeFault}
 use Rattle.erd_check.specs.declared.want.Want.TheVariants.{Object}
 use Rattle.erd_check.proofs.Rising.{Has}
-use Rattle.erd_check.proofs.Shapes.{false_unless}
 use Rattle.erd_meaning.specs.Accepted.{IsAccepted}
 use Rattle.erd_meaning.specs.Keys.{Preference}
 use Rattle.erd_meaning.specs.Objects.{id_of, objects}
@@ -27,7 +27,7 @@ abbrev pub TellsIds : (List ℕ → List ℕ) → Data → Type 0
 TellsIds ρ t = (a b : List ℕ) → IsId t a → IsId t b → ρ a ≡ ρ b → a ≡ b
 
 have_one_id_even : IsEven have_one_id
-have_one_id_even d e h = false_unless (have_one_id e d) (λ g. let s = id_of_both e d g in true≢false (sym (by_one_id d e s.0 s.2 s.1) ∙ h))
+have_one_id_even d e h = false_from_ne_true (have_one_id e d) (λ g. let s = id_of_both e d g in true≢false (sym (by_one_id d e s.0 s.2 s.1) ∙ h))
 
 module _ (π : Preference) (ρ : List ℕ → List ℕ) (t u : Data) (alike : Alike ρ (Some (Object role.Report)) t u) (accepted : IsAccepted π t) (tells : TellsIds ρ t) where
   clean : NoneOf (ShapeFault t)

@@ -17,6 +17,7 @@ use Rattle.erd_check.specs.declared.want.Want.{Want}
 use Rattle.erd_check.specs.declared.want.Want.TheVariants.{Member, Object}
 use Rattle.erd_check.proofs.AllAsked.{AskedPlace, all_asked, tested_at}
 use Rattle.erd_check.proofs.Lists.{list_of_items-items_of}
+use Rattle.erd_check.proofs.Exact.{text_itself}
 use Rattle.erd_normal.specs.Rearranged.{is_id_text}
 use Rattle.erd_meaning.proofs.orders.Reordered.{Reordered, one_kept, two_exchanged, in_turn, reordered_self}
 use Rattle.erd_normal.proofs.examples.EqualTrees.{equal_trees, same_tree}
@@ -38,9 +39,6 @@ abbrev may_be_absent : Data → Option Want → Data → Bool
 may_be_absent t (Some (Member kind.Identity required)) (string id) = is_unused t id
 may_be_absent t (Some (Member k required)) d = is_array_kind k && same_tree d (array no_items)
 may_be_absent t o d = false
-
-text_itself : (s : List ℕ) → bytes_eq s s ≡ true
-text_itself s = (bytes_eq-Decides s s).1 refl
 
 unused : (t : Data) (id : List ℕ) → is_unused t id ≡ true → IsUnused t id
 unused t id h p a stands reference text =

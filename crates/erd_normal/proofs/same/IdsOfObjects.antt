@@ -2,6 +2,7 @@
 use Rattle.std.proofs.Common.{◌≡◌, ℕ, List, [], ◌∷◌, flat_map, Bool, true, false, cond, is_some, ◌&&◌, Option, Some, None, option_and_then, option_map, codes, refl, sym, ap, ◌∙◌, subst}
 use Rattle.std.specs.Option.{option_map_or}
 use Rattle.std.specs.Str.{bytes_eq}
+use Rattle.std.proofs.lemmas.Bool.{and_parts}
 use Rattle.serde_json.specs.Data.{Data, string, array, object, Items, Members}
 use Rattle.serde_json.specs.Find.{as_str, get_item, get_member}
 use Rattle.erd_tables.specs.Classes.{family_of_class, family_of_role, role_of_class}
@@ -20,12 +21,12 @@ use Rattle.erd_check.specs.Wants.{Asked, asked, asked_at, asked_from, asked_insi
 use Rattle.erd_check.specs.declared.want.Scope.TheVariants as scope
 use Rattle.erd_check.specs.declared.want.Want.{Want}
 use Rattle.erd_check.specs.declared.want.Want.TheVariants.{Carried, ClassText, Member, Object, Reference, Status}
-use Rattle.erd_check.proofs.Exact.{both_true, text_exact}
+use Rattle.erd_check.proofs.Exact.{text_exact}
 use Rattle.erd_check.proofs.Rising.{Has}
 use Rattle.erd_meaning.specs.Keys.{has_keys}
 use Rattle.erd_meaning.proofs.accepted.Standing.{flat-has}
+use Rattle.erd_meaning.proofs.meanings.SelectionKinds.{class_role}
 use Rattle.erd_normal.proofs.built.FamilyNames.{family_name, holds, home, is_home, is_report_role}
-use Rattle.erd_normal.proofs.built.NormalGets.{class_has_role}
 use Rattle.erd_normal.proofs.same.FamilyValues.{family_values}
 use Rattle.erd_normal.proofs.same.Lists.{entry_has}
 use Rattle.erd_normal.proofs.same.SharedIds.{IsId}
@@ -81,13 +82,13 @@ module _ (t : Data) (ms : Members) (x : Data) where
   kind_part r c n (kind.One f) required role at part found = tt
   kind_part r c n kind.Carried required role at part found = tt
   kind_part r c n (kind.Keyed f) required role at part found =
-      let b = both_true (holds (role_of_class c) f) (bytes_eq n (family_name f)) at in
+      let b = and_parts (holds (role_of_class c) f) (bytes_eq n (family_name f)) at in
       home_entry r f (subst (λ q. holds q f ≡ true) role b.0) part (subst (λ z. get_member z ms ≡ Some x) (text_exact n (family_name f) b.1) found)
   kind_part r c n kind.Elections required role at part found =
-      let b = both_true (is_report_role (role_of_class c)) (bytes_eq n (codes "Election")) at in
+      let b = and_parts (is_report_role (role_of_class c)) (bytes_eq n (codes "Election")) at in
       elections_part r (subst (λ q. is_report_role q ≡ true) role b.0) part (subst (λ z. get_member z ms ≡ Some x) (text_exact n (codes "Election") b.1) found)
   kind_part r c n kind.Identity required role at part found =
-      let b = both_true (is_some (family_of_class c)) (bytes_eq n (codes "@id")) at in
+      let b = and_parts (is_some (family_of_class c)) (bytes_eq n (codes "@id")) at in
       id_part r (subst (λ q. is_some (family_of_role q) ≡ true) role b.0) part (subst (λ z. get_member z ms ≡ Some x) (text_exact n (codes "@id") b.1) found)
   kind_part r c n (kind.Many f) required role at part found = at
   kind_part r c n k required role at part found = tt
@@ -106,7 +107,7 @@ module _ (t : Data) (ms : Members) (x : Data) where
       at : (b : Bool) → bytes_eq n (codes "@type") ≡ b → (o : Option Class) → class_of_object r (object ms) ≡ o → cond b (Some (ClassText r)) (option_map (λ c. member_want c n) o) ≡ Some v → IsPart t v x
       at true is o among e = same_part t x (ClassText r) v e tt
       at false is None among e = cc
-      at false is (Some c) among e = same_part t x (member_want c n) v e (member_part r c n (class_has_role r c (object ms) among) is part found)
+      at false is (Some c) among e = same_part t x (member_want c n) v e (member_part r c n (class_role r (object ms) c among) is part found)
 
   carried_part : (b : Bool) → IsPart t (cond b (Member kind.StrangeIdentity false) Carried) x
   carried_part true = tt

@@ -2,6 +2,8 @@
 use Rattle.std.proofs.Common.{◌≡◌, ℕ, List, Bool, true, false, Option, Some, None, option_and_then, find, codes, refl, sym, ap, ◌∙◌, subst}
 use Rattle.std.specs.Option.{option_map_or}
 use Rattle.std.specs.Str.{bytes_eq}
+use Rattle.std.proofs.lemmas.Bool.{false_from_ne_true}
+use Rattle.std.specs.Cmp.{both_ways}
 use Rattle.serde_json.specs.Data.{Data, object}
 use Rattle.serde_json.specs.Find.{as_str, get_member}
 use Rattle.erd_tables.specs.Table.{is_required}
@@ -17,7 +19,7 @@ use Rattle.erd_check.specs.declared.want.Want.{Want}
 use Rattle.erd_check.specs.declared.want.Want.TheVariants.{Member, Object}
 use Rattle.erd_check.proofs.Exact.{text_exact, text_itself}
 use Rattle.erd_check.proofs.ObjectsAt.{ObjectIn}
-use Rattle.erd_check.proofs.Shapes.{Within-root, false_unless}
+use Rattle.erd_check.proofs.Shapes.{Within-root}
 use Rattle.erd_check.proofs.TableKinds.{want_by_kind}
 use Rattle.erd_meaning.specs.Accepted.{IsAccepted}
 use Rattle.erd_meaning.specs.Keys.{Preference, key_of}
@@ -25,7 +27,6 @@ use Rattle.erd_meaning.specs.Objects.{has_id, id_of, owner}
 use Rattle.erd_meaning.specs.SelectionNames.{key_named}
 use Rattle.erd_meaning.proofs.accepted.Phases.{no_shape_fault}
 use Rattle.erd_meaning.proofs.accepted.Standing.{has_id-Some}
-use Rattle.erd_meaning.proofs.references.ReferenceLookups.{both_tests}
 use Rattle.erd_normal.proofs.built.NormalGets.{kind_of_family_id}
 use Rattle.erd_normal.proofs.lists.Matched.{AtMostOne, Both, apart_distinct, matched_find, one_if_apart, said_same}
 use Rattle.erd_normal.proofs.same.FamilyValues.{family_values}
@@ -73,13 +74,13 @@ ids_found m s required o p asks other (not_both h k) d e left right =
 pub has_same : (m : Sides) (s s' : List ℕ) (d e : Data) → StandsFor m s s' → IsUsed m.left s → IsUsed m.right s' → IdsAlike m d e → has_id s d ≡ has_id s' e
 has_same m s s' d e pair left right (two_ids a b is is' ab) =
     ap (λ o. option_map_or (bytes_eq s) o false) is
-    ∙ both_tests (bytes_eq s a) (bytes_eq s' b)
+    ∙ both_ways (bytes_eq s a) (bytes_eq s' b)
     (λ h. let one : s' ≡ b = pair.0 ∙ ap m.there (text_exact s a h) ∙ sym ab.0 in subst (λ x. bytes_eq s' x ≡ true) one (text_itself s'))
     (λ h. let one : s ≡ a = pair.1 ∙ ap m.back (text_exact s' b h) ∙ sym ab.1 in subst (λ x. bytes_eq s x ≡ true) one (text_itself s))
     ∙ sym (ap (λ o. option_map_or (bytes_eq s') o false) is')
 has_same m s s' d e pair left right (no_ids none_left none_right) =
-    false_unless (has_id s d) (λ h. none_left s (has_id-Some s d h) left.place left.asked left.stands left.reference left.text)
-    ∙ sym (false_unless (has_id s' e) (λ h. none_right s' (has_id-Some s' e h) right.place right.asked right.stands right.reference right.text))
+    false_from_ne_true (has_id s d) (λ h. none_left s (has_id-Some s d h) left.place left.asked left.stands left.reference left.text)
+    ∙ sym (false_from_ne_true (has_id s' e) (λ h. none_right s' (has_id-Some s' e h) right.place right.asked right.stands right.reference right.text))
 
 module _ (m : Sides) (left_tree : IsTree m.left) (right_tree : IsTree m.right) (π : Preference) (accepted : IsAccepted π m.left) (root : Related m (Object role.Report) m.left m.right) where
   clean : NoneOf (ShapeFault m.left)

@@ -17,8 +17,8 @@ use Rattle.erd_check.specs.declared.want.Want.{Want}
 use Rattle.erd_check.specs.declared.want.Want.TheVariants.{Carried, ClassText, Member, Object, Reference}
 use Rattle.erd_check.proofs.TableKinds.{kind_of_class}
 use Rattle.erd_normal.specs.Rearranged.{is_id_text}
-use Rattle.erd_normal.proofs.built.NormalGets.{class_has_role}
 use Rattle.erd_normal.specs.SaysTheSame.{Sides, MayBeAbsent, an_empty_array, of_the_envelope, an_unused_id, is_array_kind, is_envelope, Same, not_asked, a_null, a_flag, a_number, a_text, an_id, a_list, a_set, an_object, SameEntries, no_entry, one_entry, SameMembers, no_member, in_both, left_only, right_only}
+use Rattle.erd_meaning.proofs.meanings.SelectionKinds.{class_role}
 
 -- ---- what is plain
 
@@ -133,7 +133,7 @@ members_all P r o text all name v e = at (bytes_eq name (codes "@type")) refl o 
         ap P (sym h) ∙ all c refl name is
 
 only_class : (P : Want → Bool) (r : Role) (only : Class) → P (ClassText r) ≡ true → AllOf P only → ((c : Class) → role_of_class c ≡ r → c ≡ only) → (ms : Members) → AllIn P (scope.Members r (class_of_object r (object ms)))
-only_class P r only text all one ms = members_all P r (class_of_object r (object ms)) text (λ c e. subst (AllOf P) (sym (one c (class_has_role r c (object ms) e))) all)
+only_class P r only text all one ms = members_all P r (class_of_object r (object ms)) text (λ c e. subst (AllOf P) (sym (one c (class_role r (object ms) c e))) all)
 
 no_envelope_in : (r : Role) (o : Option Class) → ((c : Class) → o ≡ Some c → c ≡ class.ElectionReport → ⊥) → (name : List ℕ) → is_envelope (scope.Members r o) name ≡ false
 no_envelope_in r None other name = refl
@@ -144,7 +144,7 @@ only_stays : (r : Role) (only : Class) → HasSteady only → (only ≡ class.El
 only_stays r only steady other one ms =
     stays_by (scope.Members r (class_of_object r (object ms)))
     (only_class is_steady r only refl steady one ms)
-    (no_envelope_in r (class_of_object r (object ms)) (λ c e is. other (sym (one c (class_has_role r c (object ms) e)) ∙ is)))
+    (no_envelope_in r (class_of_object r (object ms)) (λ c e is. other (sym (one c (class_role r (object ms) c e)) ∙ is)))
 
 identifier_class : (c : Class) → role_of_class c ≡ role.Identifier → c ≡ class.ExternalIdentifier
 identifier_class class.ExternalIdentifier e = refl

@@ -1,7 +1,8 @@
 -- What stands in a value whose numbers fit has numbers that fit.
-use Rattle.std.proofs.Common.{◌≡◌, Bool, true, false, ◌||◌, ℕ, zero, suc, List, [], ◌∷◌, Option, Some, None, option_and_then, option_map, inl, inr, ◌&&◌, ◌∙◌, Ordering, Less, Equal, Greater, refl, ap, subst, sym}
+use Rattle.std.proofs.Common.{◌≡◌, false, ◌||◌, ℕ, zero, suc, List, [], ◌∷◌, Option, Some, None, option_and_then, option_map, inl, inr, ◌&&◌, ◌∙◌, Ordering, Less, Equal, Greater, refl, ap, subst, sym}
 use Rattle.std.specs.Cmp.Lexicographic.{slice_cmp}
 use Rattle.std.specs.Ordering.{nat_cmp}
+use Rattle.std.proofs.lemmas.Bool.{or_from}
 use Rattle.serde_json.specs.Data.{Num, unsigned, negative, float, Data, null, boolean, number, string, array, object, Items, no_items, item, Members, no_members, member}
 use Rattle.serde_json.specs.Find.{get_item, get_member, is_float}
 use Rattle.serde_json.specs.Written.{has_float, items_have_float, members_have_float}
@@ -62,10 +63,6 @@ within-fitting t a fits w = asked_from-fitting (asked (Object role.Report) t) w.
 
 -- ---- values whose numbers fit have no float
 
-neither : (a b : Bool) → a ≡ false → b ≡ false → a || b ≡ false
-neither true b e g = cc
-neither false b e g = g
-
 number-no_float : (n : Num) → IsFittingNumber n → is_float n ≡ false
 number-no_float (unsigned n) h = refl
 number-no_float (negative z) h = refl
@@ -82,8 +79,8 @@ mutual
 
   items_fitting-no_float : (ds : Items) → ItemsHaveFittingNumbers ds → items_have_float ds ≡ false
   items_fitting-no_float no_items h = refl
-  items_fitting-no_float (item d ds) h = neither (has_float d) (items_have_float ds) (fitting-no_float d h.0) (items_fitting-no_float ds h.1)
+  items_fitting-no_float (item d ds) h = or_from (has_float d) (items_have_float ds) (fitting-no_float d h.0) (items_fitting-no_float ds h.1)
 
   members_fitting-no_float : (ms : Members) → MembersHaveFittingNumbers ms → members_have_float ms ≡ false
   members_fitting-no_float no_members h = refl
-  members_fitting-no_float (member k d ms) h = neither (has_float d) (members_have_float ms) (fitting-no_float d h.0) (members_fitting-no_float ms h.1)
+  members_fitting-no_float (member k d ms) h = or_from (has_float d) (members_have_float ms) (fitting-no_float d h.0) (members_fitting-no_float ms h.1)

@@ -10,14 +10,11 @@ use Rattle.erd_check.proofs.Order.{In-all}
 use Rattle.erd_check.specs.Values.{entries_at}
 use Rattle.erd_meaning.proofs.finding.OneObject.{in_at}
 use Rattle.erd_meaning.specs.Objects.{Placed, contests, elections, objects, placed_entries, placed_from}
+use Rattle.erd_meaning.proofs.selections.ContestSelections.{all_both}
 use Rattle.erd_normal.proofs.texts.WholeEntries.{all_whole, whole_entries_at}
 
 abbrev IsWhole : Placed → Type 0
 IsWhole o = has_float o.value ≡ false
-
-both : {A : Type 0} (P : A → Type 0) (xs ys : List A) → AllByRecursion P xs → AllByRecursion P ys → AllByRecursion P (xs ++ ys)
-both P [] ys all more = more
-both P (x ∷ xs) ys all more = (all.0, both P xs ys all.1 more)
 
 placed_whole : (p : List Step) (i : ℕ) (ds : List Data) → AllByRecursion (λ d. has_float d ≡ false) ds → AllByRecursion IsWhole (placed_from p i ds)
 placed_whole p i [] all = tt
@@ -28,7 +25,7 @@ entries_whole name o h = placed_whole _ 0 (entries_at name o.value) (all_whole (
 
 parts_whole : (name : List ℕ) (os : List Placed) → AllByRecursion IsWhole os → AllByRecursion IsWhole (flat_map (placed_entries name) os)
 parts_whole name [] all = tt
-parts_whole name (o ∷ os) all = both IsWhole (placed_entries name o) (flat_map (placed_entries name) os) (entries_whole name o all.0) (parts_whole name os all.1)
+parts_whole name (o ∷ os) all = all_both IsWhole (placed_entries name o) (flat_map (placed_entries name) os) (entries_whole name o all.0) (parts_whole name os all.1)
 
 module _ (t : Data) (whole : has_float t ≡ false) where
   in_report : (name : List ℕ) → AllByRecursion IsWhole (placed_entries name (record { place = []; value = t }))

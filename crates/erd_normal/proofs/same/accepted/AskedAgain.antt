@@ -2,6 +2,7 @@
 use Rattle.std.proofs.Common.{◌≡◌, ◌⊎◌, inl, inr, ℕ, List, [], ◌∷◌, Bool, true, false, not, ◌&&◌, Option, Some, None, option_and_then, option_map, refl, sym, ap, ap₂, ◌∙◌, subst}
 use Rattle.std.specs.Prelude.{IsTrue}
 use Rattle.std.specs.Str.{bytes_eq}
+use Rattle.std.proofs.lemmas.Bool.{false_from_ne_true}
 use Rattle.serde_json.specs.Data.{Data, string, array, object, Items, Members}
 use Rattle.serde_json.specs.Find.{get_item, get_member}
 use Rattle.erd_tables.specs.declared.class.Family.{Family}
@@ -19,7 +20,7 @@ use Rattle.erd_check.specs.declared.want.Want.TheVariants.{Member, Object, Refer
 use Rattle.erd_check.proofs.Entries.{list_of_items-place, list_of_items-tree, string_from_text}
 use Rattle.erd_check.proofs.Exact.{is_same_exact, text_itself}
 use Rattle.erd_check.proofs.Rising.{Has}
-use Rattle.erd_check.proofs.Shapes.{Within, Within-root, Within-step, false_unless, faultless, not_within, wanted_within, within-tree}
+use Rattle.erd_check.proofs.Shapes.{Within, Within-root, Within-step, faultless, not_within, wanted_within, within-tree}
 use Rattle.erd_meaning.specs.Accepted.{IsAccepted}
 use Rattle.erd_meaning.specs.Keys.{Preference}
 use Rattle.erd_meaning.specs.LaterFaults.{is_reference_fault}
@@ -64,7 +65,7 @@ flags_false false c h k = refl
 pub none_repeated : (π : Preference) (t : Data) → IsAccepted π t → (a : Asked) → Within t a → a.repeated ≡ false
 none_repeated π t accepted a inside =
     flags_false a.repeated (is_reference a.want) (faultless t (no_shape_fault π t accepted) a reason.Repeated inside)
-    (false_unless _ (not_within t a (λ x. IsTrue (is_reference_fault t x reason.Repeated)) inside (no_reference_fault π t accepted inside.place reason.Repeated)))
+    (false_from_ne_true _ (not_within t a (λ x. IsTrue (is_reference_fault t x reason.Repeated)) inside (no_reference_fault π t accepted inside.place reason.Repeated)))
 
 -- ---- entries of sets
 

@@ -1,6 +1,7 @@
 -- The report itself is asked for at the root alone, so a member of the envelope stands under the root.
 use Rattle.std.proofs.Common.{◌≡◌, ℕ, List, [], ◌∷◌, true, Option, Some, None, option_and_then, refl, sym, ap, ap₂, ◌∙◌, subst}
 use Rattle.std.specs.Prelude.{IsTrue, IsSomeAnd}
+use Rattle.std.proofs.lemmas.Bool.{false_from_ne_true}
 use Rattle.serde_json.specs.Data.{Data, object, Members}
 use Rattle.serde_json.specs.Find.{get_member}
 use Rattle.erd_tables.specs.Table.{is_envelope_name}
@@ -16,13 +17,13 @@ use Rattle.erd_check.specs.Wants.{Asked, asked, asked_at, asked_from, asked_insi
 use Rattle.erd_check.specs.declared.want.Scope.TheVariants as scope
 use Rattle.erd_check.specs.declared.want.Want.{Want}
 use Rattle.erd_check.specs.declared.want.Want.TheVariants.{Carried, Member, Object}
-use Rattle.erd_check.proofs.Shapes.{Within, false_unless}
-use Rattle.erd_normal.proofs.built.NormalGets.{class_has_role}
+use Rattle.erd_check.proofs.Shapes.{Within}
 use Rattle.erd_normal.specs.SameLaws.{HasSoundEnvelope}
 use Rattle.erd_normal.specs.SaysTheSame.{is_envelope}
 use Rattle.erd_normal.proofs.same.IdsOfObjects.{IsPart, part_at}
 use Rattle.erd_normal.proofs.same.Places.{envelope_quiet, quiet_from}
 use Rattle.erd_normal.proofs.same.accepted.AbsentMembers.{IsSoundInside, quiet_lone}
+use Rattle.erd_meaning.proofs.meanings.SelectionKinds.{class_role}
 
 pub record OfReport (w : Want) (n : List ℕ) : Type 0 where
   pub report : w ≡ Object role.Report
@@ -30,7 +31,7 @@ pub record OfReport (w : Want) (n : List ℕ) : Type 0 where
 
 of_class : (r : Role) (ns : Members) (n : List ℕ) (o : Option Class) → class_of_object r (object ns) ≡ o → is_envelope (scope.Members r o) n ≡ true → (role.Report ≡ r) × (is_envelope_name n ≡ true)
 of_class r ns n None among h = cc
-of_class r ns n (Some class.ElectionReport) among h = (class_has_role r class.ElectionReport (object ns) among, h)
+of_class r ns n (Some class.ElectionReport) among h = (class_role r (object ns) class.ElectionReport among, h)
 of_class r ns n (Some c) among h = cc
 
 no_label : role.Report ≡ role.Label → ⊥
@@ -64,6 +65,6 @@ module _ (u : Data) (sound : HasSoundEnvelope u) where
       let stands : asked_at u (Name n ∷ []) ≡ Some (asked v d) = under_root b n (asked v d) inside o.report (rw (value, asks, found) refl) in
       let place : asked_at u (Name n ∷ ss) ≡ Some x = further n ss (asked v d) x stands e in
       record {
-        no_fault = λ r. false_unless (is_shape_fault x r) (λ fault. sound (Name n ∷ ss) r o.name (subst (λ y. IsSomeAnd y (λ a. IsTrue (is_shape_fault a r))) (sym place) fault));
+        no_fault = λ r. false_from_ne_true (is_shape_fault x r) (λ fault. sound (Name n ∷ ss) r o.name (subst (λ y. IsSomeAnd y (λ a. IsTrue (is_shape_fault a r))) (sym place) fault));
         lone = quiet_lone x.want (quiet_from (asked v d) ss x (envelope_quiet (scope_inside b.want (object ns)) n v h asks) e);
       }

@@ -1,10 +1,10 @@
 -- The record of an object with the key of the election that holds it says both apart.
 use Rattle.std.proofs.Common.{◌≡◌, Option, Some, None, option_map, option_and_then, true, codes, refl, sym, ap, ◌∙◌}
+use Rattle.std.proofs.lemmas.Option.{same_Some}
 use Rattle.serde_json.specs.Data.{Data}
 use Rattle.erd_tables.specs.declared.class.Family.{Family}
 use Rattle.erd_tables.specs.declared.class.Family.TheVariants as family
 use Rattle.erd_tables.specs.declared.class.Role.TheVariants as role
-use Rattle.erd_check.proofs.Positions.{same_in_some}
 use Rattle.erd_check.proofs.Rising.{Has}
 use Rattle.erd_meaning.specs.Accepted.{IsAccepted}
 use Rattle.erd_meaning.specs.Keys.{Preference, has_keys}
@@ -47,5 +47,5 @@ records_apart π t u accepted accepted' f o p h k e =
     let b = has_record π u accepted' f p k in
     let both : Some (record_in_election (election_key_of π t o) a.0) ≡ Some (record_in_election (election_key_of π u p) b.0) =
     sym (ap (option_map (record_in_election (election_key_of π t o))) a.1) ∙ e ∙ ap (option_map (record_in_election (election_key_of π u p))) b.1 in
-    let parts = apart_from_election a.0 b.0 (election_key_of π t o) (election_key_of π u p) a.2 b.2 (same_in_some _ _ both) in
+    let parts = apart_from_election a.0 b.0 (election_key_of π t o) (election_key_of π u p) a.2 b.2 (same_Some _ _ both) in
     (a.1 ∙ ap Some parts.1 ∙ sym b.1, parts.0)

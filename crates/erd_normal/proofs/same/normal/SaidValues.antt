@@ -3,6 +3,7 @@ use Rattle.std.proofs.Common.{◌≡◌, ℕ, List, [], ◌∷◌, map, Bool, tr
 use Rattle.std.proofs.lemmas.List.{map-id}
 use Rattle.std.specs.Option.{option_map_or}
 use Rattle.std.specs.Str.{bytes_eq}
+use Rattle.std.proofs.lemmas.Bool.{not-false}
 use Rattle.serde_json.specs.Data.{Data, string, array, object, Items, no_items, item, Members, put}
 use Rattle.serde_json.specs.Find.{get, get_member}
 use Rattle.erd_tables.specs.Table.{is_required, kind_of_member}
@@ -25,7 +26,7 @@ use Rattle.erd_check.specs.declared.want.Want.TheVariants.{Carried, Member, Obje
 use Rattle.erd_check.proofs.Entries.{array_from}
 use Rattle.erd_check.proofs.Exact.{text_exact}
 use Rattle.erd_check.proofs.Rising.{all-Has}
-use Rattle.erd_check.proofs.Shapes.{Within, faultless, not_false, wanted_within, within-tree}
+use Rattle.erd_check.proofs.Shapes.{Within, faultless, wanted_within, within-tree}
 use Rattle.erd_check.proofs.TableKinds.{want_unless_status}
 use Rattle.erd_meaning.specs.Accepted.{IsAccepted}
 use Rattle.erd_meaning.specs.Keys.{Preference}
@@ -206,7 +207,7 @@ module _ (π : Preference) (t : Data) (accepted : IsAccepted π t) (tree : IsTre
   said_value kind.Languages required d simple w = said_unless m kind.Languages required d _ refl (languages required d w)
   said_value kind.Ordered required d simple w = said_unless m kind.Ordered required d _ refl (ordered required d w)
   said_value kind.Identity required d simple w = cc
-  said_value kind.Outside required d simple w = dropped kind.Outside required refl refl (empty_is d (not_false (is_empty_array d) (faultless t (no_shape_fault π t accepted) (asked (Member kind.Outside required) d) reason.OutsideProfile w)))
+  said_value kind.Outside required d simple w = dropped kind.Outside required refl refl (empty_is d (not-false (is_empty_array d) (faultless t (no_shape_fault π t accepted) (asked (Member kind.Outside required) d) reason.OutsideProfile w)))
   said_value (kind.Keyed f) required d simple w = cc
   said_value kind.Elections required d simple w = cc
   said_value kind.Content required d simple w = cc
