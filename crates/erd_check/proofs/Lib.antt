@@ -22,7 +22,6 @@ pub mod Entries
 pub mod Shapes
 pub mod ObjectsAt
 pub mod Whole
-pub mod Clean
 pub mod Sought
 pub mod Numbers
 pub mod ShapedReports

@@ -1,7 +1,6 @@
 -- The tree that is built, part by part: what stands under each name, that it is a tree, and how deep it nests.
 pub mod NormalMembers
 pub mod PutMembers
-pub mod OtherMembers
 pub mod BuiltMembers
 pub mod NormalEnvelope
 pub mod NormalTrees

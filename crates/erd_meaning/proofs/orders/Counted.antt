@@ -1,7 +1,5 @@
 -- How many entries of a list pass a test: whatever their order, after a map, and where the entries that pass stand first.
-use Rattle.std.proofs.Common.{◌≡◌, ◌<◌, ◌≤◌, ℕ, zero, suc, inl, inr, List, [], ◌∷◌, map, filter, length, Bool, true, false, cond, Ordering, is_lt, refl, sym, ap, ◌∙◌, arith}
-use Rattle.std.specs.List.{slice_index_or}
-use Rattle.std.specs.List.Sorted.{IsPartitionPoint}
+use Rattle.std.proofs.Common.{◌≡◌, ◌<◌, ◌≤◌, ℕ, suc, inl, inr, List, [], ◌∷◌, map, filter, length, Bool, true, false, cond, Ordering, is_lt, refl, sym, ap, ◌∙◌, arith}
 use Rattle.erd_check.proofs.Order.{In}
 use Rattle.erd_meaning.specs.SelectionNames.{rising_list, with_inserted}
 
@@ -79,21 +77,3 @@ count-rising cmp test [] = refl
 count-rising cmp test (x ∷ xs) = count_inserted cmp test x (rising_list cmp xs) ∙ ap (with_one (test x)) (count-rising cmp test xs) ∙ sym (one_first test x xs)
 
 -- ---- where the entries that pass stand first
-
--- the entries before a point pass, and the others fail
-abbrev Parted : {A : Type 0} → (A → Bool) → List A → ℕ → Type 0
-Parted test xs r = IsPartitionPoint (λ y. test y ≡ true) (λ y. test y ≡ false) xs r
-
-none_passes : {A : Type 0} (test : A → Bool) (xs : List A) → ((k : ℕ) (d : A) → k < length xs → test (slice_index_or xs k d) ≡ false) → length (filter test xs) ≡ 0
-none_passes test [] fail = refl
-none_passes test (x ∷ xs) fail =
-    one_first test x xs ∙ ap (λ b. with_one b (length (filter test xs))) (fail 0 x (omega arith)) ∙ none_passes test xs (λ k d low. fail (suc k) d (omega (arith, low)))
-
--- as many pass as stand before the point
-pub count_parted : {A : Type 0} (test : A → Bool) (xs : List A) (r : ℕ) → r ≤ length xs → Parted test xs r → length (filter test xs) ≡ r
-count_parted test [] r low h = let empty : 0 ≡ r = omega (arith, low) in empty
-count_parted test (x ∷ xs) zero low h = none_passes test (x ∷ xs) (λ k d less. h.1 k d (omega arith) less)
-count_parted test (x ∷ xs) (suc r) low h =
-    let passes : test x ≡ true = h.0 0 x (omega arith) (omega arith) in
-    let rest : Parted test xs r = (λ k d a b. h.0 (suc k) d (omega arith) (omega (arith, b)), λ k d a b. h.1 (suc k) d (omega (arith, a)) (omega (arith, b))) in
-    one_first test x xs ∙ ap (λ b. with_one b (length (filter test xs))) passes ∙ ap suc (count_parted test xs r (omega (arith, low)) rest)

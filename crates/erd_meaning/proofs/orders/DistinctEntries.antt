@@ -35,11 +35,6 @@ pub distinct_from_one_place : {A : Type 0} (test : A → A → Bool) (xs : List 
 distinct_from_one_place test xs h =
     distinct_from_places test xs (λ i j x y l a b. false_from_ne_true (test x y) (λ e. let same : i ≡ j = h i j x y a b e in omega arith))
 
--- entries with one part stand at one place
-pub distinct_by_cmp : {A : Type 0} (cmp : A → A → Ordering) (xs : List A)
-    → ((i j : ℕ) (x y : A) → slice_get xs i ≡ Some x → slice_get xs j ≡ Some y → cmp x y ≡ Equal → i ≡ j) → IsDistinct (eq_by_cmp cmp) xs
-distinct_by_cmp cmp xs h = distinct_from_one_place (eq_by_cmp cmp) xs (λ i j x y a b e. h i j x y a b ((Equal-is (cmp x y)).0 e))
-
 -- the values of a map
 pub distinct_map : {A B : Type 0} (f : A → B) (test : B → B → Bool) (xs : List A) → IsDistinct (λ x y. test (f x) (f y)) xs → IsDistinct test (map f xs)
 unfolding IsDistinct

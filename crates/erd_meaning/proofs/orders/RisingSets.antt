@@ -1,22 +1,13 @@
 -- A list in rising order has the same entries, and as many.
-use Rattle.std.proofs.Common.{◌≡◌, ◌⊎◌, inl, inr, List, [], ◌∷◌, filter_map, length, Bool, true, false, cond, Option, Ordering, is_lt, refl, sym, subst, arith}
+use Rattle.std.proofs.Common.{◌≡◌, ◌⊎◌, inl, inr, List, [], ◌∷◌, length, Bool, true, false, cond, Ordering, is_lt, refl, sym, subst, arith}
 use Rattle.std.proofs.lemmas.List.Sorted.{IsPermutation-cons, IsPermutation-refl, IsPermutation-swap, IsPermutation-trans}
-use Rattle.std.specs.List.{list_any}
 use Rattle.std.specs.List.Sorted.{IsPermutation}
 use Rattle.erd_check.proofs.Order.{In}
 use Rattle.erd_check.proofs.Rising.{Has, Has-cases, here, later}
 use Rattle.erd_meaning.specs.SelectionNames.{rising_list, with_inserted}
-use Rattle.erd_meaning.proofs.orders.Reordered.{any-reordered, any_filter_map-reordered, length-reordered, reordered_rising}
+use Rattle.erd_meaning.proofs.orders.Reordered.{length-reordered, reordered_rising}
 
 -- ---- what doesn't depend on the order of a list
-
--- whether an entry passes a test
-pub any-rising : {A : Type 0} (cmp : A → A → Ordering) (test : A → Bool) (xs : List A) → list_any test (rising_list cmp xs) ≡ list_any test xs
-any-rising cmp test xs = sym (any-reordered test (reordered_rising cmp xs))
-
--- and of the values that there are
-pub any_filter_map-rising : {A B : Type 0} (cmp : A → A → Ordering) (f : A → Option B) (test : B → Bool) (xs : List A) → list_any test (filter_map f (rising_list cmp xs)) ≡ list_any test (filter_map f xs)
-any_filter_map-rising cmp f test xs = sym (any_filter_map-reordered f test (reordered_rising cmp xs))
 
 pub length-rising : {A : Type 0} (cmp : A → A → Ordering) (xs : List A) → length (rising_list cmp xs) ≡ length xs
 length-rising cmp xs = sym (length-reordered (reordered_rising cmp xs))
@@ -86,6 +77,3 @@ has_from_In z (x ∷ xs) (inr i) = later (has_from_In z xs i)
 -- the same of the entries that a list has
 pub has_rising : {A : Type 0} (cmp : A → A → Ordering) (xs : List A) (x : A) → Has (rising_list cmp xs) x → Has xs x
 has_rising cmp xs x h = has_from_In x xs (In-rising cmp x xs (In-from_has x (rising_list cmp xs) h))
-
-pub rising_has : {A : Type 0} (cmp : A → A → Ordering) (xs : List A) (x : A) → Has xs x → Has (rising_list cmp xs) x
-rising_has cmp xs x h = has_from_In x (rising_list cmp xs) (rising-In cmp x xs (In-from_has x xs h))

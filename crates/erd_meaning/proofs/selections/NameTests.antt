@@ -1,13 +1,12 @@
 -- The test by which an index of names is asked: one contest and one name.
-use Rattle.std.proofs.Common.{◌≡◌, ◌==◌, ◌&&◌, ℕ, List, [], ◌∷◌, ◌++◌, Bool, true, cond, ap, ◌∙◌}
+use Rattle.std.proofs.Common.{◌≡◌, ◌==◌, ◌&&◌, ℕ, ◌∷◌, ◌++◌, Bool, true, ap, ◌∙◌}
 use Rattle.std.specs.Cmp.{Equal-is, both_ways}
-use Rattle.std.specs.List.{list_any}
 use Rattle.std.specs.Ordering.{is_eq}
 use Rattle.std.proofs.lemmas.Cmp.{tied_itself}
 use Rattle.erd_meaning.specs.NameParts.{NameParts}
 use Rattle.erd_meaning.specs.SelectionNames.{name_cmp}
 use Rattle.erd_meaning.specs.code.Orders.{name_cmp_exact, name_cmp_total}
-use Rattle.erd_meaning.specs.code.SelectionWalk.{NumberedName, added_name, is_selection_named}
+use Rattle.erd_meaning.specs.code.SelectionWalk.{NumberedName, is_selection_named}
 use Rattle.erd_meaning.proofs.finding.Known.{number_swap}
 
 names_one_way : (m n : NameParts) → is_eq (name_cmp m n) ≡ true → is_eq (name_cmp n m) ≡ true
@@ -24,6 +23,3 @@ equals_name c n s = (c == s.0) && is_eq (name_cmp n s.1)
 
 pub name_test : (c : ℕ) (n : NameParts) → equals_name c n ≡ is_selection_named c n
 name_test c n i s = number_swap c s.0 i && names_swap n s.1 i
-
-pub inserted_name : (names : List NumberedName) (c : ℕ) (n : NameParts) → cond (list_any (equals_name c n) names) names (names ++ (c, n) ∷ []) ≡ added_name names c n
-inserted_name names c n = ap (λ (test : NumberedName → Bool). cond (list_any test names) names (names ++ (c, n) ∷ [])) (name_test c n)

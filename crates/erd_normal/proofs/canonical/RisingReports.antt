@@ -1,5 +1,5 @@
 -- The sets of an accepted report in rising order: they rise strictly, and positions are ranks.
-use Rattle.std.proofs.Common.{◌≡◌, ℕ, List, map, Bool, true, codes, Some, slice_get, refl, sym, ap₂, ◌∙◌}
+use Rattle.std.proofs.Common.{◌≡◌, ℕ, List, map, Bool, true, codes, Some, slice_get, refl, ◌∙◌}
 use Rattle.std.specs.Cmp.{IsTotalOrder}
 use Rattle.std.specs.Cmp.Lexicographic.{options_total}
 use Rattle.std.specs.List.Sorted.{IsStrictlySortedBy}
@@ -24,9 +24,7 @@ use Rattle.erd_meaning.specs.Keys.{Preference, has_keys, key_cmp, key_of}
 use Rattle.erd_meaning.specs.Objects.{Placed, objects}
 use Rattle.erd_meaning.specs.code.Orders.{compact_cmp_total, key_cmp_total, name_cmp_total}
 use Rattle.erd_meaning.specs.SelectionNames.{compact_cmp, key_named, name_cmp, name_of, rising_list}
-use Rattle.erd_normal.specs.Canonical.{canonical_selection_id}
-use Rattle.erd_meaning.specs.Lookups.{rank_of}
-use Rattle.erd_normal.specs.code.NormalTree.{by_key, by_name, id_of_selection, rank_of_name, reference_cmp}
+use Rattle.erd_normal.specs.code.NormalTree.{by_key, by_name, rank_of_name, reference_cmp}
 use Rattle.erd_normal.proofs.texts.CompactTexts.{compact_exact}
 use Rattle.erd_meaning.proofs.accepted.Phases.{no_identity_fault}
 use Rattle.erd_meaning.proofs.accepted.DistinctKeys.{elections_distinct, values_distinct}
@@ -36,7 +34,7 @@ use Rattle.erd_normal.proofs.texts.FittingNumbers.{entry-fitting}
 use Rattle.erd_normal.proofs.same.complete.Values.{identifier_simple, language_simple}
 use Rattle.erd_normal.proofs.lists.ListParts.{IsPart, part_distinct}
 use Rattle.erd_meaning.proofs.orders.RisingOrders.{rising_strictly}
-use Rattle.erd_meaning.proofs.orders.RisingRanks.{rank_by_at, rank_map}
+use Rattle.erd_meaning.proofs.orders.RisingRanks.{rank_by_at}
 
 pub by_key_total : (π : Preference) → IsTotalOrder (by_key π)
 by_key_total π = on_total (key_of π) (options_total key_cmp_total)
@@ -62,12 +60,6 @@ elections_rise π t accepted =
     sorted_map (key_of π) (by_key π) (option_cmp key_cmp) (λ x y h. h) (rising_list (by_key π) (entries_at (codes "Election") t))
     (rising_strictly (by_key_total π) (entries_at (codes "Election") t) (elections_distinct π t (no_identity_fault π t accepted)))
 
--- the object at a position has that rank
-pub object_ranks : (π : Preference) (t : Data) → IsAccepted π t → (f : Family) (i : ℕ) (d : Data) → has_keys f ≡ true → slice_get (rising_list (by_key π) (map (λ o. o.value) (objects f t))) i ≡ Some d → rank_of π t f (key_of π d) ≡ i
-object_ranks π t accepted f i d keyed e =
-    sym (rank_map (λ (o : Placed). o.value) (key_of π) (option_cmp key_cmp) (key_of π d) (objects f t))
-    ∙ rank_by_at (key_of π) (option_cmp key_cmp) (options_total key_cmp_total) (map (λ o. o.value) (objects f t)) i d (values_distinct π t (no_identity_fault π t accepted) f keyed) e
-
 -- ---- selections of a contest
 
 module _ (π : Preference) (t : Data) (accepted : IsAccepted π t) (contest : Placed) (stands : Has (objects family.Contest t) contest) where
@@ -81,11 +73,6 @@ module _ (π : Preference) (t : Data) (accepted : IsAccepted π t) (contest : Pl
       → rank_of_name π t (entries_at (codes "ContestSelection") contest.value) (name_of π t d) ≡ i
   selection_ranks i d e =
       rank_by_at (name_of π t) (option_cmp name_cmp) (options_total name_cmp_total) (entries_at (codes "ContestSelection") contest.value) i d (selection_values_distinct π t accepted contest stands) e
-
-  -- the `@id` of the selection at a position, in the contest at a position
-  pub selection_ids : (i j : ℕ) (d : Data) → slice_get (rising_list (by_key π) (map (λ o. o.value) (objects family.Contest t))) i ≡ Some contest.value
-      → slice_get (rising_list (by_name π t) (entries_at (codes "ContestSelection") contest.value)) j ≡ Some d → id_of_selection π t contest.value d ≡ canonical_selection_id i j
-  selection_ids i j d e g = ap₂ canonical_selection_id (object_ranks π t accepted family.Contest i contest.value refl e) (selection_ranks j d g)
 
 -- ---- sets of references
 

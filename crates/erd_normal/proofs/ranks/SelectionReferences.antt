@@ -1,5 +1,5 @@
 -- What a reference to a selection becomes, by the ranks of the selection and its contest.
-use Rattle.std.proofs.Common.{◌≡◌, ◌==◌, ◌+◌, ◌++◌, ℕ, List, [], ◌∷◌, map, true, false, true≢false, codes, Option, Some, None, option_and_then, option_map, find, slice_get, refl, sym, ap, ap₂, ◌∙◌, subst}
+use Rattle.std.proofs.Common.{◌≡◌, ◌==◌, ◌+◌, ◌++◌, ℕ, List, [], ◌∷◌, true, false, true≢false, codes, Option, Some, None, option_and_then, option_map, find, slice_get, refl, sym, ap, ap₂, ◌∙◌, subst}
 use Rattle.std.proofs.lemmas.Option.{slice_get-map}
 use Rattle.std.specs.Option.{option_map_or}
 use Rattle.serde_json.specs.Data.{Data, string}
@@ -30,10 +30,6 @@ use Rattle.erd_normal.specs.Canonical.{canonical_selection_id}
 use Rattle.erd_normal.specs.code.SelectionOrders.{AreSelectionRanks}
 
 -- ---- the selections of a report, without the numbers of their contests
-
-of_contest : (k : ℕ) (os : List Placed) → map {A = Numbered} (λ s. s.1) (map {B = Numbered} (λ o. (k, o)) os) ≡ os
-of_contest k [] = refl
-of_contest k (o ∷ os) = ap (λ xs. o ∷ xs) (of_contest k os)
 
 -- the selection at a position, with the number of its contest
 pub numbered_at : (t : Data) (i : ℕ) (o : Placed) → slice_get (objects family.Selection t) i ≡ Some o → (c : ℕ) × (slice_get (numbered_selections t) i ≡ Some (c, o))
