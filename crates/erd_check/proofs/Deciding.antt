@@ -1,16 +1,19 @@
 -- Whether a value is a tree, by a test; of a tree the walk's list is that of all faults of the shape.
-use Rattle.std.proofs.Common.{◌≡◌, ℕ, List, Bool, true, false, ◌&&◌, Ordering, Less, Equal, Greater, is_lt, Option, Some, None, length, refl}
+use Rattle.std.proofs.Common.{◌≡◌, ◌<◌, List, length, arith, ℕ, Bool, true, false, ◌&&◌, Ordering, Less, Equal, Greater, is_lt, Option, Some, None, refl}
 use Rattle.std.specs.Prelude.{pos, IfSome}
 use Rattle.std.proofs.lemmas.Cmp.{nat_list_cmp_total}
 use Rattle.std.specs.List.{AllByRecursion}
 use Rattle.std.specs.List.Sorted.{IsStrictlySortedBy}
 use Rattle.std.proofs.lemmas.Bool.{and_parts}
-use Rattle.serde_json.specs.Data.{Num, negative, Data, null, boolean, number, string, array, object, Items, no_items, item, Members, no_members, member}
+use Rattle.serde_json.specs.Data.{Data, Num, negative, null, boolean, number, string, array, object, Items, no_items, item, Members, no_members, member}
 use Rattle.erd_tables.specs.Faults.{ListsAll}
+use Rattle.erd_tables.specs.declared.fault.Fault.{Fault}
+use Rattle.erd_tables.specs.declared.fault.Reason.{Reason}
+use Rattle.erd_tables.specs.declared.place.Step.{Step}
 use Rattle.erd_tables.specs.Texts.{text_cmp}
 use Rattle.erd_tables.specs.declared.class.Role.TheVariants.{Report}
-use Rattle.erd_tables.specs.declared.fault.Fault.{Fault}
 use Rattle.erd_check.specs.Faults.{ShapeFault, NoneOf}
+use Rattle.erd_check.specs.Paths.{fault_at}
 use Rattle.erd_check.specs.Trees.{IsBeforeFirst, IsNumber, IsTree, AreTrees, AreMembers}
 use Rattle.erd_check.specs.code.Walk.{reasons}
 use Rattle.erd_check.specs.Visits.{told_of_report, IsInOrder, AreItemsInOrder, AreMembersInOrder}
@@ -19,8 +22,18 @@ use Rattle.erd_check.specs.Wants.{scope_inside, want_of_name, entry_want}
 use Rattle.erd_check.specs.declared.want.Scope.{Scope}
 use Rattle.erd_check.specs.declared.want.Want.{Want}
 use Rattle.erd_check.specs.declared.want.Want.TheVariants.{Object}
-use Rattle.erd_check.proofs.FaultLists.{no_fault_from_empty}
-use Rattle.erd_check.proofs.ShapeWalks.{shape_walk_lists}
+use Rattle.erd_check.proofs.Walks.{shape_walk_lists}
+
+-- ---- lists of all faults
+
+pub none_from_empty : (IsFault : List Step → Reason → Type 0) (faults : List Fault) → ListsAll IsFault faults → length faults ≡ 0 → NoneOf IsFault
+none_from_empty IsFault faults all empty p r h =
+    let there = (all.each (fault_at p r)).1 h in
+    let inside : there.0 < length faults = there.1 in
+    omega arith
+
+pub no_fault_from_empty : (t : Data) (faults : List Fault) → ListsAll (ShapeFault t) faults → length faults ≡ 0 → NoneOf (ShapeFault t)
+no_fault_from_empty t faults all empty = none_from_empty (ShapeFault t) faults all empty
 
 -- ---- the test
 

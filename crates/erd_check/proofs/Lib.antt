@@ -2,13 +2,10 @@ pub mod Lists
 pub mod Order
 pub mod Reasons
 pub mod Steps
-pub mod FaultLists
 pub mod AllAsked
 pub mod AskedInside
 pub mod FaultsAsked
 pub mod Walks
-pub mod Alone
-pub mod ShapeWalks
 pub mod TextEntries
 pub mod TableKinds
 pub mod Deciding
@@ -25,7 +22,6 @@ pub mod Whole
 pub mod Sought
 pub mod Numbers
 pub mod ShapedReports
-pub mod PutTrees
 pub mod ReadTrees
 mod AskedExamples
 mod FaultExamples

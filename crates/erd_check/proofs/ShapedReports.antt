@@ -32,7 +32,7 @@ use Rattle.erd_check.specs.declared.want.Scope.{Scope}
 use Rattle.erd_check.specs.declared.want.Scope.TheVariants as scope
 use Rattle.erd_check.specs.declared.want.Want.{Want}
 use Rattle.erd_check.specs.declared.want.Want.TheVariants.{Carried, Member, Object}
-use Rattle.erd_check.proofs.FaultLists.{no_fault_from_empty}
+use Rattle.erd_check.proofs.Deciding.{no_fault_from_empty}
 use Rattle.erd_check.proofs.Numbers.{has_numbers, HasNumbers, HaveNumbers, MembersHaveNumbers}
 use Rattle.erd_check.proofs.Shapes.{classed, faultless, of_label, of_role, unrepeated, AsksObject, Within, Within-root, Within-step}
 use Rattle.erd_check.proofs.Members.{get_member-first, get_member-later}

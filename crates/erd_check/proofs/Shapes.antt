@@ -140,27 +140,38 @@ module _ (t : Data) (clean : NoneOf (ShapeFault t)) where
       → Within t (asked w (object ms)) → get_member name ms ≡ Some v → Within t (asked (member_want c name) v)
   member_within w r ms c name v h among other inside e = Within-step t (asked w (object ms)) (asked (member_want c name) v) (Name name) inside (asked_inside_object w r ms c name v h among other e)
 
+-- ---- what holds of a value and of what stands in it
+
+-- it holds of each member and each entry of a value that it holds of
+pub record IsHandedOn (P : Data → Type 0) : Type 0 where
+  pub of_object : (n : List ℕ) (v : Data) (ms : Members) → P (object ms) → get_member n ms ≡ Some v → P v
+  pub of_array : (i : ℕ) (v : Data) (ds : Items) → P (array ds) → get_item i ds ≡ Some v → P v
+
+module _ (P : Data → Type 0) (on : IsHandedOn P) where
+  asked-holds : (make : Want → Data → Asked) → ((v : Want) (d : Data) → (make v d).value ≡ d) → (w : Option Want) (o : Option Data) (a : Asked) → ((d : Data) → o ≡ Some d → P d)
+      → option_and_then (λ v. option_map (make v) o) w ≡ Some a → P a.value
+  asked-holds make value None o a holds e = cc
+  asked-holds make value (Some w) None a holds e = cc
+  asked-holds make value (Some w) (Some d) a holds e = let h : make w d ≡ a = cc in subst P (sym (value w d) ∙ ap (λ (x : Asked). x.value) h) (holds d refl)
+
+  asked_inside-holds : (w : Want) (d : Data) (s : Step) (a : Asked) → P d → asked_inside w d s ≡ Some a → P a.value
+  asked_inside-holds w (object ms) (Name n) a holds e = asked-holds asked (λ v d. refl) (want_of_name (scope_inside w (object ms)) n) (get_member n ms) a (λ v h. on.of_object n v ms holds h) e
+  asked_inside-holds w (array ds) (At i) a holds e =
+      asked-holds (λ v d. record { want = v; value = d; repeated = is_compared_set w && is_repeated ds i d }) (λ v d. refl) (entry_want w) (get_item i ds) a (λ v h. on.of_array i v ds holds h) e
+  asked_inside-holds w _ _ a holds e = cc
+
+  asked_from-holds : (b : Asked) (p : List Step) (a : Asked) → P b.value → asked_from b p ≡ Some a → P a.value
+  asked_from-holds b [] a holds e = let h : b ≡ a = cc in subst P (ap (λ (x : Asked). x.value) h) holds
+  asked_from-holds b (s ∷ p) a holds e = at (asked_inside b.want b.value s) refl (λ c. asked_from-holds c p a)
+    where
+      at : (o : Option Asked) → asked_inside b.want b.value s ≡ o → ((c : Asked) → P c.value → asked_from c p ≡ Some a → P a.value) → P a.value
+      at None is h = let x : None ≡ Some a = rw is at e in cc
+      at (Some c) is h = h c (asked_inside-holds b.want b.value s c holds is) (rw is at e)
+
+  -- of all that is asked of in a report that it holds of
+  pub within-holds : (t : Data) (a : Asked) → P t → Within t a → P a.value
+  within-holds t a holds w = asked_from-holds (asked (Object role.Report) t) w.place a holds w.is
+
 -- all that stands in a tree is a tree
-
-asked-tree : (make : Want → Data → Asked) → ((v : Want) (d : Data) → (make v d).value ≡ d) → (w : Option Want) (o : Option Data) (a : Asked) → ((d : Data) → o ≡ Some d → IsTree d)
-    → option_and_then (λ v. option_map (make v) o) w ≡ Some a → IsTree a.value
-asked-tree make value None o a tree e = cc
-asked-tree make value (Some w) None a tree e = cc
-asked-tree make value (Some w) (Some d) a tree e = let h : make w d ≡ a = cc in subst IsTree (sym (value w d) ∙ ap (λ (x : Asked). x.value) h) (tree d refl)
-
-asked_inside-tree : (w : Want) (d : Data) (s : Step) (a : Asked) → IsTree d → asked_inside w d s ≡ Some a → IsTree a.value
-asked_inside-tree w (object ms) (Name n) a tree e = asked-tree asked (λ v d. refl) (want_of_name (scope_inside w (object ms)) n) (get_member n ms) a (λ v h. get_member-tree n v ms tree h) e
-asked_inside-tree w (array ds) (At i) a tree e =
-    asked-tree (λ v d. record { want = v; value = d; repeated = is_compared_set w && is_repeated ds i d }) (λ v d. refl) (entry_want w) (get_item i ds) a (λ v h. get_item-tree i v ds tree h) e
-asked_inside-tree w _ _ a tree e = cc
-
-asked_from-tree : (b : Asked) (p : List Step) (a : Asked) → IsTree b.value → asked_from b p ≡ Some a → IsTree a.value
-asked_from-tree b [] a tree e = let h : b ≡ a = cc in subst IsTree (ap (λ (x : Asked). x.value) h) tree
-asked_from-tree b (s ∷ p) a tree e = at (asked_inside b.want b.value s) refl (λ c. asked_from-tree c p a)
-  where
-    at : (o : Option Asked) → asked_inside b.want b.value s ≡ o → ((c : Asked) → IsTree c.value → asked_from c p ≡ Some a → IsTree a.value) → IsTree a.value
-    at None is h = let x : None ≡ Some a = rw is at e in cc
-    at (Some c) is h = h c (asked_inside-tree b.want b.value s c tree is) (rw is at e)
-
 pub within-tree : (t : Data) (a : Asked) → IsTree t → Within t a → IsTree a.value
-within-tree t a tree w = asked_from-tree (asked (Object role.Report) t) w.place a tree w.is
+within-tree = within-holds IsTree (record { of_object = get_member-tree; of_array = get_item-tree })

@@ -8,7 +8,7 @@ use Rattle.erd_tables.specs.declared.fault.Reason.{Reason}
 use Rattle.erd_tables.specs.declared.place.Step.{Step}
 use Rattle.erd_check.specs.Faults.{ShapeFault, NoneOf}
 use Rattle.erd_check.specs.Trees.{IsTree}
-use Rattle.erd_check.proofs.FaultLists.{none_from_empty}
+use Rattle.erd_check.proofs.Deciding.{none_from_empty}
 use Rattle.erd_check.proofs.Order.{contains_from_In}
 use Rattle.erd_meaning.specs.Keys.{Preference}
 use Rattle.erd_meaning.specs.Accepted.{IsAccepted, IsFault, OrElse}

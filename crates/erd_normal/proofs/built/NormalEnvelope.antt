@@ -9,7 +9,7 @@ use Rattle.serde_json.proofs.Views.{get_member-put}
 use Rattle.erd_tables.specs.Table.{is_envelope_name}
 use Rattle.erd_check.specs.Trees.{IsTree, AreMembers}
 use Rattle.erd_check.proofs.Exact.{text_exact}
-use Rattle.erd_check.proofs.PutTrees.{put-trees}
+use Rattle.erd_check.proofs.ReadTrees.{put-trees}
 use Rattle.erd_normal.specs.code.Building.{put_all}
 use Rattle.erd_normal.specs.code.NormalTree.{envelope_values, with_envelope}
 use Rattle.erd_normal.proofs.built.PutMembers.{put_elsewhere, put-depth}

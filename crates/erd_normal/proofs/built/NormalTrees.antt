@@ -15,7 +15,7 @@ use Rattle.erd_check.specs.Trees.{IsTree, AreTrees, AreMembers, IsBeforeFirst}
 use Rattle.erd_check.specs.Values.{entries_of, entries_at}
 use Rattle.erd_check.specs.Wants.{class_of_object}
 use Rattle.erd_check.proofs.Members.{get_member-tree}
-use Rattle.erd_check.proofs.PutTrees.{put-trees}
+use Rattle.erd_check.proofs.ReadTrees.{put-trees}
 use Rattle.erd_meaning.specs.Keys.{Preference, key_of}
 use Rattle.erd_meaning.specs.Records.{class_of_node}
 use Rattle.erd_meaning.specs.SelectionNames.{compact_cmp, rising_list, selection_role, with_rising_text}

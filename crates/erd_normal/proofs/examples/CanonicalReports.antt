@@ -1,5 +1,5 @@
 -- Whole reports that are canonical, and the canonical forms of two, by tests that compute.
-use Rattle.std.proofs.Common.{◌≡◌, List, [], ◌∷◌, Bool, true, false, not, ◌&&◌, Ordering, Less, is_lt, Option, Some, None, length, map, refl, subst, arith}
+use Rattle.std.proofs.Common.{◌≡◌, List, [], ◌∷◌, Bool, true, false, not, ◌&&◌, Ordering, Less, is_lt, Option, Some, None, map, refl, subst, arith}
 use Rattle.std.specs.List.{AllByRecursion, list_all}
 use Rattle.std.specs.List.Sorted.{IsStrictlySortedBy}
 use Rattle.std.specs.Option.{option_cmp}
@@ -16,16 +16,13 @@ use Rattle.erd_check.specs.Trees.{IsNoDeeper}
 use Rattle.erd_check.specs.Values.{entries_of}
 use Rattle.erd_check.specs.Wants.{Asked, asked_at}
 use Rattle.erd_check.proofs.AllAsked.{AskedPlace, all_asked, tested_at}
-use Rattle.erd_check.proofs.Deciding.{faults_found, is_tree, no_fault_listed, tree_sound, less}
+use Rattle.erd_check.proofs.Deciding.{no_fault_listed, tree_sound, less}
 use Rattle.erd_check.proofs.Reports.{tree_of, one_unit, small_ballot, small_ballot_canonical}
 use Rattle.erd_meaning.specs.Accepted.{IsAccepted}
 use Rattle.erd_meaning.specs.Keys.{key_cmp}
 use Rattle.erd_meaning.specs.SelectionNames.{compact_cmp, name_cmp, name_of}
 use Rattle.erd_meaning.proofs.examples.AcceptedExamples.{small_ballot_canonical_is_accepted}
-use Rattle.erd_meaning.proofs.identity.IdentityFaults.{identity_told}
 use Rattle.erd_meaning.proofs.refused.RefusedLists.{accepted_by_lists}
-use Rattle.erd_meaning.proofs.references.SelectionEntries.{reference_faults}
-use Rattle.erd_meaning.proofs.selections.SelectionFaults.{selections_told}
 use Rattle.erd_normal.specs.Canonical.{AreSetsInOrder, HasNoEmptyArray, IsCanonical, IsCanonicalFormOf, RisesAs, keys_of, keys_referred, kind_wanted}
 use Rattle.erd_normal.proofs.examples.BallotMeaningExamples.{canonical_ballot_means_the_same}
 use Rattle.erd_normal.proofs.examples.CanonicalExamples.{canonical_envelope}
@@ -107,33 +104,14 @@ sets_in_order t test p a k at wanted = (in_form t test p a k at wanted).1
 abbrev canonical : Data
 canonical = tree_of one_unit_canonical
 
-one_unit_tree : is_tree canonical ≡ true
-unfolding serde_json_on_literals
-one_unit_tree = refl
-
-no_shape_fault : length (faults_found canonical) ≡ 0
-unfolding serde_json_on_literals
-no_shape_fault = refl
-
-no_identity_fault : length (identity_told None canonical) ≡ 0
-unfolding serde_json_on_literals
-no_identity_fault = refl
-
-no_reference_fault : length (reference_faults canonical) ≡ 0
-unfolding serde_json_on_literals
-no_reference_fault = refl
-
-no_selection_fault : length (selections_told None canonical) ≡ 0
-unfolding serde_json_on_literals
-no_selection_fault = refl
-
 one_unit_in_form : are_in_form canonical ≡ true
 unfolding serde_json_on_literals
 one_unit_in_form = refl
 
 pub one_unit_canonical_is_accepted : IsAccepted None canonical
+unfolding serde_json_on_literals
 one_unit_canonical_is_accepted =
-    accepted_by_lists None canonical (tree_sound canonical one_unit_tree) (no_fault_listed canonical one_unit_tree no_shape_fault) no_identity_fault no_reference_fault no_selection_fault
+    accepted_by_lists None canonical (tree_sound canonical refl) (no_fault_listed canonical refl refl) refl refl refl
 
 pub one_unit_is_canonical : IsCanonical None (tree_of one_unit_canonical)
 one_unit_is_canonical = record {

@@ -3,8 +3,8 @@ use Rattle.std.proofs.Common.{ℕ, List, [], ◌∷◌, ◌++◌, codes, Option,
 use Rattle.serde_json.proofs.OnLiterals.{serde_json_on_literals}
 use Rattle.erd_check.proofs.Reports.{tree_of, contest_node, header_node, small_ballot, small_ballot_canonical, small_ballot_with}
 use Rattle.erd_check.proofs.ReadTrees.{read_is_tree}
-use Rattle.erd_check.proofs.WholeExamples.{small_ballot_is_tree}
 use Rattle.erd_check.specs.Trees.{IsTree}
+use Rattle.erd_check.proofs.WholeExamples.{small_ballot_is_faultless}
 use Rattle.erd_normal.specs.Rearranged.{Renaming, replaced_text}
 use Rattle.erd_normal.specs.SaysTheSame.{SaysTheSame}
 use Rattle.erd_normal.proofs.same.Decided.{tested_says}
@@ -59,7 +59,7 @@ other_value_is_tree = read_is_tree other_value (tree_of other_value) refl
 
 pub other_value_differs : SaysTheSame (tree_of small_ballot) (tree_of other_value) → ⊥
 unfolding serde_json_on_literals
-other_value_differs = differ_unrelated (tree_of small_ballot) (tree_of other_value) small_ballot_is_tree other_value_is_tree refl
+other_value_differs = differ_unrelated (tree_of small_ballot) (tree_of other_value) small_ballot_is_faultless.tree other_value_is_tree refl
 
 -- another order of the ballot
 abbrev other_order : List ℕ
@@ -71,7 +71,7 @@ other_order_is_tree = read_is_tree other_order (tree_of other_order) refl
 
 pub other_order_differs : SaysTheSame (tree_of small_ballot) (tree_of other_order) → ⊥
 unfolding serde_json_on_literals
-other_order_differs = differ_unrelated (tree_of small_ballot) (tree_of other_order) small_ballot_is_tree other_order_is_tree refl
+other_order_differs = differ_unrelated (tree_of small_ballot) (tree_of other_order) small_ballot_is_faultless.tree other_order_is_tree refl
 
 -- `false` in place of an absent member
 abbrev with_false : List ℕ
@@ -83,7 +83,7 @@ with_false_is_tree = read_is_tree with_false (tree_of with_false) refl
 
 pub with_false_differs : SaysTheSame (tree_of with_false) (tree_of small_ballot) → ⊥
 unfolding serde_json_on_literals
-with_false_differs = differ_unrelated (tree_of with_false) (tree_of small_ballot) with_false_is_tree small_ballot_is_tree refl
+with_false_differs = differ_unrelated (tree_of with_false) (tree_of small_ballot) with_false_is_tree small_ballot_is_faultless.tree refl
 
 -- an empty array that is carried
 abbrev with_carried : List ℕ
@@ -95,4 +95,4 @@ with_carried_is_tree = read_is_tree with_carried (tree_of with_carried) refl
 
 pub with_carried_differs : SaysTheSame (tree_of with_carried) (tree_of small_ballot) → ⊥
 unfolding serde_json_on_literals
-with_carried_differs = differ_unrelated (tree_of with_carried) (tree_of small_ballot) with_carried_is_tree small_ballot_is_tree refl
+with_carried_differs = differ_unrelated (tree_of with_carried) (tree_of small_ballot) with_carried_is_tree small_ballot_is_faultless.tree refl

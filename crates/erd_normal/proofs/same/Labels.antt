@@ -25,7 +25,7 @@ use Rattle.erd_check.specs.declared.want.Want.{Want}
 use Rattle.erd_check.specs.declared.want.Want.TheVariants.{ClassText, Member, Object}
 use Rattle.erd_check.proofs.Exact.{text_exact}
 use Rattle.erd_check.proofs.Members.{members_unique}
-use Rattle.erd_check.proofs.PutTrees.{put-trees}
+use Rattle.erd_check.proofs.ReadTrees.{put-trees}
 use Rattle.erd_check.proofs.TableKinds.{kind_of_unlisted_has}
 use Rattle.erd_meaning.specs.SelectionNames.{compact_cmp, rising_list, with_rising_text}
 use Rattle.erd_meaning.proofs.orders.RisingLists.{rising_list_map}

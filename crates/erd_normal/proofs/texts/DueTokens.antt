@@ -10,7 +10,7 @@ use Rattle.erd_tables.specs.Texts.{text_cmp}
 use Rattle.std.proofs.lemmas.Option.{slice_get_read}
 use Rattle.erd_check.specs.Trees.{IsBeforeFirst}
 use Rattle.erd_check.proofs.Positions.{all_at}
-use Rattle.erd_check.proofs.PutTrees.{before_put}
+use Rattle.erd_check.proofs.ReadTrees.{before_put}
 use Rattle.erd_normal.specs.code.Building.{put_all}
 use Rattle.erd_normal.specs.code.DueMembers.{AreWholeDue, IsBeforeAll, IsWholeDue, NamesRise, WritesThrough, due_list, due_value}
 use Rattle.erd_normal.specs.code.Tokens.{members_tokens, value_tokens}
