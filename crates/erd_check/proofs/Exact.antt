@@ -13,6 +13,10 @@ text_exact a b e = (bytes_eq-Decides a b).0 e
 pub text_itself : (a : List ℕ) → bytes_eq a a ≡ true
 text_itself a = (bytes_eq-Decides a a).1 refl
 
+pub flag_itself : (b : Bool) → same_flag b b ≡ true
+flag_itself true = refl
+flag_itself false = refl
+
 pub same_flag_exact : (a b : Bool) → same_flag a b ≡ true → a ≡ b
 same_flag_exact true true e = refl
 same_flag_exact true false e = cc

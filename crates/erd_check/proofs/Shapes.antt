@@ -4,7 +4,7 @@ use Rattle.std.specs.List.{list_any}
 use Rattle.std.specs.Prelude.{IsTrue}
 use Rattle.std.specs.Str.{bytes_eq}
 use Rattle.std.proofs.lemmas.Bool.{false_from_ne_true, and_from, not-false}
-use Rattle.serde_json.specs.Data.{Data, string, array, object, Members}
+use Rattle.serde_json.specs.Data.{Data, string, array, object, Members, Items}
 use Rattle.serde_json.specs.Find.{get, get_member, get_item}
 use Rattle.erd_tables.specs.Classes.{text_of_class, role_of_class, class_in_role}
 use Rattle.erd_tables.specs.declared.class.Class.{Class}

@@ -17,12 +17,12 @@ use Rattle.erd_tables.specs.declared.place.Step.TheVariants.{Name, At}
 use Rattle.erd_tables.specs.Texts.{text_cmp}
 use Rattle.erd_tables.specs.declared.member.MemberKind.TheVariants as kind
 use Rattle.erd_tables.specs.declared.fault.Reason.TheVariants as reason
-use Rattle.erd_check.specs.Trees.{same_flag, same_number, is_same_json, are_same_items, are_same_members, IsTree, AreTrees, AreMembers}
+use Rattle.erd_check.specs.Trees.{same_number, is_same_json, are_same_items, are_same_members, IsTree, AreTrees, AreMembers}
 use Rattle.erd_check.specs.Wants.{class_of_object, is_report_class, want_of_kind, carried_want, asked}
 use Rattle.erd_check.specs.Faults.{is_not_whole, NoneOf, ShapeFault}
 use Rattle.erd_check.specs.declared.want.Want.TheVariants.{Object, Member, Carried}
 use Rattle.erd_check.proofs.Members.{get_member-first, get_member-before}
-use Rattle.erd_check.proofs.Exact.{text_itself, text_exact}
+use Rattle.erd_check.proofs.Exact.{text_itself, text_exact, flag_itself}
 use Rattle.erd_check.proofs.Entries.{string_from_text}
 use Rattle.erd_check.proofs.Shapes.{Within, Within-step, faultless, wanted_within, classed, Classed, member_within, of_role}
 use Rattle.erd_check.proofs.TableKinds.{kind_of_class, want_unless_status}
@@ -35,10 +35,6 @@ get_member-later k q d v ms rise e = at (text_cmp q k) refl
     at Less is = rw is e
     at Equal is = let h : None ≡ Some v = sym (get_member-before k ms rise.2 rise.0) ∙ ap (λ x. get_member x ms) (sym (exact_bytes q k is)) ∙ e in cc
     at Greater is = rw is e
-
-flag_itself : (b : Bool) → same_flag b b ≡ true
-flag_itself true = refl
-flag_itself false = refl
 
 number_itself : (n : Num) → is_not_whole (number n) ≡ false → same_number n n ≡ true
 number_itself (unsigned m) h = (Decides-int_eq (pos m) (pos m)).1 refl

@@ -16,6 +16,7 @@ use Rattle.erd_check.specs.Values.{names}
 use Rattle.erd_check.proofs.Order.{In}
 use Rattle.erd_check.proofs.Deciding.{names_rise}
 use Rattle.erd_check.proofs.Exact.{text_itself}
+use Rattle.erd_check.proofs.Members.{found_cases}
 use Rattle.erd_meaning.specs.Keys.{Preference}
 use Rattle.erd_meaning.specs.Records.{member_of_class}
 use Rattle.erd_meaning.proofs.orders.InsertedValues.{greater_turned}
@@ -122,12 +123,7 @@ module _ {V : Type 0} (m n : List ℕ → Option V) where
 -- a name that is not among these has no member
 named : (k : List ℕ) (v : Data) (ms : Members) → get_member k ms ≡ Some v → In k (names ms)
 named k v no_members e = cc
-named k v (member l d ms) e = at (text_cmp k l) refl (named k v ms)
-  where
-    at : (o : Ordering) → text_cmp k l ≡ o → (get_member k ms ≡ Some v → In k (names ms)) → In k (l ∷ names ms)
-    at Less is rest = inr (rest (rw is at e))
-    at Equal is rest = inl (sym (exact_bytes k l is))
-    at Greater is rest = inr (rest (rw is at e))
+named k v (member l d ms) e = found_cases k l v d ms e (λ name same. inl (sym name)) (λ found. inr (named k v ms found))
 
 none_beside : {V : Type 0} (m : List ℕ → Option V) (d : Data) (ms : Members) → Some ms ≡ as_object d → ((k : List ℕ) → get k d ≡ None → m k ≡ None) → (k : List ℕ) → IsNoneBeside m (names ms) k
 none_beside m d ms is absent k = at (get k d) refl

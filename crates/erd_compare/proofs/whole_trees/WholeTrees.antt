@@ -1,5 +1,5 @@
 -- Whole trees: their members and entries are whole trees, and equality as JSON decides equality on them.
-use Rattle.std.proofs.Common.{◌≡◌, ◌<◌, ℕ, zero, suc, pos, List, [], ◌∷◌, Bool, true, false, ◌&&◌, Option, Some, None, option_map, Bor, map, length, get_or, refl, sym, subst, arith}
+use Rattle.std.proofs.Common.{◌≡◌, ◌<◌, ℕ, zero, suc, pos, List, [], ◌∷◌, true, false, ◌&&◌, Option, Some, None, option_map, Bor, map, length, get_or, refl, sym, subst, arith}
 use Rattle.std.proofs.lemmas.Bool.{and_from, or_parts}
 use Rattle.std.proofs.lemmas.Bool.Decides.{Decides-int_eq}
 use Rattle.std.specs.List.{AllByRecursion}
@@ -10,9 +10,9 @@ use Rattle.serde_json.specs.Find.{get, is_float}
 use Rattle.serde_json.specs.View.{view}
 use Rattle.serde_json.specs.Written.{has_float, items_have_float, members_have_float}
 use Rattle.serde_json.specs.declared.value.Value.{Value}
-use Rattle.erd_check.specs.Trees.{IsTree, AreTrees, is_same_json, are_same_items, are_same_members, same_flag, same_number}
+use Rattle.erd_check.specs.Trees.{IsTree, AreTrees, is_same_json, are_same_items, are_same_members, same_number}
 use Rattle.erd_check.specs.Values.{entries_of, list_of_items, entries_at}
-use Rattle.erd_check.proofs.Exact.{is_same_exact, text_itself}
+use Rattle.erd_check.proofs.Exact.{is_same_exact, text_itself, flag_itself}
 use Rattle.erd_check.proofs.Members.{get_member-tree}
 use Rattle.erd_meaning.proofs.selections.WholeParts.{whole_get}
 use Rattle.erd_compare.specs.code.Comparing.{Decides, IsWholeTree}
@@ -101,11 +101,6 @@ whole_value-index (w ∷ vs) zero v h low e = subst (λ u. IsWholeTree (view u))
 whole_value-index (w ∷ vs) (suc i) v h low e = whole_value-index vs i v h.1 (omega arith) e
 
 -- ---- equality
-
--- a truth value is equal to itself
-flag_itself : (b : Bool) → same_flag b b ≡ true
-flag_itself true = refl
-flag_itself false = refl
 
 -- a whole number is equal to itself
 number_itself : (n : Num) → is_float n ≡ false → same_number n n ≡ true

@@ -1,7 +1,5 @@
 -- What stands in a value whose numbers fit has numbers that fit.
-use Rattle.std.proofs.Common.{◌≡◌, false, ◌||◌, ℕ, zero, suc, List, Some, inl, inr, Ordering, Less, Equal, Greater, refl, subst}
-use Rattle.std.specs.Cmp.Lexicographic.{slice_cmp}
-use Rattle.std.specs.Ordering.{nat_cmp}
+use Rattle.std.proofs.Common.{◌≡◌, false, ◌||◌, ℕ, zero, suc, List, Some, inl, inr, refl, subst}
 use Rattle.std.proofs.lemmas.Bool.{or_from}
 use Rattle.serde_json.specs.Data.{Num, unsigned, negative, float, Data, null, boolean, number, string, array, object, Items, no_items, item, Members, no_members, member}
 use Rattle.serde_json.specs.Find.{get_item, get_member, is_float}
@@ -11,6 +9,7 @@ use Rattle.erd_check.specs.Values.{list_of_items}
 use Rattle.erd_check.specs.Wants.{Asked}
 use Rattle.erd_check.proofs.Order.{In}
 use Rattle.erd_check.proofs.Shapes.{Within, within-holds}
+use Rattle.erd_check.proofs.Members.{found_cases}
 
 pub get_item-fitting : (i : ℕ) (v : Data) (ds : Items) → ItemsHaveFittingNumbers ds → get_item i ds ≡ Some v → HasFittingNumbers v
 get_item-fitting i v no_items h e = cc
@@ -19,12 +18,7 @@ get_item-fitting (suc i) v (item d ds) h e = get_item-fitting i v ds h.1 e
 
 pub get_member-fitting : (k : List ℕ) (v : Data) (ms : Members) → MembersHaveFittingNumbers ms → get_member k ms ≡ Some v → HasFittingNumbers v
 get_member-fitting k v no_members h e = cc
-get_member-fitting k v (member l d ms) h e = at (slice_cmp nat_cmp k l) refl (get_member-fitting k v ms h.1)
-  where
-    at : (o : Ordering) → slice_cmp nat_cmp k l ≡ o → (get_member k ms ≡ Some v → HasFittingNumbers v) → HasFittingNumbers v
-    at Less is more = more (rw is at e)
-    at Equal is more = let f : Some d ≡ Some v = rw is at e in let g : d ≡ v = cc in subst HasFittingNumbers g h.0
-    at Greater is more = more (rw is at e)
+get_member-fitting k v (member l d ms) h e = found_cases k l v d ms e (λ name same. subst HasFittingNumbers same h.0) (λ found. get_member-fitting k v ms h.1 found)
 
 -- an entry of an array
 pub entry-fitting : (ds : Items) (d : Data) → ItemsHaveFittingNumbers ds → In d (list_of_items ds) → HasFittingNumbers d

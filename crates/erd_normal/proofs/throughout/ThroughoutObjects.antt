@@ -1,5 +1,5 @@
 -- What holds of all that is asked inside the order of a ballot, a selection and an object of a family that are built.
-use Rattle.std.proofs.Common.{◌≡◌, inl, inr, ℕ, zero, suc, List, map, Ordering, Less, Equal, Greater, Some, Bool, true, false, codes, refl, sym, ap, ◌∙◌, subst}
+use Rattle.std.proofs.Common.{◌≡◌, inl, inr, ℕ, zero, suc, List, map, Some, Bool, true, false, codes, refl, sym, ap, ◌∙◌, subst}
 use Rattle.std.specs.List.{AllByRecursion, list_all}
 use Rattle.std.specs.Str.{bytes_eq}
 use Rattle.serde_json.specs.Data.{Data, string, array, object, Items, no_items, item, Members, no_members, member}
@@ -7,7 +7,6 @@ use Rattle.serde_json.specs.Find.{get, get_item, get_member}
 use Rattle.erd_tables.specs.Classes.{role_of_class}
 use Rattle.erd_tables.specs.Rows.{rows_of_class}
 use Rattle.erd_tables.specs.Table.{is_required, kind_of_identity, kind_of_member}
-use Rattle.erd_tables.specs.Texts.{text_cmp}
 use Rattle.erd_tables.specs.declared.class.Class.{Class}
 use Rattle.erd_tables.specs.declared.class.Class.TheVariants as class
 use Rattle.erd_tables.specs.declared.class.Family.{Family}
@@ -42,6 +41,7 @@ use Rattle.erd_normal.proofs.built.NormalGets.{kind_of_family_id}
 use Rattle.erd_normal.proofs.throughout.ThroughoutMembers.{HoldsOfMembers, is_plain_kind, is_prefixed, throughout_type, throughout_value}
 use Rattle.erd_normal.proofs.throughout.ThroughoutValues.{Throughout, throughout_array, throughout_by_steps, throughout_kept, throughout_list, throughout_text}
 use Rattle.erd_check.proofs.Positions.{map_has, all_by_entry}
+use Rattle.erd_check.proofs.Members.{found_cases}
 
 -- what has to hold for what is built of objects below the election and the report, each by the value that it is built of
 pub record HoldsOfObjects (π : Preference) (t : Data) (P : Asked → Type 0) : Type 0 where
@@ -170,14 +170,6 @@ module _ (π : Preference) (t : Data) (clean : NoneOf (ShapeFault t)) (tree : Is
           (λ required inside. node_member (kind_of_member o.class name) required b.from v (node_kind o.class name b.other o.role) (contents name b.from b.stands) inside b.given)
           (λ word. node_word π t (kind_of_member o.class name) b.from (normal_content π t b.from) v word b.given)
 
-  content_at : (name k : List ℕ) (e d : Data) (ms : Members) → get_member name (member k e ms) ≡ Some d → IsContent e → (get_member name ms ≡ Some d → IsContent d) → IsContent d
-  content_at name k e d ms found here later = at (text_cmp name k) refl
-    where
-      at : (o : Ordering) → text_cmp name k ≡ o → IsContent d
-      at Less is = later (rw is at found)
-      at Equal is = let x : Some e ≡ Some d = rw is at found in let same : e ≡ d = cc in subst IsContent same here
-      at Greater is = later (rw is at found)
-
   mutual
     pub throughout_content : (d : Data) → IsContent d
     throughout_content (array ds) required filled w =
@@ -197,7 +189,7 @@ module _ (π : Preference) (t : Data) (clean : NoneOf (ShapeFault t)) (tree : Is
 
     throughout_contents : (ms : Members) (name : List ℕ) (d : Data) → get_member name ms ≡ Some d → IsContent d
     throughout_contents no_members name d found = cc
-    throughout_contents (member k e ms) name d found = content_at name k e d ms found (throughout_content e) (throughout_contents ms name d)
+    throughout_contents (member k e ms) name d found = found_cases name k d e ms found (λ named same. subst IsContent same (throughout_content e)) (throughout_contents ms name d)
 
   -- ---- selections
 
