@@ -5,7 +5,7 @@ use Rattle.std.proofs.lemmas.Cmp.{nat_list_cmp_total}
 use Rattle.std.specs.List.{AllByRecursion}
 use Rattle.std.specs.List.Sorted.{IsStrictlySortedBy}
 use Rattle.std.proofs.lemmas.Bool.{and_parts}
-use Rattle.serde_json.specs.Data.{Data, Num, negative, null, boolean, number, string, array, object, Items, no_items, item, Members, no_members, member}
+use Rattle.serde_json.specs.Data.{Data, Num, negative, number, array, object, Items, no_items, item, Members, no_members, member}
 use Rattle.erd_tables.specs.Faults.{ListsAll}
 use Rattle.erd_tables.specs.declared.fault.Fault.{Fault}
 use Rattle.erd_tables.specs.declared.fault.Reason.{Reason}
@@ -47,12 +47,10 @@ is_number n = true
 
 abbrev mutual
   pub is_tree : Data → Bool
-  is_tree null = true
-  is_tree (boolean b) = true
   is_tree (number n) = is_number n
-  is_tree (string s) = true
   is_tree (array ds) = are_trees ds
   is_tree (object ms) = are_members ms
+  is_tree d = true
 
   pub are_trees : Items → Bool
   are_trees no_items = true
@@ -77,12 +75,10 @@ number_sound n h = tt
 
 mutual
   pub tree_sound : (d : Data) → is_tree d ≡ true → IsTree d
-  tree_sound null h = tt
-  tree_sound (boolean b) h = tt
   tree_sound (number n) h = number_sound n h
-  tree_sound (string s) h = tt
   tree_sound (array ds) h = trees_sound ds h
   tree_sound (object ms) h = members_sound ms h
+  tree_sound e h = tt
 
   trees_sound : (ds : Items) → are_trees ds ≡ true → AreTrees ds
   trees_sound no_items h = tt
@@ -118,12 +114,9 @@ if_some P (Some a) h = h a
 
 mutual
   pub tree_in_order : (w : Want) (d : Data) → IsTree d → IsInOrder w d
-  tree_in_order w null tree = tt
-  tree_in_order w (boolean b) tree = tt
-  tree_in_order w (number n) tree = tt
-  tree_in_order w (string s) tree = tt
   tree_in_order w (array ds) tree = if_some (λ v. AreItemsInOrder v ds) (entry_want w) (λ v. items_in_order v ds tree)
   tree_in_order w (object ms) tree = (names_rise ms tree, members_in_order (scope_inside w (object ms)) ms tree)
+  tree_in_order w e tree = tt
 
   items_in_order : (w : Want) (ds : Items) → AreTrees ds → AreItemsInOrder w ds
   items_in_order w no_items trees = tt

@@ -88,12 +88,10 @@ number_of-number s =
 mutual
   -- a value, from what the grammar reads
   of_json-tree : (j : json.Json) → IfSome (of_json j) IsTree
-  of_json-tree json.null = tt
-  of_json-tree (json.boolean b) = tt
   of_json-tree (json.number s) = mapped_holds IsNumber IsTree number (number_of s) (λ n h. h) (number_of-number s)
-  of_json-tree (json.string s) = tt
   of_json-tree (json.array js) = mapped_holds AreTrees IsTree array (of_items js) (λ ds trees. trees) (of_items-trees js)
   of_json-tree (json.object ms) = mapped_holds AreMembers IsTree object (of_members ms no_members) (λ found rise. rise) (of_members-trees ms no_members tt)
+  of_json-tree d = tt
 
   -- the entries of an array
   of_items-trees : (js : json.Items) → IfSome (of_items js) AreTrees

@@ -6,7 +6,7 @@ use Rattle.std.specs.Cmp.Lexicographic.{slice_cmp}
 use Rattle.std.specs.List.{AllByRecursion}
 use Rattle.std.specs.List.Sorted.{IsStrictlySortedBy}
 use Rattle.std.proofs.lemmas.Bool.{or_from}
-use Rattle.serde_json.specs.Data.{Data, null, boolean, number, string, array, object, Items, no_items, item, Members, no_members, member}
+use Rattle.serde_json.specs.Data.{Data, number, array, object, Items, no_items, item, Members, no_members, member}
 use Rattle.serde_json.specs.Find.{get_item, get_member}
 use Rattle.serde_json.specs.View.{view}
 use Rattle.serde_json.specs.Written.{has_float, items_have_float, members_have_float}
@@ -121,9 +121,6 @@ module _ (t : Data) (clean : NoneOf (ShapeFault t)) where
 
   mutual
     sound_at : (w : Want) (repeated : Bool) (d : Data) → is_sought w ≡ true → IsInOrder w d → Within t (asked_with w repeated d) → Sound w d
-    sound_at w repeated null s order inside = record { whole = refl; tree = λ k. tt; fits = λ k. tt }
-    sound_at w repeated (boolean b) s order inside = record { whole = refl; tree = λ k. tt; fits = λ k. tt }
-    sound_at w repeated (string x) s order inside = record { whole = refl; tree = λ k. tt; fits = λ k. tt }
     sound_at w repeated (number n) s order inside =
         let h = right w repeated (number n) inside in
         record { whole = number_whole w repeated n s h; tree = λ k. k; fits = λ k. fitting_number w repeated n s h k }
@@ -133,6 +130,7 @@ module _ (t : Data) (clean : NoneOf (ShapeFault t)) where
     sound_at w repeated (object ms) s order inside =
         let r = members_sound (scope_inside w (object ms)) ms (object_sought w repeated ms s inside (right w repeated (object ms) inside)) order.0 order.1 (member_asked w repeated ms inside) in
         record { whole = r.whole; tree = r.trees; fits = λ k. r.fits k.1 }
+    sound_at w repeated e s order inside = record { whole = refl; tree = λ k. tt; fits = λ k. tt }
 
     items_sound : (w : Want) (ds : Items) → is_sought w ≡ true → AreItemsInOrder w ds → EachItem w ds → ItemsSound w ds
     items_sound w no_items s order each = record { whole = refl; trees = λ k. tt; fits = λ k. tt }

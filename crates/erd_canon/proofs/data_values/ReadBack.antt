@@ -1,5 +1,5 @@
 -- The compact text of a value is read back as the value.
-use Rattle.std.proofs.Common.{◌≡◌, ◌≤◌, ◌<◌, ◌^◌, ◌⊎◌, inl, inr, ℕ, suc, pos, negsuc, Some, refl, sym, ap, ◌∙◌, subst, arith}
+use Rattle.std.proofs.Common.{◌≡◌, ◌≤◌, ◌<◌, ◌^◌, ◌⊎◌, inl, inr, ℕ, pos, negsuc, Some, refl, sym, ap, ◌∙◌, subst, arith}
 use Rattle.std.proofs.lemmas.Bool.{cases_eq}
 use Rattle.std.specs.Fmt.{digits, signed_decimal}
 use Rattle.json.specs.Lex.{tokens}
@@ -8,7 +8,7 @@ use Rattle.json.specs.Tree.{json_tokens, HasNumbers, ItemsHaveNumbers, MembersHa
 use Rattle.json.proofs.Printed.Decimals.{IsNumber-decimal, IsNumber-signed_decimal}
 use Rattle.json.proofs.Printed.Tokens.{tokens-print}
 use Rattle.json.proofs.Printed.Trees.{ArePrintable-json_tokens}
-use Rattle.serde_json.specs.Data.{Num, unsigned, negative, float, Data, null, boolean, number, string, array, object, Items, no_items, item, Members, no_members, member, depth}
+use Rattle.serde_json.specs.Data.{Num, unsigned, negative, float, Data, number, array, object, Items, no_items, item, Members, no_members, member, depth}
 use Rattle.serde_json.specs.Read.{max_depth, read}
 use Rattle.serde_json.specs.Written.{compact_text, items_outline, members_outline, number_text, outline}
 use Rattle.serde_json.proofs.OnLiterals.{serde_json_on_literals}
@@ -34,12 +34,10 @@ number_is (float x) fit = absurd fit
 
 mutual
   outline_numbers : (d : Data) → HasFittingNumbers d → HasNumbers (outline d)
-  outline_numbers null fit = tt
-  outline_numbers (boolean b) fit = tt
   outline_numbers (number n) fit = number_is n fit
-  outline_numbers (string s) fit = tt
   outline_numbers (array ds) fit = items_numbers ds fit
   outline_numbers (object ms) fit = members_numbers ms fit
+  outline_numbers e fit = tt
 
   items_numbers : (ds : Items) → ItemsHaveFittingNumbers ds → ItemsHaveNumbers (items_outline ds)
   items_numbers no_items fit = tt

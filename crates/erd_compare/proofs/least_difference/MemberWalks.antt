@@ -1,7 +1,7 @@
 -- The members that are left in a walk over an object stand in it, and what is found there decides what the object means.
 use Rattle.std.proofs.Common.{◌≡◌, ℕ, List, Bool, Option, Some, Less, sym, subst}
 use Rattle.std.specs.List.{AllByRecursion}
-use Rattle.serde_json.specs.Data.{Data, null, boolean, number, string, array, object, Members, no_members, member}
+use Rattle.serde_json.specs.Data.{Data, object, Members, no_members, member}
 use Rattle.serde_json.specs.Find.{as_object}
 use Rattle.erd_tables.specs.Texts.{text_cmp}
 use Rattle.erd_check.proofs.Deciding.{before_all}
@@ -22,12 +22,8 @@ members_themselves (member k d ms) trees = (get_member-first k d ms, later_membe
 
 -- all members of an object stand in it
 pub all_members : (d : Data) (ms : Members) → IsTree d → Some ms ≡ as_object d → AreMembersOf d ms
-all_members null ms tree e = cc
-all_members (boolean b) ms tree e = cc
-all_members (number x) ms tree e = cc
-all_members (string s) ms tree e = cc
-all_members (array ds) ms tree e = cc
 all_members (object ns) ms tree e = let same : ns ≡ ms = cc in subst (λ xs. AreMembersOf (object xs) ms) (sym same) (members_themselves ms (subst AreMembers same tree))
+all_members k ms tree e = cc
 
 -- what two values decide, the members decide that they are
 pub found-Decides : {V : Type 0} (f g : Option Data → V) (answer : Bool) (o p found other : Option Data) → o ≡ found → p ≡ other → Decides answer (f o) (g p) → Decides answer (f found) (g other)

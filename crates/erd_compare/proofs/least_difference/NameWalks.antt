@@ -7,7 +7,7 @@ use Rattle.std.proofs.Math.Path.{fun_ext}
 use Rattle.std.proofs.lemmas.Slice.Eq.{bytes_eq-Decides}
 use Rattle.std.proofs.lemmas.Cmp.{nat_list_cmp_total, tied_itself}
 use Rattle.std.proofs.lemmas.Map.Lookups.{exact_bytes}
-use Rattle.serde_json.specs.Data.{Data, null, boolean, number, string, array, object, Members, no_members, member}
+use Rattle.serde_json.specs.Data.{Data, object, Members, no_members, member}
 use Rattle.serde_json.specs.Find.{as_object, get, get_member}
 use Rattle.erd_tables.specs.Texts.{text_cmp}
 use Rattle.erd_tables.specs.declared.class.Class.{Class}
@@ -129,24 +129,16 @@ none_beside : {V : Type 0} (m : List ℕ → Option V) (d : Data) (ms : Members)
 none_beside m d ms is absent k = at (get k d) refl
   where
     found : (d : Data) (v : Data) → Some ms ≡ as_object d → get k d ≡ Some v → get_member k ms ≡ Some v
-    found null v e h = cc
-    found (boolean b) v e h = cc
-    found (number x) v e h = cc
-    found (string s) v e h = cc
-    found (array ds) v e h = cc
     found (object ns) v e h = let same : ms ≡ ns = cc in subst (λ x. get_member k x ≡ Some v) (sym same) h
+    found x v e h = cc
 
     at : (o : Option Data) → get k d ≡ o → IsNoneBeside m (names ms) k
     at None e = inl (absent k e)
     at (Some v) e = inr (named k v ms (found d v is e))
 
 rise_in : (d : Data) (ms : Members) → IsTree d → Some ms ≡ as_object d → IsStrictlySortedBy text_cmp (names ms)
-rise_in null ms tree e = cc
-rise_in (boolean b) ms tree e = cc
-rise_in (number x) ms tree e = cc
-rise_in (string s) ms tree e = cc
-rise_in (array ds) ms tree e = cc
 rise_in (object ns) ms tree e = let same : ns ≡ ms = cc in names_rise ms (subst AreMembers same tree)
+rise_in k ms tree e = cc
 
 -- maps of two objects, each of which has nothing where its object has no member
 pub both_objects : {V : Type 0} (m n : List ℕ → Option V) (d e : Data) (ms ns : Members) → IsTree d → IsTree e → Some ms ≡ as_object d → Some ns ≡ as_object e

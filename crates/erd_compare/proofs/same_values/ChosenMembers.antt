@@ -99,21 +99,13 @@ chosen-whole c (member k d ms) h = at (takes_name c k) (or_parts (has_float d) (
 
 -- the members of a whole tree are trees under rising names
 members_in-rise : (d : Data) → IsWholeTree d → AreMembers (members_in d)
-members_in-rise null h = tt
-members_in-rise (boolean b) h = tt
-members_in-rise (number n) h = tt
-members_in-rise (string s) h = tt
-members_in-rise (array ds) h = tt
 members_in-rise (object ms) h = h.is_tree
+members_in-rise e h = tt
 
 -- the members of a whole tree hold no fraction
 members_in-whole : (d : Data) → IsWholeTree d → members_have_float (members_in d) ≡ false
-members_in-whole null h = refl
-members_in-whole (boolean b) h = refl
-members_in-whole (number n) h = refl
-members_in-whole (string s) h = refl
-members_in-whole (array ds) h = refl
 members_in-whole (object ms) h = h.whole
+members_in-whole e h = refl
 
 -- ---- the same
 

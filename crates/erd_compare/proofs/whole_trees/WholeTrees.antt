@@ -27,12 +27,8 @@ AreWholeTrees ds = AllByRecursion IsWholeTree ds
 
 -- a member of a tree is one
 get-tree : (name : List ℕ) (d v : Data) → IsTree d → get name d ≡ Some v → IsTree v
-get-tree name null v h e = cc
-get-tree name (boolean b) v h e = cc
-get-tree name (number n) v h e = cc
-get-tree name (string s) v h e = cc
-get-tree name (array ds) v h e = cc
 get-tree name (object ms) v h e = get_member-tree name v ms h e
+get-tree name k v h e = cc
 
 -- a member of a whole tree is one
 pub whole_tree-get : (name : List ℕ) (d v : Data) → IsWholeTree d → get name d ≡ Some v → IsWholeTree v
@@ -61,12 +57,8 @@ whole_trees-items (item d ds) trees h =
 
 -- the entries of a whole tree are whole trees
 pub whole_trees-entries_of : (d : Data) → IsWholeTree d → AreWholeTrees (entries_of d)
-whole_trees-entries_of null h = tt
-whole_trees-entries_of (boolean b) h = tt
-whole_trees-entries_of (number n) h = tt
-whole_trees-entries_of (string s) h = tt
 whole_trees-entries_of (array ds) h = whole_trees-items ds h.is_tree h.whole
-whole_trees-entries_of (object ms) h = tt
+whole_trees-entries_of e h = tt
 
 -- the entries of the array of a member
 pub whole_trees-entries_at : (name : List ℕ) (d : Data) → IsWholeTree d → AreWholeTrees (entries_at name d)

@@ -9,7 +9,7 @@ use Rattle.std.specs.List.{list_any}
 use Rattle.std.specs.Ordering.{nat_cmp, is_eq, match_ordering}
 use Rattle.std.specs.Prelude.{option_and_then, option_map, cond}
 use Rattle.std.specs.Str.{bytes_eq}
-use Rattle.serde_json.specs.Data.{Data, null, boolean, number, string, array, object, Members, no_members, member}
+use Rattle.serde_json.specs.Data.{Data, object, Members, no_members, member}
 use Rattle.serde_json.specs.Find.{get, get_member}
 use Rattle.erd_tables.specs.Table.{kind_of_member}
 use Rattle.erd_tables.specs.declared.class.Class.{Class}
@@ -41,12 +41,8 @@ member_absent name (member k d ms) e =
     passed_over (slice_cmp nat_cmp name k) (Some d) (get_member name ms) (is_eq-slice_cmp name k ∙ both.0) ∙ member_absent name ms both.1
 
 pub absent : (name : List ℕ) (d : Data) → list_any (bytes_eq name) (names_in d) ≡ false → get name d ≡ None
-absent name null e = refl
-absent name (boolean b) e = refl
-absent name (number n) e = refl
-absent name (string s) e = refl
-absent name (array ds) e = refl
 absent name (object ms) e = member_absent name ms e
+absent name k e = refl
 
 pub nothing_either_way : {V : Type 0} (b : Bool) (o : Option V) → o ≡ None → cond b None o ≡ None
 nothing_either_way true o e = refl

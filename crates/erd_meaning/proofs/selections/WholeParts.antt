@@ -3,7 +3,7 @@ use Rattle.std.proofs.Common.{◌≡◌, ℕ, zero, suc, ◌<◌, length, get_or
 use Rattle.std.specs.List.{AllByRecursion}
 use Rattle.std.specs.Option.{option_map_or}
 use Rattle.std.proofs.lemmas.Bool.{or_parts}
-use Rattle.serde_json.specs.Data.{Data, null, boolean, number, string, array, object, Items, no_items, item, Members, no_members, member}
+use Rattle.serde_json.specs.Data.{Data, array, object, Items, no_items, item, Members, no_members, member}
 use Rattle.serde_json.specs.Find.{get, get_member}
 use Rattle.serde_json.specs.View.{view}
 use Rattle.serde_json.specs.Written.{has_float, items_have_float, members_have_float}
@@ -24,24 +24,16 @@ whole_member name (member l v ms) d h e =
     found_cases name l d v ms e (λ named same. subst (λ w. has_float w ≡ false) same both.0) (λ found. whole_member name ms d both.1 found)
 
 pub whole_get : (name : List ℕ) (d v : Data) → has_float d ≡ false → get name d ≡ Some v → has_float v ≡ false
-whole_get name null v h e = cc
-whole_get name (boolean b) v h e = cc
-whole_get name (number n) v h e = cc
-whole_get name (string s) v h e = cc
-whole_get name (array ds) v h e = cc
 whole_get name (object ms) v h e = whole_member name ms v h e
+whole_get name k v h e = cc
 
 whole_items : (ds : Items) → items_have_float ds ≡ false → AreWhole (list_of_items ds)
 whole_items no_items h = tt
 whole_items (item d ds) h = let both = or_parts (has_float d) (items_have_float ds) h in (both.0, whole_items ds both.1)
 
 whole_entries_of : (d : Data) → has_float d ≡ false → AreWhole (entries_of d)
-whole_entries_of null h = tt
-whole_entries_of (boolean b) h = tt
-whole_entries_of (number n) h = tt
-whole_entries_of (string s) h = tt
 whole_entries_of (array ds) h = whole_items ds h
-whole_entries_of (object ms) h = tt
+whole_entries_of e h = tt
 
 whole_entries : (name : List ℕ) (d : Data) → has_float d ≡ false → AreWhole (entries_at name d)
 whole_entries name d h = at (get name d) refl

@@ -3,7 +3,7 @@ use Rattle.std.proofs.Common.{◌≡◌, ◌≤◌, ℕ, List, [], ◌∷◌, ma
 use Rattle.std.specs.Bool.{⊤}
 use Rattle.std.specs.List.{AllByRecursion}
 use Rattle.std.specs.Option.{option_map_or}
-use Rattle.serde_json.specs.Data.{Data, null, boolean, number, string, array, object, Items, no_items, item, Members, no_members, member, depth, items_depth, members_depth}
+use Rattle.serde_json.specs.Data.{Data, string, array, object, Items, no_items, item, Members, no_members, member, depth, items_depth, members_depth}
 use Rattle.serde_json.specs.Find.{get, get_item, get_member}
 use Rattle.erd_tables.specs.Table.{is_envelope_name, kind_of_member}
 use Rattle.erd_tables.specs.declared.class.Class.{Class}
@@ -170,12 +170,8 @@ module _ (π : Preference) (t : Data) (clean : NoneOf (ShapeFault t)) (tree : Is
 
   mutual
     pub normal_content-depth : (d : Data) (r : Bool) → Within t (asked (Member kind.Content r) d) → IsNoDeeper (normal_content π t d) d
-    normal_content-depth null r w = omega arith
-    normal_content-depth (boolean b) r w = omega arith
-    normal_content-depth (number n) r w = omega arith
-    normal_content-depth (string s) r w = omega arith
     normal_content-depth (array ds) r w = omega (arith, nodes_depth ds (entry_asked t (Member kind.Content r) (Object role.Content) ds refl refl w))
-    normal_content-depth (object ms) r w = omega arith
+    normal_content-depth e r w = omega arith
 
     nodes_depth : (ds : Items) → ((i : ℕ) (d : Data) → get_item i ds ≡ Some d → Within t (asked (Object role.Content) d)) → items_depth (normal_nodes π t ds) ≤ items_depth ds
     nodes_depth no_items each = omega arith
@@ -185,12 +181,8 @@ module _ (π : Preference) (t : Data) (clean : NoneOf (ShapeFault t)) (tree : Is
         omega arith
 
     node_depth : (d : Data) → Within t (asked (Object role.Content) d) → depth (normal_node π t d) ≤ depth d
-    node_depth null w = omega arith
-    node_depth (boolean b) w = omega arith
-    node_depth (number n) w = omega arith
-    node_depth (string s) w = omega arith
-    node_depth (array ds) w = omega arith
     node_depth (object ms) w = omega (arith, node_members_depth ms (class_of_node (object ms)) (within-tree t (asked (Object role.Content) (object ms)) tree w) (node_members_of ms w))
+    node_depth e w = omega arith
 
     node_members_depth : (ms : Members) (c : Option Class) → AreMembers ms → ((name : List ℕ) (d : Data) → get_member name ms ≡ Some d → IsNodeMember c name d) → members_depth (normal_node_members π t c ms) ≤ members_depth ms
     node_members_depth no_members c rise each = omega arith

@@ -2,7 +2,7 @@
 use Rattle.std.proofs.Common.{◌≡◌, ℕ, List, [], map, Bool, true, false, if◌then◌else◌, Ordering, Option, Some, None, option_map, codes, refl}
 use Rattle.std.specs.List.{AllByRecursion}
 use Rattle.std.specs.Option.{option_map_or}
-use Rattle.serde_json.specs.Data.{Data, null, boolean, number, string, array, object, Items, no_items, item, Members, no_members, member}
+use Rattle.serde_json.specs.Data.{Data, string, array, object, Items, no_items, item, Members, no_members, member}
 use Rattle.serde_json.specs.Find.{get_member}
 use Rattle.erd_tables.specs.Table.{is_envelope_name, kind_of_member}
 use Rattle.erd_tables.specs.declared.class.Class.{Class}
@@ -87,24 +87,16 @@ with_first-trees k (Some v) ms new below rise = (below, new, rise)
 
 mutual
   pub normal_content-tree : (π : Preference) (t d : Data) → IsTree d → IsTree (normal_content π t d)
-  normal_content-tree π t null tree = tree
-  normal_content-tree π t (boolean b) tree = tree
-  normal_content-tree π t (number n) tree = tree
-  normal_content-tree π t (string s) tree = tree
   normal_content-tree π t (array ds) tree = normal_nodes-trees π t ds tree
-  normal_content-tree π t (object ms) tree = tree
+  normal_content-tree π t e tree = tree
 
   pub normal_nodes-trees : (π : Preference) (t : Data) (ds : Items) → AreTrees ds → AreTrees (normal_nodes π t ds)
   normal_nodes-trees π t no_items trees = tt
   normal_nodes-trees π t (item d ds) trees = (normal_node-tree π t d trees.0, normal_nodes-trees π t ds trees.1)
 
   pub normal_node-tree : (π : Preference) (t d : Data) → IsTree d → IsTree (normal_node π t d)
-  normal_node-tree π t null tree = tree
-  normal_node-tree π t (boolean b) tree = tree
-  normal_node-tree π t (number n) tree = tree
-  normal_node-tree π t (string s) tree = tree
-  normal_node-tree π t (array ds) tree = tree
   normal_node-tree π t (object ms) tree = node_members-trees π t (class_of_node (object ms)) ms tree
+  normal_node-tree π t e tree = tree
 
   node_members-trees : (π : Preference) (t : Data) (c : Option Class) (ms : Members) → AreMembers ms → AreMembers (normal_node_members π t c ms)
   node_members-trees π t c no_members rise = tt

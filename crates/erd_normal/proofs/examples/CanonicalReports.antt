@@ -61,14 +61,7 @@ rises_as t k ds = true
 
 keyed_rising : (t : Data) (f : Family) (ds : List Data) → rises_as t (kind.Keyed f) ds ≡ true → RisesAs None t (kind.Keyed f) ds
 keyed_rising t family.Selection ds e = rising (option_cmp name_cmp) (map (name_of None t) ds) e
-keyed_rising t family.Unit ds e = rising (option_cmp key_cmp) (keys_of None ds) e
-keyed_rising t family.Party ds e = rising (option_cmp key_cmp) (keys_of None ds) e
-keyed_rising t family.Person ds e = rising (option_cmp key_cmp) (keys_of None ds) e
-keyed_rising t family.Office ds e = rising (option_cmp key_cmp) (keys_of None ds) e
-keyed_rising t family.Header ds e = rising (option_cmp key_cmp) (keys_of None ds) e
-keyed_rising t family.Candidate ds e = rising (option_cmp key_cmp) (keys_of None ds) e
-keyed_rising t family.Contest ds e = rising (option_cmp key_cmp) (keys_of None ds) e
-keyed_rising t family.Style ds e = rising (option_cmp key_cmp) (keys_of None ds) e
+keyed_rising t d ds e = rising (option_cmp key_cmp) (keys_of None ds) e
 
 rising_as : (t : Data) (k : MemberKind) (ds : List Data) → rises_as t k ds ≡ true → RisesAs None t k ds
 rising_as t (kind.Keyed f) ds e = keyed_rising t f ds e

@@ -38,15 +38,8 @@ abbrev pub is_in : ℕ → Placed → Bool
 is_in i o = part_of o == i
 
 part_is : (t : Data) (f : Family) (j : ℕ) (o : Placed) → has_keys f ≡ true → slice_get (objects f t) j ≡ Some o → part_at t f j ≡ part_of o
-part_is t family.Unit j o keyed at = ap (λ x. unwrap_or (option_and_then (λ (o : Placed). election_of_place o.place) x) 0) at
-part_is t family.Party j o keyed at = ap (λ x. unwrap_or (option_and_then (λ (o : Placed). election_of_place o.place) x) 0) at
-part_is t family.Person j o keyed at = ap (λ x. unwrap_or (option_and_then (λ (o : Placed). election_of_place o.place) x) 0) at
-part_is t family.Office j o keyed at = ap (λ x. unwrap_or (option_and_then (λ (o : Placed). election_of_place o.place) x) 0) at
-part_is t family.Header j o keyed at = ap (λ x. unwrap_or (option_and_then (λ (o : Placed). election_of_place o.place) x) 0) at
-part_is t family.Candidate j o keyed at = ap (λ x. unwrap_or (option_and_then (λ (o : Placed). election_of_place o.place) x) 0) at
-part_is t family.Contest j o keyed at = ap (λ x. unwrap_or (option_and_then (λ (o : Placed). election_of_place o.place) x) 0) at
-part_is t family.Style j o keyed at = ap (λ x. unwrap_or (option_and_then (λ (o : Placed). election_of_place o.place) x) 0) at
 part_is t family.Selection j o keyed at = cc
+part_is t d j o keyed at = ap (λ x. unwrap_or (option_and_then (λ (o : Placed). election_of_place o.place) x) 0) at
 
 module _ (π : Preference) (t : Data) (f : Family) (keyed : has_keys f ≡ true) where
   -- the objects of a family that has keys, in order

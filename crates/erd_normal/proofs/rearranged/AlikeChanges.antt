@@ -107,11 +107,7 @@ swapped_alike i j w (array ds) set low high =
       subst (λ b. IsArranged b (list_of_items ds) (list_of_items es)) (sym set)
           (subst (Reordered (list_of_items ds)) (sym (list_of_items-items_of (swap (list_of_items ds) i j))) (reordered_swap (list_of_items ds) i j low high)),
     )
-swapped_alike i j w null set low high = absurd (omega arith)
-swapped_alike i j w (boolean b) set low high = absurd (omega arith)
-swapped_alike i j w (number n) set low high = absurd (omega arith)
-swapped_alike i j w (string s) set low high = absurd (omega arith)
-swapped_alike i j w (object ms) set low high = absurd (omega arith)
+swapped_alike i j w e set low high = absurd (omega arith)
 
 item_alike : (f : Data → Data) (ss : List Step) (w : Want) (i : ℕ) (ds : Items) → ((d : Data) → get_item i ds ≡ Some d → Alike as_it_is (Some w) d (changed_at f ss d))
     → AreAlike as_it_is (Some w) ds (list_of_items (item_changed f i ss ds))
@@ -179,12 +175,9 @@ module _ (i j : ℕ) where
   one_step ss inside w (array ds) (At k) h =
       let es = item_changed (swapped i j) k ss ds in
       (list_of_items es, es, refl, at_position ss inside (entry_want w) (is_compared_set w) k ds (get_item k ds) refl h, arranged_self (is_table_set w) (list_of_items es))
-  one_step ss inside w null s h = absurd h
-  one_step ss inside w (boolean b) s h = absurd h
-  one_step ss inside w (number n) s h = absurd h
-  one_step ss inside w (string t) s h = absurd h
   one_step ss inside w (array ds) (Name n) h = absurd h
   one_step ss inside w (object ms) (At k) h = absurd h
+  one_step ss inside w e s h = absurd h
 
   exchanged_from : (ss : List Step) → Inside ss
   exchanged_from [] a h = swapped_alike i j a.want a.value h.0 h.1 h.2

@@ -43,11 +43,7 @@ entry_stands t w v (array ds) asks st x h =
     let a : Asked = record { want = w; value = array ds; repeated = st.repeated } in
     let b : Asked = record { want = v; value = x; repeated = is_compared_set w && is_repeated ds j.0 x } in
     record { repeated = is_compared_set w && is_repeated ds j.0 x; inside = Within-step t a b (At j.0) st.inside (rw (asks, j.1) refl) }
-entry_stands t w v null asks st x h = elim h [ ]
-entry_stands t w v (boolean b) asks st x h = elim h [ ]
-entry_stands t w v (number n) asks st x h = elim h [ ]
-entry_stands t w v (string s) asks st x h = elim h [ ]
-entry_stands t w v (object ms) asks st x h = elim h [ ]
+entry_stands t w v e asks st x h = elim h [ ]
 
 pub member_stands : (t : Data) (w : Want) (ms : Members) → Stands t w (object ms) → (k : List ℕ) (v : Want) (d : Data) → want_of_name (scope_inside w (object ms)) k ≡ Some v → get_member k ms ≡ Some d → Stands t v d
 member_stands t w ms st k v d asks found =

@@ -3,7 +3,7 @@ use Rattle.std.proofs.Common.{◌≡◌, ◌<◌, ◌^◌, ℕ, List, [], ◌∷
 use Rattle.std.specs.List.{AllByRecursion}
 use Rattle.std.specs.Option.{option_map_or}
 use Rattle.std.specs.Ordering.{match_ordering}
-use Rattle.serde_json.specs.Data.{Data, null, boolean, number, string, array, object, Items, no_items, item, Members, no_members, member, put}
+use Rattle.serde_json.specs.Data.{Data, string, array, object, Items, no_items, item, Members, no_members, member, put}
 use Rattle.serde_json.specs.Find.{get_member}
 use Rattle.erd_tables.specs.Table.{is_envelope_name, kind_of_member}
 use Rattle.erd_tables.specs.Texts.{text_cmp}
@@ -125,24 +125,16 @@ normal_node_value-fits π t None d inside fit within = fit
 
 mutual
   pub normal_content-fits : (π : Preference) (t d : Data) → HasFittingNumbers d → HasFittingNumbers (normal_content π t d)
-  normal_content-fits π t null fit = fit
-  normal_content-fits π t (boolean b) fit = fit
-  normal_content-fits π t (number n) fit = fit
-  normal_content-fits π t (string s) fit = fit
   normal_content-fits π t (array ds) fit = normal_nodes-fit π t ds fit
-  normal_content-fits π t (object ms) fit = fit
+  normal_content-fits π t e fit = fit
 
   pub normal_nodes-fit : (π : Preference) (t : Data) (ds : Items) → ItemsHaveFittingNumbers ds → ItemsHaveFittingNumbers (normal_nodes π t ds)
   normal_nodes-fit π t no_items trees = tt
   normal_nodes-fit π t (item d ds) trees = (normal_node-fits π t d trees.0, normal_nodes-fit π t ds trees.1)
 
   pub normal_node-fits : (π : Preference) (t d : Data) → HasFittingNumbers d → HasFittingNumbers (normal_node π t d)
-  normal_node-fits π t null fit = fit
-  normal_node-fits π t (boolean b) fit = fit
-  normal_node-fits π t (number n) fit = fit
-  normal_node-fits π t (string s) fit = fit
-  normal_node-fits π t (array ds) fit = fit
   normal_node-fits π t (object ms) fit = node_members-fit π t (class_of_node (object ms)) ms fit
+  normal_node-fits π t e fit = fit
 
   node_members-fit : (π : Preference) (t : Data) (c : Option Class) (ms : Members) → MembersHaveFittingNumbers ms → MembersHaveFittingNumbers (normal_node_members π t c ms)
   node_members-fit π t c no_members rise = tt

@@ -1,7 +1,7 @@
 -- What stands in a value whose numbers fit has numbers that fit.
 use Rattle.std.proofs.Common.{◌≡◌, false, ◌||◌, ℕ, zero, suc, List, Some, inl, inr, refl, subst}
 use Rattle.std.proofs.lemmas.Bool.{or_from}
-use Rattle.serde_json.specs.Data.{Num, unsigned, negative, float, Data, null, boolean, number, string, array, object, Items, no_items, item, Members, no_members, member}
+use Rattle.serde_json.specs.Data.{Num, unsigned, negative, float, Data, number, array, object, Items, no_items, item, Members, no_members, member}
 use Rattle.serde_json.specs.Find.{get_item, get_member, is_float}
 use Rattle.serde_json.specs.Written.{has_float, items_have_float, members_have_float}
 use Rattle.erd_check.specs.Numbers.{IsFittingNumber, HasFittingNumbers, ItemsHaveFittingNumbers, MembersHaveFittingNumbers}
@@ -39,12 +39,10 @@ number-no_float (float x) h = absurd h
 
 mutual
   pub fitting-no_float : (d : Data) → HasFittingNumbers d → has_float d ≡ false
-  fitting-no_float null h = refl
-  fitting-no_float (boolean b) h = refl
   fitting-no_float (number n) h = number-no_float n h
-  fitting-no_float (string s) h = refl
   fitting-no_float (array ds) h = items_fitting-no_float ds h
   fitting-no_float (object ms) h = members_fitting-no_float ms h
+  fitting-no_float e h = refl
 
   items_fitting-no_float : (ds : Items) → ItemsHaveFittingNumbers ds → items_have_float ds ≡ false
   items_fitting-no_float no_items h = refl

@@ -5,7 +5,7 @@ use Rattle.json.specs.Lex.{tokens}
 use Rattle.json.specs.Token.{Token}
 use Rattle.json.specs.Json as json
 use Rattle.json.specs.Tree as tree
-use Rattle.serde_json.specs.Data.{Data, null, boolean, number, string, array, object, Items, no_items, item, Members, no_members, member, put, depth, items_depth, members_depth}
+use Rattle.serde_json.specs.Data.{Data, number, array, object, Items, no_items, item, Members, no_members, member, put, depth, items_depth, members_depth}
 use Rattle.serde_json.specs.Read.{max_depth, of_items, of_json, of_members, read}
 use Rattle.serde_json.specs.Written.{items_outline, members_outline, outline}
 use Rattle.json.proofs.Printed.Trees.{value-json_tokens}
@@ -20,12 +20,10 @@ use Rattle.erd_normal.proofs.texts.CompactTexts.{number_read}
 
 mutual
   json_read : (d : Data) → IsTree d → HasFittingNumbers d → of_json (outline d) ≡ Some d
-  json_read null tree fit = refl
-  json_read (boolean b) tree fit = refl
   json_read (number n) tree fit = ap (option_map number) (number_read n fit)
-  json_read (string s) tree fit = refl
   json_read (array ds) tree fit = ap (option_map array) (items_read ds tree fit)
   json_read (object ms) tree fit = ap (option_map object) (members_read ms no_members (none_below ms) tree fit)
+  json_read e tree fit = refl
 
   items_read : (ds : Items) → AreTrees ds → ItemsHaveFittingNumbers ds → of_items (items_outline ds) ≡ Some ds
   items_read no_items trees fit = refl
@@ -43,12 +41,9 @@ mutual
 
 mutual
   outline_depth : (d : Data) → tree.depth (outline d) ≡ depth d
-  outline_depth null = refl
-  outline_depth (boolean b) = refl
-  outline_depth (number n) = refl
-  outline_depth (string s) = refl
   outline_depth (array ds) = ap suc (items_outline_depth ds)
   outline_depth (object ms) = ap suc (members_outline_depth ms)
+  outline_depth e = refl
 
   items_outline_depth : (ds : Items) → tree.items_depth (items_outline ds) ≡ items_depth ds
   items_outline_depth no_items = refl

@@ -27,15 +27,8 @@ has_record π t accepted f o h =
     (record { class = c.0; members = member_of_class π t o.value c.0 }, record_with-Some (member_of_class π t o.value) (role.OfFamily f) o.value c.0 c.1, no_election_id π t o.value c.0)
 
 pub records_of-keyed : (π : Preference) (t : Data) (f : Family) (k : Key) → has_keys f ≡ true → records_of π t f k ≡ option_and_then (placed_record π t f) (placed_with_key π t f k)
-records_of-keyed π t family.Unit k h = refl
-records_of-keyed π t family.Party k h = refl
-records_of-keyed π t family.Person k h = refl
-records_of-keyed π t family.Office k h = refl
-records_of-keyed π t family.Header k h = refl
-records_of-keyed π t family.Candidate k h = refl
-records_of-keyed π t family.Contest k h = refl
-records_of-keyed π t family.Style k h = refl
 records_of-keyed π t family.Selection k h = cc
+records_of-keyed π t d k h = refl
 
 -- what the records say of two objects with the keys of their elections
 abbrev pub SameRecord : Preference → Data → Data → Family → Placed → Placed → Type 0

@@ -158,11 +158,7 @@ empty_array (array (item d ds)) e =
     let some : (suc (length (list_of_items ds)) == 0) ≡ false = grind arith in
     let h : true ≡ false = sym (ap not some) ∙ e in
     cc
-empty_array null e = let h : true ≡ false = e in cc
-empty_array (boolean b) e = let h : true ≡ false = e in cc
-empty_array (number n) e = let h : true ≡ false = e in cc
-empty_array (string s) e = let h : true ≡ false = e in cc
-empty_array (object ms) e = let h : true ≡ false = e in cc
+empty_array d e = let h : true ≡ false = e in cc
 
 json_same : (v w : Data) → Some (a_json v) ≡ Some (a_json w) → v ≡ w
 json_same v w e = cc
