@@ -28,7 +28,7 @@ use Rattle.erd_meaning.specs.SelectionNames.{compact_cmp, rising_list, selection
 use Rattle.erd_meaning.proofs.orders.RisingAlike.{all_rising}
 use Rattle.erd_normal.specs.code.NormalTree.{array_of, by_key, by_name, id_of_key, id_of_selection, in_envelope, normal_content, normal_election, normal_election_value, normal_members, normal_node, normal_node_members, normal_node_value, normal_nodes, normal_object, normal_object_value, normal_object_with, normal_objects, normal_reference, normal_report_value, normal_selection, normal_selection_reference, normal_tree, normal_value, reference_cmp, unless_no_entry, with_id}
 use Rattle.erd_normal.proofs.built.AskedMembers.{AskedAs, asked_as, entries_asked, entry_asked, label_texts}
-use Rattle.erd_normal.proofs.lists.BuiltLists.{IfSome, if_some_is, all_map, all_of, items_of-depth, listed_depth, unless_no_entry-holds}
+use Rattle.erd_normal.proofs.lists.BuiltLists.{IfSome, if_some_is, all_map, all_of, items_of-depth, listed_depth, unless_no_entry-holds, all_both}
 use Rattle.erd_normal.proofs.built.NormalEnvelope.{with_envelope-depth}
 use Rattle.erd_normal.proofs.built.NormalMembers.{normal_members-depth}
 use Rattle.erd_normal.proofs.built.PutMembers.{put-depth}
@@ -39,10 +39,6 @@ use Rattle.erd_check.proofs.Whole.{get_member-later}
 -- the value that is built, if there is one, is nested no deeper
 abbrev pub NoneDeeper : Data → Option Data → Type 0
 NoneDeeper d o = IfSome (λ v. IsNoDeeper v d) o
-
-all_both : (P Q : Data → Type 0) (xs : List Data) → AllByRecursion P xs → AllByRecursion Q xs → AllByRecursion (λ x. P x × Q x) xs
-all_both P Q [] p q = tt
-all_both P Q (x ∷ xs) p q = ((p.0, q.0), all_both P Q xs p.1 q.1)
 
 -- an array of values that are nested no deeper than the entries of another
 array_depth : (d : Data) (es : List Data) → is_array d ≡ true → ((n : ℕ) → AllByRecursion (λ e. depth e ≤ n) (entries_of d) → AllByRecursion (λ e. depth e ≤ n) es) → IsNoDeeper (array_of es) d

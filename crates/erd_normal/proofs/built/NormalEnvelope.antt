@@ -7,9 +7,7 @@ use Rattle.serde_json.specs.Data.{Data, Members, put, depth, members_depth}
 use Rattle.serde_json.specs.Find.{get_member}
 use Rattle.serde_json.proofs.Views.{get_member-put}
 use Rattle.erd_tables.specs.Table.{is_envelope_name}
-use Rattle.erd_check.specs.Trees.{IsTree, AreMembers}
 use Rattle.erd_check.proofs.Exact.{text_exact}
-use Rattle.erd_check.proofs.ReadTrees.{put-trees}
 use Rattle.erd_normal.specs.code.Building.{put_all}
 use Rattle.erd_normal.specs.code.NormalTree.{envelope_values, with_envelope}
 use Rattle.erd_normal.proofs.built.PutMembers.{put_elsewhere, put-depth}
@@ -44,10 +42,6 @@ put_value-other (p ∷ ps) name o names other = at (bytes_eq name p.0) refl (put
     at true is h = absurd (true≢false (sym both.0 ∙ ap is_envelope_name (sym (text_exact name p.0 is)) ∙ other))
     at false is h = h
 
-put_all-trees : (ps : List Named) (ms : Members) → AllByRecursion (λ p. IsTree p.1) ps → AreMembers ms → AreMembers (put_all ps ms)
-put_all-trees [] ms trees rise = rise
-put_all-trees (p ∷ ps) ms trees rise = put-trees p.0 p.1 (put_all ps ms) (put_all-trees ps ms trees.1 rise) trees.0
-
 put_all-depth : (n : ℕ) (ps : List Named) (ms : Members) → AllByRecursion (λ p. depth p.1 ≤ n) ps → members_depth ms ≤ n → members_depth (put_all ps ms) ≤ n
 put_all-depth n [] ms low inside = inside
 put_all-depth n (p ∷ ps) ms low inside = put-depth p.0 p.1 (put_all ps ms) n low.0 (put_all-depth n ps ms low.1 inside)
@@ -60,9 +54,6 @@ get_with_envelope name ms = get_put_all envelope_values name ms
 
 pub get_with_envelope-other : (name : List ℕ) (ms : Members) → is_envelope_name name ≡ false → get_member name (with_envelope ms) ≡ get_member name ms
 get_with_envelope-other name ms other = get_with_envelope name ms ∙ put_value-other envelope_values name (get_member name ms) refl other
-
-pub with_envelope-trees : (ms : Members) → AreMembers ms → AreMembers (with_envelope ms)
-with_envelope-trees ms rise = put_all-trees envelope_values ms (tt, (tt, (tt, (tt, (tt, (tt, (tt, tt))))))) rise
 
 pub with_envelope-depth : (ms : Members) → members_depth (with_envelope ms) ≤ members_depth ms
 with_envelope-depth ms =

@@ -35,7 +35,7 @@ module _ (π : Preference) (t : Data) (accepted : IsAccepted π t) (tree : IsTre
         whole = whole_built π t accepted tree bounded fits;
         written = printed ∙ (ap print are ∙ print-outline u);
         utf8 = utf8;
-        reads_back = form_read u text (normal_tree-tree π t tree) (normal_tree-fits π t fits) (ap tokens printed ∙ (back ∙ are));
+        reads_back = form_read u text (normal_tree-tree π t tree) (normal_tree-fits π t tree fits) (ap tokens printed ∙ (back ∙ are));
       }
 
 -- what is read of such a text is the form
