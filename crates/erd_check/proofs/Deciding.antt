@@ -1,5 +1,5 @@
 -- Whether a value is a tree, by a test; of a tree the walk's list is that of all faults of the shape.
-use Rattle.std.proofs.Common.{◌≡◌, ◌<◌, List, length, arith, ℕ, Bool, true, false, ◌&&◌, Ordering, Less, Equal, Greater, is_lt, Option, Some, None, refl}
+use Rattle.std.proofs.Common.{◌≡◌, ◌<◌, List, length, arith, ℕ, Bool, true, false, ◌&&◌, Ordering, Less, is_lt, Option, Some, None, refl}
 use Rattle.std.specs.Prelude.{pos, IfSome}
 use Rattle.std.proofs.lemmas.Cmp.{nat_list_cmp_total}
 use Rattle.std.specs.List.{AllByRecursion}
@@ -62,8 +62,7 @@ abbrev mutual
 
 pub less : (o : Ordering) → is_lt o ≡ true → o ≡ Less
 less Less h = refl
-less Equal h = cc
-less Greater h = cc
+less d h = cc
 
 before_first_sound : (k : List ℕ) (ms : Members) → is_before_first k ms ≡ true → IsBeforeFirst k ms
 before_first_sound k no_members h = tt

@@ -31,9 +31,8 @@ get_member-later n k d e ms less h =
 -- what is found among members is the value of the first, or of a later one
 found_cases_at : {G : Type 0} (n k : List ℕ) (d e : Data) (ms : Members) (o : Ordering) → text_cmp n k ≡ o → match_ordering o (get_member n ms) (Some e) (get_member n ms) ≡ Some d
     → (n ≡ k → e ≡ d → G) → (get_member n ms ≡ Some d → G) → G
-found_cases_at n k d e ms Less is found first later = later found
 found_cases_at n k d e ms Equal is found first later = first (exact_bytes n k is) (same_Some e d found)
-found_cases_at n k d e ms Greater is found first later = later found
+found_cases_at n k d e ms x is found first later = later found
 
 pub found_cases : {G : Type 0} (n k : List ℕ) (d e : Data) (ms : Members) → get_member n (member k e ms) ≡ Some d → (n ≡ k → e ≡ d → G) → (get_member n ms ≡ Some d → G) → G
 found_cases n k d e ms found first later = found_cases_at n k d e ms (text_cmp n k) refl found first later
@@ -41,11 +40,10 @@ found_cases n k d e ms found first later = found_cases_at n k d e ms (text_cmp n
 -- the rest of two lists of members have the same under each name
 get_member-rest_at : (o : Ordering) (q k : List ℕ) (d : Data) (ms ns : Members) → text_cmp q k ≡ o → AreMembers ms → AreMembers ns → IsBeforeFirst k ms → IsBeforeFirst k ns
     → match_ordering o (get_member q ms) (Some d) (get_member q ms) ≡ match_ordering o (get_member q ns) (Some d) (get_member q ns) → get_member q ms ≡ get_member q ns
-get_member-rest_at Less q k d ms ns is ms_rise ns_rise ms_below ns_below same = same
 get_member-rest_at Equal q k d ms ns is ms_rise ns_rise ms_below ns_below same =
     let e : q ≡ k = exact_bytes q k is in
     rw e (get_member-before k ms ms_rise ms_below ∙ sym (get_member-before k ns ns_rise ns_below))
-get_member-rest_at Greater q k d ms ns is ms_rise ns_rise ms_below ns_below same = same
+get_member-rest_at e q k d ms ns is ms_rise ns_rise ms_below ns_below same = same
 
 members_unique_at : (o : Ordering) (k l : List ℕ) (d e : Data) (ms ns : Members) → text_cmp k l ≡ o → AreMembers (member k d ms) → AreMembers (member l e ns)
     → ((q : List ℕ) → get_member q (member k d ms) ≡ get_member q (member l e ns)) → (AreMembers ms → AreMembers ns → ((q : List ℕ) → get_member q ms ≡ get_member q ns) → ms ≡ ns)

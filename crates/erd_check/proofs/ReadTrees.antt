@@ -18,8 +18,7 @@ use Rattle.erd_check.specs.Trees.{IsTree, AreMembers, IsBeforeFirst, IsNumber, A
 before_put_at : (o : Ordering) (j k l : List ℕ) (v d : Data) (ms rest : Members) → text_cmp j k ≡ Less → text_cmp j l ≡ Less
     → IsBeforeFirst j (match_ordering o (member k v (member l d ms)) (member l v ms) (member l d rest))
 before_put_at Less j k l v d ms rest first below = first
-before_put_at Equal j k l v d ms rest first below = below
-before_put_at Greater j k l v d ms rest first below = below
+before_put_at e j k l v d ms rest first below = below
 
 -- a name before all of the names, and before that of the value, is before the first name then
 pub before_put : (j k : List ℕ) (v : Data) (ms : Members) → text_cmp j k ≡ Less → IsBeforeFirst j ms → IsBeforeFirst j (put k v ms)

@@ -117,10 +117,9 @@ required_sorted c = search rules
 
 needed_sorted : (s : Scope) → IsStrictlySortedBy (slice_cmp nat_cmp) (names_wanted s)
 unfolding IsStrictlySortedBy
-needed_sorted scope.Nothing = tt
 needed_sorted (scope.Members r None) = (tt, tt)
 needed_sorted (scope.Members r (Some c)) = required_sorted c
-needed_sorted scope.Carried = tt
+needed_sorted d = tt
 
 others_sorted : IsStrictlySortedBy reason_cmp others
 unfolding IsStrictlySortedBy

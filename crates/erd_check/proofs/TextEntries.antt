@@ -1,9 +1,9 @@
 -- Entries that the visitor does not compare with earlier ones: what is told of them is the same whether they are compared or not, and texts may be passed over.
-use Rattle.std.proofs.Common.{◌≡◌, List, [], ◌∷◌, ◌++◌, Bool, ◌&&◌, refl, ap, ◌∙◌, ℕ, true, false, Option, Some, None, ap₂}
+use Rattle.std.proofs.Common.{◌≡◌, List, [], ◌∷◌, ◌++◌, Bool, ◌&&◌, refl, ap, ◌∙◌, ℕ, true, false, Option, Some, ap₂}
 use Rattle.std.specs.List.{list_any, list_all}
 use Rattle.std.specs.Option.{option_map_or}
 use Rattle.std.specs.Prelude.{length, IfSome}
-use Rattle.serde_json.specs.Data.{Data, null, boolean, number, string, array, object, Items, no_items, item}
+use Rattle.serde_json.specs.Data.{Data, string, array, object, Items, no_items, item}
 use Rattle.serde_json.specs.View.{items_of}
 use Rattle.erd_tables.specs.declared.place.Step.{Step}
 use Rattle.erd_tables.specs.declared.place.Step.TheVariants.{At}
@@ -18,14 +18,11 @@ use Rattle.erd_check.specs.declared.want.Want.TheVariants.{Reference}
 
 module _ (tells : Telling) (w : Want) (alone : IsOfValueAlone tells w) where
   told_alone : (outer owner : Data) (p : List Step) (one other : Bool) (d : Data) → told_at tells outer owner p w one d ≡ told_at tells outer owner p w other d
-  told_alone outer owner p one other null = ap (faults_of p) (alone outer one other null)
-  told_alone outer owner p one other (boolean b) = ap (faults_of p) (alone outer one other (boolean b))
-  told_alone outer owner p one other (number n) = ap (faults_of p) (alone outer one other (number n))
-  told_alone outer owner p one other (string s) = ap (faults_of p) (alone outer one other (string s))
   told_alone outer owner p one other (array ds) =
       ap (λ rs. faults_of p rs ++ option_map_or (λ v. told_of_items tells owner (array ds) p v (is_compared_set w) [] ds) (entry_want w) []) (alone outer one other (array ds))
   told_alone outer owner p one other (object ms) =
       ap (λ rs. faults_of p rs ++ told_of_members tells owner (object ms) p (scope_inside w (object ms)) ms) (alone outer one other (object ms))
+  told_alone outer owner p one other e = ap (faults_of p) (alone outer one other e)
 
   pub items_alone : (outer owner : Data) (p : List Step) (one other : Bool) (earlier : List Data) (ds : Items) → told_of_items tells outer owner p w one earlier ds ≡ told_of_items tells outer owner p w other earlier ds
   items_alone outer owner p one other earlier no_items = refl

@@ -6,7 +6,7 @@ use Rattle.std.proofs.lemmas.Grind.{flat_map-append}
 use Rattle.std.specs.List.{flat_map, list_any}
 use Rattle.std.specs.Option.{option_map_or}
 use Rattle.std.specs.Prelude.{IsSomeAnd}
-use Rattle.serde_json.specs.Data.{Data, null, boolean, number, string, array, object, Items, no_items, item, Members, no_members, member}
+use Rattle.serde_json.specs.Data.{Data, array, object, Items, no_items, item, Members, no_members, member}
 use Rattle.erd_tables.specs.Faults.{ListsAll}
 use Rattle.erd_tables.specs.declared.class.Role.TheVariants.{Report}
 use Rattle.erd_tables.specs.declared.fault.Fault.{Fault}
@@ -110,10 +110,6 @@ module _ (t : Data) (tells : Telling) (reasons_at : List Step → Asked → List
   mutual
     walk_same : (outer owner : Data) (p : List Step) (w : Want) (repeated : Bool) (d : Data) → Around t p outer owner → Inside (all_asked_from p w repeated d)
         → told_at tells outer owner p w repeated d ≡ told_of (all_asked_from p w repeated d)
-    walk_same outer owner p w repeated null around inside = alone outer owner p w repeated null around
-    walk_same outer owner p w repeated (boolean b) around inside = alone outer owner p w repeated (boolean b) around
-    walk_same outer owner p w repeated (number n) around inside = alone outer owner p w repeated (number n) around
-    walk_same outer owner p w repeated (string s) around inside = alone outer owner p w repeated (string s) around
     walk_same outer owner p w repeated (array ds) around inside =
         let there : asked_at t p ≡ Some (asked_with w repeated (array ds)) = all_asked_sound t p (asked_with w repeated (array ds)) order (inside (p, asked_with w repeated (array ds)) (inl refl)) in
         ap₂ ◌++◌ (here outer owner p w repeated (array ds) around)
@@ -124,6 +120,7 @@ module _ (t : Data) (tells : Telling) (reasons_at : List Step → Asked → List
         let there : asked_at t p ≡ Some (asked_with w repeated (object ms)) = all_asked_sound t p (asked_with w repeated (object ms)) order (inside (p, asked_with w repeated (object ms)) (inl refl)) in
         ap₂ ◌++◌ (here outer owner p w repeated (object ms) around)
         (members_same owner (object ms) p (scope_inside w (object ms)) ms (λ s. around_below t p outer owner w repeated (object ms) s around there) (λ x i. inside x (inr i)))
+    walk_same outer owner p w repeated e around inside = alone outer owner p w repeated e around
 
     items_same : (outer owner : Data) (p : List Step) (w : Want) (is_set : Bool) (earlier : List Data) (ds : Items) → ((s : Step) → Around t (p ++ s ∷ []) outer owner) → Inside (all_asked_items p w is_set earlier ds)
         → told_of_items tells outer owner p w is_set earlier ds ≡ told_of (all_asked_items p w is_set earlier ds)

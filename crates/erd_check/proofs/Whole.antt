@@ -1,5 +1,5 @@
 -- Values in which every number is whole are equal to themselves as JSON.
-use Rattle.std.proofs.Common.{◌≡◌, ℕ, zero, suc, List, Some, None, Bool, true, false, not, ◌&&◌, ◌||◌, codes, Ordering, Less, Equal, Greater, refl, sym, ap, ◌∙◌, subst, pos}
+use Rattle.std.proofs.Common.{◌≡◌, ℕ, zero, suc, List, Some, None, Bool, true, false, not, ◌&&◌, ◌||◌, codes, Ordering, Equal, refl, sym, ap, ◌∙◌, subst, pos}
 use Rattle.std.specs.List.{list_all}
 use Rattle.std.specs.Str.{bytes_eq}
 use Rattle.std.proofs.lemmas.Map.Lookups.{exact_bytes}
@@ -32,9 +32,8 @@ pub get_member-later : (k q : List ℕ) (d v : Data) (ms : Members) → AreMembe
 get_member-later k q d v ms rise e = at (text_cmp q k) refl
   where
     at : (o : Ordering) → text_cmp q k ≡ o → get_member q (member k d ms) ≡ Some v
-    at Less is = rw is e
     at Equal is = let h : None ≡ Some v = sym (get_member-before k ms rise.2 rise.0) ∙ ap (λ x. get_member x ms) (sym (exact_bytes q k is)) ∙ e in cc
-    at Greater is = rw is e
+    at x is = rw is e
 
 number_itself : (n : Num) → is_not_whole (number n) ≡ false → same_number n n ≡ true
 number_itself (unsigned m) h = (Decides-int_eq (pos m) (pos m)).1 refl

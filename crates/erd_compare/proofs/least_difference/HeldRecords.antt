@@ -105,8 +105,7 @@ module _ (k l : Option Key) (a b : ObjectRecord) (left : HasNoElectionId a) (rig
         differ = differ_held k l a.members b.members name (less_other name election_id is) told.differ;
         least = λ n less. same_below k l a.members b.members n (nat_list_cmp_total.trans n name election_id less is) (told.least n less);
       }
-      at Equal is = absurd (true≢false (sym first ∙ ap is_lt is))
-      at Greater is = absurd (true≢false (sym first ∙ ap is_lt is))
+      at d is = absurd (true≢false (sym first ∙ ap is_lt is))
 
   -- otherwise the member is the first in which they differ, if the keys do
   pub held_at_election : (own : Option How) → (k ≡ l → ⊥) → is_before_election own ≡ false → TellsHow (Some a) (Some b) own → TellsHow (Some (record_in_election k a)) (Some (record_in_election l b)) (Some (Member election_id))

@@ -1,5 +1,5 @@
 -- The chosen members of whole trees are the same, member by member, exactly if they are the same under each name.
-use Rattle.std.proofs.Common.{◌≡◌, ℕ, List, Bool, true, false, cond, Option, Some, None, Ordering, Less, Equal, Greater, refl, sym, ap, ◌∙◌, subst}
+use Rattle.std.proofs.Common.{◌≡◌, ℕ, List, Bool, true, false, cond, Option, Some, None, Ordering, Equal, refl, sym, ap, ◌∙◌, subst}
 use Rattle.std.proofs.Math.Path.{fun_ext}
 use Rattle.std.proofs.lemmas.Bool.{or_from, or_parts}
 use Rattle.std.proofs.lemmas.Cmp.{nat_list_cmp_total}
@@ -23,18 +23,16 @@ use Rattle.erd_compare.proofs.whole_trees.WholeTrees.{members_themselves}
 -- a member that is put before others is found among them as it is, if it is chosen
 found_first : (o : Ordering) (name k : List ℕ) (c : Choice) (d : Data) (chosen all : Option Data) → text_cmp name k ≡ o → takes_name c k ≡ true
     → chosen ≡ cond (takes_name c name) all None → match_ordering o chosen (Some d) chosen ≡ cond (takes_name c name) (match_ordering o all (Some d) all) None
-found_first Less name k c d chosen all is taken rest = rest
 found_first Equal name k c d chosen all is taken rest = sym (ap (λ b. cond b (Some d) None) (ap (takes_name c) (exact_bytes name k is) ∙ taken))
-found_first Greater name k c d chosen all is taken rest = rest
+found_first e name k c d chosen all is taken rest = rest
 
 -- and where it is not chosen, it is not found
 found_later : (o : Ordering) (name k : List ℕ) (c : Choice) (d : Data) (chosen all : Option Data) → text_cmp name k ≡ o → takes_name c k ≡ false
     → chosen ≡ cond (takes_name c name) all None → chosen ≡ cond (takes_name c name) (match_ordering o all (Some d) all) None
-found_later Less name k c d chosen all is left rest = rest
 found_later Equal name k c d chosen all is left rest =
     let not_taken : takes_name c name ≡ false = ap (takes_name c) (exact_bytes name k is) ∙ left in
     rest ∙ ap (λ b. cond b all None) not_taken ∙ sym (ap (λ b. cond b (Some d) None) not_taken)
-found_later Greater name k c d chosen all is left rest = rest
+found_later e name k c d chosen all is left rest = rest
 
 -- nothing, whatever a test says
 nothing_either_way : (b : Bool) (o : Option Data) → o ≡ None → o ≡ cond b o None

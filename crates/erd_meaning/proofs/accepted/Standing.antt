@@ -118,17 +118,10 @@ selection_stands t none contest stands o h =
     (stands ∙ ap (λ x. Some (asked (Object (role.OfFamily family.Contest)) x)) a.is_object) family.Selection (codes "ContestSelection") refl (contest_selections a.class a.role) o h
 
 pub stands_of_shape : (t : Data) → NoneOf (ShapeFault t) → (f : Family) (o : Placed) → Has (objects f t) o → asked_at t o.place ≡ Some (asked (Object (role.OfFamily f)) o.value)
-stands_of_shape t none family.Unit o h = keyed_stands t none (skeleton_of_shape t none) family.Unit refl o h
-stands_of_shape t none family.Party o h = keyed_stands t none (skeleton_of_shape t none) family.Party refl o h
-stands_of_shape t none family.Person o h = keyed_stands t none (skeleton_of_shape t none) family.Person refl o h
-stands_of_shape t none family.Office o h = keyed_stands t none (skeleton_of_shape t none) family.Office refl o h
-stands_of_shape t none family.Header o h = keyed_stands t none (skeleton_of_shape t none) family.Header refl o h
-stands_of_shape t none family.Candidate o h = keyed_stands t none (skeleton_of_shape t none) family.Candidate refl o h
-stands_of_shape t none family.Contest o h = keyed_stands t none (skeleton_of_shape t none) family.Contest refl o h
-stands_of_shape t none family.Style o h = keyed_stands t none (skeleton_of_shape t none) family.Style refl o h
 stands_of_shape t none family.Selection o h =
     let c = has-flat (placed_entries (codes "ContestSelection")) (contests t) o h in
     selection_stands t none c.0 (keyed_stands t none (skeleton_of_shape t none) family.Contest refl c.0 c.1) o c.2
+stands_of_shape t none d o h = keyed_stands t none (skeleton_of_shape t none) d refl o h
 
 pub stands : (π : Preference) (t : Data) → IsAccepted π t → (f : Family) (o : Placed) → Has (objects f t) o → asked_at t o.place ≡ Some (asked (Object (role.OfFamily f)) o.value)
 stands π t accepted = stands_of_shape t (no_shape_fault π t accepted)

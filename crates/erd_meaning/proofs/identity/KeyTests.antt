@@ -1,5 +1,5 @@
 -- What the tests of keys and `@id` texts that the walk makes say of one object or of two.
-use Rattle.std.proofs.Common.{◌≡◌, ℕ, inl, inr, List, [], ◌∷◌, Bool, true, false, cond, ◌||◌, true≢false, Ordering, Less, Equal, Greater, is_eq, Option, Some, None, is_none, refl, sym, ap}
+use Rattle.std.proofs.Common.{◌≡◌, ℕ, inl, inr, List, [], ◌∷◌, Bool, true, false, cond, ◌||◌, true≢false, Ordering, Equal, is_eq, Option, Some, None, is_none, refl, sym, ap}
 use Rattle.std.specs.List.{list_any}
 use Rattle.std.proofs.lemmas.Slice.Eq.{bytes_eq-Decides}
 use Rattle.serde_json.specs.Data.{Data}
@@ -31,9 +31,8 @@ none_from None e = refl
 none_from (Some x) e = absurd (true≢false (sym e))
 
 pub tied_from : (o : Ordering) → is_eq o ≡ true → o ≡ Equal
-tied_from Less e = absurd (true≢false (sym e))
 tied_from Equal e = refl
-tied_from Greater e = absurd (true≢false (sym e))
+tied_from d e = absurd (true≢false (sym e))
 
 -- the one key of two objects
 pub same_key_from : (a b : Option Key) → same_key a b ≡ true → (k : Key) × (a ≡ Some k) × (b ≡ Some k)

@@ -1,5 +1,5 @@
 -- When two objects have one record: they agree at the names that either has, and neither has any other.
-use Rattle.std.proofs.Common.{◌≡◌, ℕ, List, [], ◌∷◌, Bool, true, false, true≢false, ◌||◌, Option, Some, None, map, Ordering, Less, Equal, Greater, refl, sym, ap, ◌∙◌, subst}
+use Rattle.std.proofs.Common.{◌≡◌, ℕ, List, [], ◌∷◌, Bool, true, false, true≢false, ◌||◌, Option, Some, None, map, Ordering, Equal, refl, sym, ap, ◌∙◌, subst}
 use Rattle.std.proofs.Math.Path.{fun_ext}
 use Rattle.std.proofs.lemmas.Bool.{or_parts}
 use Rattle.std.proofs.lemmas.Map.Text.{is_eq-slice_cmp}
@@ -30,9 +30,8 @@ names_in (object ms) = names_of_members ms
 names_in d = []
 
 passed_over : (o : Ordering) (found rest : Option Data) → is_eq o ≡ false → match_ordering o rest found rest ≡ rest
-passed_over Less found rest e = refl
 passed_over Equal found rest e = absurd (true≢false e)
-passed_over Greater found rest e = refl
+passed_over d found rest e = refl
 
 member_absent : (name : List ℕ) (ms : Members) → list_any (bytes_eq name) (names_of_members ms) ≡ false → get_member name ms ≡ None
 member_absent name no_members e = refl

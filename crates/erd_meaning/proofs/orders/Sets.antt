@@ -1,5 +1,5 @@
 -- A set that is written as a rising list is determined by its membership test.
-use Rattle.std.proofs.Common.{◌≡◌, List, [], ◌∷◌, Bool, true, false, ◌||◌, is_eq, Ordering, Less, Equal, Greater, refl, sym, ap, ◌∙◌, subst}
+use Rattle.std.proofs.Common.{◌≡◌, List, [], ◌∷◌, Bool, true, false, ◌||◌, is_eq, Ordering, Equal, refl, sym, ap, ◌∙◌, subst}
 use Rattle.std.specs.List.{list_any}
 use Rattle.std.specs.Cmp.{IsTotalOrder}
 use Rattle.std.proofs.lemmas.Cmp.{tied_itself}
@@ -29,9 +29,8 @@ pub set_unique : {K : Type 0} (cmp : K → K → Ordering) → IsTotalOrder cmp 
 set_unique {K} cmp order exact xs ys rise rise' same = rising_unique cmp order xs ys rise rise' (over xs ys same) (over ys xs (λ k. sym (same k)))
   where
     equal : (o : Ordering) → is_eq o ≡ true → o ≡ Equal
-    equal Less h = cc
     equal Equal h = refl
-    equal Greater h = cc
+    equal d h = cc
 
     over : (xs ys : List K) → ((k : K) → list_any (λ l. is_eq (cmp l k)) xs ≡ list_any (λ l. is_eq (cmp l k)) ys) → (k : K) → Has xs k → Has ys k
     over xs ys same k h =

@@ -39,17 +39,15 @@ module _ {A : Type 0} (cmp : A → A → Ordering) (order : IsTotalOrder cmp) (e
   either_first k l = at (cmp l k) refl
     where
       at : (o : Ordering) → cmp l k ≡ o → lesser k l ≡ lesser l k
-      at Less is = rw (is, reversed l k Less is) refl
       at Equal is = rw (is, reversed l k Equal is) (sym (exact l k is))
-      at Greater is = rw (is, reversed l k Greater is) refl
+      at d is = rw (is, reversed l k d is) refl
 
   is_less : (a b : A) → is_lt (cmp a b) ≡ true → cmp a b ≡ Less
   is_less a b = at (cmp a b)
     where
       at : (o : Ordering) → is_lt o ≡ true → o ≡ Less
       at Less e = refl
-      at Equal e = absurd (true≢false (sym e))
-      at Greater e = absurd (true≢false (sym e))
+      at d e = absurd (true≢false (sym e))
 
   below_both : (a b k : A) → cmp a b ≡ Less → is_lt (cmp b k) ≡ true → is_lt (cmp a k) ≡ true
   below_both a b k low is = ap is_lt (order.trans a b k low (is_less b k is))

@@ -1,5 +1,5 @@
 -- Lists whose entries are related one by one, but for their order.
-use Rattle.std.proofs.Common.{◌≡◌, ◌≤◌, suc, List, [], ◌∷◌, ◌++◌, map, filter, filter_map, flat_map, find, length, Bool, true, false, true≢false, ◌||◌, cond, Option, Some, None, option_and_then, Ordering, Less, Equal, Greater, is_eq, refl, sym, ap, ap₂, ◌∙◌, subst, arith}
+use Rattle.std.proofs.Common.{◌≡◌, ◌≤◌, suc, List, [], ◌∷◌, ◌++◌, map, filter, filter_map, flat_map, find, length, Bool, true, false, true≢false, ◌||◌, cond, Option, Some, None, option_and_then, Ordering, Equal, is_eq, refl, sym, ap, ap₂, ◌∙◌, subst, arith}
 use Rattle.std.specs.Cmp.{IsTotalOrder}
 use Rattle.std.specs.List.{AllByRecursion, IsDistinct, cons_option, list_any}
 use Rattle.std.specs.Ordering.{eq_by_cmp, ordering_reverse}
@@ -226,9 +226,8 @@ pub even_order : {A : Type 0} (cmp : A → A → Ordering) → IsTotalOrder cmp 
 even_order cmp order d e h = ap is_eq (order.antisymm e d) ∙ at (cmp d e) h
   where
     at : (o : Ordering) → is_eq o ≡ false → is_eq (ordering_reverse o) ≡ false
-    at Less e = refl
     at Equal e = e
-    at Greater e = refl
+    at d e = refl
 
 -- as many entries
 paired_length : {A B : Type 0} {R : A → B → Type 0} {xs : List A} {ys : List B} → Paired R xs ys → length xs ≡ length ys

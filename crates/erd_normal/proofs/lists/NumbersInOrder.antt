@@ -29,9 +29,8 @@ permuted_reordered xs ys h = subst (Reordered xs) (sym h.is) (swaps_reordered xs
 -- ---- a list that never falls is in order
 
 not_below : (o : Ordering) → is_gt o ≡ false → is_lt (ordering_reverse o) ≡ false
-not_below Less e = refl
-not_below Equal e = refl
 not_below Greater e = cc
+not_below d e = refl
 
 module _ {A : Type 0} {cmp : A → A → Ordering} (order : IsTotalOrder cmp) where
   stays_first : (x : A) (ys : List A) → AllByRecursion (λ y. is_gt (cmp x y) ≡ false) ys → with_inserted cmp x ys ≡ x ∷ ys

@@ -1,5 +1,5 @@
 -- A renaming and an exchange of two entries of a set make values that are alike.
-use Rattle.std.proofs.Common.{◌≡◌, ◌<◌, ℕ, zero, suc, List, [], ◌∷◌, Bool, true, false, cond, ◌&&◌, length, Option, Some, None, option_and_then, option_map, is_eq, Ordering, Less, Equal, Greater, nat_cmp, refl, sym, ap, ◌∙◌, subst, arith}
+use Rattle.std.proofs.Common.{◌≡◌, ◌<◌, ℕ, zero, suc, List, [], ◌∷◌, Bool, true, false, cond, ◌&&◌, length, Option, Some, None, option_and_then, option_map, is_eq, Ordering, Equal, nat_cmp, refl, sym, ap, ◌∙◌, subst, arith}
 use Rattle.std.proofs.lemmas.Map.Text.{is_eq-slice_cmp}
 use Rattle.std.specs.Cmp.Lexicographic.{slice_cmp}
 use Rattle.std.specs.List.{swap}
@@ -127,8 +127,6 @@ member_alike f ss s n w (member k d ms) asks each =
 
     at : (o : Ordering) → slice_cmp nat_cmp n k ≡ o → Later
         → AlikeMembers as_it_is s (member k d ms) (cond (is_eq o) (member k (changed_at f ss d) ms) (member k d (member_changed f n ss ms)))
-    at Less is more =
-        (d, member_changed f n ss ms, refl, alike_self (want_of_name s k) d, more (λ e g. each e (rw is g)))
     at Equal is more =
         let same : n ≡ k = text_from_equal n k is in (
           changed_at f ss d,
@@ -137,8 +135,7 @@ member_alike f ss s n w (member k d ms) asks each =
           subst (λ o. Alike as_it_is o d (changed_at f ss d)) (sym asks ∙ ap (want_of_name s) same) (each d (rw is refl)),
           members_self s ms,
         )
-    at Greater is more =
-        (d, member_changed f n ss ms, refl, alike_self (want_of_name s k) d, more (λ e g. each e (rw is g)))
+    at x is more = (d, member_changed f n ss ms, refl, alike_self (want_of_name s k) d, more (λ e g. each e (rw is g)))
 
 module _ (i j : ℕ) where
   -- what is asked at a place inside a value is such a set

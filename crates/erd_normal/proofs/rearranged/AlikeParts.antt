@@ -1,5 +1,5 @@
 -- What stands in values that are alike, part by part.
-use Rattle.std.proofs.Common.{◌≡◌, ℕ, List, [], ◌∷◌, Bool, true, false, Option, Some, None, Ordering, Less, Equal, Greater, nat_cmp, refl, sym, subst}
+use Rattle.std.proofs.Common.{◌≡◌, ℕ, List, [], ◌∷◌, Bool, true, false, Option, Some, None, Ordering, Equal, nat_cmp, refl, sym, subst}
 use Rattle.std.specs.Cmp.Lexicographic.{slice_cmp}
 use Rattle.std.specs.Ordering.{match_ordering}
 use Rattle.serde_json.specs.Data.{Data, null, boolean, number, string, array, object, Items, no_items, item, Members, no_members, member}
@@ -31,9 +31,8 @@ alike_unasked ρ (object ms) e h = h
 found_at : (ρ : List ℕ → List ℕ) (s : Scope) (n k : List ℕ) (d e : Data) (ms ns : Members) (o : Ordering) → slice_cmp nat_cmp n k ≡ o → Alike ρ (want_of_name s k) d e
     → Both (Alike ρ (want_of_name s n)) (get_member n ms) (get_member n ns)
     → Both (Alike ρ (want_of_name s n)) (match_ordering o (get_member n ms) (Some d) (get_member n ms)) (match_ordering o (get_member n ns) (Some e) (get_member n ns))
-found_at ρ s n k d e ms ns Less is h rest = rest
 found_at ρ s n k d e ms ns Equal is h rest = both (subst (λ x. Alike ρ (want_of_name s x) d e) (sym (text_from_equal n k is)) h)
-found_at ρ s n k d e ms ns Greater is h rest = rest
+found_at ρ s n k d e ms ns x is h rest = rest
 
 -- what stands under a name is alike, by what is asked of the name
 pub alike_member : (ρ : List ℕ → List ℕ) (s : Scope) (ms ns : Members) → AlikeMembers ρ s ms ns → (n : List ℕ) → Both (Alike ρ (want_of_name s n)) (get_member n ms) (get_member n ns)

@@ -1,5 +1,5 @@
 -- A report that is alike to an accepted one has no fault of shape in its envelope: each of its members says the same as that of the other one.
-use Rattle.std.proofs.Common.{◌≡◌, ◌⊎◌, inl, inr, ℕ, List, [], ◌∷◌, true, false, true≢false, Option, Some, None, option_and_then, refl, sym, ap, ◌∙◌, subst}
+use Rattle.std.proofs.Common.{◌≡◌, ◌⊎◌, inl, inr, ℕ, List, ◌∷◌, true, false, true≢false, Option, Some, None, option_and_then, refl, sym, ap, ◌∙◌, subst}
 use Rattle.std.specs.Prelude.{IsTrue, IsSomeAnd}
 use Rattle.serde_json.specs.Data.{Data, object}
 use Rattle.serde_json.specs.Find.{get_member}
@@ -7,7 +7,7 @@ use Rattle.erd_tables.specs.Table.{is_envelope_name}
 use Rattle.erd_tables.specs.declared.class.Role.TheVariants as role
 use Rattle.erd_tables.specs.declared.fault.Reason.{Reason}
 use Rattle.erd_tables.specs.declared.place.Step.{Step}
-use Rattle.erd_tables.specs.declared.place.Step.TheVariants.{Name, At}
+use Rattle.erd_tables.specs.declared.place.Step.TheVariants.{Name}
 use Rattle.erd_check.specs.Faults.{is_shape_fault}
 use Rattle.erd_check.specs.Trees.{IsTree}
 use Rattle.erd_check.specs.Wants.{Asked, asked, asked_from, asked_inside, asked_of_member, scope_inside, want_of_name}
@@ -98,8 +98,6 @@ module _ (π : Preference) (ρ σ : List ℕ → List ℕ) (t u : Data) (back : 
       at (inr sound) = sound.no_fault r
 
   pub alike_envelope : HasSoundEnvelope u
-  alike_envelope [] r inside fault = cc
-  alike_envelope (At i ∷ ss) r inside fault = cc
   alike_envelope (Name n ∷ ss) r inside fault = at (asked_inside (Object role.Report) u (Name n)) refl fault
     where
       last : (b : Asked) → asked_inside (Object role.Report) u (Name n) ≡ Some b → (o : Option Asked) → asked_from b ss ≡ o → IsSomeAnd o (λ a. IsTrue (is_shape_fault a r)) → ⊥
@@ -112,3 +110,4 @@ module _ (π : Preference) (ρ σ : List ℕ → List ℕ) (t u : Data) (back : 
       at : (o : Option Asked) → asked_inside (Object role.Report) u (Name n) ≡ o → IsSomeAnd (option_and_then (λ b. asked_from b ss) o) (λ a. IsTrue (is_shape_fault a r)) → ⊥
       at None is h = h
       at (Some b) is h = last b is (asked_from b ss) refl h
+  alike_envelope d r inside fault = cc

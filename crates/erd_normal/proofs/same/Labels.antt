@@ -1,6 +1,6 @@
 -- The worst case of the names of selections: a label with translations. Labels that say the same have one text, with their translations
 -- in rising order.
-use Rattle.std.proofs.Common.{◌≡◌, ℕ, List, [], ◌∷◌, ◌++◌, map, Bool, true, false, cond, Option, Some, None, Ordering, Less, Equal, Greater, codes, refl, sym, ap, ap₂, ◌∙◌, subst}
+use Rattle.std.proofs.Common.{◌≡◌, ℕ, List, [], ◌∷◌, ◌++◌, map, Bool, true, false, cond, Option, Some, None, Ordering, Greater, codes, refl, sym, ap, ap₂, ◌∙◌, subst}
 use Rattle.std.proofs.lemmas.Cmp.{nat_list_cmp_total}
 use Rattle.std.proofs.lemmas.Map.Lookups.{exact_bytes}
 use Rattle.std.specs.Option.{option_map_or}
@@ -61,9 +61,8 @@ put_one_text b k d e (member l f ms) same = at (text_cmp k l) (put_one_text true
     at : (o : Ordering) → members_text true (put k d ms) ≡ members_text true (put k e ms)
         → members_text b (match_ordering o (member k d (member l f ms)) (member l d ms) (member l f (put k d ms)))
         ≡ members_text b (match_ordering o (member k e (member l f ms)) (member l e ms) (member l f (put k e ms)))
-    at Less later = rw same
-    at Equal later = rw same
     at Greater later = rw later
+    at x later = rw same
 
 -- lists with the same entries have the same texts in rising order
 rising_texts : {xs ys : List Data} → Reordered xs ys → map compact_text (rising_list compact_cmp xs) ≡ map compact_text (rising_list compact_cmp ys)

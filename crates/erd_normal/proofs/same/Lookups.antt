@@ -1,5 +1,5 @@
 -- What stands under a name in objects that say the same: in both, or it may be absent.
-use Rattle.std.proofs.Common.{◌≡◌, ℕ, List, Option, Some, None, Ordering, Less, Equal, Greater, nat_cmp, refl, sym, ap, ◌∙◌, subst}
+use Rattle.std.proofs.Common.{◌≡◌, ℕ, List, Option, Some, None, Ordering, Equal, nat_cmp, refl, sym, ap, ◌∙◌, subst}
 use Rattle.std.specs.Cmp.Lexicographic.{slice_cmp}
 use Rattle.std.specs.Ordering.{match_ordering}
 use Rattle.serde_json.specs.Data.{Data, object, Members, member}
@@ -39,27 +39,24 @@ module _ (m : Sides) where
   both_at : (s : Scope) (n k : List ℕ) (d e : Data) (ms ns : Members) (o : Ordering) → slice_cmp nat_cmp n k ≡ o → Same m (want_of_name s k) d e
       → Aligned m s n (get_member n ms) (get_member n ns)
       → Aligned m s n (match_ordering o (get_member n ms) (Some d) (get_member n ms)) (match_ordering o (get_member n ns) (Some e) (get_member n ns))
-  both_at s n k d e ms ns Less is h rest = rest
   both_at s n k d e ms ns Equal is h rest = both_there (subst (λ x. Same m (want_of_name s x) d e) (sym (text_from_equal n k is)) h)
-  both_at s n k d e ms ns Greater is h rest = rest
+  both_at s n k d e ms ns x is h rest = rest
 
   left_at : (s : Scope) (n k : List ℕ) (d : Data) (ms : Members) (p : Option Data) (o : Ordering) → slice_cmp nat_cmp n k ≡ o → AreMembers (member k d ms) → MayBeAbsent m.left s k d
       → Aligned m s n (get_member n ms) p → Aligned m s n (match_ordering o (get_member n ms) (Some d) (get_member n ms)) p
-  left_at s n k d ms p Less is tree h rest = rest
   left_at s n k d ms p Equal is tree h rest =
       let n_is : n ≡ k = text_from_equal n k is in
       let gone : get_member n ms ≡ None = ap (λ x. get_member x ms) n_is ∙ get_member-before k ms tree.2 tree.0 in
       not_both (lacks_one m.left s n d (subst (λ x. MayBeAbsent m.left s x d) (sym n_is) h)) (right_lacks s n (get_member n ms) p rest gone)
-  left_at s n k d ms p Greater is tree h rest = rest
+  left_at s n k d ms p e is tree h rest = rest
 
   right_at : (s : Scope) (n k : List ℕ) (e : Data) (ns : Members) (p : Option Data) (o : Ordering) → slice_cmp nat_cmp n k ≡ o → AreMembers (member k e ns) → MayBeAbsent m.right s k e
       → Aligned m s n p (get_member n ns) → Aligned m s n p (match_ordering o (get_member n ns) (Some e) (get_member n ns))
-  right_at s n k e ns p Less is tree h rest = rest
   right_at s n k e ns p Equal is tree h rest =
       let n_is : n ≡ k = text_from_equal n k is in
       let gone : get_member n ns ≡ None = ap (λ x. get_member x ns) n_is ∙ get_member-before k ns tree.2 tree.0 in
       not_both (left_lacks s n p (get_member n ns) rest gone) (lacks_one m.right s n e (subst (λ x. MayBeAbsent m.right s x e) (sym n_is) h))
-  right_at s n k e ns p Greater is tree h rest = rest
+  right_at s n k e ns p d is tree h rest = rest
 
   pub lookups : {s : Scope} {ms ns : Members} (n : List ℕ) → SameMembers m s ms ns → AreMembers ms → AreMembers ns → Aligned m s n (get_member n ms) (get_member n ns)
   lookups {s} n no_member left right = not_both (lacks_none m.left s n) (lacks_none m.right s n)

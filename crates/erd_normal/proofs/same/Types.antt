@@ -1,5 +1,5 @@
 -- Objects that say the same have the same class, and so the same is asked of their members.
-use Rattle.std.proofs.Common.{◌≡◌, ℕ, List, true, false, Option, Some, option_and_then, Ordering, Less, Equal, Greater, nat_cmp, codes, refl, sym, ap, ◌∙◌, subst}
+use Rattle.std.proofs.Common.{◌≡◌, ℕ, List, true, false, Option, Some, option_and_then, Ordering, Equal, nat_cmp, codes, refl, sym, ap, ◌∙◌, subst}
 use Rattle.std.specs.Cmp.Lexicographic.{slice_cmp}
 use Rattle.std.specs.Ordering.{match_ordering}
 use Rattle.std.specs.Str.{bytes_eq}
@@ -65,20 +65,18 @@ module _ (m : Sides) where
       → type_text ms ≡ type_text ns
       → option_and_then as_str (match_ordering o (get_member (codes "@type") ms) (Some d) (get_member (codes "@type") ms))
       ≡ option_and_then as_str (match_ordering o (get_member (codes "@type") ns) (Some e) (get_member (codes "@type") ns))
-  in_both_at s k d e ms ns Less is h rest = rest
   in_both_at s k d e ms ns Equal is h rest =
       let k_is : codes "@type" ≡ k = text_from_equal (codes "@type") k is in
       text_same m h (λ v asks. type_plain s v (ap (want_of_name s) k_is ∙ asks))
-  in_both_at s k d e ms ns Greater is h rest = rest
+  in_both_at s k d e ms ns x is h rest = rest
 
   one_only_at : (t : Data) (s : Scope) (k : List ℕ) (d : Data) (ms ns : Members) (o : Ordering) → slice_cmp nat_cmp (codes "@type") k ≡ o → MayBeAbsent t s k d
       → type_text ms ≡ type_text ns
       → option_and_then as_str (match_ordering o (get_member (codes "@type") ms) (Some d) (get_member (codes "@type") ms)) ≡ type_text ns
-  one_only_at t s k d ms ns Less is h rest = rest
   one_only_at t s k d ms ns Equal is h rest =
       let k_is : codes "@type" ≡ k = text_from_equal (codes "@type") k is in
       absurd (type_stays t s d (subst (λ x. MayBeAbsent t s x d) (sym k_is) h))
-  one_only_at t s k d ms ns Greater is h rest = rest
+  one_only_at t s k d ms ns e is h rest = rest
 
   pub type_same : {s : Scope} {ms ns : Members} → SameMembers m s ms ns → type_text ms ≡ type_text ns
   type_same no_member = refl

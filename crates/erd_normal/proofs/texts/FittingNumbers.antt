@@ -1,7 +1,7 @@
 -- What stands in a value whose numbers fit has numbers that fit.
 use Rattle.std.proofs.Common.{◌≡◌, false, ◌||◌, ℕ, zero, suc, List, Some, inl, inr, refl, subst}
 use Rattle.std.proofs.lemmas.Bool.{or_from}
-use Rattle.serde_json.specs.Data.{Num, unsigned, negative, float, Data, number, array, object, Items, no_items, item, Members, no_members, member}
+use Rattle.serde_json.specs.Data.{Num, float, Data, number, array, object, Items, no_items, item, Members, no_members, member}
 use Rattle.serde_json.specs.Find.{get_item, get_member, is_float}
 use Rattle.serde_json.specs.Written.{has_float, items_have_float, members_have_float}
 use Rattle.erd_check.specs.Numbers.{IsFittingNumber, HasFittingNumbers, ItemsHaveFittingNumbers, MembersHaveFittingNumbers}
@@ -33,9 +33,8 @@ within-fitting = within-holds HasFittingNumbers (record { of_object = get_member
 -- ---- values whose numbers fit have no float
 
 number-no_float : (n : Num) → IsFittingNumber n → is_float n ≡ false
-number-no_float (unsigned n) h = refl
-number-no_float (negative z) h = refl
 number-no_float (float x) h = absurd h
+number-no_float d h = refl
 
 mutual
   pub fitting-no_float : (d : Data) → HasFittingNumbers d → has_float d ≡ false

@@ -166,8 +166,7 @@ module _ (t : Data) (clean : NoneOf (ShapeFault t)) where
       at : (b : Bool) → b || false ≡ true → b ≡ true
       at true e = refl
       at false e = cc
-  stays_in scope.Nothing n d named inside h = cc
-  stays_in scope.Carried n d named inside h = cc
+  stays_in e n d named inside h = cc
 
   -- an object has each member that it must have, and none of these may be absent
   pub required_stays : (a : Asked) (ms : Members) (n : List ℕ) → Within t a → a.value ≡ object ms → list_any (bytes_eq n) (names_wanted (scope_inside a.want (object ms))) ≡ true

@@ -1,5 +1,5 @@
 -- The contests and headers of the ballots of an accepted report: what they refer to, and the arrays inside them.
-use Rattle.std.proofs.Common.{◌≡◌, ℕ, List, Option, Some, None, true, false, ◌⊎◌, inl, inr, codes, refl, sym, ap, ◌∙◌, subst, Ordering, Less, Equal, Greater, is_eq}
+use Rattle.std.proofs.Common.{◌≡◌, ℕ, List, Option, Some, None, true, false, ◌⊎◌, inl, inr, codes, refl, sym, ap, ◌∙◌, subst, Ordering, Equal, is_eq}
 use Rattle.std.proofs.lemmas.Map.Text.{is_eq-slice_cmp}
 use Rattle.std.specs.Str.{bytes_eq}
 use Rattle.serde_json.specs.Data.{Data, string, array, object, Items, Members, no_members, member}
@@ -49,9 +49,8 @@ content_inside-get π t (member k d ms) = at (text_cmp (codes "OrderedContent") 
   where
     at : (o : Ordering) → text_cmp (codes "OrderedContent") k ≡ o → content_inside π t ms ≡ content_at π t (get_member (codes "OrderedContent") ms)
         → content_inside π t (member k d ms) ≡ content_at π t (get_member (codes "OrderedContent") (member k d ms))
-    at Less is h = rw (is, sym (is_eq-slice_cmp (codes "OrderedContent") k) ∙ ap is_eq is) h
     at Equal is h = rw (is, sym (is_eq-slice_cmp (codes "OrderedContent") k) ∙ ap is_eq is)
-    at Greater is h = rw (is, sym (is_eq-slice_cmp (codes "OrderedContent") k) ∙ ap is_eq is) h
+    at e is h = rw (is, sym (is_eq-slice_cmp (codes "OrderedContent") k) ∙ ap is_eq is) h
 
 -- an object of a ballot's content, of this class
 abbrev pub NodeAt : Data → Class → Members → Type 0

@@ -1,6 +1,6 @@
 -- The order of a ballot means the same in two reports that say the same, headers inside headers included.
 use mathlib.Core.Path.{fun_ext}
-use Rattle.std.proofs.Common.{◌≡◌, ◌⊎◌, inl, inr, ℕ, List, [], map, Bool, true, false, cond, Option, Some, None, option_and_then, unwrap_or, codes, Ordering, Less, Equal, Greater, nat_cmp, is_eq, refl, sym, ap, ap₂, ◌∙◌, subst}
+use Rattle.std.proofs.Common.{◌≡◌, ◌⊎◌, inl, inr, ℕ, List, [], map, Bool, true, false, cond, Option, Some, None, option_and_then, unwrap_or, codes, Ordering, Equal, nat_cmp, is_eq, refl, sym, ap, ap₂, ◌∙◌, subst}
 use Rattle.std.proofs.lemmas.Map.Text.{is_eq-slice_cmp}
 use Rattle.std.specs.Cmp.Lexicographic.{slice_cmp}
 use Rattle.std.specs.List.{list_any}
@@ -94,12 +94,11 @@ module _ (π : Preference) (t : Data) where
   one_at : (k : List ℕ) (d : Data) (ms : Members) (c : Content) (o : Ordering) → slice_cmp nat_cmp inner_name k ≡ o → AreMembers (member k d ms)
       → InnerStands t (match_ordering o (get_member inner_name ms) (Some d) (get_member inner_name ms)) → (inner_name ≡ k → content_of π t d ≡ no_content)
       → (InnerStands t (get_member inner_name ms) → content_inside π t ms ≡ c) → cond (is_eq o) (content_of π t d) (content_inside π t ms) ≡ c
-  one_at k d ms c Less is tree l empty rest = rest l
   one_at k d ms c Equal is tree l empty rest =
       let named : inner_name ≡ k = text_from_equal inner_name k is in
       let gone : get_member inner_name ms ≡ None = ap (λ x. get_member x ms) named ∙ get_member-before k ms tree.2 tree.0 in
       empty named ∙ sym (none_inside π t ms gone) ∙ rest (λ x found. let e : None ≡ Some x = sym gone ∙ found in cc)
-  one_at k d ms c Greater is tree l empty rest = rest l
+  one_at k d ms c e is tree l empty rest = rest l
 
 module _ (π : Preference) (t u : Data) where
   both_at : (k : List ℕ) (d e : Data) (ms ns : Members) (o : Ordering) → slice_cmp nat_cmp inner_name k ≡ o
@@ -108,9 +107,8 @@ module _ (π : Preference) (t u : Data) where
       → (inner_name ≡ k → Stands t (Member kind.Content false) d → Stands u (Member kind.Content false) e → content_of π t d ≡ content_of π u e)
       → (InnerStands t (get_member inner_name ms) → InnerStands u (get_member inner_name ns) → content_inside π t ms ≡ content_inside π u ns)
       → cond (is_eq o) (content_of π t d) (content_inside π t ms) ≡ cond (is_eq o) (content_of π u e) (content_inside π u ns)
-  both_at k d e ms ns Less is l r same rest = rest l r
   both_at k d e ms ns Equal is l r same rest = same (text_from_equal inner_name k is) (l d refl) (r e refl)
-  both_at k d e ms ns Greater is l r same rest = rest l r
+  both_at k d e ms ns x is l r same rest = rest l r
 
 module _ (m : Sides) (π : Preference) (g : TwoReports m π) where
   clean : NoneOf (ShapeFault m.left)
