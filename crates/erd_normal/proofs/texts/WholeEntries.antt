@@ -1,7 +1,8 @@
 -- The entries of an array that has no fraction have none.
-use Rattle.std.proofs.Common.{◌≡◌, ℕ, Ordering, List, [], ◌∷◌, Bool, true, false, ◌||◌, map, Option, Some, None, refl, ap, ◌∙◌}
+use Rattle.std.proofs.Common.{◌≡◌, ℕ, Ordering, List, [], ◌∷◌, false, ◌||◌, map, Option, Some, None, refl, ap, ◌∙◌}
 use Rattle.std.specs.List.{AllByRecursion}
 use Rattle.std.specs.Option.{option_map_or}
+use Rattle.std.proofs.lemmas.Bool.{or_parts}
 use Rattle.serde_json.specs.Data.{Data, array}
 use Rattle.serde_json.specs.Find.{get}
 use Rattle.serde_json.specs.View.{items_of, items_view, view}
@@ -17,14 +18,10 @@ whole_entries : (d : Data) → has_float d ≡ false → items_have_float (items
 whole_entries (array ds) h = ap items_have_float (items_again ds) ∙ h
 whole_entries d h = refl
 
-neither : (a b : Bool) → a || b ≡ false → (a ≡ false) × (b ≡ false)
-neither true b e = cc
-neither false b e = (refl, e)
-
 -- one by one
 pub all_whole : (ds : List Data) → items_have_float (items_of ds) ≡ false → AllByRecursion (λ d. has_float d ≡ false) ds
 all_whole [] h = tt
-all_whole (d ∷ ds) h = let both = neither (has_float d) (items_have_float (items_of ds)) h in (both.0, all_whole ds both.1)
+all_whole (d ∷ ds) h = let both = or_parts (has_float d) (items_have_float (items_of ds)) h in (both.0, all_whole ds both.1)
 
 -- the entries of an array
 pub whole_list : (d : Data) (vs : List Value) → has_float d ≡ false → map view vs ≡ entries_of d → items_have_float (items_view vs) ≡ false

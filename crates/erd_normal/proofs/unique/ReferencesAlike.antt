@@ -33,7 +33,7 @@ use Rattle.erd_normal.proofs.same.Related.{matched_within_both, paired_within_bo
 use Rattle.erd_normal.proofs.same.complete.Contents.{content_says}
 use Rattle.erd_normal.proofs.same.complete.Sets.{references_matched}
 use Rattle.erd_normal.proofs.same.complete.Texts.{by_name, texts_tied}
-use Rattle.erd_normal.proofs.same.complete.TwoMeanings.{MeanOne, TextsTied}
+use Rattle.erd_normal.proofs.same.complete.TwoMeanings.{TextsTied}
 use Rattle.erd_normal.proofs.unique.Closed.{closed_sides, one_text, referring_to_all}
 use Rattle.erd_normal.proofs.unique.Ids.{ids_alike}
 use Rattle.erd_normal.proofs.unique.SameTrees.{entries_equal, sets_equal}
@@ -52,14 +52,11 @@ within_kind t clean p a k is e =
     (m.0, unrepeated t clean (Member k m.0) a.value a.repeated refl (subst (λ w. Within t (record { want = w; value = a.value; repeated = a.repeated })) m.1 stands))
 
 module _ (π : Preference) (t u : Data) (alike : MeanAlike π t u) where
-  both : MeanOne π t u
-  both = mean_one π t u alike
-
   abbrev m : Sides
-  m = closed_sides π t u alike.left alike.right both
+  m = closed_sides π t u alike.left alike.right (mean_one π t u alike)
 
   tied : TextsTied π t u m
-  tied = texts_tied π t u both [] (referring_to_all t) (referring_to_all u)
+  tied = texts_tied π t u (mean_one π t u alike) [] (referring_to_all t) (referring_to_all u)
 
   set_alike : (f : Family) (r r' : Bool) (v w : Data) → has_keys f ≡ true → Within t (asked (Member (kind.Many f) r) v) → Within u (asked (Member (kind.Many f) r') w)
       → key_set (keys_named π t f (entries_of v)) ≡ key_set (keys_named π u f (entries_of w)) → v ≡ w
@@ -70,8 +67,8 @@ module _ (π : Preference) (t u : Data) (alike : MeanAlike π t u) where
       let right : Within u (asked (Member (kind.Many f) r') (array es.0)) = subst (λ x. Within u (asked (Member (kind.Many f) r') x)) es.1 inside' in
       let st : Stands t (Member (kind.Many f) r) (array ds.0) = record { repeated = false; inside = left } in
       let st' : Stands u (Member (kind.Many f) r') (array es.0) = record { repeated = false; inside = right } in
-      ds.1 ∙ ap array (sets_equal π t u alike.left alike.right both (Member (kind.Many f) r) (Member (kind.Many f) r') (kind.Many f) r r' ds.0 es.0 refl refl refl st st'
-      (matched_within_both (λ x y. x ≡ y) (entries_equal π t u alike.left alike.right both (Member (kind.Many f) r) (Member (kind.Many f) r') (Reference f) ds.0 es.0 refl refl st st')
+      ds.1 ∙ ap array (sets_equal π t u alike.left alike.right (mean_one π t u alike) (Member (kind.Many f) r) (Member (kind.Many f) r') (kind.Many f) r r' ds.0 es.0 refl refl refl st st'
+      (matched_within_both (λ x y. x ≡ y) (entries_equal π t u alike.left alike.right (mean_one π t u alike) (Member (kind.Many f) r) (Member (kind.Many f) r') (Reference f) ds.0 es.0 refl refl st st')
       (references_matched π t u m alike.left.accepted alike.right.accepted tied f h r r' ds.0 es.0 left right
       (sym (ap (λ x. key_set (keys_named π t f (entries_of x))) ds.1) ∙ same ∙ ap (λ x. key_set (keys_named π u f (entries_of x))) es.1)))) ∙ sym es.1
 
@@ -82,7 +79,7 @@ module _ (π : Preference) (t u : Data) (alike : MeanAlike π t u) where
       let left : Within t (asked (Member kind.Content r) (array ds.0)) = subst (λ x. Within t (asked (Member kind.Content r) x)) ds.1 inside in
       let right : Within u (asked (Member kind.Content r') (array es.0)) = subst (λ x. Within u (asked (Member kind.Content r') x)) es.1 inside' in
       ds.1 ∙ ap array (list_of_items_exact ds.0 es.0 (paired_equal (λ x y e. e) (paired_within_both (λ x y. x ≡ y)
-      (entries_equal π t u alike.left alike.right both (Member kind.Content r) (Member kind.Content r') (Object role.Content) ds.0 es.0 refl refl (record { repeated = false; inside = left }) (record { repeated = false; inside = right }))
+      (entries_equal π t u alike.left alike.right (mean_one π t u alike) (Member kind.Content r) (Member kind.Content r') (Object role.Content) ds.0 es.0 refl refl (record { repeated = false; inside = left }) (record { repeated = false; inside = right }))
       (entries_paired m (content_says π t u m alike.left.accepted alike.right.accepted tied r r' ds.0 es.0
       (within-tree t (asked (Member kind.Content r) (array ds.0)) alike.left_tree left) (within-tree u (asked (Member kind.Content r') (array es.0)) alike.right_tree right) left right
       (sym (ap (content_of π t) ds.1) ∙ same ∙ ap (content_of π u) es.1)))))) ∙ sym es.1

@@ -11,7 +11,7 @@ use Rattle.erd_tables.specs.declared.fault.Reason.TheVariants as reason
 use Rattle.erd_tables.specs.declared.member.MemberKind.TheVariants as kind
 use Rattle.erd_tables.specs.declared.place.Step.{Step}
 use Rattle.erd_tables.specs.declared.place.Step.TheVariants.{Name, At}
-use Rattle.erd_check.specs.Faults.{NoneOf, ShapeFault, is_reference}
+use Rattle.erd_check.specs.Faults.{is_reference}
 use Rattle.erd_check.specs.Trees.{IsTree, is_same_json}
 use Rattle.erd_check.specs.Values.{list_of_items}
 use Rattle.erd_check.specs.Wants.{Asked, asked, asked_at, asked_from, asked_inside, asked_of_member, entry_want, is_compared_set, is_repeated, scope_inside, want_of_name}
@@ -32,7 +32,7 @@ use Rattle.erd_normal.proofs.lists.BuiltLists.{items_again}
 use Rattle.erd_normal.proofs.same.Lists.{entry_has}
 use Rattle.erd_normal.proofs.throughout.UnrepeatedEntries.{AreUnlike, same_turned, unlike_unrepeated}
 use Rattle.erd_normal.specs.SameLaws.{HasSoundEnvelope}
-use Rattle.erd_normal.specs.SaysTheSame.{Sides, Same, an_object, a_list, a_set, SameMembers, is_envelope}
+use Rattle.erd_normal.specs.SaysTheSame.{Sides, Same, is_envelope}
 use Rattle.erd_normal.proofs.same.InTurn.{id_text}
 use Rattle.erd_normal.proofs.same.Lookups.{Aligned, both_there, not_both, MayLack, lookups}
 use Rattle.erd_normal.proofs.same.Related.{entries_matched, matched_within_both}
@@ -40,6 +40,7 @@ use Rattle.erd_normal.proofs.same.Steady.{steady_same, is_plain}
 use Rattle.erd_normal.proofs.same.Types.{scope_same}
 use Rattle.erd_normal.proofs.same.accepted.AbsentMembers.{IsSound, IsSoundInside, absent_sound}
 use Rattle.erd_normal.proofs.same.accepted.EnvelopePlaces.{envelope_sound}
+use Rattle.erd_normal.proofs.same.CameFrom.{from_object, from_array}
 
 -- it is asked in the left report of a value that says the same, and does not repeat one
 pub record AskedAgain (m : Sides) (b : Asked) : Type 0 where
@@ -82,15 +83,12 @@ flag_clear true r h = h refl
 flag_clear false r h = refl
 
 module _ (m : Sides) (left_tree : IsTree m.left) (right_tree : IsTree m.right) (π : Preference) (accepted : IsAccepted π m.left) where
-  clean : NoneOf (ShapeFault m.left)
-  clean = no_shape_fault π m.left accepted
-
   -- texts for one thing are one text
   one_text : (f : Family) (x x' y y' : Data) → Within m.left (asked (Reference f) x) → Within m.left (asked (Reference f) x') → Same m (Some (Reference f)) x y → Same m (Some (Reference f)) x' y' → y' ≡ y
       → is_same_json x' x ≡ true
   one_text f x x' y y' inside inside' same same' one =
-      let s = string_from_text x (wanted_within m.left clean (asked (Reference f) x) inside) in
-      let s' = string_from_text x' (wanted_within m.left clean (asked (Reference f) x') inside') in
+      let s = string_from_text x (wanted_within m.left (no_shape_fault π m.left accepted) (asked (Reference f) x) inside) in
+      let s' = string_from_text x' (wanted_within m.left (no_shape_fault π m.left accepted) (asked (Reference f) x') inside') in
       let o = id_text m s.0 same refl s.1 in
       let o' = id_text m s'.0 same' refl s'.1 in
       let texts : string o'.other ≡ string o.other = sym o'.is ∙ one ∙ o.is in
@@ -151,23 +149,6 @@ module _ (m : Sides) (left_tree : IsTree m.left) (right_tree : IsTree m.right) (
   abbrev Again : Asked → Type 0
   Again c = AskedAgain m c ⊎ IsSoundInside c
 
-  -- what an object or an array comes from
-  record FromObject (w : Want) (d : Data) (ns : Members) : Type 0 where
-    ms : Members
-    is : d ≡ object ms
-    same : SameMembers m (scope_inside w (object ms)) ms ns
-
-  from_object : (w : Want) (d : Data) (ns : Members) → Same m (Some w) d (object ns) → FromObject w d ns
-  from_object w d ns (an_object {ms = ms} h) = record { ms = ms; is = refl; same = h }
-
-  record FromArray (w : Want) (d : Data) (es : Items) : Type 0 where
-    ds : Items
-    is : d ≡ array ds
-
-  from_array : (w : Want) (d : Data) (es : Items) → Same m (Some w) d (array es) → FromArray w d es
-  from_array w d es (a_list {ds = ds} is h) = record { ds = ds; is = refl }
-  from_array w d es (a_set {ds = ds} fs is p h) = record { ds = ds; is = refl }
-
   name_step : (a : Asked) (n : List ℕ) (ms : Members) → Within m.left a → a.value ≡ object ms
       → (o p : Option Data) → get_member n ms ≡ o → Aligned m (scope_inside a.want (object ms)) n o p
       → (v : Option Want) → want_of_name (scope_inside a.want (object ms)) n ≡ v
@@ -191,7 +172,7 @@ module _ (m : Sides) (left_tree : IsTree m.left) (right_tree : IsTree m.right) (
   name_step a n ms inside value o (Some f) found (not_both l r) (Some v) asks envelope c e =
       let one : asked v f ≡ c = cc in
       let lacks = subst (MayLack m.left (scope_inside a.want (object ms)) n) (sym found) l in
-      inr (subst IsSoundInside one (absent_sound m.left m.right clean a ms n inside value lacks v f asks (envelope v f refl refl) (r.each f refl)))
+      inr (subst IsSoundInside one (absent_sound m.left m.right (no_shape_fault π m.left accepted) a ms n inside value lacks v f asks (envelope v f refl refl) (r.each f refl)))
 
   entry_step : (a : Asked) (i : ℕ) (ds es : Items) → Within m.left a → a.value ≡ array ds → IsTree (array es) → (v : Option Want) → entry_want a.want ≡ v
       → Matched (Same m v) (list_of_items ds) (list_of_items es) → (o : Option Data) → get_item i es ≡ o → (c : Asked)
@@ -218,7 +199,7 @@ module _ (m : Sides) (left_tree : IsTree m.left) (right_tree : IsTree m.right) (
 
     one_step : (a : Asked) (e : Data) (s : Step) → e ≡ b.value → a.want ≡ b.want → Within m.left a → Same m (Some a.want) a.value e → IsTree e → (c : Asked) → asked_inside a.want e s ≡ Some c → Again c
     one_step a (object ns) (Name n) here want inside same tree c found =
-        let f = from_object a.want a.value ns same in
+        let f = from_object m a.want a.value ns same in
         let scopes = scope_same m a.want f.ms ns f.same in
         let left : IsTree (object f.ms) = subst IsTree f.is (within-tree m.left a left_tree inside) in
         name_step a n f.ms inside f.is (get_member n f.ms) (get_member n ns) refl (lookups m n f.same left tree)
@@ -226,7 +207,7 @@ module _ (m : Sides) (left_tree : IsTree m.left) (right_tree : IsTree m.right) (
         (λ w d asks stands h. envelope_here a.want (object ns) ns n w d want here refl (ap (λ s. want_of_name s n) (sym scopes) ∙ asks) stands (ap (λ s. is_envelope s n) (sym scopes) ∙ h))
         c (ap (λ s. asked_of_member (want_of_name s n) (get_member n ns)) scopes ∙ found)
     one_step a (array es) (At i) here want inside same tree c found =
-        let f = from_array a.want a.value es same in
+        let f = from_array m a.want a.value es same in
         entry_step a i f.ds es inside f.is tree (entry_want a.want) refl (entries_matched m a.want (subst (λ x. Same m (Some a.want) x (array es)) f.is same)) (get_item i es) refl c found
     one_step a e s here want inside same tree c found = cc
 

@@ -17,7 +17,7 @@ use Rattle.erd_tables.specs.declared.class.Family.TheVariants as family
 use Rattle.erd_tables.specs.declared.class.Role.TheVariants as role
 use Rattle.erd_tables.specs.declared.member.MemberKind.{MemberKind}
 use Rattle.erd_tables.specs.declared.member.MemberKind.TheVariants as kind
-use Rattle.erd_check.specs.Faults.{NoneOf, ShapeFault, is_object, names_wanted}
+use Rattle.erd_check.specs.Faults.{is_object, names_wanted}
 use Rattle.erd_check.specs.Trees.{AreMembers}
 use Rattle.erd_check.specs.Values.{entries_at, entries_of, list_of_items, text_at}
 use Rattle.erd_check.specs.Wants.{entry_want, is_table_set, member_want, scope_inside, want_of_name}
@@ -111,9 +111,6 @@ module _ (π : Preference) (t u : Data) where
   both_at k d e ms ns x is l r same rest = rest l r
 
 module _ (m : Sides) (π : Preference) (g : TwoReports m π) where
-  clean : NoneOf (ShapeFault m.left)
-  clean = no_shape_fault π m.left g.accepted
-
   -- ---- a contest or a header
 
   key_found : (f : Family) (c : Class) (name : List ℕ) (o p : Option Data) → member_want c name ≡ Reference f → is_steady_kind (kind_of_member c name) ≡ true → is_in_envelope c name ≡ false → (o ≡ None → ⊥)
@@ -149,7 +146,7 @@ module _ (m : Sides) (π : Preference) (g : TwoReports m π) where
   module _ (ms ns : Members) (r : Related m (Object role.Content) (object ms) (object ns)) where
     stands_in : (c : Class) (name : List ℕ) → class_of_node (object ms) ≡ Some c → list_any (bytes_eq name) (required_names c) ≡ true → get_member name ms ≡ None → ⊥
     stands_in c name among needed e =
-        lacks_none m.left clean (record { want = Object role.Content; value = object ms; repeated = r.left.repeated }) name r.left.inside
+        lacks_none m.left (no_shape_fault π m.left g.accepted) (record { want = Object role.Content; value = object ms; repeated = r.left.repeated }) name r.left.inside
         (ap (λ x. list_any (bytes_eq name) (names_wanted (scope.Members role.Content x))) among ∙ needed) e
 
     contest_alike : HaveMembers m class.OrderedContest (object ms) (object ns) → class_of_node (object ms) ≡ Some class.OrderedContest → class_of_node (object ns) ≡ Some class.OrderedContest
@@ -179,7 +176,7 @@ module _ (m : Sides) (π : Preference) (g : TwoReports m π) where
     node_by_class inside = at (content_class o.class o.role)
       where
         o : BothObjects m role.Content (object ms) (object ns)
-        o = both_objects m g.left_tree g.right_tree clean role.Content (object ms) (object ns) r
+        o = both_objects m g.left_tree g.right_tree (no_shape_fault π m.left g.accepted) role.Content (object ms) (object ns) r
 
         by_left : (c : Class) → class_of_node (object ms) ≡ Some c
             → node_of π m.left (object ms) ≡ cond (is_header_class (Some c)) (header_node π m.left (object ms) (content_inside π m.left ms)) (contest_node π m.left (object ms))
@@ -204,7 +201,7 @@ module _ (m : Sides) (π : Preference) (g : TwoReports m π) where
   -- ---- contents at every depth
 
   no_node : (d : Data) → Stands m.left (Object role.Content) d → is_object d ≡ true
-  no_node d l = wanted_within m.left clean (record { want = Object role.Content; value = d; repeated = l.repeated }) l.inside
+  no_node d l = wanted_within m.left (no_shape_fault π m.left g.accepted) (record { want = Object role.Content; value = d; repeated = l.repeated }) l.inside
 
   mutual
     content_same : (required : Bool) {o : Option Want} {d e : Data} → o ≡ Some (Member kind.Content required) → Same m o d e → Stands m.left (Member kind.Content required) d → Stands m.right (Member kind.Content required) e
