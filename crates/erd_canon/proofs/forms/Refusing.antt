@@ -7,7 +7,7 @@ use Rattle.erd_check.specs.Faults.{ShapeFault}
 use Rattle.erd_check.specs.Refusals.{RefusedFor}
 use Rattle.erd_check.specs.declared.error.CheckError.{CheckError}
 use Rattle.erd_check.specs.declared.error.CheckError.TheVariants.{Faults, Memory}
-use Rattle.erd_meaning.proofs.refused.RefusedLists.{first_refused}
+use Rattle.erd_meaning.proofs.refused.Refused.{first_refused}
 use Rattle.erd_meaning.specs.Keys.{Preference}
 use Rattle.erd_meaning.specs.Accepted.{IsFault, OrElse}
 use Rattle.erd_meaning.specs.LaterFaults.{IdentityFault, ReferenceFault, SelectionFault}

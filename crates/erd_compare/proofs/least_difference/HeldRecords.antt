@@ -8,8 +8,8 @@ use Rattle.erd_tables.specs.Texts.{text_cmp}
 use Rattle.erd_meaning.specs.Meaning.{MemberValue, ObjectRecord, a_key, a_plain}
 use Rattle.erd_meaning.specs.Records.{record_in_election, with_election_id}
 use Rattle.erd_meaning.specs.declared.keys.key.Key.{Key}
-use Rattle.erd_meaning.proofs.meanings.ElectionIds.{other_than_election}
-use Rattle.erd_meaning.proofs.orders.InsertedValues.{greater_turned}
+use Rattle.erd_meaning.proofs.meanings.WholeRecords.{other_than_election}
+use Rattle.erd_meaning.proofs.orders.RisingOrders.{greater_turned}
 use Rattle.erd_compare.specs.code.Comparing.{TellsHow}
 use Rattle.erd_compare.specs.code.HeldDifferences.{HasNoElectionId, TellsHeld, is_before_election}
 use Rattle.erd_compare.specs.Differences.{DifferFirstAt}

@@ -9,7 +9,7 @@ use Rattle.erd_meaning.specs.Records.{meaning}
 use Rattle.erd_meaning.specs.declared.keys.key.Key.{Key}
 use Rattle.erd_meaning.proofs.orders.EqualNames.{equal_keys, options_exact}
 use Rattle.erd_meaning.proofs.selections.PositionedKeys.{KeyPosition}
-use Rattle.erd_meaning.proofs.orders.InsertedValues.{greater_turned}
+use Rattle.erd_meaning.proofs.orders.RisingOrders.{greater_turned}
 use Rattle.erd_compare.specs.code.Comparing.{DifferAtKey, RecordMap}
 use Rattle.erd_compare.specs.code.KeyedDifferences.{HasKeyAt, IsComparable, IsOnly, IsOnlyLesser, TellsAtPositions, TellsLeast, TellsNext, is_ranked, rising_in_role, role_of_part}
 use Rattle.erd_compare.specs.Differences.{Differ, record_at}

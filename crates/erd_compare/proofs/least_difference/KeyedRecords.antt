@@ -29,12 +29,12 @@ use Rattle.erd_meaning.specs.declared.keys.key.Key.{Key}
 use Rattle.erd_meaning.proofs.orders.EqualNames.{equal_keys, options_exact}
 use Rattle.erd_meaning.proofs.finding.OneObject.{in_at, one_key}
 use Rattle.erd_meaning.proofs.finding.TwinElections.{one_election_key}
-use Rattle.erd_meaning.proofs.accepted.KeyedElections.{election_has_identifier}
+use Rattle.erd_meaning.proofs.accepted.DistinctKeys.{election_has_identifier}
 use Rattle.erd_meaning.proofs.accepted.Phases.{no_identity_fault, no_shape_fault}
 use Rattle.erd_meaning.proofs.accepted.References.{find-Some, find-any, has_identifier, option_map-Some}
 use Rattle.erd_meaning.proofs.accepted.Skeleton.{election_stands, skeleton}
 use Rattle.erd_meaning.proofs.accepted.Standing.{stands}
-use Rattle.erd_meaning.proofs.meanings.ElectionIds.{no_election_id}
+use Rattle.erd_meaning.proofs.meanings.WholeRecords.{no_election_id}
 use Rattle.erd_compare.specs.code.Comparing.{IsWholeTree, RecordMap, TellsHow}
 use Rattle.erd_compare.specs.Differences.{Differ, record_at, record_with_key, record_without_key}
 use Rattle.erd_compare.specs.code.HeldDifferences.{HasNoElectionId, TellsHeld}

@@ -19,7 +19,7 @@ use Rattle.erd_check.proofs.Exact.{text_itself}
 use Rattle.erd_check.proofs.Members.{found_cases}
 use Rattle.erd_meaning.specs.Keys.{Preference}
 use Rattle.erd_meaning.specs.Records.{member_of_class}
-use Rattle.erd_meaning.proofs.orders.InsertedValues.{greater_turned}
+use Rattle.erd_meaning.proofs.orders.RisingOrders.{greater_turned}
 use Rattle.erd_compare.specs.Differences.{DifferFirstAt}
 use Rattle.erd_compare.specs.code.LeastNames.{DifferAtName, lesser_name, record_of_class}
 use Rattle.erd_compare.specs.code.NamesInStep.{first_of, names_past}

@@ -7,7 +7,7 @@ use Rattle.std.proofs.lemmas.Bool.{cases_order}
 use Rattle.erd_meaning.specs.Keys.{key_cmp}
 use Rattle.erd_meaning.specs.declared.keys.key.Key.{Key}
 use Rattle.erd_meaning.proofs.finding.OneObject.{sorted_at}
-use Rattle.erd_meaning.proofs.orders.InsertedValues.{greater_turned}
+use Rattle.erd_meaning.proofs.orders.RisingOrders.{greater_turned}
 use Rattle.erd_meaning.proofs.orders.EqualNames.{equal_keys, options_exact}
 use Rattle.erd_compare.specs.code.CommonRanks.{next_cmp, place_of}
 use Rattle.erd_compare.proofs.least_difference.RisingKeys.{by_key, by_key_total}

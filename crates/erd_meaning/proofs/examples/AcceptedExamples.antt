@@ -5,7 +5,7 @@ use Rattle.erd_check.proofs.Reports.{tree_of, one_unit, small_ballot, small_ball
 use Rattle.erd_check.proofs.WholeExamples.{IsFaultless, one_unit_is_faultless, small_ballot_is_faultless, small_ballot_canonical_is_faultless, three_contests_is_faultless, two_elections_is_faultless}
 use Rattle.erd_meaning.specs.Accepted.{IsAccepted}
 use Rattle.erd_meaning.proofs.identity.IdentityFaults.{identity_told}
-use Rattle.erd_meaning.proofs.refused.RefusedLists.{accepted_by_lists}
+use Rattle.erd_meaning.proofs.refused.Refused.{accepted_by_lists}
 use Rattle.erd_meaning.proofs.references.SelectionEntries.{reference_faults}
 use Rattle.erd_meaning.proofs.selections.SelectionFaults.{selections_told}
 

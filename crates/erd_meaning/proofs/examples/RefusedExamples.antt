@@ -13,7 +13,7 @@ use Rattle.erd_check.proofs.Deciding.{no_fault_listed, tree_sound}
 use Rattle.erd_check.proofs.Reports.{tree_of, small_ballot_with, header_node, contest_node, with_election_member, election, report_of_two, two_elections_with}
 use Rattle.erd_check.proofs.WholeExamples.{faulty, faulty_faults, faulty_has_all, no_election, no_election_faults, no_election_has_all}
 use Rattle.erd_meaning.specs.Accepted.{IsFault}
-use Rattle.erd_meaning.proofs.refused.RefusedLists.{refused_by_shape, refused_by_identity, refused_by_references, refused_by_selections}
+use Rattle.erd_meaning.proofs.refused.Refused.{refused_by_shape, refused_by_identity, refused_by_references, refused_by_selections}
 
 -- ---- the shape: a report with no election, and one with many faults
 

@@ -26,7 +26,7 @@ use Rattle.erd_meaning.specs.declared.keys.key.Key.{Key}
 use Rattle.erd_meaning.specs.code.SelectionWalk.{NumberedName}
 use Rattle.erd_meaning.specs.declared.objects.object.Object.{Object}
 use Rattle.erd_meaning.proofs.finding.OneObject.{hit, in_at, missed, one_id, one_key}
-use Rattle.erd_meaning.proofs.identity.KeyTests.{same_id_from, same_key_from}
+use Rattle.erd_meaning.proofs.identity.IdentityFaults.{same_id_from, same_key_from}
 use Rattle.erd_meaning.proofs.finding.Lookups.{kept_part, part_at, ranked}
 use Rattle.erd_meaning.proofs.identity.ObjectFamilies.{itself}
 use Rattle.erd_meaning.specs.code.Orders.{key_cmp_total}

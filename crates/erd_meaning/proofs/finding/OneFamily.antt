@@ -13,7 +13,7 @@ use Rattle.erd_meaning.specs.code.ObjectLookups.{is_of_family, keeps_id, object_
 use Rattle.erd_meaning.specs.code.ObjectWalk.{Kept, kept_objects}
 use Rattle.erd_meaning.proofs.finding.Lookups.{kept_part}
 use Rattle.erd_meaning.proofs.finding.OneObject.{one_id}
-use Rattle.erd_meaning.proofs.identity.KeyTests.{same_id_from}
+use Rattle.erd_meaning.proofs.identity.IdentityFaults.{same_id_from}
 use Rattle.erd_meaning.proofs.identity.ObjectFamilies.{itself}
 use Rattle.erd_meaning.proofs.orders.DistinctEntries.{place_of}
 

@@ -18,7 +18,7 @@ use Rattle.erd_meaning.specs.Objects.{Placed, id_of, objects}
 use Rattle.erd_meaning.specs.code.ObjectWalk.{Located, Met, all_located, an_election, an_object, located, located_one}
 use Rattle.erd_meaning.specs.Keys.{Preference, key_of_family_object}
 use Rattle.erd_meaning.specs.declared.keys.key.Key.{Key}
-use Rattle.erd_meaning.proofs.identity.KeyTests.{kept_keyed}
+use Rattle.erd_meaning.proofs.identity.IdentityFaults.{kept_keyed}
 use Rattle.erd_meaning.proofs.identity.MetSources.{is_met}
 use Rattle.erd_meaning.proofs.identity.ObjectFamilies.{is_of, objects_met}
 use Rattle.erd_meaning.proofs.identity.ObjectPlaces.{AreApart, all_parted, apart, id_place}

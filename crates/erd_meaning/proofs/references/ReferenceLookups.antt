@@ -18,7 +18,7 @@ use Rattle.erd_meaning.specs.code.ObjectLookups.{is_of_family, keeps_id}
 use Rattle.erd_meaning.specs.Objects.{Placed, has_id, id_of, is_owned, objects, owner}
 use Rattle.erd_meaning.specs.code.ObjectWalk.{Kept, kept, kept_objects, same_id}
 use Rattle.erd_meaning.specs.code.ReferenceReasons.{is_known, owner_among}
-use Rattle.erd_meaning.proofs.identity.KeyTests.{any_from}
+use Rattle.erd_meaning.proofs.identity.IdentityFaults.{any_from}
 use Rattle.erd_meaning.proofs.finding.Lookups.{kept_of, those_kept}
 use Rattle.erd_meaning.proofs.finding.OneFamily.{among_first}
 use Rattle.erd_meaning.proofs.identity.ObjectFamilies.{itself}

@@ -24,7 +24,7 @@ use Rattle.erd_meaning.proofs.accepted.Standing.{has_id-from, has_id-Some}
 use Rattle.erd_meaning.proofs.finding.Found.{finds_kept_id}
 use Rattle.erd_meaning.proofs.finding.OneObject.{in_at, one_id, with_part}
 use Rattle.erd_meaning.proofs.finding.OwnedObjects.{owner_elsewhere, owner_here, owner_nowhere}
-use Rattle.erd_meaning.proofs.identity.KeyTests.{any_from}
+use Rattle.erd_meaning.proofs.identity.IdentityFaults.{any_from}
 use Rattle.erd_meaning.proofs.identity.ObjectFamilies.{family_exact}
 use Rattle.erd_meaning.proofs.selections.NamesTold.{Numbered}
 use Rattle.erd_meaning.proofs.selections.NumberedObjects.{contests_counted_in}

@@ -20,7 +20,7 @@ use Rattle.erd_meaning.specs.code.ObjectWalk.{fault_if}
 use Rattle.erd_meaning.specs.code.Orders.{name_cmp_exact, name_cmp_total}
 use Rattle.erd_meaning.specs.SelectionNames.{name_cmp}
 use Rattle.erd_meaning.specs.code.SelectionWalk.{NamesMet, NumberedName, added_name, is_selection_named, is_taken, named_all, named_one, with_name}
-use Rattle.erd_meaning.proofs.identity.KeyTests.{any_from, at_true, tied_from}
+use Rattle.erd_meaning.proofs.identity.IdentityFaults.{any_from, at_true, tied_from}
 use Rattle.erd_meaning.proofs.identity.ObjectFamilies.{itself}
 use Rattle.erd_meaning.proofs.identity.ToldFaults.{if_sorted, in_if, less_itself, turned, earlier_fault}
 use Rattle.erd_meaning.proofs.identity.SeenKeys.{or_same}

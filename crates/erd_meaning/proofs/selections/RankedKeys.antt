@@ -32,9 +32,9 @@ use Rattle.erd_meaning.specs.declared.keys.key.Key.{Key}
 use denote.Ref.{Bor}
 use Rattle.erd_meaning.proofs.finding.Lookups.{ranked}
 use Rattle.erd_meaning.proofs.finding.OneObject.{hit, in_at, missed}
-use Rattle.erd_meaning.proofs.identity.KeyTests.{same_key_from}
+use Rattle.erd_meaning.proofs.identity.IdentityFaults.{same_key_from}
 use Rattle.erd_meaning.proofs.orders.CountedKeys.{IsKeyOf, counted_as_key}
-use Rattle.erd_meaning.proofs.orders.RisingAlike.{all_rising, rising_alike}
+use Rattle.erd_meaning.proofs.orders.RisingOrders.{all_rising, rising_alike}
 use Rattle.erd_meaning.proofs.orders.RisingLists.{rising_list_map}
 
 -- the order of borrowed keys

@@ -13,10 +13,10 @@ use Rattle.erd_meaning.specs.Objects.{Placed, elections, has_several}
 use Rattle.erd_meaning.specs.code.ObjectWalk.{same_key}
 use Rattle.erd_meaning.specs.code.Orders.{key_cmp_total}
 use Rattle.erd_meaning.specs.declared.keys.key.Key.{Key}
-use Rattle.erd_meaning.proofs.accepted.KeyedElections.{election_has_identifier}
+use Rattle.erd_meaning.proofs.accepted.DistinctKeys.{election_has_identifier}
 use Rattle.erd_meaning.proofs.accepted.Phases.{no_identity_fault}
 use Rattle.erd_meaning.proofs.finding.TwinElections.{one_election_key}
-use Rattle.erd_meaning.proofs.identity.KeyTests.{same_key_from}
+use Rattle.erd_meaning.proofs.identity.IdentityFaults.{same_key_from}
 use Rattle.erd_meaning.proofs.orders.DistinctEntries.{distinct_from_one_place, distinct_map, distinct_one}
 use Rattle.erd_normal.proofs.lists.Matched.{IsEven, Matched, distinct_matched, matched_back, matched_length}
 

@@ -30,7 +30,7 @@ use Rattle.erd_normal.proofs.lists.BuiltLists.{all_map}
 use Rattle.erd_meaning.proofs.orders.DistinctEntries.{distinct_one}
 use Rattle.erd_normal.proofs.lists.KeyedRanks.{rank_exact, rank_low}
 use Rattle.erd_normal.proofs.lists.Matched.{Matched, distinct_matched, even_order, matched_back, matched_count, matched_length, matched_within}
-use Rattle.erd_meaning.proofs.orders.RisingRanks.{rank_map}
+use Rattle.erd_meaning.proofs.orders.RisingOrders.{rank_map}
 use Rattle.erd_normal.proofs.built.LeastKeys.{key_of_object}
 use Rattle.erd_normal.proofs.built.NormalGets.{id_of_object}
 use Rattle.erd_normal.proofs.built.NormalObjects.{IsBuilt, objects_matched, values_of}

@@ -14,7 +14,7 @@ use Rattle.erd_meaning.specs.SelectionNames.{rising_list}
 use Rattle.erd_meaning.proofs.accepted.References.{Has-Contains, option_map-Some}
 use Rattle.erd_meaning.proofs.accepted.Skeleton.{values-placed_entries}
 use Rattle.erd_meaning.proofs.accepted.Standing.{flat-has}
-use Rattle.erd_meaning.proofs.orders.RisingAlike.{all_rising}
+use Rattle.erd_meaning.proofs.orders.RisingOrders.{all_rising}
 use Rattle.erd_normal.specs.Canonical.{HasCanonicalIds, canonical_selection_id}
 use Rattle.erd_meaning.specs.Lookups.{rank_of}
 use Rattle.erd_normal.specs.code.NormalTree.{by_name, normal_selection, normal_tree}

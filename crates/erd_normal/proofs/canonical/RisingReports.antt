@@ -33,8 +33,7 @@ use Rattle.erd_normal.proofs.canonical.DistinctSets.{json_values_distinct, refer
 use Rattle.erd_normal.proofs.texts.FittingNumbers.{entry-fitting}
 use Rattle.erd_normal.proofs.same.complete.Values.{identifier_simple, language_simple}
 use Rattle.erd_normal.proofs.lists.ListParts.{IsPart, part_distinct}
-use Rattle.erd_meaning.proofs.orders.RisingOrders.{rising_strictly}
-use Rattle.erd_meaning.proofs.orders.RisingRanks.{rank_by_at}
+use Rattle.erd_meaning.proofs.orders.RisingOrders.{rising_strictly, rank_by_at}
 
 pub by_key_total : (π : Preference) → IsTotalOrder (by_key π)
 by_key_total π = on_total (key_of π) (options_total key_cmp_total)

@@ -28,7 +28,7 @@ use Rattle.erd_meaning.specs.Objects.{IsBounded, Placed, objects}
 use Rattle.erd_meaning.specs.SelectionNames.{compact_cmp, key_named, name_cmp, name_of, rising_list, selection_role}
 use Rattle.erd_meaning.proofs.accepted.Phases.{no_shape_fault}
 use Rattle.erd_meaning.proofs.orders.RisingSets.{has_rising}
-use Rattle.erd_meaning.proofs.orders.RisingAlike.{all_rising}
+use Rattle.erd_meaning.proofs.orders.RisingOrders.{all_rising}
 use Rattle.erd_meaning.proofs.accepted.Skeleton.{Skeleton, election_entries, skeleton_of_shape}
 use Rattle.erd_normal.specs.Canonical.{AreSetsInOrder, RisesAs, keys_of, keys_referred, kind_wanted}
 use Rattle.erd_normal.specs.code.NormalTree.{array_of, by_key, by_name, normal_election, normal_object, normal_objects, normal_selection, normal_tree, reference_cmp}

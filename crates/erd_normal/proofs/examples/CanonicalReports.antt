@@ -22,7 +22,7 @@ use Rattle.erd_meaning.specs.Accepted.{IsAccepted}
 use Rattle.erd_meaning.specs.Keys.{key_cmp}
 use Rattle.erd_meaning.specs.SelectionNames.{compact_cmp, name_cmp, name_of}
 use Rattle.erd_meaning.proofs.examples.AcceptedExamples.{small_ballot_canonical_is_accepted}
-use Rattle.erd_meaning.proofs.refused.RefusedLists.{accepted_by_lists}
+use Rattle.erd_meaning.proofs.refused.Refused.{accepted_by_lists}
 use Rattle.erd_normal.specs.Canonical.{AreSetsInOrder, HasNoEmptyArray, IsCanonical, IsCanonicalFormOf, RisesAs, keys_of, keys_referred, kind_wanted}
 use Rattle.erd_normal.proofs.examples.BallotMeaningExamples.{canonical_ballot_means_the_same}
 use Rattle.erd_normal.proofs.examples.CanonicalExamples.{canonical_envelope}

@@ -5,7 +5,7 @@ use Rattle.std.proofs.lemmas.Cmp.{tied_itself}
 use Rattle.erd_check.proofs.Rising.{Has}
 use Rattle.erd_check.proofs.Deciding.{less}
 use Rattle.erd_meaning.proofs.orders.Counted.{more_pass}
-use Rattle.erd_meaning.proofs.orders.InsertedValues.{greater_turned}
+use Rattle.erd_meaning.proofs.orders.RisingOrders.{greater_turned}
 use Rattle.erd_meaning.proofs.orders.RisingSets.{In-from_has}
 
 -- how many entries have keys below this one

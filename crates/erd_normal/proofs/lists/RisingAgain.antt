@@ -7,7 +7,7 @@ use Rattle.serde_json.specs.Data.{Data}
 use Rattle.serde_json.specs.Find.{as_str}
 use Rattle.erd_tables.specs.declared.class.Family.{Family}
 use Rattle.erd_meaning.specs.Keys.{Preference, key_cmp}
-use Rattle.erd_meaning.proofs.orders.InsertedValues.{inserted_exchange}
+use Rattle.erd_meaning.proofs.orders.RisingOrders.{inserted_exchange}
 use Rattle.erd_meaning.specs.code.Orders.{key_cmp_exact, key_cmp_total}
 use Rattle.erd_meaning.specs.SelectionNames.{key_named, keys_named, rising_list, with_inserted}
 use Rattle.erd_meaning.proofs.orders.Reordered.{Reordered, whole-reordered}

@@ -11,7 +11,7 @@ use Rattle.serde_json.specs.declared.value.Value.{Value}
 use Rattle.erd_check.specs.Values.{entries_of, entries_at}
 use Rattle.erd_meaning.specs.SelectionNames.{rising_list}
 use Rattle.erd_meaning.proofs.selections.WholeParts.{whole_get}
-use Rattle.erd_meaning.proofs.orders.RisingAlike.{all_rising}
+use Rattle.erd_meaning.proofs.orders.RisingOrders.{all_rising}
 use Rattle.erd_normal.proofs.lists.BuiltLists.{items_again}
 
 whole_entries : (d : Data) → has_float d ≡ false → items_have_float (items_of (entries_of d)) ≡ false

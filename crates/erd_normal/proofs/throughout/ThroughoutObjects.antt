@@ -29,7 +29,7 @@ use Rattle.erd_check.proofs.TableKinds.{kind_of_class, want_by_kind}
 use Rattle.erd_meaning.specs.Keys.{Preference}
 use Rattle.erd_meaning.specs.Objects.{Placed, objects}
 use Rattle.erd_meaning.specs.SelectionNames.{rising_list, selection_role}
-use Rattle.erd_meaning.proofs.orders.RisingAlike.{all_rising}
+use Rattle.erd_meaning.proofs.orders.RisingOrders.{all_rising}
 use Rattle.erd_normal.specs.code.NormalTree.{array_of, by_key, by_name, id_of_selection, normal_content, normal_node, normal_node_value, normal_nodes, normal_object, normal_object_value, normal_objects, normal_selection, normal_value}
 use Rattle.erd_normal.proofs.built.AskedMembers.{entries_asked, entry_asked}
 use Rattle.erd_normal.proofs.built.BuiltFrom.{Builder, BuiltFrom, BuiltObject, inside_built, member_holds}

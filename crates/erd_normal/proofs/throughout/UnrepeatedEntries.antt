@@ -21,7 +21,7 @@ use Rattle.erd_normal.proofs.built.AskedMembers.{all_items}
 use Rattle.erd_normal.proofs.lists.BuiltLists.{entry_holds, trees_listed}
 use Rattle.erd_meaning.proofs.orders.DistinctEntries.{unrepeated_distinct}
 use Rattle.erd_meaning.proofs.orders.RisingSets.{In-inserted, In-rising}
-use Rattle.erd_meaning.proofs.orders.RisingAlike.{all_rising}
+use Rattle.erd_meaning.proofs.orders.RisingOrders.{all_rising}
 
 -- ---- lists no two entries of which pass a test
 

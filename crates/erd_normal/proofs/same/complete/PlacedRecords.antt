@@ -14,7 +14,7 @@ use Rattle.erd_meaning.specs.Objects.{Placed, objects}
 use Rattle.erd_meaning.specs.Records.{member_of_class, object_record, placed_record, placed_with_key, record_in_election, records_of}
 use Rattle.erd_meaning.specs.declared.keys.key.Key.{Key}
 use Rattle.erd_meaning.proofs.accepted.Standing.{stands}
-use Rattle.erd_meaning.proofs.meanings.ElectionIds.{apart_from_election, no_election_id}
+use Rattle.erd_meaning.proofs.meanings.WholeRecords.{apart_from_election, no_election_id}
 use Rattle.erd_normal.proofs.meaning.ObjectRecords.{class_within, record_with-Some}
 
 abbrev pub record_at : Preference → Data → Family → Placed → Option ObjectRecord
