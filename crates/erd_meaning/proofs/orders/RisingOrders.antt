@@ -13,8 +13,7 @@ use Rattle.erd_meaning.specs.SelectionNames.{with_inserted, rising_list}
 use Rattle.erd_meaning.proofs.orders.RisingSets.{In-inserted, In-rising, rising-In}
 use Rattle.erd_meaning.proofs.finding.OneObject.{in_at}
 use Rattle.erd_meaning.proofs.orders.Counted.{count-rising, count_map}
-
--- ---- two values that go in one after the other: the list is the same, whichever goes in first
+use Rattle.erd_meaning.proofs.orders.Reordered.{all-reordered, reordered_rising}
 
 -- ---- answers of a comparison
 
@@ -25,7 +24,7 @@ module _ {A : Type 0} {cmp : A → A → Ordering} (order : IsTotalOrder cmp) wh
   pub less_turned : (x y : A) → cmp x y ≡ Less → cmp y x ≡ Greater
   less_turned x y e = order.antisymm y x ∙ ap ordering_reverse e
 
--- ---- two values go in, one after the other
+-- ---- two values go in, one after the other: the list is the same, whichever goes in first
 
 module _ {A : Type 0} {cmp : A → A → Ordering} (order : IsTotalOrder cmp) where
   goes_after : (x z : A) (zs : List A) → is_lt (cmp z x) ≡ true → with_inserted cmp x (z ∷ zs) ≡ z ∷ with_inserted cmp x zs
@@ -65,17 +64,8 @@ module _ {A : Type 0} {cmp : A → A → Ordering} (order : IsTotalOrder cmp) wh
 -- ---- orders that agree on the entries of a list sort it alike
 
 -- what holds of each entry of a list holds of each after a sort
-all_inserted : {A : Type 0} (P : A → Type 0) (cmp : A → A → Ordering) (x : A) (ys : List A) → P x → AllByRecursion P ys → AllByRecursion P (with_inserted cmp x ys)
-all_inserted P cmp x [] p h = (p, tt)
-all_inserted P cmp x (y ∷ ys) p h = at (is_lt (cmp y x)) (all_inserted P cmp x ys p h.1)
-  where
-    at : (b : Bool) → AllByRecursion P (with_inserted cmp x ys) → AllByRecursion P (cond b (y ∷ with_inserted cmp x ys) (x ∷ (y ∷ ys)))
-    at true more = (h.0, more)
-    at false more = (p, h)
-
 pub all_rising : {A : Type 0} (P : A → Type 0) (cmp : A → A → Ordering) (xs : List A) → AllByRecursion P xs → AllByRecursion P (rising_list cmp xs)
-all_rising P cmp [] h = tt
-all_rising P cmp (x ∷ xs) h = all_inserted P cmp x (rising_list cmp xs) h.0 (all_rising P cmp xs h.1)
+all_rising P cmp xs h = all-reordered P (reordered_rising cmp xs) h
 
 module _ {A : Type 0} (P : A → Type 0) (one other : A → A → Ordering) (same : (a b : A) → P a → P b → one a b ≡ other a b) where
   inserted_alike : (x : A) (ys : List A) → P x → AllByRecursion P ys → with_inserted one x ys ≡ with_inserted other x ys
@@ -89,8 +79,6 @@ module _ {A : Type 0} (P : A → Type 0) (one other : A → A → Ordering) (sam
   rising_alike (x ∷ xs) h = inserted_alike x (rising_list one xs) h.0 (all_rising P one xs h.1) ∙ ap (with_inserted other x) (rising_alike xs h.1)
 
 -- ---- it rises: strictly, if no two entries compare as equal
-
--- ---- answers of a comparison
 
 level : (o : Ordering) → is_eq o ≡ false → o ≡ Equal → ⊥
 level o e is = let h : true ≡ false = ap is_eq (sym is) ∙ e in cc
