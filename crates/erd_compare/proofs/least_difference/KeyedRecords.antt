@@ -44,7 +44,7 @@ use Rattle.erd_compare.specs.declared.difference.How.TheVariants.{OnlyLeft, Only
 use Rattle.erd_compare.specs.declared.difference.Part.{Part}
 use Rattle.erd_compare.specs.declared.difference.Part.TheVariants as part
 use Rattle.erd_compare.proofs.least_difference.StepWalks.{IsNoneBeside}
-use Rattle.erd_compare.proofs.whole_trees.FamilyTrees.{whole_election, whole_object}
+use Rattle.erd_compare.proofs.whole_trees.WholeTrees.{whole_election, whole_object}
 
 -- ---- the first object with a key
 

@@ -14,16 +14,17 @@ use Rattle.erd_tables.specs.declared.class.Class.{Class}
 use Rattle.erd_check.specs.Trees.{AreMembers, IsTree}
 use Rattle.erd_check.specs.Values.{names}
 use Rattle.erd_check.proofs.Order.{In}
-use Rattle.erd_check.proofs.Deciding.{names_rise}
+use Rattle.erd_check.proofs.Deciding.{names_rise, before_all}
 use Rattle.erd_check.proofs.Exact.{text_itself}
-use Rattle.erd_check.proofs.Members.{found_cases}
+use Rattle.erd_check.proofs.Members.{found_cases, get_member-first, get_member-later}
 use Rattle.erd_meaning.specs.Keys.{Preference}
 use Rattle.erd_meaning.specs.Records.{member_of_class}
 use Rattle.erd_meaning.proofs.orders.RisingOrders.{greater_turned}
 use Rattle.erd_compare.specs.Differences.{DifferFirstAt}
 use Rattle.erd_compare.specs.code.LeastNames.{DifferAtName, lesser_name, record_of_class}
-use Rattle.erd_compare.specs.code.NamesInStep.{first_of, names_past}
+use Rattle.erd_compare.specs.code.NamesInStep.{first_of, names_past, AreMembersOf}
 use Rattle.erd_compare.proofs.least_difference.StepWalks.{IsInStep, IsNoneBeside, NoneLess, all_left, below_head, equal_all, none_less-before, none_less-empty, none_less-head, pass_both, pass_left, pass_right}
+use Rattle.erd_compare.specs.code.Comparing.{Decides}
 
 -- ---- the first name that is left
 
@@ -152,3 +153,24 @@ both_objects m n d e ms ns mine its left right absent absent' =
 pub member_told : (π ρ : Preference) (t u d e : Data) (c : Class) (name : List ℕ) → DifferAtName (member_of_class π t d c) (member_of_class ρ u e c) name
     → DifferFirstAt (record_of_class π t c d) (record_of_class ρ u c e) name
 member_told π ρ t u d e c name h = record { same_class = refl; differ = h.differ; least = h.least }
+
+-- ---- the members that are left in a walk over an object stand in it, and what is found there decides what the object means
+
+-- members after the first one stand in the object as well
+later_members : (k : List ℕ) (d : Data) (ms xs : Members) → AllByRecursion (λ j. text_cmp k j ≡ Less) (names xs) → AreMembersOf (object ms) xs → AreMembersOf (object (member k d ms)) xs
+later_members k d ms no_members low h = tt
+later_members k d ms (member l e xs) low h = (get_member-later l k d e ms low.0 h.0, later_members k d ms xs low.1 h.1)
+
+members_themselves : (ms : Members) → AreMembers ms → AreMembersOf (object ms) ms
+members_themselves no_members trees = tt
+members_themselves (member k d ms) trees = (get_member-first k d ms, later_members k d ms ms (before_all k ms trees.0 trees.2) (members_themselves ms trees.2))
+
+-- all members of an object stand in it
+pub all_members : (d : Data) (ms : Members) → IsTree d → Some ms ≡ as_object d → AreMembersOf d ms
+all_members (object ns) ms tree e = let same : ns ≡ ms = cc in subst (λ xs. AreMembersOf (object xs) ms) (sym same) (members_themselves ms (subst AreMembers same tree))
+all_members k ms tree e = cc
+
+-- what two values decide, the members decide that they are
+pub found-Decides : {V : Type 0} (f g : Option Data → V) (answer : Bool) (o p found other : Option Data) → o ≡ found → p ≡ other → Decides answer (f o) (g p) → Decides answer (f found) (g other)
+found-Decides f g answer o p found other left right h =
+    subst (λ x. Decides answer (f x) (g other)) left (subst (λ x. Decides answer (f o) (g x)) right h)

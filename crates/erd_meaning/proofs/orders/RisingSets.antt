@@ -18,7 +18,7 @@ length-rising cmp xs = sym (length-reordered (reordered_rising cmp xs))
 exchange : {A : Type 0} (x y : A) (xs : List A) → IsPermutation (x ∷ (y ∷ xs)) (y ∷ (x ∷ xs))
 exchange x y xs = IsPermutation-swap (x ∷ (y ∷ xs)) (y ∷ (x ∷ xs)) 0 1 (omega arith) (omega arith) refl
 
-IsPermutation-reordered : {A : Type 0} {xs ys : List A} → Reordered xs ys → IsPermutation xs ys
+pub IsPermutation-reordered : {A : Type 0} {xs ys : List A} → Reordered xs ys → IsPermutation xs ys
 IsPermutation-reordered no_entry = IsPermutation-refl []
 IsPermutation-reordered (one_kept {x = x} {xs = us} {ys = vs} h) = IsPermutation-cons x us vs (IsPermutation-reordered h)
 IsPermutation-reordered (two_exchanged {x = x} {y = y} {xs = us}) = exchange x y us

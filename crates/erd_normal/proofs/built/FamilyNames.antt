@@ -25,7 +25,7 @@ use Rattle.erd_meaning.proofs.accepted.Skeleton.{Skeleton, values-placed_entries
 use Rattle.erd_meaning.specs.Objects.{elections, objects, placed_entries, report_of}
 use Rattle.erd_meaning.specs.Keys.{has_keys}
 use Rattle.erd_meaning.proofs.meanings.SelectionKinds.{kind_of_type}
-use Rattle.erd_normal.proofs.lists.ListParts.{IsPart, part_flat, part_self}
+use Rattle.erd_normal.proofs.lists.Lists.{IsPart, part_flat, part_self}
 
 -- the name of the member that holds the objects of a family
 abbrev pub family_name : Family → List ℕ

@@ -29,9 +29,9 @@ use Rattle.erd_meaning.proofs.orders.RisingOrders.{all_rising}
 use Rattle.erd_normal.specs.code.NormalTree.{array_of, by_key, by_name, id_of_key, id_of_selection, in_envelope, normal_content, normal_election, normal_election_value, normal_members, normal_node, normal_node_members, normal_node_value, normal_nodes, normal_object, normal_object_value, normal_object_with, normal_objects, normal_reference, normal_report_value, normal_selection, normal_selection_reference, normal_tree, normal_value, reference_cmp, unless_no_entry, with_id}
 use Rattle.erd_normal.proofs.built.AskedMembers.{AskedAs, asked_as, entries_asked, entry_asked, label_texts}
 use Rattle.erd_normal.proofs.lists.BuiltLists.{IfSome, if_some_is, all_map, all_of, items_of-depth, listed_depth, unless_no_entry-holds, all_both}
-use Rattle.erd_normal.proofs.built.NormalEnvelope.{with_envelope-depth}
+use Rattle.erd_normal.proofs.built.NormalReports.{with_envelope-depth}
 use Rattle.erd_normal.proofs.built.NormalMembers.{normal_members-depth}
-use Rattle.erd_normal.proofs.built.PutMembers.{put-depth}
+use Rattle.erd_normal.proofs.built.NormalGets.{put-depth}
 use Rattle.erd_check.proofs.Whole.{get_member-later}
 
 -- ---- arrays

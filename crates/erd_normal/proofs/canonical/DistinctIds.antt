@@ -17,8 +17,7 @@ use Rattle.erd_normal.specs.SameLaws.{HasDistinctIds}
 use Rattle.erd_normal.specs.code.NormalTree.{normal_tree}
 use Rattle.erd_normal.proofs.canonical.CanonicalIds.{canonical_id_exact, selection_id_apart}
 use Rattle.erd_normal.proofs.canonical.ContestSelections.{never_before_itself}
-use Rattle.erd_normal.proofs.canonical.NormalKeys.{ids_by_rank, one_ranked_built, rank_counted}
-use Rattle.erd_normal.proofs.canonical.NormalSelections.{has_canonical_ids}
+use Rattle.erd_normal.proofs.canonical.NormalKeys.{ids_by_rank, one_ranked_built, rank_counted, has_canonical_ids}
 use Rattle.erd_normal.proofs.canonical.SelectionIds.{one_selection}
 
 -- the objects of one family or the other

@@ -17,9 +17,8 @@ use Rattle.erd_meaning.proofs.accepted.Skeleton.{values-placed_entries}
 use Rattle.erd_normal.specs.code.NormalTree.{by_name, id_of_selection, normal_object, normal_selection, normal_selection_reference, normal_tree, selection_with}
 use Rattle.erd_normal.proofs.canonical.Bounds.{few_selections}
 use Rattle.erd_normal.proofs.lists.FoundInParts.{FoundSelection, owner_found}
-use Rattle.erd_normal.proofs.canonical.NormalKeys.{IsClassed, object_classed, object_from, one_ranked_built, rank_counted}
+use Rattle.erd_normal.proofs.canonical.NormalKeys.{IsClassed, object_classed, object_from, one_ranked_built, rank_counted, selection_ids}
 use Rattle.erd_normal.proofs.built.NormalObjects.{selections_built}
-use Rattle.erd_normal.proofs.canonical.NormalSelections.{selection_ids}
 use Rattle.erd_normal.proofs.canonical.SelectionTexts.{canonical_selection_id_exact}
 use Rattle.erd_check.proofs.Positions.{position_of}
 use Rattle.erd_meaning.proofs.orders.RisingSets.{length-rising}

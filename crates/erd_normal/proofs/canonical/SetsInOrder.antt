@@ -39,9 +39,9 @@ use Rattle.erd_normal.proofs.canonical.NormalKeys.{IsClassed, values_classed}
 use Rattle.erd_normal.proofs.canonical.KeptNames.{keys_named_kept, names_kept}
 use Rattle.erd_normal.proofs.canonical.SelectionIds.{selection_values}
 use Rattle.erd_normal.proofs.same.FromAlike.{Stands, entry_stands}
-use Rattle.erd_normal.proofs.lists.ListParts.{IsPart, part_has}
+use Rattle.erd_normal.proofs.lists.Lists.{IsPart, part_has}
 use Rattle.erd_normal.proofs.canonical.RisingReports.{elections_rise, identifiers_rise, languages_rise, objects_rise, references_rise, selections_rise}
-use Rattle.erd_normal.proofs.same.Refers.{Refers, references_refer}
+use Rattle.erd_normal.proofs.same.IdsOfObjects.{Refers, references_refer}
 use Rattle.erd_normal.proofs.same.normal.NewIds.{prefixed_keys}
 use Rattle.erd_normal.proofs.throughout.ThroughoutMembers.{HoldsOfMembers, built_references, is_prefixed}
 use Rattle.erd_normal.proofs.throughout.ThroughoutObjects.{HoldsOfObjects}

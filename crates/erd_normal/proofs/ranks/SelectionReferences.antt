@@ -24,7 +24,7 @@ use Rattle.erd_normal.proofs.canonical.ContestSelections.{one_contest}
 use Rattle.erd_meaning.proofs.orders.DistinctEntries.{place_of}
 use Rattle.erd_normal.proofs.lists.FoundInParts.{FoundSelection, owner_found}
 use Rattle.erd_meaning.proofs.orders.RisingSets.{has_from_In, In-from_has}
-use Rattle.erd_normal.proofs.meaning.ObjectRecords.{has_name}
+use Rattle.erd_normal.proofs.meaning.AlikeRecords.{has_name}
 use Rattle.erd_normal.specs.code.NormalTree.{contest_with, id_of_selection, normal_selection_reference, rank_of_name, selection_with}
 use Rattle.erd_normal.specs.Canonical.{canonical_selection_id}
 use Rattle.erd_normal.specs.code.SelectionOrders.{AreSelectionRanks}

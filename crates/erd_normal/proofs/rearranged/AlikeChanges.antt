@@ -1,25 +1,53 @@
 -- A renaming and an exchange of two entries of a set make values that are alike.
-use Rattle.std.proofs.Common.{◌≡◌, ◌<◌, ℕ, zero, suc, List, [], ◌∷◌, Bool, true, false, cond, ◌&&◌, length, Option, Some, None, option_and_then, option_map, is_eq, Ordering, Equal, nat_cmp, refl, sym, ap, ◌∙◌, subst, arith}
+use Rattle.std.proofs.Common.{◌≡◌, ℕ, List, [], ◌∷◌, Bool, true, false, if◌then◌else◌, Option, Some, ◌<◌, zero, suc, cond, ◌&&◌, length, None, option_and_then, option_map, is_eq, Ordering, Equal, nat_cmp, refl, sym, ap, ◌∙◌, subst, arith}
 use Rattle.std.proofs.lemmas.Map.Text.{is_eq-slice_cmp}
 use Rattle.std.specs.Cmp.Lexicographic.{slice_cmp}
 use Rattle.std.specs.List.{swap}
 use Rattle.std.specs.Prelude.{IsSomeAnd, IsTrue}
-use Rattle.serde_json.specs.Data.{Data, null, boolean, number, string, array, object, Items, no_items, item, Members, no_members, member}
+use Rattle.serde_json.specs.Data.{Data, string, array, object, Items, no_items, item, Members, no_members, member, null, boolean, number}
 use Rattle.serde_json.specs.Find.{get_item, get_member}
 use Rattle.serde_json.specs.View.{items_of}
-use Rattle.erd_tables.specs.declared.class.Role.TheVariants as role
 use Rattle.erd_tables.specs.declared.place.Step.{Step}
 use Rattle.erd_tables.specs.declared.place.Step.TheVariants.{Name, At}
-use Rattle.erd_check.specs.Values.{entries_of, list_of_items}
-use Rattle.erd_check.specs.Wants.{Asked, asked, asked_from, asked_inside, asked_of_member, entry_want, is_compared_set, is_repeated, is_table_set, scope_inside, want_of_name}
+use Rattle.erd_tables.specs.declared.class.Role.TheVariants as role
+use Rattle.erd_check.specs.Values.{list_of_items, entries_of}
+use Rattle.erd_check.specs.Wants.{entry_want, is_table_set, scope_inside, want_of_name, Asked, asked, asked_from, asked_inside, asked_of_member, is_compared_set, is_repeated}
 use Rattle.erd_check.specs.declared.want.Scope.{Scope}
 use Rattle.erd_check.specs.declared.want.Want.{Want}
 use Rattle.erd_check.specs.declared.want.Want.TheVariants.{Object}
 use Rattle.erd_check.proofs.Lists.{list_of_items-items_of}
 use Rattle.erd_check.proofs.Steps.{text_from_equal}
-use Rattle.erd_normal.specs.Rearranged.{HasEntries, Renaming, changed_at, exchanged, is_id_text, item_changed, member_changed, renamed_items, renamed_members, renamed_value, replaced_text, swapped}
 use Rattle.erd_meaning.proofs.orders.Reordered.{Reordered, reordered_self, reordered_swap}
-use Rattle.erd_normal.proofs.rearranged.Alike.{Alike, AlikeMembers, AreAlike, IsArranged}
+use Rattle.erd_normal.specs.Rearranged.{is_id_text, HasEntries, Renaming, changed_at, exchanged, item_changed, member_changed, renamed_items, renamed_members, renamed_value, replaced_text, swapped}
+
+-- ---- two values that are alike: spelled otherwise, with the same said. A renaming and an exchange make values that are alike
+
+-- the entries of a set may stand in another order
+abbrev pub IsArranged : Bool → List Data → List Data → Type 0
+IsArranged true ds es = Reordered ds es
+IsArranged false ds es = ds ≡ es
+
+-- `@id` texts and references of the table are the same but for a function of texts, sets have entries that are alike in
+-- some order, lists in their order, objects members that are alike; all else is equal. The second value is told by the first.
+abbrev mutual
+  pub Alike : (List ℕ → List ℕ) → Option Want → Data → Data → Type 0
+  Alike ρ (Some w) (string s) e = e ≡ string (if is_id_text w then ρ s else s)
+  Alike ρ (Some w) (array ds) e =
+      (fs : List Data) × (es : Items) × (e ≡ array es) × AreAlike ρ (entry_want w) ds fs × IsArranged (is_table_set w) fs (list_of_items es)
+  Alike ρ (Some w) (object ms) e = (ns : Members) × (e ≡ object ns) × AlikeMembers ρ (scope_inside w (object ms)) ms ns
+  Alike ρ w d e = d ≡ e
+
+  -- the entries of an array, one by one
+  pub AreAlike : (List ℕ → List ℕ) → Option Want → Items → List Data → Type 0
+  AreAlike ρ w no_items es = es ≡ []
+  AreAlike ρ w (item d ds) es = (f : Data) × (fs : List Data) × (es ≡ f ∷ fs) × Alike ρ w d f × AreAlike ρ w ds fs
+
+  -- the members of an object
+  pub AlikeMembers : (List ℕ → List ℕ) → Scope → Members → Members → Type 0
+  AlikeMembers ρ s no_members ns = ns ≡ no_members
+  AlikeMembers ρ s (member k d ms) ns = (f : Data) × (fs : Members) × (ns ≡ member k f fs) × Alike ρ (want_of_name s k) d f × AlikeMembers ρ s ms fs
+
+-- ---- a renaming and an exchange of two entries of a set make values that are alike
 
 arranged_self : (b : Bool) (ds : List Data) → IsArranged b ds ds
 arranged_self true ds = reordered_self ds

@@ -11,10 +11,9 @@ use Rattle.erd_check.specs.declared.want.Scope.{Scope}
 use Rattle.erd_check.specs.declared.want.Want.{Want}
 use Rattle.erd_check.proofs.Rising.{Has, here, later}
 use Rattle.erd_check.proofs.Steps.{text_from_equal}
-use Rattle.erd_normal.proofs.lists.Matched.{Both, both, neither, Matched}
-use Rattle.erd_normal.proofs.lists.Paired.{Paired, none, more}
+use Rattle.erd_normal.proofs.lists.Matched.{Both, both, neither, Matched, Paired, none, more}
 use Rattle.erd_meaning.proofs.orders.Reordered.{Reordered, reordered_back, reordered_self, reordered-has}
-use Rattle.erd_normal.proofs.rearranged.Alike.{Alike, AlikeMembers, AreAlike, IsArranged}
+use Rattle.erd_normal.proofs.rearranged.AlikeChanges.{Alike, AlikeMembers, AreAlike, IsArranged}
 
 -- ---- values of which nothing is asked
 

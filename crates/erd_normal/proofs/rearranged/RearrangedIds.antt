@@ -14,7 +14,7 @@ use Rattle.erd_meaning.proofs.accepted.Phases.{no_shape_fault}
 use Rattle.erd_meaning.proofs.accepted.References.{Has-Contains, option_map-Some}
 use Rattle.erd_meaning.proofs.orders.DistinctEntries.{distinct_one}
 use Rattle.erd_normal.proofs.lists.Matched.{IsEven, Matched, distinct_matched, matched_back}
-use Rattle.erd_normal.proofs.rearranged.Alike.{Alike}
+use Rattle.erd_normal.proofs.rearranged.AlikeChanges.{Alike}
 use Rattle.erd_normal.proofs.rearranged.RelatedMembers.{Related}
 use Rattle.erd_normal.proofs.rearranged.RelatedObjects.{family_matched, id_became}
 use Rattle.erd_normal.proofs.same.FamilyValues.{family_values, object_values, not_before_itself, placed_value}

@@ -24,7 +24,7 @@ use Rattle.erd_check.proofs.Shapes.{AsksObject, Within, Within-step, member_with
 use Rattle.erd_check.proofs.TableKinds.{want_by_kind}
 use Rattle.erd_normal.specs.Rearranged.{is_id_text}
 use Rattle.erd_normal.proofs.lists.Matched.{Both, both, neither, Matched, matched_none, matched_within}
-use Rattle.erd_normal.proofs.rearranged.Alike.{Alike}
+use Rattle.erd_normal.proofs.rearranged.AlikeChanges.{Alike}
 use Rattle.erd_normal.proofs.rearranged.AlikeParts.{alike_array, alike_member}
 use Rattle.erd_normal.proofs.same.Types.{asked_of_name}
 

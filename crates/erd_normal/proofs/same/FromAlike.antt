@@ -19,13 +19,14 @@ use Rattle.erd_check.proofs.Rising.{Has, here, later}
 use Rattle.erd_check.proofs.Shapes.{Within, Within-root, Within-step, within-tree}
 use Rattle.erd_check.proofs.Whole.{get_member-later}
 use Rattle.erd_normal.specs.Rearranged.{is_id_text}
-use Rattle.erd_normal.proofs.lists.Paired.{Paired, none, more}
+use Rattle.erd_normal.proofs.lists.Matched.{Paired, none, more}
 use Rattle.erd_normal.proofs.lists.BuiltLists.{items_again}
-use Rattle.erd_normal.proofs.rearranged.Alike.{Alike, AlikeMembers, AreAlike, IsArranged}
+use Rattle.erd_normal.proofs.rearranged.AlikeChanges.{Alike, AlikeMembers, AreAlike, IsArranged}
 use Rattle.erd_normal.proofs.rearranged.AlikeParts.{alike_unasked}
 use Rattle.erd_normal.specs.SaysTheSame.{Sides, Same, not_asked, a_null, a_flag, a_number, a_text, an_id, a_list, a_set, an_object, SameEntries, SameMembers, no_member, in_both, SaysTheSame}
 use Rattle.erd_normal.proofs.same.Back.{paired_entries, paired_flip}
-use Rattle.erd_normal.proofs.same.Lists.{follows, reordered_permuted}
+use Rattle.erd_normal.proofs.same.Lists.{follows}
+use Rattle.erd_meaning.proofs.orders.RisingSets.{IsPermutation-reordered}
 
 -- each text of an `@id` or a reference of the report comes back
 pub record ComesBack (ρ σ : List ℕ → List ℕ) (t : Data) : Type 0 where
@@ -65,7 +66,7 @@ module _ (ρ σ : List ℕ → List ℕ) (t u : Data) (back : ComesBack ρ σ t)
       → IsArranged b fs (list_of_items es) → Same m (Some w) (array ds) (array es)
   array_same w ds fs es true is p arranged =
       let f = follows arranged (paired_flip p) in
-      a_set (items_of f.new) is (subst (IsPermutation (list_of_items ds)) (sym (list_of_items-items_of f.new)) (reordered_permuted f.reordered))
+      a_set (items_of f.new) is (subst (IsPermutation (list_of_items ds)) (sym (list_of_items-items_of f.new)) (IsPermutation-reordered f.reordered))
       (subst (SameEntries m (entry_want w) (items_of f.new)) (items_again es) (paired_entries m (entry_want w) (paired_flip f.paired)))
   array_same w ds fs es false is p arranged =
       a_list is

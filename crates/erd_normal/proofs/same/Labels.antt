@@ -30,9 +30,9 @@ use Rattle.erd_check.proofs.TableKinds.{kind_of_unlisted_has}
 use Rattle.erd_meaning.specs.SelectionNames.{compact_cmp, rising_list, with_rising_text}
 use Rattle.erd_meaning.proofs.orders.RisingLists.{rising_list_map}
 use Rattle.erd_meaning.proofs.orders.Reordered.{Reordered, no_entry, reordered_map}
-use Rattle.erd_normal.proofs.built.PutMembers.{put_elsewhere, put_twice}
+use Rattle.erd_normal.proofs.built.NormalGets.{put_elsewhere, put_twice}
 use Rattle.erd_normal.proofs.lists.Matched.{matched_equal}
-use Rattle.erd_normal.proofs.lists.RisingAgain.{rising-reordered}
+use Rattle.erd_normal.proofs.lists.NumbersInOrder.{rising-reordered}
 use Rattle.erd_normal.specs.SaysTheSame.{Sides, MayBeAbsent, Same, SameMembers}
 use Rattle.erd_normal.proofs.same.Lookups.{Aligned, both_there, not_both, MayLack, lookups, of_object}
 use Rattle.erd_normal.proofs.same.Related.{entries_matched, lacking_empty}

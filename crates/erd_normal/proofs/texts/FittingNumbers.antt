@@ -1,15 +1,31 @@
 -- What stands in a value whose numbers fit has numbers that fit.
-use Rattle.std.proofs.Common.{◌≡◌, false, ◌||◌, ℕ, zero, suc, List, Some, inl, inr, refl, subst}
+use Rattle.std.proofs.Common.{◌≡◌, false, ◌||◌, ℕ, zero, suc, List, Some, inl, inr, refl, subst, ◌<◌, ◌^◌, [], ◌∷◌, if◌then◌else◌, Ordering, Less, Equal, Greater, Option, None, arith}
 use Rattle.std.proofs.lemmas.Bool.{or_from}
-use Rattle.serde_json.specs.Data.{Num, float, Data, number, array, object, Items, no_items, item, Members, no_members, member}
+use Rattle.std.specs.List.{AllByRecursion}
+use Rattle.std.specs.Option.{option_map_or}
+use Rattle.std.specs.Ordering.{match_ordering}
+use Rattle.serde_json.specs.Data.{Num, float, Data, number, array, object, Items, no_items, item, Members, no_members, member, put}
 use Rattle.serde_json.specs.Find.{get_item, get_member, is_float}
 use Rattle.serde_json.specs.Written.{has_float, items_have_float, members_have_float}
+use Rattle.erd_tables.specs.Texts.{text_cmp}
+use Rattle.erd_tables.specs.declared.class.Family.TheVariants as family
+use Rattle.erd_tables.specs.declared.class.Role.TheVariants as role
+use Rattle.erd_tables.specs.declared.member.MemberKind.TheVariants as kind
 use Rattle.erd_check.specs.Numbers.{IsFittingNumber, HasFittingNumbers, ItemsHaveFittingNumbers, MembersHaveFittingNumbers}
 use Rattle.erd_check.specs.Values.{list_of_items}
 use Rattle.erd_check.specs.Wants.{Asked}
 use Rattle.erd_check.proofs.Order.{In}
 use Rattle.erd_check.proofs.Shapes.{Within, within-holds}
-use Rattle.erd_check.proofs.Members.{found_cases}
+use Rattle.erd_check.proofs.Members.{found_cases, get_member-first, get_member-tree}
+use Rattle.erd_check.specs.Trees.{IsTree, AreMembers}
+use Rattle.erd_check.proofs.Whole.{get_member-later}
+use Rattle.erd_check.proofs.ReadTrees.{put-trees}
+use Rattle.erd_check.proofs.Positions.{all_weakened}
+use Rattle.erd_meaning.specs.Keys.{Preference}
+use Rattle.erd_normal.specs.code.NormalTree.{array_of, normal_tree}
+use Rattle.erd_normal.proofs.lists.BuiltLists.{array_of-tree, trees_listed, all_both}
+use Rattle.erd_normal.proofs.built.NormalMembers.{each_member, trees_of_each}
+use Rattle.erd_normal.proofs.built.NormalTrees.{IsPartwise, normal_tree-holds}
 
 pub get_item-fitting : (i : ℕ) (v : Data) (ds : Items) → ItemsHaveFittingNumbers ds → get_item i ds ≡ Some v → HasFittingNumbers v
 get_item-fitting i v no_items h e = cc
@@ -50,3 +66,55 @@ mutual
   members_fitting-no_float : (ms : Members) → MembersHaveFittingNumbers ms → members_have_float ms ≡ false
   members_fitting-no_float no_members h = refl
   members_fitting-no_float (member k d ms) h = or_from (has_float d) (members_have_float ms) (fitting-no_float d h.0) (members_fitting-no_float ms h.1)
+
+-- ---- where the numbers in a report fit, so do those in what is built of it
+
+array_of-fits : (ds : List Data) → AllByRecursion HasFittingNumbers ds → HasFittingNumbers (array_of ds)
+array_of-fits [] all = tt
+array_of-fits (d ∷ ds) all = (all.0, array_of-fits ds all.1)
+
+listed-fit : (ds : Items) → ItemsHaveFittingNumbers ds → AllByRecursion HasFittingNumbers (list_of_items ds)
+listed-fit no_items fit = tt
+listed-fit (item d ds) fit = (fit.0, listed-fit ds fit.1)
+
+put-fit_at : (o : Ordering) (k l : List ℕ) (v d : Data) (ms rest : Members) → MembersHaveFittingNumbers (member l d ms) → HasFittingNumbers v → MembersHaveFittingNumbers rest
+    → MembersHaveFittingNumbers (match_ordering o (member k v (member l d ms)) (member l v ms) (member l d rest))
+put-fit_at Less k l v d ms rest fit new later = (new, fit)
+put-fit_at Equal k l v d ms rest fit new later = (new, fit.1)
+put-fit_at Greater k l v d ms rest fit new later = (fit.0, later)
+
+put-fit : (k : List ℕ) (v : Data) (ms : Members) → MembersHaveFittingNumbers ms → HasFittingNumbers v → MembersHaveFittingNumbers (put k v ms)
+put-fit k v no_members fit new = (new, tt)
+put-fit k v (member l d ms) fit new = put-fit_at (text_cmp k l) k l v d ms (put k v ms) fit new (put-fit k v ms fit.1 new)
+
+fit_of_each : (value : List ℕ → Data → Option Data) (ms : Members) → AreMembers ms → MembersHaveFittingNumbers ms
+    → ((name : List ℕ) (d v : Data) → get_member name ms ≡ Some d → HasFittingNumbers d → value name d ≡ Some v → HasFittingNumbers v) → MembersHaveFittingNumbers (each_member value ms)
+fit_of_each value no_members rise fits each = tt
+fit_of_each value (member l d ms) rise fits each =
+    at (value l d) refl (fit_of_each value ms rise.2 fits.1 (λ name e v found. each name e v (get_member-later l name d e ms rise found)))
+  where
+    at : (r : Option Data) → value l d ≡ r → MembersHaveFittingNumbers (each_member value ms) → MembersHaveFittingNumbers (option_map_or (λ v. member l v (each_member value ms)) r (each_member value ms))
+    at None given h = h
+    at (Some v) given h = (each l d v (get_member-first l d ms) fits.0 given, h)
+
+-- a tree whose numbers fit
+abbrev IsFitting : Data → Type 0
+IsFitting d = IsTree d × HasFittingNumbers d
+
+fitting_partwise : IsPartwise IsFitting
+fitting_partwise = record {
+  entries = λ ds h. all_both IsTree HasFittingNumbers (list_of_items ds) (trees_listed ds h.0) (listed-fit ds h.1);
+  listed = λ ds all. (array_of-tree ds (all_weakened IsFitting IsTree ds (λ d h. h.0) all), array_of-fits ds (all_weakened IsFitting HasFittingNumbers ds (λ d h. h.1) all));
+  found = λ name v ms h is. (get_member-tree name v ms h.0 is, get_member-fitting name v ms h.1 is);
+  with_put = λ name v ms h new. (put-trees name v ms h.0 new.0, put-fit name v ms h.1 new.1);
+  with_each = λ value ms h each. (
+    trees_of_each value ms h.0 (λ name d v found tree given. (each name d v found (tree, get_member-fitting name d ms h.1 found) given).0),
+    fit_of_each value ms h.0 h.1 (λ name d v found fits given. (each name d v found (get_member-tree name d ms h.0 found, fits) given).1),
+  );
+  text = λ s. (tt, tt);
+  one = let small : 1 < 2 ^ 64 = omega arith in (tt, small);
+}
+
+-- the numbers in what is built of a report fit
+pub normal_tree-fits : (π : Preference) (t : Data) → IsTree t → HasFittingNumbers t → HasFittingNumbers (normal_tree π t)
+normal_tree-fits π t tree fits = (normal_tree-holds IsFitting fitting_partwise π t (tree, fits)).1

@@ -34,7 +34,7 @@ use Rattle.erd_normal.specs.code.NormalTree.{array_of, by_key, by_name, id_of_se
 use Rattle.erd_normal.proofs.built.AskedMembers.{entries_asked, entry_asked}
 use Rattle.erd_normal.proofs.built.BuiltFrom.{Builder, BuiltFrom, BuiltObject, inside_built, member_holds}
 use Rattle.erd_normal.proofs.lists.BuiltLists.{all_map, given_unless}
-use Rattle.erd_normal.proofs.lists.ListParts.{IsPart, part_has}
+use Rattle.erd_normal.proofs.lists.Lists.{IsPart, part_has}
 use Rattle.erd_normal.proofs.built.BuiltObjects.{built_node, built_object, built_selection, is_id, no_name, node_builder, object_builder, object_id, plain_builder, selection_id}
 use Rattle.erd_normal.proofs.built.FamilyNames.{contest_of_selections, family_name, keyed_name}
 use Rattle.erd_normal.proofs.built.NormalGets.{kind_of_family_id}
@@ -82,7 +82,7 @@ selection_kind class.BallotMeasureSelection name other r = kind_of_class is_plai
 selection_kind class.PartySelection name other r = kind_of_class is_plain_kind class.PartySelection name other refl refl refl refl
 selection_kind c name other r = cc
 
-node_kind : (c : Class) (name : List ℕ) → bytes_eq name (codes "@type") ≡ false → role_of_class c ≡ role.Content → is_node_kind (kind_of_member c name) ≡ true
+pub node_kind : (c : Class) (name : List ℕ) → bytes_eq name (codes "@type") ≡ false → role_of_class c ≡ role.Content → is_node_kind (kind_of_member c name) ≡ true
 node_kind class.OrderedContest name other r = kind_of_class is_node_kind class.OrderedContest name other refl refl refl refl
 node_kind class.OrderedHeader name other r = kind_of_class is_node_kind class.OrderedHeader name other refl refl refl refl
 node_kind c name other r = cc

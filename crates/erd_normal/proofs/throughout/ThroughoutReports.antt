@@ -33,7 +33,7 @@ use Rattle.erd_normal.proofs.built.BuiltFrom.{BuiltFrom, member_holds}
 use Rattle.erd_normal.proofs.built.BuiltObjects.{built_election, built_report, election_builder, no_name}
 use Rattle.erd_normal.proofs.lists.BuiltLists.{all_map, given_unless}
 use Rattle.erd_normal.proofs.built.FamilyNames.{election_part, elections_name, family_name, keyed_name, report_part}
-use Rattle.erd_normal.proofs.lists.ListParts.{IsPart}
+use Rattle.erd_normal.proofs.lists.Lists.{IsPart}
 use Rattle.erd_normal.proofs.built.NormalReports.{has_canonical_envelope}
 use Rattle.erd_normal.proofs.throughout.ThroughoutMembers.{HoldsOfMembers, is_plain_kind, is_prefixed, throughout_value}
 use Rattle.erd_normal.proofs.throughout.ThroughoutObjects.{HoldsOfObjects, throughout_object, throughout_objects, throughout_status}

@@ -28,7 +28,7 @@ use Rattle.erd_normal.proofs.same.FamilyValues.{family_values}
 use Rattle.erd_normal.proofs.same.SharedIds.{IsId}
 use Rattle.erd_normal.proofs.same.complete.Objects.{AloneUnused}
 use Rattle.erd_normal.proofs.same.complete.Texts.{Couple, couple_back, couple_there, sides}
-use Rattle.erd_normal.proofs.same.complete.TwoMeanings.{MeanOne}
+use Rattle.erd_normal.proofs.same.complete.Sets.{MeanOne}
 use Rattle.erd_normal.proofs.unique.Ids.{ids_alike}
 
 -- ---- a report that refers to each object of another

@@ -34,7 +34,7 @@ use Rattle.erd_meaning.specs.Objects.{has_id, owner}
 use Rattle.erd_meaning.specs.Records.{class_of_node}
 use Rattle.erd_meaning.proofs.accepted.Phases.{no_shape_fault}
 use Rattle.erd_normal.proofs.canonical.ChosenEntries.{IsChosen, contest_named, entries_chosen, list_name}
-use Rattle.erd_normal.proofs.same.Refers.{Refers, reference_refers}
+use Rattle.erd_normal.proofs.same.IdsOfObjects.{Refers, reference_refers}
 use Rattle.erd_normal.proofs.same.accepted.ListedSelections.{IsListSound, IsListed, none_elsewhere}
 use Rattle.erd_normal.proofs.same.accepted.SoundReferences.{and_no, names_sound}
 use Rattle.erd_normal.proofs.lists.Matched.{Both, both, Matched, matched_any, matched_back}

@@ -30,7 +30,7 @@ use Rattle.erd_normal.proofs.same.Lookups.{Aligned, both_there, not_both, MayLac
 use Rattle.erd_normal.proofs.same.Related.{entries_matched}
 use Rattle.erd_normal.proofs.same.Types.{scope_same, text_same}
 use Rattle.erd_normal.proofs.same.accepted.AbsentMembers.{IsSound}
-use Rattle.erd_normal.proofs.same.accepted.AskedAgain.{AskedAgain, asked_again}
+use Rattle.erd_normal.proofs.same.accepted.AskedAgain.{AskedAgain, asked_again, flag_clear}
 use Rattle.erd_normal.proofs.same.accepted.RequiredMembers.{required_stays}
 
 -- ---- tests of values that say the same
@@ -126,11 +126,6 @@ fault_same m w d e b c r other h = refl
 
 -- ---- the report
 
--- as `and` says it
-and_clear : (a b : Bool) → (a ≡ true → b ≡ false) → a && b ≡ false
-and_clear true b h = h refl
-and_clear false b h = refl
-
 module _ (m : Sides) (left_tree : IsTree m.left) (right_tree : IsTree m.right) (π : Preference) (accepted : IsAccepted π m.left) where
   -- a member that is wanted stands in the right object, since it stands in the left one
   aligned_stands : (a : Asked) (ms : Members) (n : List ℕ) (o p : Option Data) → Within m.left a → a.value ≡ object ms → list_any (bytes_eq n) (names_wanted (scope_inside a.want (object ms))) ≡ true
@@ -144,7 +139,7 @@ module _ (m : Sides) (left_tree : IsTree m.left) (right_tree : IsTree m.right) (
   object_lacks a ms ns n inside value tree h =
       let left : IsTree (object ms) = subst IsTree value (within-tree m.left a left_tree inside) in
       let scopes = scope_same m a.want ms ns h in
-      and_clear (list_any (bytes_eq n) (names_wanted (scope_inside a.want (object ns)))) (lacks (object ns) n)
+      flag_clear (list_any (bytes_eq n) (names_wanted (scope_inside a.want (object ns)))) (lacks (object ns) n)
       (λ named. aligned_stands a ms n (get_member n ms) (get_member n ns) inside value (ap (λ s. list_any (bytes_eq n) (names_wanted s)) scopes ∙ named) refl (lookups m n h left tree))
 
   none_lacks : (a : Asked) (w : Want) (d e : Data) (n : List ℕ) → Within m.left a → a.want ≡ w → a.value ≡ d → IsTree e → Same m (Some w) d e → list_any (bytes_eq n) (names_wanted (scope_inside w e)) && lacks e n ≡ false

@@ -2,6 +2,7 @@
 use Rattle.std.proofs.Common.{◌≡◌, ℕ, zero, suc, List, [], ◌∷◌, ◌++◌, Option, Some, None, option_and_then, option_map, Bool, true, false, ◌&&◌, true≢false, refl, sym, ap, ◌∙◌, subst}
 use Rattle.std.specs.List.{AllByRecursion}
 use Rattle.std.specs.Option.{option_map_or}
+use Rattle.std.proofs.lemmas.Option.{same_Some}
 use Rattle.serde_json.specs.Data.{Data, array, object, Items, no_items, item, Members}
 use Rattle.serde_json.specs.Find.{get_item, get_member}
 use Rattle.erd_tables.specs.Classes.{role_of_class}
@@ -72,9 +73,6 @@ of_class r ms c b among is found =
     let content : role.Content ≡ r = ap role_of_class (sym is) ∙ class_role r (object ms) c among in
     (sym content, ap (λ q. class_of_object q (object ms)) content ∙ among ∙ ap Some is)
 
-some_same : (v w : Want) → Some v ≡ Some w → v ≡ w
-some_same v w e = cc
-
 class_listing : (r : Role) (ms : Members) (b : Asked) (want : Want) → option_map (λ c. member_want c list_name) (class_of_object r (object ms)) ≡ Some want → want ≡ b.want → lists_selections b.want ≡ true
     → get_member list_name ms ≡ Some b.value → (r ≡ role.Content) × (class_of_node (object ms) ≡ Some class.OrderedContest)
 class_listing r ms b want wanted same lists found = at (class_of_object r (object ms)) refl wanted
@@ -82,7 +80,7 @@ class_listing r ms b want wanted same lists found = at (class_of_object r (objec
     at : (o : Option Class) → class_of_object r (object ms) ≡ o → option_map (λ c. member_want c list_name) o ≡ Some want → (r ≡ role.Content) × (class_of_node (object ms) ≡ Some class.OrderedContest)
     at None among e = cc
     at (Some c) among e =
-        let asks : member_want c list_name ≡ b.want = some_same (member_want c list_name) want e ∙ same in
+        let asks : member_want c list_name ≡ b.want = same_Some (member_want c list_name) want e ∙ same in
         of_class r ms c b among (only_contests c (ap lists_selections asks ∙ lists)) found
 
 no_label : role.Label ≡ role.Content → ⊥
@@ -94,7 +92,7 @@ in_contest (Object r) ms b m lists =
     record { content = ap Object h.0; among = h.1; stands = (ms, refl, m.found) }
 in_contest (Member kind.Label required) ms b m lists = let h = class_listing role.Label ms b m.want m.wanted m.same lists m.found in absurd (no_label h.0)
 in_contest Carried ms b m lists =
-    let asks : Member kind.StrangeIdentity false ≡ b.want = some_same (Member kind.StrangeIdentity false) m.want m.wanted ∙ m.same in
+    let asks : Member kind.StrangeIdentity false ≡ b.want = same_Some (Member kind.StrangeIdentity false) m.want m.wanted ∙ m.same in
     absurd (true≢false (sym lists ∙ ap lists_selections (sym asks)))
 in_contest w ms b m lists = let x = m.wanted in cc
 

@@ -35,7 +35,7 @@ use Rattle.erd_meaning.proofs.orders.Sets.{has-any}
 use Rattle.erd_normal.proofs.same.LabelsBack.{equal_aligned}
 use Rattle.erd_normal.proofs.same.Lookups.{Aligned}
 use Rattle.erd_normal.proofs.same.Merged.{merged}
-use Rattle.erd_normal.proofs.same.complete.TwoMeanings.{TextsTied}
+use Rattle.erd_normal.proofs.same.complete.Sets.{TextsTied}
 use Rattle.erd_normal.proofs.same.complete.Values.{all_plain, means_itself, plain_aligned}
 use Rattle.erd_normal.proofs.same.Types.{asked_of_name}
 use Rattle.erd_normal.proofs.built.AskedMembers.{status_kind}

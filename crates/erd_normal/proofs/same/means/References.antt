@@ -13,7 +13,7 @@ use Rattle.erd_meaning.specs.Records.{key_set}
 use Rattle.erd_meaning.specs.SelectionNames.{key_named, keys_named, rising_list}
 use Rattle.erd_meaning.proofs.accepted.Phases.{no_shape_fault}
 use Rattle.erd_normal.proofs.lists.Matched.{Matched, paired_kept}
-use Rattle.erd_normal.proofs.lists.RisingAgain.{rising_keys_named-reordered}
+use Rattle.erd_normal.proofs.lists.NumbersInOrder.{rising_keys_named-reordered}
 use Rattle.erd_normal.proofs.meaning.RisingMeanings.{keys_named-reordered}
 use Rattle.erd_normal.specs.SaysTheSame.{Sides, StandsFor, Same, a_null, a_flag, a_number, a_text, an_id, a_list, a_set, an_object, SameEntries, no_entry, one_entry}
 use Rattle.erd_normal.specs.SameLaws.{IsUsed}

@@ -26,7 +26,7 @@ use Rattle.erd_meaning.proofs.accepted.References.{Has-Contains}
 use Rattle.erd_meaning.proofs.accepted.Skeleton.{values-placed_entries}
 use Rattle.erd_meaning.proofs.orders.DistinctEntries.{distinct_one}
 use Rattle.erd_normal.specs.code.NormalTree.{by_name}
-use Rattle.erd_normal.proofs.canonical.DistinctSelections.{selection_values_distinct}
+use Rattle.erd_normal.proofs.canonical.RisingReports.{selection_values_distinct}
 use Rattle.erd_normal.proofs.lists.Matched.{Matched, distinct_matched, even_order, matched_back, matched_within}
 use Rattle.erd_normal.proofs.same.FamilyValues.{not_before_itself, family_values, placed_value, value_placed}
 use Rattle.erd_normal.specs.SaysTheSame.{Sides}

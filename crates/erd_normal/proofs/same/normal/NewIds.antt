@@ -34,8 +34,7 @@ use Rattle.erd_normal.proofs.canonical.CanonicalIds.{canonical_id_exact, selecti
 use Rattle.erd_normal.proofs.canonical.ContestSelections.{one_contest}
 use Rattle.erd_meaning.proofs.accepted.DistinctKeys.{values_distinct}
 use Rattle.erd_meaning.proofs.accepted.Phases.{no_identity_fault}
-use Rattle.erd_normal.proofs.canonical.DistinctSelections.{selection_values_distinct}
-use Rattle.erd_normal.proofs.canonical.RisingReports.{by_key_total, by_name_total}
+use Rattle.erd_normal.proofs.canonical.RisingReports.{selection_values_distinct, by_key_total, by_name_total}
 use Rattle.erd_normal.proofs.canonical.SelectionIds.{listed, selection_values}
 use Rattle.erd_normal.proofs.canonical.SelectionTexts.{canonical_selection_id_exact}
 use Rattle.erd_normal.proofs.lists.KeyedRanks.{rank_exact, rank_low}

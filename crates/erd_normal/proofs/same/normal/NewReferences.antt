@@ -38,7 +38,7 @@ use Rattle.erd_meaning.proofs.accepted.References.{owned, unrepeated_reference}
 use Rattle.erd_meaning.proofs.accepted.Standing.{one_object, owned_by}
 use Rattle.erd_meaning.proofs.orders.RisingOrders.{all_rising}
 use Rattle.erd_normal.specs.code.NormalTree.{id_of_key, normal_id, normal_reference, normal_selection_reference, normal_tree, reference_cmp}
-use Rattle.erd_normal.proofs.same.Refers.{Refers, reference_refers, references_refer}
+use Rattle.erd_normal.proofs.same.IdsOfObjects.{Refers, reference_refers, references_refer}
 use Rattle.erd_normal.proofs.canonical.SelectionIds.{text_built}
 use Rattle.erd_normal.proofs.lists.BuiltLists.{all_map, entry_holds}
 use Rattle.erd_normal.proofs.lists.FoundInParts.{FoundSelection, owner_found}

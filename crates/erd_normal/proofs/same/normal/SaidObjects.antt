@@ -46,7 +46,7 @@ use Rattle.erd_normal.proofs.built.FamilyNames.{contest_of_selections, family_na
 use Rattle.erd_normal.proofs.built.NormalGets.{class_of_object-object, get_object-id, get_selection-id, kind_of_family_id}
 use Rattle.erd_normal.proofs.built.NormalTrees.{normal_node-tree, normal_object-tree, normal_selection-tree}
 use Rattle.erd_normal.proofs.canonical.SelectionIds.{listed}
-use Rattle.erd_normal.proofs.lists.ListParts.{IsPart, part_has}
+use Rattle.erd_normal.proofs.lists.Lists.{IsPart, part_has}
 use Rattle.erd_normal.specs.SaysTheSame.{Sides, Same, a_list, a_text, an_id, an_object, an_unused_id, SameEntries, no_entry, one_entry, SameMembers}
 use Rattle.erd_normal.proofs.same.Built.{set_built}
 use Rattle.erd_normal.proofs.same.Lookups.{Aligned, both_there, not_both, lacks_none, lacks_one}

@@ -39,7 +39,7 @@ use Rattle.erd_normal.proofs.built.BuiltFrom.{Builder}
 use Rattle.erd_normal.proofs.built.NormalEntries.{no_entry}
 use Rattle.erd_normal.proofs.built.NormalGets.{get_label-other, get_label-text}
 use Rattle.erd_normal.proofs.built.NormalTrees.{with_rising_text-tree}
-use Rattle.erd_normal.proofs.same.Refers.{Refers, reference_refers, references_refer}
+use Rattle.erd_normal.proofs.same.IdsOfObjects.{Refers, reference_refers, references_refer}
 use Rattle.erd_normal.proofs.same.Steady.{is_plain, plain_of_kind}
 use Rattle.erd_normal.proofs.throughout.ThroughoutMembers.{BuiltLabel, built_label, is_prefixed}
 use Rattle.erd_normal.specs.SaysTheSame.{Sides, Same, a_text, an_id, an_object, an_empty_array, is_array_kind, SameMembers}

@@ -4,8 +4,8 @@ use Rattle.std.proofs.lemmas.Result.{err_from_is_err_and}
 use Rattle.serde_json.specs.View.{view}
 use Rattle.erd_check.specs.Refusals.{RefusedFor}
 use Rattle.erd_meaning.specs.Accepted.{IsFault}
-use Rattle.erd_canon.proofs.forms.Refusing.{refused_shape}
 use Rattle.erd_canon.proofs.bytes.acceptance.accepted.Goals as goal
+use Rattle.erd_canon.proofs.forms.Refusing.{refused_shape}
 
 pub returns-in_err-shaped-clause-refused : goal.returns-in_err-shaped-clause-refused
 returns-in_err-shaped-clause-refused c =
