@@ -1,5 +1,5 @@
 -- The texts of the values that calls answer as data.
-use Rattle.std.proofs.Common.{◌≡◌, ℕ, List, ◌++◌, ap, ◌∙◌, append_assoc, ◌≤◌, ◌<◌, ◌^◌, ◌⊎◌, inl, inr, pos, negsuc, Some, refl, sym, subst, arith, [], ◌∷◌, codes, false}
+use Rattle.std.proofs.Common.{◌≡◌, ℕ, List, ◌++◌, ap, ◌∙◌, append_assoc, ◌≤◌, ◌<◌, ◌^◌, ◌⊎◌, inl, inr, pos, negsuc, Some, refl, sym, subst, arith, [], codes, false}
 use Rattle.std.proofs.lemmas.Bool.{cases_eq}
 use Rattle.std.specs.Fmt.{digits, signed_decimal}
 use Rattle.std.specs.Str.{IsUtf8}

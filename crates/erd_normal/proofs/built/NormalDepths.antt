@@ -1,5 +1,5 @@
 -- What is built of a report whose shape has no fault is nested no deeper, part by part.
-use Rattle.std.proofs.Common.{◌≡◌, ◌≤◌, ℕ, List, [], ◌∷◌, map, Bool, true, false, if◌then◌else◌, Ordering, Option, Some, None, option_map, codes, refl, sym, ap, ◌∙◌, subst, arith, zero, suc}
+use Rattle.std.proofs.Common.{◌≡◌, ◌≤◌, ℕ, List, [], map, Bool, true, false, if◌then◌else◌, Ordering, Option, Some, None, option_map, codes, refl, sym, ap, ◌∙◌, subst, arith, zero, suc}
 use Rattle.std.specs.Bool.{⊤}
 use Rattle.std.specs.List.{AllByRecursion}
 use Rattle.std.specs.Option.{option_map_or}

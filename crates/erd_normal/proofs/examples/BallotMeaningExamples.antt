@@ -1,5 +1,5 @@
 -- The small ballot and its canonical form mean the same.
-use Rattle.std.proofs.Common.{◌≡◌, ℕ, List, [], ◌∷◌, codes, slice_get, Option, Some, None, true, false, ◌||◌, map, refl, sym, ap, ◌∙◌, lit<}
+use Rattle.std.proofs.Common.{◌≡◌, ℕ, List, [], ◌∷◌, codes, slice_get, Option, Some, None, true, false, map, refl, sym, ap, ◌∙◌, lit<}
 use Rattle.std.proofs.Math.Path.{fun_ext}
 use Rattle.std.specs.Ordering.{is_eq}
 use Rattle.std.specs.Prelude.{option_and_then, option_map, unwrap_or}

@@ -1,5 +1,5 @@
 -- What a reference to a selection becomes, by the ranks of the selection and its contest.
-use Rattle.std.proofs.Common.{◌≡◌, ◌==◌, ◌+◌, ◌++◌, ℕ, List, [], ◌∷◌, true, false, true≢false, codes, Option, Some, None, option_and_then, option_map, find, slice_get, refl, sym, ap, ap₂, ◌∙◌, subst}
+use Rattle.std.proofs.Common.{◌≡◌, ◌==◌, ℕ, List, [], true, false, true≢false, codes, Option, Some, None, option_and_then, option_map, find, slice_get, refl, sym, ap, ap₂, ◌∙◌, subst}
 use Rattle.std.proofs.lemmas.Option.{slice_get-map}
 use Rattle.std.specs.Option.{option_map_or}
 use Rattle.serde_json.specs.Data.{Data, string}

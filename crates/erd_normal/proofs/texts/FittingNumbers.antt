@@ -1,5 +1,5 @@
 -- What stands in a value whose numbers fit has numbers that fit.
-use Rattle.std.proofs.Common.{◌≡◌, false, ◌||◌, ℕ, zero, suc, List, Some, inl, inr, refl, subst, ◌<◌, ◌^◌, [], ◌∷◌, if◌then◌else◌, Ordering, Less, Equal, Greater, Option, None, arith}
+use Rattle.std.proofs.Common.{◌≡◌, false, ℕ, zero, suc, List, Some, inl, inr, refl, subst, ◌<◌, ◌^◌, [], ◌∷◌, Ordering, Less, Equal, Greater, Option, None, arith}
 use Rattle.std.proofs.lemmas.Bool.{or_from}
 use Rattle.std.specs.List.{AllByRecursion}
 use Rattle.std.specs.Option.{option_map_or}
@@ -8,9 +8,6 @@ use Rattle.serde_json.specs.Data.{Num, float, Data, number, array, object, Items
 use Rattle.serde_json.specs.Find.{get_item, get_member, is_float}
 use Rattle.serde_json.specs.Written.{has_float, items_have_float, members_have_float}
 use Rattle.erd_tables.specs.Texts.{text_cmp}
-use Rattle.erd_tables.specs.declared.class.Family.TheVariants as family
-use Rattle.erd_tables.specs.declared.class.Role.TheVariants as role
-use Rattle.erd_tables.specs.declared.member.MemberKind.TheVariants as kind
 use Rattle.erd_check.specs.Numbers.{IsFittingNumber, HasFittingNumbers, ItemsHaveFittingNumbers, MembersHaveFittingNumbers}
 use Rattle.erd_check.specs.Values.{list_of_items}
 use Rattle.erd_check.specs.Wants.{Asked}

@@ -1,5 +1,5 @@
 -- The objects of a report that has no fraction have none.
-use Rattle.std.proofs.Common.{◌≡◌, ℕ, Ordering, List, [], ◌∷◌, false, ◌||◌, map, Option, Some, None, refl, ap, ◌∙◌, ◌+◌, ◌++◌, codes, slice_get, option_map}
+use Rattle.std.proofs.Common.{◌≡◌, ℕ, Ordering, List, [], ◌∷◌, false, map, Option, Some, None, refl, ap, ◌∙◌, ◌+◌, codes, slice_get, option_map}
 use Rattle.std.specs.List.{AllByRecursion, flat_map}
 use Rattle.std.specs.Option.{option_map_or}
 use Rattle.std.proofs.lemmas.Bool.{or_parts}
