@@ -106,22 +106,14 @@ module _ (π : Preference) where
 
 -- each class of a family has identifiers
 pub kind_of_identifiers : (c : Class) (f : Family) → role_of_class c ≡ role.OfFamily f → kind_of_member c (codes "ExternalIdentifier") ≡ kind.Identifiers
-kind_of_identifiers class.ReportingUnit f e = refl
-kind_of_identifiers class.Party f e = refl
-kind_of_identifiers class.Coalition f e = refl
-kind_of_identifiers class.Person f e = refl
-kind_of_identifiers class.Office f e = refl
-kind_of_identifiers class.Header f e = refl
-kind_of_identifiers class.Candidate f e = refl
-kind_of_identifiers class.CandidateContest f e = refl
-kind_of_identifiers class.BallotMeasureContest f e = refl
-kind_of_identifiers class.RetentionContest f e = refl
-kind_of_identifiers class.PartyContest f e = refl
-kind_of_identifiers class.CandidateSelection f e = refl
-kind_of_identifiers class.BallotMeasureSelection f e = refl
-kind_of_identifiers class.PartySelection f e = refl
-kind_of_identifiers class.BallotStyle f e = refl
-kind_of_identifiers c f e = cc
+kind_of_identifiers class.ElectionReport f e = cc
+kind_of_identifiers class.Election f e = cc
+kind_of_identifiers class.OrderedContest f e = cc
+kind_of_identifiers class.OrderedHeader f e = cc
+kind_of_identifiers class.ExternalIdentifier f e = cc
+kind_of_identifiers class.InternationalizedText f e = cc
+kind_of_identifiers class.LanguageString f e = cc
+kind_of_identifiers c f e = refl
 
 -- what is built of an object has the key of the object, under each preference
 pub key_of_object : (π ρ : Preference) (t : Data) (f : Family) (c : Class) (d : Data) → IsTree d → class_of_object (role.OfFamily f) d ≡ Some c → key_of ρ (normal_object π t f d) ≡ key_of ρ d

@@ -1,6 +1,7 @@
 -- Identifiers, translations and carried values that say the same are equal: nothing may be absent in them.
-use Rattle.std.proofs.Common.{◌≡◌, ℕ, List, Bool, true, false, cond, not, Option, Some, None, codes, refl, sym, ap, ap₂, ◌∙◌, subst}
+use Rattle.std.proofs.Common.{◌≡◌, ℕ, List, Bool, true, false, cond, not, Option, Some, None, codes, refl, sym, ap, ap₂, ◌∙◌, subst, true≢false}
 use Rattle.std.specs.Str.{bytes_eq}
+use Rattle.std.proofs.lemmas.Bool.{not-true}
 use Rattle.serde_json.specs.Data.{Data, array, object, Items, item, Members, member}
 use Rattle.erd_tables.specs.Classes.{role_of_class}
 use Rattle.erd_tables.specs.Table.{is_required, kind_of_member}
@@ -68,20 +69,13 @@ abbrev pub is_steady : Want → Bool
 is_steady (Member k required) = is_steady_kind k
 is_steady w = true
 
+pub steady_no_array : (k : MemberKind) → is_steady_kind k ≡ true → is_array_kind k ≡ true → ⊥
+steady_no_array kind.Identity h is = cc
+steady_no_array k h is = absurd (true≢false (sym is ∙ not-true (is_array_kind k) h))
+
 -- a member of which something steady is asked, and which is not in the envelope
 pub stays_one : (t : Data) (s : Scope) (name : List ℕ) (d : Data) → ((v : Want) → want_of_name s name ≡ Some v → is_steady v ≡ true) → is_envelope s name ≡ false → MayBeAbsent t s name d → ⊥
-stays_one t s name d steady apart (an_empty_array k required asks is empty) = at k (steady (Member k required) asks) is
-  where
-    at : (k : MemberKind) → is_steady_kind k ≡ true → is_array_kind k ≡ true → ⊥
-    at (kind.Many f) h is = cc
-    at (kind.Keyed f) h is = cc
-    at kind.Identifiers h is = cc
-    at kind.Languages h is = cc
-    at kind.Elections h is = cc
-    at kind.Content h is = cc
-    at kind.Ordered h is = cc
-    at kind.Outside h is = cc
-    at k h is = cc
+stays_one t s name d steady apart (an_empty_array k required asks is empty) = steady_no_array k (steady (Member k required) asks) is
 stays_one t s name d steady apart (of_the_envelope h) = let e : true ≡ false = sym h ∙ apart in cc
 stays_one t s name d steady apart (an_unused_id id required asks is unused) = let h : false ≡ true = steady (Member kind.Identity required) asks in cc
 

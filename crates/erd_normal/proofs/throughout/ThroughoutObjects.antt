@@ -38,7 +38,7 @@ use Rattle.erd_normal.proofs.lists.Lists.{IsPart, part_has}
 use Rattle.erd_normal.proofs.built.BuiltObjects.{built_node, built_object, built_selection, is_id, no_name, node_builder, object_builder, object_id, plain_builder, selection_id}
 use Rattle.erd_normal.proofs.built.FamilyNames.{contest_of_selections, family_name, keyed_name}
 use Rattle.erd_normal.proofs.built.NormalGets.{kind_of_family_id}
-use Rattle.erd_normal.proofs.throughout.ThroughoutMembers.{HoldsOfMembers, is_plain_kind, is_prefixed, throughout_type, throughout_value}
+use Rattle.erd_normal.proofs.throughout.ThroughoutMembers.{HoldsOfMembers, is_plain_kind, throughout_type, throughout_value}
 use Rattle.erd_normal.proofs.throughout.ThroughoutValues.{Throughout, throughout_array, throughout_by_steps, throughout_kept, throughout_list, throughout_text}
 use Rattle.erd_check.proofs.Positions.{map_has, all_by_entry}
 use Rattle.erd_check.proofs.Members.{found_cases}
@@ -59,22 +59,14 @@ pub record HoldsOfObjects (π : Preference) (t : Data) (P : Asked → Type 0) : 
 
 -- a member of a contest or a header of a ballot
 abbrev is_node_kind : MemberKind → Bool
-is_node_kind kind.ClassText = false
-is_node_kind (kind.One f) = is_prefixed f
-is_node_kind (kind.Many f) = is_prefixed f
-is_node_kind (kind.Keyed f) = false
-is_node_kind kind.Elections = false
-is_node_kind k = true
+is_node_kind kind.Content = true
+is_node_kind k = is_plain_kind k
 
 -- a member of an object of a family
 abbrev is_object_kind : MemberKind → Bool
-is_object_kind kind.ClassText = false
-is_object_kind (kind.One f) = is_prefixed f
-is_object_kind (kind.Many f) = is_prefixed f
 is_object_kind (kind.Keyed family.Selection) = true
-is_object_kind (kind.Keyed f) = false
-is_object_kind kind.Elections = false
-is_object_kind k = true
+is_object_kind kind.Content = true
+is_object_kind k = is_plain_kind k
 
 selection_kind : (c : Class) (name : List ℕ) → bytes_eq name (codes "@type") ≡ false → role_of_class c ≡ selection_role → is_plain_kind (kind_of_member c name) ≡ true
 selection_kind class.CandidateSelection name other r = kind_of_class is_plain_kind class.CandidateSelection name other refl refl refl refl

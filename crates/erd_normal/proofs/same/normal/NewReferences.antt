@@ -204,14 +204,7 @@ free_in_scope (scope.Members r o) name v e = at (bytes_eq name (codes "@type")) 
 
 free_entry : (w v : Want) → is_free w ≡ true → entry_want w ≡ Some v → is_free v ≡ true
 free_entry (Member (kind.Many family.Style) required) v h e = cc
-free_entry (Member (kind.Many family.Unit) required) v h e = let same : Reference family.Unit ≡ v = cc in ap is_free (sym same)
-free_entry (Member (kind.Many family.Party) required) v h e = let same : Reference family.Party ≡ v = cc in ap is_free (sym same)
-free_entry (Member (kind.Many family.Person) required) v h e = let same : Reference family.Person ≡ v = cc in ap is_free (sym same)
-free_entry (Member (kind.Many family.Office) required) v h e = let same : Reference family.Office ≡ v = cc in ap is_free (sym same)
-free_entry (Member (kind.Many family.Header) required) v h e = let same : Reference family.Header ≡ v = cc in ap is_free (sym same)
-free_entry (Member (kind.Many family.Candidate) required) v h e = let same : Reference family.Candidate ≡ v = cc in ap is_free (sym same)
-free_entry (Member (kind.Many family.Contest) required) v h e = let same : Reference family.Contest ≡ v = cc in ap is_free (sym same)
-free_entry (Member (kind.Many family.Selection) required) v h e = let same : Reference family.Selection ≡ v = cc in ap is_free (sym same)
+free_entry (Member (kind.Many f) required) v h e = let same : Reference f ≡ v = cc in ap is_free (sym same)
 free_entry (Member (kind.Keyed f) required) v h e = let same : Object (role.OfFamily f) ≡ v = cc in ap is_free (sym same)
 free_entry (Member kind.Identifiers required) v h e = let same : Object role.Identifier ≡ v = cc in ap is_free (sym same)
 free_entry (Member kind.Languages required) v h e = let same : Object role.Language ≡ v = cc in ap is_free (sym same)

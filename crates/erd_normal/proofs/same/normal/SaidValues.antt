@@ -41,7 +41,7 @@ use Rattle.erd_normal.proofs.built.NormalGets.{get_label-other, get_label-text}
 use Rattle.erd_normal.proofs.built.NormalTrees.{with_rising_text-tree}
 use Rattle.erd_normal.proofs.same.IdsOfObjects.{Refers, reference_refers, references_refer}
 use Rattle.erd_normal.proofs.same.Steady.{is_plain, plain_of_kind}
-use Rattle.erd_normal.proofs.throughout.ThroughoutMembers.{BuiltLabel, built_label, is_prefixed}
+use Rattle.erd_normal.proofs.throughout.ThroughoutMembers.{BuiltLabel, built_label, is_prefixed, is_plain_kind}
 use Rattle.erd_normal.specs.SaysTheSame.{Sides, Same, a_text, an_id, an_object, an_empty_array, is_array_kind, SameMembers}
 use Rattle.erd_normal.proofs.same.Built.{list_built, set_built}
 use Rattle.erd_normal.proofs.same.Labels.{asked_beside, in_label, plain_beside}
@@ -131,14 +131,8 @@ rising_members ms = put (codes "Text") (array_of (rising_list compact_cmp (entri
 
 -- a member that is no `@id`, holds no objects, and refers to none by itself that has no prefix
 abbrev pub is_simple_kind : MemberKind → Bool
-is_simple_kind kind.ClassText = false
 is_simple_kind kind.Identity = false
-is_simple_kind (kind.One f) = is_prefixed f
-is_simple_kind (kind.Many f) = is_prefixed f
-is_simple_kind (kind.Keyed f) = false
-is_simple_kind kind.Elections = false
-is_simple_kind kind.Content = false
-is_simple_kind k = true
+is_simple_kind k = is_plain_kind k
 
 module _ (π : Preference) (t : Data) (accepted : IsAccepted π t) (tree : IsTree t) (bounded : IsBounded t) where
   abbrev m : Sides
