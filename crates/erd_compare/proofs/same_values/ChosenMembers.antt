@@ -5,7 +5,7 @@ use Rattle.std.proofs.lemmas.Bool.{or_from, or_parts}
 use Rattle.std.proofs.lemmas.Cmp.{nat_list_cmp_total}
 use Rattle.std.proofs.lemmas.Map.Lookups.{exact_bytes}
 use Rattle.std.specs.Ordering.{match_ordering}
-use Rattle.serde_json.specs.Data.{Data, null, boolean, number, string, array, object, Members, no_members, member}
+use Rattle.serde_json.specs.Data.{Data, null, object, Members, no_members, member}
 use Rattle.serde_json.specs.Find.{get, get_member}
 use Rattle.serde_json.specs.Written.{has_float, members_have_float}
 use Rattle.erd_tables.specs.Texts.{text_cmp}
@@ -52,11 +52,7 @@ get_member-chosen name c (member k d ms) = at (takes_name c k) refl (get_member-
 -- a value has the members of its object
 get-members_in : (name : List ℕ) (d : Data) → get name d ≡ get_member name (members_in d)
 get-members_in name null = refl
-get-members_in name (boolean b) = refl
-get-members_in name (number n) = refl
-get-members_in name (string s) = refl
-get-members_in name (array ds) = refl
-get-members_in name (object ms) = refl
+get-members_in name e = refl
 
 -- the same of any value
 pub get_member-chosen_in : (name : List ℕ) (c : Choice) (d : Data) → get_member name (chosen_in c d) ≡ cond (takes_name c name) (get name d) None

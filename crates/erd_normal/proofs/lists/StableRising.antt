@@ -1,7 +1,7 @@
 -- A stable sorting by keys is the rising list.
 use denote.Param.Members.{Mut}
 use denote.Ref.{Bor}
-use Rattle.std.proofs.Common.{◌≡◌, List, [], ◌∷◌, Bool, true, false, not, ◌&&◌, Ordering, Less, Equal, Greater, refl, sym, ap, ◌∙◌, ◌⊎◌, inl, inr, ap₂, map}
+use Rattle.std.proofs.Common.{◌≡◌, List, [], ◌∷◌, Bool, true, false, not, ◌&&◌, Ordering, Less, refl, sym, ap, ◌∙◌, ◌⊎◌, inl, inr, ap₂, map}
 use Rattle.std.proofs.lemmas.Fn.{always_returns_same}
 use Rattle.std.proofs.lemmas.List.Elements.{filter_agree}
 use Rattle.std.proofs.lemmas.List.Sorted.{ranks_by}
@@ -30,8 +30,7 @@ one_or_none {X} p (x ∷ xs) = at (p x) refl (one_or_none p xs)
 -- neither is less than the other exactly if they are equal
 level : (a b : Ordering) → b ≡ ordering_reverse a → not (is_lt a) && not (is_lt b) ≡ is_eq b
 level Less b e = rw e refl
-level Equal b e = rw e refl
-level Greater b e = rw e refl
+level d b e = rw e refl
 
 module _ {K T : Type 0} (cmp : K → K → Ordering) (total : IsTotalOrder cmp) where
   abbrev is_below : K × T → K × T → Bool

@@ -62,11 +62,7 @@ text_renamed pairs s false = refl
 mutual
   pub renamed_alike : (pairs : Renaming) (w : Option Want) (d : Data) → Alike (replaced_text pairs) w d (renamed_value pairs w d)
   renamed_alike pairs None null = refl
-  renamed_alike pairs None (boolean b) = refl
-  renamed_alike pairs None (number n) = refl
-  renamed_alike pairs None (string s) = refl
-  renamed_alike pairs None (array ds) = refl
-  renamed_alike pairs None (object ms) = refl
+  renamed_alike pairs None e = refl
   renamed_alike pairs (Some w) null = refl
   renamed_alike pairs (Some w) (boolean b) = refl
   renamed_alike pairs (Some w) (number n) = refl
@@ -99,11 +95,7 @@ text_kept s false = refl
 mutual
   pub alike_self : (w : Option Want) (d : Data) → Alike as_it_is w d d
   alike_self None null = refl
-  alike_self None (boolean b) = refl
-  alike_self None (number n) = refl
-  alike_self None (string s) = refl
-  alike_self None (array ds) = refl
-  alike_self None (object ms) = refl
+  alike_self None e = refl
   alike_self (Some w) null = refl
   alike_self (Some w) (boolean b) = refl
   alike_self (Some w) (number n) = refl

@@ -17,11 +17,7 @@ use Rattle.erd_normal.proofs.same.Lookups.{get_both}
 
 pub alike_unasked : (ρ : List ℕ → List ℕ) (d e : Data) → Alike ρ None d e → d ≡ e
 alike_unasked ρ null e h = h
-alike_unasked ρ (boolean b) e h = h
-alike_unasked ρ (number n) e h = h
-alike_unasked ρ (string s) e h = h
-alike_unasked ρ (array ds) e h = h
-alike_unasked ρ (object ms) e h = h
+alike_unasked ρ k e h = h
 
 -- ---- members
 
