@@ -163,7 +163,6 @@ module _ {A : Type 0} (cmp : A → A → Ordering) (order : IsTotalOrder cmp) wh
 
   pub rising_from_sort : (xs ys : List A) → IsSorted cmp ys → IsStable cmp xs ys → ys ≡ rising_list cmp xs
   rising_from_sort xs ys sorted stable = determined ys (rising_list cmp xs) (rises ys sorted) (list_rises xs) (λ z. stable z ∙ sym (list_stable z xs))
-
   -- ---- what is below a value stands first
 
 -- ---- through a function
