@@ -1,4 +1,3 @@
 pub mod PlainWords
 pub mod PreferenceWords
 pub mod LineReadings
-pub mod RequestsFound

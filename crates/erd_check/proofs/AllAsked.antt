@@ -1,9 +1,10 @@
 -- All that is asked in a tree, with its places, as a list: what holds of each of the list holds at each place.
-use Rattle.std.proofs.Common.{◌≡◌, ℕ, zero, suc, ◌+◌, inl, inr, List, [], ◌∷◌, ◌++◌, length, take, Bool, true, false, ◌&&◌, Ordering, Less, Equal, Greater, nat_cmp, Option, Some, None, option_map, option_and_then, refl, sym, ap, subst, append_assoc, append-nil, add-zero, zero-add}
+use Rattle.std.proofs.Common.{◌≡◌, ℕ, zero, suc, ◌+◌, inl, inr, List, [], ◌∷◌, ◌++◌, length, take, Bool, true, false, ◌&&◌, Ordering, Equal, nat_cmp, Option, Some, None, option_map, option_and_then, refl, sym, ap, subst, append_assoc, append-nil, add-zero, zero-add}
 use Rattle.std.specs.Cmp.Lexicographic.{slice_cmp}
 use Rattle.std.specs.List.{list_any, list_all}
 use Rattle.std.specs.Option.{option_map_or}
 use Rattle.std.specs.Ordering.{match_ordering}
+use Rattle.std.proofs.lemmas.Bool.{and_parts}
 use Rattle.serde_json.specs.Data.{Data, null, boolean, number, string, array, object, Items, no_items, item, Members, no_members, member}
 use Rattle.serde_json.specs.Find.{get_member, get_item}
 use Rattle.erd_tables.specs.declared.class.Role.TheVariants.{Report}
@@ -18,7 +19,6 @@ use Rattle.erd_check.specs.declared.want.Want.TheVariants.{Object}
 use Rattle.erd_check.specs.declared.want.Scope.{Scope}
 use Rattle.erd_check.proofs.Steps.{text_from_equal, next_index}
 use Rattle.erd_check.proofs.Order.{In, In-append_left, In-append_right}
-use Rattle.erd_check.proofs.Reasons.{and_true}
 
 -- a place and what is asked there
 abbrev pub AskedPlace : Type 0
@@ -27,14 +27,11 @@ AskedPlace = List Step × Asked
 -- what is asked of a value at this place, and of all that stands inside it
 abbrev mutual
   pub all_asked_from : List Step → Want → Bool → Data → List AskedPlace
-  all_asked_from p w repeated null = (p, asked_with w repeated null) ∷ []
-  all_asked_from p w repeated (boolean b) = (p, asked_with w repeated (boolean b)) ∷ []
-  all_asked_from p w repeated (number n) = (p, asked_with w repeated (number n)) ∷ []
-  all_asked_from p w repeated (string s) = (p, asked_with w repeated (string s)) ∷ []
   all_asked_from p w repeated (array ds) =
       (p, asked_with w repeated (array ds)) ∷ option_map_or (λ v. all_asked_items p v (is_compared_set w) [] ds) (entry_want w) []
   all_asked_from p w repeated (object ms) =
       (p, asked_with w repeated (object ms)) ∷ all_asked_members p (scope_inside w (object ms)) ms
+  all_asked_from p w repeated d = (p, asked_with w repeated d) ∷ []
 
   pub all_asked_items : List Step → Want → Bool → List Data → Items → List AskedPlace
   all_asked_items p w is_set earlier no_items = []
@@ -61,14 +58,11 @@ first p a b xs h =
     inl (subst (λ (q : List Step). let x : AskedPlace = (p, a) in let y : AskedPlace = (q, b) in x ≡ y) (sym (append-nil p)) (ap {A = Asked} {B = AskedPlace} (λ c. (p, c)) e))
 
 listed_itself : (p : List Step) (w : Want) (repeated : Bool) (d : Data) (b : Asked) → Some (asked_with w repeated d) ≡ Some b → Listed p [] b (all_asked_from p w repeated d)
-listed_itself p w repeated null b h = first p (asked_with w repeated null) b [] h
-listed_itself p w repeated (boolean f) b h = first p (asked_with w repeated (boolean f)) b [] h
-listed_itself p w repeated (number n) b h = first p (asked_with w repeated (number n)) b [] h
-listed_itself p w repeated (string s) b h = first p (asked_with w repeated (string s)) b [] h
 listed_itself p w repeated (array ds) b h =
     first p (asked_with w repeated (array ds)) b (option_map_or (λ v. all_asked_items p v (is_compared_set w) [] ds) (entry_want w) []) h
 listed_itself p w repeated (object ms) b h =
     first p (asked_with w repeated (object ms)) b (all_asked_members p (scope_inside w (object ms)) ms) h
+listed_itself p w repeated e b h = first p (asked_with w repeated e) b [] h
 
 regroup : (p : List Step) (s : Step) (q : List Step) (b : Asked) (xs : List AskedPlace) → Listed (p ++ s ∷ []) q b xs → Listed p (s ∷ q) b xs
 regroup p s q b xs h = subst (λ x. In {A = AskedPlace} (x, b) xs) (append_assoc p (s ∷ []) q) h
@@ -97,16 +91,13 @@ listed_member : (p : List Step) (s : Scope) (k : List ℕ) (d : Data) (ms : Memb
     → (member_asked s ms n q ≡ Some b → Listed p (Name n ∷ q) b (all_asked_members p s ms))
     → option_and_then (λ b. asked_from b q) (asked_of_member (want_of_name s n) (match_ordering o (get_member n ms) (Some d) (get_member n ms))) ≡ Some b
     → Listed p (Name n ∷ q) b (all_asked_members p s (member k d ms))
-listed_member p s k d ms n q b Less e here more h =
-    In-append_right {A = AskedPlace} (p ++ Name n ∷ q, b) (option_map_or (λ v. all_asked_from (p ++ Name k ∷ []) v false d) (want_of_name s k) []) (all_asked_members p s ms) (more h)
 listed_member p s k d ms n q b Equal e here more h =
     let same : n ≡ k = text_from_equal n k e in
     let h' : option_and_then (λ b. asked_from b q) (asked_of_member (want_of_name s k) (Some d)) ≡ Some b =
     subst (λ m. option_and_then (λ b. asked_from b q) (asked_of_member (want_of_name s m) (Some d)) ≡ Some b) same h in
     In-append_left {A = AskedPlace} (p ++ Name n ∷ q, b) (option_map_or (λ v. all_asked_from (p ++ Name k ∷ []) v false d) (want_of_name s k) []) (all_asked_members p s ms)
     (subst (λ m. Listed p (Name m ∷ q) b (option_map_or (λ v. all_asked_from (p ++ Name k ∷ []) v false d) (want_of_name s k) [])) (sym same) (listed_here p k d q b (want_of_name s k) here h'))
-listed_member p s k d ms n q b Greater e here more h =
-    In-append_right {A = AskedPlace} (p ++ Name n ∷ q, b) (option_map_or (λ v. all_asked_from (p ++ Name k ∷ []) v false d) (want_of_name s k) []) (all_asked_members p s ms) (more h)
+listed_member p s k d ms n q b x e here more h = In-append_right {A = AskedPlace} (p ++ Name n ∷ q, b) (option_map_or (λ v. all_asked_from (p ++ Name k ∷ []) v false d) (want_of_name s k) []) (all_asked_members p s ms) (more h)
 
 none_there : (q : List Step) (b : Asked) (o : Option Want) → option_and_then (λ b. asked_from b q) (asked_of_member o None) ≡ Some b → ⊥
 none_there q b None h = cc
@@ -154,8 +145,8 @@ all_asked_complete t p a h = listed_from [] (Object Report) false t p a h
 
 pub list_all_at : {A : Type 0} (test : A → Bool) (x : A) (xs : List A) → list_all test xs ≡ true → In x xs → test x ≡ true
 list_all_at test x [] h i = absurd i
-list_all_at test x (y ∷ ys) h (inl e) = subst (λ z. test z ≡ true) e (and_true (test y) (list_all test ys) h).0
-list_all_at test x (y ∷ ys) h (inr t) = list_all_at test x ys (and_true (test y) (list_all test ys) h).1 t
+list_all_at test x (y ∷ ys) h (inl e) = subst (λ z. test z ≡ true) e (and_parts (test y) (list_all test ys) h).0
+list_all_at test x (y ∷ ys) h (inr t) = list_all_at test x ys (and_parts (test y) (list_all test ys) h).1 t
 
 -- what holds of all that is listed holds at each place
 pub tested_at : (test : AskedPlace → Bool) (t : Data) → list_all test (all_asked t) ≡ true → (p : List Step) (a : Asked) → asked_at t p ≡ Some a → test (p, a) ≡ true

@@ -7,7 +7,7 @@ use Rattle.std.specs.List.{list_any, AllByRecursion}
 use Rattle.std.specs.List.Sorted.{IsStrictlySortedBy}
 use Rattle.std.specs.Option.{option_map_or}
 use Rattle.std.specs.Ordering.{ordering_reverse}
-use Rattle.serde_json.specs.Data.{Data, null, boolean, number, string, array, object, Items, no_items, item, Members, no_members, member}
+use Rattle.serde_json.specs.Data.{Data, array, object, Items, no_items, item, Members, no_members, member}
 use Rattle.serde_json.specs.Find.{get_member, get_item}
 use Rattle.erd_tables.specs.Places.{place_cmp}
 use Rattle.erd_tables.proofs.PlaceOrder.{start_less, steps_less}
@@ -148,10 +148,6 @@ mutual
   unfolding IsStrictlySortedBy
 
   sound_at : (p : List Step) (w : Want) (repeated : Bool) (d : Data) (x : AskedPlace) → IsInOrder w d → In x (all_asked_from p w repeated d) → AtOrBelow p (asked_with w repeated d) x
-  sound_at p w repeated null x order h = alone p (asked_with w repeated null) x h
-  sound_at p w repeated (boolean b) x order h = alone p (asked_with w repeated (boolean b)) x h
-  sound_at p w repeated (number n) x order h = alone p (asked_with w repeated (number n)) x h
-  sound_at p w repeated (string s) x order h = alone p (asked_with w repeated (string s)) x h
   sound_at p w repeated (array ds) x order h =
       elim h [
         | inl e ↦ itself p (asked_with w repeated (array ds)) x e
@@ -162,6 +158,7 @@ mutual
         | inl e ↦ itself p (asked_with w repeated (object ms)) x e
         | inr b ↦ members_at p w repeated ms x (sound_members p (scope_inside w (object ms)) ms x order.0 order.1 b)
       ]
+  sound_at p w repeated e x order h = alone p (asked_with w repeated e) x h
 
   sound_items : (p : List Step) (w : Want) (is_set : Bool) (earlier : List Data) (ds : Items) (x : AskedPlace) → AreItemsInOrder w ds → In x (all_asked_items p w is_set earlier ds) → OfItems p w is_set earlier ds x
   sound_items p w is_set earlier no_items x order h = absurd h
@@ -219,10 +216,6 @@ mutual
   unfolding IsStrictlySortedBy
 
   rising_at : (p : List Step) (w : Want) (repeated : Bool) (d : Data) → IsInOrder w d → IsStrictlySortedBy by_place (all_asked_from p w repeated d)
-  rising_at p w repeated null order = alone_rises (p, asked_with w repeated null)
-  rising_at p w repeated (boolean b) order = alone_rises (p, asked_with w repeated (boolean b))
-  rising_at p w repeated (number n) order = alone_rises (p, asked_with w repeated (number n))
-  rising_at p w repeated (string s) order = alone_rises (p, asked_with w repeated (string s))
   rising_at p w repeated (array ds) order = rising_array p w repeated ds (entry_want w) order (λ v o. rising_items p v (is_compared_set w) [] ds o)
   rising_at p w repeated (object ms) order =
       let s = scope_inside w (object ms) in
@@ -230,6 +223,7 @@ mutual
       (λ y i.
       let b = sound_members p s ms y order.0 order.1 i in
       (Name b.name, b.rest, b.place))
+  rising_at p w repeated e order = alone_rises (p, asked_with w repeated e)
 
   rising_items : (p : List Step) (w : Want) (is_set : Bool) (earlier : List Data) (ds : Items) → AreItemsInOrder w ds → IsStrictlySortedBy by_place (all_asked_items p w is_set earlier ds)
   rising_items p w is_set earlier no_items order = tt

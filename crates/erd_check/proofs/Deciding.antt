@@ -1,15 +1,19 @@
 -- Whether a value is a tree, by a test; of a tree the walk's list is that of all faults of the shape.
-use Rattle.std.proofs.Common.{◌≡◌, ℕ, List, Bool, true, false, ◌&&◌, Ordering, Less, Equal, Greater, is_lt, Option, Some, None, length, refl}
+use Rattle.std.proofs.Common.{◌≡◌, ◌<◌, List, length, arith, ℕ, Bool, true, false, ◌&&◌, Ordering, Less, is_lt, Option, Some, None, refl}
 use Rattle.std.specs.Prelude.{pos, IfSome}
 use Rattle.std.proofs.lemmas.Cmp.{nat_list_cmp_total}
 use Rattle.std.specs.List.{AllByRecursion}
 use Rattle.std.specs.List.Sorted.{IsStrictlySortedBy}
-use Rattle.serde_json.specs.Data.{Num, negative, Data, null, boolean, number, string, array, object, Items, no_items, item, Members, no_members, member}
+use Rattle.std.proofs.lemmas.Bool.{and_parts}
+use Rattle.serde_json.specs.Data.{Data, Num, negative, number, array, object, Items, no_items, item, Members, no_members, member}
 use Rattle.erd_tables.specs.Faults.{ListsAll}
+use Rattle.erd_tables.specs.declared.fault.Fault.{Fault}
+use Rattle.erd_tables.specs.declared.fault.Reason.{Reason}
+use Rattle.erd_tables.specs.declared.place.Step.{Step}
 use Rattle.erd_tables.specs.Texts.{text_cmp}
 use Rattle.erd_tables.specs.declared.class.Role.TheVariants.{Report}
-use Rattle.erd_tables.specs.declared.fault.Fault.{Fault}
 use Rattle.erd_check.specs.Faults.{ShapeFault, NoneOf}
+use Rattle.erd_check.specs.Paths.{fault_at}
 use Rattle.erd_check.specs.Trees.{IsBeforeFirst, IsNumber, IsTree, AreTrees, AreMembers}
 use Rattle.erd_check.specs.code.Walk.{reasons}
 use Rattle.erd_check.specs.Visits.{told_of_report, IsInOrder, AreItemsInOrder, AreMembersInOrder}
@@ -18,9 +22,18 @@ use Rattle.erd_check.specs.Wants.{scope_inside, want_of_name, entry_want}
 use Rattle.erd_check.specs.declared.want.Scope.{Scope}
 use Rattle.erd_check.specs.declared.want.Want.{Want}
 use Rattle.erd_check.specs.declared.want.Want.TheVariants.{Object}
-use Rattle.erd_check.proofs.FaultLists.{no_fault_from_empty}
-use Rattle.erd_check.proofs.ShapeWalks.{shape_walk_lists}
-use Rattle.erd_check.proofs.Reasons.{and_true}
+use Rattle.erd_check.proofs.Walks.{shape_walk_lists}
+
+-- ---- lists of all faults
+
+pub none_from_empty : (IsFault : List Step → Reason → Type 0) (faults : List Fault) → ListsAll IsFault faults → length faults ≡ 0 → NoneOf IsFault
+none_from_empty IsFault faults all empty p r h =
+    let there = (all.each (fault_at p r)).1 h in
+    let inside : there.0 < length faults = there.1 in
+    omega arith
+
+pub no_fault_from_empty : (t : Data) (faults : List Fault) → ListsAll (ShapeFault t) faults → length faults ≡ 0 → NoneOf (ShapeFault t)
+no_fault_from_empty t faults all empty = none_from_empty (ShapeFault t) faults all empty
 
 -- ---- the test
 
@@ -34,12 +47,10 @@ is_number n = true
 
 abbrev mutual
   pub is_tree : Data → Bool
-  is_tree null = true
-  is_tree (boolean b) = true
   is_tree (number n) = is_number n
-  is_tree (string s) = true
   is_tree (array ds) = are_trees ds
   is_tree (object ms) = are_members ms
+  is_tree d = true
 
   pub are_trees : Items → Bool
   are_trees no_items = true
@@ -49,10 +60,9 @@ abbrev mutual
   are_members no_members = true
   are_members (member k d ms) = is_before_first k ms && (is_tree d && are_members ms)
 
-less : (o : Ordering) → is_lt o ≡ true → o ≡ Less
+pub less : (o : Ordering) → is_lt o ≡ true → o ≡ Less
 less Less h = refl
-less Equal h = cc
-less Greater h = cc
+less d h = cc
 
 before_first_sound : (k : List ℕ) (ms : Members) → is_before_first k ms ≡ true → IsBeforeFirst k ms
 before_first_sound k no_members h = tt
@@ -64,24 +74,22 @@ number_sound n h = tt
 
 mutual
   pub tree_sound : (d : Data) → is_tree d ≡ true → IsTree d
-  tree_sound null h = tt
-  tree_sound (boolean b) h = tt
   tree_sound (number n) h = number_sound n h
-  tree_sound (string s) h = tt
   tree_sound (array ds) h = trees_sound ds h
   tree_sound (object ms) h = members_sound ms h
+  tree_sound e h = tt
 
   trees_sound : (ds : Items) → are_trees ds ≡ true → AreTrees ds
   trees_sound no_items h = tt
   trees_sound (item d ds) h =
-      let both = and_true (is_tree d) (are_trees ds) h in
+      let both = and_parts (is_tree d) (are_trees ds) h in
       (tree_sound d both.0, trees_sound ds both.1)
 
   members_sound : (ms : Members) → are_members ms ≡ true → AreMembers ms
   members_sound no_members h = tt
   members_sound (member k d ms) h =
-      let first = and_true (is_before_first k ms) (is_tree d && are_members ms) h in
-      let both = and_true (is_tree d) (are_members ms) first.1 in
+      let first = and_parts (is_before_first k ms) (is_tree d && are_members ms) h in
+      let both = and_parts (is_tree d) (are_members ms) first.1 in
       (before_first_sound k ms first.0, tree_sound d both.0, members_sound ms both.1)
 
 -- ---- trees are in order
@@ -94,7 +102,7 @@ pub before_all : (k : List ℕ) (ms : Members) → IsBeforeFirst k ms → AreMem
 before_all k no_members h trees = tt
 before_all k (member l d ms) h trees = (h, before_all k ms (before_later k l ms h trees.0) trees.2)
 
-names_rise : (ms : Members) → AreMembers ms → IsStrictlySortedBy text_cmp (names ms)
+pub names_rise : (ms : Members) → AreMembers ms → IsStrictlySortedBy text_cmp (names ms)
 unfolding IsStrictlySortedBy
 names_rise no_members trees = tt
 names_rise (member k d ms) trees = (before_all k ms trees.0 trees.2, names_rise ms trees.2)
@@ -105,12 +113,9 @@ if_some P (Some a) h = h a
 
 mutual
   pub tree_in_order : (w : Want) (d : Data) → IsTree d → IsInOrder w d
-  tree_in_order w null tree = tt
-  tree_in_order w (boolean b) tree = tt
-  tree_in_order w (number n) tree = tt
-  tree_in_order w (string s) tree = tt
   tree_in_order w (array ds) tree = if_some (λ v. AreItemsInOrder v ds) (entry_want w) (λ v. items_in_order v ds tree)
   tree_in_order w (object ms) tree = (names_rise ms tree, members_in_order (scope_inside w (object ms)) ms tree)
+  tree_in_order w e tree = tt
 
   items_in_order : (w : Want) (ds : Items) → AreTrees ds → AreItemsInOrder w ds
   items_in_order w no_items trees = tt

@@ -3,19 +3,19 @@ use Rattle.std.proofs.Common.{◌≡◌, ℕ, pos, negsuc, List, Bool, true, fal
 use Rattle.std.specs.Str.{bytes_eq}
 use Rattle.std.proofs.lemmas.Slice.Eq.{bytes_eq-Decides}
 use Rattle.std.proofs.lemmas.Bool.Decides.{Decides-int_eq}
+use Rattle.std.proofs.lemmas.Bool.{and_parts}
 use Rattle.serde_json.specs.Data.{Num, unsigned, negative, float, Data, null, boolean, number, string, array, object, Items, no_items, item, Members, no_members, member}
 use Rattle.erd_check.specs.Trees.{same_flag, same_number, is_same_json, are_same_items, are_same_members, IsNumber, IsTree, AreTrees, AreMembers}
-
-pub both_true : (a b : Bool) → a && b ≡ true → (a ≡ true) × (b ≡ true)
-both_true true true e = (refl, refl)
-both_true true false e = cc
-both_true false b e = cc
 
 pub text_exact : (a b : List ℕ) → bytes_eq a b ≡ true → a ≡ b
 text_exact a b e = (bytes_eq-Decides a b).0 e
 
 pub text_itself : (a : List ℕ) → bytes_eq a a ≡ true
 text_itself a = (bytes_eq-Decides a a).1 refl
+
+pub flag_itself : (b : Bool) → same_flag b b ≡ true
+flag_itself true = refl
+flag_itself false = refl
 
 pub same_flag_exact : (a b : Bool) → same_flag a b ≡ true → a ≡ b
 same_flag_exact true true e = refl
@@ -47,15 +47,15 @@ mutual
   pub are_same_items_exact : (ds es : Items) → AreTrees ds → AreTrees es → are_same_items ds es ≡ true → ds ≡ es
   are_same_items_exact no_items no_items p q h = refl
   are_same_items_exact (item d ds) (item e es) p q h =
-      let b = both_true (is_same_json d e) (are_same_items ds es) h in
+      let b = and_parts (is_same_json d e) (are_same_items ds es) h in
       ap₂ item (is_same_exact d e p.0 q.0 b.0) (are_same_items_exact ds es p.1 q.1 b.1)
   are_same_items_exact _ _ p q h = cc
 
   pub are_same_members_exact : (ms ns : Members) → AreMembers ms → AreMembers ns → are_same_members ms ns ≡ true → ms ≡ ns
   are_same_members_exact no_members no_members p q h = refl
   are_same_members_exact (member k d ms) (member l e ns) p q h =
-      let b = both_true (bytes_eq k l) (is_same_json d e && are_same_members ms ns) h in
-      let c = both_true (is_same_json d e) (are_same_members ms ns) b.1 in
+      let b = and_parts (bytes_eq k l) (is_same_json d e && are_same_members ms ns) h in
+      let c = and_parts (is_same_json d e) (are_same_members ms ns) b.1 in
       let names = text_exact k l b.0 in
       let values = is_same_exact d e p.1 q.1 c.0 in
       let rest = are_same_members_exact ms ns p.2 q.2 c.1 in

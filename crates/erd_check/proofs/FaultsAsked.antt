@@ -98,11 +98,3 @@ faults_asked_listed t reasons_at IsFault order are = record {
     λ h. contains_from_In f (faults_asked reasons_at t) (complete_there t reasons_at IsFault are f.place f.reason h),
   );
 }
-
--- the same where the faults are told by one equivalence
-pub faults_listed_by : (t : Data) (reasons_at : List Step → Asked → List Reason) (IsFault : List Step → Reason → Type 0) → IsInOrder (Object Report) t
-    → ((p : List Step) (a : Asked) → IsStrictlySortedBy reason_cmp (reasons_at p a))
-    → ((p : List Step) (r : Reason) → IsFault p r ↔ ((a : Asked) × (asked_at t p ≡ Some a) × In r (reasons_at p a)))
-    → ListsAll IsFault (faults_asked reasons_at t)
-faults_listed_by t reasons_at IsFault order rising exact =
-    faults_asked_listed t reasons_at IsFault order (record { rising = rising; sound = λ p a r e i. (exact p r).1 (a, e, i); complete = λ p r. (exact p r).0 })

@@ -14,7 +14,7 @@ use Rattle.erd_tables.specs.Texts.{text_cmp}
 use Rattle.erd_check.specs.Trees.{are_same_items, are_same_members, is_same_json, same_flag, same_whole}
 use Rattle.erd_check.specs.code.JsonOrder.{items_cmp, json_cmp, members_cmp}
 use Rattle.erd_check.specs.code.JsonOrders.{json_cmp_total}
-use Rattle.erd_check.proofs.Exact.{text_exact, text_itself}
+use Rattle.erd_check.proofs.Exact.{text_exact, text_itself, flag_itself}
 
 -- ---- parts
 
@@ -29,10 +29,6 @@ tied_flags true true e = refl
 tied_flags true false e = cc
 tied_flags false true e = cc
 tied_flags false false e = refl
-
-flag_itself : (a : Bool) → same_flag a a ≡ true
-flag_itself true = refl
-flag_itself false = refl
 
 whole_tied : (m n : Option ℤ) → same_whole m n ≡ true → option_cmp int_cmp m n ≡ Equal
 whole_tied None n e = cc

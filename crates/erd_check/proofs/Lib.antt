@@ -2,14 +2,11 @@ pub mod Lists
 pub mod Order
 pub mod Reasons
 pub mod Steps
-pub mod FaultLists
 pub mod AllAsked
 pub mod AskedInside
 pub mod FaultsAsked
 pub mod Walks
-pub mod Alone
 pub mod TwoWalks
-pub mod ShapeWalks
 pub mod TextEntries
 pub mod TableKinds
 pub mod Deciding
@@ -23,11 +20,9 @@ pub mod Entries
 pub mod Shapes
 pub mod ObjectsAt
 pub mod Whole
-pub mod Clean
 pub mod Sought
 pub mod Numbers
 pub mod ShapedReports
-pub mod PutTrees
 pub mod ReadTrees
 mod AskedExamples
 mod FaultExamples

@@ -3,6 +3,7 @@ use Rattle.std.proofs.Common.{◌≡◌, ◌≤◌, ℕ, List, Some, None, Order
 use Rattle.std.proofs.lemmas.Cmp.{nat_list_cmp_total, tied_itself}
 use Rattle.std.proofs.lemmas.Map.Lookups.{exact_bytes}
 use Rattle.std.specs.Ordering.{match_ordering, ordering_reverse}
+use Rattle.std.proofs.lemmas.Option.{same_Some}
 use Rattle.serde_json.specs.Data.{Data, Members, no_members, member, depth, members_depth}
 use Rattle.serde_json.specs.Find.{get_member}
 use Rattle.erd_tables.specs.Texts.{text_cmp}
@@ -27,14 +28,22 @@ get_member-later n k d e ms less h =
     let down : text_cmp n k ≡ Greater = nat_list_cmp_total.antisymm n k ∙ ap ordering_reverse less in
     rw down h
 
+-- what is found among members is the value of the first, or of a later one
+found_cases_at : {G : Type 0} (n k : List ℕ) (d e : Data) (ms : Members) (o : Ordering) → text_cmp n k ≡ o → match_ordering o (get_member n ms) (Some e) (get_member n ms) ≡ Some d
+    → (n ≡ k → e ≡ d → G) → (get_member n ms ≡ Some d → G) → G
+found_cases_at n k d e ms Equal is found first later = first (exact_bytes n k is) (same_Some e d found)
+found_cases_at n k d e ms x is found first later = later found
+
+pub found_cases : {G : Type 0} (n k : List ℕ) (d e : Data) (ms : Members) → get_member n (member k e ms) ≡ Some d → (n ≡ k → e ≡ d → G) → (get_member n ms ≡ Some d → G) → G
+found_cases n k d e ms found first later = found_cases_at n k d e ms (text_cmp n k) refl found first later
+
 -- the rest of two lists of members have the same under each name
 get_member-rest_at : (o : Ordering) (q k : List ℕ) (d : Data) (ms ns : Members) → text_cmp q k ≡ o → AreMembers ms → AreMembers ns → IsBeforeFirst k ms → IsBeforeFirst k ns
     → match_ordering o (get_member q ms) (Some d) (get_member q ms) ≡ match_ordering o (get_member q ns) (Some d) (get_member q ns) → get_member q ms ≡ get_member q ns
-get_member-rest_at Less q k d ms ns is ms_rise ns_rise ms_below ns_below same = same
 get_member-rest_at Equal q k d ms ns is ms_rise ns_rise ms_below ns_below same =
     let e : q ≡ k = exact_bytes q k is in
     rw e (get_member-before k ms ms_rise ms_below ∙ sym (get_member-before k ns ns_rise ns_below))
-get_member-rest_at Greater q k d ms ns is ms_rise ns_rise ms_below ns_below same = same
+get_member-rest_at e q k d ms ns is ms_rise ns_rise ms_below ns_below same = same
 
 members_unique_at : (o : Ordering) (k l : List ℕ) (d e : Data) (ms ns : Members) → text_cmp k l ≡ o → AreMembers (member k d ms) → AreMembers (member l e ns)
     → ((q : List ℕ) → get_member q (member k d ms) ≡ get_member q (member l e ns)) → (AreMembers ms → AreMembers ns → ((q : List ℕ) → get_member q ms ≡ get_member q ns) → ms ≡ ns)
@@ -60,18 +69,10 @@ members_unique (member k d ms) (member l e ns) ms_rise ns_rise same = members_un
 -- what stands in a tree is a tree
 pub get_member-tree : (k : List ℕ) (v : Data) (ms : Members) → AreMembers ms → get_member k ms ≡ Some v → IsTree v
 get_member-tree k v no_members tree e = cc
-get_member-tree k v (member l d ms) tree e = at (text_cmp k l) refl (get_member-tree k v ms tree.2)
-  where
-    at : (o : Ordering) → text_cmp k l ≡ o → (get_member k ms ≡ Some v → IsTree v) → IsTree v
-    at Less is h = h (rw is at e)
-    at Equal is h = let f : Some d ≡ Some v = rw is at e in let g : d ≡ v = cc in subst IsTree g tree.1
-    at Greater is h = h (rw is at e)
+get_member-tree k v (member l d ms) tree e = found_cases k l v d ms e (λ name same. subst IsTree same tree.1) (λ found. get_member-tree k v ms tree.2 found)
 
 pub get_member-depth : (k : List ℕ) (v : Data) (ms : Members) → get_member k ms ≡ Some v → depth v ≤ members_depth ms
 get_member-depth k v no_members e = cc
-get_member-depth k v (member l d ms) e = at (text_cmp k l) refl (get_member-depth k v ms)
-  where
-    at : (o : Ordering) → text_cmp k l ≡ o → (get_member k ms ≡ Some v → depth v ≤ members_depth ms) → depth v ≤ members_depth (member l d ms)
-    at Less is h = let g : depth v ≤ members_depth ms = h (rw is at e) in omega arith
-    at Equal is h = let f : Some d ≡ Some v = rw is at e in let g : depth d ≡ depth v = ap depth (let x : d ≡ v = cc in x) in omega arith
-    at Greater is h = let g : depth v ≤ members_depth ms = h (rw is at e) in omega arith
+get_member-depth k v (member l d ms) e =
+    found_cases {G = depth v ≤ members_depth (member l d ms)} k l v d ms e (λ name same. let low : depth d ≡ depth v = ap depth same in omega arith)
+    (λ found. let low : depth v ≤ members_depth ms = get_member-depth k v ms found in omega arith)

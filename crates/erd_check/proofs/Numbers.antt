@@ -1,7 +1,7 @@
 -- The numbers in a value are as `serde_json` keeps them: one that is kept as a negative one is below zero.
 use Rattle.std.proofs.Common.{◌≡◌, List, [], ◌∷◌, map, arith, true, false, true≢false, sym, ◌∙◌, subst}
 use Rattle.std.specs.Prelude.{⊤, int_lt, pos, String}
-use Rattle.serde_json.specs.Data.{Data, null, boolean, number, string, array, object, Items, no_items, item, Members, no_members, member}
+use Rattle.serde_json.specs.Data.{Data, number, array, object, Items, no_items, item, Members, no_members, member}
 use Rattle.serde_json.specs.Number.{is_valid, num_of}
 use Rattle.serde_json.specs.View.{view, view_step, items_of, members_of}
 use Rattle.serde_json.specs.declared.value.Value.{Value, map-Value}
@@ -15,12 +15,10 @@ use Rattle.erd_check.specs.Trees.{IsNumber}
 -- each number in a value that is kept as a negative one is below zero
 abbrev mutual
   pub HasNumbers : Data → Type 0
-  HasNumbers null = ⊤
-  HasNumbers (boolean b) = ⊤
   HasNumbers (number n) = IsNumber n
-  HasNumbers (string s) = ⊤
   HasNumbers (array ds) = HaveNumbers ds
   HasNumbers (object ms) = MembersHaveNumbers ms
+  HasNumbers d = ⊤
 
   pub HaveNumbers : Items → Type 0
   HaveNumbers no_items = ⊤
@@ -49,12 +47,10 @@ members_have [] = tt
 members_have (e ∷ es) = (e.1.1, members_have es)
 
 layer : (y : Value-F Known) → HasNumbers (view_step (map-Value Value Data view (map-Value Known Value (λ e. e.0) y)))
-layer Value-F.Null = tt
-layer (Value-F.Bool b) = tt
 layer (Value-F.Number n) = valid n.n n.valid
-layer (Value-F.String s) = tt
 layer (Value-F.Array v) = items_have v.items
 layer (Value-F.Object m) = members_have m.entries
+layer d = tt
 
 pub has_numbers : (v : Value) → HasNumbers (view v)
 has_numbers =

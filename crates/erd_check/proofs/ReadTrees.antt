@@ -1,14 +1,45 @@
 -- What is read from a text is a tree: members go in by `put`, and a number is kept as negative only below zero.
-use Rattle.std.proofs.Common.{◌≡◌, ◌^◌, ℕ, zero, suc, pos, negsuc, neg_ℤ, List, Bool, true, false, ◌&&◌, if◌then◌else◌, Option, Some, None, option_map, option_and_then, subst}
+use Rattle.std.proofs.Common.{◌≡◌, ℕ, List, Ordering, Less, Equal, Greater, refl, ap, ◌∙◌, ◌^◌, zero, suc, pos, negsuc, neg_ℤ, Bool, true, false, ◌&&◌, if◌then◌else◌, Option, Some, None, option_map, option_and_then, subst}
+use Rattle.std.proofs.lemmas.Cmp.{nat_list_cmp_total}
+use Rattle.std.specs.Ordering.{match_ordering, ordering_reverse}
 use Rattle.std.specs.Prelude.{IfSome, nat_lt, nat_le, ◌==◌, slice_index, drop}
 use Rattle.std.specs.Float.{binary64, float_is_finite}
 use Rattle.std.specs.Float.Numeral.{Parts, minus, scan_numeral, numeral_digits, nearest_float}
-use Rattle.json.specs.Json as json
-use Rattle.json.specs.Lex.{tokens}
-use Rattle.serde_json.specs.Data.{Num, unsigned, negative, float, Data, number, array, object, item, Members, no_members, put}
+use Rattle.serde_json.specs.Data.{Data, Members, no_members, member, put, Num, unsigned, negative, float, number, array, object, item}
 use Rattle.serde_json.specs.Read.{float_of, number_from, number_of, is_integer, of_json, of_items, of_members, max_depth, read}
-use Rattle.erd_check.specs.Trees.{IsNumber, IsTree, AreTrees, AreMembers}
-use Rattle.erd_check.proofs.PutTrees.{put-trees}
+use Rattle.json.specs.Lex.{tokens}
+use Rattle.json.specs.Json as json
+use Rattle.erd_tables.specs.Texts.{text_cmp}
+use Rattle.erd_check.specs.Trees.{IsTree, AreMembers, IsBeforeFirst, IsNumber, AreTrees}
+
+-- ---- a value put at a name among the members of an object: their names still rise, and they are trees
+
+-- a name before that of the value and that of the first member is before the first name then, by cases on how those two compare
+before_put_at : (o : Ordering) (j k l : List ℕ) (v d : Data) (ms rest : Members) → text_cmp j k ≡ Less → text_cmp j l ≡ Less
+    → IsBeforeFirst j (match_ordering o (member k v (member l d ms)) (member l v ms) (member l d rest))
+before_put_at Less j k l v d ms rest first below = first
+before_put_at e j k l v d ms rest first below = below
+
+-- a name before all of the names, and before that of the value, is before the first name then
+pub before_put : (j k : List ℕ) (v : Data) (ms : Members) → text_cmp j k ≡ Less → IsBeforeFirst j ms → IsBeforeFirst j (put k v ms)
+before_put j k v no_members first below = first
+before_put j k v (member l d ms) first below = before_put_at (text_cmp k l) j k l v d ms (put k v ms) first below
+
+-- the members with the value, by cases on how its name compares with that of the first member
+put-trees_at : (o : Ordering) (k l : List ℕ) (v d : Data) (ms : Members) → text_cmp k l ≡ o → AreMembers (member l d ms) → IsTree v → AreMembers (put k v ms)
+    → AreMembers (match_ordering o (member k v (member l d ms)) (member l v ms) (member l d (put k v ms)))
+put-trees_at Less k l v d ms is rise tree later = (is, tree, rise)
+put-trees_at Equal k l v d ms is rise tree later = (rise.0, tree, rise.2)
+put-trees_at Greater k l v d ms is rise tree later =
+    let first : text_cmp l k ≡ Less = nat_list_cmp_total.antisymm l k ∙ ap ordering_reverse is in
+    (before_put l k v ms first rise.0, rise.1, later)
+
+-- members that are trees, with a tree put among them, are again
+pub put-trees : (k : List ℕ) (v : Data) (ms : Members) → AreMembers ms → IsTree v → AreMembers (put k v ms)
+put-trees k v no_members rise tree = (tt, tree, tt)
+put-trees k v (member l d ms) rise tree = put-trees_at (text_cmp k l) k l v d ms refl rise tree (put-trees k v ms rise.2 tree)
+
+-- ---- what is read
 
 -- ---- options
 
@@ -56,12 +87,10 @@ number_of-number s =
 mutual
   -- a value, from what the grammar reads
   of_json-tree : (j : json.Json) → IfSome (of_json j) IsTree
-  of_json-tree json.null = tt
-  of_json-tree (json.boolean b) = tt
   of_json-tree (json.number s) = mapped_holds IsNumber IsTree number (number_of s) (λ n h. h) (number_of-number s)
-  of_json-tree (json.string s) = tt
   of_json-tree (json.array js) = mapped_holds AreTrees IsTree array (of_items js) (λ ds trees. trees) (of_items-trees js)
   of_json-tree (json.object ms) = mapped_holds AreMembers IsTree object (of_members ms no_members) (λ found rise. rise) (of_members-trees ms no_members tt)
+  of_json-tree d = tt
 
   -- the entries of an array
   of_items-trees : (js : json.Items) → IfSome (of_items js) AreTrees

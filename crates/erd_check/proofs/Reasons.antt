@@ -5,6 +5,7 @@ use Rattle.std.specs.List.{list_any, AllByRecursion}
 use Rattle.std.specs.List.Sorted.{IsStrictlySortedBy}
 use Rattle.std.specs.Str.{bytes_eq}
 use Rattle.std.proofs.lemmas.Slice.Eq.{bytes_eq-Decides}
+use Rattle.std.proofs.lemmas.Bool.{and_parts, and_from, or_right}
 use Rattle.serde_json.specs.Data.{Data}
 use Rattle.erd_tables.specs.Table.{required_names}
 use Rattle.erd_tables.specs.declared.class.Class.{Class}
@@ -18,16 +19,9 @@ use Rattle.erd_check.specs.code.Walk.{asked_with, missing, other_reasons, reason
 use Rattle.erd_check.specs.declared.want.Want.{Want}
 use Rattle.erd_check.specs.declared.want.Scope.{Scope}
 use Rattle.erd_check.specs.declared.want.Scope.TheVariants as scope
-use Rattle.erd_check.proofs.Order.{In, In-append, In-append_left, In-append_right, In-map, In-map_from, In-filter, In-filter_kept, Below, sorted_append, sorted_map, sorted_filter, In-all, or_true}
+use Rattle.erd_check.proofs.Order.{In, In-append, In-append_left, In-append_right, In-map, In-map_from, In-filter, In-filter_kept, Below, sorted_append, sorted_map, sorted_filter, In-all}
 
 -- ---- tests
-
-pub and_true : (a b : Bool) → a && b ≡ true → (a ≡ true) × (b ≡ true)
-and_true true b h = (refl, h)
-and_true false b h = absurd (true≢false (sym h))
-
-pub both_true : (a b : Bool) → a ≡ true → b ≡ true → a && b ≡ true
-both_true a b p q = rw (p, q)
 
 in_head : (n x : List ℕ) (xs : List (List ℕ)) (b : Bool) → bytes_eq n x ≡ b → (list_any (bytes_eq n) xs ≡ true → In n xs) → list_any (bytes_eq n) (x ∷ xs) ≡ true → In n (x ∷ xs)
 in_head n x xs true e more h = inl (sym ((bytes_eq-Decides n x).0 e))
@@ -40,7 +34,7 @@ In-from_any n (x ∷ xs) h = in_head n x xs (bytes_eq n x) refl (In-from_any n x
 any_from_In : (n : List ℕ) (xs : List (List ℕ)) → In n xs → list_any (bytes_eq n) xs ≡ true
 any_from_In n [] h = absurd h
 any_from_In n (x ∷ xs) (inl e) = rw ((bytes_eq-Decides n x).1 (sym e))
-any_from_In n (x ∷ xs) (inr t) = or_true (bytes_eq n x) _ (any_from_In n xs t)
+any_from_In n (x ∷ xs) (inr t) = or_right (bytes_eq n x) _ (any_from_In n xs t)
 
 -- ---- the parts of the list
 
@@ -62,7 +56,7 @@ missing_sound : (w : Want) (repeated : Bool) (d : Data) (r : Reason) → In r (m
 missing_sound w repeated d r h =
     let from = In-map_from MissingMember (filter (lacks d) (names_wanted (scope_inside w d))) r h in
     let kept = In-filter (lacks d) from.from (names_wanted (scope_inside w d)) from.inside in
-    subst (λ q. is_shape_fault (asked_with w repeated d) q ≡ true) from.is (both_true _ _ (any_from_In from.from (names_wanted (scope_inside w d)) kept.0) kept.1)
+    subst (λ q. is_shape_fault (asked_with w repeated d) q ≡ true) from.is (and_from _ _ (any_from_In from.from (names_wanted (scope_inside w d)) kept.0) kept.1)
 
 repeats_sound : (w : Want) (repeated : Bool) (d : Data) (r : Reason) → In r (repeats w repeated d) → is_shape_fault (asked_with w repeated d) r ≡ true
 repeats_sound w repeated d r h = (In-filter (is_shape_fault (asked_with w repeated d)) r (Repeated ∷ []) h).1
@@ -89,7 +83,7 @@ other_complete w repeated d r i h =
 missing_complete : (w : Want) (repeated : Bool) (d : Data) (n : List ℕ) → is_shape_fault (asked_with w repeated d) (MissingMember n) ≡ true → In (MissingMember n) (reasons w repeated d)
 missing_complete w repeated d n h =
     let needed = names_wanted (scope_inside w d) in
-    let both = and_true (list_any (bytes_eq n) needed) (lacks d n) h in
+    let both = and_parts (list_any (bytes_eq n) needed) (lacks d n) h in
     In-append_left (MissingMember n) (kinds w d ++ missing (scope_inside w d) d ++ other_reasons w d) (repeats w repeated d)
     (In-append_left (MissingMember n) (kinds w d ++ missing (scope_inside w d) d) (other_reasons w d)
     (In-append_right (MissingMember n) (kinds w d) (missing (scope_inside w d) d)
@@ -123,10 +117,9 @@ required_sorted c = search rules
 
 needed_sorted : (s : Scope) → IsStrictlySortedBy (slice_cmp nat_cmp) (names_wanted s)
 unfolding IsStrictlySortedBy
-needed_sorted scope.Nothing = tt
 needed_sorted (scope.Members r None) = (tt, tt)
 needed_sorted (scope.Members r (Some c)) = required_sorted c
-needed_sorted scope.Carried = tt
+needed_sorted d = tt
 
 others_sorted : IsStrictlySortedBy reason_cmp others
 unfolding IsStrictlySortedBy

@@ -1,13 +1,12 @@
 -- A report without a fault of the shape: all that stands in it is asked for, so each number in it is whole and fits 64 bits, and the names of all its objects
 -- rise.
-use Rattle.std.proofs.Common.{◌≡◌, ℕ, suc, List, ◌∷◌, length, Less, Greater, nat_cmp, Bool, true, false, ◌&&◌, ◌||◌, Option, Some, None, refl, sym, ap, ◌∙◌, subst}
-use Rattle.std.proofs.lemmas.Cmp.{nat_list_cmp_total}
+use Rattle.std.proofs.Common.{◌≡◌, ℕ, suc, List, ◌∷◌, length, Less, nat_cmp, Bool, true, false, ◌&&◌, ◌||◌, Option, Some, None, refl, sym, ap, ◌∙◌, subst}
 use Rattle.std.specs.Prelude.{IfSome}
 use Rattle.std.specs.Cmp.Lexicographic.{slice_cmp}
 use Rattle.std.specs.List.{AllByRecursion}
 use Rattle.std.specs.List.Sorted.{IsStrictlySortedBy}
-use Rattle.std.specs.Ordering.{ordering_reverse}
-use Rattle.serde_json.specs.Data.{Data, null, boolean, number, string, array, object, Items, no_items, item, Members, no_members, member}
+use Rattle.std.proofs.lemmas.Bool.{or_from}
+use Rattle.serde_json.specs.Data.{Data, number, array, object, Items, no_items, item, Members, no_members, member}
 use Rattle.serde_json.specs.Find.{get_item, get_member}
 use Rattle.serde_json.specs.View.{view}
 use Rattle.serde_json.specs.Written.{has_float, items_have_float, members_have_float}
@@ -33,12 +32,12 @@ use Rattle.erd_check.specs.declared.want.Scope.{Scope}
 use Rattle.erd_check.specs.declared.want.Scope.TheVariants as scope
 use Rattle.erd_check.specs.declared.want.Want.{Want}
 use Rattle.erd_check.specs.declared.want.Want.TheVariants.{Carried, Member, Object}
-use Rattle.erd_check.proofs.FaultLists.{no_fault_from_empty}
+use Rattle.erd_check.proofs.Deciding.{no_fault_from_empty}
 use Rattle.erd_check.proofs.Numbers.{has_numbers, HasNumbers, HaveNumbers, MembersHaveNumbers}
 use Rattle.erd_check.proofs.Shapes.{classed, faultless, of_label, of_role, unrepeated, AsksObject, Within, Within-root, Within-step}
 use Rattle.erd_check.proofs.Members.{get_member-first, get_member-later}
 use Rattle.erd_check.proofs.Sought.{array_empty, fitting_number, is_sought, number_whole, sought_carried, sought_entry, sought_named, IsRight, Sought}
-use Rattle.erd_check.proofs.Steps.{found_all, same_text}
+use Rattle.erd_check.proofs.Steps.{found_all}
 
 -- ---- the members of an object
 
@@ -71,9 +70,6 @@ record MembersSound (s : Scope) (ms : Members) : Type 0 where
   whole : members_have_float ms ≡ false
   trees : MembersHaveNumbers ms → AreMembers ms
   fits : AreMembersKnown IsAskedInRange s ms → MembersHaveFittingNumbers ms
-
-nowhere_float : (a b : Bool) → a ≡ false → b ≡ false → a || b ≡ false
-nowhere_float a b h k = rw (h, k)
 
 names_above : (k : List ℕ) (ms : Members) → IsStrictlySortedBy text_cmp (k ∷ names ms) → AllByRecursion (λ n. slice_cmp nat_cmp k n ≡ Less) (names ms)
 unfolding IsStrictlySortedBy
@@ -125,9 +121,6 @@ module _ (t : Data) (clean : NoneOf (ShapeFault t)) where
 
   mutual
     sound_at : (w : Want) (repeated : Bool) (d : Data) → is_sought w ≡ true → IsInOrder w d → Within t (asked_with w repeated d) → Sound w d
-    sound_at w repeated null s order inside = record { whole = refl; tree = λ k. tt; fits = λ k. tt }
-    sound_at w repeated (boolean b) s order inside = record { whole = refl; tree = λ k. tt; fits = λ k. tt }
-    sound_at w repeated (string x) s order inside = record { whole = refl; tree = λ k. tt; fits = λ k. tt }
     sound_at w repeated (number n) s order inside =
         let h = right w repeated (number n) inside in
         record { whole = number_whole w repeated n s h; tree = λ k. k; fits = λ k. fitting_number w repeated n s h k }
@@ -137,6 +130,7 @@ module _ (t : Data) (clean : NoneOf (ShapeFault t)) where
     sound_at w repeated (object ms) s order inside =
         let r = members_sound (scope_inside w (object ms)) ms (object_sought w repeated ms s inside (right w repeated (object ms) inside)) order.0 order.1 (member_asked w repeated ms inside) in
         record { whole = r.whole; tree = r.trees; fits = λ k. r.fits k.1 }
+    sound_at w repeated e s order inside = record { whole = refl; tree = λ k. tt; fits = λ k. tt }
 
     items_sound : (w : Want) (ds : Items) → is_sought w ≡ true → AreItemsInOrder w ds → EachItem w ds → ItemsSound w ds
     items_sound w no_items s order each = record { whole = refl; trees = λ k. tt; fits = λ k. tt }
@@ -145,7 +139,7 @@ module _ (t : Data) (clean : NoneOf (ShapeFault t)) where
         let first = sound_at w here.0 d s order.0 here.1 in
         let rest = items_sound w ds s order.1 (λ i e h. each (suc i) e h) in
         record {
-          whole = nowhere_float (has_float d) (items_have_float ds) first.whole rest.whole;
+          whole = or_from (has_float d) (items_have_float ds) first.whole rest.whole;
           trees = λ k. (first.tree k.0, rest.trees k.1);
           fits = λ k. (first.fits k.0, rest.fits k.1);
         }
@@ -158,7 +152,7 @@ module _ (t : Data) (clean : NoneOf (ShapeFault t)) where
         let rest = members_sound s ms all (names_after k ms rising) order.1
         (λ n v e h there. each n v e h (get_member-later n k d e ms (found_all (λ n. slice_cmp nat_cmp k n ≡ Less) n e ms there (names_above k ms rising)) there)) in
         record {
-          whole = nowhere_float (has_float d) (members_have_float ms) first.whole rest.whole;
+          whole = or_from (has_float d) (members_have_float ms) first.whole rest.whole;
           trees = λ h. (before_first k ms rising, first.tree h.0, rest.trees h.1);
           fits = λ h. (first.fits (subst (λ o. IfSome o (λ v. IsKnown IsAskedInRange v d)) sought.is h.0), rest.fits h.1);
         }

@@ -3,7 +3,8 @@ use Rattle.std.proofs.Common.{◌≡◌, ℕ, List, [], ◌∷◌, ◌++◌, Opt
 use Rattle.std.specs.List.{list_any}
 use Rattle.std.specs.Prelude.{IsTrue}
 use Rattle.std.specs.Str.{bytes_eq}
-use Rattle.serde_json.specs.Data.{Data, string, array, object, Members}
+use Rattle.std.proofs.lemmas.Bool.{false_from_ne_true, and_from, not-false}
+use Rattle.serde_json.specs.Data.{Data, string, array, object, Members, Items}
 use Rattle.serde_json.specs.Find.{get, get_member, get_item}
 use Rattle.erd_tables.specs.Classes.{text_of_class, role_of_class, class_in_role}
 use Rattle.erd_tables.specs.declared.class.Class.{Class}
@@ -59,21 +60,6 @@ Within-root t = record { place = []; is = refl }
 pub not_within : (t : Data) (a : Asked) (P : Asked → Type 0) (w : Within t a) → (IsSomeAnd (asked_at t w.place) P → ⊥) → P a → ⊥
 not_within t a P w none h = none (subst (λ o. IsSomeAnd o P) (sym w.is) h)
 
-pub true_unless : (b : Bool) → (b ≡ false → ⊥) → b ≡ true
-true_unless true h = refl
-true_unless false h = absurd (h refl)
-
-pub false_unless : (b : Bool) → (b ≡ true → ⊥) → b ≡ false
-false_unless true h = absurd (h refl)
-false_unless false h = refl
-
-pub both_hold : (a b : Bool) → a ≡ true → b ≡ true → a && b ≡ true
-both_hold a b h k = rw (h, k)
-
-pub not_false : (b : Bool) → not b ≡ false → b ≡ true
-not_false true e = refl
-not_false false e = cc
-
 -- an object's `@type` is the text of the class that is found
 pub record Classed (r : Role) (d : Data) : Type 0 where
   pub members : Members
@@ -103,14 +89,14 @@ asked_inside_object w r ms c name v of_label among other e = rw (other, among, e
 
 module _ (t : Data) (clean : NoneOf (ShapeFault t)) where
   pub faultless : (a : Asked) (r : Reason) → Within t a → is_shape_fault a r ≡ false
-  faultless a r w = false_unless (is_shape_fault a r) (not_within t a (λ x. IsTrue (is_shape_fault x r)) w (clean w.place r))
+  faultless a r w = false_from_ne_true (is_shape_fault a r) (not_within t a (λ x. IsTrue (is_shape_fault x r)) w (clean w.place r))
 
   pub wanted_within : (a : Asked) → Within t a → has_wanted_kind a.want a.value ≡ true
-  wanted_within a w = not_false (has_wanted_kind a.want a.value) (faultless a reason.WrongKind w)
+  wanted_within a w = not-false (has_wanted_kind a.want a.value) (faultless a reason.WrongKind w)
 
   -- an object has each member that it must have
   pub lacks_none : (a : Asked) (name : List ℕ) → Within t a → list_any (bytes_eq name) (names_wanted (scope_inside a.want a.value)) ≡ true → get name a.value ≡ None → ⊥
-  lacks_none a name w needed e = let h : true ≡ false = sym (both_hold _ _ needed (ap is_none e)) ∙ faultless a (reason.MissingMember name) w in cc
+  lacks_none a name w needed e = let h : true ≡ false = sym (and_from _ _ needed (ap is_none e)) ∙ faultless a (reason.MissingMember name) w in cc
 
   -- no entry of a set of JSON values repeats an earlier one
   pub unrepeated : (w : Want) (d : Data) (b : Bool) → is_reference w ≡ false → Within t (record { want = w; value = d; repeated = b }) → Within t (asked w d)
@@ -154,27 +140,38 @@ module _ (t : Data) (clean : NoneOf (ShapeFault t)) where
       → Within t (asked w (object ms)) → get_member name ms ≡ Some v → Within t (asked (member_want c name) v)
   member_within w r ms c name v h among other inside e = Within-step t (asked w (object ms)) (asked (member_want c name) v) (Name name) inside (asked_inside_object w r ms c name v h among other e)
 
+-- ---- what holds of a value and of what stands in it
+
+-- it holds of each member and each entry of a value that it holds of
+pub record IsHandedOn (P : Data → Type 0) : Type 0 where
+  pub of_object : (n : List ℕ) (v : Data) (ms : Members) → P (object ms) → get_member n ms ≡ Some v → P v
+  pub of_array : (i : ℕ) (v : Data) (ds : Items) → P (array ds) → get_item i ds ≡ Some v → P v
+
+module _ (P : Data → Type 0) (on : IsHandedOn P) where
+  asked-holds : (make : Want → Data → Asked) → ((v : Want) (d : Data) → (make v d).value ≡ d) → (w : Option Want) (o : Option Data) (a : Asked) → ((d : Data) → o ≡ Some d → P d)
+      → option_and_then (λ v. option_map (make v) o) w ≡ Some a → P a.value
+  asked-holds make value None o a holds e = cc
+  asked-holds make value (Some w) None a holds e = cc
+  asked-holds make value (Some w) (Some d) a holds e = let h : make w d ≡ a = cc in subst P (sym (value w d) ∙ ap (λ (x : Asked). x.value) h) (holds d refl)
+
+  asked_inside-holds : (w : Want) (d : Data) (s : Step) (a : Asked) → P d → asked_inside w d s ≡ Some a → P a.value
+  asked_inside-holds w (object ms) (Name n) a holds e = asked-holds asked (λ v d. refl) (want_of_name (scope_inside w (object ms)) n) (get_member n ms) a (λ v h. on.of_object n v ms holds h) e
+  asked_inside-holds w (array ds) (At i) a holds e =
+      asked-holds (λ v d. record { want = v; value = d; repeated = is_compared_set w && is_repeated ds i d }) (λ v d. refl) (entry_want w) (get_item i ds) a (λ v h. on.of_array i v ds holds h) e
+  asked_inside-holds w _ _ a holds e = cc
+
+  asked_from-holds : (b : Asked) (p : List Step) (a : Asked) → P b.value → asked_from b p ≡ Some a → P a.value
+  asked_from-holds b [] a holds e = let h : b ≡ a = cc in subst P (ap (λ (x : Asked). x.value) h) holds
+  asked_from-holds b (s ∷ p) a holds e = at (asked_inside b.want b.value s) refl (λ c. asked_from-holds c p a)
+    where
+      at : (o : Option Asked) → asked_inside b.want b.value s ≡ o → ((c : Asked) → P c.value → asked_from c p ≡ Some a → P a.value) → P a.value
+      at None is h = let x : None ≡ Some a = rw is at e in cc
+      at (Some c) is h = h c (asked_inside-holds b.want b.value s c holds is) (rw is at e)
+
+  -- of all that is asked of in a report that it holds of
+  pub within-holds : (t : Data) (a : Asked) → P t → Within t a → P a.value
+  within-holds t a holds w = asked_from-holds (asked (Object role.Report) t) w.place a holds w.is
+
 -- all that stands in a tree is a tree
-
-asked-tree : (make : Want → Data → Asked) → ((v : Want) (d : Data) → (make v d).value ≡ d) → (w : Option Want) (o : Option Data) (a : Asked) → ((d : Data) → o ≡ Some d → IsTree d)
-    → option_and_then (λ v. option_map (make v) o) w ≡ Some a → IsTree a.value
-asked-tree make value None o a tree e = cc
-asked-tree make value (Some w) None a tree e = cc
-asked-tree make value (Some w) (Some d) a tree e = let h : make w d ≡ a = cc in subst IsTree (sym (value w d) ∙ ap (λ (x : Asked). x.value) h) (tree d refl)
-
-asked_inside-tree : (w : Want) (d : Data) (s : Step) (a : Asked) → IsTree d → asked_inside w d s ≡ Some a → IsTree a.value
-asked_inside-tree w (object ms) (Name n) a tree e = asked-tree asked (λ v d. refl) (want_of_name (scope_inside w (object ms)) n) (get_member n ms) a (λ v h. get_member-tree n v ms tree h) e
-asked_inside-tree w (array ds) (At i) a tree e =
-    asked-tree (λ v d. record { want = v; value = d; repeated = is_compared_set w && is_repeated ds i d }) (λ v d. refl) (entry_want w) (get_item i ds) a (λ v h. get_item-tree i v ds tree h) e
-asked_inside-tree w _ _ a tree e = cc
-
-asked_from-tree : (b : Asked) (p : List Step) (a : Asked) → IsTree b.value → asked_from b p ≡ Some a → IsTree a.value
-asked_from-tree b [] a tree e = let h : b ≡ a = cc in subst IsTree (ap (λ (x : Asked). x.value) h) tree
-asked_from-tree b (s ∷ p) a tree e = at (asked_inside b.want b.value s) refl (λ c. asked_from-tree c p a)
-  where
-    at : (o : Option Asked) → asked_inside b.want b.value s ≡ o → ((c : Asked) → IsTree c.value → asked_from c p ≡ Some a → IsTree a.value) → IsTree a.value
-    at None is h = let x : None ≡ Some a = rw is at e in cc
-    at (Some c) is h = h c (asked_inside-tree b.want b.value s c tree is) (rw is at e)
-
 pub within-tree : (t : Data) (a : Asked) → IsTree t → Within t a → IsTree a.value
-within-tree t a tree w = asked_from-tree (asked (Object role.Report) t) w.place a tree w.is
+within-tree = within-holds IsTree (record { of_object = get_member-tree; of_array = get_item-tree })

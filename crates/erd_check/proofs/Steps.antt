@@ -1,14 +1,14 @@
 -- The steps inside a value: the names of members, and the positions of entries.
-use Rattle.std.proofs.Common.{◌≡◌, ℕ, suc, ◌+◌, ◌<◌, List, [], ◌∷◌, ◌++◌, length, Ordering, Less, Equal, Greater, nat_cmp, is_eq, Some, sym, ap, ◌∙◌, subst, length-append, arith, refl}
+use Rattle.std.proofs.Common.{◌≡◌, ℕ, suc, ◌+◌, ◌<◌, List, [], ◌∷◌, ◌++◌, length, Less, Equal, nat_cmp, is_eq, Some, sym, ap, ◌∙◌, subst, length-append, arith}
 use Rattle.std.proofs.lemmas.Cmp.{nat_list_cmp_total, tied_itself}
 use Rattle.std.proofs.lemmas.Map.Text.{is_eq-slice_cmp}
 use Rattle.std.proofs.lemmas.Slice.Eq.{bytes_eq-Decides}
 use Rattle.std.specs.Cmp.Lexicographic.{slice_cmp}
 use Rattle.std.specs.List.{AllByRecursion}
-use Rattle.std.specs.Ordering.{match_ordering}
 use Rattle.serde_json.specs.Data.{Data, Members, no_members, member}
 use Rattle.serde_json.specs.Find.{get_member}
 use Rattle.erd_check.specs.Values.{names}
+use Rattle.erd_check.proofs.Members.{found_cases}
 
 -- ---- names
 
@@ -18,16 +18,10 @@ same_text xs = tied_itself nat_list_cmp_total xs
 pub text_from_equal : (k l : List ℕ) → slice_cmp nat_cmp k l ≡ Equal → k ≡ l
 text_from_equal k l e = (bytes_eq-Decides k l).0 (sym (is_eq-slice_cmp k l) ∙ ap is_eq e)
 
-found_all_at : (P : List ℕ → Type 0) (n k : List ℕ) (d e : Data) (ms : Members) (o : Ordering) → slice_cmp nat_cmp n k ≡ o → match_ordering o (get_member n ms) (Some e) (get_member n ms) ≡ Some d
-    → (get_member n ms ≡ Some d → P n) → P k → P n
-found_all_at P n k d e ms Less is h more p = more h
-found_all_at P n k d e ms Equal is h more p = subst P (sym (text_from_equal n k is)) p
-found_all_at P n k d e ms Greater is h more p = more h
-
 -- what holds of all names holds of one that is found
 pub found_all : (P : List ℕ → Type 0) (n : List ℕ) (d : Data) (ms : Members) → get_member n ms ≡ Some d → AllByRecursion P (names ms) → P n
 found_all P n d no_members h a = absurd (cc h)
-found_all P n d (member k e ms) h a = found_all_at P n k d e ms _ refl h (λ t. found_all P n d ms t a.1) a.0
+found_all P n d (member k e ms) h a = found_cases n k d e ms h (λ name same. subst P (sym name) a.0) (λ t. found_all P n d ms t a.1)
 
 -- ---- positions
 

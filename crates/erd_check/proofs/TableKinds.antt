@@ -2,6 +2,7 @@
 use Rattle.std.proofs.Common.{◌≡◌, ℕ, List, [], ◌∷◌, unwrap_or, Bool, true, false, ◌&&◌, cond, codes, refl, sym, ap, ◌∙◌}
 use Rattle.std.specs.List.{list_all}
 use Rattle.std.specs.Str.{bytes_eq}
+use Rattle.std.proofs.lemmas.Bool.{and_parts}
 use Rattle.erd_tables.specs.Rows.{Row, rows_of_class}
 use Rattle.erd_tables.specs.Table.{kind_in_rows, kind_of_unlisted, kind_of_identity, is_reference_name, kind_of_member, is_required}
 use Rattle.erd_tables.specs.declared.class.Class.{Class}
@@ -9,7 +10,7 @@ use Rattle.erd_tables.specs.declared.member.MemberKind.{MemberKind}
 use Rattle.erd_tables.specs.declared.class.Class.TheVariants as class
 use Rattle.erd_tables.specs.declared.member.MemberKind.TheVariants as kind
 use Rattle.erd_check.specs.Wants.{is_report_class, want_of_kind, member_want}
-use Rattle.erd_check.proofs.Exact.{both_true, text_exact}
+use Rattle.erd_check.proofs.Exact.{text_exact}
 
 cond_keeps : {A : Type 0} (P : A → Bool) (b : Bool) (x y : A) → P x ≡ true → P y ≡ true → P (cond b x y) ≡ true
 cond_keeps P true x y h k = h
@@ -26,10 +27,10 @@ kind_of_unlisted_has P c name other id reference carried =
 kind_or : (Q : Row → Bool) (P : MemberKind → Bool) (other : MemberKind) (name : List ℕ) (ms : List Row) → list_all Q ms ≡ true → ((m : Row) → Q m ≡ true → bytes_eq name m.name ≡ true → P m.kind ≡ true) → P other ≡ true
     → P (unwrap_or (kind_in_rows ms name) other) ≡ true
 kind_or Q P other name [] h each k = k
-kind_or Q P other name (m ∷ ms) h each k = at (bytes_eq name m.name) refl (kind_or Q P other name ms (both_true (Q m) _ h).1 each k)
+kind_or Q P other name (m ∷ ms) h each k = at (bytes_eq name m.name) refl (kind_or Q P other name ms (and_parts (Q m) _ h).1 each k)
   where
     at : (b : Bool) → bytes_eq name m.name ≡ b → P (unwrap_or (kind_in_rows ms name) other) ≡ true → P (unwrap_or (kind_in_rows (m ∷ ms) name) other) ≡ true
-    at true is r = rw is (each m (both_true (Q m) _ h).0 is)
+    at true is r = rw is (each m (and_parts (Q m) _ h).0 is)
     at false is r = rw is r
 
 -- what holds of each kind in a class's rows, and of the kinds of unlisted names, holds of a member's kind

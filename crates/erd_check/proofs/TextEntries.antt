@@ -1,20 +1,38 @@
--- The walk for the faults of the shape may pass over the entries of an array of references if they are all texts.
-use Rattle.std.proofs.Common.{◌≡◌, ℕ, List, [], ◌∷◌, ◌++◌, Bool, true, false, Option, Some, None, refl, ap, ap₂, ◌&&◌}
-use Rattle.std.specs.List.{list_all, list_any}
+-- Entries that the visitor does not compare with earlier ones: what is told of them is the same whether they are compared or not, and texts may be passed over.
+use Rattle.std.proofs.Common.{◌≡◌, List, [], ◌∷◌, ◌++◌, Bool, ◌&&◌, refl, ap, ◌∙◌, ℕ, true, false, Option, Some, ap₂}
+use Rattle.std.specs.List.{list_any, list_all}
 use Rattle.std.specs.Option.{option_map_or}
-use Rattle.std.specs.Prelude.{IfSome, length}
-use Rattle.serde_json.specs.Data.{Data, string}
+use Rattle.std.specs.Prelude.{length, IfSome}
+use Rattle.serde_json.specs.Data.{Data, string, array, object, Items, no_items, item}
 use Rattle.serde_json.specs.View.{items_of}
-use Rattle.erd_tables.specs.declared.class.Family.{Family}
 use Rattle.erd_tables.specs.declared.place.Step.{Step}
 use Rattle.erd_tables.specs.declared.place.Step.TheVariants.{At}
-use Rattle.erd_check.specs.Faults.{is_reference, is_text}
+use Rattle.erd_tables.specs.declared.class.Family.{Family}
 use Rattle.erd_check.specs.Trees.{is_same_json}
-use Rattle.erd_check.specs.Visits.{AreEntriesInOrder, AreEntriesKnown, AreEntriesSilent, AreItemsInOrder, AreItemsKnown, faults_of, told_of_items}
-use Rattle.erd_check.specs.Wants.{entry_want, is_compared_set}
-use Rattle.erd_check.specs.code.Walk.{IsAskedInRange, reasons}
+use Rattle.erd_check.specs.Wants.{scope_inside, entry_want, is_compared_set}
+use Rattle.erd_check.specs.Visits.{Telling, IsOfValueAlone, faults_of, told_at, told_of_items, told_of_members, AreEntriesInOrder, AreEntriesKnown, AreEntriesSilent, AreItemsInOrder, AreItemsKnown}
 use Rattle.erd_check.specs.declared.want.Want.{Want}
+use Rattle.erd_check.specs.Faults.{is_reference, is_text}
+use Rattle.erd_check.specs.code.Walk.{IsAskedInRange, reasons}
 use Rattle.erd_check.specs.declared.want.Want.TheVariants.{Reference}
+
+module _ (tells : Telling) (w : Want) (alone : IsOfValueAlone tells w) where
+  told_alone : (outer owner : Data) (p : List Step) (one other : Bool) (d : Data) → told_at tells outer owner p w one d ≡ told_at tells outer owner p w other d
+  told_alone outer owner p one other (array ds) =
+      ap (λ rs. faults_of p rs ++ option_map_or (λ v. told_of_items tells owner (array ds) p v (is_compared_set w) [] ds) (entry_want w) []) (alone outer one other (array ds))
+  told_alone outer owner p one other (object ms) =
+      ap (λ rs. faults_of p rs ++ told_of_members tells owner (object ms) p (scope_inside w (object ms)) ms) (alone outer one other (object ms))
+  told_alone outer owner p one other e = ap (faults_of p) (alone outer one other e)
+
+  pub items_alone : (outer owner : Data) (p : List Step) (one other : Bool) (earlier : List Data) (ds : Items) → told_of_items tells outer owner p w one earlier ds ≡ told_of_items tells outer owner p w other earlier ds
+  items_alone outer owner p one other earlier no_items = refl
+  items_alone outer owner p one other earlier (item d ds) =
+      let here = p ++ At (length earlier) ∷ [] in
+      let repeated = list_any (is_same_json d) earlier in
+      ap (λ fs. fs ++ told_of_items tells outer owner p w one (earlier ++ d ∷ []) ds) (told_alone outer owner here (one && repeated) (other && repeated) d)
+      ∙ ap (λ fs. told_at tells outer owner here w (other && repeated) d ++ fs) (items_alone outer owner p one other (earlier ++ d ∷ []) ds)
+
+-- ---- the walk may pass over the entries of an array of references if they are all texts
 
 no_reason : (f : Family) (repeated : Bool) (s : List ℕ) → reasons (Reference f) repeated (string s) ≡ []
 no_reason f true s = refl

@@ -5,6 +5,7 @@ use Rattle.std.specs.Cmp.{Equal-is}
 use Rattle.std.specs.List.{list_any}
 use Rattle.std.specs.Ordering.{match_ordering}
 use Rattle.std.proofs.lemmas.List.Folds.{list_any-append}
+use Rattle.std.proofs.lemmas.Bool.{or_right}
 use Rattle.serde_json.specs.Data.{Data}
 use Rattle.serde_json.specs.View.{view}
 use Rattle.erd_check.specs.Trees.{is_same_json}
@@ -23,7 +24,7 @@ value_cmp a b = json_cmp (view a.value.now) (view b.value.now)
 
 -- ---- one value more
 
-or_exchanged : (a b c : Bool) → a || (b || c) ≡ b || (a || c)
+pub or_exchanged : (a b c : Bool) → a || (b || c) ≡ b || (a || c)
 or_exchanged true true c = refl
 or_exchanged true false c = refl
 or_exchanged false b c = refl
@@ -100,10 +101,6 @@ unequal : (vs : List OrderedValue) (d : Data) → is_same_json d d ≡ false →
 unequal [] d own = refl
 unequal (w ∷ vs) d own = rw (unequal_one d (data_of w) own) (unequal vs d own)
 
-or_true : (a b : Bool) → b ≡ true → a || b ≡ true
-or_true true b h = refl
-or_true false b h = h
-
 -- a value that is equal to itself is equal to the one that it is tied with
 found : (vs : List OrderedValue) (d : Data) (w : OrderedValue) → is_same_json d d ≡ true → find (λ v. is_eq (json_cmp d (data_of v))) vs ≡ Some w → (list_any (is_same_json d) (map data_of vs) ≡ true) × (is_same_json d (data_of w) ≡ true)
 found [] d w own e = cc
@@ -116,7 +113,7 @@ found (x ∷ xs) d w own e = step (is_eq (json_cmp d (data_of x))) refl (found x
         let one : x ≡ w = cc in
         let same : is_same_json d (data_of x) ≡ true = tied_same d (data_of x) ((Equal-is (json_cmp d (data_of x))).0 is) own in
         (ap (λ b. b || list_any (is_same_json d) (map data_of xs)) same, ap (λ v. is_same_json d (data_of v)) (sym one) ∙ same)
-    step false is later = let r = later (rw is at e) in (or_true (is_same_json d (data_of x)) (list_any (is_same_json d) (map data_of xs)) r.0, r.1)
+    step false is later = let r = later (rw is at e) in (or_right (is_same_json d (data_of x)) (list_any (is_same_json d) (map data_of xs)) r.0, r.1)
 
 -- one is
 pub one_tied : (vs : List OrderedValue) (d : Data) (w : OrderedValue) → find (λ v. is_eq (json_cmp d (data_of v))) vs ≡ Some w → list_any (is_same_json d) (map data_of vs) ≡ is_same_json d (data_of w)
@@ -125,7 +122,3 @@ one_tied vs d w e = at (is_same_json d d) refl
     at : (b : Bool) → is_same_json d d ≡ b → list_any (is_same_json d) (map data_of vs) ≡ is_same_json d (data_of w)
     at true own = let both = found vs d w own e in both.0 ∙ sym both.1
     at false own = unequal vs d own ∙ sym (unequal_one d (data_of w) own)
-
-pub alone : (b : Bool) → b || false ≡ b
-alone true = refl
-alone false = refl

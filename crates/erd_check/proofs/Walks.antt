@@ -1,11 +1,12 @@
 -- What a walk over a report tells is the list of the reasons at each place, over all that is asked in the report.
-use Rattle.std.proofs.Common.{◌≡◌, ◌-◌, ◌≤◌, inl, inr, List, [], ◌∷◌, ◌++◌, length, take, Bool, false, ◌&&◌, Option, Some, None, refl, sym, ap, ap₂, ◌∙◌, subst, append-nil, arith, length-append}
+use Rattle.std.proofs.Common.{◌≡◌, ◌-◌, ◌≤◌, inl, inr, List, [], ◌∷◌, ◌++◌, length, take, Bool, false, ◌&&◌, Option, Some, None, refl, sym, ap, ap₂, ◌∙◌, subst, append-nil, arith, length-append, IsTrue}
 use Rattle.std.proofs.Math.Seq.{take-append_seam}
 use Rattle.std.proofs.lemmas.List.{take-append-le}
 use Rattle.std.proofs.lemmas.Grind.{flat_map-append}
 use Rattle.std.specs.List.{flat_map, list_any}
 use Rattle.std.specs.Option.{option_map_or}
-use Rattle.serde_json.specs.Data.{Data, null, boolean, number, string, array, object, Items, no_items, item, Members, no_members, member}
+use Rattle.std.specs.Prelude.{IsSomeAnd}
+use Rattle.serde_json.specs.Data.{Data, array, object, Items, no_items, item, Members, no_members, member}
 use Rattle.erd_tables.specs.Faults.{ListsAll}
 use Rattle.erd_tables.specs.declared.class.Role.TheVariants.{Report}
 use Rattle.erd_tables.specs.declared.fault.Fault.{Fault}
@@ -14,7 +15,7 @@ use Rattle.erd_tables.specs.declared.place.Step.{Step}
 use Rattle.erd_tables.specs.declared.place.Step.TheVariants.{Name, At}
 use Rattle.erd_check.specs.Trees.{is_same_json}
 use Rattle.erd_check.specs.Wants.{Asked, asked_at, scope_inside, want_of_name, entry_want, is_compared_set}
-use Rattle.erd_check.specs.code.Walk.{asked_with}
+use Rattle.erd_check.specs.code.Walk.{asked_with, reasons}
 use Rattle.erd_check.specs.Visits.{faults_of, told_at, told_of_items, told_of_members, told_of_report, IsInOrder, Telling}
 use Rattle.erd_check.specs.declared.want.Scope.{Scope}
 use Rattle.erd_check.specs.declared.want.Want.{Want}
@@ -23,6 +24,8 @@ use Rattle.erd_check.proofs.AllAsked.{AskedPlace, all_asked, all_asked_from, all
 use Rattle.erd_check.proofs.AskedInside.{all_asked_sound}
 use Rattle.erd_check.proofs.FaultsAsked.{faults_asked, faults_asked_listed, faults_there, AreReasons}
 use Rattle.erd_check.proofs.Order.{In, In-append_left, In-append_right}
+use Rattle.erd_check.specs.Faults.{is_shape_fault, ShapeFault}
+use Rattle.erd_check.proofs.Reasons.{reasons_complete, reasons_sorted, reasons_sound}
 
 -- ---- the values around a place
 
@@ -107,10 +110,6 @@ module _ (t : Data) (tells : Telling) (reasons_at : List Step → Asked → List
   mutual
     walk_same : (outer owner : Data) (p : List Step) (w : Want) (repeated : Bool) (d : Data) → Around t p outer owner → Inside (all_asked_from p w repeated d)
         → told_at tells outer owner p w repeated d ≡ told_of (all_asked_from p w repeated d)
-    walk_same outer owner p w repeated null around inside = alone outer owner p w repeated null around
-    walk_same outer owner p w repeated (boolean b) around inside = alone outer owner p w repeated (boolean b) around
-    walk_same outer owner p w repeated (number n) around inside = alone outer owner p w repeated (number n) around
-    walk_same outer owner p w repeated (string s) around inside = alone outer owner p w repeated (string s) around
     walk_same outer owner p w repeated (array ds) around inside =
         let there : asked_at t p ≡ Some (asked_with w repeated (array ds)) = all_asked_sound t p (asked_with w repeated (array ds)) order (inside (p, asked_with w repeated (array ds)) (inl refl)) in
         ap₂ ◌++◌ (here outer owner p w repeated (array ds) around)
@@ -121,6 +120,7 @@ module _ (t : Data) (tells : Telling) (reasons_at : List Step → Asked → List
         let there : asked_at t p ≡ Some (asked_with w repeated (object ms)) = all_asked_sound t p (asked_with w repeated (object ms)) order (inside (p, asked_with w repeated (object ms)) (inl refl)) in
         ap₂ ◌++◌ (here outer owner p w repeated (object ms) around)
         (members_same owner (object ms) p (scope_inside w (object ms)) ms (λ s. around_below t p outer owner w repeated (object ms) s around there) (λ x i. inside x (inr i)))
+    walk_same outer owner p w repeated e around inside = alone outer owner p w repeated e around
 
     items_same : (outer owner : Data) (p : List Step) (w : Want) (is_set : Bool) (earlier : List Data) (ds : Items) → ((s : Step) → Around t (p ++ s ∷ []) outer owner) → Inside (all_asked_items p w is_set earlier ds)
         → told_of_items tells outer owner p w is_set earlier ds ≡ told_of (all_asked_items p w is_set earlier ds)
@@ -153,3 +153,23 @@ pub walk_lists : (t : Data) (tells : Telling) (reasons_at : List Step → Asked 
     → AreReasons t reasons_at IsFault → ListsAll IsFault (told_of_report tells t)
 walk_lists t tells reasons_at IsFault agrees order are =
     subst (ListsAll IsFault) (sym (walk_told t tells reasons_at agrees order)) (faults_asked_listed t reasons_at IsFault order are)
+
+-- ---- the walk that judges the shape tells exactly the faults of the shape
+
+-- the reasons of the shape of what is asked at a place
+abbrev pub shape_reasons : List Step → Asked → List Reason
+shape_reasons p a = reasons a.want a.repeated a.value
+
+fault_there : (t : Data) (p : List Step) (r : Reason) (o : Option Asked) → asked_at t p ≡ o → IsSomeAnd o (λ a. IsTrue (is_shape_fault a r)) → (a : Asked) × (asked_at t p ≡ Some a) × In r (shape_reasons p a)
+fault_there t p r None e h = absurd h
+fault_there t p r (Some a) e h = (a, e, reasons_complete a.want a.repeated a.value r h)
+
+are_reasons : (t : Data) → AreReasons t shape_reasons (ShapeFault t)
+are_reasons t = record {
+  rising = λ p a. reasons_sorted a.want a.repeated a.value;
+  sound = λ p a r e i. subst (λ (o : Option Asked). IsSomeAnd o (λ b. IsTrue (is_shape_fault b r))) (sym e) (reasons_sound a.want a.repeated a.value r i);
+  complete = λ p r h. fault_there t p r (asked_at t p) refl h;
+}
+
+pub shape_walk_lists : (t : Data) → IsInOrder (Object Report) t → ListsAll (ShapeFault t) (told_of_report (λ outer. reasons) t)
+shape_walk_lists t order = walk_lists t (λ outer. reasons) shape_reasons (ShapeFault t) (record { same = λ p outer owner w repeated d around. refl }) order (are_reasons t)

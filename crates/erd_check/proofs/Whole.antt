@@ -1,9 +1,10 @@
 -- Values in which every number is whole are equal to themselves as JSON.
-use Rattle.std.proofs.Common.{◌≡◌, ℕ, zero, suc, List, Some, None, Bool, true, false, not, ◌&&◌, ◌||◌, codes, Ordering, Less, Equal, Greater, refl, sym, ap, ◌∙◌, subst, pos}
+use Rattle.std.proofs.Common.{◌≡◌, ℕ, zero, suc, List, Some, None, Bool, true, false, not, ◌&&◌, ◌||◌, codes, Ordering, Equal, refl, sym, ap, ◌∙◌, subst, pos}
 use Rattle.std.specs.List.{list_all}
 use Rattle.std.specs.Str.{bytes_eq}
 use Rattle.std.proofs.lemmas.Map.Lookups.{exact_bytes}
 use Rattle.std.proofs.lemmas.Bool.Decides.{Decides-int_eq}
+use Rattle.std.proofs.lemmas.Bool.{and_parts, and_from, not-true}
 use Rattle.serde_json.specs.Data.{Num, unsigned, negative, float, Data, null, boolean, number, string, array, object, Items, no_items, item, Members, no_members, member}
 use Rattle.serde_json.specs.Find.{get, get_member, get_item}
 use Rattle.erd_tables.specs.Classes.{text_of_class, role_of_class}
@@ -16,14 +17,14 @@ use Rattle.erd_tables.specs.declared.place.Step.TheVariants.{Name, At}
 use Rattle.erd_tables.specs.Texts.{text_cmp}
 use Rattle.erd_tables.specs.declared.member.MemberKind.TheVariants as kind
 use Rattle.erd_tables.specs.declared.fault.Reason.TheVariants as reason
-use Rattle.erd_check.specs.Trees.{same_flag, same_number, is_same_json, are_same_items, are_same_members, IsTree, AreTrees, AreMembers}
+use Rattle.erd_check.specs.Trees.{same_number, is_same_json, are_same_items, are_same_members, IsTree, AreTrees, AreMembers}
 use Rattle.erd_check.specs.Wants.{class_of_object, is_report_class, want_of_kind, carried_want, asked}
 use Rattle.erd_check.specs.Faults.{is_not_whole, NoneOf, ShapeFault}
 use Rattle.erd_check.specs.declared.want.Want.TheVariants.{Object, Member, Carried}
 use Rattle.erd_check.proofs.Members.{get_member-first, get_member-before}
-use Rattle.erd_check.proofs.Exact.{text_itself, text_exact, both_true}
+use Rattle.erd_check.proofs.Exact.{text_itself, text_exact, flag_itself}
 use Rattle.erd_check.proofs.Entries.{string_from_text}
-use Rattle.erd_check.proofs.Shapes.{Within, Within-step, faultless, wanted_within, classed, Classed, member_within, of_role, both_hold}
+use Rattle.erd_check.proofs.Shapes.{Within, Within-step, faultless, wanted_within, classed, Classed, member_within, of_role}
 use Rattle.erd_check.proofs.TableKinds.{kind_of_class, want_unless_status}
 
 -- a member of the rest is a member
@@ -31,13 +32,8 @@ pub get_member-later : (k q : List ℕ) (d v : Data) (ms : Members) → AreMembe
 get_member-later k q d v ms rise e = at (text_cmp q k) refl
   where
     at : (o : Ordering) → text_cmp q k ≡ o → get_member q (member k d ms) ≡ Some v
-    at Less is = rw is e
     at Equal is = let h : None ≡ Some v = sym (get_member-before k ms rise.2 rise.0) ∙ ap (λ x. get_member x ms) (sym (exact_bytes q k is)) ∙ e in cc
-    at Greater is = rw is e
-
-flag_itself : (b : Bool) → same_flag b b ≡ true
-flag_itself true = refl
-flag_itself false = refl
+    at x is = rw is e
 
 number_itself : (n : Num) → is_not_whole (number n) ≡ false → same_number n n ≡ true
 number_itself (unsigned m) h = (Decides-int_eq (pos m) (pos m)).1 refl
@@ -54,10 +50,6 @@ is_simple k = false
 
 abbrev pub is_simple_class : Class → Bool
 is_simple_class c = not (is_report_class c) && (list_all (λ m. is_simple m.kind) (rows_of_class c) && is_simple (kind_of_identity c))
-
-pub not_true : (b : Bool) → not b ≡ true → b ≡ false
-not_true true e = cc
-not_true false e = refl
 
 module _ (t : Data) (clean : NoneOf (ShapeFault t)) where
   pub no_strange : (v : Data) (r : Bool) → Within t (asked (Member kind.StrangeIdentity r) v) → ⊥
@@ -85,13 +77,13 @@ module _ (t : Data) (clean : NoneOf (ShapeFault t)) where
 
     carried_items : (ds : Items) → AreTrees ds → ((i : ℕ) (d : Data) → get_item i ds ≡ Some d → Within t (asked Carried d)) → are_same_items ds ds ≡ true
     carried_items no_items tree each = refl
-    carried_items (item d ds) tree each = both_hold _ _ (carried_itself d tree.0 (each zero d refl)) (carried_items ds tree.1 (λ i. each (suc i)))
+    carried_items (item d ds) tree each = and_from _ _ (carried_itself d tree.0 (each zero d refl)) (carried_items ds tree.1 (λ i. each (suc i)))
 
     carried_members : (ms : Members) → AreMembers ms → ((k : List ℕ) (d : Data) → get_member k ms ≡ Some d → Within t (asked Carried d)) → are_same_members ms ms ≡ true
     carried_members no_members tree each = refl
     carried_members (member k d ms) tree each =
-        both_hold _ _ (text_itself k)
-        (both_hold _ _ (carried_itself d tree.1 (each k d (get_member-first k d ms))) (carried_members ms tree.2 (λ q v e. each q v (get_member-later k q d v ms tree e))))
+        and_from _ _ (text_itself k)
+        (and_from _ _ (carried_itself d tree.1 (each k d (get_member-first k d ms))) (carried_members ms tree.2 (λ q v e. each q v (get_member-later k q d v ms tree e))))
 
   simple_itself : (k : MemberKind) (r : Bool) (v : Data) → is_simple k ≡ true → IsTree v → Within t (asked (want_of_kind k r) v) → is_same_json v v ≡ true
   simple_itself kind.Word r v h tree w = let s = string_from_text v (wanted_within t clean (asked (Member kind.Word r) v) w) in subst (λ x. is_same_json x x ≡ true) (sym s.1) (text_itself s.0)
@@ -103,8 +95,8 @@ module _ (t : Data) (clean : NoneOf (ShapeFault t)) where
   members_itself : (ms : Members) → AreMembers ms → ((k : List ℕ) (d : Data) → get_member k ms ≡ Some d → IsTree d → is_same_json d d ≡ true) → are_same_members ms ms ≡ true
   members_itself no_members tree each = refl
   members_itself (member k d ms) tree each =
-      both_hold _ _ (text_itself k)
-      (both_hold _ _ (each k d (get_member-first k d ms) tree.1) (members_itself ms tree.2 (λ q v e. each q v (get_member-later k q d v ms tree e))))
+      and_from _ _ (text_itself k)
+      (and_from _ _ (each k d (get_member-first k d ms) tree.1) (members_itself ms tree.2 (λ q v e. each q v (get_member-later k q d v ms tree e))))
 
   -- an entry of a set of objects with texts and carried members alone
   pub entry_itself : (r : Role) (d : Data) → ((c : Class) → role_of_class c ≡ r → is_simple_class c ≡ true) → IsTree d → Within t (asked (Object r) d) → is_same_json d d ≡ true
@@ -121,10 +113,10 @@ module _ (t : Data) (clean : NoneOf (ShapeFault t)) where
       each ms inside c simple among typed k v is vtree = at (bytes_eq k (codes "@type")) refl
         where
           no_report : (is_report_class c && bytes_eq k (codes "Status")) ≡ false
-          no_report = rw (not_true (is_report_class c) (both_true (not (is_report_class c)) _ simple).0)
+          no_report = rw (not-true (is_report_class c) (and_parts (not (is_report_class c)) _ simple).0)
 
           parts : (list_all (λ m. is_simple m.kind) (rows_of_class c) ≡ true) × (is_simple (kind_of_identity c) ≡ true)
-          parts = both_true (list_all (λ m. is_simple m.kind) (rows_of_class c)) (is_simple (kind_of_identity c)) (both_true (not (is_report_class c)) _ simple).1
+          parts = and_parts (list_all (λ m. is_simple m.kind) (rows_of_class c)) (is_simple (kind_of_identity c)) (and_parts (not (is_report_class c)) _ simple).1
 
           at : (b : Bool) → bytes_eq k (codes "@type") ≡ b → is_same_json v v ≡ true
           at true named =

@@ -13,78 +13,38 @@ use Rattle.erd_check.proofs.Reports.{tree_of, one_unit, small_ballot, small_ball
 
 -- ---- reports without a fault
 
-unit_test : is_tree (tree_of one_unit) ≡ true
+-- the text is that of a tree without a fault of the shape
+pub record IsFaultless (text : List ℕ) : Type 0 where
+  pub tree : IsTree (tree_of text)
+  pub none : NoneOf (ShapeFault (tree_of text))
+
+faultless_by_tests : (text : List ℕ) → is_tree (tree_of text) ≡ true → length (faults_found (tree_of text)) ≡ 0 → IsFaultless text
+faultless_by_tests text is empty = record { tree = tree_sound (tree_of text) is; none = no_fault_listed (tree_of text) is empty }
+
+pub one_unit_is_faultless : IsFaultless one_unit
 unfolding serde_json_on_literals
-unit_test = refl
+one_unit_is_faultless = faultless_by_tests one_unit refl refl
 
-unit_faults : length (faults_found (tree_of one_unit)) ≡ 0
+pub small_ballot_is_faultless : IsFaultless small_ballot
 unfolding serde_json_on_literals
-unit_faults = refl
+small_ballot_is_faultless = faultless_by_tests small_ballot refl refl
 
-pub one_unit_is_tree : IsTree (tree_of one_unit)
-one_unit_is_tree = tree_sound (tree_of one_unit) unit_test
-
-pub one_unit_is_faultless : NoneOf (ShapeFault (tree_of one_unit))
-one_unit_is_faultless = no_fault_listed (tree_of one_unit) unit_test unit_faults
-
-ballot_test : is_tree (tree_of small_ballot) ≡ true
+pub small_ballot_canonical_is_faultless : IsFaultless small_ballot_canonical
 unfolding serde_json_on_literals
-ballot_test = refl
+small_ballot_canonical_is_faultless = faultless_by_tests small_ballot_canonical refl refl
 
-ballot_faults : length (faults_found (tree_of small_ballot)) ≡ 0
+pub two_elections_is_faultless : IsFaultless two_elections
 unfolding serde_json_on_literals
-ballot_faults = refl
+two_elections_is_faultless = faultless_by_tests two_elections refl refl
 
-pub small_ballot_is_tree : IsTree (tree_of small_ballot)
-small_ballot_is_tree = tree_sound (tree_of small_ballot) ballot_test
-
-pub small_ballot_is_faultless : NoneOf (ShapeFault (tree_of small_ballot))
-small_ballot_is_faultless = no_fault_listed (tree_of small_ballot) ballot_test ballot_faults
-
-canonical_test : is_tree (tree_of small_ballot_canonical) ≡ true
+pub three_contests_is_faultless : IsFaultless three_contests
 unfolding serde_json_on_literals
-canonical_test = refl
-
-canonical_faults : length (faults_found (tree_of small_ballot_canonical)) ≡ 0
-unfolding serde_json_on_literals
-canonical_faults = refl
-
-pub small_ballot_canonical_is_tree : IsTree (tree_of small_ballot_canonical)
-small_ballot_canonical_is_tree = tree_sound (tree_of small_ballot_canonical) canonical_test
-
-pub small_ballot_canonical_is_faultless : NoneOf (ShapeFault (tree_of small_ballot_canonical))
-small_ballot_canonical_is_faultless = no_fault_listed (tree_of small_ballot_canonical) canonical_test canonical_faults
-
--- two elections
-two_test : is_tree (tree_of two_elections) ≡ true
-unfolding serde_json_on_literals
-two_test = refl
-
-two_faults : length (faults_found (tree_of two_elections)) ≡ 0
-unfolding serde_json_on_literals
-two_faults = refl
-
-pub two_elections_is_tree : IsTree (tree_of two_elections)
-two_elections_is_tree = tree_sound (tree_of two_elections) two_test
-
-pub two_elections_is_faultless : NoneOf (ShapeFault (tree_of two_elections))
-two_elections_is_faultless = no_fault_listed (tree_of two_elections) two_test two_faults
-
-contests_test : is_tree (tree_of three_contests) ≡ true
-unfolding serde_json_on_literals
-contests_test = refl
-
-contests_faults : length (faults_found (tree_of three_contests)) ≡ 0
-unfolding serde_json_on_literals
-contests_faults = refl
-
-pub three_contests_is_tree : IsTree (tree_of three_contests)
-three_contests_is_tree = tree_sound (tree_of three_contests) contests_test
-
-pub three_contests_is_faultless : NoneOf (ShapeFault (tree_of three_contests))
-three_contests_is_faultless = no_fault_listed (tree_of three_contests) contests_test contests_faults
+three_contests_is_faultless = faultless_by_tests three_contests refl refl
 
 -- ---- reports with faults
+
+listed_by_tests : (text : List ℕ) (faults : List Fault) → is_tree (tree_of text) ≡ true → faults_found (tree_of text) ≡ faults → ListsAll (ShapeFault (tree_of text)) faults
+listed_by_tests text faults is found = subst (ListsAll (ShapeFault (tree_of text))) found (faults_listed (tree_of text) (tree_sound (tree_of text) is))
 
 -- no election at all
 abbrev pub no_election : List ℕ
@@ -93,16 +53,9 @@ no_election = codes "{\"@type\":\"ElectionResults.ElectionReport\",\"Status\":\"
 abbrev pub no_election_faults : List Fault
 no_election_faults = fault_at (Name (codes "Election") ∷ []) ElectionCount ∷ []
 
-no_election_test : is_tree (tree_of no_election) ≡ true
-unfolding serde_json_on_literals
-no_election_test = refl
-
-no_election_found : faults_found (tree_of no_election) ≡ no_election_faults
-unfolding serde_json_on_literals
-no_election_found = refl
-
 pub no_election_has_all : ListsAll (ShapeFault (tree_of no_election)) no_election_faults
-no_election_has_all = subst (ListsAll (ShapeFault (tree_of no_election))) no_election_found (faults_listed (tree_of no_election) (tree_sound (tree_of no_election) no_election_test))
+unfolding serde_json_on_literals
+no_election_has_all = listed_by_tests no_election no_election_faults refl refl
 
 -- a status after the election, a strange reference, a unit without its type, an election without its scope, and more
 abbrev pub faulty : List ℕ
@@ -123,13 +76,6 @@ faulty_faults =
     ∷ fault_at (Name (codes "Status") ∷ []) NotPreElection
     ∷ []
 
-faulty_test : is_tree (tree_of faulty) ≡ true
-unfolding serde_json_on_literals
-faulty_test = refl
-
-faulty_found : faults_found (tree_of faulty) ≡ faulty_faults
-unfolding serde_json_on_literals
-faulty_found = refl
-
 pub faulty_has_all : ListsAll (ShapeFault (tree_of faulty)) faulty_faults
-faulty_has_all = subst (ListsAll (ShapeFault (tree_of faulty))) faulty_found (faults_listed (tree_of faulty) (tree_sound (tree_of faulty) faulty_test))
+unfolding serde_json_on_literals
+faulty_has_all = listed_by_tests faulty faulty_faults refl refl

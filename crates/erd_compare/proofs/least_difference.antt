@@ -1,6 +1,5 @@
 pub mod StepWalks
 pub mod NameWalks
-pub mod MemberWalks
 pub mod PairWalks
 pub mod HeldRecords
 pub mod KeyedRecords

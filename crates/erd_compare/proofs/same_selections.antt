@@ -2,4 +2,3 @@ pub mod MemberValues
 pub mod NameMaps
 pub mod SelectionWalks
 pub mod PlacedSelections
-pub mod PlacedNames

@@ -1,2 +1,1 @@
 pub mod WholeTrees
-pub mod FamilyTrees

@@ -4,5 +4,4 @@ pub mod Phases
 pub mod References
 pub mod Skeleton
 pub mod Standing
-pub mod KeyedElections
 pub mod DistinctKeys

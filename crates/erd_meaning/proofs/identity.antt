@@ -6,7 +6,6 @@ pub mod ToldFaults
 pub mod MetLists
 pub mod MetElections
 pub mod MetSources
-pub mod KeyTests
 pub mod SeenKeys
 pub mod IdentityFaults
 pub mod Resolved

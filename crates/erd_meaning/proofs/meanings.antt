@@ -1,6 +1,5 @@
 -- When two objects and two reports mean the same.
 pub mod HeldValues  -- the objects of a family, without their places
-pub mod WholeRecords
 pub mod WholeMeanings
-pub mod ElectionIds
+pub mod WholeRecords
 pub mod SelectionKinds  -- which members hold selections

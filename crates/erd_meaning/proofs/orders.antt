@@ -5,13 +5,10 @@ pub mod Counted  -- how many entries of a list pass a test
 pub mod CountedKeys  -- the ranks of keys are in the order of the keys
 pub mod DistinctEntries  -- lists in which no two entries compare as equal
 pub mod EqualNames
-pub mod InsertedValues
 pub mod OrdersMade  -- the order that is made of distinct keys
 pub mod PlacesPut  -- places put at the positions that a list names
 pub mod Reordered  -- lists with the same entries, each as often
-pub mod RisingAlike  -- orders that agree on the entries of a list sort it alike
 pub mod RisingLists
-pub mod RisingOrders  -- a list in rising order rises
-pub mod RisingRanks  -- the position of an entry in a list in rising order is its rank
+pub mod RisingOrders
 pub mod RisingSets  -- a list in rising order has the same entries
 pub mod Sets

@@ -4,7 +4,6 @@ pub mod SelectionEntries
 pub mod ReferenceLookups
 pub mod SelectionsElsewhere
 pub mod SilentWalks
-pub mod ReasonsFound
 pub mod ReferenceWalks
-pub mod OwnContests  -- the contest of a selection, by its `@id`
+pub mod ReasonsFound
 pub mod ClearArrays  -- arrays of references in which no reason is told

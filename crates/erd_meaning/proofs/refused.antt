@@ -1,3 +1,2 @@
 -- The claim: a report that is refused is refused for all its faults of the first phase that has any.
-pub mod RefusedLists
 pub mod Refused

@@ -2,11 +2,9 @@
 pub mod Bounds
 pub mod CanonicalIds
 pub mod SelectionTexts
-pub mod DistinctSelections
 pub mod DistinctSets
 pub mod RisingReports
 pub mod NormalKeys
-pub mod NormalSelections
 pub mod ElectionsApart
 pub mod DistinctIds
 pub mod SoundEnvelope
@@ -16,6 +14,4 @@ pub mod NoEmptyArrays
 pub mod KeptNames
 pub mod SetsInOrder
 pub mod ChosenEntries
-pub mod NormalCanonical
 pub mod NormalForms
-pub mod NormalFormsOnly

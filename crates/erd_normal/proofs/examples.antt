@@ -5,7 +5,7 @@ pub mod CanonicalExamples
 pub mod CanonicalPartExamples
 pub mod MeaningExamples
 pub mod BallotMeaningExamples
-mod RearrangedExamples
+pub mod RearrangedExamples
 mod StableOrderExamples
 mod NormalTreeExamples
 mod ElectionExamples

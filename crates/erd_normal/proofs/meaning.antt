@@ -2,5 +2,4 @@
 pub mod RisingMeanings
 pub mod MatchedMeanings
 pub mod MeantKinds
-pub mod ObjectRecords
 pub mod AlikeRecords

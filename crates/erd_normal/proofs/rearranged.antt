@@ -1,9 +1,7 @@
 -- A rearranged report is accepted as it was, says the same and so means the same.
-pub mod Alike
 pub mod AlikeParts
 pub mod AlikeChanges
 pub mod RelatedMembers
 pub mod RelatedObjects
-pub mod RearrangedEnvelope
 pub mod RearrangedIds
 pub mod RearrangedReports

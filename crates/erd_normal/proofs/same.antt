@@ -1,12 +1,10 @@
 -- The reports that say the same: what `SaysTheSame` holds of.
 pub mod Basics
-pub mod Lists
 pub mod FamilyValues
 pub mod SharedIds
 pub mod Types
 pub mod Back
 pub mod FromAlike
-pub mod Rearrangements
 pub mod Lookups
 pub mod Steady
 pub mod Related
@@ -14,9 +12,8 @@ pub mod Owners
 pub mod Decided
 pub mod Differ
 pub mod Examples
-pub mod ByKeys
 pub mod Merged
-pub mod SetsBack
+pub mod Lists
 pub mod Places
 pub mod CameFrom
 pub mod InTurn
@@ -24,8 +21,7 @@ pub mod Labels
 pub mod Built
 pub mod LabelsBack
 pub mod IdsOfObjects
-pub mod Refers
-pub mod Renamed
+pub mod Rearrangements
 pub mod means
 pub mod complete
 pub mod accepted

@@ -1,9 +1,6 @@
 -- Canonical reports that mean the same say the same, and are equal.
 pub mod Ids
 pub mod Closed
-pub mod Envelope
 pub mod SameTrees
-pub mod Unique
 pub mod NamesAlike
-pub mod ReferencesAlike
-pub mod ObjectsAlike
+pub mod Unique

@@ -1,19 +1,80 @@
 -- The texts of the values that calls answer as data.
-use Rattle.std.proofs.Common.{◌≡◌, ◌≤◌, ℕ, List, [], ◌∷◌, ◌++◌, codes, Some, false, refl, sym, ap, ◌∙◌, subst, arith, append_assoc}
+use Rattle.std.proofs.Common.{◌≡◌, ℕ, List, ◌++◌, ap, ◌∙◌, append_assoc, ◌≤◌, ◌<◌, ◌^◌, ◌⊎◌, inl, inr, pos, negsuc, Some, refl, sym, subst, arith, [], codes, false}
+use Rattle.std.proofs.lemmas.Bool.{cases_eq}
+use Rattle.std.specs.Fmt.{digits, signed_decimal}
 use Rattle.std.specs.Str.{IsUtf8}
-use Rattle.serde_json.specs.Data.{Data, string, depth}
+use Rattle.serde_json.specs.Data.{Num, unsigned, negative, float, Data, number, array, object, Items, no_items, item, Members, no_members, member, depth, string}
 use Rattle.serde_json.specs.Read.{max_depth, read}
-use Rattle.serde_json.specs.Written.{compact_text, has_float}
+use Rattle.serde_json.specs.Written.{compact_text, items_outline, members_outline, number_text, outline, has_float}
 use Rattle.serde_json.proofs.OnLiterals.{serde_json_on_literals}
-use Rattle.erd_check.specs.Numbers.{HasFittingNumbers}
+use Rattle.serde_json.proofs.Texts.{print-outline}
+use Rattle.json.specs.Lex.{tokens}
+use Rattle.json.specs.Print.{IsNumber}
+use Rattle.json.specs.Tree.{json_tokens, HasNumbers, ItemsHaveNumbers, MembersHaveNumbers}
+use Rattle.json.proofs.Printed.Decimals.{IsNumber-decimal, IsNumber-signed_decimal}
+use Rattle.json.proofs.Printed.Tokens.{tokens-print}
+use Rattle.json.proofs.Printed.Trees.{ArePrintable-json_tokens}
+use Rattle.erd_check.specs.Numbers.{HasFittingNumbers, IsFittingNumber, ItemsHaveFittingNumbers, MembersHaveFittingNumbers}
 use Rattle.erd_check.specs.Trees.{IsTree}
-use Rattle.erd_canon.specs.DataAnswers.{IsDataText}
+use Rattle.erd_meaning.specs.Keys.{Preference}
+use Rattle.erd_normal.proofs.texts.FormTexts.{form_read}
+use Rattle.erd_compare.specs.DifferenceData.{difference_data}
+use Rattle.erd_compare.specs.declared.difference.Difference.{Difference}
+use Rattle.erd_canon.specs.DataAnswers.{IsDataText, IsCheckData, IsCheckedData, IsComparedData, IsRefusalData}
 use Rattle.erd_canon.specs.DataValues.{refused_data}
-use Rattle.erd_canon.specs.code.RefusalData.{AppendsRefusal, IsRefusalAnswer, IsSideAnswer}
+use Rattle.erd_canon.specs.code.RefusalData.{AppendsRefusal, IsRefusalAnswer, IsSideAnswer, TellsRefusalAs}
 use Rattle.erd_canon.specs.declared.engines.outcome.Outcome.{Outcome}
 use Rattle.erd_canon.specs.declared.bytes.refusal.Refusal.{Refusal}
-use Rattle.erd_canon.proofs.data_values.DataTrees.{refusal_value, refused_depth, refused_tree}
-use Rattle.erd_canon.proofs.data_values.ReadBack.{compact_read}
+use Rattle.erd_canon.proofs.data_values.DataTrees.{refusal_value, refused_depth, refused_tree, difference_value}
+use Rattle.erd_canon.specs.EngineTexts.{IsComparison}
+use Rattle.erd_canon.specs.Refused.{IsSomeReport, RefusedAs}
+use Rattle.erd_canon.specs.declared.engines.outcome.Outcome.TheVariants.{Good, Bad, NotJson}
+use Rattle.erd_canon.specs.declared.bytes.refusal.Refusal.TheVariants as refusal
+
+-- ---- texts that are written piece by piece
+
+-- one piece and then another
+pub two_pieces : (was first mid second text : List ℕ) → mid ≡ was ++ first → text ≡ mid ++ second → text ≡ was ++ (first ++ second)
+two_pieces was first mid second text one two = two ∙ ap (λ t. t ++ second) one ∙ append_assoc was first second
+
+-- ---- the compact text of a value is read back as the value
+
+-- the least number of 64 bits
+least : IsNumber (signed_decimal (negsuc 9223372036854775807))
+unfolding digits serde_json_on_literals
+least = refl
+
+below_zero : (n : ℕ) → n < 2 ^ 63 → (n ≡ 9223372036854775807) ⊎ (n ≡ 9223372036854775807 → ⊥) → IsNumber (signed_decimal (negsuc n))
+below_zero n fit (inl is) = subst (λ m. IsNumber (signed_decimal (negsuc m))) (sym is) least
+below_zero n fit (inr other) = IsNumber-signed_decimal (negsuc n) (omega arith)
+
+number_is : (n : Num) → IsFittingNumber n → IsNumber (number_text n)
+number_is (unsigned n) fit = IsNumber-decimal n fit
+number_is (negative (pos n)) fit = absurd fit
+number_is (negative (negsuc n)) fit = below_zero n fit (cases_eq n 9223372036854775807)
+number_is (float x) fit = absurd fit
+
+mutual
+  outline_numbers : (d : Data) → HasFittingNumbers d → HasNumbers (outline d)
+  outline_numbers (number n) fit = number_is n fit
+  outline_numbers (array ds) fit = items_numbers ds fit
+  outline_numbers (object ms) fit = members_numbers ms fit
+  outline_numbers e fit = tt
+
+  items_numbers : (ds : Items) → ItemsHaveFittingNumbers ds → ItemsHaveNumbers (items_outline ds)
+  items_numbers no_items fit = tt
+  items_numbers (item d ds) fit = (outline_numbers d fit.0, items_numbers ds fit.1)
+
+  members_numbers : (ms : Members) → MembersHaveFittingNumbers ms → MembersHaveNumbers (members_outline ms)
+  members_numbers no_members fit = tt
+  members_numbers (member k d ms) fit = (outline_numbers d fit.0, members_numbers ms fit.1)
+
+pub compact_read : (d : Data) → IsTree d → HasFittingNumbers d → depth d ≤ max_depth → read (compact_text d) ≡ Some d
+compact_read d tree fit shallow =
+    form_read d (compact_text d) tree fit
+    (ap tokens (sym (print-outline d)) ∙ tokens-print (json_tokens (outline d)) (ArePrintable-json_tokens (outline d) (outline_numbers d fit))) shallow
+
+-- ---- the texts of the values that calls answer as data
 
 -- the compact text of a value is its text
 pub data_text : (text : List ℕ) (d : Data) → IsUtf8 text → text ≡ compact_text d → IsTree d → HasFittingNumbers d → depth d ≤ max_depth → IsDataText text d
@@ -58,4 +119,60 @@ side_answer side refused outcome first second third fourth text a begun named si
       why = a.value;
       tells = a.tells;
       is_text = data_text text (refused_data side a.value) utf8 is (refused_tree side a.value v.0) (a.fits, (tt, tt)) (omega (arith, refused_depth side a.value v.1));
+    }
+
+-- ---- what the calls answer as data, from what the calls on bytes answer
+
+-- the value of a refusal says why the bytes are refused
+refusal_data : (π : Preference) (bytes : List ℕ) (refused : Refusal) (outcome : Outcome) (why : Data) → RefusedAs π bytes refused → TellsRefusalAs refused outcome why
+    → IsRefusalData π bytes outcome why
+refusal_data π bytes (refusal.Faults faults) Bad why (is, none) tells = (faults, is, tells)
+refusal_data π bytes refusal.NotJson NotJson why not tells = (not, tells)
+refusal_data π bytes (refusal.Faults faults) Good why is tells = absurd tells
+refusal_data π bytes (refusal.Faults faults) NotJson why is tells = absurd tells
+refusal_data π bytes refusal.NotJson Good why is tells = absurd tells
+refusal_data π bytes refusal.NotJson Bad why is tells = absurd tells
+refusal_data π bytes refusal.Memory outcome why is tells = absurd tells
+
+check_data : (π : Preference) (bytes : List ℕ) (outcome : Outcome) (why : Data) → IsRefusalData π bytes outcome why → IsCheckData π bytes outcome why
+check_data π bytes Good why is = absurd is
+check_data π bytes Bad why is = is
+check_data π bytes NotJson why is = is
+
+-- the answer of a check if the bytes are refused
+pub refused_check : (π : Preference) (bytes : List ℕ) (refused : Refusal) (outcome : Outcome) (text : List ℕ) → RefusedAs π bytes refused → IsRefusalAnswer refused outcome text
+    → IsCheckedData π bytes outcome text
+refused_check π bytes refused outcome text is a = record {
+  value = a.why;
+  checked = check_data π bytes outcome a.why (refusal_data π bytes refused outcome a.why is a.tells);
+  is_text = a.is_text;
+}
+
+-- the answer of a comparison if the left bytes are refused
+pub left_refused : (π : Preference) (left right : List ℕ) (refused : Refusal) (outcome : Outcome) (text : List ℕ) → RefusedAs π left refused → IsSideAnswer (codes "left") refused outcome text
+    → IsComparedData π left right outcome text
+left_refused π left right refused outcome text is a = record {
+  value = refused_data (codes "left") a.why;
+  compared = inl (a.why, refusal_data π left refused outcome a.why is a.tells, refl);
+  is_text = a.is_text;
+}
+
+-- the answer of a comparison if the right bytes are refused
+pub right_refused : (π : Preference) (left right : List ℕ) (refused : Refusal) (outcome : Outcome) (text : List ℕ) → IsSomeReport π left → RefusedAs π right refused
+    → IsSideAnswer (codes "right") refused outcome text → IsComparedData π left right outcome text
+right_refused π left right refused outcome text accepted is a = record {
+  value = refused_data (codes "right") a.why;
+  compared = inr (inl (accepted, (a.why, refusal_data π right refused outcome a.why is a.tells, refl)));
+  is_text = a.is_text;
+}
+
+-- the answer of a comparison if two accepted reports differ
+pub differ : (π : Preference) (left right text : List ℕ) (d : Difference) (v : Data) → IsComparison π left right (Some d) → v ≡ difference_data d → (has_float v ≡ false → text ≡ compact_text v)
+    → (depth v ≤ max_depth → read text ≡ Some v) → IsUtf8 text → IsComparedData π left right Bad text
+differ π left right text d v is same written read_back utf8 =
+    let known = difference_value d in
+    record {
+      value = difference_data d;
+      compared = inr (inr (Some d, is, refl, refl));
+      is_text = value_text text v (difference_data d) utf8 same known.1 (omega (arith, known.0)) written read_back;
     }

@@ -1,6 +1,6 @@
 -- The values that calls answer as data are trees, nest little, and have no number that is not whole.
-use Rattle.std.proofs.Common.{◌≡◌, ◌≤◌, ℕ, suc, max, List, [], ◌∷◌, Option, Some, None, map, false, refl, sym, subst, arith}
-use Rattle.serde_json.specs.Data.{Data, string, depth, items_depth, members_depth, Members, no_members, member, number, unsigned}
+use Rattle.std.proofs.Common.{◌≡◌, ◌≤◌, ℕ, List, [], ◌∷◌, Option, Some, None, map, false, refl, sym, subst, arith}
+use Rattle.serde_json.specs.Data.{Data, depth, items_depth}
 use Rattle.serde_json.specs.View.{items_of}
 use Rattle.serde_json.specs.Written.{has_float, items_have_float}
 use Rattle.erd_tables.specs.declared.fault.Fault.{Fault}
@@ -8,14 +8,14 @@ use Rattle.erd_tables.specs.declared.fault.Reason.{Reason}
 use Rattle.erd_tables.specs.declared.fault.Reason.TheVariants as reason
 use Rattle.erd_tables.specs.declared.place.Step.{Step}
 use Rattle.erd_tables.specs.declared.place.Step.TheVariants.{Name, At}
-use Rattle.erd_check.specs.Trees.{AreMembers, AreTrees, IsTree}
+use Rattle.erd_check.specs.Trees.{AreTrees, IsTree}
 use Rattle.erd_meaning.specs.declared.keys.key.Key.{Key}
 use Rattle.erd_compare.specs.DifferenceData.{difference_data}
 use Rattle.erd_compare.specs.declared.difference.Difference.{Difference}
 use Rattle.erd_compare.specs.declared.difference.How.{How}
 use Rattle.erd_compare.specs.declared.difference.How.TheVariants.{OnlyLeft, OnlyRight, OtherClass, Member}
 use Rattle.erd_compare.specs.declared.difference.Part.{Part}
-use Rattle.erd_canon.specs.DataValues.{after_name, comparison_data, fault_data, faults_data, place_data, refused_data, step_data}
+use Rattle.erd_canon.specs.DataValues.{fault_data, refused_data, step_data}
 use Rattle.erd_canon.specs.code.RefusalData.{TellsRefusalAs}
 use Rattle.erd_canon.specs.declared.engines.outcome.Outcome.{Outcome}
 use Rattle.erd_canon.specs.declared.engines.outcome.Outcome.TheVariants.{Good, Bad, NotJson}
@@ -90,10 +90,6 @@ refusal_value (refusal.Faults faults) NotJson value is = absurd is
 refusal_value refusal.NotJson Good value is = absurd is
 refusal_value refusal.NotJson Bad value is = absurd is
 refusal_value refusal.Memory outcome value is = absurd is
-
--- the list of faults of an accepted report
-pub no_faults_tree : IsTree (faults_data [])
-no_faults_tree = tt
 
 difference_at : (p : Part) (k : Option Key) (h : How) → let d = difference_data (record { part = p; key = k; how = h }) in (depth d ≤ 2) × (has_float d ≡ false)
 difference_at p None OnlyLeft = (omega arith, refl)

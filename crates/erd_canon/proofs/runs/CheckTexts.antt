@@ -4,13 +4,13 @@ use Rattle.std.specs.Prelude.{IfOk, OnOk}
 use Rattle.std.specs.Io.KnownBytes.{Appends}
 use Rattle.erd_tables.specs.Faults.{fault_line}
 use Rattle.erd_tables.specs.declared.fault.Fault.{Fault}
-use Rattle.erd_canon.proofs.forms.Refusing.{refused_is_none}
 use Rattle.erd_canon.specs.EngineTexts.{IsCheckText, IsCanonicalOutput, IsCanonicalErrors, IsRefusedReport, text_of_lines}
 use Rattle.erd_canon.specs.Run.{IsAnswered, IsAnswerWritten, IsChecked, IsCheckWritten, IsToldCheck, IsToldRun, IsWholeCheck, IsWholeRun}
 use Rattle.erd_canon.specs.Reading.{IsReadWhole}
 use Rattle.erd_canon.specs.declared.engines.outcome.Outcome.{Outcome}
 use Rattle.erd_canon.specs.declared.engines.outcome.RunFault.{RunFault}
 use Rattle.erd_canon.specs.declared.engines.outcome.Outcome.TheVariants.{Good, Bad, NotJson}
+use Rattle.erd_canon.proofs.forms.Refusing.{refused_is_none}
 use Rattle.erd_meaning.specs.Keys.{Preference}
 
 -- the text of a check

@@ -1,8 +1,8 @@
 -- What moves from a buffer to a writer, in one step after another.
-use Rattle.std.proofs.Common.{◌≡◌, ℕ, List, [], ◌++◌, Option, Result, Ok, Err, take, drop, length, sym, ap, ◌∙◌, refl, append-nil, append_assoc, subst, take-append-drop}
+use Rattle.std.proofs.Common.{◌≡◌, ℕ, List, [], ◌++◌, Option, Result, Ok, Err, take, drop, length, sym, ap, ◌∙◌, append-nil, append_assoc, subst, take-append-drop}
 use Rattle.std.specs.Result.{OnErr, OnOk}
 use Rattle.std.proofs.lemmas.Result.{on_err_weaker, on_ok_weaker}
-use Rattle.std.proofs.KnownBytes.{Appends-nil, Appends-trans}
+use Rattle.std.proofs.KnownBytes.{Appends-trans}
 use Rattle.std.specs.Io.KnownBytes.{Appends}
 use lib.Seq.{take-append_seam}
 use Rattle.erd_canon.specs.Writing.{IsPartWritten}
@@ -12,10 +12,6 @@ use Rattle.erd_canon.specs.code.Pending.{IsFrontMoved, IsMoved}
 pub on_err : {T E P : Type 0} (r : Result T E) → P → OnErr r P
 on_err (Ok x) p = tt
 on_err (Err e) p = p
-
--- nothing moves
-pub IsMoved-none : (a : Option (List ℕ)) (p : List ℕ) → IsMoved a a p p
-IsMoved-none a p = record { written = []; wrote = Appends-nil a; split = refl }
 
 pub IsMoved-trans : (a b c : Option (List ℕ)) (p q r : List ℕ) → IsMoved a b p q → IsMoved b c q r → IsMoved a c p r
 IsMoved-trans a b c p q r m n = record {
@@ -60,14 +56,6 @@ IsMoved-more a b c p k left xs rest q m is n =
 -- a write failed as the front of what is left was added
 pub IsFrontMoved-more : (a b c : Option (List ℕ)) (p k left xs rest : List ℕ) → IsMoved a b p (k ++ left) → left ≡ xs ++ rest → IsFrontMoved b c (k ++ xs) → IsFrontMoved a c p
 IsFrontMoved-more a b c p k left xs rest m is n = (n.0 ++ rest, IsMoved-more a b c p k left xs rest n.0 m is n.1)
-
--- nothing is left
-pub IsMoved-end : (a b : Option (List ℕ)) (p q : List ℕ) → IsMoved a b p (q ++ []) → IsMoved a b p q
-IsMoved-end a b p q m = subst (IsMoved a b p) (append-nil q) m
-
--- all of the bytes were written
-pub Appends-moved : (a b : Option (List ℕ)) (p q : List ℕ) → IsMoved a b p q → q ≡ [] → Appends a b p
-Appends-moved a b p q m none = subst (Appends a b) (sym (m.split ∙ ap (λ l. m.written ++ l) none ∙ append-nil m.written)) m.wrote
 
 -- a first part of the bytes was written
 pub IsPartWritten-moved : (a b : Option (List ℕ)) (p q : List ℕ) → IsMoved a b p q → IsPartWritten a b p

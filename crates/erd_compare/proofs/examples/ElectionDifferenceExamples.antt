@@ -18,7 +18,7 @@ use Rattle.erd_meaning.specs.Objects.{Placed, elections, report_of}
 use Rattle.erd_meaning.specs.Records.{member_of_class, object_record, record_in_election, records_of, meaning}
 use Rattle.erd_meaning.specs.declared.keys.key.Key.{Key}
 use Rattle.erd_meaning.proofs.examples.RecordExamples.{local_key}
-use Rattle.erd_meaning.proofs.meanings.ElectionIds.{no_election_id}
+use Rattle.erd_meaning.proofs.meanings.WholeRecords.{no_election_id}
 use Rattle.erd_meaning.proofs.meanings.WholeMeanings.{HaveKeys, election_has_key, is_key_in, keys_of_family, no_record, nothing_at, same_at_every_key, same_at_key, same_object, value_with_key}
 use Rattle.erd_meaning.proofs.orders.EqualNames.{equal_keys}
 use Rattle.erd_compare.specs.DifferenceLine.{difference_line}

@@ -8,13 +8,13 @@ use Rattle.erd_tables.specs.Texts.{text_cmp}
 use Rattle.erd_meaning.specs.Meaning.{MemberValue, ObjectRecord, a_key, a_plain}
 use Rattle.erd_meaning.specs.Records.{record_in_election, with_election_id}
 use Rattle.erd_meaning.specs.declared.keys.key.Key.{Key}
-use Rattle.erd_meaning.proofs.meanings.ElectionIds.{other_than_election}
+use Rattle.erd_meaning.proofs.meanings.WholeRecords.{other_than_election}
+use Rattle.erd_meaning.proofs.orders.RisingOrders.{greater_turned}
 use Rattle.erd_compare.specs.code.Comparing.{TellsHow}
 use Rattle.erd_compare.specs.code.HeldDifferences.{HasNoElectionId, TellsHeld, is_before_election}
 use Rattle.erd_compare.specs.Differences.{DifferFirstAt}
 use Rattle.erd_compare.specs.declared.difference.How.{How}
 use Rattle.erd_compare.specs.declared.difference.How.TheVariants.{OnlyLeft, OnlyRight, OtherClass, Member}
-use Rattle.erd_compare.proofs.least_difference.StepWalks.{turned}
 
 abbrev Members : Type 0
 Members = List ℕ → Option MemberValue
@@ -40,7 +40,7 @@ below n one name less not_less = at (text_cmp name one) refl
     at : (o : Ordering) → text_cmp name one ≡ o → text_cmp n name ≡ Less
     at Less is = absurd (true≢false (sym (ap is_lt is) ∙ not_less))
     at Equal is = subst (λ x. text_cmp n x ≡ Less) (sym (exact_bytes name one is)) less
-    at Greater is = nat_list_cmp_total.trans n one name less (turned nat_list_cmp_total name one is)
+    at Greater is = nat_list_cmp_total.trans n one name less (greater_turned nat_list_cmp_total name one is)
 
 -- ---- members
 
@@ -105,8 +105,7 @@ module _ (k l : Option Key) (a b : ObjectRecord) (left : HasNoElectionId a) (rig
         differ = differ_held k l a.members b.members name (less_other name election_id is) told.differ;
         least = λ n less. same_below k l a.members b.members n (nat_list_cmp_total.trans n name election_id less is) (told.least n less);
       }
-      at Equal is = absurd (true≢false (sym first ∙ ap is_lt is))
-      at Greater is = absurd (true≢false (sym first ∙ ap is_lt is))
+      at d is = absurd (true≢false (sym first ∙ ap is_lt is))
 
   -- otherwise the member is the first in which they differ, if the keys do
   pub held_at_election : (own : Option How) → (k ≡ l → ⊥) → is_before_election own ≡ false → TellsHow (Some a) (Some b) own → TellsHow (Some (record_in_election k a)) (Some (record_in_election l b)) (Some (Member election_id))

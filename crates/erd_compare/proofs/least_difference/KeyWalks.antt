@@ -9,6 +9,7 @@ use Rattle.erd_meaning.specs.Records.{meaning}
 use Rattle.erd_meaning.specs.declared.keys.key.Key.{Key}
 use Rattle.erd_meaning.proofs.orders.EqualNames.{equal_keys, options_exact}
 use Rattle.erd_meaning.proofs.selections.PositionedKeys.{KeyPosition}
+use Rattle.erd_meaning.proofs.orders.RisingOrders.{greater_turned}
 use Rattle.erd_compare.specs.code.Comparing.{DifferAtKey, RecordMap}
 use Rattle.erd_compare.specs.code.KeyedDifferences.{HasKeyAt, IsComparable, IsOnly, IsOnlyLesser, TellsAtPositions, TellsLeast, TellsNext, is_ranked, rising_in_role, role_of_part}
 use Rattle.erd_compare.specs.Differences.{Differ, record_at}
@@ -19,7 +20,7 @@ use Rattle.erd_compare.specs.declared.difference.Part.TheVariants as part
 use Rattle.erd_compare.specs.declared.first.tables.KeyedDifference.{KeyedDifference}
 use Rattle.erd_compare.proofs.least_difference.KeyedRecords.{differ_left, differ_right, none_beside, some_record}
 use Rattle.erd_compare.proofs.least_difference.RisingKeys.{all_rise, all_stand, by_key, by_key_total, entries, entry_keys, keys_rise}
-use Rattle.erd_compare.proofs.least_difference.StepWalks.{IsInStep, NoneLess, all_left, below_head, equal_all, equal_below, lacks_left, lacks_right, none_less-before, none_less-empty, none_less-head, pass_both, turned}
+use Rattle.erd_compare.proofs.least_difference.StepWalks.{IsInStep, NoneLess, all_left, below_head, equal_all, equal_below, lacks_left, lacks_right, none_less-before, none_less-empty, none_less-head, pass_both}
 
 -- a key with the position of its object
 abbrev pub Entry : Type 0
@@ -99,7 +100,7 @@ module _ (π ρ : Preference) (t u : Data) (p : Part) (c : IsComparable π t) (d
   pub right_less : (e g : Entry) (ls rs : List Entry) → AreLeft π ρ t u p (e ∷ ls) (g ∷ rs) → by_key e.0 g.0 ≡ Greater
       → DifferAtKey (map_of π t p) (map_of ρ u p) g.0 OnlyRight
   right_less e g ls rs h greater =
-      let less = turned by_key_total e.0 g.0 greater in
+      let less = greater_turned by_key_total e.0 g.0 greater in
       least_at (e ∷ ls) (g ∷ rs) h g.0 OnlyRight (none_less-before by_key_total g.0 e.0 (keys_of (e ∷ ls)) less (none_less-head by_key_total e.0 (keys_of ls) h.step.left))
       (none_less-head by_key_total g.0 (keys_of rs) h.step.right)
       (only_right g (e ∷ ls) rs h (below_head by_key_total g.0 e.0 (keys_of ls) less h.step.left))

@@ -1,11 +1,12 @@
 -- What a report means at the keys of a part are the records of its objects: each object of an accepted report has a record,
 -- and no two of a part have one key.
-use Rattle.std.proofs.Common.{◌≡◌, ◌≤◌, ◌<◌, ℕ, zero, suc, ◌⊎◌, inl, inr, List, [], ◌∷◌, Bool, true, false, length, nat_lt, Option, Some, None, option_and_then, option_map, find, refl, sym, ap, ◌∙◌, subst, arith}
+use Rattle.std.proofs.Common.{◌≡◌, ◌≤◌, ℕ, zero, suc, ◌⊎◌, inl, inr, List, [], ◌∷◌, Bool, true, false, length, nat_lt, Option, Some, None, option_and_then, option_map, find, refl, sym, ap, ◌∙◌, subst, arith}
 use Rattle.std.specs.Cmp.{Equal-is}
 use Rattle.std.specs.List.{slice_get}
 use Rattle.std.specs.Option.{option_cmp}
 use Rattle.std.specs.Ordering.{is_eq}
 use Rattle.std.proofs.lemmas.Cmp.{tied_itself}
+use Rattle.std.proofs.lemmas.Option.{slice_get_within}
 use Rattle.serde_json.specs.Data.{Data}
 use Rattle.erd_tables.specs.declared.class.Class.{Class}
 use Rattle.erd_tables.specs.declared.class.Family.{Family}
@@ -16,8 +17,8 @@ use Rattle.erd_check.specs.Wants.{asked, class_of_object}
 use Rattle.erd_check.specs.declared.want.Want.TheVariants.{Object}
 use Rattle.erd_check.proofs.ObjectsAt.{ObjectIn, object_in}
 use Rattle.erd_check.proofs.Order.{In, any_at}
-use Rattle.erd_check.proofs.Rising.{Has, here, later}
 use Rattle.erd_check.proofs.Shapes.{Within, Within-root}
+use Rattle.erd_check.proofs.Positions.{has_at, position_of}
 use Rattle.erd_meaning.specs.Keys.{Preference, has_keys, key_cmp, key_of}
 use Rattle.erd_meaning.specs.Lookups.{election_in, election_key_in}
 use Rattle.erd_meaning.specs.Meaning.{ObjectRecord}
@@ -27,14 +28,13 @@ use Rattle.erd_meaning.specs.Records.{election_records, meaning, member_of_class
 use Rattle.erd_meaning.specs.declared.keys.key.Key.{Key}
 use Rattle.erd_meaning.proofs.orders.EqualNames.{equal_keys, options_exact}
 use Rattle.erd_meaning.proofs.finding.OneObject.{in_at, one_key}
-use Rattle.erd_meaning.proofs.finding.OwnedObjects.{position_of}
 use Rattle.erd_meaning.proofs.finding.TwinElections.{one_election_key}
-use Rattle.erd_meaning.proofs.accepted.KeyedElections.{election_has_identifier}
+use Rattle.erd_meaning.proofs.accepted.DistinctKeys.{election_has_identifier}
 use Rattle.erd_meaning.proofs.accepted.Phases.{no_identity_fault, no_shape_fault}
 use Rattle.erd_meaning.proofs.accepted.References.{find-Some, find-any, has_identifier, option_map-Some}
 use Rattle.erd_meaning.proofs.accepted.Skeleton.{election_stands, skeleton}
 use Rattle.erd_meaning.proofs.accepted.Standing.{stands}
-use Rattle.erd_meaning.proofs.meanings.ElectionIds.{no_election_id}
+use Rattle.erd_meaning.proofs.meanings.WholeRecords.{no_election_id}
 use Rattle.erd_compare.specs.code.Comparing.{IsWholeTree, RecordMap, TellsHow}
 use Rattle.erd_compare.specs.Differences.{Differ, record_at, record_with_key, record_without_key}
 use Rattle.erd_compare.specs.code.HeldDifferences.{HasNoElectionId, TellsHeld}
@@ -44,7 +44,7 @@ use Rattle.erd_compare.specs.declared.difference.How.TheVariants.{OnlyLeft, Only
 use Rattle.erd_compare.specs.declared.difference.Part.{Part}
 use Rattle.erd_compare.specs.declared.difference.Part.TheVariants as part
 use Rattle.erd_compare.proofs.least_difference.StepWalks.{IsNoneBeside}
-use Rattle.erd_compare.proofs.whole_trees.FamilyTrees.{whole_election, whole_object}
+use Rattle.erd_compare.proofs.whole_trees.WholeTrees.{whole_election, whole_object}
 
 -- ---- the first object with a key
 
@@ -55,17 +55,6 @@ has_key π k o = is_eq (option_cmp key_cmp (key_of π o.value) k)
 key_itself : (k : Option Key) → is_eq (option_cmp key_cmp k k) ≡ true
 key_itself None = refl
 key_itself (Some k) = (Equal-is (key_cmp k k)).1 (tied_itself key_cmp_total k)
-
-has_at : {A : Type 0} (xs : List A) (i : ℕ) (x : A) → slice_get xs i ≡ Some x → Has xs x
-has_at [] i x e = cc
-has_at (y ∷ xs) zero x e = let same : y ≡ x = cc in subst (Has (y ∷ xs)) same here
-has_at (y ∷ xs) (suc i) x e = later (has_at xs i x e)
-
--- a position in a list is low
-pub low_at : {A : Type 0} (xs : List A) (i : ℕ) (x : A) → slice_get xs i ≡ Some x → i < length xs
-low_at [] i x e = cc
-low_at (y ∷ xs) zero x e = omega arith
-low_at (y ∷ xs) (suc i) x e = omega (arith, low_at xs i x e)
 
 -- objects with one key, or with none, stand at one position
 abbrev AreApart : Preference → List Placed → Type 0
@@ -162,7 +151,7 @@ module _ (π : Preference) (t : Data) (c : IsComparable π t) where
     where
       sole : (b : Bool) → has_several t ≡ b → key_of π o.value ≡ None → i ≡ j
       sole true is none = let its = election_has_identifier π t (no_identity_fault π t c.accepted) is o (has_at (elections t) i o at) in let clash : None ≡ Some its.0 = sym none ∙ its.1 in absurd (cc clash)
-      sole false is none = omega (arith, few (length (elections t)) is, low_at (elections t) i o at, low_at (elections t) j p there)
+      sole false is none = omega (arith, few (length (elections t)) is, slice_get_within (elections t) i o at, slice_get_within (elections t) j p there)
 
       by_key : (k : Option Key) → key_of π o.value ≡ k → i ≡ j
       by_key None is = sole (has_several t) refl is

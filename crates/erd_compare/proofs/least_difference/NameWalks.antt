@@ -7,19 +7,24 @@ use Rattle.std.proofs.Math.Path.{fun_ext}
 use Rattle.std.proofs.lemmas.Slice.Eq.{bytes_eq-Decides}
 use Rattle.std.proofs.lemmas.Cmp.{nat_list_cmp_total, tied_itself}
 use Rattle.std.proofs.lemmas.Map.Lookups.{exact_bytes}
-use Rattle.serde_json.specs.Data.{Data, null, boolean, number, string, array, object, Members, no_members, member}
+use Rattle.serde_json.specs.Data.{Data, object, Members, no_members, member}
 use Rattle.serde_json.specs.Find.{as_object, get, get_member}
 use Rattle.erd_tables.specs.Texts.{text_cmp}
 use Rattle.erd_tables.specs.declared.class.Class.{Class}
-use Rattle.erd_check.specs.Trees.{AreMembers, IsBeforeFirst, IsTree}
+use Rattle.erd_check.specs.Trees.{AreMembers, IsTree}
 use Rattle.erd_check.specs.Values.{names}
 use Rattle.erd_check.proofs.Order.{In}
+use Rattle.erd_check.proofs.Deciding.{names_rise, before_all}
+use Rattle.erd_check.proofs.Exact.{text_itself}
+use Rattle.erd_check.proofs.Members.{found_cases, get_member-first, get_member-later}
 use Rattle.erd_meaning.specs.Keys.{Preference}
 use Rattle.erd_meaning.specs.Records.{member_of_class}
+use Rattle.erd_meaning.proofs.orders.RisingOrders.{greater_turned}
 use Rattle.erd_compare.specs.Differences.{DifferFirstAt}
 use Rattle.erd_compare.specs.code.LeastNames.{DifferAtName, lesser_name, record_of_class}
-use Rattle.erd_compare.specs.code.NamesInStep.{first_of, names_past}
-use Rattle.erd_compare.proofs.least_difference.StepWalks.{IsInStep, IsNoneBeside, NoneLess, all_left, below_head, equal_all, none_less-before, none_less-empty, none_less-head, pass_both, pass_left, pass_right, turned}
+use Rattle.erd_compare.specs.code.NamesInStep.{first_of, names_past, AreMembersOf}
+use Rattle.erd_compare.proofs.least_difference.StepWalks.{IsInStep, IsNoneBeside, NoneLess, all_left, below_head, equal_all, none_less-before, none_less-empty, none_less-head, pass_both, pass_left, pass_right}
+use Rattle.erd_compare.specs.code.Comparing.{Decides}
 
 -- ---- the first name that is left
 
@@ -28,9 +33,6 @@ pub firsts_left : (f g : Option (Bor (List ℕ))) (ls rs : List (List ℕ)) (o :
 firsts_left f g ls rs o left right e = ap₂ lesser_name (sym left) (sym right) ∙ sym e
 
 -- ---- a name is passed by
-
-name_itself : (k : List ℕ) → bytes_eq k k ≡ true
-name_itself k = (bytes_eq-Decides k k).1 refl
 
 names_apart : (k l : List ℕ) → text_cmp k l ≡ Less → bytes_eq l k ≡ false
 names_apart k l low = at (bytes_eq l k) refl
@@ -42,7 +44,7 @@ names_apart k l low = at (bytes_eq l k) refl
         let clash : Equal ≡ Less = sym (tied_itself nat_list_cmp_total k) ∙ subst (λ x. text_cmp k x ≡ Less) same low in cc
 
 past_first : (k : List ℕ) (ks : List (List ℕ)) → names_past k (k ∷ ks) ≡ ks
-past_first k ks = ap (λ b. cond b ks (k ∷ ks)) (name_itself k)
+past_first k ks = ap (λ b. cond b ks (k ∷ ks)) (text_itself k)
 
 past_later : (k l : List ℕ) (ls : List (List ℕ)) → text_cmp k l ≡ Less → names_past k (l ∷ ls) ≡ l ∷ ls
 past_later k l ls low = ap (λ b. cond b ls (l ∷ ls)) (names_apart k l low)
@@ -101,7 +103,7 @@ module _ {V : Type 0} (m n : List ℕ → Option V) where
       at Greater is =
           let told : Some a ≡ Some k = rw is at e in
           let same : a ≡ k = cc in
-          let low = turned nat_list_cmp_total b a is in
+          let low = greater_turned nat_list_cmp_total b a is in
           subst (IsNextName m n (a ∷ ls) (b ∷ rs)) same (next_left a ls (b ∷ rs) step (below_head nat_list_cmp_total a b rs low step.right) (past_later a b rs low)
           (none_less-before nat_list_cmp_total a b (b ∷ rs) low (none_less-head nat_list_cmp_total b rs step.right)))
 
@@ -119,48 +121,25 @@ module _ {V : Type 0} (m n : List ℕ → Option V) where
 
 -- ---- at first all names are left
 
-before_all : (k : List ℕ) (ms : Members) → AreMembers ms → IsBeforeFirst k ms → AllByRecursion (λ j. text_cmp k j ≡ Less) (names ms)
-before_all k no_members rise low = tt
-before_all k (member l d no_members) rise low = (low, tt)
-before_all k (member l d (member j e ms)) rise low = (low, before_all k (member j e ms) rise.2 (nat_list_cmp_total.trans k l j low rise.0))
-
-names_rise : (ms : Members) → AreMembers ms → IsStrictlySortedBy text_cmp (names ms)
-unfolding IsStrictlySortedBy
-names_rise no_members trees = tt
-names_rise (member k d ms) trees = (before_all k ms trees.2 trees.0, names_rise ms trees.2)
-
 -- a name that is not among these has no member
 named : (k : List ℕ) (v : Data) (ms : Members) → get_member k ms ≡ Some v → In k (names ms)
 named k v no_members e = cc
-named k v (member l d ms) e = at (text_cmp k l) refl (named k v ms)
-  where
-    at : (o : Ordering) → text_cmp k l ≡ o → (get_member k ms ≡ Some v → In k (names ms)) → In k (l ∷ names ms)
-    at Less is rest = inr (rest (rw is at e))
-    at Equal is rest = inl (sym (exact_bytes k l is))
-    at Greater is rest = inr (rest (rw is at e))
+named k v (member l d ms) e = found_cases k l v d ms e (λ name same. inl (sym name)) (λ found. inr (named k v ms found))
 
 none_beside : {V : Type 0} (m : List ℕ → Option V) (d : Data) (ms : Members) → Some ms ≡ as_object d → ((k : List ℕ) → get k d ≡ None → m k ≡ None) → (k : List ℕ) → IsNoneBeside m (names ms) k
 none_beside m d ms is absent k = at (get k d) refl
   where
     found : (d : Data) (v : Data) → Some ms ≡ as_object d → get k d ≡ Some v → get_member k ms ≡ Some v
-    found null v e h = cc
-    found (boolean b) v e h = cc
-    found (number x) v e h = cc
-    found (string s) v e h = cc
-    found (array ds) v e h = cc
     found (object ns) v e h = let same : ms ≡ ns = cc in subst (λ x. get_member k x ≡ Some v) (sym same) h
+    found x v e h = cc
 
     at : (o : Option Data) → get k d ≡ o → IsNoneBeside m (names ms) k
     at None e = inl (absent k e)
     at (Some v) e = inr (named k v ms (found d v is e))
 
 rise_in : (d : Data) (ms : Members) → IsTree d → Some ms ≡ as_object d → IsStrictlySortedBy text_cmp (names ms)
-rise_in null ms tree e = cc
-rise_in (boolean b) ms tree e = cc
-rise_in (number x) ms tree e = cc
-rise_in (string s) ms tree e = cc
-rise_in (array ds) ms tree e = cc
 rise_in (object ns) ms tree e = let same : ns ≡ ms = cc in names_rise ms (subst AreMembers same tree)
+rise_in k ms tree e = cc
 
 -- maps of two objects, each of which has nothing where its object has no member
 pub both_objects : {V : Type 0} (m n : List ℕ → Option V) (d e : Data) (ms ns : Members) → IsTree d → IsTree e → Some ms ≡ as_object d → Some ns ≡ as_object e
@@ -174,3 +153,24 @@ both_objects m n d e ms ns mine its left right absent absent' =
 pub member_told : (π ρ : Preference) (t u d e : Data) (c : Class) (name : List ℕ) → DifferAtName (member_of_class π t d c) (member_of_class ρ u e c) name
     → DifferFirstAt (record_of_class π t c d) (record_of_class ρ u c e) name
 member_told π ρ t u d e c name h = record { same_class = refl; differ = h.differ; least = h.least }
+
+-- ---- the members that are left in a walk over an object stand in it, and what is found there decides what the object means
+
+-- members after the first one stand in the object as well
+later_members : (k : List ℕ) (d : Data) (ms xs : Members) → AllByRecursion (λ j. text_cmp k j ≡ Less) (names xs) → AreMembersOf (object ms) xs → AreMembersOf (object (member k d ms)) xs
+later_members k d ms no_members low h = tt
+later_members k d ms (member l e xs) low h = (get_member-later l k d e ms low.0 h.0, later_members k d ms xs low.1 h.1)
+
+members_themselves : (ms : Members) → AreMembers ms → AreMembersOf (object ms) ms
+members_themselves no_members trees = tt
+members_themselves (member k d ms) trees = (get_member-first k d ms, later_members k d ms ms (before_all k ms trees.0 trees.2) (members_themselves ms trees.2))
+
+-- all members of an object stand in it
+pub all_members : (d : Data) (ms : Members) → IsTree d → Some ms ≡ as_object d → AreMembersOf d ms
+all_members (object ns) ms tree e = let same : ns ≡ ms = cc in subst (λ xs. AreMembersOf (object xs) ms) (sym same) (members_themselves ms (subst AreMembers same tree))
+all_members k ms tree e = cc
+
+-- what two values decide, the members decide that they are
+pub found-Decides : {V : Type 0} (f g : Option Data → V) (answer : Bool) (o p found other : Option Data) → o ≡ found → p ≡ other → Decides answer (f o) (g p) → Decides answer (f found) (g other)
+found-Decides f g answer o p found other left right h =
+    subst (λ x. Decides answer (f x) (g other)) left (subst (λ x. Decides answer (f o) (g x)) right h)

@@ -13,12 +13,11 @@ use Rattle.erd_meaning.specs.Records.{member_of_class}
 use Rattle.erd_meaning.proofs.meanings.WholeRecords.{absent_member}
 use Rattle.erd_compare.specs.code.Comparing.{Decides}
 use Rattle.erd_compare.specs.code.PlainParts.{member_found}
-use Rattle.erd_compare.proofs.least_difference.MemberWalks.{found-Decides}
+use Rattle.erd_compare.proofs.least_difference.NameWalks.{found-Decides, both_objects, next_name, none_left}
 use Rattle.erd_compare.specs.code.LeastNames.{DifferAtName, MemberMap, TellsLeastName, lesser_name}
 use Rattle.erd_compare.specs.code.MemberPairs.{DecideNames, IsMapOf, IsPairOf}
 use Rattle.erd_compare.specs.code.NamesInStep.{first_of, names_past}
 use Rattle.erd_compare.specs.declared.objects.least_name.MemberPair.{MemberPair}
-use Rattle.erd_compare.proofs.least_difference.NameWalks.{both_objects, next_name, none_left}
 use Rattle.erd_compare.proofs.least_difference.StepWalks.{IsInStep, equal_below}
 
 -- a map with nothing

@@ -4,6 +4,7 @@ use Rattle.std.specs.Cmp.{nat_cmp_is}
 use Rattle.std.specs.Option.{option_cmp}
 use Rattle.std.specs.Ordering.{nat_cmp, ordering_then}
 use Rattle.std.specs.Prelude.{⊤}
+use Rattle.std.proofs.lemmas.Bool.{cases_order}
 use Rattle.serde_json.specs.Data.{Data}
 use Rattle.erd_tables.specs.declared.class.Family.{Family}
 use Rattle.erd_tables.specs.declared.class.Family.TheVariants as family
@@ -11,7 +12,6 @@ use Rattle.erd_meaning.specs.Keys.{Preference, key_cmp}
 use Rattle.erd_meaning.specs.Meaning.{Meaning}
 use Rattle.erd_meaning.specs.Records.{meaning, records_of}
 use Rattle.erd_meaning.specs.declared.keys.key.Key.{Key}
-use Rattle.erd_meaning.proofs.finding.OneObject.{which_first}
 use Rattle.erd_meaning.proofs.meanings.WholeMeanings.{same_meaning}
 use Rattle.erd_compare.specs.code.Comparing.{DifferAtPart}
 use Rattle.erd_compare.specs.Differences.{Differ, IsFirstDifference, part_cmp, part_number, record_at}
@@ -82,7 +82,7 @@ after_equal x y o same less = ap (λ c. ordering_then c o) (nat_cmp_is x y Equal
 pub first_told : (m n : Meaning) (i : ℕ) (d : Difference) → i < 10 → AreEqualBelow m n i → DifferAtPart m n (part_at i) d → IsFirstDifference m n d
 first_told m n i d low below h = record {
   differ = subst (λ p. Differ (record_at m p d.key) (record_at n p d.key) d.how) (sym h.its_part) h.at.differ;
-  least = λ p k less. at p k less (which_first (part_number p) (part_number d.part));
+  least = λ p k less. at p k less (cases_order (part_number p) (part_number d.part));
 }
   where
     number : part_number d.part ≡ i

@@ -25,10 +25,8 @@ use Rattle.erd_meaning.proofs.finding.OneObject.{in_at}
 use Rattle.erd_meaning.proofs.orders.Counted.{count_map}
 use Rattle.erd_meaning.proofs.orders.DistinctEntries.{distinct_from_one_place}
 use Rattle.erd_meaning.proofs.orders.EqualNames.{equal_keys, options_exact}
-use Rattle.erd_meaning.proofs.orders.RisingAlike.{all_rising}
+use Rattle.erd_meaning.proofs.orders.RisingOrders.{all_rising, rising_strictly, stands_at_rank}
 use Rattle.erd_meaning.proofs.orders.RisingLists.{rising_list_map}
-use Rattle.erd_meaning.proofs.orders.RisingOrders.{rising_strictly}
-use Rattle.erd_meaning.proofs.orders.RisingRanks.{stands_at_rank}
 use Rattle.erd_meaning.proofs.orders.RisingSets.{rising-In}
 use Rattle.erd_meaning.proofs.selections.PositionedKeys.{KeyPosition, all_positioned, positioned_keys, positioned_made, rising_positioned}
 use Rattle.erd_compare.specs.code.KeyedDifferences.{HasKeyAt, IsComparable, is_ranked, key_in_role, key_with_role, keys_in_role, objects_in, rising_in_role}

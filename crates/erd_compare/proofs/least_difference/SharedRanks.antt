@@ -1,7 +1,7 @@
 -- At a rank both reports have the same key if and only if the common rank there is the rank.
 use Rattle.std.proofs.Common.{◌≡◌, ◌==◌, ℕ, List, ◌++◌, map, cond, Bool, true, false, Option, Some, None, option_map, slice_get, refl, sym, ap, ◌∙◌}
 use Rattle.std.proofs.lemmas.Bool.Decides.{Decides-eqb}
-use Rattle.std.proofs.lemmas.Option.{slice_get-map}
+use Rattle.std.proofs.lemmas.Option.{slice_get-map, same_Some}
 use Rattle.serde_json.specs.View.{view}
 use Rattle.erd_tables.specs.declared.class.Role.{Role}
 use Rattle.erd_meaning.specs.Judged.{Judged}
@@ -12,7 +12,7 @@ use Rattle.erd_meaning.proofs.selections.PositionedKeys.{KeyPosition}
 use Rattle.erd_compare.specs.code.CommonRanks.{AreCommonRanks, common_rank, place_of}
 use Rattle.erd_compare.specs.code.KeyedDifferences.{IsComparable, is_ranked, keys_in_role, rising_in_role, shared, shared_at}
 use Rattle.erd_compare.proofs.least_difference.RisingKeys.{entries, entry_keys, keys_rise}
-use Rattle.erd_compare.proofs.same_ranks.KeyPlaces.{first_at, one_key, place_first, place_stands, place_there, stands_second}
+use Rattle.erd_compare.proofs.same_ranks.KeyPlaces.{first_at, place_first, place_stands, place_there, stands_second}
 
 -- ---- positions that are told
 
@@ -82,7 +82,7 @@ module _ (a b : Judged) (r : Role) (c : IsComparable a.prefer (view a.tree)) (ra
       let place : common_rank a b r g.0 ≡ n = let two : Some (common_rank a b r g.0) ≡ Some n = sym (common_at n g there) ∙ is in cc in
       let stands = stands_second g.0 keys_left keys_right (n, right_key n g there) in
       let its : slice_get (keys_left ++ keys_right) n ≡ Some g.0 = ap (slice_get (keys_left ++ keys_right)) (sym place) ∙ place_stands g.0 (keys_left ++ keys_right) stands.0 stands.1 in
-      one_key (sym (first_at keys_left keys_right n e.0 (left_key n e here)) ∙ its)
+      same_Some (sym (first_at keys_left keys_right n e.0 (left_key n e here)) ∙ its)
 
   -- ---- what the code finds
 

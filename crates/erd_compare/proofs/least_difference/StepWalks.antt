@@ -1,12 +1,11 @@
 -- Two maps are compared along two rising lists of their keys, which are walked in step.
-use Rattle.std.proofs.Common.{◌≡◌, ◌⊎◌, inl, inr, List, [], ◌∷◌, Option, None, Ordering, Less, Equal, Greater, sym, ap, ◌∙◌, subst}
+use Rattle.std.proofs.Common.{◌≡◌, ◌⊎◌, inl, inr, List, [], ◌∷◌, Option, None, Ordering, Less, sym, ◌∙◌, subst}
 use Rattle.std.specs.Cmp.{IsTotalOrder}
 use Rattle.std.specs.List.{AllByRecursion}
 use Rattle.std.specs.List.Sorted.{IsStrictlySortedBy}
-use Rattle.std.specs.Ordering.{ordering_reverse}
-use Rattle.std.proofs.lemmas.Cmp.{tied_itself}
 use Rattle.std.proofs.lemmas.Map.Keys.{sorted_head, sorted_tail}
 use Rattle.erd_check.proofs.Order.{In, In-all}
+use Rattle.erd_check.proofs.Rising.{not_below_itself}
 
 -- the key is below all of these
 abbrev pub IsBelow : {K : Type 0} → (K → K → Ordering) → K → List K → Type 0
@@ -33,19 +32,13 @@ abbrev pub NoneLess : {K : Type 0} → (K → K → Ordering) → K → List K �
 NoneLess {K} cmp k ls = (l : K) → In l ls → cmp l k ≡ Less → ⊥
 
 module _ {K : Type 0} {cmp : K → K → Ordering} (total : IsTotalOrder cmp) where
-  not_itself : (k : K) → cmp k k ≡ Less → ⊥
-  not_itself k h = let e : Equal ≡ Less = sym (tied_itself total k) ∙ h in cc
-
-  pub turned : (k l : K) → cmp k l ≡ Greater → cmp l k ≡ Less
-  turned k l h = total.antisymm l k ∙ ap ordering_reverse h
-
   pub none_less-empty : (k : K) → NoneLess cmp k []
   none_less-empty k l inside less = inside
 
   pub none_less-head : (k : K) (ks : List K) → IsStrictlySortedBy cmp (k ∷ ks) → NoneLess cmp k (k ∷ ks)
-  none_less-head k ks rise l (inl e) less = not_itself l (subst (λ x. cmp l x ≡ Less) e less)
+  none_less-head k ks rise l (inl e) less = not_below_itself cmp total l (subst (λ x. cmp l x ≡ Less) e less)
   none_less-head k ks rise l (inr inside) less =
-      not_itself l (total.trans l k l less (In-all (λ x. cmp k x ≡ Less) l ks (sorted_head cmp k ks rise) inside))
+      not_below_itself cmp total l (total.trans l k l less (In-all (λ x. cmp k x ≡ Less) l ks (sorted_head cmp k ks rise) inside))
 
   pub none_less-before : (j k : K) (ks : List K) → cmp j k ≡ Less → NoneLess cmp k ks → NoneLess cmp j ks
   none_less-before j k ks low none l inside less = none l inside (total.trans l j k less low)
@@ -58,7 +51,7 @@ module _ {K : Type 0} {cmp : K → K → Ordering} (total : IsTotalOrder cmp) wh
       below_more (l ∷ ls) h = (total.trans j k l low h.0, below_more ls h.1)
 
   outside : (k : K) (ks : List K) → IsBelow cmp k ks → In k ks → ⊥
-  outside k ks below inside = not_itself k (In-all (λ l. cmp k l ≡ Less) k ks below inside)
+  outside k ks below inside = not_below_itself cmp total k (In-all (λ l. cmp k l ≡ Less) k ks below inside)
 
 module _ {K V : Type 0} {cmp : K → K → Ordering} (total : IsTotalOrder cmp) (m n : K → Option V) where
   -- at first all keys are left
@@ -91,7 +84,7 @@ module _ {K V : Type 0} {cmp : K → K → Ordering} (total : IsTotalOrder cmp) 
   lacks_right k ls rs step below = at (step.each k)
     where
       at : IsPassed cmp m n (k ∷ ls) rs k ⊎ (IsNoneBeside m (k ∷ ls) k × IsNoneBeside n rs k) → n k ≡ None
-      at (inl passed) = absurd (not_itself total k passed.left.0)
+      at (inl passed) = absurd (not_below_itself cmp total k passed.left.0)
       at (inr (mine, inl its)) = its
       at (inr (mine, inr inside)) = absurd (outside total k rs below inside)
 
@@ -99,7 +92,7 @@ module _ {K V : Type 0} {cmp : K → K → Ordering} (total : IsTotalOrder cmp) 
   lacks_left k ls rs step below = at (step.each k)
     where
       at : IsPassed cmp m n ls (k ∷ rs) k ⊎ (IsNoneBeside m ls k × IsNoneBeside n (k ∷ rs) k) → m k ≡ None
-      at (inl passed) = absurd (not_itself total k passed.right.0)
+      at (inl passed) = absurd (not_below_itself cmp total k passed.right.0)
       at (inr (inl mine, its)) = mine
       at (inr (inr inside, its)) = absurd (outside total k ls below inside)
 

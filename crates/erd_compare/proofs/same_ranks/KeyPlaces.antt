@@ -4,9 +4,11 @@ use Rattle.std.specs.List.{slice_get}
 use Rattle.std.specs.List.Sorted.{IsStrictlySortedBy}
 use Rattle.std.specs.Option.{option_cmp}
 use Rattle.std.proofs.lemmas.Cmp.{tied_itself}
+use Rattle.std.proofs.lemmas.Bool.{cases_order}
+use Rattle.std.proofs.lemmas.Option.{same_Some}
 use Rattle.erd_meaning.specs.Keys.{key_cmp}
 use Rattle.erd_meaning.specs.declared.keys.key.Key.{Key}
-use Rattle.erd_meaning.proofs.finding.OneObject.{sorted_at, which_first}
+use Rattle.erd_meaning.proofs.finding.OneObject.{sorted_at}
 use Rattle.erd_meaning.proofs.orders.EqualNames.{equal_keys, options_exact}
 use Rattle.erd_compare.specs.code.CommonRanks.{place_of}
 use Rattle.erd_compare.proofs.least_difference.RisingKeys.{by_key, by_key_total}
@@ -25,9 +27,6 @@ same k l = is_eq (option_cmp key_cmp k l)
 same_itself : (k l : Option Key) → l ≡ k → same k l ≡ true
 same_itself k l e = subst (λ x. same k x ≡ true) (sym e) (ap is_eq (tied_itself by_key_total k))
 
-pub one_key : {k l : Option Key} → Some l ≡ Some k → l ≡ k
-one_key e = cc
-
 -- a key that is in the list stands at its place
 pub place_stands : (k : Option Key) (ks : List (Option Key)) (i : ℕ) → slice_get ks i ≡ Some k → slice_get ks (place_of k ks) ≡ Some k
 place_stands k [] i e = cc
@@ -36,7 +35,7 @@ place_stands k (l ∷ ls) i e = at (same k l) refl i e (λ j. place_stands k ls 
     at : (b : Bool) → same k l ≡ b → (i : ℕ) → slice_get (l ∷ ls) i ≡ Some k → ((j : ℕ) → slice_get ls j ≡ Some k → slice_get ls (place_of k ls) ≡ Some k)
         → slice_get (l ∷ ls) (cond b 0 (suc (place_of k ls))) ≡ Some k
     at true is i e rest = ap Some (sym (options_exact key_cmp equal_keys k l is))
-    at false is zero e rest = absurd (true≢false (sym (same_itself k l (one_key e)) ∙ is))
+    at false is zero e rest = absurd (true≢false (sym (same_itself k l (same_Some e)) ∙ is))
     at false is (suc i) e rest = rest i e
 
 -- ---- two lists
@@ -74,7 +73,7 @@ stands_second k (l ∷ ls) ms its = let rest = stands_second k ls ms its in (suc
 
 -- keys in a list with one place are one key
 pub one_place : (k l : Option Key) (ks : List (Option Key)) → Stands k ks → Stands l ks → place_of k ks ≡ place_of l ks → k ≡ l
-one_place k l ks mine its e = one_key (sym (place_stands k ks mine.0 mine.1) ∙ (ap (slice_get ks) e ∙ place_stands l ks its.0 its.1))
+one_place k l ks mine its e = same_Some (sym (place_stands k ks mine.0 mine.1) ∙ (ap (slice_get ks) e ∙ place_stands l ks its.0 its.1))
 
 -- ---- in a list that strictly rises
 
@@ -83,7 +82,7 @@ not_itself k h = let clash : Equal ≡ Less = sym (tied_itself by_key_total k) �
 
 -- a key is at its place only
 pub place_there : (ks : List (Option Key)) (i : ℕ) (k : Option Key) → IsStrictlySortedBy by_key ks → slice_get ks i ≡ Some k → place_of k ks ≡ i
-place_there ks i k rises e = at (which_first (place_of k ks) i)
+place_there ks i k rises e = at (cases_order (place_of k ks) i)
   where
     stands : slice_get ks (place_of k ks) ≡ Some k
     stands = place_stands k ks i e

@@ -78,10 +78,10 @@ module _ (a b : Judged) (r : Role) where
 -- ---- on a side
 
 module _ (a b : Judged) where
-  abbrev prefer_on : Side → Preference
+  abbrev pub prefer_on : Side → Preference
   prefer_on side = (on_side side a b).prefer
 
-  abbrev tree_on : Side → Data
+  abbrev pub tree_on : Side → Data
   tree_on side = view (on_side side a b).tree
 
   pub known_on : (side : Side) (r : Role) (i : ℕ) (k : Option Key) → HasKeyAt (prefer_on side) (tree_on side) r i k → Stands k (both_keys a b r)

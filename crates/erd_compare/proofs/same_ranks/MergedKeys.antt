@@ -1,16 +1,17 @@
 -- Two rising lists of keys are merged: how far the merge has come, and its steps.
 use Rattle.std.proofs.Common.{◌≡◌, ◌≤◌, ◌<◌, ◌+◌, ◌++◌, ◌⊎◌, ℕ, zero, suc, inl, inr, List, [], ◌∷◌, map, take, length, Option, Some, None, Ordering, Less, Equal, Greater, is_eq, slice_get, refl, sym, ap, ◌∙◌, subst, arith}
 use Rattle.std.proofs.lemmas.List.{map-append, take_all, take_more}
-use Rattle.std.proofs.lemmas.Option.{get_or_from_slice_get, slice_get_within}
+use Rattle.std.proofs.lemmas.Option.{get_or_from_slice_get, slice_get_within, same_Some}
 use Rattle.std.specs.List.Sorted.{IsStrictlySortedBy}
+use Rattle.std.proofs.lemmas.Bool.{cases_order}
 use Rattle.erd_meaning.specs.Keys.{key_cmp}
 use Rattle.erd_meaning.specs.declared.keys.key.Key.{Key}
-use Rattle.erd_meaning.proofs.finding.OneObject.{sorted_at, which_first}
-use Rattle.erd_meaning.proofs.orders.InsertedValues.{greater_turned}
+use Rattle.erd_meaning.proofs.finding.OneObject.{sorted_at}
+use Rattle.erd_meaning.proofs.orders.RisingOrders.{greater_turned}
 use Rattle.erd_meaning.proofs.orders.EqualNames.{equal_keys, options_exact}
 use Rattle.erd_compare.specs.code.CommonRanks.{next_cmp, place_of}
 use Rattle.erd_compare.proofs.least_difference.RisingKeys.{by_key, by_key_total}
-use Rattle.erd_compare.proofs.same_ranks.KeyPlaces.{StandsNowhere, not_itself, one_key, place_first, place_second, place_there}
+use Rattle.erd_compare.proofs.same_ranks.KeyPlaces.{StandsNowhere, not_itself, place_first, place_second, place_there}
 
 abbrev rank : List (Option Key) → List (Option Key) → Option Key → ℕ
 rank ones others k = place_of k (ones ++ others)
@@ -35,20 +36,20 @@ module _ (ones others : List (Option Key)) (up : IsStrictlySortedBy by_key ones)
   one_passed k there less = record {
     inside = let l = slice_get_within ones passed k there in omega (arith, l);
     few = m.few;
-    below = λ i j x y under over e g. at i j x y over e g (which_first i passed) under;
+    below = λ i j x y under over e g. at i j x y over e g (cases_order i passed) under;
     done = m.done;
   }
     where
       up_to : (j : ℕ) (y : Option Key) → length ranks ≤ j → slice_get others j ≡ Some y → by_key k y ≡ Less
-      up_to j y over g = of (which_first (length ranks) j)
+      up_to j y over g = of (cases_order (length ranks) j)
         where
           of : (length ranks ≡ j) ⊎ ((length ranks < j) ⊎ (j < length ranks)) → by_key k y ≡ Less
-          of (inl same) = let its : key ≡ y = one_key (sym here ∙ (ap (slice_get others) same ∙ g)) in subst (λ z. by_key k z ≡ Less) its less
+          of (inl same) = let its : key ≡ y = same_Some (sym here ∙ (ap (slice_get others) same ∙ g)) in subst (λ z. by_key k z ≡ Less) its less
           of (inr (inl l)) = by_key_total.trans k key y less (sorted_at by_key others (length ranks) j key y more l here g)
           of (inr (inr h)) = absurd (omega (arith, over, h))
 
       at : (i j : ℕ) (x y : Option Key) → length ranks ≤ j → slice_get ones i ≡ Some x → slice_get others j ≡ Some y → (i ≡ passed) ⊎ ((i < passed) ⊎ (passed < i)) → i < passed + 1 → by_key x y ≡ Less
-      at i j x y over e g (inl same) under = let its : k ≡ x = one_key (sym there ∙ (ap (slice_get ones) (sym same) ∙ e)) in subst (λ z. by_key z y ≡ Less) its (up_to j y over g)
+      at i j x y over e g (inl same) under = let its : k ≡ x = same_Some (sym there ∙ (ap (slice_get ones) (sym same) ∙ e)) in subst (λ z. by_key z y ≡ Less) its (up_to j y over g)
       at i j x y over e g (inr (inl l)) under = m.below i j x y l over e g
       at i j x y over e g (inr (inr h)) under = absurd (omega (arith, h, under))
 
@@ -84,7 +85,7 @@ module _ (ones others : List (Option Key)) (up : IsStrictlySortedBy by_key ones)
       (ap (λ j. length ones + j) (sym (place_there others (length ranks) key more here)) ∙ sym (place_second key ones others nowhere))
     where
       nowhere : StandsNowhere key ones
-      nowhere i e = at (which_first i passed)
+      nowhere i e = at (cases_order i passed)
         where
           above : (k : Option Key) → slice_get ones passed ≡ Some k → by_key key k ≡ Less
           above k there = greater_turned by_key_total k key (greater k there)

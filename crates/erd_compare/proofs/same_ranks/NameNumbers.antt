@@ -5,16 +5,14 @@ use Rattle.std.proofs.lemmas.Option.{option_and_then_some}
 use Rattle.std.specs.List.{cons_option, filter_map, list_any, position_or_len}
 use Rattle.std.specs.Option.{option_eq}
 use Rattle.serde_json.specs.Data.{Data}
-use Rattle.serde_json.specs.View.{view}
 use Rattle.indexmap.specs.IndexSet.{insert_all}
 use Rattle.erd_check.proofs.Order.{In}
+use Rattle.erd_check.proofs.Positions.{position_of}
 use Rattle.erd_tables.specs.declared.class.Family.TheVariants as family
 use Rattle.erd_meaning.proofs.accepted.References.{find-Some, option_map-Some}
 use Rattle.erd_meaning.proofs.finding.OneObject.{in_at}
-use Rattle.erd_meaning.proofs.finding.OwnedObjects.{position_of}
 use Rattle.erd_meaning.proofs.selections.KeysInNames.{known_name}
 use Rattle.erd_meaning.specs.Judged.{Judged}
-use Rattle.erd_meaning.specs.Keys.{Preference}
 use Rattle.erd_meaning.specs.NameParts.{NameParts}
 use Rattle.erd_meaning.specs.Objects.{Placed, has_id, objects, owner, owner_at}
 use Rattle.erd_meaning.specs.SelectionNames.{name_named, name_of}
@@ -30,16 +28,11 @@ use Rattle.erd_compare.specs.declared.ranks.side.Side.{Side}
 use Rattle.erd_compare.specs.declared.ranks.side.Side.TheVariants.{Left, Right}
 use Rattle.erd_compare.proofs.same_ranks.InsertedKeys.{added_any, in_told, one_position, positions_stay, stands_all}
 use Rattle.erd_compare.proofs.same_ranks.NamesOnSides.{from_ranks, name_is_told}
+use Rattle.erd_compare.proofs.same_ranks.KeyRanks.{prefer_on, tree_on}
 
 module _ (a b : Judged) where
-  abbrev prefer_on : Side → Preference
-  prefer_on side = (on_side side a b).prefer
-
-  abbrev tree_on : Side → Data
-  tree_on side = view (on_side side a b).tree
-
   abbrev selections_on : Side → List Placed
-  selections_on side = objects family.Selection (tree_on side)
+  selections_on side = objects family.Selection (tree_on a b side)
 
   -- ---- the numbers that are made
 
@@ -56,7 +49,7 @@ module _ (a b : Judged) where
   place ks o = option_map (λ q. position_or_len (name_eq q) ks) o
 
   by_names : (side : Side) (d : Data) → place (names_of_both a b) (name_by_ranks_of a b side d) ≡ number_of_selection a b side d
-  by_names side d = at (name_of (prefer_on side) (tree_on side) d)
+  by_names side d = at (name_of (prefer_on a b side) (tree_on a b side) d)
     where
       at : (o : Option NameParts) → place (names_of_both a b) (option_map (name_by_ranks a b) o) ≡ option_map (number_of_name a b) o
       at None = refl
@@ -106,7 +99,7 @@ module _ (a b : Judged) where
 
   -- the name is that of a selection of the report
   pub record IsNameOn (side : Side) (n : NameParts) : Type 0 where
-    pub known : HasKeysIn (prefer_on side) (tree_on side) n
+    pub known : HasKeysIn (prefer_on a b side) (tree_on a b side) n
     pub listed : list_any (name_eq (name_by_ranks a b n)) (names_of_both a b) ≡ true
 
   listed_on : (side : Side) (q : NumberedParts) → In q (names_on a b side) → list_any (name_eq q) (names_of_both a b) ≡ true
@@ -116,21 +109,21 @@ module _ (a b : Judged) where
       (record { any = added_any numbered_name_cmp numbered_name_cmp_total numbered_name_cmp_exact q (names_on a b Left) [] h; place = refl })).any
   listed_on Right q h = added_any numbered_name_cmp numbered_name_cmp_total numbered_name_cmp_exact q (names_on a b Right) (insert_all name_eq [] (names_on a b Left)) h
 
-  pub selection_named : (side : Side) (o : Placed) (n : NameParts) → In o (selections_on side) → name_of (prefer_on side) (tree_on side) o.value ≡ Some n → IsNameOn side n
+  pub selection_named : (side : Side) (o : Placed) (n : NameParts) → In o (selections_on side) → name_of (prefer_on a b side) (tree_on a b side) o.value ≡ Some n → IsNameOn side n
   selection_named side o n inside is = record {
-    known = known_name (prefer_on side) (tree_on side) o.value n is;
+    known = known_name (prefer_on a b side) (tree_on a b side) o.value n is;
     listed = listed_on side (name_by_ranks a b n)
         (in_told numbered_name_cmp numbered_name_cmp_total numbered_name_cmp_exact (λ (x : Placed). name_by_ranks_of a b side x.value) o (name_by_ranks a b n) (selections_on side) inside (ap (option_map (name_by_ranks a b)) is));
   }
 
   -- so is one that a reference names
-  pub reference_named : (side : Side) (text : Option (List ℕ)) (n : NameParts) → option_and_then (name_named (prefer_on side) (tree_on side)) text ≡ Some n → IsNameOn side n
+  pub reference_named : (side : Side) (text : Option (List ℕ)) (n : NameParts) → option_and_then (name_named (prefer_on a b side) (tree_on a b side)) text ≡ Some n → IsNameOn side n
   reference_named side text n h =
-      let t = tree_on side in
-      option_and_then_some (name_named (prefer_on side) t) text n h (λ id is there. option_and_then_some (name_of (prefer_on side) t) (owner t family.Selection id) n there (λ d at named.
+      let t = tree_on a b side in
+      option_and_then_some (name_named (prefer_on a b side) t) text n h (λ id is there. option_and_then_some (name_of (prefer_on a b side) t) (owner t family.Selection id) n there (λ d at named.
       let o = option_map-Some (λ (x : Placed). x.value) (owner_at t family.Selection id) d at in
       let found = position_of (selections_on side) o.0 (find-Some (λ (x : Placed). has_id id x.value) (selections_on side) o.0 o.1).0 in
-      selection_named side o.0 n (in_at (selections_on side) found.0 o.0 found.1) (ap (name_of (prefer_on side) t) o.2 ∙ named)))
+      selection_named side o.0 n (in_at (selections_on side) found.0 o.0 found.1) (ap (name_of (prefer_on a b side) t) o.2 ∙ named)))
 
   pub one_name : (s r : Side) (m n : NameParts) → IsNameOn s m → IsNameOn r n → number_of_name a b m ≡ number_of_name a b n → m ≡ n
   one_name s r m n mine its same =

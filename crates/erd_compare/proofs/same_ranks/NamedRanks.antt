@@ -17,7 +17,6 @@ use Rattle.erd_meaning.specs.SelectionNames.{key_named}
 use Rattle.erd_meaning.specs.code.KeyOrders.{rank_in_keys}
 use Rattle.erd_meaning.specs.declared.keys.key.Key.{Key}
 use Rattle.erd_meaning.proofs.accepted.References.{find-Some, option_map-Some}
-use Rattle.erd_meaning.proofs.finding.OwnedObjects.{position_of}
 use Rattle.erd_compare.specs.code.CommonRanks.{common_rank_of, rank_of_key}
 use Rattle.erd_compare.specs.code.KeyedDifferences.{HasKeyAt, holder_in, holder_key_in, is_ranked, key_in_role, key_with_role, keys_in_role}
 use Rattle.erd_compare.specs.code.RankedSides.{AreCommonByRank, on_side, rank_with_id}
@@ -28,6 +27,7 @@ use Rattle.erd_compare.proofs.same_ranks.KeyRanks.{IsKnown, known_on, ranks_deci
 use Rattle.erd_compare.specs.code.Comparing.{Decides}
 use Rattle.erd_compare.proofs.same_values.EqualOptions.{decides_as}
 use Rattle.erd_compare.proofs.same_values.ReferencedKeys.{key_elsewhere, key_here, key_nowhere}
+use Rattle.erd_check.proofs.Positions.{position_of}
 
 -- ---- keys by role
 

@@ -5,6 +5,7 @@ use Rattle.std.specs.List.{AllByRecursion, cons_option, filter_map, slice_get}
 use Rattle.serde_json.specs.Data.{Data}
 use Rattle.serde_json.specs.View.{view}
 use Rattle.erd_check.proofs.Order.{In-from_contains}
+use Rattle.erd_check.proofs.Positions.{all_weakened}
 use Rattle.erd_tables.specs.declared.class.Family.{Family}
 use Rattle.erd_tables.specs.declared.class.Family.TheVariants as family
 use Rattle.erd_tables.specs.declared.class.Role.{Role}
@@ -14,7 +15,7 @@ use Rattle.erd_meaning.proofs.selections.NumberedSelections.{numbered_at}
 use Rattle.erd_meaning.proofs.selections.KeysInNames.{known_name}
 use Rattle.erd_meaning.proofs.selections.RankedReports.{chosen_keyed}
 use Rattle.erd_meaning.specs.Judged.{Judged}
-use Rattle.erd_meaning.specs.Keys.{Preference, has_keys}
+use Rattle.erd_meaning.specs.Keys.{has_keys}
 use Rattle.erd_meaning.specs.Lookups.{rank_of}
 use Rattle.erd_meaning.specs.NameParts.{NameParts}
 use Rattle.erd_meaning.specs.Objects.{Placed, objects, numbered_selections}
@@ -30,37 +31,27 @@ use Rattle.erd_compare.specs.code.CommonNames.{name_by_ranks, name_by_ranks_of, 
 use Rattle.erd_compare.specs.declared.ranks.common_ranks.CommonRanks.{CommonRanks}
 use Rattle.erd_compare.specs.declared.ranks.side.Side.{Side}
 use Rattle.erd_compare.proofs.least_difference.RisingKeys.{family_rank}
-use Rattle.erd_compare.proofs.same_ranks.KeyRanks.{both_keys, known_on, one_rank}
+use Rattle.erd_compare.proofs.same_ranks.KeyRanks.{both_keys, known_on, one_rank, prefer_on, tree_on}
 use Rattle.erd_compare.proofs.same_ranks.KeyPlaces.{Stands}
 use Rattle.erd_compare.proofs.same_ranks.NamedRanks.{kept}
-
-all_weaker : {A : Type 0} (P Q : A → Type 0) → ((x : A) → P x → Q x) → (xs : List A) → AllByRecursion P xs → AllByRecursion Q xs
-all_weaker P Q more [] h = tt
-all_weaker P Q more (x ∷ xs) h = (more x h.0, all_weaker P Q more xs h.1)
 
 -- ---- numbers of names
 
 module _ (a b : Judged) where
-  abbrev prefer_on : Side → Preference
-  prefer_on side = (on_side side a b).prefer
-
-  abbrev tree_on : Side → Data
-  tree_on side = view (on_side side a b).tree
-
   -- the object with a key of a name stands at a position
-  key_stands : (side : Side) (f : Family) → has_keys f ≡ true → (key : Key) → IsKeyIn (prefer_on side) (tree_on side) f key → (i : ℕ) × HasKeyAt (prefer_on side) (tree_on side) (role.OfFamily f) i (Some key)
+  key_stands : (side : Side) (f : Family) → has_keys f ≡ true → (key : Key) → IsKeyIn (prefer_on a b side) (tree_on a b side) f key → (i : ℕ) × HasKeyAt (prefer_on a b side) (tree_on a b side) (role.OfFamily f) i (Some key)
   key_stands side f keyed key h =
-      let place = place_in h.owner (objects f (tree_on side)) (In-from_contains h.owner (objects f (tree_on side)) h.stands) in
-      (place.0, record { object = h.owner; stands = place.1; key = kept (prefer_on side) f h.owner.value keyed ∙ h.keyed })
+      let place = place_in h.owner (objects f (tree_on a b side)) (In-from_contains h.owner (objects f (tree_on a b side)) h.stands) in
+      (place.0, record { object = h.owner; stands = place.1; key = kept (prefer_on a b side) f h.owner.value keyed ∙ h.keyed })
 
-  key_known : (side : Side) (f : Family) → has_keys f ≡ true → (key : Key) → IsKeyIn (prefer_on side) (tree_on side) f key → Stands (Some key) (both_keys a b (role.OfFamily f))
+  key_known : (side : Side) (f : Family) → has_keys f ≡ true → (key : Key) → IsKeyIn (prefer_on a b side) (tree_on a b side) f key → Stands (Some key) (both_keys a b (role.OfFamily f))
   key_known side f keyed key h = let at = key_stands side f keyed key h in known_on a b side (role.OfFamily f) at.0 (Some key) at.1
 
   -- each key of the name is known
-  keys_known : (side : Side) (n : NameParts) → HasKeysIn (prefer_on side) (tree_on side) n → AllByRecursion (λ k. Stands (Some k) (both_keys a b (role_of_name n))) n.keys
+  keys_known : (side : Side) (n : NameParts) → HasKeysIn (prefer_on a b side) (tree_on a b side) n → AllByRecursion (λ k. Stands (Some k) (both_keys a b (role_of_name n))) n.keys
   keys_known side n known =
-      all_weaker (IsKeyIn (prefer_on side) (tree_on side) (family_chosen n.class)) (λ k. Stands (Some k) (both_keys a b (role_of_name n)))
-      (λ k h. key_known side (family_chosen n.class) (chosen_keyed n.class) k h) n.keys known
+      all_weakened (IsKeyIn (prefer_on a b side) (tree_on a b side) (family_chosen n.class)) (λ k. Stands (Some k) (both_keys a b (role_of_name n))) n.keys
+      (λ k h. key_known side (family_chosen n.class) (chosen_keyed n.class) k h) known
 
   one_keys : (r : Role) (ks ls : List Key) → AllByRecursion (λ k. Stands (Some k) (both_keys a b r)) ks → AllByRecursion (λ k. Stands (Some k) (both_keys a b r)) ls → map (rank_of_key a b r) ks ≡ map (rank_of_key a b r) ls → ks ≡ ls
   one_keys r [] [] mine its e = refl
@@ -83,7 +74,7 @@ module _ (a b : Judged) where
   }
 
   -- names are equal if they are equal with common ranks in place of their keys
-  pub from_ranks : (s r : Side) (m n : NameParts) → HasKeysIn (prefer_on s) (tree_on s) m → HasKeysIn (prefer_on r) (tree_on r) n → name_by_ranks a b m ≡ name_by_ranks a b n → m ≡ n
+  pub from_ranks : (s r : Side) (m n : NameParts) → HasKeysIn (prefer_on a b s) (tree_on a b s) m → HasKeysIn (prefer_on a b r) (tree_on a b r) n → name_by_ranks a b m ≡ name_by_ranks a b n → m ≡ n
   from_ranks s r m n mine its same =
       let rest : without_keys m ≡ without_keys n = ap (λ (q : NumberedParts). q.name) same in
       let role : role_of_name m ≡ role_of_name n = ap role_of_name rest in
@@ -96,26 +87,26 @@ module _ (a b : Judged) where
 
   module _ (common : CommonRanks) (are : AreCommonByRank a b common) (side : Side) where
     -- the common rank at the rank of a key is that of the key
-    at_rank_of : (f : Family) → has_keys f ≡ true → (key : Key) → IsKeyIn (prefer_on side) (tree_on side) f key
-        → common_rank_of common side (role.OfFamily f) (rank_of (prefer_on side) (tree_on side) f (Some key)) ≡ Some (rank_of_key a b (role.OfFamily f) key)
+    at_rank_of : (f : Family) → has_keys f ≡ true → (key : Key) → IsKeyIn (prefer_on a b side) (tree_on a b side) f key
+        → common_rank_of common side (role.OfFamily f) (rank_of (prefer_on a b side) (tree_on a b side) f (Some key)) ≡ Some (rank_of_key a b (role.OfFamily f) key)
     at_rank_of f keyed key h =
         let at = key_stands side f keyed key h in
-        ap (common_rank_of common side (role.OfFamily f)) (family_rank (prefer_on side) (tree_on side) f (Some key) keyed) ∙ are side (role.OfFamily f) keyed at.0 (Some key) at.1
+        ap (common_rank_of common side (role.OfFamily f)) (family_rank (prefer_on a b side) (tree_on a b side) f (Some key) keyed) ∙ are side (role.OfFamily f) keyed at.0 (Some key) at.1
 
-    all_ranked : (f : Family) → has_keys f ≡ true → (keys : List Key) → AllByRecursion (IsKeyIn (prefer_on side) (tree_on side) f) keys
-        → filter_map (common_rank_of common side (role.OfFamily f)) (map (λ key. rank_of (prefer_on side) (tree_on side) f (Some key)) keys) ≡ map (rank_of_key a b (role.OfFamily f)) keys
+    all_ranked : (f : Family) → has_keys f ≡ true → (keys : List Key) → AllByRecursion (IsKeyIn (prefer_on a b side) (tree_on a b side) f) keys
+        → filter_map (common_rank_of common side (role.OfFamily f)) (map (λ key. rank_of (prefer_on a b side) (tree_on a b side) f (Some key)) keys) ≡ map (rank_of_key a b (role.OfFamily f)) keys
     all_ranked f keyed [] h = refl
     all_ranked f keyed (k ∷ ks) h = ap₂ cons_option (at_rank_of f keyed k h.0) (all_ranked f keyed ks h.1)
 
-    ranks_in : (n : NameParts) → HasKeysIn (prefer_on side) (tree_on side) n → ranks_told common side (ranked_name (prefer_on side) (tree_on side) n) ≡ ranks_in_name a b n
+    ranks_in : (n : NameParts) → HasKeysIn (prefer_on a b side) (tree_on a b side) n → ranks_told common side (ranked_name (prefer_on a b side) (tree_on a b side) n) ≡ ranks_in_name a b n
     ranks_in n known = all_ranked (family_chosen n.class) (chosen_keyed n.class) n.keys known
 
     -- so the name that they tell has the common ranks of its keys
     pub name_is_told : (d : Data) → name_told common side (on_side side a b) d ≡ name_by_ranks_of a b side d
-    name_is_told d = at (name_of (prefer_on side) (tree_on side) d) (λ n is. known_name (prefer_on side) (tree_on side) d n is)
+    name_is_told d = at (name_of (prefer_on a b side) (tree_on a b side) d) (λ n is. known_name (prefer_on a b side) (tree_on a b side) d n is)
       where
-        at : (o : Option NameParts) → ((n : NameParts) → o ≡ Some n → HasKeysIn (prefer_on side) (tree_on side) n)
-            → option_map (λ n. numbered_parts n (ranks_told common side (ranked_name (prefer_on side) (tree_on side) n))) o ≡ option_map (name_by_ranks a b) o
+        at : (o : Option NameParts) → ((n : NameParts) → o ≡ Some n → HasKeysIn (prefer_on a b side) (tree_on a b side) n)
+            → option_map (λ n. numbered_parts n (ranks_told common side (ranked_name (prefer_on a b side) (tree_on a b side) n))) o ≡ option_map (name_by_ranks a b) o
         at None known = refl
         at (Some n) known = ap (λ ns. Some (numbered_parts n ns)) (ranks_in n (known n refl))
 

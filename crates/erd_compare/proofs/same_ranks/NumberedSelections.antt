@@ -4,11 +4,12 @@ use Rattle.std.proofs.Common.{◌≡◌, ◌==◌, ℕ, List, [], ◌∷◌, Boo
 use Rattle.std.proofs.Math.Path.{fun_ext}
 use Rattle.std.proofs.lemmas.Bool.Decides.{Decides-eqb}
 use Rattle.std.proofs.lemmas.Cmp.{tied_itself}
-use Rattle.std.specs.Cmp.{Equal-is}
+use Rattle.std.specs.Cmp.{Equal-is, both_ways}
 use Rattle.std.specs.Option.{option_cmp, option_eq}
 use Rattle.serde_json.specs.Data.{Data}
 use Rattle.serde_json.specs.View.{view}
 use Rattle.erd_check.proofs.Order.{In}
+use Rattle.erd_check.proofs.Positions.{position_of}
 use Rattle.erd_meaning.specs.Judged.{Judged}
 use Rattle.erd_meaning.specs.Meaning.{SelectionRecord}
 use Rattle.erd_meaning.specs.NameParts.{NameParts}
@@ -17,7 +18,6 @@ use Rattle.erd_meaning.specs.SelectionNames.{name_cmp, name_of}
 use Rattle.erd_meaning.specs.code.Orders.{name_cmp_exact, name_cmp_total}
 use Rattle.erd_meaning.proofs.accepted.References.{find-Some}
 use Rattle.erd_meaning.proofs.finding.OneObject.{in_at}
-use Rattle.erd_meaning.proofs.finding.OwnedObjects.{position_of}
 use Rattle.erd_compare.specs.code.CommonNames.{number_of_name, number_of_selection}
 use Rattle.erd_compare.specs.code.Comparing.{Decides}
 use Rattle.erd_compare.specs.code.RankedSides.{on_side}
@@ -25,7 +25,6 @@ use Rattle.erd_compare.specs.code.SelectionsByName.{has_number, numbered_map}
 use Rattle.erd_compare.specs.declared.ranks.side.Side.{Side}
 use Rattle.erd_compare.specs.declared.ranks.side.Side.TheVariants.{Left, Right}
 use Rattle.erd_compare.proofs.same_ranks.NameNumbers.{IsNameOn, one_name}
-use Rattle.erd_compare.proofs.same_ranks.RankSets.{both_ways}
 
 same_find : {A : Type 0} (p q : A → Bool) (xs : List A) → ((x : A) → In x xs → p x ≡ q x) → find p xs ≡ find q xs
 same_find p q [] same = refl

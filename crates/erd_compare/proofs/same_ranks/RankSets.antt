@@ -1,6 +1,6 @@
 -- The common ranks of the keys that references name are put into a set one after another, and two such sets are equal if and
 -- only if the sets of the keys are.
-use Rattle.std.proofs.Common.{◌≡◌, ◌==◌, ℕ, List, [], ◌∷◌, map, Bool, true, false, ◌||◌, Ordering, Less, Equal, Greater, is_eq, inl, inr, Option, Some, None, option_and_then, option_map, refl, sym, ap, ap₂, ◌∙◌, subst}
+use Rattle.std.proofs.Common.{◌≡◌, ◌==◌, ℕ, List, [], ◌∷◌, map, Bool, true, false, ◌||◌, Ordering, Equal, is_eq, inl, inr, Option, Some, None, option_and_then, option_map, refl, sym, ap, ap₂, ◌∙◌, subst}
 use Rattle.std.proofs.Math.Path.{fun_ext}
 use Rattle.std.proofs.lemmas.Bool.{and_from, and_parts}
 use Rattle.std.proofs.lemmas.Bool.Decides.{Decides-eqb}
@@ -8,7 +8,7 @@ use Rattle.std.proofs.lemmas.Cmp.{nat_cmp_total, tied_itself}
 use Rattle.std.proofs.lemmas.List.Kept.{Contains-dedup_nat, Contains-from_dedup, IsStrictlySortedBy-dedup}
 use Rattle.std.proofs.lemmas.List.Sorted.{list_any-IsPermutation}
 use Rattle.std.proofs.lemmas.Map.Lookups.{CmpEqualImpliesEq, exact_unsigned}
-use Rattle.std.specs.Cmp.{IsTotalOrder, unsigned_ties}
+use Rattle.std.specs.Cmp.{IsTotalOrder, unsigned_ties, both_ways}
 use Rattle.std.specs.Cmp.Lexicographic.{pointwise}
 use Rattle.std.specs.List.{cons_option, dedup, filter_map, list_any}
 use Rattle.std.specs.List.Sorted.{IsPermutation, IsSorted}
@@ -73,14 +73,8 @@ module _ {K : Type 0} (cmp : K → K → Ordering) (total : IsTotalOrder cmp) (e
   in_from_any k (l ∷ ls) h = at (cmp l k) refl h (in_from_any k ls)
     where
       at : (o : Ordering) → cmp l k ≡ o → is_eq o || list_any (λ x. is_eq (cmp x k)) ls ≡ true → (list_any (λ x. is_eq (cmp x k)) ls ≡ true → In k ls) → In k (l ∷ ls)
-      at Less is h rest = inr (rest h)
       at Equal is h rest = inl (exact l k is)
-      at Greater is h rest = inr (rest h)
-
-pub both_ways : (p q : Bool) → (p ≡ true → q ≡ true) → (q ≡ true → p ≡ true) → p ≡ q
-both_ways true q to back = sym (to refl)
-both_ways false true to back = back refl
-both_ways false false to back = refl
+      at d is h rest = inr (rest h)
 
 -- ranks that were sorted, each of them once
 pub sorted_once : (ns sorted once : List ℕ) → IsPermutation ns sorted → IsSorted nat_cmp sorted → once ≡ dedup ◌==◌ sorted → IsRankSet ns once

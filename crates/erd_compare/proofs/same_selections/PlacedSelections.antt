@@ -7,24 +7,30 @@ use Rattle.serde_json.specs.View.{view}
 use Rattle.erd_tables.specs.Classes.{role_of_class}
 use Rattle.erd_tables.specs.Table.{kind_of_member}
 use Rattle.erd_tables.specs.declared.class.Class.{Class}
+use Rattle.erd_tables.specs.declared.member.MemberKind.{MemberKind}
 use Rattle.erd_tables.specs.declared.class.Family.TheVariants as family
 use Rattle.erd_tables.specs.declared.class.Role.TheVariants as role
-use Rattle.erd_tables.specs.declared.member.MemberKind.{MemberKind}
 use Rattle.erd_tables.specs.declared.member.MemberKind.TheVariants as kind
 use Rattle.erd_check.proofs.Order.{In, In-flat_map}
 use Rattle.erd_check.specs.Values.{entries_at, entries_of}
 use Rattle.erd_meaning.proofs.accepted.References.{option_map-Some}
 use Rattle.erd_meaning.proofs.accepted.Skeleton.{values-placed_entries}
 use Rattle.erd_meaning.proofs.finding.OneObject.{in_at}
-use Rattle.erd_meaning.proofs.meanings.SelectionKinds as kinds
 use Rattle.erd_meaning.proofs.selections.NumberedSelections.{numbered_at}
 use Rattle.erd_meaning.specs.Judged.{Judged}
 use Rattle.erd_meaning.specs.code.SelectionWalk.{StandFrom, if_of_contest, selection_of}
 use Rattle.erd_meaning.specs.Objects.{Placed, contests, numbered_selections, objects, selections_of_contest}
+use Rattle.erd_meaning.specs.SelectionNames.{name_of}
+use Rattle.erd_meaning.proofs.orders.DistinctEntries.{place_of as place_in}
+use Rattle.erd_meaning.proofs.meanings.SelectionKinds as kinds
 use Rattle.erd_compare.specs.code.MemberPairs.{IsPairOf}
 use Rattle.erd_compare.specs.code.PlacedObjects.{AreSelectionsAt, AreSelectionsIn, IsPlaced}
 use Rattle.erd_compare.specs.code.SelectionMembers.{is_selections}
 use Rattle.erd_compare.specs.declared.objects.least_name.MemberPair.{MemberPair}
+use Rattle.erd_compare.specs.code.RankedSides.{on_side}
+use Rattle.erd_compare.specs.declared.ranks.side.Side.{Side}
+use Rattle.erd_compare.proofs.same_ranks.NameNumbers.{selection_named}
+use Rattle.erd_compare.proofs.same_ranks.NumberedSelections.{AreNamed}
 
 -- ---- the member of a contest
 
@@ -97,3 +103,12 @@ module _ (a : Judged) (c : ℕ) (ds : List Data) (are : AreSelectionsIn a c ds) 
   -- it stands as far after the first selection of its contest as in the contest
   pub stands_after : (start : ℕ) → StandFrom t c start → (o : Placed) × (slice_get (objects family.Selection t) (start + i) ≡ Some o) × (o.value ≡ d)
   stands_after start from = (object.0, sym (numbered_at t (start + i)) ∙ own_selection (slice_get (numbered_selections t) (start + i)) object.0 (from i ∙ object.1), object.2)
+
+-- ---- the names of the selections of a contest have numbers
+
+pub contest_named : (a b : Judged) (side : Side) (c : ℕ) (ds : List Data) → AreSelectionsIn (on_side side a b) c ds → AreNamed a b side ds
+contest_named a b side c ds are d inside n is =
+    let j = on_side side a b in
+    let place = place_in d ds inside in
+    let o = stands_among j c ds are place.0 d place.1 in
+    selection_named a b side o.0 n o.1 (ap (name_of j.prefer (view j.tree)) o.2 ∙ is)

@@ -1,7 +1,6 @@
 -- The selections of two contests by the numbers of their names: what the right has at each name of the left is taken out.
 use Rattle.std.proofs.Common.{◌≡◌, ◌==◌, ◌↔◌, ℕ, ◌⊎◌, inl, inr, List, [], ◌∷◌, length, suc, Bool, true, false, true≢false, cond, Option, Some, None, option_and_then, option_map, find, Bor, refl, sym, ap, ◌∙◌, subst}
 use Rattle.std.proofs.Math.Path.{fun_ext}
-use Rattle.std.proofs.lemmas.Bool.Decides.{Decides-eqb}
 use Rattle.std.specs.List.{AllByRecursion, IsDistinct}
 use Rattle.std.specs.Map.{keys_of, lookup}
 use Rattle.std.specs.Option.{option_eq}
@@ -16,6 +15,7 @@ use Rattle.erd_meaning.specs.Keys.{Preference}
 use Rattle.erd_meaning.specs.Meaning.{SelectionRecord}
 use Rattle.erd_meaning.specs.Records.{plain_member, selection_record}
 use Rattle.erd_meaning.specs.SelectionNames.{name_in_class, selection_role}
+use Rattle.erd_meaning.proofs.identity.ObjectFamilies.{itself}
 use Rattle.erd_tables.specs.declared.class.Class.{Class}
 use Rattle.erd_compare.specs.code.Comparing.{Decides, IsWholeTree}
 use Rattle.erd_compare.specs.code.CommonNames.{number_of_name}
@@ -36,21 +36,17 @@ Entry = ℕ × Bor Value
 abbrev pub seen_at : ℕ → List Entry → Option Data
 seen_at q es = option_map (λ (v : Bor Value). view v.now) (lookup (λ l. q == l) es)
 
--- a name is itself
-own_name : (k : ℕ) → (k == k) ≡ true
-own_name k = (Decides-eqb k k).1 refl
-
 -- and names apart are so either way
 apart_either : (k q : ℕ) → (k == q) ≡ false → (q == k) ≡ false
 apart_either k q apart = at (q == k) refl
   where
     at : (b : Bool) → (q == k) ≡ b → b ≡ false
-    at true e = absurd (true≢false (sym (own_name k) ∙ (ap (λ l. k == l) (sym (one_number q k e)) ∙ apart)))
+    at true e = absurd (true≢false (sym (itself k) ∙ (ap (λ l. k == l) (sym (one_number q k e)) ∙ apart)))
     at false e = refl
 
 -- the first entry is found at its name
 found_first : (e : Entry) (es : List Entry) → lookup (λ l. e.0 == l) (e ∷ es) ≡ Some e.1
-found_first e es = rw (own_name e.0) refl
+found_first e es = rw (itself e.0) refl
 
 -- and elsewhere what the others have
 found_later : (e : Entry) (es : List Entry) (q : ℕ) → (e.0 == q) ≡ false → lookup (λ l. q == l) (e ∷ es) ≡ lookup (λ l. q == l) es
@@ -161,7 +157,7 @@ module _ (a b : Judged) (ds es : List Data) where
       here : IsPassed ls rs' e.0
       here = record {
         left = found_none e.0 ls h.distinct.0;
-        right = updates e.0 ∙ ap (λ b. cond b None (lookup (λ l. e.0 == l) rs)) (own_name e.0);
+        right = updates e.0 ∙ ap (λ b. cond b None (lookup (λ l. e.0 == l) rs)) (itself e.0);
         same = record_at a b Left ds e.0 (view e.1.now) (own_left e ls rs h) ∙ (equal ∙ sym (record_at a b Right es e.0 (view w.now) (own_right e w ls rs h taken)));
       }
 

@@ -1,11 +1,11 @@
 -- The chosen members of whole trees are the same, member by member, exactly if they are the same under each name.
-use Rattle.std.proofs.Common.{◌≡◌, ℕ, List, Bool, true, false, cond, Option, Some, None, Ordering, Less, Equal, Greater, refl, sym, ap, ◌∙◌, subst}
+use Rattle.std.proofs.Common.{◌≡◌, ℕ, List, Bool, true, false, cond, Option, Some, None, Ordering, Equal, refl, sym, ap, ◌∙◌, subst}
 use Rattle.std.proofs.Math.Path.{fun_ext}
 use Rattle.std.proofs.lemmas.Bool.{or_from, or_parts}
 use Rattle.std.proofs.lemmas.Cmp.{nat_list_cmp_total}
 use Rattle.std.proofs.lemmas.Map.Lookups.{exact_bytes}
 use Rattle.std.specs.Ordering.{match_ordering}
-use Rattle.serde_json.specs.Data.{Data, null, boolean, number, string, array, object, Members, no_members, member}
+use Rattle.serde_json.specs.Data.{Data, null, object, Members, no_members, member}
 use Rattle.serde_json.specs.Find.{get, get_member}
 use Rattle.serde_json.specs.Written.{has_float, members_have_float}
 use Rattle.erd_tables.specs.Texts.{text_cmp}
@@ -23,18 +23,16 @@ use Rattle.erd_compare.proofs.whole_trees.WholeTrees.{members_themselves}
 -- a member that is put before others is found among them as it is, if it is chosen
 found_first : (o : Ordering) (name k : List ℕ) (c : Choice) (d : Data) (chosen all : Option Data) → text_cmp name k ≡ o → takes_name c k ≡ true
     → chosen ≡ cond (takes_name c name) all None → match_ordering o chosen (Some d) chosen ≡ cond (takes_name c name) (match_ordering o all (Some d) all) None
-found_first Less name k c d chosen all is taken rest = rest
 found_first Equal name k c d chosen all is taken rest = sym (ap (λ b. cond b (Some d) None) (ap (takes_name c) (exact_bytes name k is) ∙ taken))
-found_first Greater name k c d chosen all is taken rest = rest
+found_first e name k c d chosen all is taken rest = rest
 
 -- and where it is not chosen, it is not found
 found_later : (o : Ordering) (name k : List ℕ) (c : Choice) (d : Data) (chosen all : Option Data) → text_cmp name k ≡ o → takes_name c k ≡ false
     → chosen ≡ cond (takes_name c name) all None → chosen ≡ cond (takes_name c name) (match_ordering o all (Some d) all) None
-found_later Less name k c d chosen all is left rest = rest
 found_later Equal name k c d chosen all is left rest =
     let not_taken : takes_name c name ≡ false = ap (takes_name c) (exact_bytes name k is) ∙ left in
     rest ∙ ap (λ b. cond b all None) not_taken ∙ sym (ap (λ b. cond b (Some d) None) not_taken)
-found_later Greater name k c d chosen all is left rest = rest
+found_later e name k c d chosen all is left rest = rest
 
 -- nothing, whatever a test says
 nothing_either_way : (b : Bool) (o : Option Data) → o ≡ None → o ≡ cond b o None
@@ -54,11 +52,7 @@ get_member-chosen name c (member k d ms) = at (takes_name c k) refl (get_member-
 -- a value has the members of its object
 get-members_in : (name : List ℕ) (d : Data) → get name d ≡ get_member name (members_in d)
 get-members_in name null = refl
-get-members_in name (boolean b) = refl
-get-members_in name (number n) = refl
-get-members_in name (string s) = refl
-get-members_in name (array ds) = refl
-get-members_in name (object ms) = refl
+get-members_in name e = refl
 
 -- the same of any value
 pub get_member-chosen_in : (name : List ℕ) (c : Choice) (d : Data) → get_member name (chosen_in c d) ≡ cond (takes_name c name) (get name d) None
@@ -99,21 +93,13 @@ chosen-whole c (member k d ms) h = at (takes_name c k) (or_parts (has_float d) (
 
 -- the members of a whole tree are trees under rising names
 members_in-rise : (d : Data) → IsWholeTree d → AreMembers (members_in d)
-members_in-rise null h = tt
-members_in-rise (boolean b) h = tt
-members_in-rise (number n) h = tt
-members_in-rise (string s) h = tt
-members_in-rise (array ds) h = tt
 members_in-rise (object ms) h = h.is_tree
+members_in-rise e h = tt
 
 -- the members of a whole tree hold no fraction
 members_in-whole : (d : Data) → IsWholeTree d → members_have_float (members_in d) ≡ false
-members_in-whole null h = refl
-members_in-whole (boolean b) h = refl
-members_in-whole (number n) h = refl
-members_in-whole (string s) h = refl
-members_in-whole (array ds) h = refl
 members_in-whole (object ms) h = h.whole
+members_in-whole e h = refl
 
 -- ---- the same
 

@@ -3,6 +3,7 @@ use Rattle.std.proofs.Common.{◌≡◌, List, [], ◌∷◌, Bool, true, false,
 use Rattle.std.proofs.Math.Path.{fun_ext}
 use Rattle.std.proofs.lemmas.Bool.{and_from, and_parts}
 use Rattle.std.specs.List.{list_all}
+use Rattle.std.specs.Cmp.{both_ways}
 use Rattle.serde_json.specs.Data.{Data}
 use Rattle.erd_check.specs.Trees.{is_same_json}
 use Rattle.erd_check.specs.ValueSets.{StandsFor, values_in}
@@ -14,12 +15,6 @@ use Rattle.erd_compare.specs.code.Comparing.{Decides, IsWholeTree}
 use Rattle.erd_compare.proofs.whole_trees.WholeTrees.{AreWholeTrees, whole_tree-exact, whole_tree-itself}
 
 -- ---- tests
-
--- tests that hold of the same are the same
-pub same_tests : (a b : Bool) → (a ≡ true → b ≡ true) → (b ≡ true → a ≡ true) → a ≡ b
-same_tests true b to from = sym (to refl)
-same_tests false true to from = from refl
-same_tests false false to from = refl
 
 -- the answer of two tests, of which the second is made only if the first holds
 pub second_answer : (a b r s : Bool) → r ≡ a → s ≡ b → r ≡ true → a && b ≡ s
@@ -64,7 +59,7 @@ json_set-Decides ds es left right = (forward, λ same. and_from (list_all (json_
     forward : list_all (json_set es) ds && list_all (json_set ds) es ≡ true → json_set ds ≡ json_set es
     forward h =
         let both = and_parts (list_all (json_set es) ds) (list_all (json_set ds) es) h in
-        fun_ext (λ d. same_tests (json_set ds d) (json_set es d) (within ds es d (λ e. entry_in ds es e left right both.0)) (within es ds d (λ e. entry_in es ds e right left both.1)))
+        fun_ext (λ d. both_ways (json_set ds d) (json_set es d) (within ds es d (λ e. entry_in ds es e left right both.0)) (within es ds d (λ e. entry_in es ds e right left both.1)))
 
 -- a set that stands for values has what they have
 pub stands_for : (ds : List Data) (s : ValueSet) → StandsFor ds s → json_set (values_in s) ≡ json_set ds

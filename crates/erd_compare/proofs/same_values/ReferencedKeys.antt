@@ -2,13 +2,19 @@
 use Rattle.std.proofs.Common.{◌≡◌, ◌==◌, ℕ, List, cond, true, false, Option, Some, None, option_and_then, option_map, refl, sym, ap, ◌∙◌}
 use Rattle.std.specs.List.{slice_get}
 use Rattle.serde_json.specs.Data.{Data}
+use Rattle.serde_json.specs.View.{view}
 use Rattle.erd_tables.specs.Classes.{family_number}
 use Rattle.erd_tables.specs.declared.class.Family.{Family}
+use Rattle.erd_tables.specs.declared.class.Family.TheVariants as family
 use Rattle.erd_meaning.proofs.finding.OwnedObjects.{owner_elsewhere, owner_here, owner_nowhere}
 use Rattle.erd_meaning.specs.Keys.{Preference, has_keys, key_of, key_of_family_object}
 use Rattle.erd_meaning.specs.Lookups.{FindsId, key_in}
 use Rattle.erd_meaning.specs.Objects.{Placed, objects, owner_at}
-use Rattle.erd_meaning.specs.SelectionNames.{key_named}
+use Rattle.erd_meaning.specs.SelectionNames.{key_named, name_named, name_of}
+use Rattle.erd_meaning.specs.Judged.{Judged}
+use Rattle.erd_compare.specs.code.CommonNames.{number_of_name, number_of_selection}
+use Rattle.erd_compare.specs.code.RankedSides.{on_side}
+use Rattle.erd_compare.specs.declared.ranks.side.Side.{Side}
 
 -- ---- its key
 
@@ -30,3 +36,30 @@ module _ (π : Preference) (t : Data) (f : Family) (id : List ℕ) where
 
   pub key_nowhere : FindsId t id None → None ≡ key_named π t f id
   key_nowhere finds = no_key (owner_nowhere t f id finds)
+
+-- ---- the number of the selection that is found by an `@id` is that of the name that a reference names
+
+module _ (a b : Judged) (side : Side) (id : List ℕ) where
+  abbrev π : Preference
+  π = (on_side side a b).prefer
+
+  abbrev t : Data
+  t = view (on_side side a b).tree
+
+  -- the number of the name of what is owned
+  abbrev number_owned : Option Placed → Option ℕ
+  number_owned o = option_map (number_of_name a b) (option_and_then (name_of π t) (option_map (λ o. o.value) o))
+
+  by_owner : (o : Option Placed) → option_and_then (λ (o : Placed). number_of_selection a b side o.value) o ≡ number_owned o
+  by_owner None = refl
+  by_owner (Some o) = refl
+
+  pub name_here : (g : Family) (i : ℕ) → FindsId t id (Some (g, i)) → (family_number g == family_number family.Selection) ≡ true
+      → option_and_then (λ (o : Placed). number_of_selection a b side o.value) (slice_get (objects family.Selection t) i) ≡ option_map (number_of_name a b) (name_named π t id)
+  name_here g i finds same = by_owner (slice_get (objects family.Selection t) i) ∙ ap number_owned (sym (owner_here t family.Selection id g i finds same))
+
+  pub name_elsewhere : (g : Family) (i : ℕ) → FindsId t id (Some (g, i)) → (family_number g == family_number family.Selection) ≡ false → None ≡ option_map (number_of_name a b) (name_named π t id)
+  name_elsewhere g i finds other = sym (ap number_owned (owner_elsewhere t family.Selection id g i finds other))
+
+  pub name_nowhere : FindsId t id None → None ≡ option_map (number_of_name a b) (name_named π t id)
+  name_nowhere finds = sym (ap number_owned (owner_nowhere t family.Selection id finds))

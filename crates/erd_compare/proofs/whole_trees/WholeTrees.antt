@@ -1,5 +1,5 @@
 -- Whole trees: their members and entries are whole trees, and equality as JSON decides equality on them.
-use Rattle.std.proofs.Common.{◌≡◌, ◌<◌, ℕ, zero, suc, pos, List, [], ◌∷◌, Bool, true, false, ◌&&◌, Option, Some, None, option_map, Bor, map, length, get_or, refl, sym, subst, arith}
+use Rattle.std.proofs.Common.{◌≡◌, ◌<◌, ℕ, zero, suc, pos, List, [], ◌∷◌, true, false, ◌&&◌, Option, Some, None, option_map, Bor, map, length, get_or, refl, sym, subst, arith, ◌+◌, ◌++◌, flat_map, codes}
 use Rattle.std.proofs.lemmas.Bool.{and_from, or_parts}
 use Rattle.std.proofs.lemmas.Bool.Decides.{Decides-int_eq}
 use Rattle.std.specs.List.{AllByRecursion}
@@ -10,11 +10,18 @@ use Rattle.serde_json.specs.Find.{get, is_float}
 use Rattle.serde_json.specs.View.{view}
 use Rattle.serde_json.specs.Written.{has_float, items_have_float, members_have_float}
 use Rattle.serde_json.specs.declared.value.Value.{Value}
-use Rattle.erd_check.specs.Trees.{IsTree, AreTrees, is_same_json, are_same_items, are_same_members, same_flag, same_number}
+use Rattle.erd_tables.specs.declared.class.Family.{Family}
+use Rattle.erd_tables.specs.declared.place.Step.{Step}
+use Rattle.erd_tables.specs.declared.place.Step.TheVariants.{Name}
+use Rattle.erd_tables.specs.declared.class.Family.TheVariants as family
+use Rattle.erd_check.specs.Trees.{IsTree, AreTrees, is_same_json, are_same_items, are_same_members, same_number}
 use Rattle.erd_check.specs.Values.{entries_of, list_of_items, entries_at}
-use Rattle.erd_check.proofs.Exact.{is_same_exact, text_itself}
+use Rattle.erd_check.proofs.Exact.{is_same_exact, text_itself, flag_itself}
 use Rattle.erd_check.proofs.Members.{get_member-tree}
+use Rattle.erd_check.proofs.Rising.{Has, all-Has}
 use Rattle.erd_meaning.proofs.selections.WholeParts.{whole_get}
+use Rattle.erd_meaning.specs.Objects.{Placed, contests, elections, objects, placed_entries, placed_from, report_of}
+use Rattle.erd_meaning.proofs.accepted.HeldObjects.{has-flat}
 use Rattle.erd_compare.specs.code.Comparing.{Decides, IsWholeTree}
 use Rattle.erd_compare.specs.code.MemberPairs.{IsPairOf}
 use Rattle.erd_compare.specs.declared.objects.least_name.MemberPair.{MemberPair}
@@ -27,12 +34,8 @@ AreWholeTrees ds = AllByRecursion IsWholeTree ds
 
 -- a member of a tree is one
 get-tree : (name : List ℕ) (d v : Data) → IsTree d → get name d ≡ Some v → IsTree v
-get-tree name null v h e = cc
-get-tree name (boolean b) v h e = cc
-get-tree name (number n) v h e = cc
-get-tree name (string s) v h e = cc
-get-tree name (array ds) v h e = cc
 get-tree name (object ms) v h e = get_member-tree name v ms h e
+get-tree name k v h e = cc
 
 -- a member of a whole tree is one
 pub whole_tree-get : (name : List ℕ) (d v : Data) → IsWholeTree d → get name d ≡ Some v → IsWholeTree v
@@ -61,12 +64,8 @@ whole_trees-items (item d ds) trees h =
 
 -- the entries of a whole tree are whole trees
 pub whole_trees-entries_of : (d : Data) → IsWholeTree d → AreWholeTrees (entries_of d)
-whole_trees-entries_of null h = tt
-whole_trees-entries_of (boolean b) h = tt
-whole_trees-entries_of (number n) h = tt
-whole_trees-entries_of (string s) h = tt
 whole_trees-entries_of (array ds) h = whole_trees-items ds h.is_tree h.whole
-whole_trees-entries_of (object ms) h = tt
+whole_trees-entries_of e h = tt
 
 -- the entries of the array of a member
 pub whole_trees-entries_at : (name : List ℕ) (d : Data) → IsWholeTree d → AreWholeTrees (entries_at name d)
@@ -101,11 +100,6 @@ whole_value-index (w ∷ vs) zero v h low e = subst (λ u. IsWholeTree (view u))
 whole_value-index (w ∷ vs) (suc i) v h low e = whole_value-index vs i v h.1 (omega arith) e
 
 -- ---- equality
-
--- a truth value is equal to itself
-flag_itself : (b : Bool) → same_flag b b ≡ true
-flag_itself true = refl
-flag_itself false = refl
 
 -- a whole number is equal to itself
 number_itself : (n : Num) → is_float n ≡ false → same_number n n ≡ true
@@ -148,3 +142,41 @@ whole_tree-exact d e g h same = is_same_exact d e g.is_tree h.is_tree same
 -- equality as JSON decides equality of whole trees
 pub is_same_json-Decides : (d e : Data) → IsWholeTree d → IsWholeTree e → Decides (is_same_json d e) d e
 is_same_json-Decides d e g h = (whole_tree-exact d e g h, λ is. subst (λ x. is_same_json d x ≡ true) is (whole_tree-itself d g))
+
+-- ---- the elections and the objects of a report that is a whole tree are whole trees
+
+-- objects that are whole trees
+abbrev AreWholeObjects : List Placed → Type 0
+AreWholeObjects os = AllByRecursion (λ o. IsWholeTree o.value) os
+
+whole_placed : (p : List Step) (i : ℕ) (ds : List Data) → AreWholeTrees ds → AreWholeObjects (placed_from p i ds)
+whole_placed p i [] h = tt
+whole_placed p i (d ∷ ds) h = (h.0, whole_placed p (i + 1) ds h.1)
+
+whole_entries : (name : List ℕ) (parent o : Placed) → IsWholeTree parent.value → Has (placed_entries name parent) o → IsWholeTree o.value
+whole_entries name parent o h among =
+    all-Has (λ x. IsWholeTree x.value) (placed_entries name parent) o
+    (whole_placed (parent.place ++ Name name ∷ []) 0 (entries_at name parent.value) (whole_trees-entries_at name parent.value h)) among
+
+-- the entries of a member of each of these objects
+whole_inside : (name : List ℕ) (parents : List Placed) (o : Placed) → ((p : Placed) → Has parents p → IsWholeTree p.value) → Has (flat_map (placed_entries name) parents) o → IsWholeTree o.value
+whole_inside name parents o h among = let p = has-flat (placed_entries name) parents o among in whole_entries name p.0 o (h p.0 p.1) p.2
+
+-- each election
+pub whole_election : (t : Data) (p : Placed) → IsWholeTree t → Has (elections t) p → IsWholeTree p.value
+whole_election t p h among = whole_entries (codes "Election") (report_of t) p h among
+
+whole_contest : (t : Data) (p : Placed) → IsWholeTree t → Has (contests t) p → IsWholeTree p.value
+whole_contest t p h among = whole_inside (codes "Contest") (elections t) p (λ q. whole_election t q h) among
+
+-- each object of a family
+pub whole_object : (t : Data) (f : Family) → IsWholeTree t → (o : Placed) → Has (objects f t) o → IsWholeTree o.value
+whole_object t family.Unit h o among = whole_entries (codes "GpUnit") (report_of t) o h among
+whole_object t family.Party h o among = whole_entries (codes "Party") (report_of t) o h among
+whole_object t family.Person h o among = whole_entries (codes "Person") (report_of t) o h among
+whole_object t family.Office h o among = whole_entries (codes "Office") (report_of t) o h among
+whole_object t family.Header h o among = whole_entries (codes "Header") (report_of t) o h among
+whole_object t family.Candidate h o among = whole_inside (codes "Candidate") (elections t) o (λ p. whole_election t p h) among
+whole_object t family.Contest h o among = whole_contest t o h among
+whole_object t family.Style h o among = whole_inside (codes "BallotStyle") (elections t) o (λ p. whole_election t p h) among
+whole_object t family.Selection h o among = whole_inside (codes "ContestSelection") (contests t) o (λ p. whole_contest t p h) among

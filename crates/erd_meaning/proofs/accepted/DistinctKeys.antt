@@ -1,5 +1,5 @@
--- In a report without faults of identity no two objects of a family and no two elections have one key.
-use Rattle.std.proofs.Common.{◌≡◌, ℕ, List, map, length, Bool, true, false, nat_lt, cond, codes, Some, None, option_and_then, is_eq, slice_get, refl, sym, ap, ap₂, ◌∙◌, subst, arith}
+-- In a report without faults of identity no two objects of a family and no two elections have one key, and each of several elections has one.
+use Rattle.std.proofs.Common.{◌≡◌, true, Option, Some, None, refl, ℕ, List, map, length, Bool, false, nat_lt, cond, codes, option_and_then, is_eq, slice_get, sym, ap, ap₂, ◌∙◌, subst, arith}
 use Rattle.std.proofs.lemmas.Bool.{ltb-false}
 use Rattle.std.proofs.lemmas.Option.{slice_get_within}
 use Rattle.std.proofs.lemmas.Simd.{map-map}
@@ -9,24 +9,38 @@ use Rattle.std.specs.Option.{option_cmp}
 use Rattle.std.specs.Ordering.{eq_by_cmp}
 use Rattle.serde_json.specs.Data.{Data}
 use Rattle.erd_tables.specs.declared.class.Family.{Family}
+use Rattle.erd_tables.specs.declared.class.Role.TheVariants as role
+use Rattle.erd_tables.specs.declared.fault.Reason.TheVariants as reason
+use Rattle.erd_check.proofs.Rising.{Has}
 use Rattle.erd_check.specs.Faults.{NoneOf}
 use Rattle.erd_check.specs.Values.{entries_at}
-use Rattle.erd_meaning.specs.Keys.{Preference, has_keys, key_cmp, key_of, key_of_family_object}
+use Rattle.erd_meaning.specs.Keys.{Preference, key_of, has_keys, key_cmp, key_of_family_object}
 use Rattle.erd_meaning.specs.LaterFaults.{IdentityFault}
-use Rattle.erd_meaning.specs.Lookups.{key_in}
 use Rattle.erd_meaning.specs.Objects.{Placed, elections, has_several, objects, report_of}
+use Rattle.erd_meaning.specs.declared.keys.key.Key.{Key}
+use Rattle.erd_meaning.proofs.accepted.References.{Contains-Has, has_identifier}
+use Rattle.erd_meaning.specs.Lookups.{key_in}
 use Rattle.erd_meaning.specs.code.KeyOrders.{AreDistinct, HaveDistinctKeys}
 use Rattle.erd_meaning.specs.code.ObjectWalk.{Kept, election_keys, kept, kept_objects}
 use Rattle.erd_meaning.specs.code.Orders.{key_cmp_exact}
-use Rattle.erd_meaning.specs.declared.keys.key.Key.{Key}
-use Rattle.erd_meaning.proofs.accepted.KeyedElections.{election_has_identifier}
-use Rattle.erd_meaning.proofs.accepted.References.{has_identifier}
 use Rattle.erd_meaning.proofs.accepted.Skeleton.{values-placed_entries}
 use Rattle.erd_meaning.proofs.finding.Lookups.{those_kept}
 use Rattle.erd_meaning.proofs.finding.OneObject.{in_at, one_key}
 use Rattle.erd_meaning.proofs.finding.TwinElections.{one_election_key}
 use Rattle.erd_meaning.proofs.orders.DistinctEntries.{distinct_from_one_place, distinct_map}
 use Rattle.erd_meaning.proofs.orders.RisingSets.{has_from_In}
+
+-- ---- the keys of elections
+
+pub election_has_identifier : (π : Preference) (t : Data) → NoneOf (IdentityFault π t) → has_several t ≡ true → (e : Placed) → Has (elections t) e → (k : Key) × (key_of π e.value ≡ Some k)
+election_has_identifier π t none several e h = at (key_of π e.value) refl
+  where
+    at : (k : Option Key) → key_of π e.value ≡ k → (l : Key) × (key_of π e.value ≡ Some l)
+    at None is =
+        absurd (none e.place reason.NoIdentifier (record { role = role.Election; needed = several; placed = e; stands = Contains-Has (elections t) e h; place = refl; keyless = is }))
+    at (Some k) is = (k, is)
+
+-- ---- no two have one key
 
 -- the test whether two values have one key
 abbrev has_one_key : Preference → Data → Data → Bool

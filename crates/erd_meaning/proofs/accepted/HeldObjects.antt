@@ -1,6 +1,5 @@
 -- In which election an object stands, where in it, and the key of that election.
-use Rattle.std.proofs.Common.{◌≡◌, ◌+◌, ℕ, zero, suc, List, [], ◌∷◌, ◌++◌, Some, None, option_and_then, false, refl, flat_map, slice_get, codes, sym, ap, ◌∙◌, subst, ◌⊎◌, inl, inr, ⊎_elim, arith}
-use Rattle.std.specs.Str.{bytes_eq}
+use Rattle.std.proofs.Common.{◌≡◌, ◌+◌, ℕ, zero, suc, List, [], ◌∷◌, ◌++◌, Some, option_and_then, refl, flat_map, slice_get, codes, sym, ap, ◌∙◌, subst, ◌⊎◌, inl, inr, ⊎_elim, arith}
 use Rattle.serde_json.specs.Data.{Data}
 use Rattle.erd_tables.specs.declared.place.Step.{Step}
 use Rattle.erd_tables.specs.declared.place.Step.TheVariants.{At, Name}
@@ -8,7 +7,7 @@ use Rattle.erd_check.proofs.Rising.{Has, Has-cases, here, later}
 use Rattle.erd_check.specs.Values.{entries_at}
 use Rattle.erd_meaning.specs.Keys.{Preference, key_of}
 use Rattle.erd_meaning.specs.Lookups.{election_key_in, election_key_of}
-use Rattle.erd_meaning.specs.Objects.{Placed, election_of_place, elections, placed_entries, placed_from, report_of}
+use Rattle.erd_meaning.specs.Objects.{Placed, election_of_place, elections, placed_entries, placed_from}
 
 pub has-append : {A : Type 0} (xs ys : List A) (x : A) → Has (xs ++ ys) x → Has xs x ⊎ Has ys x
 has-append [] ys x h = inr h
@@ -73,9 +72,3 @@ held_key π t name o h =
 -- the same, where the election is known
 pub held_key_in : (π : Preference) (t : Data) (name : List ℕ) (e o : Placed) → Has (elections t) e → Has (placed_entries name e) o → election_key_of π t o ≡ key_of π e.value
 held_key_in π t name e o h k = let x = held_in t name e o h k in held_key π t name o x.0 ∙ ap (λ (d : Placed). key_of π d.value) x.1
-
--- no election holds what stands in an array of the report itself
-pub held_by_none : (π : Preference) (t : Data) (name : List ℕ) (o : Placed) → bytes_eq name (codes "Election") ≡ false → Has (placed_entries name (report_of t)) o → election_key_of π t o ≡ None
-held_by_none π t name o other h =
-    let j = entry_at (Name name ∷ []) (entries_at name t) o h in
-    ap (λ p. option_and_then (election_key_in π t) (election_of_place p)) j.2 ∙ rw other refl

@@ -2,6 +2,7 @@
 use Rattle.std.proofs.Common.{◌≡◌, ℕ, zero, suc, List, [], ◌∷◌, ◌++◌, Option, Some, None, option_map, option_and_then, is_some, Contains, Bool, true, false, codes, find, refl, sym, ap, ◌∙◌, subst, arith, not, is_none, ◌&&◌}
 use Rattle.std.specs.Prelude.{IsTrue}
 use Rattle.std.specs.List.{list_any}
+use Rattle.std.proofs.lemmas.Bool.{true_from_ne_false, false_from_ne_true}
 use Rattle.serde_json.specs.Data.{Data, string}
 use Rattle.erd_tables.specs.declared.class.Family.{Family}
 use Rattle.erd_tables.specs.declared.place.Step.{Step}
@@ -13,7 +14,7 @@ use Rattle.erd_check.specs.Faults.{NoneOf}
 use Rattle.erd_check.specs.Wants.{Asked, asked_at, asked}
 use Rattle.erd_check.proofs.Rising.{Has, here, later}
 use Rattle.erd_check.specs.declared.want.Want.TheVariants.{Reference}
-use Rattle.erd_check.proofs.Shapes.{Within, false_unless, not_within, true_unless}
+use Rattle.erd_check.proofs.Shapes.{Within, not_within}
 use Rattle.erd_meaning.specs.declared.keys.key.Key.{Key}
 use Rattle.erd_meaning.specs.Accepted.{IsAccepted}
 use Rattle.erd_meaning.specs.LaterFaults.{IdentityFault, is_reference_fault, is_selection_in}
@@ -40,8 +41,8 @@ none_not (Some x) = refl
 pub owned : (π : Preference) (t : Data) → IsAccepted π t → (f : Family) (r : List ℕ) → Within t (asked (Reference f) (string r)) → (o : Data) × (owner t f r ≡ Some o)
 owned π t accepted f r w =
     let a : Asked = asked (Reference f) (string r) in
-    let known : not (is_owned t r) ≡ false = false_unless _ (not_within t a (λ x. IsTrue (is_reference_fault t x reason.Unresolved)) w (no_reference_fault π t accepted w.place reason.Unresolved)) in
-    let here : (is_none (owner t f r) && is_owned t r) ≡ false = false_unless _ (not_within t a (λ x. IsTrue (is_reference_fault t x reason.WrongFamily)) w (no_reference_fault π t accepted w.place reason.WrongFamily)) in
+    let known : not (is_owned t r) ≡ false = false_from_ne_true _ (not_within t a (λ x. IsTrue (is_reference_fault t x reason.Unresolved)) w (no_reference_fault π t accepted w.place reason.Unresolved)) in
+    let here : (is_none (owner t f r) && is_owned t r) ≡ false = false_from_ne_true _ (not_within t a (λ x. IsTrue (is_reference_fault t x reason.WrongFamily)) w (no_reference_fault π t accepted w.place reason.WrongFamily)) in
     some_from (owner t f r) (found_either (is_some (owner t f r)) (is_owned t r) known (rw (none_not (owner t f r)) at here))
 
 -- no entry of a set of references repeats an earlier one
@@ -55,7 +56,7 @@ pub selected : (π : Preference) (t : Data) → IsAccepted π t → (a : Asked) 
 selected π t accepted a contest w names i r e =
     let p : List Step = w.place ++ Name (codes "OrderedContestSelectionIds") ∷ At i ∷ [] in
     let stands : is_some (owner t family.Selection r) ≡ true = ap is_some (owned π t accepted family.Selection r (record { place = p; is = e })).1 in
-    true_unless (is_selection_in contest r) (λ h. no_reference_fault π t accepted p reason.SelectionOfOtherContest (record {
+    true_from_ne_false (is_selection_in contest r) (λ h. no_reference_fault π t accepted p reason.SelectionOfOtherContest (record {
       object_place = w.place;
       position = i;
       place = refl;

@@ -118,17 +118,10 @@ selection_stands t none contest stands o h =
     (stands ∙ ap (λ x. Some (asked (Object (role.OfFamily family.Contest)) x)) a.is_object) family.Selection (codes "ContestSelection") refl (contest_selections a.class a.role) o h
 
 pub stands_of_shape : (t : Data) → NoneOf (ShapeFault t) → (f : Family) (o : Placed) → Has (objects f t) o → asked_at t o.place ≡ Some (asked (Object (role.OfFamily f)) o.value)
-stands_of_shape t none family.Unit o h = keyed_stands t none (skeleton_of_shape t none) family.Unit refl o h
-stands_of_shape t none family.Party o h = keyed_stands t none (skeleton_of_shape t none) family.Party refl o h
-stands_of_shape t none family.Person o h = keyed_stands t none (skeleton_of_shape t none) family.Person refl o h
-stands_of_shape t none family.Office o h = keyed_stands t none (skeleton_of_shape t none) family.Office refl o h
-stands_of_shape t none family.Header o h = keyed_stands t none (skeleton_of_shape t none) family.Header refl o h
-stands_of_shape t none family.Candidate o h = keyed_stands t none (skeleton_of_shape t none) family.Candidate refl o h
-stands_of_shape t none family.Contest o h = keyed_stands t none (skeleton_of_shape t none) family.Contest refl o h
-stands_of_shape t none family.Style o h = keyed_stands t none (skeleton_of_shape t none) family.Style refl o h
 stands_of_shape t none family.Selection o h =
     let c = has-flat (placed_entries (codes "ContestSelection")) (contests t) o h in
     selection_stands t none c.0 (keyed_stands t none (skeleton_of_shape t none) family.Contest refl c.0 c.1) o c.2
+stands_of_shape t none d o h = keyed_stands t none (skeleton_of_shape t none) d refl o h
 
 pub stands : (π : Preference) (t : Data) → IsAccepted π t → (f : Family) (o : Placed) → Has (objects f t) o → asked_at t o.place ≡ Some (asked (Object (role.OfFamily f)) o.value)
 stands π t accepted = stands_of_shape t (no_shape_fault π t accepted)
@@ -147,35 +140,26 @@ one_placed π t accepted f g o p h k before after = at (place_cmp o.place p.plac
         λ i. record { place = same i; value = values i }
     at Greater is = absurd (after (place_cmp_total.antisymm p.place o.place ∙ ap ordering_reverse is))
 
+-- a later object has not the `@id` of an earlier one
+no_second_id : (π : Preference) (t : Data) → IsAccepted π t → (f g : Family) (o p : Placed) (r : List ℕ) → Has (objects f t) o → Has (objects g t) p → id_of o.value ≡ Some r → id_of p.value ≡ Some r → ¬ IsBefore o p
+no_second_id π t accepted f g o p r h k e l is = no_identity_fault π t accepted (p.place ++ Name (codes "@id") ∷ []) reason.DuplicateId (record {
+  family = g;
+  later = p;
+  later_stands = Contains-Has (objects g t) p k;
+  place = refl;
+  earlier_family = f;
+  earlier = o;
+  earlier_stands = Contains-Has (objects f t) o h;
+  before = is;
+  id = r;
+  later_id = l;
+  earlier_id = e;
+})
+
 -- two objects with one `@id` are one
 pub one_object : (π : Preference) (t : Data) → IsAccepted π t → (f g : Family) (o p : Placed) (r : List ℕ) → Has (objects f t) o → Has (objects g t) p → id_of o.value ≡ Some r → id_of p.value ≡ Some r → o ≡ p
-one_object π t accepted f g o p r h k e l = one_placed π t accepted f g o p h k
-    (λ is. no_identity_fault π t accepted (p.place ++ Name (codes "@id") ∷ []) reason.DuplicateId (record {
-      family = g;
-      later = p;
-      later_stands = Contains-Has (objects g t) p k;
-      place = refl;
-      earlier_family = f;
-      earlier = o;
-      earlier_stands = Contains-Has (objects f t) o h;
-      before = is;
-      id = r;
-      later_id = l;
-      earlier_id = e;
-    }))
-    (λ is. no_identity_fault π t accepted (o.place ++ Name (codes "@id") ∷ []) reason.DuplicateId (record {
-      family = f;
-      later = o;
-      later_stands = Contains-Has (objects f t) o h;
-      place = refl;
-      earlier_family = g;
-      earlier = p;
-      earlier_stands = Contains-Has (objects g t) p k;
-      before = is;
-      id = r;
-      later_id = e;
-      earlier_id = l;
-    }))
+one_object π t accepted f g o p r h k e l =
+    one_placed π t accepted f g o p h k (no_second_id π t accepted f g o p r h k e l) (no_second_id π t accepted g f p o r k h l e)
 
 -- a later object of a family has not the key of an earlier one
 no_twin : (π : Preference) (t : Data) → IsAccepted π t → (f : Family) (o p : Placed) (k : Key) → has_keys f ≡ true → Has (objects f t) o → Has (objects f t) p → key_of π o.value ≡ Some k → key_of π p.value ≡ Some k → ¬ IsBefore o p

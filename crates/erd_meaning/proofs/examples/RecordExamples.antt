@@ -17,6 +17,7 @@ use Rattle.erd_tables.specs.declared.place.Step.TheVariants.{Name, At}
 use Rattle.erd_check.proofs.Reports.{tree_of, small_ballot, small_ballot_canonical, with_report_member, with_unit_member}
 use Rattle.erd_check.specs.Values.{entries_of}
 use Rattle.erd_check.specs.Wants.{asked_at}
+use Rattle.erd_check.proofs.ValueSets.{or_exchanged}
 use Rattle.erd_meaning.specs.Keys.{key_cmp}
 use Rattle.erd_meaning.specs.Meaning.{Label, Content, no_content, first_node, Node, a_contest, a_header, a_json, a_label, untranslated, a_key, a_key_set, MemberValue, a_plain}
 use Rattle.erd_meaning.specs.Records.{selection_record, member_of_class, plain_member, label_of, content_of, json_set, plain_value, records_of, label_beside_text, carried_members, meaning}
@@ -112,18 +113,12 @@ classes_of_records = refl
 
 -- ---- sets
 
-or_in_any_order : (a b : Bool) → (a || (b || false)) ≡ (b || (a || false))
-or_in_any_order true true = refl
-or_in_any_order true false = refl
-or_in_any_order false true = refl
-or_in_any_order false false = refl
-
 -- the candidates of a selection are the same set in either order
 same_set_of_keys : (let t = tree_of small_ballot in let u = tree_of small_ballot_canonical in
     plain_value None t (kind.Many family.Candidate) (value_at t (Name (codes "Election") ∷ At 0 ∷ Name (codes "Contest") ∷ At 0 ∷ Name (codes "ContestSelection") ∷ At 0 ∷ Name (codes "CandidateIds") ∷ []))
     ≡ plain_value None u (kind.Many family.Candidate) (value_at u (Name (codes "Election") ∷ At 0 ∷ Name (codes "Contest") ∷ At 0 ∷ Name (codes "ContestSelection") ∷ At 1 ∷ Name (codes "CandidateIds") ∷ [])))
 unfolding serde_json_on_literals
-same_set_of_keys = ap (λ s. Some (a_key_set s)) (fun_ext (λ k. or_in_any_order (is_eq (key_cmp (local_key (codes "K2")) k)) (is_eq (key_cmp (local_key (codes "K1")) k))))
+same_set_of_keys = ap (λ s. Some (a_key_set s)) (fun_ext (λ k. or_exchanged (is_eq (key_cmp (local_key (codes "K2")) k)) (is_eq (key_cmp (local_key (codes "K1")) k)) false))
 
 -- the translations of a label are the same set in either order, and nothing stands beside them
 same_translations : (let t = tree_of small_ballot in let u = tree_of small_ballot_canonical in

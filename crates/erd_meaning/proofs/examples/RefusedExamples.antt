@@ -1,5 +1,5 @@
 -- Whole reports that are refused, each with the list of all its faults: one or more for each phase, by computation.
-use Rattle.std.proofs.Common.{◌≡◌, ℕ, List, [], ◌∷◌, ◌++◌, codes, true, length, refl, None}
+use Rattle.std.proofs.Common.{◌≡◌, ℕ, List, [], ◌∷◌, ◌++◌, codes, refl, None}
 use Rattle.serde_json.specs.Data.{Data}
 use Rattle.serde_json.proofs.OnLiterals.{serde_json_on_literals}
 use Rattle.erd_tables.specs.Faults.{ListsAll}
@@ -9,14 +9,11 @@ use Rattle.erd_tables.specs.declared.fault.Reason.TheVariants.{NoIdentifier, Twi
 use Rattle.erd_tables.specs.declared.place.Step.{Step}
 use Rattle.erd_tables.specs.declared.place.Step.TheVariants.{Name, At}
 use Rattle.erd_check.specs.Paths.{fault_at}
-use Rattle.erd_check.proofs.Deciding.{is_tree, faults_found, no_fault_listed, tree_sound}
+use Rattle.erd_check.proofs.Deciding.{no_fault_listed, tree_sound}
 use Rattle.erd_check.proofs.Reports.{tree_of, small_ballot_with, header_node, contest_node, with_election_member, election, report_of_two, two_elections_with}
 use Rattle.erd_check.proofs.WholeExamples.{faulty, faulty_faults, faulty_has_all, no_election, no_election_faults, no_election_has_all}
 use Rattle.erd_meaning.specs.Accepted.{IsFault}
-use Rattle.erd_meaning.proofs.identity.IdentityFaults.{identity_told}
-use Rattle.erd_meaning.proofs.references.SelectionEntries.{reference_faults}
-use Rattle.erd_meaning.proofs.selections.SelectionFaults.{selections_told}
-use Rattle.erd_meaning.proofs.refused.RefusedLists.{refused_by_shape, refused_by_identity, refused_by_references, refused_by_selections}
+use Rattle.erd_meaning.proofs.refused.Refused.{refused_by_shape, refused_by_identity, refused_by_references, refused_by_selections}
 
 -- ---- the shape: a report with no election, and one with many faults
 
@@ -35,21 +32,10 @@ twin_candidates = tree_of (small_ballot_with (codes "K1") (header_node ++ codes 
 abbrev twin_candidate : Fault
 twin_candidate = fault_at (Name (codes "Election") ∷ At 0 ∷ Name (codes "Candidate") ∷ At 1 ∷ []) TwinIdentifier
 
-twin_candidates_tree : is_tree twin_candidates ≡ true
-unfolding serde_json_on_literals
-twin_candidates_tree = refl
-
-twin_candidates_shape : length (faults_found twin_candidates) ≡ 0
-unfolding serde_json_on_literals
-twin_candidates_shape = refl
-
-twin_candidates_found : identity_told None twin_candidates ≡ twin_candidate ∷ []
-unfolding serde_json_on_literals
-twin_candidates_found = refl
-
 twin_candidates_refused : ListsAll (IsFault None twin_candidates) (twin_candidate ∷ [])
+unfolding serde_json_on_literals
 twin_candidates_refused =
-    refused_by_identity None twin_candidates twin_candidate [] (no_fault_listed twin_candidates twin_candidates_tree twin_candidates_shape) twin_candidates_found
+    refused_by_identity None twin_candidates twin_candidate [] (no_fault_listed twin_candidates refl refl) refl
 
 -- ---- identity: two elections without identifiers, and two with one key
 
@@ -60,41 +46,19 @@ election_fault i r = fault_at (Name (codes "Election") ∷ At i ∷ []) r
 abbrev keyless_elections : Data
 keyless_elections = tree_of (report_of_two election election)
 
-keyless_elections_tree : is_tree keyless_elections ≡ true
-unfolding serde_json_on_literals
-keyless_elections_tree = refl
-
-keyless_elections_shape : length (faults_found keyless_elections) ≡ 0
-unfolding serde_json_on_literals
-keyless_elections_shape = refl
-
-keyless_elections_found : identity_told None keyless_elections ≡ election_fault 0 NoIdentifier ∷ election_fault 1 NoIdentifier ∷ []
-unfolding serde_json_on_literals
-keyless_elections_found = refl
-
 keyless_elections_refused : ListsAll (IsFault None keyless_elections) (election_fault 0 NoIdentifier ∷ election_fault 1 NoIdentifier ∷ [])
+unfolding serde_json_on_literals
 keyless_elections_refused =
     refused_by_identity None keyless_elections (election_fault 0 NoIdentifier) (election_fault 1 NoIdentifier ∷ [])
-    (no_fault_listed keyless_elections keyless_elections_tree keyless_elections_shape) keyless_elections_found
+    (no_fault_listed keyless_elections refl refl) refl
 
 abbrev twin_elections : Data
 twin_elections = tree_of (two_elections_with (codes "E1") (codes "E1"))
 
-twin_elections_tree : is_tree twin_elections ≡ true
-unfolding serde_json_on_literals
-twin_elections_tree = refl
-
-twin_elections_shape : length (faults_found twin_elections) ≡ 0
-unfolding serde_json_on_literals
-twin_elections_shape = refl
-
-twin_elections_found : identity_told None twin_elections ≡ election_fault 1 TwinIdentifier ∷ []
-unfolding serde_json_on_literals
-twin_elections_found = refl
-
 twin_elections_refused : ListsAll (IsFault None twin_elections) (election_fault 1 TwinIdentifier ∷ [])
+unfolding serde_json_on_literals
 twin_elections_refused =
-    refused_by_identity None twin_elections (election_fault 1 TwinIdentifier) [] (no_fault_listed twin_elections twin_elections_tree twin_elections_shape) twin_elections_found
+    refused_by_identity None twin_elections (election_fault 1 TwinIdentifier) [] (no_fault_listed twin_elections refl refl) refl
 
 -- ---- references: a contest on the ballot with a selection of another contest, one of its own, a header and nothing
 
@@ -113,26 +77,11 @@ of_other_contest = fault_at (strange_entry 0) SelectionOfOtherContest
 abbrev more_strange_entries : List Fault
 more_strange_entries = fault_at (strange_entry 2) WrongFamily ∷ fault_at (strange_entry 3) Unresolved ∷ []
 
-strange_entries_tree : is_tree strange_entries ≡ true
-unfolding serde_json_on_literals
-strange_entries_tree = refl
-
-strange_entries_shape : length (faults_found strange_entries) ≡ 0
-unfolding serde_json_on_literals
-strange_entries_shape = refl
-
-strange_entries_identity : length (identity_told None strange_entries) ≡ 0
-unfolding serde_json_on_literals
-strange_entries_identity = refl
-
-strange_entries_found : reference_faults strange_entries ≡ of_other_contest ∷ more_strange_entries
-unfolding serde_json_on_literals
-strange_entries_found = refl
-
 strange_entries_refused : ListsAll (IsFault None strange_entries) (of_other_contest ∷ more_strange_entries)
+unfolding serde_json_on_literals
 strange_entries_refused =
-    refused_by_references None strange_entries of_other_contest more_strange_entries (tree_sound strange_entries strange_entries_tree)
-    (no_fault_listed strange_entries strange_entries_tree strange_entries_shape) strange_entries_identity strange_entries_found
+    refused_by_references None strange_entries of_other_contest more_strange_entries (tree_sound strange_entries refl)
+    (no_fault_listed strange_entries refl refl) refl refl
 
 -- ---- selections: a contest with two lines for write-ins
 
@@ -143,27 +92,8 @@ two_write_ins = tree_of (with_election_member (codes "\"Contest\":[{\"@id\":\"c1
 abbrev second_write_in : Fault
 second_write_in = fault_at (Name (codes "Election") ∷ At 0 ∷ Name (codes "Contest") ∷ At 0 ∷ Name (codes "ContestSelection") ∷ At 1 ∷ []) TwinSelection
 
-two_write_ins_tree : is_tree two_write_ins ≡ true
-unfolding serde_json_on_literals
-two_write_ins_tree = refl
-
-two_write_ins_shape : length (faults_found two_write_ins) ≡ 0
-unfolding serde_json_on_literals
-two_write_ins_shape = refl
-
-two_write_ins_identity : length (identity_told None two_write_ins) ≡ 0
-unfolding serde_json_on_literals
-two_write_ins_identity = refl
-
-two_write_ins_references : length (reference_faults two_write_ins) ≡ 0
-unfolding serde_json_on_literals
-two_write_ins_references = refl
-
-two_write_ins_found : selections_told None two_write_ins ≡ second_write_in ∷ []
-unfolding serde_json_on_literals
-two_write_ins_found = refl
-
 two_write_ins_refused : ListsAll (IsFault None two_write_ins) (second_write_in ∷ [])
+unfolding serde_json_on_literals
 two_write_ins_refused =
-    refused_by_selections None two_write_ins second_write_in [] (tree_sound two_write_ins two_write_ins_tree) (no_fault_listed two_write_ins two_write_ins_tree two_write_ins_shape)
-    two_write_ins_identity two_write_ins_references two_write_ins_found
+    refused_by_selections None two_write_ins second_write_in [] (tree_sound two_write_ins refl) (no_fault_listed two_write_ins refl refl)
+    refl refl refl

@@ -5,13 +5,13 @@ use Rattle.std.specs.Ordering.{is_eq}
 use Rattle.std.proofs.lemmas.Cmp.{tied_itself}
 use Rattle.std.proofs.lemmas.Option.{same_Some, some_pair_parts}
 use Rattle.std.proofs.lemmas.Slice.Eq.{bytes_eq-Decides}
+use Rattle.std.proofs.lemmas.Bool.{and_parts, and_from}
 use Rattle.serde_json.specs.Data.{Data}
 use Rattle.serde_json.specs.View.{view}
 use Rattle.serde_json.specs.declared.value.Value.{Value}
 use Rattle.erd_tables.specs.declared.class.Family.{Family}
 use Rattle.erd_tables.specs.Classes.{family_number}
 use Rattle.erd_check.proofs.Order.{In, In-filter}
-use Rattle.erd_check.proofs.Reasons.{and_true, both_true}
 use Rattle.erd_check.specs.Faults.{NoneOf}
 use Rattle.erd_meaning.specs.Keys.{Preference}
 use Rattle.erd_meaning.specs.LaterFaults.{IdentityFault}
@@ -26,7 +26,7 @@ use Rattle.erd_meaning.specs.declared.keys.key.Key.{Key}
 use Rattle.erd_meaning.specs.code.SelectionWalk.{NumberedName}
 use Rattle.erd_meaning.specs.declared.objects.object.Object.{Object}
 use Rattle.erd_meaning.proofs.finding.OneObject.{hit, in_at, missed, one_id, one_key}
-use Rattle.erd_meaning.proofs.identity.KeyTests.{same_id_from, same_key_from}
+use Rattle.erd_meaning.proofs.identity.IdentityFaults.{same_id_from, same_key_from}
 use Rattle.erd_meaning.proofs.finding.Lookups.{kept_part, part_at, ranked}
 use Rattle.erd_meaning.proofs.identity.ObjectFamilies.{itself}
 use Rattle.erd_meaning.specs.code.Orders.{key_cmp_total}
@@ -55,7 +55,7 @@ key_here : (π : Preference) (v : Value) (os : List Object) (ns : List NumberedN
 key_here π v os ns f key n r e =
     let ks = map shown os in
     let h = hit (is_keyed f key) ks n e in
-    let both = and_true (is_of_family f h.one) (same_key h.one.key (Some key)) h.passes in
+    let both = and_parts (is_of_family f h.one) (same_key h.one.key (Some key)) h.passes in
     let same = same_key_from h.one.key (Some key) both.1 in
     sym (part_at π (λ k. k.key) v os ns f (rank f ks n) r) ∙ ap (option_and_then (λ (k : Kept). k.key)) (ranked f ks n h.one h.at both.0) ∙ same.1 ∙ sym same.2
 
@@ -65,7 +65,7 @@ key_missed π v os ns f key j r e there =
     let ks = map shown os in
     let s = standing (λ (k : Kept). k.key) ks f j key (part_at π (λ k. k.key) v os ns f j r ∙ there) in
     let same : same_key s.one.key (Some key) ≡ true = ap (λ k. same_key k (Some key)) s.has ∙ ap is_eq (tied_itself key_cmp_total key) in
-    missed (is_keyed f key) ks s.one e s.there (both_true (is_of_family f s.one) (same_key s.one.key (Some key)) s.family same)
+    missed (is_keyed f key) ks s.one e s.there (and_from (is_of_family f s.one) (same_key s.one.key (Some key)) s.family same)
 
 pub finds_key : (π : Preference) (v : Value) (os : List Object) (ns : List NumberedName) (f : Family) (key : Key) → IsResolved π v os ns
     → FindsKey π (view v) f key (number_of_key (map shown os) f key)

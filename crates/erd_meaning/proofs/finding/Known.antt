@@ -1,12 +1,13 @@
 -- What earlier objects have is what the indexes know.
 use Rattle.std.proofs.Common.{Bor, ◌≡◌, ◌==◌, ◌&&◌, ◌||◌, ◌+◌, ℕ, List, [], ◌∷◌, length, cond, Bool, true, false, Option, Some, None, is_some, option_and_then, option_map, refl, sym, ap, ap₂, ◌∙◌}
-use Rattle.std.specs.Cmp.{Equal-is}
+use Rattle.std.specs.Cmp.{Equal-is, both_ways}
 use Rattle.std.specs.List.{list_any, position, position_from}
 use Rattle.std.specs.Option.{option_map_or}
 use Rattle.std.specs.Ordering.{is_eq}
 use Rattle.std.proofs.lemmas.Bool.Decides.{Decides-eqb}
 use Rattle.std.proofs.lemmas.Cmp.{tied_itself}
 use Rattle.std.proofs.lemmas.Iterator.Adapters.{position_from-zero}
+use Rattle.std.proofs.Math.Bool.{and-false}
 use Rattle.erd_tables.specs.Classes.{family_number}
 use Rattle.erd_tables.specs.declared.class.Family.{Family}
 use Rattle.erd_meaning.specs.Keys.{key_cmp}
@@ -18,7 +19,7 @@ use Rattle.erd_meaning.specs.code.Orders.{key_cmp_exact, key_cmp_total}
 use Rattle.erd_meaning.specs.declared.keys.key.Key.{Key}
 use Rattle.erd_meaning.proofs.finding.OneObject.{hit}
 use Rattle.erd_meaning.proofs.finding.OwnedKeys.{owned_exact}
-use Rattle.erd_meaning.proofs.references.ReferenceLookups.{both_tests, text_same}
+use Rattle.erd_meaning.proofs.references.ReferenceLookups.{text_same}
 
 -- ---- positions
 
@@ -71,7 +72,7 @@ key_known ks f key = at (position (is_keyed f key) ks) ∙ some_position (is_key
     at (Some n) = refl
 
 pub number_swap : (m n : ℕ) → (m == n) ≡ (n == m)
-number_swap m n = both_tests (m == n) (n == m) (λ h. (Decides-eqb n m).1 (sym ((Decides-eqb m n).0 h))) (λ h. (Decides-eqb m n).1 (sym ((Decides-eqb n m).0 h)))
+number_swap m n = both_ways (m == n) (n == m) (λ h. (Decides-eqb n m).1 (sym ((Decides-eqb m n).0 h))) (λ h. (Decides-eqb m n).1 (sym ((Decides-eqb n m).0 h)))
 
 keys_one_way : (k l : Key) → is_eq (key_cmp k l) ≡ true → is_eq (key_cmp l k) ≡ true
 keys_one_way k l h =
@@ -79,7 +80,7 @@ keys_one_way k l h =
     ap (λ m. is_eq (key_cmp l m)) same ∙ ap is_eq (tied_itself key_cmp_total l)
 
 keys_swap : (k l : Key) → is_eq (key_cmp k l) ≡ is_eq (key_cmp l k)
-keys_swap k l = both_tests (is_eq (key_cmp k l)) (is_eq (key_cmp l k)) (keys_one_way k l) (keys_one_way l k)
+keys_swap k l = both_ways (is_eq (key_cmp k l)) (is_eq (key_cmp l k)) (keys_one_way k l) (keys_one_way l k)
 
 key_swap : (a b : Option Key) → same_key a b ≡ same_key b a
 key_swap (Some a) (Some b) = keys_swap a b
@@ -93,14 +94,10 @@ same_key_known ks k key e =
     (λ i j. number_swap (family_number k.family) (family_number j.family) i && (ap (λ o. same_key o j.key) e ∙ key_swap (Some key) j.key) i)
     ∙ sym (key_known ks k.family key)
 
-and_none : (b : Bool) → (b && false) ≡ false
-and_none true = refl
-and_none false = refl
-
 no_key_known : (ks : List Kept) (k : Kept) → k.key ≡ None → list_any (has_same_key k) ks ≡ false
 no_key_known ks k e =
     ap (λ (test : Kept → Bool). list_any test ks)
-    (λ i j. (ap (λ o. (family_number k.family == family_number j.family) && same_key o j.key) e ∙ and_none (family_number k.family == family_number j.family)) i) ∙ any_none ks
+    (λ i j. (ap (λ o. (family_number k.family == family_number j.family) && same_key o j.key) e ∙ and-false (family_number k.family == family_number j.family)) i) ∙ any_none ks
 
 -- what is noted of a key is what is found of it
 noted_key : (ks : List Kept) (k : Kept) (f : Family) (key l : Key) → k.key ≡ Some l
@@ -115,7 +112,7 @@ noted_key ks k f key l e =
     at false h = refl
 
 not_keyed : (k : Kept) (f : Family) (key : Key) → k.key ≡ None → is_keyed f key k ≡ false
-not_keyed k f key e = ap (λ o. (family_number k.family == family_number f) && same_key o (Some key)) e ∙ and_none (family_number k.family == family_number f)
+not_keyed k f key e = ap (λ o. (family_number k.family == family_number f) && same_key o (Some key)) e ∙ and-false (family_number k.family == family_number f)
 
 -- ---- where there may be none
 

@@ -1,6 +1,6 @@
 -- Where no object has the `@id` of another, the first object with an `@id`, if it is of the family, is the first of the family.
-use Rattle.std.proofs.Common.{◌≡◌, ℕ, suc, inl, inr, List, [], ◌∷◌, cond, find, Bool, true, false, ◌&&◌, ◌==◌, Option, Some, None, option_and_then, refl, sym, ap, ◌∙◌}
-use Rattle.std.specs.List.{slice_get}
+use Rattle.std.proofs.Common.{◌≡◌, ℕ, inl, inr, List, [], ◌∷◌, cond, find, Bool, true, false, ◌&&◌, ◌==◌, Option, Some, None, option_and_then, refl, sym, ap, ◌∙◌}
+use Rattle.std.proofs.Math.Bool.{and-false}
 use Rattle.serde_json.specs.Data.{Data}
 use Rattle.erd_tables.specs.Classes.{family_number}
 use Rattle.erd_tables.specs.declared.class.Family.{Family}
@@ -13,15 +13,11 @@ use Rattle.erd_meaning.specs.code.ObjectLookups.{is_of_family, keeps_id, object_
 use Rattle.erd_meaning.specs.code.ObjectWalk.{Kept, kept_objects}
 use Rattle.erd_meaning.proofs.finding.Lookups.{kept_part}
 use Rattle.erd_meaning.proofs.finding.OneObject.{one_id}
-use Rattle.erd_meaning.proofs.identity.KeyTests.{same_id_from}
+use Rattle.erd_meaning.proofs.identity.IdentityFaults.{same_id_from}
 use Rattle.erd_meaning.proofs.identity.ObjectFamilies.{itself}
+use Rattle.erd_meaning.proofs.orders.DistinctEntries.{place_of}
 
 -- ---- lists
-
-pub place_in : {A : Type 0} (x : A) (xs : List A) → In x xs → (i : ℕ) × (slice_get xs i ≡ Some x)
-place_in x [] h = absurd h
-place_in x (y ∷ xs) (inl same) = (0, ap Some same)
-place_in x (y ∷ xs) (inr h) = let later = place_in x xs h in (suc later.0, later.1)
 
 none_passes : {A : Type 0} (p : A → Bool) (xs : List A) → ((x : A) → In x xs → p x ≡ false) → find p xs ≡ None
 none_passes p [] h = refl
@@ -34,10 +30,6 @@ OfOneFamily p ks = (a b : Kept) → In a ks → In b ks → p a ≡ true → p b
 if_of_family : Family → Kept → Option Kept
 if_of_family f k = cond (is_of_family f k) (Some k) None
 
-and_false : (b : Bool) → (b && false) ≡ false
-and_false true = refl
-and_false false = refl
-
 none_of_family : (f : Family) (p : Kept → Bool) (k : Kept) (ks : List Kept) → OfOneFamily p (k ∷ ks) → p k ≡ true → is_of_family f k ≡ false
     → find (λ j. is_of_family f j && p j) ks ≡ None
 none_of_family f p k ks one e other = none_passes (λ j. is_of_family f j && p j) ks (λ j i. at j i (p j) refl)
@@ -46,7 +38,7 @@ none_of_family f p k ks one e other = none_passes (λ j. is_of_family f j && p j
     at j i true h =
         let not_of : is_of_family f j ≡ false = ap (λ g. family_number g == family_number f) (one j k (inr i) (inl refl) h e) ∙ other in
         ap (λ b. b && p j) not_of
-    at j i false h = ap (λ b. is_of_family f j && b) h ∙ and_false (is_of_family f j)
+    at j i false h = ap (λ b. is_of_family f j && b) h ∙ and-false (is_of_family f j)
 
 only_family : (f : Family) (p : Kept → Bool) (ks : List Kept) → OfOneFamily p ks → option_and_then (if_of_family f) (find p ks) ≡ find (λ k. is_of_family f k && p k) ks
 unfolding if_of_family
@@ -65,7 +57,7 @@ only_family f p (k ∷ ks) one = at (p k) refl (is_of_family f k) refl (only_fam
 id_there : (π : Preference) (t : Data) (id : List ℕ) (k : Kept) → In k (kept_objects π t) → keeps_id id k ≡ true → (i : ℕ) × (id_in k.family t i ≡ Some id)
 id_there π t id k i h =
     let among = In-filter_kept (is_of_family k.family) k (kept_objects π t) i (itself (family_number k.family)) in
-    let place = place_in k (those_of k.family (kept_objects π t)) among in
+    let place = place_of k (those_of k.family (kept_objects π t)) among in
     let same = same_id_from k.id (Some id) h in
     (place.0, sym (kept_part π (λ j. j.id) k.family t place.0) ∙ ap (option_and_then (λ (j : Kept). j.id)) place.1 ∙ same.1 ∙ sym same.2)
 

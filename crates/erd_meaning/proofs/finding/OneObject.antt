@@ -4,6 +4,7 @@ use Rattle.std.specs.List.{position, position_from, slice_get}
 use Rattle.std.specs.List.Sorted.{IsStrictlySortedBy}
 use Rattle.std.proofs.lemmas.Iterator.Adapters.{position_from-zero}
 use Rattle.std.proofs.lemmas.Option.{slice_get-map}
+use Rattle.std.proofs.lemmas.Bool.{cases_order}
 use Rattle.serde_json.specs.Data.{Data}
 use Rattle.erd_tables.specs.Places.{place_cmp}
 use Rattle.erd_tables.specs.declared.class.Family.{Family}
@@ -17,7 +18,7 @@ use Rattle.erd_meaning.specs.Objects.{Placed, id_of, objects}
 use Rattle.erd_meaning.specs.code.ObjectWalk.{Located, Met, all_located, an_election, an_object, located, located_one}
 use Rattle.erd_meaning.specs.Keys.{Preference, key_of_family_object}
 use Rattle.erd_meaning.specs.declared.keys.key.Key.{Key}
-use Rattle.erd_meaning.proofs.identity.KeyTests.{kept_keyed}
+use Rattle.erd_meaning.proofs.identity.IdentityFaults.{kept_keyed}
 use Rattle.erd_meaning.proofs.identity.MetSources.{is_met}
 use Rattle.erd_meaning.proofs.identity.ObjectFamilies.{is_of, objects_met}
 use Rattle.erd_meaning.proofs.identity.ObjectPlaces.{AreApart, all_parted, apart, id_place}
@@ -85,9 +86,6 @@ before_in π f t i j a b l =
     before_apart (located_one π f a.one) (located_one π f b.one)
     (sorted_at apart (located π f (objects f t)) i j (located_one π f a.one) (located_one π f b.one) (family_apart π f t) l (located_at π f t i a) (located_at π f t j b))
 
-pub which_first : (i j : ℕ) → (i ≡ j) ⊎ ((i < j) ⊎ (j < i))
-which_first i j = grind arith
-
 -- ---- one key
 
 two_keys : (π : Preference) (t : Data) (f : Family) (key : Key) (i j : ℕ) (a : ObjectIn f t i) (b : ObjectIn f t j) → NoneOf (IdentityFault π t) → i < j
@@ -113,7 +111,7 @@ pub one_key : (π : Preference) (t : Data) (f : Family) (key : Key) (i j : ℕ) 
 one_key π t f key i j none e g =
     let a = with_part (λ o. key_of_family_object π f o.value) f t i key e in
     let b = with_part (λ o. key_of_family_object π f o.value) f t j key g in
-    elim (which_first i j) [
+    elim (cases_order i j) [
       | inl same ↦ same
       | inr (inl l) ↦ absurd (two_keys π t f key i j a.0 b.0 none l a.1 b.1)
       | inr (inr l) ↦ absurd (two_keys π t f key j i b.0 a.0 none l b.1 a.1)
@@ -139,7 +137,7 @@ two_ids π t id f g i j a b none l d e =
     })
 
 same_position : (π : Preference) (t : Data) (f : Family) (i j : ℕ) (a : ObjectIn f t i) (b : ObjectIn f t j) → a.one.place ≡ b.one.place → i ≡ j
-same_position π t f i j a b e = elim (which_first i j) [
+same_position π t f i j a b e = elim (cases_order i j) [
   | inl same ↦ same
   | inr (inl l) ↦ absurd (less_itself b.one.place (subst (λ p. place_cmp p b.one.place ≡ Less) e (before_in π f t i j a b l)))
   | inr (inr l) ↦ absurd (less_itself b.one.place (subst (λ p. place_cmp b.one.place p ≡ Less) e (before_in π f t j i b a l)))

@@ -2,7 +2,7 @@
 use Rattle.std.proofs.Common.{◌≡◌, ◌==◌, ◌&&◌, ℕ, true, rules}
 use Rattle.std.specs.Cmp.{Equal-is}
 use Rattle.std.specs.Ordering.{is_eq}
-use Rattle.erd_check.proofs.Reasons.{and_true}
+use Rattle.std.proofs.lemmas.Bool.{and_parts}
 use Rattle.erd_tables.specs.Classes.{family_number}
 use Rattle.erd_tables.specs.declared.class.Family.{Family}
 use Rattle.erd_tables.specs.contracts.class.FamilyPartialEq as family_eq
@@ -30,5 +30,5 @@ owned_asked salt n f k e i o = (e i == o.number) && owned_test f k i o.key
 -- what passes is one
 pub owned_exact : (f g : Family) (k l : Key) → same_owned (f, k) (g, l) ≡ true → (f ≡ g) × (k ≡ l)
 owned_exact f g k l e =
-    let both = and_true (family_number f == family_number g) (is_eq (key_cmp k l)) e in
+    let both = and_parts (family_number f == family_number g) (is_eq (key_cmp k l)) e in
     (family_exact f g both.0, key_cmp_exact k l ((Equal-is (key_cmp k l)).0 both.1))

@@ -1,11 +1,12 @@
 -- What an `@id` names is the object that is found by it, if it is of the family that is asked for.
-use Rattle.std.proofs.Common.{◌≡◌, ◌==◌, ℕ, suc, List, [], ◌∷◌, true, false, true≢false, Option, Some, None, option_and_then, zero, refl, sym, ap, ◌∙◌, subst}
+use Rattle.std.proofs.Common.{◌≡◌, ◌==◌, ℕ, List, ◌∷◌, true, false, true≢false, Option, Some, None, option_and_then, refl, sym, ap, ◌∙◌, subst}
 use Rattle.std.proofs.lemmas.Option.{some_pair_parts}
 use Rattle.std.specs.List.{slice_get}
 use Rattle.serde_json.specs.Data.{Data}
 use Rattle.erd_tables.specs.Classes.{family_number}
 use Rattle.erd_tables.specs.declared.class.Family.{Family}
-use Rattle.erd_check.proofs.Rising.{Has, here, later}
+use Rattle.erd_check.proofs.Rising.{Has}
+use Rattle.erd_check.proofs.Positions.{has_at, position_of}
 use Rattle.erd_meaning.proofs.identity.ObjectFamilies.{family_exact, itself}
 use Rattle.erd_meaning.proofs.finding.OneObject.{with_part}
 use Rattle.erd_meaning.proofs.accepted.References.{find-any, find-Some}
@@ -15,16 +16,6 @@ use Rattle.erd_meaning.specs.Lookups.{FindsId, id_in}
 use Rattle.erd_meaning.specs.Objects.{Placed, has_id, id_of, objects, owner_at}
 
 -- ---- positions in lists
-
-pub has_at : {A : Type 0} (xs : List A) (i : ℕ) (x : A) → slice_get xs i ≡ Some x → Has xs x
-has_at [] i x e = cc
-has_at (y ∷ ys) zero x e = let same : y ≡ x = cc in subst (Has (y ∷ ys)) same here
-has_at (y ∷ ys) (suc i) x e = later (has_at ys i x e)
-
--- an entry of a list stands at a position
-pub position_of : {A : Type 0} (xs : List A) (x : A) → Has xs x → (i : ℕ) × (slice_get xs i ≡ Some x)
-position_of xs x (here {xs = ys}) = (0, refl)
-position_of xs x (later {y = y} {xs = ys} h) = let r = position_of ys x h in (suc r.0, r.1)
 
 -- ---- the object that has the `@id`
 

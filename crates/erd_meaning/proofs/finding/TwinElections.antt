@@ -2,6 +2,7 @@
 use Rattle.std.proofs.Common.{◌≡◌, ◌<◌, ℕ, inl, inr, map, Some, option_map, refl, ap, ◌∙◌, subst}
 use Rattle.std.specs.List.{slice_get}
 use Rattle.std.proofs.lemmas.Option.{slice_get-map}
+use Rattle.std.proofs.lemmas.Bool.{cases_order}
 use Rattle.serde_json.specs.Data.{Data}
 use Rattle.erd_tables.specs.declared.class.Role.TheVariants as role
 use Rattle.erd_tables.specs.declared.fault.Reason.TheVariants.{TwinIdentifier}
@@ -12,7 +13,7 @@ use Rattle.erd_meaning.specs.LaterFaults.{IdentityFault, IsBefore}
 use Rattle.erd_meaning.specs.Objects.{Placed, elections, has_several}
 use Rattle.erd_meaning.specs.code.ObjectWalk.{all_located, located_election}
 use Rattle.erd_meaning.specs.declared.keys.key.Key.{Key}
-use Rattle.erd_meaning.proofs.finding.OneObject.{in_at, sorted_at, which_first}
+use Rattle.erd_meaning.proofs.finding.OneObject.{in_at, sorted_at}
 use Rattle.erd_meaning.proofs.identity.MetElections.{elections_picked, is_election}
 use Rattle.erd_meaning.proofs.identity.ObjectPlaces.{AreApart, all_parted, apart}
 use Rattle.erd_meaning.proofs.identity.ToldFaults.{before_apart}
@@ -47,7 +48,7 @@ module _ (π : Preference) (t : Data) where
   -- elections with one key stand at one position
   pub one_election_key : NoneOf (IdentityFault π t) → (i j : ℕ) (d e : Placed) (k : Key) → slice_get (elections t) i ≡ Some d → slice_get (elections t) j ≡ Some e
       → key_of π d.value ≡ Some k → key_of π e.value ≡ Some k → i ≡ j
-  one_election_key none i j d e k at there mine its = elim (which_first i j) [
+  one_election_key none i j d e k at there mine its = elim (cases_order i j) [
     | inl same ↦ same
     | inr (inl l) ↦ absurd (two_keys none i j d e k at there l mine its)
     | inr (inr l) ↦ absurd (two_keys none j i e d k there at l its mine)

@@ -1,33 +1,73 @@
 -- The walk over the elections and the objects of a report tells exactly the faults of identity.
-use Rattle.std.proofs.Common.{◌≡◌, inl, inr, List, [], ◌∷◌, ◌++◌, Bool, true, false, cond, true≢false, ◌==◌, is_none, Less, Option, None, Some, refl, sym, ap, ◌∙◌, subst}
+use Rattle.std.proofs.Common.{◌≡◌, ℕ, inl, inr, List, [], ◌∷◌, Bool, true, false, cond, ◌||◌, true≢false, Ordering, Equal, is_eq, Option, Some, None, is_none, refl, sym, ap, ◌++◌, ◌==◌, Less, ◌∙◌, subst}
+use Rattle.std.specs.List.{list_any}
+use Rattle.std.proofs.lemmas.Slice.Eq.{bytes_eq-Decides}
 use Rattle.std.specs.Prelude.{IsTrue}
 use Rattle.std.proofs.lemmas.Cmp.{tied_itself}
-use Rattle.std.proofs.lemmas.Slice.Eq.{bytes_eq-Decides}
+use Rattle.std.proofs.lemmas.Bool.{and_parts, and_from}
 use Rattle.serde_json.specs.Data.{Data}
+use Rattle.erd_tables.specs.declared.class.Family.{Family}
+use Rattle.erd_tables.specs.declared.fault.Fault.{Fault}
 use Rattle.erd_tables.specs.Classes.{family_number}
 use Rattle.erd_tables.specs.Faults.{ListsAll}
 use Rattle.erd_tables.specs.Places.{place_cmp}
-use Rattle.erd_tables.specs.declared.class.Family.{Family}
 use Rattle.erd_tables.specs.declared.class.Role.{Role}
-use Rattle.erd_tables.specs.declared.class.Role.TheVariants as role
-use Rattle.erd_tables.specs.declared.fault.Fault.{Fault}
 use Rattle.erd_tables.specs.declared.fault.Reason.{Reason}
 use Rattle.erd_tables.specs.declared.fault.Reason.TheVariants.{NoIdentifier, TwinIdentifier, DuplicateId}
 use Rattle.erd_tables.specs.declared.place.Step.{Step}
-use Rattle.erd_check.specs.Paths.{fault_at}
+use Rattle.erd_tables.specs.declared.class.Role.TheVariants as role
 use Rattle.erd_check.proofs.Order.{In, In-append, In-append_left, In-append_right, In-from_contains, contains_from_In, any_at}
-use Rattle.erd_check.proofs.Reasons.{and_true, both_true}
-use Rattle.erd_meaning.specs.Keys.{Preference, has_keys, is_keyed_role, key_of, key_of_family_object}
+use Rattle.erd_check.specs.Paths.{fault_at}
+use Rattle.erd_meaning.specs.Keys.{Preference, has_keys, key_of, key_of_family_object, is_keyed_role}
+use Rattle.erd_meaning.specs.code.ObjectWalk.{fault_if, same_id, same_key, Located, Met, all_located, an_election, an_object, are_named_alike, are_twins, faults_after, is_keyless, kept, located_election, located_one}
+use Rattle.erd_meaning.specs.code.Orders.{key_cmp_exact, key_cmp_total}
+use Rattle.erd_meaning.specs.declared.keys.key.Key.{Key}
 use Rattle.erd_meaning.specs.LaterFaults.{IdentityFault, LacksIdentifier, RepeatsId, RepeatsKey}
 use Rattle.erd_meaning.specs.Objects.{Placed, elections, has_several, id_of, needs_key, objects, objects_with_role}
-use Rattle.erd_meaning.specs.code.ObjectWalk.{Located, Met, all_located, an_election, an_object, are_named_alike, are_twins, faults_after, is_keyless, kept, located_election, located_one, same_id, same_key}
-use Rattle.erd_meaning.specs.code.Orders.{key_cmp_total}
-use Rattle.erd_meaning.specs.declared.keys.key.Key.{Key}
-use Rattle.erd_meaning.proofs.identity.KeyTests.{any_from, at_true, kept_keyed, none_from, same_id_from, same_key_from}
 use Rattle.erd_meaning.proofs.identity.MetSources.{IsElectionMet, IsObjectMet, election_is_met, is_met, source}
 use Rattle.erd_meaning.proofs.identity.ObjectFamilies.{family_exact, itself}
 use Rattle.erd_meaning.proofs.identity.ObjectPlaces.{all_parted, id_place}
 use Rattle.erd_meaning.proofs.identity.ToldFaults.{Complete, Told, complete, duplicate_id, has_twin, in_if, is_named_before, no_identifier, told, told_rising, told_sound, twin_identifier}
+
+-- ---- what the tests of keys and `@id` texts that the walk makes say of one object or of two
+
+pub any_from : {A : Type 0} (test : A → Bool) (xs : List A) → list_any test xs ≡ true → (x : A) × In x xs × (test x ≡ true)
+any_from test [] h = absurd (true≢false (sym h))
+any_from {A} test (x ∷ xs) h = at (test x) refl h (any_from test xs)
+  where
+    at : (b : Bool) → test x ≡ b → (b || list_any test xs) ≡ true → (list_any test xs ≡ true → (y : A) × In y xs × (test y ≡ true)) → (y : A) × In y (x ∷ xs) × (test y ≡ true)
+    at true e g more = (x, inl refl, e)
+    at false e g more = let found = more g in (found.0, inr found.1, found.2)
+
+keyed_at : (π : Preference) (d : Data) (k : Key) (b : Bool) → cond b (key_of π d) None ≡ Some k → (b ≡ true) × (key_of π d ≡ Some k)
+keyed_at π d k true e = (refl, e)
+keyed_at π d k false e = cc
+
+pub kept_keyed : (π : Preference) (f : Family) (d : Data) (k : Key) → key_of_family_object π f d ≡ Some k → (has_keys f ≡ true) × (key_of π d ≡ Some k)
+kept_keyed π f d k e = keyed_at π d k (has_keys f) e
+
+pub none_from : {A : Type 0} (o : Option A) → is_none o ≡ true → o ≡ None
+none_from None e = refl
+none_from (Some x) e = absurd (true≢false (sym e))
+
+pub tied_from : (o : Ordering) → is_eq o ≡ true → o ≡ Equal
+tied_from Equal e = refl
+tied_from d e = absurd (true≢false (sym e))
+
+-- the one key of two objects
+pub same_key_from : (a b : Option Key) → same_key a b ≡ true → (k : Key) × (a ≡ Some k) × (b ≡ Some k)
+same_key_from None b e = absurd (true≢false (sym e))
+same_key_from (Some a) None e = absurd (true≢false (sym e))
+same_key_from (Some a) (Some b) e = (a, refl, ap Some (sym (key_cmp_exact a b (tied_from _ e))))
+
+pub same_id_from : (a b : Option (List ℕ)) → same_id a b ≡ true → (s : List ℕ) × (a ≡ Some s) × (b ≡ Some s)
+same_id_from None b e = absurd (true≢false (sym e))
+same_id_from (Some a) None e = absurd (true≢false (sym e))
+same_id_from (Some a) (Some b) e = (a, refl, ap Some (sym ((bytes_eq-Decides a b).0 e)))
+
+pub at_true : (b : Bool) (f : Fault) → b ≡ true → In f (fault_if b f)
+at_true true f e = inl refl
+at_true false f e = absurd (true≢false (sym e))
 
 -- what is met of an object of a family, and of an election
 abbrev object_here : Preference → Family → Placed → Met
@@ -48,7 +88,7 @@ earlier_place p {x} {y} e less = subst (λ q. place_cmp q p ≡ Less) (sym (ap (
 module _ (π : Preference) (t : Data) (f : Family) (o : Placed) (there : In o (objects f t)) where
   lacking : is_keyless (object_here π f o) ≡ true → LacksIdentifier π t o.place
   lacking e =
-      let both = and_true (has_keys f) (is_none (key_of_family_object π f o.value)) e in
+      let both = and_parts (has_keys f) (is_none (key_of_family_object π f o.value)) e in
       record {
         role = role.OfFamily f;
         needed = both.0;
@@ -62,7 +102,7 @@ module _ (π : Preference) (t : Data) (f : Family) (o : Placed) (there : In o (o
   twin_object y other less e =
       let g = other.family in
       let twins : are_twins (object_here π f o) (object_here π g other.one) ≡ true = ap (λ (z : Located). are_twins (object_here π f o) z.met) other.is ∙ e in
-      let both = and_true (family_number f == family_number g) (same_key (key_of_family_object π f o.value) (key_of_family_object π g other.one.value)) twins in
+      let both = and_parts (family_number f == family_number g) (same_key (key_of_family_object π f o.value) (key_of_family_object π g other.one.value)) twins in
       let family : f ≡ g = family_exact f g both.0 in
       let key = same_key_from (key_of_family_object π f o.value) (key_of_family_object π g other.one.value) both.1 in
       let mine = kept_keyed π f o.value key.0 key.1 in
@@ -124,7 +164,7 @@ module _ (π : Preference) (t : Data) (f : Family) (o : Placed) (there : In o (o
 module _ (π : Preference) (t : Data) (e : Placed) (there : In e (elections t)) where
   lacking_election : is_keyless (election_here π t e) ≡ true → LacksIdentifier π t e.place
   lacking_election h =
-      let both = and_true (has_several t) (is_none (key_of π e.value)) h in
+      let both = and_parts (has_several t) (is_none (key_of π e.value)) h in
       record {
         role = role.Election;
         needed = both.0;
@@ -253,10 +293,10 @@ lacking_told : (π : Preference) (t : Data) (r : Role) (o : Placed) → IsTrue (
     → In (fault_at o.place NoIdentifier) (identity_told π t)
 lacking_told π t (role.OfFamily f) o needed i keyless =
     let missing : key_of_family_object π f o.value ≡ None = rw (needed, keyless) in
-    tells_lack π t (located_one π f o) (completed π t (located_one π f o) (is_met π t f o i)) (both_true (has_keys f) (is_none (key_of_family_object π f o.value)) needed (ap is_none missing))
+    tells_lack π t (located_one π f o) (completed π t (located_one π f o) (is_met π t f o i)) (and_from (has_keys f) (is_none (key_of_family_object π f o.value)) needed (ap is_none missing))
 lacking_told π t role.Election o needed i keyless =
     let x = located_election π (has_several t) o in
-    tells_lack π t x (completed π t x (election_is_met π t o i)) (both_true (has_several t) (is_none (key_of π o.value)) needed (ap is_none keyless))
+    tells_lack π t x (completed π t x (election_is_met π t o i)) (and_from (has_several t) (is_none (key_of π o.value)) needed (ap is_none keyless))
 lacking_told π t r o needed i keyless = absurd i
 
 key_told : (π : Preference) (t : Data) (r : Role) (o p : Placed) (k : Key) → IsTrue (is_keyed_role r) → In o (objects_with_role r t) → In p (objects_with_role r t)
@@ -266,7 +306,7 @@ key_told π t (role.OfFamily f) o p k keyed i j less a b =
     let its : key_of_family_object π f p.value ≡ Some k = rw (keyed, b) in
     let one : same_key (key_of_family_object π f o.value) (key_of_family_object π f p.value) ≡ true = rw (mine, its, tied_itself key_cmp_total k) in
     tells_twin π t (located_one π f o) (located_one π f p) (completed π t (located_one π f o) (is_met π t f o i)) (is_met π t f p j) less
-    (both_true (family_number f == family_number f) (same_key (key_of_family_object π f o.value) (key_of_family_object π f p.value)) (itself (family_number f)) one)
+    (and_from (family_number f == family_number f) (same_key (key_of_family_object π f o.value) (key_of_family_object π f p.value)) (itself (family_number f)) one)
 key_told π t role.Election o p k keyed i j less a b =
     let x = located_election π (has_several t) o in
     let y = located_election π (has_several t) p in

@@ -1,20 +1,13 @@
 -- The walk over the elections and the objects of a report, as lists: what it has met, and what it has told.
-use Rattle.std.proofs.Common.{◌≡◌, List, [], ◌∷◌, ◌++◌, map, Bool, false, ◌&&◌, ◌||◌, is_none, Option, Some, None, refl, sym, ap, ap₂, ◌∙◌, append_assoc, append-nil}
-use Rattle.std.specs.List.{cons_option, filter_map, list_any}
+use Rattle.std.proofs.Common.{◌≡◌, List, [], ◌∷◌, ◌++◌, map, Bool, false, ◌&&◌, ◌||◌, is_none, Option, refl, sym, ap, ap₂, ◌∙◌, append_assoc, append-nil}
+use Rattle.std.specs.List.{list_any}
+use Rattle.std.proofs.lemmas.List.Elements.{filter_map-append}
 use Rattle.erd_meaning.specs.Keys.{has_keys}
 use Rattle.erd_meaning.specs.code.ObjectWalk.{Kept, Located, Met, ObjectsMet, an_election, an_object, are_named_alike, are_twins, elections_among, election_met, faults_after, faults_told, has_same_id, has_same_key, met_all, met_one, object_met, objects_among, same_key}
 use Rattle.erd_meaning.specs.declared.keys.key.Key.{Key}
 use Rattle.erd_meaning.proofs.identity.ToldFaults.{told}
 
 -- ---- what has been met
-
-pub filter_map-append : {A B : Type 0} (f : A → Option B) (xs ys : List A) → filter_map f (xs ++ ys) ≡ filter_map f xs ++ filter_map f ys
-filter_map-append f [] ys = refl
-filter_map-append {A} {B} f (x ∷ xs) ys = at (f x) (filter_map-append f xs ys)
-  where
-    at : (o : Option B) → filter_map f (xs ++ ys) ≡ filter_map f xs ++ filter_map f ys → cons_option o (filter_map f (xs ++ ys)) ≡ cons_option o (filter_map f xs) ++ filter_map f ys
-    at None e = e
-    at (Some y) e = ap (λ zs. y ∷ zs) e
 
 -- the objects and the keys of the elections are those that were met
 record AreAmong (m : ObjectsMet) (earlier : List Met) : Type 0 where

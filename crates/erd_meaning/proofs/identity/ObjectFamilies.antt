@@ -70,13 +70,7 @@ of_contest f o = []
 in_contest : (π : Preference) (f : Family) (o : Placed) → pick f (contest_located π o) ≡ located π f (of_contest f o)
 in_contest π family.Contest o = ap (λ xs. located_one π family.Contest o ∷ xs) (passed π family.Contest family.Selection refl (selections_of_contest o))
 in_contest π family.Selection o = picked π family.Selection (selections_of_contest o)
-in_contest π family.Unit o = passed π family.Unit family.Selection refl (selections_of_contest o)
-in_contest π family.Party o = passed π family.Party family.Selection refl (selections_of_contest o)
-in_contest π family.Person o = passed π family.Person family.Selection refl (selections_of_contest o)
-in_contest π family.Office o = passed π family.Office family.Selection refl (selections_of_contest o)
-in_contest π family.Header o = passed π family.Header family.Selection refl (selections_of_contest o)
-in_contest π family.Candidate o = passed π family.Candidate family.Selection refl (selections_of_contest o)
-in_contest π family.Style o = passed π family.Style family.Selection refl (selections_of_contest o)
+in_contest π d o = passed π d family.Selection refl (selections_of_contest o)
 
 abbrev of_contests : Family → List Placed → List Placed
 of_contests f os = flat_map (of_contest f) os
@@ -181,11 +175,7 @@ nested_flat h k [] = refl
 nested_flat h k (o ∷ os) = ap (λ xs. flat_map h (k o) ++ xs) (nested_flat h k os) ∙ sym (flat-append h (k o) (flat_map k os))
 
 objects_are : (f : Family) (t : Data) → flat_map (of_election f) (elections t) ++ of_shared f (report_of t) ≡ objects f t
-objects_are family.Unit t = shared_alone family.Unit t _ (no_contest family.Unit (λ o. refl)) (append-nil _)
-objects_are family.Party t = shared_alone family.Party t _ (no_contest family.Party (λ o. refl)) (append-nil _)
 objects_are family.Person t = shared_alone family.Person t _ (no_contest family.Person (λ o. refl)) refl
-objects_are family.Office t = shared_alone family.Office t _ (no_contest family.Office (λ o. refl)) (append-nil _)
-objects_are family.Header t = shared_alone family.Header t _ (no_contest family.Header (λ o. refl)) (append-nil _)
 objects_are family.Candidate t =
     election_alone family.Candidate t (placed_entries (codes "Candidate")) (λ e. ap (λ xs. placed_entries (codes "Candidate") e ++ xs) (no_contest family.Candidate (λ o. refl) e) ∙ append-nil _) refl
 objects_are family.Contest t = election_alone family.Contest t (placed_entries (codes "Contest")) (λ e. each-flat (placed_entries (codes "Contest") e)) refl
@@ -194,6 +184,7 @@ objects_are family.Style t =
 objects_are family.Selection t =
     election_alone family.Selection t (λ e. flat_map selections_of_contest (placed_entries (codes "Contest") e)) (λ e. refl) refl
     ∙ nested_flat selections_of_contest (placed_entries (codes "Contest")) (elections t)
+objects_are d t = shared_alone d t _ (no_contest d (λ o. refl)) (append-nil _)
 
 -- the objects of a family, as the walk meets them
 pub objects_met : (π : Preference) (f : Family) (t : Data) → pick f (all_located π t) ≡ located π f (objects f t)

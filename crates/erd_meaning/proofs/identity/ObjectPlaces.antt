@@ -1,5 +1,5 @@
 -- The elections and the objects that the walk meets stand apart: the place of the `@id` of each comes before the places of all later ones.
-use Rattle.std.proofs.Common.{◌≡◌, ℕ, ◌+◌, ◌<◌, ◌≤◌, Bool, inl, inr, List, [], ◌∷◌, ◌++◌, codes, Ordering, Less, nat_cmp, refl, sym, ap, ap₂, ◌∙◌, subst, append_assoc, append-nil, arith}
+use Rattle.std.proofs.Common.{◌≡◌, ℕ, ◌+◌, ◌<◌, ◌≤◌, Bool, inl, inr, List, [], ◌∷◌, ◌++◌, codes, Ordering, Less, refl, sym, ap, ap₂, ◌∙◌, subst, append_assoc, append-nil, arith}
 use Rattle.std.specs.List.{AllByRecursion, flat_map}
 use Rattle.std.specs.List.Sorted.{IsStrictlySortedBy}
 use Rattle.serde_json.specs.Data.{Data}
@@ -11,6 +11,7 @@ use Rattle.erd_tables.specs.declared.place.Step.{Step}
 use Rattle.erd_tables.specs.declared.place.Step.TheVariants.{Name, At}
 use Rattle.erd_tables.proofs.PlaceOrder.{steps_less}
 use Rattle.erd_check.proofs.Order.{In, In-append, Below, all_from_In, sorted_append}
+use Rattle.erd_check.proofs.Steps.{at_less}
 use Rattle.erd_meaning.specs.Keys.{Preference}
 use Rattle.erd_meaning.specs.code.ObjectWalk.{Located, located, located_election, located_one, contest_located, election_located, inside_election, shared_located, all_located}
 use Rattle.erd_meaning.specs.Objects.{Placed, placed_from, placed_entries, elections, has_several, selections_of_contest, report_of}
@@ -76,9 +77,6 @@ in_entries f inside p i (d ∷ ds) x h =
       | inl a ↦ first_entry p i x (inside o x a)
       | inr b ↦ later_entry p i x (in_entries f inside p (i + 1) ds x b)
     ]
-
-at_less : (i j : ℕ) → i < j → nat_cmp i j ≡ Less
-at_less i j h = grind arith
 
 parted_entries : (f : Placed → List Located) → Inside f → Parted f → (p : List Step) (i : ℕ) (ds : List Data) → AreApart (flat_map f (placed_from p i ds))
 unfolding IsStrictlySortedBy

@@ -4,7 +4,7 @@ use Rattle.serde_json.specs.Data.{Data}
 use Rattle.erd_tables.specs.Faults.{ListsAll}
 use Rattle.erd_tables.specs.declared.fault.Fault.{Fault}
 use Rattle.erd_check.specs.Faults.{NoneOf}
-use Rattle.erd_check.proofs.FaultLists.{none_from_empty}
+use Rattle.erd_check.proofs.Deciding.{none_from_empty}
 use Rattle.erd_meaning.specs.Keys.{Preference}
 use Rattle.erd_meaning.specs.LaterFaults.{IdentityFault}
 use Rattle.erd_meaning.specs.code.ObjectWalk.{ObjectsMet, all_located, election_keys, kept_objects, met_all}

@@ -7,7 +7,7 @@ use Rattle.erd_meaning.specs.code.ElectionKeys.{AreSeen, is_seen, seen_with}
 use Rattle.erd_meaning.specs.code.ObjectWalk.{same_key}
 use Rattle.erd_meaning.specs.code.Orders.{key_cmp_exact}
 use Rattle.erd_meaning.specs.declared.keys.key.Key.{Key}
-use Rattle.erd_meaning.proofs.identity.KeyTests.{tied_from}
+use Rattle.erd_meaning.proofs.identity.IdentityFaults.{tied_from}
 
 any-append : {A : Type 0} (test : A → Bool) (xs : List A) (x : A) → list_any test (xs ++ x ∷ []) ≡ (list_any test xs || test x)
 any-append test [] x = at (test x)
@@ -30,7 +30,7 @@ seen_is keys seen None are = none keys
     none (k ∷ ks) = none ks
 seen_is keys seen (Some key) are = are key
 
-or_same : (a b : Bool) → (b ≡ true → a ≡ true) → a ≡ (a || b)
+pub or_same : (a b : Bool) → (b ≡ true → a ≡ true) → a ≡ (a || b)
 or_same true b h = refl
 or_same false true h = h refl
 or_same false false h = refl

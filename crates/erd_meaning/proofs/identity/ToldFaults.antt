@@ -181,7 +181,7 @@ from_there : (r q : List Step) (g : Fault) → IsNear q g → place_cmp r q ≡ 
 from_there r q g (inl e) less = subst (λ s. place_cmp r s ≡ Less) e less
 from_there r q g (inr e) less = subst (λ s. place_cmp r s ≡ Less) e (place_cmp_total.trans r q (id_place q) less (start_less q _ []))
 
-earlier_fault : (f g : Fault) → place_cmp f.place g.place ≡ Less → fault_cmp f g ≡ Less
+pub earlier_fault : (f g : Fault) → place_cmp f.place g.place ≡ Less → fault_cmp f g ≡ Less
 earlier_fault f g e = rw e
 
 pub told_rising : (earlier : List Met) (xs : List Located) → AreApart xs → IsStrictlySortedBy fault_cmp (told earlier xs)

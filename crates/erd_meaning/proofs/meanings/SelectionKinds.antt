@@ -66,17 +66,6 @@ selections_family class.RetentionContest f e is = cc
 selections_family class.PartyContest f e is = cc
 selections_family c f e is = cc
 
--- a class whose member holds selections is that of contests
-pub selections_role : (c : Class) (name : List ℕ) → is_selections (kind_of_member c name) ≡ true → role_of_class c ≡ role.OfFamily family.Contest
-selections_role c name is = at c (subst (λ n. is_selections (kind_of_member c n) ≡ true) (selections_name c name is) is)
-  where
-    at : (c : Class) → is_selections (kind_of_member c (codes "ContestSelection")) ≡ true → role_of_class c ≡ role.OfFamily family.Contest
-    at class.CandidateContest e = refl
-    at class.BallotMeasureContest e = refl
-    at class.RetentionContest e = refl
-    at class.PartyContest e = refl
-    at c e = cc
-
 -- the class of an object has the role that is asked for
 pub class_role : (r : Role) (d : Data) (c : Class) → class_of_object r d ≡ Some c → role_of_class c ≡ r
 class_role r d c e = at (option_and_then as_str (get (codes "@type") d)) e

@@ -1,9 +1,8 @@
--- How many entries of a list pass a test: whatever their order, after a map, and where the entries that pass stand first.
-use Rattle.std.proofs.Common.{◌≡◌, ◌<◌, ◌≤◌, ℕ, zero, suc, inl, inr, List, [], ◌∷◌, map, filter, length, Bool, true, false, cond, Ordering, is_lt, refl, sym, ap, ◌∙◌, arith}
-use Rattle.std.specs.List.{slice_index_or}
-use Rattle.std.specs.List.Sorted.{IsPartitionPoint}
+-- How many entries of a list pass a test: whatever their order, and after a map.
+use Rattle.std.proofs.Common.{◌≡◌, ◌<◌, ◌≤◌, suc, inl, inr, List, [], ◌∷◌, map, filter, length, Bool, true, false, cond, Ordering, refl, sym, ap, ◌∙◌, arith}
 use Rattle.erd_check.proofs.Order.{In}
-use Rattle.erd_meaning.specs.SelectionNames.{rising_list, with_inserted}
+use Rattle.erd_meaning.specs.SelectionNames.{rising_list}
+use Rattle.erd_meaning.proofs.orders.Reordered.{count-reordered, reordered_rising}
 
 -- ---- a test that passes more
 
@@ -43,57 +42,6 @@ pub count_map : {A B : Type 0} (f : A → B) (test : B → Bool) (xs : List A) �
 count_map f test [] = refl
 count_map f test (x ∷ xs) = count_map_at f x (filter (λ x. test (f x)) xs) (filter test (map f xs)) (test (f x)) (count_map f test xs)
 
--- ---- in rising order
-
--- one more, or not
-abbrev with_one : Bool → ℕ → ℕ
-with_one b n = cond b (suc n) n
-
-counted : {A : Type 0} (x : A) (xs : List A) (b : Bool) → length (cond b (x ∷ xs) xs) ≡ with_one b (length xs)
-counted x xs true = refl
-counted x xs false = refl
-
-one_first : {A : Type 0} (test : A → Bool) (x : A) (xs : List A) → length (filter test (x ∷ xs)) ≡ with_one (test x) (length (filter test xs))
-one_first test x xs = counted x (filter test xs) (test x)
-
-exchanged : (a b : Bool) (n : ℕ) → with_one a (with_one b n) ≡ with_one b (with_one a n)
-exchanged true true n = refl
-exchanged true false n = refl
-exchanged false true n = refl
-exchanged false false n = refl
-
-count_inserted : {A : Type 0} (cmp : A → A → Ordering) (test : A → Bool) (x : A) (ys : List A) → length (filter test (with_inserted cmp x ys)) ≡ with_one (test x) (length (filter test ys))
-count_inserted cmp test x [] = one_first test x []
-count_inserted cmp test x (y ∷ ys) = at (is_lt (cmp y x)) (count_inserted cmp test x ys)
-  where
-    at : (b : Bool) → length (filter test (with_inserted cmp x ys)) ≡ with_one (test x) (length (filter test ys))
-        → length (filter test (cond b (y ∷ with_inserted cmp x ys) (x ∷ (y ∷ ys)))) ≡ with_one (test x) (length (filter test (y ∷ ys)))
-    at true h =
-        one_first test y (with_inserted cmp x ys) ∙ ap (with_one (test y)) h ∙ exchanged (test y) (test x) (length (filter test ys))
-        ∙ ap (with_one (test x)) (sym (one_first test y ys))
-    at false h = one_first test x (y ∷ ys)
-
--- how many entries pass a test
+-- how many entries pass a test, in rising order
 pub count-rising : {A : Type 0} (cmp : A → A → Ordering) (test : A → Bool) (xs : List A) → length (filter test (rising_list cmp xs)) ≡ length (filter test xs)
-count-rising cmp test [] = refl
-count-rising cmp test (x ∷ xs) = count_inserted cmp test x (rising_list cmp xs) ∙ ap (with_one (test x)) (count-rising cmp test xs) ∙ sym (one_first test x xs)
-
--- ---- where the entries that pass stand first
-
--- the entries before a point pass, and the others fail
-abbrev Parted : {A : Type 0} → (A → Bool) → List A → ℕ → Type 0
-Parted test xs r = IsPartitionPoint (λ y. test y ≡ true) (λ y. test y ≡ false) xs r
-
-none_passes : {A : Type 0} (test : A → Bool) (xs : List A) → ((k : ℕ) (d : A) → k < length xs → test (slice_index_or xs k d) ≡ false) → length (filter test xs) ≡ 0
-none_passes test [] fail = refl
-none_passes test (x ∷ xs) fail =
-    one_first test x xs ∙ ap (λ b. with_one b (length (filter test xs))) (fail 0 x (omega arith)) ∙ none_passes test xs (λ k d low. fail (suc k) d (omega (arith, low)))
-
--- as many pass as stand before the point
-pub count_parted : {A : Type 0} (test : A → Bool) (xs : List A) (r : ℕ) → r ≤ length xs → Parted test xs r → length (filter test xs) ≡ r
-count_parted test [] r low h = let empty : 0 ≡ r = omega (arith, low) in empty
-count_parted test (x ∷ xs) zero low h = none_passes test (x ∷ xs) (λ k d less. h.1 k d (omega arith) less)
-count_parted test (x ∷ xs) (suc r) low h =
-    let passes : test x ≡ true = h.0 0 x (omega arith) (omega arith) in
-    let rest : Parted test xs r = (λ k d a b. h.0 (suc k) d (omega arith) (omega (arith, b)), λ k d a b. h.1 (suc k) d (omega (arith, a)) (omega (arith, b))) in
-    one_first test x xs ∙ ap (λ b. with_one b (length (filter test xs))) passes ∙ ap suc (count_parted test xs r (omega (arith, low)) rest)
+count-rising cmp test xs = sym (count-reordered test (reordered_rising cmp xs))

@@ -6,11 +6,11 @@ use Rattle.std.specs.Option.{option_cmp}
 use Rattle.std.specs.Ordering.{ordering_reverse}
 use Rattle.erd_check.proofs.Order.{In}
 use Rattle.erd_check.proofs.Steps.{at_less}
+use Rattle.erd_check.proofs.Deciding.{less}
 use Rattle.erd_meaning.specs.Keys.{key_cmp}
 use Rattle.erd_meaning.specs.code.Orders.{key_cmp_exact, key_cmp_total}
 use Rattle.erd_meaning.specs.declared.keys.key.Key.{Key}
 use Rattle.erd_meaning.proofs.orders.Counted.{more_pass}
-use Rattle.erd_meaning.proofs.orders.InsertedValues.{is_less}
 
 module _ {A : Type 0} (key : A → Option Key) (xs : List A) where
   -- an entry has the key
@@ -26,11 +26,11 @@ module _ {A : Type 0} (key : A → Option Key) (xs : List A) where
   counted_rank k = length (filter (below k) xs)
 
   below_later : (k l : Key) → key_cmp k l ≡ Less → (x : A) → below k x ≡ true → below l x ≡ true
-  below_later k l less x h = at (key x) h
+  below_later k l low x h = at (key x) h
     where
       at : (o : Option Key) → is_lt (option_cmp key_cmp o (Some k)) ≡ true → is_lt (option_cmp key_cmp o (Some l)) ≡ true
       at None e = refl
-      at (Some j) e = ap is_lt (key_cmp_total.trans j k l (is_less (key_cmp j k) e) less)
+      at (Some j) e = ap is_lt (key_cmp_total.trans j k l (less (key_cmp j k) e) low)
 
   rank_grows : (k l : Key) → IsKeyOf k → key_cmp k l ≡ Less → counted_rank k < counted_rank l
   rank_grows k l has less =

@@ -3,6 +3,7 @@ use Rattle.std.proofs.Common.{◌≡◌, ◌<◌, ℕ, zero, suc, ◌⊎◌, inl
 use Rattle.std.specs.Cmp.{Equal-is}
 use Rattle.std.specs.List.{IsDistinct}
 use Rattle.std.specs.Ordering.{eq_by_cmp}
+use Rattle.std.proofs.lemmas.Bool.{false_from_ne_true}
 use Rattle.serde_json.specs.Data.{Data, Items, no_items, item}
 use Rattle.serde_json.specs.Find.{get_item}
 use Rattle.erd_check.specs.Trees.{is_same_json}
@@ -11,7 +12,6 @@ use Rattle.erd_check.specs.Wants.{is_repeated}
 use Rattle.erd_check.proofs.Positions.{has_mapped}
 use Rattle.erd_check.proofs.Rising.{Has, Has-cases, all-Has}
 use Rattle.erd_check.proofs.Order.{In, In-all, In-map_from, all_from_In, any_at}
-use Rattle.erd_check.proofs.Shapes.{false_unless}
 
 -- where an entry of a list stands
 pub place_of : {A : Type 0} (x : A) (xs : List A) → In x xs → (i : ℕ) × (slice_get xs i ≡ Some x)
@@ -33,12 +33,7 @@ distinct_from_places test (x ∷ xs) h = (
 pub distinct_from_one_place : {A : Type 0} (test : A → A → Bool) (xs : List A)
     → ((i j : ℕ) (x y : A) → slice_get xs i ≡ Some x → slice_get xs j ≡ Some y → test x y ≡ true → i ≡ j) → IsDistinct test xs
 distinct_from_one_place test xs h =
-    distinct_from_places test xs (λ i j x y l a b. false_unless (test x y) (λ e. let same : i ≡ j = h i j x y a b e in omega arith))
-
--- entries with one part stand at one place
-pub distinct_by_cmp : {A : Type 0} (cmp : A → A → Ordering) (xs : List A)
-    → ((i j : ℕ) (x y : A) → slice_get xs i ≡ Some x → slice_get xs j ≡ Some y → cmp x y ≡ Equal → i ≡ j) → IsDistinct (eq_by_cmp cmp) xs
-distinct_by_cmp cmp xs h = distinct_from_one_place (eq_by_cmp cmp) xs (λ i j x y a b e. h i j x y a b ((Equal-is (cmp x y)).0 e))
+    distinct_from_places test xs (λ i j x y l a b. false_from_ne_true (test x y) (λ e. let same : i ≡ j = h i j x y a b e in omega arith))
 
 -- the values of a map
 pub distinct_map : {A B : Type 0} (f : A → B) (test : B → B → Bool) (xs : List A) → IsDistinct (λ x y. test (f x) (f y)) xs → IsDistinct test (map f xs)
@@ -57,7 +52,7 @@ unfolding IsDistinct
 distinct_less test test' [] less h = tt
 distinct_less test test' (x ∷ xs) less h = (
   all_from_In (λ y. test' x y ≡ false) xs (λ y i.
-      false_unless (test' x y) (λ e. true≢false (sym (less x y (inl refl) (inr i) e) ∙ In-all (λ y. test x y ≡ false) y xs h.0 i))),
+      false_from_ne_true (test' x y) (λ e. true≢false (sym (less x y (inl refl) (inr i) e) ∙ In-all (λ y. test x y ≡ false) y xs h.0 i))),
   distinct_less test test' xs (λ y z i j. less y z (inr i) (inr j)) h.1,
 )
 
@@ -94,7 +89,7 @@ get_item-slice (item v ds) (suc i) d e = get_item-slice ds i d e
 -- no entry is equal to an earlier one
 pub unrepeated_distinct : (ds : Items) → ((i : ℕ) (d : Data) → get_item i ds ≡ Some d → is_repeated ds i d ≡ false) → IsDistinct (λ d e. is_same_json e d) (list_of_items ds)
 unrepeated_distinct ds each = distinct_from_places (λ d e. is_same_json e d) (list_of_items ds) (λ i j d e l a b.
-    false_unless (is_same_json e d) (λ same.
+    false_from_ne_true (is_same_json e d) (λ same.
     true≢false (sym (any_at (is_same_json e) d (take j (list_of_items ds)) (in_taken (list_of_items ds) i j d l a) same) ∙ each j e (get_item-slice ds j e b))))
 
 -- nor compares as equal, where those that do are equal

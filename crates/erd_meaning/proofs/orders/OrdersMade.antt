@@ -13,7 +13,7 @@ use Rattle.erd_meaning.specs.Places.{places_put}
 use Rattle.erd_meaning.proofs.finding.OneObject.{in_at}
 use Rattle.erd_meaning.proofs.orders.PlacesPut.{StandOnce, length_put, put_at, same_entries}
 use Rattle.erd_meaning.proofs.orders.RisingLists.{by_first}
-use Rattle.erd_meaning.proofs.orders.RisingRanks.{rank_at, rank_in, stands_at_rank}
+use Rattle.erd_meaning.proofs.orders.RisingOrders.{rank_at, rank_in, stands_at_rank}
 use Rattle.erd_meaning.proofs.orders.RisingSets.{In-rising, length-rising}
 use Rattle.erd_meaning.proofs.selections.PositionedKeys.{apart_positioned, count_positioned, key_positioned, length_positioned, one_positioned_at, stands_positioned}
 

@@ -1,7 +1,8 @@
 -- Lists with the same entries, each as often, in some order; and what doesn't depend on the order.
 use Rattle.std.proofs.Common.{◌≡◌, ◌<◌, ℕ, zero, suc, List, [], ◌∷◌, ◌++◌, map, filter, filter_map, flat_map, length, Bool, true, false, ◌||◌, cond, Option, Some, None, Ordering, is_lt, refl, sym, ap, ◌∙◌, arith}
-use Rattle.std.specs.List.{cons_option, list_any, slice_index_or, slice_set, swap}
+use Rattle.std.specs.List.{cons_option, list_any, slice_index_or, slice_set, swap, AllByRecursion}
 use Rattle.erd_check.proofs.Rising.{Has, here, later}
+use Rattle.erd_check.proofs.ValueSets.{or_exchanged}
 use Rattle.erd_meaning.specs.SelectionNames.{rising_list, with_inserted}
 
 -- the one list has the entries of the other, each as often
@@ -59,7 +60,7 @@ reordered_flat f (in_turn h k) = in_turn (reordered_flat f h) (reordered_flat f 
 -- ---- ways to reorder
 
 -- the list in rising order
-reordered_inserted : {A : Type 0} (cmp : A → A → Ordering) (x : A) (ys : List A) → Reordered (x ∷ ys) (with_inserted cmp x ys)
+pub reordered_inserted : {A : Type 0} (cmp : A → A → Ordering) (x : A) (ys : List A) → Reordered (x ∷ ys) (with_inserted cmp x ys)
 reordered_inserted cmp x [] = reordered_self (x ∷ [])
 reordered_inserted cmp x (y ∷ ys) = at (is_lt (cmp y x)) (reordered_inserted cmp x ys)
   where
@@ -105,15 +106,9 @@ module _ {A B : Type 0} (whole : List A → B) (step : A → B → B) (steps : (
       steps x (y ∷ xs) ∙ ap (step x) (steps y xs) ∙ exchanges x y (whole xs) ∙ ap (step y) (sym (steps x xs)) ∙ sym (steps y (x ∷ xs))
   whole-reordered (in_turn h k) = whole-reordered h ∙ whole-reordered k
 
-or_exchanges : (a b c : Bool) → a || (b || c) ≡ b || (a || c)
-or_exchanges true true c = refl
-or_exchanges true false c = refl
-or_exchanges false true c = refl
-or_exchanges false false c = refl
-
 -- whether an entry passes a test
 pub any-reordered : {A : Type 0} (test : A → Bool) {xs ys : List A} → Reordered xs ys → list_any test xs ≡ list_any test ys
-any-reordered test h = whole-reordered (list_any test) (λ x b. test x || b) (λ x xs. refl) (λ x y b. or_exchanges (test x) (test y) b) h
+any-reordered test h = whole-reordered (list_any test) (λ x b. test x || b) (λ x xs. refl) (λ x y b. or_exchanged (test x) (test y) b) h
 
 -- and of the values that there are
 abbrev any_kept : {B : Type 0} (test : B → Bool) → Option B → Bool → Bool
@@ -128,7 +123,7 @@ kept_exchanges : {B : Type 0} (test : B → Bool) (o p : Option B) (b : Bool) �
 kept_exchanges test None None b = refl
 kept_exchanges test None (Some y) b = refl
 kept_exchanges test (Some x) None b = refl
-kept_exchanges test (Some x) (Some y) b = or_exchanges (test x) (test y) b
+kept_exchanges test (Some x) (Some y) b = or_exchanged (test x) (test y) b
 
 pub any_filter_map-reordered : {A B : Type 0} (f : A → Option B) (test : B → Bool) {xs ys : List A} → Reordered xs ys → list_any test (filter_map f xs) ≡ list_any test (filter_map f ys)
 any_filter_map-reordered f test h =
@@ -156,6 +151,13 @@ more_exchanges false false n = refl
 pub count-reordered : {A : Type 0} (test : A → Bool) {xs ys : List A} → Reordered xs ys → length (filter test xs) ≡ length (filter test ys)
 count-reordered test h =
     whole-reordered (λ xs. length (filter test xs)) (λ x n. more_if (test x) n) (λ x xs. count_step x (filter test xs) (test x)) (λ x y n. more_exchanges (test x) (test y) n) h
+
+-- what holds of all entries
+pub all-reordered : {A : Type 0} (P : A → Type 0) {xs ys : List A} → Reordered xs ys → AllByRecursion P xs → AllByRecursion P ys
+all-reordered P no_entry all = all
+all-reordered P (one_kept h) all = (all.0, all-reordered P h all.1)
+all-reordered P two_exchanged all = (all.1.0, (all.0, all.1.1))
+all-reordered P (in_turn h k) all = all-reordered P k (all-reordered P h all)
 
 -- what stands in the list
 pub reordered-has : {A : Type 0} {xs ys : List A} (z : A) → Reordered xs ys → Has xs z → Has ys z

@@ -1,9 +1,9 @@
 -- A stable sort gives the rising list: a list in order is determined by what ties with each value, in its order.
-use Rattle.std.proofs.Common.{◌≡◌, ◌<◌, ℕ, zero, suc, length, List, [], ◌∷◌, map, filter, cond, Bool, true, false, not, ◌&&◌, Ordering, refl, sym, ap, ◌∙◌, subst, add-one, arith}
+use Rattle.std.proofs.Common.{◌≡◌, ◌<◌, suc, List, [], ◌∷◌, map, filter, cond, Bool, true, false, not, ◌&&◌, Ordering, refl, sym, ap, ◌∙◌, subst, add-one, arith}
 use Rattle.std.specs.Cmp.{IsStrictWeakOrder, IsTotalOrder}
 use Rattle.std.proofs.lemmas.List.Sorted.{ranks_by}
-use Rattle.std.specs.List.{AllByRecursion, slice_index_or}
-use Rattle.std.specs.List.Sorted.{IsPartitionedBy, IsSorted, IsStable, ties}
+use Rattle.std.specs.List.{AllByRecursion}
+use Rattle.std.specs.List.Sorted.{IsSorted, IsStable, ties}
 use Rattle.std.specs.Ordering.{is_lt}
 use Rattle.erd_meaning.specs.SelectionNames.{rising_list, with_inserted}
 
@@ -163,27 +163,7 @@ module _ {A : Type 0} (cmp : A → A → Ordering) (order : IsTotalOrder cmp) wh
 
   pub rising_from_sort : (xs ys : List A) → IsSorted cmp ys → IsStable cmp xs ys → ys ≡ rising_list cmp xs
   rising_from_sort xs ys sorted stable = determined ys (rising_list cmp xs) (rises ys sorted) (list_rises xs) (λ z. stable z ∙ sym (list_stable z xs))
-
   -- ---- what is below a value stands first
-
-  below_earlier : (k : A) (xs : List A) (j : ℕ) (d x : A) → NoneBelow x xs → j < length xs → below (slice_index_or xs j d) k ≡ true → below x k ≡ true
-  below_earlier k [] j d x h low e = absurd (omega (arith, low))
-  below_earlier k (y ∷ ys) zero d x h low e = at (below x k) refl
-    where
-      at : (b : Bool) → below x k ≡ b → below x k ≡ true
-      at true is = is
-      at false is = let clash : below y k ≡ false = weak.chain y x k h.0 is in cc
-  below_earlier k (y ∷ ys) (suc j) d x h low e = below_earlier k ys j d x h.1 (omega (arith, low)) e
-
-  parted : (k : A) (xs : List A) → Rises xs → IsPartitionedBy (λ y. below y k) xs
-  parted k [] r i j d first low e = absurd (omega (arith, low))
-  parted k (x ∷ xs) r zero zero d first low e = e
-  parted k (x ∷ xs) r zero (suc j) d first low e = below_earlier k xs j d x r.0 (omega (arith, low)) e
-  parted k (x ∷ xs) r (suc i) zero d first low e = absurd (omega (arith, first))
-  parted k (x ∷ xs) r (suc i) (suc j) d first low e = parted k xs r.1 i j d (omega (arith, first)) (omega (arith, low)) e
-
-  pub parted_by : (xs : List A) (k : A) → IsSorted cmp xs → IsPartitionedBy (λ y. is_lt (cmp y k)) xs
-  parted_by xs k sorted = parted k xs (rises xs sorted)
 
 -- ---- through a function
 

@@ -1,17 +1,11 @@
 -- A set that is written as a rising list is determined by its membership test.
-use Rattle.std.proofs.Common.{◌≡◌, List, [], ◌∷◌, Bool, true, false, ◌||◌, is_eq, Ordering, Less, Equal, Greater, refl, sym, ap, ◌∙◌, subst}
+use Rattle.std.proofs.Common.{◌≡◌, List, [], ◌∷◌, Bool, true, false, ◌||◌, is_eq, Ordering, Equal, refl, sym, ap, ◌∙◌, subst}
 use Rattle.std.specs.List.{list_any}
 use Rattle.std.specs.Cmp.{IsTotalOrder}
 use Rattle.std.proofs.lemmas.Cmp.{tied_itself}
 use Rattle.std.proofs.lemmas.Map.Lookups.{CmpEqualImpliesEq}
 use Rattle.std.specs.List.Sorted.{IsStrictlySortedBy}
-use Rattle.serde_json.specs.Data.{Data}
 use Rattle.erd_check.proofs.Rising.{Has, here, later, rising_unique}
-use Rattle.erd_check.specs.Trees.{IsTree, is_same_json}
-use Rattle.erd_check.proofs.Exact.{is_same_exact}
-use Rattle.erd_meaning.specs.SelectionNames.{compact_cmp}
-use Rattle.erd_meaning.specs.code.Orders.{compact_cmp_total}
-use Rattle.erd_meaning.specs.Objects.{report_of}
 
 pub any-has : {A : Type 0} (test : A → Bool) (xs : List A) (x : A) → Has xs x → test x ≡ true → list_any test xs ≡ true
 any-has test xs x (here {xs = ys}) e = rw e
@@ -35,21 +29,10 @@ pub set_unique : {K : Type 0} (cmp : K → K → Ordering) → IsTotalOrder cmp 
 set_unique {K} cmp order exact xs ys rise rise' same = rising_unique cmp order xs ys rise rise' (over xs ys same) (over ys xs (λ k. sym (same k)))
   where
     equal : (o : Ordering) → is_eq o ≡ true → o ≡ Equal
-    equal Less h = cc
     equal Equal h = refl
-    equal Greater h = cc
+    equal d h = cc
 
     over : (xs ys : List K) → ((k : K) → list_any (λ l. is_eq (cmp l k)) xs ≡ list_any (λ l. is_eq (cmp l k)) ys) → (k : K) → Has xs k → Has ys k
     over xs ys same k h =
         let r = has-any (λ l. is_eq (cmp l k)) ys (sym (same k) ∙ any-has (λ l. is_eq (cmp l k)) xs k h (ap is_eq (tied_itself order k))) in
         subst (Has ys) (exact r.0 k (equal (cmp r.0 k) r.2)) r.1
-
--- a set of JSON values
-pub json_set_unique : (xs ys : List Data) → IsStrictlySortedBy compact_cmp xs → IsStrictlySortedBy compact_cmp ys → ((d : Data) → Has xs d → IsTree d × (is_same_json d d ≡ true)) → ((d : Data) → Has ys d → IsTree d × (is_same_json d d ≡ true))
-    → ((d : Data) → list_any (is_same_json d) xs ≡ list_any (is_same_json d) ys) → xs ≡ ys
-json_set_unique xs ys rise rise' report_of whole' same = rising_unique compact_cmp compact_cmp_total xs ys rise rise' (over xs ys report_of whole' same) (over ys xs whole' report_of (λ d. sym (same d)))
-  where
-    over : (xs ys : List Data) → ((d : Data) → Has xs d → IsTree d × (is_same_json d d ≡ true)) → ((d : Data) → Has ys d → IsTree d × (is_same_json d d ≡ true)) → ((d : Data) → list_any (is_same_json d) xs ≡ list_any (is_same_json d) ys) → (d : Data) → Has xs d → Has ys d
-    over xs ys report_of whole' same d h =
-        let r = has-any (is_same_json d) ys (sym (same d) ∙ any-has (is_same_json d) xs d h (report_of d h).1) in
-        subst (Has ys) (sym (is_same_exact d r.0 (report_of d h).0 (whole' r.0 r.1).0 r.2)) r.1

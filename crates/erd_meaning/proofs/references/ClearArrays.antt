@@ -1,6 +1,6 @@
 -- Arrays of references in which no reason is told: each names an object of the family, and no two entries of a set name one.
 use Rattle.std.proofs.Common.{◌≡◌, ◌==◌, ◌≤◌, ◌<◌, ◌+◌, ℕ, List, [], ◌∷◌, ◌++◌, length, Bool, true, false, ◌&&◌, Option, Some, None, refl, sym, ap, ap₂, ◌∙◌, subst, arith, append_assoc, ◌||◌, drop, get_or, map}
-use Rattle.std.proofs.lemmas.Bool.{eqb-false, ne_eqb}
+use Rattle.std.proofs.lemmas.Bool.{eqb-false, ne_eqb, false_from_ne_true}
 use Rattle.std.proofs.lemmas.List.{at_drop_all, drop_more}
 use Rattle.std.specs.List.{AllByRecursion, IsDistinct, list_any}
 use Rattle.std.specs.Option.{option_map_or}
@@ -17,7 +17,6 @@ use Rattle.erd_tables.specs.declared.fault.Reason.TheVariants.{Repeated}
 use Rattle.erd_tables.specs.declared.place.Step.{Step}
 use Rattle.erd_tables.specs.declared.place.Step.TheVariants.{At}
 use Rattle.erd_check.specs.Trees.{is_same_json}
-use Rattle.erd_check.proofs.Shapes.{false_unless}
 use Rattle.erd_check.specs.Visits.{faults_of, told_at, told_of_items}
 use Rattle.erd_check.specs.declared.want.Want.TheVariants.{Reference}
 use Rattle.erd_meaning.specs.code.ObjectIndexes.{number_among}
@@ -75,7 +74,7 @@ module _ (ks : List Kept) (outer : Data) (f : Family) where
   not_repeated (e ∷ earlier) [] d n ns placed one differ = absurd placed
   not_repeated (e ∷ earlier) (m ∷ ms) d n ns placed one differ =
       let apart : (m == n) ≡ false = in_the_middle (λ y. (m == y) ≡ false) ms n ns differ.0 in
-      ap₂ ◌||◌ (false_unless (is_same_json d e) (λ same. eqb-false m n apart (one_object d e n m one placed.0 same))) (not_repeated earlier ms d n ns placed.1 one differ.1)
+      ap₂ ◌||◌ (false_from_ne_true (is_same_json d e) (λ same. eqb-false m n apart (one_object d e n m one placed.0 same))) (not_repeated earlier ms d n ns placed.1 one differ.1)
 
   repeats_nothing : (is_set : Bool) (earlier : List Data) (ms : List ℕ) (d : Data) (n : ℕ) (ns : List ℕ) → ArePlaced earlier ms → IsClear ks outer f d n → (is_set ≡ true → IsDistinct (λ a b. a == b) (ms ++ n ∷ ns))
       → (is_set && list_any (is_same_json d) earlier) ≡ false

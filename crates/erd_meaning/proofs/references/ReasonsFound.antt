@@ -1,20 +1,21 @@
 -- The reasons of a reference, by one look-up of its text.
-use Rattle.std.proofs.Common.{◌≡◌, ◌==◌, ◌&&◌, ◌++◌, ℕ, List, [], ◌∷◌, Bool, true, false, not, Option, Some, None, is_none, is_some, option_map, refl, sym, ap, ap₂, ◌∙◌}
-use Rattle.std.specs.Bool.{then_some}
+use Rattle.std.proofs.Common.{◌≡◌, ℕ, List, Option, Some, true, false, not, refl, ap, ◌∙◌, ◌==◌, ◌&&◌, ◌++◌, [], ◌∷◌, Bool, None, is_none, is_some, option_map, sym, ap₂}
 use Rattle.std.specs.Option.{option_map_or, option_to_list}
+use Rattle.std.specs.Bool.{then_some}
+use Rattle.std.proofs.Math.Bool.{and-false}
 use Rattle.serde_json.specs.Data.{Data, string}
 use Rattle.serde_json.specs.Find.{as_str}
-use Rattle.erd_tables.specs.Classes.{family_number}
 use Rattle.erd_tables.specs.declared.class.Family.{Family}
-use Rattle.erd_tables.specs.declared.class.Family.TheVariants as family
+use Rattle.erd_tables.specs.Classes.{family_number}
 use Rattle.erd_tables.specs.declared.fault.Reason.{Reason}
 use Rattle.erd_tables.specs.declared.fault.Reason.TheVariants.{Unresolved, WrongFamily, SelectionOfOtherContest}
+use Rattle.erd_tables.specs.declared.class.Family.TheVariants as family
 use Rattle.erd_check.specs.declared.want.Want.{Want}
 use Rattle.erd_check.specs.declared.want.Want.TheVariants.{Reference}
-use Rattle.erd_meaning.proofs.references.SilentWalks.{TellsOfReferences}
-use Rattle.erd_meaning.specs.code.ObjectIndexes.{number_among, number_of_id}
-use Rattle.erd_meaning.specs.code.ObjectLookups.{object_among}
+use Rattle.erd_meaning.specs.code.ObjectIndexes.{is_in_contest, number_among, number_of_id}
 use Rattle.erd_meaning.specs.code.ObjectWalk.{Kept}
+use Rattle.erd_meaning.proofs.references.SilentWalks.{TellsOfReferences}
+use Rattle.erd_meaning.specs.code.ObjectLookups.{object_among}
 use Rattle.erd_meaning.specs.code.ReferenceReasons.{id_reasons, is_elsewhere, is_known, is_of_others, is_selection_elsewhere, is_selection_family, leads_to_references, reason_if, reference_reasons_told}
 use Rattle.erd_meaning.proofs.finding.FoundWithId.{with_id_none, with_id_of_other, with_id_some}
 use Rattle.erd_meaning.proofs.finding.Known.{id_known}
@@ -27,10 +28,6 @@ told-same : (ks : List Kept) (outer : Data) (f : Family) (id : List ℕ) (known 
     → id_reasons ks outer f id ≡ told known others elsewhere
 told-same ks outer f id known others elsewhere a b c =
     ap₂ ◌++◌ (ap (λ k. reason_if (not k) Unresolved) a) (ap₂ (λ o e. reason_if o WrongFamily ++ reason_if e SelectionOfOtherContest) b c)
-
-and_false : (b : Bool) → (b && false) ≡ false
-and_false true = refl
-and_false false = refl
 
 known_by : (ks : List Kept) (id : List ℕ) (o : Option (Family × ℕ)) → number_of_id ks id ≡ o → is_known ks id ≡ is_some o
 known_by ks id o e = sym (id_known ks id) ∙ ap is_some e
@@ -59,7 +56,7 @@ pub reasons_of_unknown : (ks : List Kept) (outer : Data) (f : Family) (id : List
 reasons_of_unknown ks outer f id e =
     let known = known_by ks id None e in
     told-same ks outer f id false false false known (others_by ks f id None false (with_id_none ks f id e) known)
-    (ap (λ b. is_selection_family f && b) (elsewhere_by ks outer id None (among_none ks family.Selection id e)) ∙ and_false (is_selection_family f))
+    (ap (λ b. is_selection_family f && b) (elsewhere_by ks outer id None (among_none ks family.Selection id e)) ∙ and-false (is_selection_family f))
 
 elsewhere_of_other : (ks : List Kept) (outer : Data) (f g : Family) (id : List ℕ) (i : ℕ) → number_of_id ks id ≡ Some (g, i) → (family_number g == family_number f) ≡ false → (is_selection_family f && is_elsewhere ks outer id) ≡ false
 elsewhere_of_other ks outer family.Selection g id i e other = elsewhere_by ks outer id None (among_other ks family.Selection g id i e other)
@@ -105,3 +102,10 @@ text_read _ s e = cc
 pub clear_of_family : (ks : List Kept) (outer : Data) (f g : Family) (id : List ℕ) (i : ℕ) → number_of_id ks id ≡ Some (g, i) → (family_number g == family_number f) ≡ true
     → (is_selection_family f && is_selection_elsewhere ks outer i) ≡ false → id_reasons ks outer f id ≡ []
 clear_of_family ks outer f g id i found same inside = reasons_of_family ks outer f g id i found same ∙ ap (λ b. reason_if b SelectionOfOtherContest) inside
+
+-- ---- a selection is not elsewhere if it is in the contest that an object names
+
+pub in_own_contest : (ks : List Kept) (contest selection : ℕ) (id : List ℕ) → number_of_id ks id ≡ Some (family.Contest, contest)
+    → is_in_contest ks contest selection ≡ true → option_map_or {T = ℕ} (λ c. not (is_in_contest ks c selection)) (number_among ks family.Contest id) false ≡ false
+in_own_contest ks contest selection id named inside =
+    ap (λ (o : Option ℕ). option_map_or {T = ℕ} (λ c. not (is_in_contest ks c selection)) o false) (among_family ks family.Contest family.Contest id contest named refl) ∙ ap not inside

@@ -7,6 +7,7 @@ use Rattle.std.specs.List.Sorted.{IsStrictlySortedBy}
 use Rattle.std.specs.Option.{option_map_or}
 use Rattle.std.specs.Prelude.{IsSomeAnd, IsTrue}
 use Rattle.std.specs.Str.{bytes_eq}
+use Rattle.std.proofs.lemmas.Bool.{and_parts, and_from}
 use Rattle.serde_json.specs.Data.{Data}
 use Rattle.erd_tables.specs.Faults.{reason_cmp}
 use Rattle.erd_tables.specs.declared.fault.Reason.{Reason}
@@ -15,7 +16,6 @@ use Rattle.erd_tables.specs.declared.place.Step.{Step}
 use Rattle.erd_tables.specs.declared.place.Step.TheVariants.{Name, At}
 use Rattle.erd_check.specs.Wants.{Asked, asked_at}
 use Rattle.erd_check.proofs.Order.{In, In-filter_kept}
-use Rattle.erd_check.proofs.Reasons.{and_true, both_true}
 use Rattle.erd_meaning.specs.LaterFaults.{is_reference_fault, is_other_selection, entry_place, NamesOtherContest, ReferenceFault}
 use Rattle.erd_check.proofs.Walks.{outer_place}
 
@@ -81,7 +81,7 @@ object_from P (Some a) h = (a, refl, h)
 
 other_contest : (t : Data) (p : List Step) (a : Asked) → asked_at t p ≡ Some a → has_reference_reason t p a SelectionOfOtherContest ≡ true → NamesOtherContest t p
 other_contest t p a e h =
-    let both = and_true (are_entry_steps (last_steps p)) (is_elsewhere t p a) h in
+    let both = and_parts (are_entry_steps (last_steps p)) (is_elsewhere t p a) h in
     let entry = entry_place_from p both.0 in
     let object = object_from (λ contest. is_other_selection t contest.value a.want a.value) (asked_at t (outer_place p)) both.1 in
     record {
@@ -120,7 +120,7 @@ other_kept t p h =
     let steps : are_entry_steps (last_steps p) ≡ true = ap (λ q. are_entry_steps (last_steps q)) h.place ∙ ap are_entry_steps (last_steps_of_entry h.object_place h.position) in
     let object : outer_place p ≡ h.object_place = ap outer_place h.place ∙ outer_place_entry h.object_place h.position in
     let elsewhere : is_elsewhere t p h.entry ≡ true = rw (object, h.ordered_contest_stands) h.elsewhere in
-    (h.entry, h.entry_stands, kept t p SelectionOfOtherContest h.entry (inr (inr (inr (inl refl)))) (both_true (are_entry_steps (last_steps p)) (is_elsewhere t p h.entry) steps elsewhere))
+    (h.entry, h.entry_stands, kept t p SelectionOfOtherContest h.entry (inr (inr (inr (inl refl)))) (and_from (are_entry_steps (last_steps p)) (is_elsewhere t p h.entry) steps elsewhere))
 
 pub reason_of_fault : (t : Data) (p : List Step) (r : Reason) → ReferenceFault t p r → HasReason t p r
 reason_of_fault t p SelectionOfOtherContest h = other_kept t p h

@@ -4,12 +4,13 @@ use Rattle.std.specs.List.{list_any}
 use Rattle.std.specs.Option.{option_map_or}
 use Rattle.std.specs.Str.{bytes_eq}
 use Rattle.std.proofs.lemmas.Slice.Eq.{bytes_eq-Decides}
+use Rattle.std.proofs.lemmas.Bool.{and_from}
+use Rattle.std.specs.Cmp.{both_ways}
 use Rattle.serde_json.specs.Data.{Data}
 use Rattle.erd_tables.specs.Classes.{families, family_number}
 use Rattle.erd_tables.specs.declared.class.Family.{Family}
 use Rattle.erd_tables.specs.declared.class.Family.TheVariants as family
 use Rattle.erd_check.proofs.Order.{In, any_at}
-use Rattle.erd_check.proofs.Reasons.{both_true}
 use Rattle.erd_check.specs.Faults.{NoneOf}
 use Rattle.erd_meaning.specs.Keys.{Preference}
 use Rattle.erd_meaning.specs.LaterFaults.{IdentityFault}
@@ -17,7 +18,7 @@ use Rattle.erd_meaning.specs.code.ObjectLookups.{is_of_family, keeps_id}
 use Rattle.erd_meaning.specs.Objects.{Placed, has_id, id_of, is_owned, objects, owner}
 use Rattle.erd_meaning.specs.code.ObjectWalk.{Kept, kept, kept_objects, same_id}
 use Rattle.erd_meaning.specs.code.ReferenceReasons.{is_known, owner_among}
-use Rattle.erd_meaning.proofs.identity.KeyTests.{any_from}
+use Rattle.erd_meaning.proofs.identity.IdentityFaults.{any_from}
 use Rattle.erd_meaning.proofs.finding.Lookups.{kept_of, those_kept}
 use Rattle.erd_meaning.proofs.finding.OneFamily.{among_first}
 use Rattle.erd_meaning.proofs.identity.ObjectFamilies.{itself}
@@ -37,14 +38,9 @@ every_family family.Selection = inr (inr (inr (inr (inr (inr (inr (inr (inl refl
 
 -- ---- tests and searches
 
-pub both_tests : (a b : Bool) → (a ≡ true → b ≡ true) → (b ≡ true → a ≡ true) → a ≡ b
-both_tests true b f g = sym (f refl)
-both_tests false true f g = g refl
-both_tests false false f g = refl
-
 pub text_same : (a b : List ℕ) → bytes_eq a b ≡ bytes_eq b a
 text_same a b =
-    both_tests (bytes_eq a b) (bytes_eq b a) (λ h. (bytes_eq-Decides b a).1 (sym ((bytes_eq-Decides a b).0 h))) (λ h. (bytes_eq-Decides a b).1 (sym ((bytes_eq-Decides b a).0 h)))
+    both_ways (bytes_eq a b) (bytes_eq b a) (λ h. (bytes_eq-Decides b a).1 (sym ((bytes_eq-Decides a b).0 h))) (λ h. (bytes_eq-Decides a b).1 (sym ((bytes_eq-Decides b a).0 h)))
 
 pub find_both : {A : Type 0} (p q : A → Bool) (xs : List A) → find (λ x. p x && q x) xs ≡ find q (filter p xs)
 find_both p q [] = refl
@@ -108,7 +104,7 @@ from_known : (π : Preference) (t : Data) (id : List ℕ) → is_known (kept_obj
 from_known π t id h =
     let x = any_from (keeps_id id) (kept_objects π t) h in
     let f = x.0.family in
-    let passes : is_of_family f x.0 && keeps_id id x.0 ≡ true = both_true (is_of_family f x.0) (keeps_id id x.0) (itself (family_number f)) x.2 in
+    let passes : is_of_family f x.0 && keeps_id id x.0 ≡ true = and_from (is_of_family f x.0) (keeps_id id x.0) (itself (family_number f)) x.2 in
     let found : is_some (first_owner (kept_objects π t) f id) ≡ true =
     found_some (λ (k : Kept). k.value) (λ k. is_of_family f k && keeps_id id k) x.0 (kept_objects π t) x.1 passes in
     any_at (λ f. is_some (owner t f id)) f families (every_family f) (ap is_some (sym (first_owner_same π t f id)) ∙ found)
@@ -119,4 +115,4 @@ to_known π t id h =
     found_any (λ (k : Kept). k.value) (is_of_family x.0) (keeps_id id) (kept_objects π t) (ap is_some (first_owner_same π t x.0 id) ∙ x.2)
 
 pub known_same : (π : Preference) (t : Data) (id : List ℕ) → is_known (kept_objects π t) id ≡ is_owned t id
-known_same π t id = both_tests (is_known (kept_objects π t) id) (is_owned t id) (from_known π t id) (to_known π t id)
+known_same π t id = both_ways (is_known (kept_objects π t) id) (is_owned t id) (from_known π t id) (to_known π t id)

@@ -1,6 +1,7 @@
 -- The walk that judges references tells exactly the faults of references.
 use Rattle.std.proofs.Common.{◌≡◌, ℕ, List, [], ◌∷◌, ◌++◌, filter, cond, Bool, true, false, not, ◌&&◌, Option, Some, None, is_none, refl, sym, ap, ap₂, ◌∙◌, append-nil}
 use Rattle.std.specs.Option.{option_map_or}
+use Rattle.std.proofs.Math.Bool.{and-false}
 use Rattle.serde_json.specs.Data.{Data}
 use Rattle.serde_json.specs.Find.{as_str}
 use Rattle.erd_tables.specs.Faults.{ListsAll}
@@ -28,10 +29,6 @@ use Rattle.erd_meaning.proofs.references.SelectionsElsewhere.{elsewhere_same}
 use Rattle.erd_meaning.proofs.references.SelectionEntries.{has_reference_fault, reasons_all, reasons_there}
 
 -- ---- at one place
-
-and_false : (b : Bool) → (b && false) ≡ false
-and_false true = refl
-and_false false = refl
 
 and_true_is : (b : Bool) → (b && true) ≡ b
 and_true_is true = refl
@@ -65,7 +62,7 @@ by_text : (π : Preference) (t u : Data) (f : Family) (repeated : Bool) (o : Opt
     → reason_if repeated Repeated ++ option_map_or (id_reasons (kept_objects π t) u f) o []
     ≡ if_told repeated (option_map_or (λ id. not (is_owned t id)) o false) (option_map_or (λ id. is_none (owner t f id) && is_owned t id) o false)
     (is_selection_family f && option_map_or (is_in_other_contest t u) o false)
-by_text π t u f repeated None none = sym (if_told-same repeated false false (is_selection_family f && false) repeated false false false refl refl refl (and_false (is_selection_family f)))
+by_text π t u f repeated None none = sym (if_told-same repeated false false (is_selection_family f && false) repeated false false false refl refl refl (and-false (is_selection_family f)))
 by_text π t u f repeated (Some id) none =
     if_told-same repeated (not (is_known (kept_objects π t) id)) (is_of_others (kept_objects π t) f id) (is_selection_family f && is_elsewhere (kept_objects π t) u id)
     repeated (not (is_owned t id)) (is_none (owner t f id) && is_owned t id) (is_selection_family f && is_in_other_contest t u id)
@@ -87,7 +84,7 @@ other_there t u p near a around =
 none_here : (t u : Data) (p : List Step) (near : Data) (a : Asked) → Around t p u near → is_other_selection t u a.want a.value ≡ false
     → if_told (a.repeated && false) false false (told_other t p a) ≡ []
 none_here t u p near a around e =
-    if_told-same (a.repeated && false) false false (told_other t p a) false false false false (and_false a.repeated) refl refl (other_there t u p near a around ∙ e)
+    if_told-same (a.repeated && false) false false (told_other t p a) false false false false (and-false a.repeated) refl refl (other_there t u p near a around ∙ e)
 
 tests_here : (π : Preference) (t u : Data) (p : List Step) (near : Data) (w : Want) (repeated : Bool) (d : Data) → NoneOf (IdentityFault π t) → Around t p u near
     → let a : Asked = asked_with w repeated d in

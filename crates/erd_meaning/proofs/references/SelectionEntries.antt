@@ -5,6 +5,7 @@ use Rattle.std.proofs.lemmas.Slice.Eq.{bytes_eq-Decides}
 use Rattle.std.specs.List.{list_all}
 use Rattle.std.specs.Option.{option_map_or}
 use Rattle.std.specs.Str.{bytes_eq}
+use Rattle.std.proofs.lemmas.Bool.{and_parts, and_from}
 use Rattle.serde_json.specs.Data.{Data, array, object}
 use Rattle.serde_json.specs.Find.{get_item, get_member}
 use Rattle.erd_tables.specs.Faults.{reason_cmp, ListsAll}
@@ -31,10 +32,10 @@ use Rattle.erd_check.specs.declared.want.Want.TheVariants.{Object, ClassText, Re
 use Rattle.erd_check.proofs.Deciding.{tree_in_order}
 use Rattle.erd_check.proofs.FaultsAsked.{faults_asked, faults_asked_listed, AreReasons}
 use Rattle.erd_check.proofs.Order.{In, In-filter, In-filter_kept, sorted_filter}
-use Rattle.erd_check.proofs.Reasons.{and_true, both_true}
 use Rattle.erd_check.proofs.TableKinds.{kind_of_name, kind_of_id}
 use Rattle.erd_meaning.specs.LaterFaults.{is_other_selection, is_reference_fault, ReferenceFault}
 use Rattle.erd_check.proofs.Walks.{outer_place}
+use Rattle.erd_check.proofs.Options.{and_then-Some}
 use Rattle.erd_meaning.proofs.references.ReferenceFaultLists.{are_entry_steps, fault_of_reason, has_reference_reason, is_elsewhere, last_steps, reason_of_fault, reference_reasons, reference_reasons_rise}
 
 -- ---- the table
@@ -181,26 +182,22 @@ list_step : (w : Want) (d : Data) (s : Step) (a : Asked) → asked_inside w d s 
 list_step w d (Name n) a e k = let named = by_name w d n a e in (n, refl, list_named n a.want (named_fits named.0 n a.want named.1) k)
 list_step w d (At i) a e k = absurd (no_list_of_lists w (ap some_lists (by_entry w d i a e) ∙ k))
 
-then_from : {A B : Type 0} (f : A → Option B) (o : Option A) (y : B) → option_and_then f o ≡ Some y → (x : A) × (o ≡ Some x) × (f x ≡ Some y)
-then_from f None y e = cc
-then_from f (Some x) y e = (x, refl, e)
-
 steps_are : (s r : Step) (n : List ℕ) (i : ℕ) → s ≡ Name n → r ≡ At i → bytes_eq n list_name ≡ true → are_entry_steps (s ∷ r ∷ []) ≡ true
 steps_are s r n i e g h = subst (λ x. are_entry_steps (x ∷ r ∷ []) ≡ true) (sym e) (subst (λ y. are_entry_steps (Name n ∷ y ∷ []) ≡ true) (sym g) h)
 
 one_step : (b : Asked) (r : Step) (a : Asked) → asked_from b (r ∷ []) ≡ Some a → asked_inside b.want b.value r ≡ Some a
-one_step b r a h = let c = then_from (λ c. asked_from c []) (asked_inside b.want b.value r) a h in c.1 ∙ c.2
+one_step b r a h = let c = and_then-Some (λ c. asked_from c []) (asked_inside b.want b.value r) a h in c.1 ∙ c.2
 
 two_steps : (b : Asked) (s r : Step) (a : Asked) → asked_from b (s ∷ r ∷ []) ≡ Some a → wants_selection a.want ≡ true → are_entry_steps (s ∷ r ∷ []) ≡ true
 two_steps b s r a h k =
-    let c = then_from (λ c. asked_from c (r ∷ [])) (asked_inside b.want b.value s) a h in
+    let c = and_then-Some (λ c. asked_from c (r ∷ [])) (asked_inside b.want b.value s) a h in
     let last = last_step c.0.want c.0.value r a (one_step c.0 r a c.2) k in
     let list = list_step b.want b.value s c.0 c.1 last.2 in
     steps_are s r list.0 last.0 list.1 last.1 list.2
 
 -- ---- places
 
-asked_from-append : (a : Asked) (p q : List Step) → asked_from a (p ++ q) ≡ option_and_then (λ b. asked_from b q) (asked_from a p)
+pub asked_from-append : (a : Asked) (p q : List Step) → asked_from a (p ++ q) ≡ option_and_then (λ b. asked_from b q) (asked_from a p)
 asked_from-append a [] q = refl
 asked_from-append a (s ∷ p) q = onward (asked_inside a.want a.value s) (λ b. asked_from-append b p q)
   where
@@ -220,7 +217,7 @@ steps_at t q (s ∷ []) a e few all k =
     let last = last_step (Object Report) t s a (one_step (asked (Object Report) t) s a here) k in
     absurd (true≢false (sym last.2))
 steps_at t q (s ∷ r ∷ []) a e few all k =
-    let b = then_from (λ b. asked_from b (s ∷ r ∷ [])) (asked_at t q) a (sym (asked_from-append (asked (Object Report) t) q (s ∷ r ∷ [])) ∙ e) in
+    let b = and_then-Some (λ b. asked_from b (s ∷ r ∷ [])) (asked_at t q) a (sym (asked_from-append (asked (Object Report) t) q (s ∷ r ∷ [])) ∙ e) in
     two_steps b.0 s r a b.2 k
 steps_at t q (s ∷ r ∷ x ∷ ss) a e few all k = absurd (omega arith)
 
@@ -253,11 +250,11 @@ elsewhere_at t a (Some contest) h = elsewhere_wants t contest.value a.want a.val
 
 reason_from : (t : Data) (p : List Step) (a : Asked) (r : Reason) → asked_at t p ≡ Some a → has_reference_fault t p a r ≡ true → has_reference_reason t p a r ≡ true
 reason_from t p a SelectionOfOtherContest e h =
-    both_true (are_entry_steps (last_steps p)) (is_elsewhere t p a) (selection_place t p a e (elsewhere_at t a (asked_at t (outer_place p)) h)) h
+    and_from (are_entry_steps (last_steps p)) (is_elsewhere t p a) (selection_place t p a e (elsewhere_at t a (asked_at t (outer_place p)) h)) h
 reason_from t p a r e h = h
 
 fault_from : (t : Data) (p : List Step) (a : Asked) (r : Reason) → has_reference_reason t p a r ≡ true → has_reference_fault t p a r ≡ true
-fault_from t p a SelectionOfOtherContest h = (and_true (are_entry_steps (last_steps p)) (is_elsewhere t p a) h).1
+fault_from t p a SelectionOfOtherContest h = (and_parts (are_entry_steps (last_steps p)) (is_elsewhere t p a) h).1
 fault_from t p a r h = h
 
 abbrev pub reasons_there : Data → List Step → Asked → List Reason

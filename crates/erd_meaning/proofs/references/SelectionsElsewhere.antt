@@ -4,6 +4,7 @@ use Rattle.std.specs.List.{enumerate_from, list_any, slice_get}
 use Rattle.std.specs.Option.{option_map_or}
 use Rattle.std.proofs.lemmas.Bool.Decides.{Decides-eqb}
 use Rattle.std.proofs.lemmas.Option.{same_Some, slice_get-map}
+use Rattle.std.specs.Cmp.{both_ways}
 use Rattle.serde_json.specs.Data.{Data}
 use Rattle.erd_tables.specs.Classes.{family_number}
 use Rattle.erd_tables.specs.declared.class.Family.{Family}
@@ -21,15 +22,14 @@ use Rattle.erd_meaning.specs.code.ReferenceReasons.{is_elsewhere}
 use Rattle.erd_meaning.proofs.accepted.Skeleton.{values-placed_entries}
 use Rattle.erd_meaning.proofs.accepted.Standing.{has_id-from, has_id-Some}
 use Rattle.erd_meaning.proofs.finding.Found.{finds_kept_id}
-use Rattle.erd_meaning.proofs.finding.OneFamily.{place_in}
 use Rattle.erd_meaning.proofs.finding.OneObject.{in_at, one_id, with_part}
 use Rattle.erd_meaning.proofs.finding.OwnedObjects.{owner_elsewhere, owner_here, owner_nowhere}
-use Rattle.erd_meaning.proofs.identity.KeyTests.{any_from}
+use Rattle.erd_meaning.proofs.identity.IdentityFaults.{any_from}
 use Rattle.erd_meaning.proofs.identity.ObjectFamilies.{family_exact}
-use Rattle.erd_meaning.proofs.references.ReferenceLookups.{both_tests}
 use Rattle.erd_meaning.proofs.selections.NamesTold.{Numbered}
 use Rattle.erd_meaning.proofs.selections.NumberedObjects.{contests_counted_in}
 use Rattle.erd_meaning.proofs.selections.NumberedSelections.{numbered_at, of_its_contest}
+use Rattle.erd_meaning.proofs.orders.DistinctEntries.{place_of}
 
 -- ---- the selections of a contest
 
@@ -91,7 +91,7 @@ module _ (π : Preference) (t : Data) (id : List ℕ) (none : NoneOf (IdentityFa
   one_number : (s c : ℕ) (contest : Placed) (x : SelectionAt t s id) → id_in family.Selection t s ≡ Some id → slice_get (contests t) c ≡ Some contest → is_selection_in contest.value id ≡ true → x.one.0 ≡ c
   one_number s c contest x e is h =
       let o = from_chosen contest id h in
-      let place = place_in {A = Numbered} (c, o.0) (numbered_selections t) (with_its_number t c contest o.0 is o.1) in
+      let place = place_of {A = Numbered} (c, o.0) (numbered_selections t) (with_its_number t c contest o.0 is o.1) in
       let there : id_in family.Selection t place.0 ≡ Some id =
       ap (option_and_then (λ (o : Placed). id_of o.value)) (sym (numbered_at t place.0) ∙ ap (option_map (λ (x : Numbered). x.1)) place.1) ∙ o.2 in
       let same : s ≡ place.0 = (one_id π t id family.Selection family.Selection s place.0 none e there).1 in
@@ -100,7 +100,7 @@ module _ (π : Preference) (t : Data) (id : List ℕ) (none : NoneOf (IdentityFa
   -- it is that of this contest if and only if the contest has the `@id`
   number_decides : (s c : ℕ) (contest : Placed) (x : SelectionAt t s id) → id_in family.Selection t s ≡ Some id → slice_get (contests t) c ≡ Some contest
       → (x.one.0 + 1 == c + 1) ≡ is_selection_in contest.value id
-  number_decides s c contest x e is = both_tests (x.one.0 + 1 == c + 1) (is_selection_in contest.value id) to from
+  number_decides s c contest x e is = both_ways (x.one.0 + 1 == c + 1) (is_selection_in contest.value id) to from
     where
       to : (x.one.0 + 1 == c + 1) ≡ true → is_selection_in contest.value id ≡ true
       to h =

@@ -3,7 +3,7 @@ use Rattle.std.proofs.Common.{◌≡◌, ℕ, List, [], ◌∷◌, ◌++◌, len
 use Rattle.std.specs.List.{list_all, list_any}
 use Rattle.std.specs.Option.{option_map_or}
 use Rattle.std.specs.Str.{bytes_eq}
-use Rattle.serde_json.specs.Data.{Data, null, boolean, number, string, array, object, Items, no_items, item, Members, no_members, member}
+use Rattle.serde_json.specs.Data.{Data, array, object, Items, no_items, item, Members, no_members, member}
 use Rattle.serde_json.specs.Find.{get, as_str}
 use Rattle.erd_tables.proofs.Roles.{class_in_role_named}
 use Rattle.erd_tables.specs.Classes.{class_in_role, role_of_class}
@@ -151,15 +151,12 @@ module _ (tells : Telling) (quiet : TellsOfReferences tells) where
 
   mutual
     silent_at : (outer owner : Data) (p : List Step) (w : Want) (repeated : Bool) (d : Data) → leads_to_references w ≡ false → told_at tells outer owner p w repeated d ≡ []
-    silent_at outer owner p w repeated null h = here outer p w repeated null h
-    silent_at outer owner p w repeated (boolean b) h = here outer p w repeated (boolean b) h
-    silent_at outer owner p w repeated (number n) h = here outer p w repeated (number n) h
-    silent_at outer owner p w repeated (string s) h = here outer p w repeated (string s) h
     silent_at outer owner p w repeated (array ds) h =
         ap₂ ◌++◌ (here outer p w repeated (array ds) h)
         (in_entries owner p (is_compared_set w) ds ds (entry_want w) (λ v e. silent_items owner (array ds) p v (is_compared_set w) [] ds (entries_inside w v h e)))
     silent_at outer owner p w repeated (object ms) h =
         ap₂ ◌++◌ (here outer p w repeated (object ms) h) (silent_members owner (object ms) p (scope_inside w (object ms)) ms (named_inside w ms h))
+    silent_at outer owner p w repeated e h = here outer p w repeated e h
 
     silent_items : (outer owner : Data) (p : List Step) (w : Want) (is_set : Bool) (earlier : List Data) (ds : Items) → leads_to_references w ≡ false → told_of_items tells outer owner p w is_set earlier ds ≡ []
     silent_items outer owner p w is_set earlier no_items h = refl
@@ -179,12 +176,9 @@ is_silent tells quiet w h = λ outer owner p repeated d. silent_at tells quiet o
 module _ (Known : Want → Data → Type 0) (each : (w : Want) (d : Data) → Known w d) where
   mutual
     known_at : (w : Want) (d : Data) → IsKnown Known w d
-    known_at w null = each w null
-    known_at w (boolean b) = each w (boolean b)
-    known_at w (number n) = each w (number n)
-    known_at w (string s) = each w (string s)
     known_at w (array ds) = (each w (array ds), if_some (λ v. AreItemsKnown Known v ds) (entry_want w) (λ v. items_known v ds))
     known_at w (object ms) = (each w (object ms), members_known (scope_inside w (object ms)) ms)
+    known_at w e = each w e
 
     items_known : (w : Want) (ds : Items) → AreItemsKnown Known w ds
     items_known w no_items = tt

@@ -1,16 +1,81 @@
--- A report that is refused for the faults of its first phase with any is refused for all its faults.
-use Rattle.std.proofs.Common.{List}
+-- A report that is refused for the faults of its first phase with any is refused for all its faults; and the list of them.
+use Rattle.std.proofs.Common.{List, ◌≡◌, [], ◌∷◌, length, inl, inr, refl, subst}
+use Rattle.std.specs.Prelude.{◌≢◌}
 use Rattle.serde_json.specs.Data.{Data}
 use Rattle.erd_tables.specs.declared.fault.Reason.{Reason}
 use Rattle.erd_tables.specs.declared.place.Step.{Step}
+use Rattle.erd_tables.specs.Faults.{ListsAll}
+use Rattle.erd_tables.specs.declared.fault.Fault.{Fault}
 use Rattle.erd_check.specs.Faults.{NoneOf, ShapeFault}
 use Rattle.erd_check.specs.Refusals.{RefusedFor}
 use Rattle.erd_check.specs.declared.error.CheckError.{CheckError}
 use Rattle.erd_check.specs.declared.error.CheckError.TheVariants.{Faults, Memory}
+use Rattle.erd_check.specs.Trees.{IsTree}
+use Rattle.erd_check.proofs.Deciding.{none_from_empty}
+use Rattle.erd_check.proofs.Order.{contains_from_In}
 use Rattle.erd_meaning.specs.Keys.{Preference}
-use Rattle.erd_meaning.specs.Accepted.{IsFault, OrElse}
+use Rattle.erd_meaning.specs.Accepted.{IsFault, OrElse, IsAccepted}
 use Rattle.erd_meaning.specs.LaterFaults.{IdentityFault, ReferenceFault, SelectionFault}
-use Rattle.erd_meaning.proofs.refused.RefusedLists.{first_refused, second_refused}
+use Rattle.erd_meaning.proofs.identity.IdentityFaults.{identity_listed, identity_told}
+use Rattle.erd_meaning.proofs.accepted.Phases.{accepted_by_phases}
+use Rattle.erd_meaning.proofs.references.SelectionEntries.{reference_faults, reference_faults_listed}
+use Rattle.erd_meaning.proofs.selections.SelectionFaults.{selections_listed, selections_told}
+
+-- ---- the list of all faults by the first phase that has any
+
+-- where the first phase has faults, they are all
+pub first_refused : (First Second : List Step → Reason → Type 0) (faults : List Fault) → ListsAll First faults → faults ≢ [] → ListsAll (OrElse First Second) faults
+first_refused First Second [] all some = absurd (some refl)
+first_refused First Second (f ∷ fs) all some = record {
+  rising = all.rising;
+  each = λ g. (λ h. inl ((all.each g).0 h), λ h. (all.each g).1 (only g.place g.reason h));
+}
+  where
+    first : First f.place f.reason
+    first = (all.each f).0 (contains_from_In f (f ∷ fs) (inl refl))
+
+    only : (p : List Step) (r : Reason) → OrElse First Second p r → First p r
+    only p r (inl h) = h
+    only p r (inr (n, h)) = absurd (n f.place f.reason first)
+
+-- where it has none, those of the second phase are all
+pub second_refused : (First Second : List Step → Reason → Type 0) (faults : List Fault) → NoneOf First → ListsAll Second faults → ListsAll (OrElse First Second) faults
+second_refused First Second faults none all = record {
+  rising = all.rising;
+  each = λ g. (λ h. inr (none, (all.each g).0 h), λ h. (all.each g).1 (only g.place g.reason h));
+}
+  where
+    only : (p : List Step) (r : Reason) → OrElse First Second p r → Second p r
+    only p r (inl h) = absurd (none p r h)
+    only p r (inr (n, h)) = h
+
+pub refused_by_shape : (π : Preference) (t : Data) {f : Fault} {fs : List Fault} → ListsAll (ShapeFault t) (f ∷ fs) → ListsAll (IsFault π t) (f ∷ fs)
+refused_by_shape π t {f} {fs} all = first_refused (ShapeFault t) _ (f ∷ fs) all (λ e. cc)
+
+-- ---- by the lists that compute
+
+pub refused_by_identity : (π : Preference) (t : Data) (f : Fault) (fs : List Fault) → NoneOf (ShapeFault t) → identity_told π t ≡ f ∷ fs → ListsAll (IsFault π t) (f ∷ fs)
+refused_by_identity π t f fs shape found =
+    second_refused (ShapeFault t) _ (f ∷ fs) shape (first_refused (IdentityFault π t) _ (f ∷ fs) (subst (ListsAll (IdentityFault π t)) found (identity_listed π t)) (λ e. cc))
+
+pub refused_by_references : (π : Preference) (t : Data) (f : Fault) (fs : List Fault) → IsTree t → NoneOf (ShapeFault t) → length (identity_told π t) ≡ 0 → reference_faults t ≡ f ∷ fs → ListsAll (IsFault π t) (f ∷ fs)
+refused_by_references π t f fs tree shape identity found =
+    second_refused (ShapeFault t) _ (f ∷ fs) shape (second_refused (IdentityFault π t) _ (f ∷ fs) (none_from_empty (IdentityFault π t) (identity_told π t) (identity_listed π t) identity)
+    (first_refused (ReferenceFault t) _ (f ∷ fs) (subst (ListsAll (ReferenceFault t)) found (reference_faults_listed t tree)) (λ e. cc)))
+
+pub refused_by_selections : (π : Preference) (t : Data) (f : Fault) (fs : List Fault) → IsTree t → NoneOf (ShapeFault t) → length (identity_told π t) ≡ 0 → length (reference_faults t) ≡ 0 → selections_told π t ≡ f ∷ fs → ListsAll (IsFault π t) (f ∷ fs)
+refused_by_selections π t f fs tree shape identity references found =
+    second_refused (ShapeFault t) _ (f ∷ fs) shape (second_refused (IdentityFault π t) _ (f ∷ fs) (none_from_empty (IdentityFault π t) (identity_told π t) (identity_listed π t) identity)
+    (second_refused (ReferenceFault t) (SelectionFault π t) (f ∷ fs) (none_from_empty (ReferenceFault t) (reference_faults t) (reference_faults_listed t tree) references)
+    (subst (ListsAll (SelectionFault π t)) found (selections_listed π t))))
+
+pub accepted_by_lists : (π : Preference) (t : Data) → IsTree t → NoneOf (ShapeFault t) → length (identity_told π t) ≡ 0 → length (reference_faults t) ≡ 0 → length (selections_told π t) ≡ 0 → IsAccepted π t
+accepted_by_lists π t tree shape identity references selections =
+    accepted_by_phases π t shape (none_from_empty (IdentityFault π t) (identity_told π t) (identity_listed π t) identity)
+    (none_from_empty (ReferenceFault t) (reference_faults t) (reference_faults_listed t tree) references)
+    (none_from_empty (SelectionFault π t) (selections_told π t) (selections_listed π t) selections)
+
+-- ---- a report that is refused
 
 first_phase : (First Second : List Step → Reason → Type 0) (e : CheckError) → RefusedFor First e → RefusedFor (OrElse First Second) e
 first_phase First Second (Faults faults) h = (first_refused First Second faults h.0 h.1, h.1)

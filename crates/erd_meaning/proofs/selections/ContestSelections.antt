@@ -4,7 +4,7 @@ use Rattle.std.proofs.Common.{◌≡◌, ◌==◌, ◌<◌, ◌≤◌, ◌+◌, 
 use Rattle.std.proofs.Math.Dec.{leb}
 use Rattle.std.proofs.lemmas.Bool.{le-leb}
 use Rattle.std.proofs.lemmas.Bool.Decides.{Decides-eqb, leb_tells}
-use Rattle.std.proofs.lemmas.List.{get_or_append_left, get_or-append-add, length-map, map-append}
+use Rattle.std.proofs.lemmas.List.{get_or_append_left, get_or-append-add, length-map}
 use Rattle.std.specs.Prelude.{⊤}
 use Rattle.std.specs.List.{AllByRecursion, flat_map, slice_get, slice_index_or}
 use Rattle.std.specs.List.Sorted.{IsNonDecreasingBy}
@@ -20,7 +20,7 @@ use Rattle.erd_meaning.specs.code.ObjectWalk.{Kept}
 use Rattle.erd_meaning.proofs.identity.ObjectFamilies.{itself}
 use Rattle.erd_meaning.proofs.selections.ListParts.{get_first, get_later, within_or_after}
 use Rattle.erd_meaning.proofs.selections.NamesTold.{Numbered}
-use Rattle.erd_meaning.proofs.selections.NumberedObjects.{counts_of}
+use Rattle.erd_meaning.proofs.selections.NumberedObjects.{counts_of, counts_of-append}
 
 -- ---- the numbers of contests rise
 
@@ -69,7 +69,7 @@ before_rising ks = rising 0 (contests_before 0 ks) (before_rises 0 ks)
 
 -- ---- the selections of one contest among all
 
-all_both : {A : Type 0} (P : A → Type 0) (xs ys : List A) → AllByRecursion P xs → AllByRecursion P ys → AllByRecursion P (xs ++ ys)
+pub all_both : {A : Type 0} (P : A → Type 0) (xs ys : List A) → AllByRecursion P xs → AllByRecursion P ys → AllByRecursion P (xs ++ ys)
 all_both P [] ys h k = k
 all_both P (x ∷ xs) ys h k = (h.0, all_both P xs ys h.1 k)
 
@@ -242,9 +242,6 @@ all_high k [] [] h = tt
 all_high k [] (s ∷ ss) h = let less : k < s.0 = h.0 in (omega arith, all_high k [] ss h.1)
 all_high k (o ∷ os) after h = (omega arith, all_high k os after h)
 
-counts-append : (ss rs : List Numbered) → counts_of (ss ++ rs) ≡ counts_of ss ++ counts_of rs
-counts-append ss rs = map-append {A = Numbered} (λ s. s.0 + 1) ss rs
-
 taken_all : (cs : List Placed) (k : ℕ) → slice_get cs k ≡ None → take k cs ≡ cs
 taken_all [] zero e = refl
 taken_all [] (suc k) e = refl
@@ -268,12 +265,12 @@ module _ (cs : List Placed) (k : ℕ) where
       at : (o : Option Placed) → slice_get cs k ≡ o → r ≡ many_in (take k cs)
       at None e =
           let low : AllByRecursion {X = Numbered} (λ s. s.0 < k) (numbered_from 0 cs) = subst (λ m. AllByRecursion {X = Numbered} (λ s. s.0 < m) (numbered_from 0 cs)) zero_more (all_below 0 cs k e) in
-          let whole = sym (counts-append (numbered_from 0 cs) []) ∙ ap counts_of (append-nil (numbered_from 0 cs)) in
+          let whole = sym (counts_of-append (numbered_from 0 cs) []) ∙ ap counts_of (append-nil (numbered_from 0 cs)) in
           one_start k r (numbered_from 0 cs) [] (subst (λ ns. IsStart ns k r) (sym whole) start) low tt ∙ all_before e
       at (Some o) e =
           let h = parted o e in
           let rest = numbered_selections_of (k, o) ++ h.after in
-          let whole = ap counts_of h.whole ∙ counts-append h.before rest in
+          let whole = ap counts_of h.whole ∙ counts_of-append h.before rest in
           one_start k r h.before rest (subst (λ ns. IsStart ns k r) whole start) h.low (all_high k (selections_of_contest o) h.after h.high) ∙ h.count
 
   -- the selections that stand at and after the start

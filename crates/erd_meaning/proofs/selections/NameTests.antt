@@ -1,15 +1,13 @@
 -- The test by which an index of names is asked: one contest and one name.
-use Rattle.std.proofs.Common.{◌≡◌, ◌==◌, ◌&&◌, ℕ, List, [], ◌∷◌, ◌++◌, Bool, true, cond, ap, ◌∙◌}
-use Rattle.std.specs.Cmp.{Equal-is}
-use Rattle.std.specs.List.{list_any}
+use Rattle.std.proofs.Common.{◌≡◌, ◌==◌, ◌&&◌, ℕ, ◌∷◌, ◌++◌, Bool, true, ap, ◌∙◌}
+use Rattle.std.specs.Cmp.{Equal-is, both_ways}
 use Rattle.std.specs.Ordering.{is_eq}
 use Rattle.std.proofs.lemmas.Cmp.{tied_itself}
 use Rattle.erd_meaning.specs.NameParts.{NameParts}
 use Rattle.erd_meaning.specs.SelectionNames.{name_cmp}
 use Rattle.erd_meaning.specs.code.Orders.{name_cmp_exact, name_cmp_total}
-use Rattle.erd_meaning.specs.code.SelectionWalk.{NumberedName, added_name, is_selection_named}
+use Rattle.erd_meaning.specs.code.SelectionWalk.{NumberedName, is_selection_named}
 use Rattle.erd_meaning.proofs.finding.Known.{number_swap}
-use Rattle.erd_meaning.proofs.references.ReferenceLookups.{both_tests}
 
 names_one_way : (m n : NameParts) → is_eq (name_cmp m n) ≡ true → is_eq (name_cmp n m) ≡ true
 names_one_way m n h =
@@ -17,7 +15,7 @@ names_one_way m n h =
     ap (λ o. is_eq (name_cmp n o)) same ∙ ap is_eq (tied_itself name_cmp_total n)
 
 names_swap : (m n : NameParts) → is_eq (name_cmp m n) ≡ is_eq (name_cmp n m)
-names_swap m n = both_tests (is_eq (name_cmp m n)) (is_eq (name_cmp n m)) (names_one_way m n) (names_one_way n m)
+names_swap m n = both_ways (is_eq (name_cmp m n)) (is_eq (name_cmp n m)) (names_one_way m n) (names_one_way n m)
 
 -- the same contest and the same name, as an index compares them
 abbrev pub equals_name : ℕ → NameParts → NumberedName → Bool
@@ -25,6 +23,3 @@ equals_name c n s = (c == s.0) && is_eq (name_cmp n s.1)
 
 pub name_test : (c : ℕ) (n : NameParts) → equals_name c n ≡ is_selection_named c n
 name_test c n i s = number_swap c s.0 i && names_swap n s.1 i
-
-pub inserted_name : (names : List NumberedName) (c : ℕ) (n : NameParts) → cond (list_any (equals_name c n) names) names (names ++ (c, n) ∷ []) ≡ added_name names c n
-inserted_name names c n = ap (λ (test : NumberedName → Bool). cond (list_any test names) names (names ++ (c, n) ∷ [])) (name_test c n)

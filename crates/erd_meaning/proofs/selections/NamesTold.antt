@@ -6,6 +6,7 @@ use Rattle.std.specs.Option.{option_map_or}
 use Rattle.std.proofs.lemmas.Bool.Decides.{Decides-eqb}
 use Rattle.std.proofs.lemmas.Cmp.{tied_itself}
 use Rattle.std.proofs.lemmas.List.Folds.{list_any-append}
+use Rattle.std.proofs.lemmas.Bool.{and_parts, and_from}
 use Rattle.serde_json.specs.Data.{Data}
 use Rattle.erd_tables.specs.Faults.{fault_cmp}
 use Rattle.erd_tables.specs.Places.{place_cmp}
@@ -13,16 +14,16 @@ use Rattle.erd_tables.specs.declared.fault.Fault.{Fault}
 use Rattle.erd_tables.specs.declared.fault.Reason.TheVariants.{TwinSelection}
 use Rattle.erd_check.specs.Paths.{fault_at}
 use Rattle.erd_check.proofs.Order.{In, In-append, In-append_left, In-append_right, In-all, any_at, sorted_append}
-use Rattle.erd_check.proofs.Reasons.{and_true, both_true}
 use Rattle.erd_meaning.specs.NameParts.{NameParts}
 use Rattle.erd_meaning.specs.Objects.{Placed}
 use Rattle.erd_meaning.specs.code.ObjectWalk.{fault_if}
 use Rattle.erd_meaning.specs.code.Orders.{name_cmp_exact, name_cmp_total}
 use Rattle.erd_meaning.specs.SelectionNames.{name_cmp}
 use Rattle.erd_meaning.specs.code.SelectionWalk.{NamesMet, NumberedName, added_name, is_selection_named, is_taken, named_all, named_one, with_name}
-use Rattle.erd_meaning.proofs.identity.KeyTests.{any_from, at_true, tied_from}
+use Rattle.erd_meaning.proofs.identity.IdentityFaults.{any_from, at_true, tied_from}
 use Rattle.erd_meaning.proofs.identity.ObjectFamilies.{itself}
-use Rattle.erd_meaning.proofs.identity.ToldFaults.{if_sorted, in_if, less_itself, turned}
+use Rattle.erd_meaning.proofs.identity.ToldFaults.{if_sorted, in_if, less_itself, turned, earlier_fault}
+use Rattle.erd_meaning.proofs.identity.SeenKeys.{or_same}
 
 -- a selection, with the number of its contest
 abbrev pub Numbered : Type 0
@@ -56,11 +57,11 @@ names_told name earlier (x ∷ xs) = fault_after name earlier x ++ names_told na
 
 pub is_named_from : (s : NumberedName) (c : ℕ) (n : NameParts) → is_selection_named c n s ≡ true → ◌≡◌ {A = NumberedName} s (c, n)
 is_named_from s c n h =
-    let both = and_true (s.0 == c) (is_eq (name_cmp s.1 n)) h in
+    let both = and_parts (s.0 == c) (is_eq (name_cmp s.1 n)) h in
     ap₂ (λ (d : ℕ) (m : NameParts). (d, m)) ((Decides-eqb s.0 c).0 both.0) (name_cmp_exact s.1 n (tied_from _ both.1))
 
 pub is_named_itself : (c : ℕ) (n : NameParts) → is_selection_named c n (c, n) ≡ true
-is_named_itself c n = both_true (c == c) (is_eq (name_cmp n n)) (itself c) (ap is_eq (tied_itself name_cmp_total n))
+is_named_itself c n = and_from (c == c) (is_eq (name_cmp n n)) (itself c) (ap is_eq (tied_itself name_cmp_total n))
 
 taken_from : (names : List NumberedName) (c : ℕ) (n : NameParts) → is_taken names c n ≡ true → In {A = NumberedName} (c, n) names
 taken_from names c n h =
@@ -76,11 +77,6 @@ taken_by names c n i = any_at {A = NumberedName} (is_selection_named c n) (c, n)
 abbrev HasSame : List NumberedName → List NumberedName → Type 0
 HasSame ns ms = (c : ℕ) (n : NameParts) → is_taken ns c n ≡ is_taken ms c n
 
-or_more : (a b : Bool) → (b ≡ true → a ≡ true) → a ≡ (a || b)
-or_more true b h = refl
-or_more false true h = h refl
-or_more false false h = refl
-
 or_false : (a : Bool) → (a || false) ≡ a
 or_false true = refl
 or_false false = refl
@@ -92,7 +88,7 @@ added_same ns ms c n h d k = at (is_taken ns c n) refl ∙ sym (list_any-append 
     at false e = list_any-append {X = NumberedName} (is_selection_named d k) ns ((c, n) ∷ []) ∙ ap (λ b. b || (is_selection_named d k (c, n) || false)) (h d k)
     at true e =
         h d k
-        ∙ or_more (is_taken ms d k) (is_selection_named d k (c, n) || false)
+        ∙ or_same (is_taken ms d k) (is_selection_named d k (c, n) || false)
         (λ t.
         let one = is_named_from (c, n) d k (sym (or_false (is_selection_named d k (c, n))) ∙ t) in
         sym (h d k) ∙ ap (λ (s : NumberedName). is_taken ns s.0 s.1) (sym one) ∙ e)
@@ -245,9 +241,6 @@ one_place : (earlier : List NumberedName) (x : Numbered) (f : Fault) (o : Option
 one_place earlier x f None h = absurd h
 one_place earlier x f (Some n) h = (in_if (is_taken earlier x.0 n) (fault_at x.1.place TwinSelection) f h).1
 
-before_fault : (f g : Fault) → place_cmp f.place g.place ≡ Less → fault_cmp f g ≡ Less
-before_fault f g e = rw e
-
 pub names_rising : (name : Data → Option NameParts) (earlier : List NumberedName) (xs : List Numbered) → IsStrictlySortedBy in_places xs
     → IsStrictlySortedBy fault_cmp (names_told name earlier xs)
 unfolding IsStrictlySortedBy
@@ -260,4 +253,4 @@ names_rising name earlier (x ∷ xs) rising =
     let less : place_cmp x.1.place t.one.1.place ≡ Less = In-all {A = Numbered} (λ y. in_places x y ≡ Less) t.one xs rising.0 t.there in
     let first = ap (λ (z : Fault). z.place) (one_place earlier x f (name x.1.value) i) in
     let second = ap (λ (z : Fault). z.place) t.is in
-    before_fault f g (sym (ap₂ place_cmp first second) ∙ less))
+    earlier_fault f g (sym (ap₂ place_cmp first second) ∙ less))

@@ -2,6 +2,7 @@
 use Rattle.std.proofs.Common.{◌≡◌, ◌==◌, ◌+◌, ℕ, List, [], ◌∷◌, ◌++◌, length, map, Bool, false, codes, refl, sym, ap, ap₂, ◌∙◌, append_assoc, append-nil, length-append, arith}
 use Rattle.std.specs.List.{flat_map}
 use Rattle.std.proofs.lemmas.List.{map-append}
+use Rattle.std.proofs.lemmas.List.Elements.{filter_map-append}
 use Rattle.serde_json.specs.Data.{Data}
 use Rattle.erd_tables.specs.Classes.{family_number}
 use Rattle.erd_tables.specs.declared.class.Family.{Family}
@@ -11,7 +12,6 @@ use Rattle.erd_meaning.specs.Objects.{Placed, contests, elections, has_several, 
 use Rattle.erd_meaning.specs.code.ObjectIndexes.{contests_before}
 use Rattle.erd_meaning.specs.code.SelectionWalk.{numbered_from}
 use Rattle.erd_meaning.specs.code.ObjectWalk.{Kept, Located, contest_located, election_located, inside_election, kept_objects, located, object_met, objects_among, shared_located}
-use Rattle.erd_meaning.proofs.identity.MetLists.{filter_map-append}
 use Rattle.erd_meaning.proofs.selections.NamesTold.{Numbered}
 
 -- what is kept of objects at their places
@@ -50,7 +50,7 @@ selections_counted π k (o ∷ os) ks = ap (λ ns. (k + 1) ∷ ns) (selections_c
 contest_counted : (π : Preference) (k : ℕ) (o : Placed) → Counts (contest_located π o) k (counts_of (numbered_selections_of (k, o))) (k + 1)
 contest_counted π k o ks = selections_counted π k (selections_of_contest o) ks
 
-counts_of-append : (ss rs : List Numbered) → counts_of (ss ++ rs) ≡ counts_of ss ++ counts_of rs
+pub counts_of-append : (ss rs : List Numbered) → counts_of (ss ++ rs) ≡ counts_of ss ++ counts_of rs
 counts_of-append ss rs = map-append {A = Numbered} (λ s. s.0 + 1) ss rs
 
 contests_counted : (π : Preference) (k : ℕ) (os : List Placed) → Counts (flat_map (contest_located π) os) k (counts_of (numbered_from k os)) (k + length os)

@@ -52,7 +52,7 @@ placed_of_contest : (k : ℕ) (os : List Placed) → map {A = Numbered} (λ s. s
 placed_of_contest k [] = refl
 placed_of_contest k (o ∷ os) = ap (λ xs. o ∷ xs) (placed_of_contest k os)
 
-placed_of_contests : (k : ℕ) (cs : List Placed) → map {A = Numbered} (λ s. s.1) (flat_map numbered_selections_of (enumerate_from k cs)) ≡ flat_map selections_of_contest cs
+pub placed_of_contests : (k : ℕ) (cs : List Placed) → map {A = Numbered} (λ s. s.1) (flat_map numbered_selections_of (enumerate_from k cs)) ≡ flat_map selections_of_contest cs
 placed_of_contests k [] = refl
 placed_of_contests k (c ∷ cs) =
     map-append {A = Numbered} (λ s. s.1) (numbered_selections_of (k, c)) (flat_map numbered_selections_of (enumerate_from (k + 1) cs))

@@ -23,7 +23,7 @@ use Rattle.erd_meaning.specs.declared.objects.order.Order.{Order}
 use denote.Ref.{Bor}
 use Rattle.erd_meaning.proofs.finding.OneObject.{at_low}
 use Rattle.erd_meaning.proofs.orders.Counted.{count_map}
-use Rattle.erd_meaning.proofs.orders.RisingAlike.{all_rising}
+use Rattle.erd_meaning.proofs.orders.RisingOrders.{all_rising}
 use Rattle.erd_meaning.proofs.orders.RisingLists.{by_first, rising_list_map}
 use Rattle.erd_meaning.proofs.selections.RankedKeys.{copied_cmp}
 

@@ -7,6 +7,7 @@ use Rattle.std.specs.Cmp.{IsTotalOrder}
 use Rattle.std.specs.Cmp.Lexicographic.{options_total}
 use Rattle.std.specs.List.{AllByRecursion, cons_option, list_all, position, slice_get}
 use Rattle.std.specs.Option.{option_cmp, option_copied}
+use Rattle.std.proofs.lemmas.Bool.{and_parts, and_from}
 use Rattle.serde_json.specs.Data.{Data}
 use Rattle.serde_json.specs.Find.{as_str}
 use Rattle.erd_tables.specs.declared.class.Class.{Class}
@@ -14,7 +15,6 @@ use Rattle.erd_tables.specs.declared.class.Class.TheVariants as class
 use Rattle.erd_tables.specs.declared.class.Family.{Family}
 use Rattle.erd_tables.specs.declared.class.Family.TheVariants as family
 use Rattle.erd_check.proofs.Order.{In}
-use Rattle.erd_check.proofs.Reasons.{and_true, both_true}
 use Rattle.erd_check.specs.Values.{entries_at}
 use Rattle.erd_check.specs.Wants.{class_of_object}
 use Rattle.erd_meaning.specs.Keys.{Preference, key_cmp, key_of}
@@ -32,9 +32,9 @@ use Rattle.erd_meaning.specs.declared.keys.key.Key.{Key}
 use denote.Ref.{Bor}
 use Rattle.erd_meaning.proofs.finding.Lookups.{ranked}
 use Rattle.erd_meaning.proofs.finding.OneObject.{hit, in_at, missed}
-use Rattle.erd_meaning.proofs.identity.KeyTests.{same_key_from}
+use Rattle.erd_meaning.proofs.identity.IdentityFaults.{same_key_from}
 use Rattle.erd_meaning.proofs.orders.CountedKeys.{IsKeyOf, counted_as_key}
-use Rattle.erd_meaning.proofs.orders.RisingAlike.{all_rising, rising_alike}
+use Rattle.erd_meaning.proofs.orders.RisingOrders.{all_rising, rising_alike}
 use Rattle.erd_meaning.proofs.orders.RisingLists.{rising_list_map}
 
 -- the order of borrowed keys
@@ -50,11 +50,11 @@ copied_cmp (Some k) (Some l) = refl
 -- what holds of each entry, as a test
 pub all_pass : {A : Type 0} (test : A → Bool) (xs : List A) → AllByRecursion (λ x. test x ≡ true) xs → list_all test xs ≡ true
 all_pass test [] h = refl
-all_pass test (x ∷ xs) h = both_true (test x) (list_all test xs) h.0 (all_pass test xs h.1)
+all_pass test (x ∷ xs) h = and_from (test x) (list_all test xs) h.0 (all_pass test xs h.1)
 
 pub each_passes : {A : Type 0} (test : A → Bool) (xs : List A) → list_all test xs ≡ true → AllByRecursion (λ x. test x ≡ true) xs
 each_passes test [] h = tt
-each_passes test (x ∷ xs) h = let both = and_true (test x) (list_all test xs) h in (both.0, each_passes test xs both.1)
+each_passes test (x ∷ xs) h = let both = and_parts (test x) (list_all test xs) h in (both.0, each_passes test xs both.1)
 
 found_in : {A : Type 0} (test : A → Bool) (xs : List A) (x : A) → find test xs ≡ Some x → In x xs
 found_in test [] x e = cc
@@ -84,7 +84,7 @@ module _ (ks : List Kept) (f : Family) where
       at None is h = cc
       at (Some n) is h =
           let there = hit (is_keyed f key) ks n is in
-          let both = and_true (is_of_family f there.one) (same_key there.one.key (Some key)) there.passes in
+          let both = and_parts (is_of_family f there.one) (same_key there.one.key (Some key)) there.passes in
           let same = same_key_from there.one.key (Some key) both.1 in
           let number : rank f ks n ≡ i = cc in
           record { owner = there.one; place = ap (slice_get (those_of f ks)) (sym number) ∙ ranked f ks n there.one there.at both.0; keyed = same.1 ∙ sym same.2 }
@@ -140,7 +140,7 @@ module _ (ks : List Kept) (f : Family) where
       same = ap (λ o. same_key o (Some key)) keyed ∙ ap is_eq (tied_itself key_cmp_total key)
 
       at : (o : Option ℕ) → position (is_keyed f key) ks ≡ o → is_some (option_map (rank f ks) o) ≡ true
-      at None is = absurd (missed (is_keyed f key) ks k is there (both_true (is_of_family f k) (same_key k.key (Some key)) of_family same))
+      at None is = absurd (missed (is_keyed f key) ks k is there (and_from (is_of_family f k) (same_key k.key (Some key)) of_family same))
       at (Some n) is = refl
 
   referred_known : (id : List ℕ) (key : Key) → key_among ks f id ≡ Some key → IsKeyAmong key

@@ -5,13 +5,13 @@ use Rattle.std.proofs.lemmas.Cmp.{lists_total, nat_cmp_total, tied_itself}
 use Rattle.std.proofs.lemmas.List.{at_drop_all, at_drop_more, length-map}
 use Rattle.std.proofs.lemmas.Map.Lookups.{exact_unsigned}
 use Rattle.std.proofs.lemmas.Iterator.Adapters.{position_from-zero}
-use Rattle.std.specs.Cmp.{Equal-is}
+use Rattle.std.specs.Cmp.{Equal-is, both_ways}
 use Rattle.std.specs.Hash.{HashWrites, str, usize}
 use Rattle.std.specs.Cmp.Lexicographic.{slice_cmp}
 use Rattle.std.specs.List.{list_all, list_any, position, position_from}
 use Rattle.std.specs.Ordering.{eq_by_cmp, ordering_then}
 use Rattle.erd_check.proofs.Order.{In, In-all}
-use Rattle.erd_check.proofs.Reasons.{and_true}
+use Rattle.std.proofs.lemmas.Bool.{and_parts}
 use Rattle.erd_tables.specs.Classes.{text_of_class}
 use Rattle.erd_meaning.specs.Keys.{key_cmp}
 use Rattle.erd_meaning.specs.NameParts.{NameParts}
@@ -28,7 +28,6 @@ use Rattle.erd_meaning.specs.code.SelectionWalk.{NumberedName, added_name, is_se
 use Rattle.erd_meaning.specs.declared.keys.key.Key.{Key}
 use Rattle.erd_tables.specs.declared.class.Class.{Class}
 use Rattle.erd_tables.specs.declared.class.Family.{Family}
-use Rattle.erd_meaning.proofs.references.ReferenceLookups.{both_tests}
 use Rattle.erd_meaning.proofs.selections.NameTests.{name_test}
 use Rattle.erd_meaning.proofs.selections.NamesTold.{is_named_from}
 use Rattle.erd_meaning.proofs.selections.RankedKeys.{each_passes, rank_as_key}
@@ -177,7 +176,7 @@ module _ (ks : List Kept) (f : Family) where
 -- ---- the test of a name that is looked up
 
 equal_numbers : (m n : ℕ) → (m == n) ≡ is_eq (nat_cmp m n)
-equal_numbers m n = both_tests (m == n) (is_eq (nat_cmp m n)) (λ e. ap (λ k. is_eq (nat_cmp m k)) (sym ((Decides-eqb m n).0 e)) ∙ ap is_eq (tied_itself nat_cmp_total m))
+equal_numbers m n = both_ways (m == n) (is_eq (nat_cmp m n)) (λ e. ap (λ k. is_eq (nat_cmp m k)) (sym ((Decides-eqb m n).0 e)) ∙ ap is_eq (tied_itself nat_cmp_total m))
     (λ e. (Decides-eqb m n).1 (exact_unsigned m n ((Equal-is (nat_cmp m n)).0 e)))
 
 is_eq_then : (p o : Ordering) → is_eq (ordering_then p o) ≡ (is_eq p && is_eq o)
@@ -244,7 +243,7 @@ fed_ranks : (ks : List Kept) (f : Family) (keys : List Key) → list_all (is_key
     → map (fed_rank ks f) keys ≡ map (λ key. rank_among ks f (Some key)) keys
 fed_ranks ks f [] known = refl
 fed_ranks ks f (k ∷ keys) known =
-    let both = and_true (is_key_among ks f k) (list_all (is_key_among ks f) keys) known in
+    let both = and_parts (is_key_among ks f k) (list_all (is_key_among ks f) keys) known in
     ap₂ (λ r rs. r ∷ rs) (ap (λ b. if b then rank_among ks f (Some k) else 0) both.0) (fed_ranks ks f keys both.1)
 
 -- the contest, the class, the number of keys, their ranks, and the other parts
@@ -256,8 +255,8 @@ sought_writes ks c n =
 
 pub sought_fed : (ks : List Kept) (c : ℕ) (n : NameParts) (s : PlacedName) → is_sought ks c n s ≡ true → sought_writes ks c n ≡ usize s.0 ++ ranked_name_writes s.1
 sought_fed ks c n s e =
-    let outer = and_true (has_keys_among ks n) ((c == s.0) && eq_by_cmp ranked_name_cmp (ranked_parts ks n) s.1) e in
-    let both = and_true (c == s.0) (eq_by_cmp ranked_name_cmp (ranked_parts ks n) s.1) outer.1 in
+    let outer = and_parts (has_keys_among ks n) ((c == s.0) && eq_by_cmp ranked_name_cmp (ranked_parts ks n) s.1) e in
+    let both = and_parts (c == s.0) (eq_by_cmp ranked_name_cmp (ranked_parts ks n) s.1) outer.1 in
     let f = family_chosen n.class in
     ap₂ (λ many ranks. usize c ++ (str (text_of_class n.class) ++ (usize many ++ (flat_map usize ranks ++ after_keys_writes n))))
     (sym (length-map n.keys (λ key. rank_among ks f (Some key)))) (fed_ranks ks f n.keys outer.0)

@@ -1,7 +1,8 @@
 -- The names that the walk over the selections of a report meets are those of the definition, where its shape has no fault.
-use Rattle.std.proofs.Common.{◌≡◌, ◌<◌, ℕ, zero, suc, inl, inr, List, [], ◌∷◌, ◌++◌, flat_map, Option, Some, None, option_and_then, option_map, refl, sym, ap, ◌∙◌, subst}
+use Rattle.std.proofs.Common.{◌≡◌, ◌<◌, ℕ, zero, suc, inl, inr, List, [], ◌∷◌, ◌++◌, flat_map, Option, Some, None, option_and_then, option_map, refl, sym, ap, ◌∙◌}
 use Rattle.std.specs.List.{slice_get}
 use Rattle.std.specs.Option.{option_map_or}
+use Rattle.std.proofs.lemmas.Bool.{cases_order}
 use Rattle.serde_json.specs.Data.{Data}
 use Rattle.erd_tables.specs.declared.class.Class.{Class}
 use Rattle.erd_tables.specs.declared.class.Family.TheVariants.{Selection}
@@ -10,7 +11,6 @@ use Rattle.erd_check.specs.Faults.{NoneOf, ShapeFault}
 use Rattle.erd_check.specs.Wants.{class_of_object}
 use Rattle.erd_check.proofs.ObjectsAt.{ObjectIn, object_in}
 use Rattle.erd_check.proofs.Order.{In, In-flat_map}
-use Rattle.erd_check.proofs.Rising.{Has, here, later}
 use Rattle.erd_meaning.specs.Keys.{Preference}
 use Rattle.erd_meaning.specs.LaterFaults.{SelectionFault}
 use Rattle.erd_meaning.specs.Lookups.{selection_in}
@@ -21,21 +21,17 @@ use Rattle.erd_meaning.specs.SelectionNames.{name_in_class, name_of, selection_r
 use Rattle.erd_meaning.specs.code.SelectionWalk.{NumberedName}
 use Rattle.erd_meaning.proofs.selections.NamesTold.{Numbered, in_places, name_list}
 use Rattle.erd_meaning.proofs.selections.NumberedSelections.{numbered_rising, of_its_contest}
-use Rattle.erd_meaning.proofs.finding.OneObject.{in_at, sorted_at, which_first}
+use Rattle.erd_meaning.proofs.finding.OneObject.{in_at, sorted_at}
 use Rattle.erd_meaning.proofs.selections.SelectionFaults.{repeats}
 use Rattle.erd_meaning.proofs.accepted.Standing.{stands_of_shape}
+use Rattle.erd_meaning.proofs.orders.RisingSets.{has_from_In}
 
 -- ---- each selection has a name
-
-has_from : {A : Type 0} (x : A) (xs : List A) → In x xs → Has xs x
-has_from x [] i = absurd i
-has_from x (y ∷ xs) (inl e) = subst (Has (y ∷ xs)) e here
-has_from x (y ∷ xs) (inr i) = later (has_from x xs i)
 
 selection_class : (t : Data) → NoneOf (ShapeFault t) → (o : Placed) → In o (objects Selection t) → (c : Class) × (class_of_object selection_role o.value ≡ Some c)
 selection_class t none o i =
     let a : ObjectIn t selection_role o.value =
-    object_in t none selection_role o.value (record { place = o.place; is = stands_of_shape t none Selection o (has_from o (objects Selection t) i) }) in
+    object_in t none selection_role o.value (record { place = o.place; is = stands_of_shape t none Selection o (has_from_In o (objects Selection t) i) }) in
     (a.class, ap (class_of_object selection_role) a.is_object ∙ a.at.among)
 
 -- the name of each of these
@@ -104,7 +100,7 @@ pub one_selection : (π : Preference) (t : Data) (c : ℕ) (n : NameParts) (i j 
 one_selection π t c n i j none e g =
     let a = selection_at π t i c n e in
     let b = selection_at π t j c n g in
-    elim (which_first i j) [
+    elim (cases_order i j) [
       | inl same ↦ same
       | inr (inl l) ↦ absurd (two_names π t i j c n none a b l)
       | inr (inr l) ↦ absurd (two_names π t j i c n none b a l)

@@ -1,62 +1,39 @@
 -- The parts of a value that has no fraction have none.
-use Rattle.std.proofs.Common.{◌≡◌, ℕ, zero, suc, ◌<◌, length, get_or, List, [], ◌∷◌, map, Bool, true, false, ◌||◌, Option, Some, None, Ordering, Less, Equal, Greater, refl, sym, subst, arith}
-use Rattle.std.specs.Cmp.Lexicographic.{slice_cmp}
+use Rattle.std.proofs.Common.{◌≡◌, ℕ, zero, suc, ◌<◌, length, get_or, List, [], ◌∷◌, map, false, Option, Some, None, refl, sym, subst, arith}
 use Rattle.std.specs.List.{AllByRecursion}
 use Rattle.std.specs.Option.{option_map_or}
-use Rattle.std.specs.Ordering.{match_ordering, nat_cmp}
-use Rattle.serde_json.specs.Data.{Data, null, boolean, number, string, array, object, Items, no_items, item, Members, no_members, member}
+use Rattle.std.proofs.lemmas.Bool.{or_parts}
+use Rattle.serde_json.specs.Data.{Data, array, object, Items, no_items, item, Members, no_members, member}
 use Rattle.serde_json.specs.Find.{get, get_member}
 use Rattle.serde_json.specs.View.{view}
 use Rattle.serde_json.specs.Written.{has_float, items_have_float, members_have_float}
 use Rattle.serde_json.specs.declared.value.Value.{Value}
 use Rattle.erd_check.specs.Values.{entries_of, list_of_items, entries_at}
+use Rattle.erd_check.proofs.Members.{found_cases}
 
 -- values that have no fraction
 abbrev AreWhole : List Data → Type 0
 AreWhole ds = AllByRecursion (λ d. has_float d ≡ false) ds
 
-first_false : (a b : Bool) → a || b ≡ false → a ≡ false
-first_false true b e = e
-first_false false b e = refl
-
-second_false : (a b : Bool) → a || b ≡ false → b ≡ false
-second_false true b e = cc
-second_false false b e = e
-
-both_false : (a b : Bool) → a ≡ false → b ≡ false → a || b ≡ false
-both_false true b e f = e
-both_false false b e f = f
-
 -- ---- members and entries
 
 whole_member : (name : List ℕ) (ms : Members) (d : Data) → members_have_float ms ≡ false → get_member name ms ≡ Some d → has_float d ≡ false
 whole_member name no_members d h e = cc
-whole_member name (member l v ms) d h e = at (slice_cmp nat_cmp name l) (whole_member name ms d (second_false (has_float v) (members_have_float ms) h)) e
-  where
-    at : (o : Ordering) → (get_member name ms ≡ Some d → has_float d ≡ false) → match_ordering o (get_member name ms) (Some v) (get_member name ms) ≡ Some d → has_float d ≡ false
-    at Less rest k = rest k
-    at Equal rest k = let same : v ≡ d = cc in subst (λ w. has_float w ≡ false) same (first_false (has_float v) (members_have_float ms) h)
-    at Greater rest k = rest k
+whole_member name (member l v ms) d h e =
+    let both = or_parts (has_float v) (members_have_float ms) h in
+    found_cases name l d v ms e (λ named same. subst (λ w. has_float w ≡ false) same both.0) (λ found. whole_member name ms d both.1 found)
 
 pub whole_get : (name : List ℕ) (d v : Data) → has_float d ≡ false → get name d ≡ Some v → has_float v ≡ false
-whole_get name null v h e = cc
-whole_get name (boolean b) v h e = cc
-whole_get name (number n) v h e = cc
-whole_get name (string s) v h e = cc
-whole_get name (array ds) v h e = cc
 whole_get name (object ms) v h e = whole_member name ms v h e
+whole_get name k v h e = cc
 
 whole_items : (ds : Items) → items_have_float ds ≡ false → AreWhole (list_of_items ds)
 whole_items no_items h = tt
-whole_items (item d ds) h = (first_false (has_float d) (items_have_float ds) h, whole_items ds (second_false (has_float d) (items_have_float ds) h))
+whole_items (item d ds) h = let both = or_parts (has_float d) (items_have_float ds) h in (both.0, whole_items ds both.1)
 
 whole_entries_of : (d : Data) → has_float d ≡ false → AreWhole (entries_of d)
-whole_entries_of null h = tt
-whole_entries_of (boolean b) h = tt
-whole_entries_of (number n) h = tt
-whole_entries_of (string s) h = tt
 whole_entries_of (array ds) h = whole_items ds h
-whole_entries_of (object ms) h = tt
+whole_entries_of e h = tt
 
 whole_entries : (name : List ℕ) (d : Data) → has_float d ≡ false → AreWhole (entries_at name d)
 whole_entries name d h = at (get name d) refl

@@ -4,7 +4,7 @@ use Rattle.std.proofs.lemmas.Map.Lookups.{exact_bytes}
 use Rattle.std.specs.Cmp.Lexicographic.{slice_cmp}
 use Rattle.std.specs.Ordering.{match_ordering, nat_cmp}
 use Rattle.json.specs.Print.{quoted}
-use Rattle.serde_json.specs.Data.{Data, null, boolean, number, string, array, object, Members, no_members, member, put}
+use Rattle.serde_json.specs.Data.{Data, array, object, Members, no_members, member, put}
 use Rattle.serde_json.specs.Find.{as_object}
 use Rattle.serde_json.specs.View.{items_of}
 use Rattle.serde_json.specs.Written.{comma_if, compact_text, items_text, members_text}
@@ -40,13 +40,9 @@ rest_is_put later ds (member l d ms) = at (slice_cmp nat_cmp (codes "Text") l) r
 -- a label that is an object
 pub object_written : (d : Data) (ms : Members) (ts : List (List ℕ)) → Some ms ≡ as_object d → ts ≡ map compact_text (rising_list compact_cmp (entries_at (codes "Text") d))
     → 123 ∷ rest_text false true ts ms ≡ compact_text (with_rising_text d)
-object_written null ms ts e is = cc
-object_written (boolean b) ms ts e is = cc
-object_written (number n) ms ts e is = cc
-object_written (string s) ms ts e is = cc
-object_written (array ds) ms ts e is = cc
 object_written (object ns) ms ts e is =
     let same : ms ≡ ns = cc in
     ap (λ us. 123 ∷ rest_text false true us ms) is
     ∙ ap (λ ws. 123 ∷ rest_text false true (map compact_text (rising_list compact_cmp (entries_at (codes "Text") (object ns)))) ws) same
     ∙ ap (λ s. 123 ∷ s) (rest_is_put false (rising_list compact_cmp (entries_at (codes "Text") (object ns))) ns)
+object_written k ms ts e is = cc

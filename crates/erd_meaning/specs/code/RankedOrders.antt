@@ -4,7 +4,7 @@ use Rattle.std.specs.Cmp.{IsTotalOrder, eq_by_cmp_equiv}
 use Rattle.std.specs.Ordering.{eq_by_cmp}
 use Rattle.std.proofs.lemmas.Bool.Decides.{Decides-eqb}
 use Rattle.std.proofs.lemmas.Cmp.{on_total}
-use Rattle.erd_check.proofs.Reasons.{and_true}
+use Rattle.std.proofs.lemmas.Bool.{and_parts}
 use Rattle.erd_meaning.specs.NameParts.{NameParts}
 use Rattle.erd_meaning.specs.NumberedNames.{numbered_name_writes}
 use Rattle.erd_meaning.specs.code.NumberedOrders.{equal_numbered_alike, numbered_name_cmp_total}
@@ -22,7 +22,7 @@ equal_ranked_alike a b e = equal_numbered_alike numbered_name_writes (with_ranks
 pub sought_equal : (ks : List Kept) (c : ℕ) (n : NameParts) (x y : PlacedName) → is_sought ks c n x ≡ true
     → is_sought ks c n y ≡ ((x.0 == y.0) && eq_by_cmp ranked_name_cmp x.1 y.1)
 sought_equal ks c n x y e =
-    let outer = and_true (has_keys_among ks n) ((c == x.0) && eq_by_cmp ranked_name_cmp (ranked_parts ks n) x.1) e in
-    let both = and_true (c == x.0) (eq_by_cmp ranked_name_cmp (ranked_parts ks n) x.1) outer.1 in
+    let outer = and_parts (has_keys_among ks n) ((c == x.0) && eq_by_cmp ranked_name_cmp (ranked_parts ks n) x.1) e in
+    let both = and_parts (c == x.0) (eq_by_cmp ranked_name_cmp (ranked_parts ks n) x.1) outer.1 in
     ap (λ b. b && ((c == y.0) && eq_by_cmp ranked_name_cmp (ranked_parts ks n) y.1)) outer.0
     ∙ ap₂ (λ d b. (d == y.0) && b) ((Decides-eqb c x.0).0 both.0) ((eq_by_cmp_equiv ranked_name_cmp_total).congr (ranked_parts ks n) x.1 y.1 both.1)

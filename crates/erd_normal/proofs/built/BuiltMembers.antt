@@ -1,10 +1,8 @@
 -- Members that are put one after another, in the order of their names, stand in that order.
-use Rattle.std.proofs.Common.{◌≡◌, ℕ, List, ◌∷◌, Bool, true, false, ◌||◌, Less, Option, Some, None, string_bytes, refl, sym, ap, ◌∙◌}
+use Rattle.std.proofs.Common.{◌≡◌, ℕ, List, ◌∷◌, Bool, true, false, ◌||◌, Less, string_bytes, refl, sym, ap, ◌∙◌}
 use Rattle.std.proofs.lemmas.Cmp.{nat_list_cmp_total}
 use Rattle.std.specs.Bool.{⊤}
 use Rattle.std.specs.List.{AllByRecursion}
-use Rattle.std.specs.List.Sorted.{IsStrictlySortedBy}
-use Rattle.std.specs.Option.{option_map_or}
 use Rattle.std.specs.Ordering.{ordering_reverse}
 use Rattle.serde_json.specs.Data.{Data, Members, no_members, member, put}
 use Rattle.serde_json.specs.View.{members_view, view}
@@ -12,8 +10,6 @@ use Rattle.serde_json.specs.Written.{has_float, members_have_float}
 use Rattle.serde_json.proofs.Views.{Entry}
 use Rattle.erd_tables.specs.Texts.{text_cmp}
 use Rattle.erd_check.specs.Values.{names}
-use Rattle.erd_normal.specs.code.Building.{put_if}
-use Rattle.erd_normal.proofs.built.NormalMembers.{each_member}
 
 -- ---- whole numbers
 
@@ -32,11 +28,6 @@ later_whole k d ms h = at (has_float d) h
     at false e = e
 
 -- ---- one after another
-
--- the members that were built, with what the others become put among them
-abbrev pub put_each : (List ℕ → Data → Option Data) → Members → Members → Members
-put_each value no_members built = built
-put_each value (member k d ms) built = put_each value ms (put_if k (value k d) built)
 
 -- members, and then others
 abbrev pub joined : Members → Members → Members
@@ -79,21 +70,6 @@ are_below_one ms k d (member l v ns) h e = (below_one ms k d l h.0 e.0, are_belo
 pub none_below : (ns : Members) → AreBelow no_members ns
 none_below no_members = tt
 none_below (member k d ns) = (tt, none_below ns)
-
-module _ (value : List ℕ → Data → Option Data) where
-  put_after : (ms built : Members) → AreBelow built ms → IsStrictlySortedBy text_cmp (names ms) → put_each value ms built ≡ joined built (each_member value ms)
-  unfolding IsStrictlySortedBy
-  put_after no_members built low rise = sym (joined_none built)
-  put_after (member k d ms) built low rise = at (value k d) (put_after ms)
-    where
-      at : (r : Option Data)
-          → ((next : Members) → AreBelow next ms → IsStrictlySortedBy text_cmp (names ms) → put_each value ms next ≡ joined next (each_member value ms))
-          → put_each value ms (put_if k r built) ≡ joined built (option_map_or (λ v. member k v (each_member value ms)) r (each_member value ms))
-      at None rest = rest built low.1 rise.1
-      at (Some v) rest =
-          ap (put_each value ms) (put_above k v built low.0)
-          ∙ (rest (joined built (member k v no_members)) (are_below_one built k v ms low.1 rise.0) rise.1
-          ∙ joined_one built k v (each_member value ms))
 
 -- what is left is whole, and so are the first and those after it
 pub whole_first : (left rest : List Entry) (e : Entry) → left ≡ e ∷ rest → members_have_float (members_view left) ≡ false → has_float (view e.1) ≡ false

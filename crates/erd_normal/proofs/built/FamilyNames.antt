@@ -2,6 +2,7 @@
 use Rattle.std.proofs.Common.{◌≡◌, ℕ, List, Some, flat_map, map, Bool, true, false, codes, refl, sym, ap, ◌∙◌, subst, is_some, ◌&&◌}
 use Rattle.std.specs.List.{list_all}
 use Rattle.std.specs.Str.{bytes_eq}
+use Rattle.std.proofs.lemmas.Bool.{and_parts}
 use Rattle.serde_json.specs.Data.{Data, Members, object}
 use Rattle.serde_json.specs.Find.{get_member}
 use Rattle.erd_tables.specs.Classes.{role_of_class, family_of_class}
@@ -17,14 +18,14 @@ use Rattle.erd_tables.specs.declared.member.MemberKind.{MemberKind}
 use Rattle.erd_tables.specs.declared.member.MemberKind.TheVariants as kind
 use Rattle.erd_check.specs.Values.{entries_at, entries_of, list_of_items}
 use Rattle.erd_check.proofs.Entries.{entries_in}
-use Rattle.erd_check.proofs.Exact.{text_exact, both_true}
+use Rattle.erd_check.proofs.Exact.{text_exact}
 use Rattle.erd_check.proofs.Rising.{Has}
 use Rattle.erd_check.proofs.TableKinds.{kind_of_id, kind_of_name}
 use Rattle.erd_meaning.proofs.accepted.Skeleton.{Skeleton, values-placed_entries, values_in_elections}
 use Rattle.erd_meaning.specs.Objects.{elections, objects, placed_entries, report_of}
 use Rattle.erd_meaning.specs.Keys.{has_keys}
 use Rattle.erd_meaning.proofs.meanings.SelectionKinds.{kind_of_type}
-use Rattle.erd_normal.proofs.lists.ListParts.{IsPart, part_flat, part_self}
+use Rattle.erd_normal.proofs.lists.Lists.{IsPart, part_flat, part_self}
 
 -- the name of the member that holds the objects of a family
 abbrev pub family_name : Family → List ℕ
@@ -82,14 +83,14 @@ home c name = at (bytes_eq name (codes "@type")) refl (bytes_eq name (codes "@id
         kind_of_name (λ m. is_home c m.name m.kind) (is_home c name) c name is is' (home_rows c) (λ m h e. subst (λ n. is_home c n m.kind ≡ true) (sym (text_exact name m.name e)) h) refl refl
 
 keyed_home : (c : Class) (name : List ℕ) (f : Family) → kind_of_member c name ≡ kind.Keyed f → (holds (role_of_class c) f ≡ true) × (bytes_eq name (family_name f) ≡ true)
-keyed_home c name f is = both_true (holds (role_of_class c) f) (bytes_eq name (family_name f)) (subst (λ k. is_home c name k ≡ true) is (home c name))
+keyed_home c name f is = and_parts (holds (role_of_class c) f) (bytes_eq name (family_name f)) (subst (λ k. is_home c name k ≡ true) is (home c name))
 
 pub keyed_name : (c : Class) (name : List ℕ) (f : Family) → kind_of_member c name ≡ kind.Keyed f → name ≡ family_name f
 keyed_name c name f is = text_exact name (family_name f) (keyed_home c name f is).1
 
 pub elections_name : (c : Class) (name : List ℕ) → kind_of_member c name ≡ kind.Elections → name ≡ codes "Election"
 elections_name c name is =
-    text_exact name (codes "Election") (both_true (is_report_role (role_of_class c)) (bytes_eq name (codes "Election")) (subst (λ k. is_home c name k ≡ true) is (home c name))).1
+    text_exact name (codes "Election") (and_parts (is_report_role (role_of_class c)) (bytes_eq name (codes "Election")) (subst (λ k. is_home c name k ≡ true) is (home c name))).1
 
 -- contests alone hold selections
 pub contest_of_selections : (c : Class) (f : Family) → role_of_class c ≡ role.OfFamily f → kind_of_member c (family_name family.Selection) ≡ kind.Keyed family.Selection → f ≡ family.Contest

@@ -23,8 +23,8 @@ use Rattle.erd_meaning.specs.SelectionNames.{compact_cmp, rising_list}
 use Rattle.erd_meaning.specs.declared.keys.key.Key.{Key}
 use Rattle.erd_normal.specs.code.NormalTree.{normal_election, normal_object}
 use Rattle.erd_normal.proofs.built.NormalEntries.{entries_of_identifiers, identifiers_of_election}
-use Rattle.erd_normal.proofs.built.NormalGets.{class_has_role}
 use Rattle.erd_meaning.proofs.orders.Reordered.{Reordered, reordered_rising, whole-reordered}
+use Rattle.erd_meaning.proofs.meanings.SelectionKinds.{class_role}
 
 -- ---- the lesser of two
 
@@ -39,17 +39,15 @@ module _ {A : Type 0} (cmp : A → A → Ordering) (order : IsTotalOrder cmp) (e
   either_first k l = at (cmp l k) refl
     where
       at : (o : Ordering) → cmp l k ≡ o → lesser k l ≡ lesser l k
-      at Less is = rw (is, reversed l k Less is) refl
       at Equal is = rw (is, reversed l k Equal is) (sym (exact l k is))
-      at Greater is = rw (is, reversed l k Greater is) refl
+      at d is = rw (is, reversed l k d is) refl
 
   is_less : (a b : A) → is_lt (cmp a b) ≡ true → cmp a b ≡ Less
   is_less a b = at (cmp a b)
     where
       at : (o : Ordering) → is_lt o ≡ true → o ≡ Less
       at Less e = refl
-      at Equal e = absurd (true≢false (sym e))
-      at Greater e = absurd (true≢false (sym e))
+      at d e = absurd (true≢false (sym e))
 
   below_both : (a b k : A) → cmp a b ≡ Less → is_lt (cmp b k) ≡ true → is_lt (cmp a k) ≡ true
   below_both a b k low is = ap is_lt (order.trans a b k low (is_less b k is))
@@ -108,28 +106,20 @@ module _ (π : Preference) where
 
 -- each class of a family has identifiers
 pub kind_of_identifiers : (c : Class) (f : Family) → role_of_class c ≡ role.OfFamily f → kind_of_member c (codes "ExternalIdentifier") ≡ kind.Identifiers
-kind_of_identifiers class.ReportingUnit f e = refl
-kind_of_identifiers class.Party f e = refl
-kind_of_identifiers class.Coalition f e = refl
-kind_of_identifiers class.Person f e = refl
-kind_of_identifiers class.Office f e = refl
-kind_of_identifiers class.Header f e = refl
-kind_of_identifiers class.Candidate f e = refl
-kind_of_identifiers class.CandidateContest f e = refl
-kind_of_identifiers class.BallotMeasureContest f e = refl
-kind_of_identifiers class.RetentionContest f e = refl
-kind_of_identifiers class.PartyContest f e = refl
-kind_of_identifiers class.CandidateSelection f e = refl
-kind_of_identifiers class.BallotMeasureSelection f e = refl
-kind_of_identifiers class.PartySelection f e = refl
-kind_of_identifiers class.BallotStyle f e = refl
-kind_of_identifiers c f e = cc
+kind_of_identifiers class.ElectionReport f e = cc
+kind_of_identifiers class.Election f e = cc
+kind_of_identifiers class.OrderedContest f e = cc
+kind_of_identifiers class.OrderedHeader f e = cc
+kind_of_identifiers class.ExternalIdentifier f e = cc
+kind_of_identifiers class.InternationalizedText f e = cc
+kind_of_identifiers class.LanguageString f e = cc
+kind_of_identifiers c f e = refl
 
 -- what is built of an object has the key of the object, under each preference
 pub key_of_object : (π ρ : Preference) (t : Data) (f : Family) (c : Class) (d : Data) → IsTree d → class_of_object (role.OfFamily f) d ≡ Some c → key_of ρ (normal_object π t f d) ≡ key_of ρ d
 key_of_object π ρ t f c d tree among =
     ap (key_of_identifiers ρ)
-    (entries_of_identifiers π t f c d tree among (codes "ExternalIdentifier") refl (kind_of_identifiers c f (class_has_role (role.OfFamily f) c d among)))
+    (entries_of_identifiers π t f c d tree among (codes "ExternalIdentifier") refl (kind_of_identifiers c f (class_role (role.OfFamily f) d c among)))
     ∙ key_of_identifiers-rising ρ compact_cmp (entries_at (codes "ExternalIdentifier") d)
 
 -- and of an election

@@ -1,9 +1,9 @@
 -- What is built of a report whose shape has no fault is nested no deeper, part by part.
-use Rattle.std.proofs.Common.{◌≡◌, ◌≤◌, ℕ, List, [], ◌∷◌, map, Bool, true, false, if◌then◌else◌, Ordering, Option, Some, None, option_map, codes, refl, sym, ap, ◌∙◌, subst, arith, zero, suc}
+use Rattle.std.proofs.Common.{◌≡◌, ◌≤◌, ℕ, List, [], map, Bool, true, false, if◌then◌else◌, Ordering, Option, Some, None, option_map, codes, refl, sym, ap, ◌∙◌, subst, arith, zero, suc}
 use Rattle.std.specs.Bool.{⊤}
 use Rattle.std.specs.List.{AllByRecursion}
 use Rattle.std.specs.Option.{option_map_or}
-use Rattle.serde_json.specs.Data.{Data, null, boolean, number, string, array, object, Items, no_items, item, Members, no_members, member, depth, items_depth, members_depth}
+use Rattle.serde_json.specs.Data.{Data, string, array, object, Items, no_items, item, Members, no_members, member, depth, items_depth, members_depth}
 use Rattle.serde_json.specs.Find.{get, get_item, get_member}
 use Rattle.erd_tables.specs.Table.{is_envelope_name, kind_of_member}
 use Rattle.erd_tables.specs.declared.class.Class.{Class}
@@ -25,13 +25,13 @@ use Rattle.erd_check.proofs.Shapes.{Within, Within-root, wanted_within, within-t
 use Rattle.erd_meaning.specs.Keys.{Preference, key_of}
 use Rattle.erd_meaning.specs.Records.{class_of_node}
 use Rattle.erd_meaning.specs.SelectionNames.{compact_cmp, rising_list, selection_role, with_rising_text}
-use Rattle.erd_meaning.proofs.orders.RisingAlike.{all_rising}
+use Rattle.erd_meaning.proofs.orders.RisingOrders.{all_rising}
 use Rattle.erd_normal.specs.code.NormalTree.{array_of, by_key, by_name, id_of_key, id_of_selection, in_envelope, normal_content, normal_election, normal_election_value, normal_members, normal_node, normal_node_members, normal_node_value, normal_nodes, normal_object, normal_object_value, normal_object_with, normal_objects, normal_reference, normal_report_value, normal_selection, normal_selection_reference, normal_tree, normal_value, reference_cmp, unless_no_entry, with_id}
 use Rattle.erd_normal.proofs.built.AskedMembers.{AskedAs, asked_as, entries_asked, entry_asked, label_texts}
-use Rattle.erd_normal.proofs.lists.BuiltLists.{IfSome, if_some_is, all_map, all_of, items_of-depth, listed_depth, unless_no_entry-holds}
-use Rattle.erd_normal.proofs.built.NormalEnvelope.{with_envelope-depth}
+use Rattle.erd_normal.proofs.lists.BuiltLists.{IfSome, if_some_is, all_map, all_of, items_of-depth, listed_depth, unless_no_entry-holds, all_both}
+use Rattle.erd_normal.proofs.built.NormalReports.{with_envelope-depth}
 use Rattle.erd_normal.proofs.built.NormalMembers.{normal_members-depth}
-use Rattle.erd_normal.proofs.built.PutMembers.{put-depth}
+use Rattle.erd_normal.proofs.built.NormalGets.{put-depth}
 use Rattle.erd_check.proofs.Whole.{get_member-later}
 
 -- ---- arrays
@@ -39,10 +39,6 @@ use Rattle.erd_check.proofs.Whole.{get_member-later}
 -- the value that is built, if there is one, is nested no deeper
 abbrev pub NoneDeeper : Data → Option Data → Type 0
 NoneDeeper d o = IfSome (λ v. IsNoDeeper v d) o
-
-all_both : (P Q : Data → Type 0) (xs : List Data) → AllByRecursion P xs → AllByRecursion Q xs → AllByRecursion (λ x. P x × Q x) xs
-all_both P Q [] p q = tt
-all_both P Q (x ∷ xs) p q = ((p.0, q.0), all_both P Q xs p.1 q.1)
 
 -- an array of values that are nested no deeper than the entries of another
 array_depth : (d : Data) (es : List Data) → is_array d ≡ true → ((n : ℕ) → AllByRecursion (λ e. depth e ≤ n) (entries_of d) → AllByRecursion (λ e. depth e ≤ n) es) → IsNoDeeper (array_of es) d
@@ -170,12 +166,8 @@ module _ (π : Preference) (t : Data) (clean : NoneOf (ShapeFault t)) (tree : Is
 
   mutual
     pub normal_content-depth : (d : Data) (r : Bool) → Within t (asked (Member kind.Content r) d) → IsNoDeeper (normal_content π t d) d
-    normal_content-depth null r w = omega arith
-    normal_content-depth (boolean b) r w = omega arith
-    normal_content-depth (number n) r w = omega arith
-    normal_content-depth (string s) r w = omega arith
     normal_content-depth (array ds) r w = omega (arith, nodes_depth ds (entry_asked t (Member kind.Content r) (Object role.Content) ds refl refl w))
-    normal_content-depth (object ms) r w = omega arith
+    normal_content-depth e r w = omega arith
 
     nodes_depth : (ds : Items) → ((i : ℕ) (d : Data) → get_item i ds ≡ Some d → Within t (asked (Object role.Content) d)) → items_depth (normal_nodes π t ds) ≤ items_depth ds
     nodes_depth no_items each = omega arith
@@ -185,12 +177,8 @@ module _ (π : Preference) (t : Data) (clean : NoneOf (ShapeFault t)) (tree : Is
         omega arith
 
     node_depth : (d : Data) → Within t (asked (Object role.Content) d) → depth (normal_node π t d) ≤ depth d
-    node_depth null w = omega arith
-    node_depth (boolean b) w = omega arith
-    node_depth (number n) w = omega arith
-    node_depth (string s) w = omega arith
-    node_depth (array ds) w = omega arith
     node_depth (object ms) w = omega (arith, node_members_depth ms (class_of_node (object ms)) (within-tree t (asked (Object role.Content) (object ms)) tree w) (node_members_of ms w))
+    node_depth e w = omega arith
 
     node_members_depth : (ms : Members) (c : Option Class) → AreMembers ms → ((name : List ℕ) (d : Data) → get_member name ms ≡ Some d → IsNodeMember c name d) → members_depth (normal_node_members π t c ms) ≤ members_depth ms
     node_members_depth no_members c rise each = omega arith

@@ -1,13 +1,14 @@
 -- The entries of the arrays that are built.
-use Rattle.std.proofs.Common.{◌≡◌, ℕ, List, [], ◌∷◌, map, length, Bool, true, false, if◌then◌else◌, Option, Some, None, option_and_then, codes, refl, sym, ap, ◌∙◌, arith}
+use Rattle.std.proofs.Common.{◌≡◌, ℕ, ◌+◌, ◌<◌, List, [], ◌∷◌, ◌++◌, map, length, take, get_or, sym, ap, ap₂, ◌∙◌, Bool, true, false, if◌then◌else◌, Option, Some, None, option_and_then, codes, refl}
+use Rattle.std.proofs.lemmas.List.{map-append, take_more, nil_from_length}
 use Rattle.std.proofs.lemmas.Bool.Decides.{Decides-eqb}
 use Rattle.std.specs.Str.{bytes_eq}
 use Rattle.serde_json.specs.Data.{Data, array}
 use Rattle.serde_json.specs.Find.{get}
 use Rattle.erd_tables.specs.Table.{is_envelope_name, kind_of_member}
 use Rattle.erd_tables.specs.declared.class.Class.{Class}
-use Rattle.erd_tables.specs.declared.class.Class.TheVariants as class
 use Rattle.erd_tables.specs.declared.class.Family.{Family}
+use Rattle.erd_tables.specs.declared.class.Class.TheVariants as class
 use Rattle.erd_tables.specs.declared.class.Family.TheVariants as family
 use Rattle.erd_tables.specs.declared.class.Role.TheVariants as role
 use Rattle.erd_tables.specs.declared.member.MemberKind.TheVariants as kind
@@ -16,21 +17,35 @@ use Rattle.erd_check.specs.Trees.{IsTree}
 use Rattle.erd_check.specs.Values.{entries_of, list_of_items, entries_at}
 use Rattle.erd_check.specs.Wants.{class_of_object}
 use Rattle.erd_check.proofs.Entries.{entries_in}
+use Rattle.erd_check.proofs.Lists.{list_of_items-items_of}
 use Rattle.erd_meaning.specs.Keys.{Preference}
 use Rattle.erd_meaning.specs.SelectionNames.{compact_cmp, rising_list}
 use Rattle.erd_normal.specs.code.NormalTree.{array_of, by_key, by_name, normal_election, normal_object, normal_report_value, normal_selection, normal_tree, unless_no_entry}
 use Rattle.erd_normal.proofs.built.NormalGets.{get_election, get_object}
 use Rattle.erd_normal.proofs.built.NormalReports.{get_report}
-use Rattle.erd_check.proofs.Lists.{list_of_items-items_of}
+
+-- ---- entries that are built one after another
+
+-- one entry more
+pub one_more : {A B C : Type 0} (f : A → C) (h : B → C) (built : List A) (vs : List B) (i : ℕ) (v : B) (x : A) → i < length vs → v ≡ get_or vs i v → f x ≡ h v
+    → map f built ≡ map h (take i vs) → map f (built ++ x ∷ []) ≡ map h (take (i + 1) vs)
+one_more f h built vs i v x low here new earlier =
+    map-append f built (x ∷ [])
+    ∙ (ap₂ (λ ds d. ds ++ d ∷ []) earlier (new ∙ ap h here)
+    ∙ sym (ap (map h) (take_more vs i v low) ∙ map-append h (take i vs) (get_or vs i v ∷ [])))
+
+-- one value more
+pub one_value : {B C : Type 0} (h : B → C) (built : List C) (vs : List B) (i : ℕ) (v : B) (x : C) → i < length vs → v ≡ get_or vs i v → x ≡ h v
+    → built ≡ map h (take i vs) → built ++ x ∷ [] ≡ map h (take (i + 1) vs)
+one_value h built vs i v x low here new earlier =
+    ap₂ (λ ds d. ds ++ d ∷ []) earlier (new ∙ ap h here) ∙ sym (ap (map h) (take_more vs i v low) ∙ map-append h (take i vs) (get_or vs i v ∷ []))
+
+-- ---- the entries of the arrays that are built
 
 -- ---- arrays that are built
 
-none_listed : (ds : List Data) → length ds ≡ 0 → ds ≡ []
-none_listed [] e = refl
-none_listed (d ∷ ds) e = absurd (omega arith)
-
 pub no_entry : (d : Data) → is_empty_array d ≡ true → entries_of d ≡ []
-no_entry (array ds) is = none_listed (list_of_items ds) ((Decides-eqb (length (list_of_items ds)) 0).0 is)
+no_entry (array ds) is = nil_from_length (list_of_items ds) ((Decides-eqb (length (list_of_items ds)) 0).0 is)
 no_entry d is = cc
 
 -- the entries of an array that is built from those of another, unless it has none

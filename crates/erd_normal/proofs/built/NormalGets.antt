@@ -1,41 +1,76 @@
 -- What stands under each name of an object that is built from an object of a class.
-use Rattle.std.proofs.Common.{◌≡◌, ℕ, List, true, false, Option, Some, None, option_and_then, option_map, codes, refl, ap, ◌∙◌}
+use Rattle.std.proofs.Common.{◌≡◌, ◌≤◌, ℕ, List, Ordering, Less, Equal, Greater, true, false, true≢false, refl, sym, ap, ◌∙◌, subst, arith, Option, Some, None, option_and_then, option_map, codes}
+use Rattle.std.proofs.lemmas.Cmp.{nat_list_cmp_total, tied_itself}
+use Rattle.std.specs.Cmp.Lexicographic.{slice_cmp}
+use Rattle.std.specs.Ordering.{match_ordering, nat_cmp}
 use Rattle.std.specs.Str.{bytes_eq}
-use Rattle.serde_json.specs.Data.{Data, string, object}
-use Rattle.serde_json.specs.Find.{as_str, get, get_member}
-use Rattle.serde_json.proofs.Views.{get_member-put}
+use Rattle.serde_json.specs.Data.{Data, Members, no_members, member, put, depth, members_depth, string, object}
+use Rattle.serde_json.specs.Find.{get_member, as_str, get}
+use Rattle.serde_json.proofs.Views.{get_member-put_other, get_member-put}
+use Rattle.erd_tables.specs.Texts.{text_cmp}
 use Rattle.erd_tables.specs.Classes.{class_in_role, role_of_class}
 use Rattle.erd_tables.specs.Table.{kind_of_member}
 use Rattle.erd_tables.specs.declared.class.Class.{Class}
-use Rattle.erd_tables.specs.declared.class.Class.TheVariants as class
 use Rattle.erd_tables.specs.declared.class.Family.{Family}
 use Rattle.erd_tables.specs.declared.class.Role.{Role}
-use Rattle.erd_tables.specs.declared.class.Role.TheVariants as role
 use Rattle.erd_tables.specs.declared.member.MemberKind.{MemberKind}
+use Rattle.erd_tables.specs.declared.class.Class.TheVariants as class
+use Rattle.erd_tables.specs.declared.class.Role.TheVariants as role
 use Rattle.erd_tables.specs.declared.member.MemberKind.TheVariants as kind
-use Rattle.erd_tables.proofs.Roles.{class_in_role_named}
+use Rattle.erd_check.proofs.Exact.{text_itself}
 use Rattle.erd_check.specs.Faults.{is_object}
 use Rattle.erd_check.specs.Trees.{IsTree}
 use Rattle.erd_check.specs.Wants.{class_of_object}
 use Rattle.erd_check.proofs.TableKinds.{kind_of_id}
-use Rattle.erd_meaning.specs.Keys.{Preference, key_of}
 use Rattle.erd_check.specs.Values.{entries_at}
+use Rattle.erd_meaning.specs.Keys.{Preference, key_of}
 use Rattle.erd_meaning.specs.Objects.{id_of}
 use Rattle.erd_meaning.specs.Records.{class_of_node}
 use Rattle.erd_meaning.specs.SelectionNames.{compact_cmp, rising_list, selection_role, with_rising_text}
+use Rattle.erd_meaning.proofs.meanings.SelectionKinds.{kind_of_type, class_role}
 use Rattle.erd_normal.specs.code.NormalTree.{array_of, id_of_key, id_of_selection, normal_content, normal_election, normal_election_value, normal_node, normal_node_value, normal_object, normal_object_value, normal_object_with, normal_selection, normal_value, with_id}
-use Rattle.erd_meaning.proofs.meanings.SelectionKinds.{kind_of_type}
 use Rattle.erd_normal.proofs.built.NormalMembers.{get_normal, get_normal_node, node_value}
-use Rattle.erd_normal.proofs.built.PutMembers.{put_elsewhere}
+
+-- ---- the members of an object with a value put at a name: what stands at the other names, two values put there in turn, and how deep they nest
+
+-- the other names keep their values, where a name is other by a test that computes on literals; `get_member-put` of
+-- serde_json says what stands at the name itself
+pub put_elsewhere : (q k : List ℕ) (d : Data) (ms : Members) → bytes_eq q k ≡ false → get_member q (put k d ms) ≡ get_member q ms
+put_elsewhere q k d ms other = get_member-put_other q k d ms (λ same. true≢false (sym (subst (λ x. bytes_eq q x ≡ true) same (text_itself q)) ∙ other))
+
+-- ---- two values at one name
+
+put_twice_at : (o : Ordering) (k l : List ℕ) (d e f : Data) (ms : Members) → slice_cmp nat_cmp k l ≡ o → put k d (put k e ms) ≡ put k d ms
+    → put k d (match_ordering o (member k e (member l f ms)) (member l e ms) (member l f (put k e ms))) ≡ match_ordering o (member k d (member l f ms)) (member l d ms) (member l f (put k d ms))
+put_twice_at Less k l d e f ms is more = ap (λ o. match_ordering o (member k d (member k e (member l f ms))) (member k d (member l f ms)) (member k e (put k d (member l f ms)))) (tied_itself nat_list_cmp_total k)
+put_twice_at Equal k l d e f ms is more = ap (λ o. match_ordering o (member k d (member l e ms)) (member l d ms) (member l e (put k d ms))) is
+put_twice_at Greater k l d e f ms is more =
+    ap (λ o. match_ordering o (member k d (member l f (put k e ms))) (member l d (put k e ms)) (member l f (put k d (put k e ms)))) is ∙ ap (member l f) more
+
+-- the later of two values at a name stays
+pub put_twice : (k : List ℕ) (d e : Data) (ms : Members) → put k d (put k e ms) ≡ put k d ms
+put_twice k d e no_members = ap (λ o. match_ordering o (member k d (member k e no_members)) (member k d no_members) (member k e (put k d no_members))) (tied_itself nat_list_cmp_total k)
+put_twice k d e (member l f ms) = put_twice_at (slice_cmp nat_cmp k l) k l d e f ms refl (put_twice k d e ms)
+
+-- ---- depth
+
+deepest : (o : Ordering) (a b c : Members) (n : ℕ) → members_depth a ≤ n → members_depth b ≤ n → members_depth c ≤ n → members_depth (match_ordering o a b c) ≤ n
+deepest Less a b c n p q r = p
+deepest Equal a b c n p q r = q
+deepest Greater a b c n p q r = r
+
+-- nested no deeper than n, if the value and the members are
+pub put-depth : (k : List ℕ) (v : Data) (ms : Members) (n : ℕ) → depth v ≤ n → members_depth ms ≤ n → members_depth (put k v ms) ≤ n
+put-depth k v no_members n new low = omega arith
+put-depth k v (member l d ms) n new low =
+    let here : depth d ≤ n = omega arith in
+    let rest : members_depth ms ≤ n = omega arith in
+    let later : members_depth (put k v ms) ≤ n = put-depth k v ms n new rest in
+    deepest (text_cmp k l) (member k v (member l d ms)) (member l v ms) (member l d (put k v ms)) n (omega arith) (omega arith) (omega arith)
+
+-- ---- what stands under each name of an object that is built from an object of a class
 
 -- ---- an object of a class
-
-pub class_has_role : (r : Role) (c : Class) (d : Data) → class_of_object r d ≡ Some c → role_of_class c ≡ r
-class_has_role r c d among = at (option_and_then as_str (get (codes "@type") d)) among
-  where
-    at : (o : Option (List ℕ)) → option_and_then (class_in_role r) o ≡ Some c → role_of_class c ≡ r
-    at None e = cc
-    at (Some s) e = (class_in_role_named r s c e).role
 
 pub class_of_object-object : (r : Role) (c : Class) (d : Data) → class_of_object r d ≡ Some c → is_object d ≡ true
 class_of_object-object r c (object ms) among = refl
@@ -111,7 +146,7 @@ module _ (π : Preference) (t : Data) (f : Family) (c : Class) (d : Data) (tree 
   pub get_object-id : get (codes "@id") (normal_object π t f d) ≡ option_map string (id_of_key π t f (key_of π d))
   get_object-id =
       with_id_holds (λ name k v. normal_object_value π t d k v) (role.OfFamily f) c (id_of_key π t f (key_of π d)) d tree among
-      (λ v. ap (λ k. normal_object_value π t d k v) (kind_of_family_id c f (class_has_role (role.OfFamily f) c d among)))
+      (λ v. ap (λ k. normal_object_value π t d k v) (kind_of_family_id c f (class_role (role.OfFamily f) d c among)))
 
   pub id_of_object : id_of (normal_object π t f d) ≡ id_of_key π t f (key_of π d)
   id_of_object = text_of_id (normal_object π t f d) (id_of_key π t f (key_of π d)) get_object-id

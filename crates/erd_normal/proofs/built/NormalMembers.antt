@@ -51,7 +51,7 @@ before_each value k (member l d ms) rise below = at (value l d) (before_each val
     at None h = h
     at (Some v) h = below
 
-trees_of_each : (value : List ℕ → Data → Option Data) (ms : Members) → AreMembers ms
+pub trees_of_each : (value : List ℕ → Data → Option Data) (ms : Members) → AreMembers ms
     → ((name : List ℕ) (d v : Data) → get_member name ms ≡ Some d → IsTree d → value name d ≡ Some v → IsTree v) → AreMembers (each_member value ms)
 trees_of_each value no_members rise each = tt
 trees_of_each value (member l d ms) rise each =
@@ -86,11 +86,6 @@ module _ (value_of : List ℕ → MemberKind → Data → Option Data) (c : Clas
   pub get_normal : (name : List ℕ) (ms : Members) → AreMembers ms → get_member name (normal_members value_of c ms) ≡ option_and_then (value_of name (kind_of_member c name)) (get_member name ms)
   get_normal name ms rise = ap (get_member name) (normal_members_each ms) ∙ get_each value_in_class name ms rise
 
-  -- each value that is given for a member that stands is a tree
-  pub normal_members-trees : (ms : Members) → AreMembers ms
-      → ((name : List ℕ) (d v : Data) → get_member name ms ≡ Some d → IsTree d → value_of name (kind_of_member c name) d ≡ Some v → IsTree v) → AreMembers (normal_members value_of c ms)
-  normal_members-trees ms rise each = rw (normal_members_each ms) (trees_of_each value_in_class ms rise each)
-
   -- each value that is given for a member that stands is nested no deeper
   pub normal_members-depth : (ms : Members) → AreMembers ms
       → ((name : List ℕ) (d v : Data) → get_member name ms ≡ Some d → value_of name (kind_of_member c name) d ≡ Some v → depth v ≤ depth d) → members_depth (normal_members value_of c ms) ≤ members_depth ms
@@ -109,6 +104,3 @@ module _ (π : Preference) (t : Data) (c : Option Class) where
 
   pub get_normal_node : (name : List ℕ) (ms : Members) → AreMembers ms → get_member name (normal_node_members π t c ms) ≡ option_and_then (node_value name) (get_member name ms)
   get_normal_node name ms rise = ap (get_member name) (normal_node_members_each ms) ∙ get_each node_value name ms rise
-
-  pub normal_node_members-before : (k : List ℕ) (ms : Members) → AreMembers ms → IsBeforeFirst k ms → IsBeforeFirst k (normal_node_members π t c ms)
-  normal_node_members-before k ms rise below = rw (normal_node_members_each ms) (before_each node_value k ms rise below)

@@ -22,9 +22,9 @@ use Rattle.erd_meaning.proofs.accepted.Skeleton.{Skeleton, election_entries, ele
 use Rattle.erd_meaning.proofs.accepted.Standing.{contest_selections}
 use Rattle.erd_normal.specs.code.NormalTree.{by_key, by_name, normal_election, normal_object, normal_selection, normal_tree}
 use Rattle.erd_normal.proofs.built.NormalEntries.{entries_of_election, entries_of_elections, entries_of_report, entries_of_selections}
-use Rattle.erd_normal.proofs.built.NormalGets.{class_has_role}
 use Rattle.erd_normal.proofs.lists.Matched.{Matched, matched_flat, matched_map, matched_then}
 use Rattle.erd_meaning.proofs.orders.Reordered.{reordered_map, reordered_rising}
+use Rattle.erd_meaning.proofs.meanings.SelectionKinds.{class_role}
 
 -- the objects of a family, without their places
 abbrev pub values_of : Family → Data → List Data
@@ -38,7 +38,7 @@ built_objects π t f ds = map (normal_object π t f) (rising_list (by_key π) ds
 pub selections_built : (π : Preference) (t : Data) (c : Class) (d : Data) → IsTree d → class_of_object (role.OfFamily family.Contest) d ≡ Some c
     → entries_at (codes "ContestSelection") (normal_object π t family.Contest d) ≡ map (normal_selection π t d) (rising_list (by_name π t) (entries_at (codes "ContestSelection") d))
 selections_built π t c d tree among =
-    entries_of_selections π t family.Contest c d tree among (codes "ContestSelection") refl (contest_selections c (class_has_role (role.OfFamily family.Contest) c d among))
+    entries_of_selections π t family.Contest c d tree among (codes "ContestSelection") refl (contest_selections c (class_role (role.OfFamily family.Contest) d c among))
 
 -- the one value is what is built of the other
 abbrev pub IsBuilt : Preference → Data → Family → Data → Data → Type 0

@@ -1,8 +1,8 @@
--- What is built of a tree is a tree, part by part.
-use Rattle.std.proofs.Common.{◌≡◌, ℕ, List, [], map, Bool, true, false, if◌then◌else◌, Ordering, Option, Some, None, option_map, codes, refl}
+-- What holds of a report holds of what is built of it, if it is told part by part; so what is built of a tree is a tree.
+use Rattle.std.proofs.Common.{◌≡◌, ℕ, List, [], ◌∷◌, map, Bool, true, false, if◌then◌else◌, Ordering, Option, Some, None, option_map, codes, refl, sym, subst}
 use Rattle.std.specs.List.{AllByRecursion}
 use Rattle.std.specs.Option.{option_map_or}
-use Rattle.serde_json.specs.Data.{Data, null, boolean, number, string, array, object, Items, no_items, item, Members, no_members, member}
+use Rattle.serde_json.specs.Data.{Data, string, array, object, Items, no_items, item, Members, no_members, member, number, unsigned, put}
 use Rattle.serde_json.specs.Find.{get_member}
 use Rattle.erd_tables.specs.Table.{is_envelope_name, kind_of_member}
 use Rattle.erd_tables.specs.declared.class.Class.{Class}
@@ -11,166 +11,209 @@ use Rattle.erd_tables.specs.declared.class.Family.TheVariants as family
 use Rattle.erd_tables.specs.declared.class.Role.TheVariants as role
 use Rattle.erd_tables.specs.declared.member.MemberKind.{MemberKind}
 use Rattle.erd_tables.specs.declared.member.MemberKind.TheVariants as kind
-use Rattle.erd_check.specs.Trees.{IsTree, AreTrees, AreMembers, IsBeforeFirst}
-use Rattle.erd_check.specs.Values.{entries_of, entries_at}
+use Rattle.erd_check.specs.Trees.{IsTree}
+use Rattle.erd_check.specs.Values.{entries_of, entries_at, list_of_items}
 use Rattle.erd_check.specs.Wants.{class_of_object}
-use Rattle.erd_check.proofs.Members.{get_member-tree}
-use Rattle.erd_check.proofs.PutTrees.{put-trees}
+use Rattle.erd_check.proofs.Members.{get_member-tree, found_cases}
+use Rattle.erd_check.proofs.ReadTrees.{put-trees}
 use Rattle.erd_meaning.specs.Keys.{Preference, key_of}
 use Rattle.erd_meaning.specs.Records.{class_of_node}
 use Rattle.erd_meaning.specs.SelectionNames.{compact_cmp, rising_list, selection_role, with_rising_text}
-use Rattle.erd_meaning.proofs.orders.RisingAlike.{all_rising}
-use Rattle.erd_normal.specs.code.NormalTree.{array_of, by_key, by_name, id_of_key, id_of_selection, in_envelope, normal_content, normal_election, normal_election_value, normal_node, normal_node_members, normal_node_value, normal_nodes, normal_object, normal_object_value, normal_object_with, normal_objects, normal_reference, normal_report_value, normal_selection, normal_selection_reference, normal_tree, normal_value, reference_cmp, unless_no_entry, with_id}
-use Rattle.erd_normal.proofs.lists.BuiltLists.{IfSome, if_some_is, all_map, array_of-tree, entries_of-trees, unless_no_entry-holds}
-use Rattle.erd_normal.proofs.built.NormalEnvelope.{with_envelope-trees}
-use Rattle.erd_normal.proofs.built.NormalMembers.{normal_members-trees, normal_node_members-before}
+use Rattle.erd_meaning.proofs.orders.RisingOrders.{all_rising}
+use Rattle.erd_normal.specs.code.NormalTree.{array_of, by_key, by_name, envelope_values, id_of_key, id_of_selection, in_envelope, normal_content, normal_election, normal_election_value, normal_node, normal_node_value, normal_nodes, normal_object, normal_object_value, normal_object_with, normal_objects, normal_reference, normal_report_value, normal_selection, normal_selection_reference, normal_tree, normal_value, reference_cmp, unless_no_entry, with_id}
+use Rattle.erd_normal.proofs.lists.BuiltLists.{IfSome, if_some_is, all_map, array_of-tree, items_again, trees_listed, unless_no_entry-holds}
+use Rattle.erd_normal.proofs.built.NormalMembers.{each_member, node_value, normal_members_each, normal_node_members_each, trees_of_each, value_in_class}
+use Rattle.erd_normal.specs.code.Building.{put_all}
 
--- ---- members
+-- it holds of an array and of an object by what it says of their parts, and of texts and of the number of the envelope
+pub record IsPartwise (P : Data → Type 0) : Type 0 where
+  pub entries : (ds : Items) → P (array ds) → AllByRecursion P (list_of_items ds)
+  pub listed : (ds : List Data) → AllByRecursion P ds → P (array_of ds)
+  pub found : (name : List ℕ) (v : Data) (ms : Members) → P (object ms) → get_member name ms ≡ Some v → P v
+  pub with_put : (name : List ℕ) (v : Data) (ms : Members) → P (object ms) → P v → P (object (put name v ms))
+  pub with_each : (value : List ℕ → Data → Option Data) (ms : Members) → P (object ms)
+      → ((name : List ℕ) (d v : Data) → get_member name ms ≡ Some d → P d → value name d ≡ Some v → P v) → P (object (each_member value ms))
+  pub text : (s : List ℕ) → P (string s)
+  pub one : P (number (unsigned 1))
 
-text_entries-trees : (o : Option Data) → ((d : Data) → o ≡ Some d → IsTree d) → AllByRecursion IsTree (option_map_or entries_of o [])
-text_entries-trees None tree = tt
-text_entries-trees (Some d) tree = entries_of-trees d (tree d refl)
+module _ (P : Data → Type 0) (parts : IsPartwise P) where
+  -- ---- members
+
+  entries-hold : (d : Data) → P d → AllByRecursion P (entries_of d)
+  entries-hold (array ds) holds = parts.entries ds holds
+  entries-hold d holds = tt
+
+  text_entries-hold : (o : Option Data) → ((d : Data) → o ≡ Some d → P d) → AllByRecursion P (option_map_or entries_of o [])
+  text_entries-hold None holds = tt
+  text_entries-hold (Some d) holds = entries-hold d (holds d refl)
+
+  pub with_rising_text-holds : (d : Data) → P d → P (with_rising_text d)
+  with_rising_text-holds (object ms) holds =
+      let texts : List Data = entries_at (codes "Text") (object ms) in
+      let all = all_rising P compact_cmp texts (text_entries-hold (get_member (codes "Text") ms) (λ d is. parts.found (codes "Text") d ms holds is)) in
+      parts.with_put (codes "Text") (array_of (rising_list compact_cmp texts)) ms holds (parts.listed (rising_list compact_cmp texts) all)
+  with_rising_text-holds d holds = holds
+
+  -- an array of values in order
+  rising_array-holds : (cmp : Data → Data → Ordering) (d : Data) → P d → IfSome P (unless_no_entry d (array_of (rising_list cmp (entries_of d))))
+  rising_array-holds cmp d holds =
+      let all = all_rising P cmp (entries_of d) (entries-hold d holds) in
+      unless_no_entry-holds P d (array_of (rising_list cmp (entries_of d))) (parts.listed (rising_list cmp (entries_of d)) all)
+
+  -- an array of what is built of some values
+  built_array-holds : (d : Data) (f : Data → Data) (ds : List Data) → AllByRecursion P ds → ((e : Data) → P e → P (f e)) → IfSome P (unless_no_entry d (array_of (map f ds)))
+  built_array-holds d f ds all each =
+      unless_no_entry-holds P d (array_of (map f ds)) (parts.listed (map f ds) (all_map P P f ds each all))
+
+  normal_value-holds : (π : Preference) (t : Data) (k : MemberKind) (d : Data) → P d → IfSome P (normal_value π t k d)
+  normal_value-holds π t kind.Label d holds = with_rising_text-holds d holds
+  normal_value-holds π t (kind.One f) d holds = parts.text _
+  normal_value-holds π t (kind.Many f) d holds =
+      let ds : List Data = rising_list (reference_cmp π t f) (entries_of d) in
+      built_array-holds d (normal_reference π t f) ds (all_rising P (reference_cmp π t f) (entries_of d) (entries-hold d holds)) (λ e h. parts.text _)
+  normal_value-holds π t kind.Identifiers d holds = rising_array-holds compact_cmp d holds
+  normal_value-holds π t kind.Languages d holds = rising_array-holds compact_cmp d holds
+  normal_value-holds π t kind.Ordered d holds = built_array-holds d (normal_selection_reference π t) (entries_of d) (entries-hold d holds) (λ e h. parts.text _)
+  normal_value-holds π t kind.Identity d holds = tt
+  normal_value-holds π t kind.Outside d holds = tt
+  normal_value-holds π t k d holds = holds
+
+  -- an object of a class
+  normal_object_with-holds : (value_of : List ℕ → MemberKind → Data → Option Data) (c : Option Class) (d : Data)
+      → ((name : List ℕ) (k : MemberKind) (e : Data) → P e → IfSome P (value_of name k e)) → P d → P (normal_object_with value_of c d)
+  normal_object_with-holds value_of (Some c) (object ms) each holds =
+      subst (λ ns. P (object ns)) (sym (normal_members_each value_of c ms))
+      (parts.with_each (value_in_class value_of c) ms holds
+      (λ name e v found inside given. if_some_is P (value_of name (kind_of_member c name) e) v (each name (kind_of_member c name) e inside) given))
+  normal_object_with-holds value_of c d each holds = holds
+
+  with_id-holds : (id : Option (List ℕ)) (d : Data) → P d → P (with_id id d)
+  with_id-holds (Some id) (object ms) holds = parts.with_put (codes "@id") (string id) ms holds (parts.text id)
+  with_id-holds id d holds = holds
+
+  -- ---- the order of a ballot
+
+  normal_node_value-holds : (π : Preference) (t : Data) (k : Option MemberKind) (d inside : Data) → P d → P inside → IfSome P (normal_node_value π t k d inside)
+  normal_node_value-holds π t (Some kind.Content) d inside holds within = unless_no_entry-holds P d inside within
+  normal_node_value-holds π t (Some k) d inside holds within = normal_value-holds π t k d holds
+  normal_node_value-holds π t None d inside holds within = holds
+
+  mutual
+    normal_content-holds : (π : Preference) (t d : Data) → P d → P (normal_content π t d)
+    normal_content-holds π t (array ds) holds =
+        subst (λ es. P (array es)) (items_again (normal_nodes π t ds)) (parts.listed (list_of_items (normal_nodes π t ds)) (normal_nodes-hold π t ds (parts.entries ds holds)))
+    normal_content-holds π t d holds = holds
+
+    normal_nodes-hold : (π : Preference) (t : Data) (ds : Items) → AllByRecursion P (list_of_items ds) → AllByRecursion P (list_of_items (normal_nodes π t ds))
+    normal_nodes-hold π t no_items all = tt
+    normal_nodes-hold π t (item d ds) all = (normal_node-holds π t d all.0, normal_nodes-hold π t ds all.1)
+
+    pub normal_node-holds : (π : Preference) (t d : Data) → P d → P (normal_node π t d)
+    normal_node-holds π t (object ms) holds =
+        let c : Option Class = class_of_node (object ms) in
+        subst (λ ns. P (object ns)) (sym (normal_node_members_each π t c ms))
+        (parts.with_each (node_value π t c) ms holds
+        (λ name d v found inside given. if_some_is P (node_value π t c name d) v
+        (normal_node_value-holds π t (option_map (λ c. kind_of_member c name) c) d (normal_content π t d) inside (contents-hold π t ms name d found inside)) given))
+    normal_node-holds π t d holds = holds
+
+    contents-hold : (π : Preference) (t : Data) (ms : Members) (name : List ℕ) (d : Data) → get_member name ms ≡ Some d → P d → P (normal_content π t d)
+    contents-hold π t no_members name d found holds = cc
+    contents-hold π t (member l e ms) name d found holds =
+        found_cases name l d e ms found (λ named same. subst (λ x. P (normal_content π t x)) same (normal_content-holds π t e (subst P (sym same) holds)))
+        (λ later. contents-hold π t ms name d later holds)
+
+  -- ---- objects
+
+  pub normal_selection-holds : (π : Preference) (t contest d : Data) → P d → P (normal_selection π t contest d)
+  normal_selection-holds π t contest d holds =
+      with_id-holds (Some (id_of_selection π t contest d)) (normal_object_with (λ name k v. normal_value π t k v) (class_of_object selection_role d) d)
+      (normal_object_with-holds (λ name k v. normal_value π t k v) (class_of_object selection_role d) d (λ name k e h. normal_value-holds π t k e h) holds)
+
+  normal_object_value-holds : (π : Preference) (t o : Data) (k : MemberKind) (d : Data) → P d → IfSome P (normal_object_value π t o k d)
+  normal_object_value-holds π t o (kind.Keyed family.Selection) d holds =
+      let ds : List Data = rising_list (by_name π t) (entries_of d) in
+      built_array-holds d (normal_selection π t o) ds (all_rising P (by_name π t) (entries_of d) (entries-hold d holds)) (normal_selection-holds π t o)
+  normal_object_value-holds π t o kind.Content d holds = unless_no_entry-holds P d (normal_content π t d) (normal_content-holds π t d holds)
+  normal_object_value-holds π t o k d holds = normal_value-holds π t k d holds
+
+  pub normal_object-holds : (π : Preference) (t : Data) (f : Family) (d : Data) → P d → P (normal_object π t f d)
+  normal_object-holds π t f d holds =
+      with_id-holds (id_of_key π t f (key_of π d)) (normal_object_with (λ name k v. normal_object_value π t d k v) (class_of_object (role.OfFamily f) d) d)
+      (normal_object_with-holds (λ name k v. normal_object_value π t d k v) (class_of_object (role.OfFamily f) d) d (λ name k e h. normal_object_value-holds π t d k e h) holds)
+
+  -- an array of objects of a family
+  keyed-holds : (π : Preference) (t : Data) (f : Family) (d : Data) → P d → IfSome P (unless_no_entry d (normal_objects π t f (entries_of d)))
+  keyed-holds π t f d holds =
+      built_array-holds d (normal_object π t f) (rising_list (by_key π) (entries_of d)) (all_rising P (by_key π) (entries_of d) (entries-hold d holds)) (normal_object-holds π t f)
+
+  normal_election_value-holds : (π : Preference) (t : Data) (k : MemberKind) (d : Data) → P d → IfSome P (normal_election_value π t k d)
+  normal_election_value-holds π t (kind.Keyed f) d holds = keyed-holds π t f d holds
+  normal_election_value-holds π t k d holds = normal_value-holds π t k d holds
+
+  pub normal_election-holds : (π : Preference) (t d : Data) → P d → P (normal_election π t d)
+  normal_election-holds π t d holds =
+      normal_object_with-holds (λ name k v. normal_election_value π t k v) (class_of_object role.Election d) d (λ name k e h. normal_election_value-holds π t k e h) holds
+
+  -- ---- the report
+
+  outside_envelope : (π : Preference) (t : Data) (name : List ℕ) (k : MemberKind) (d : Data) → P d → IfSome P (if is_envelope_name name then None else normal_value π t k d)
+  outside_envelope π t name k d holds = at (is_envelope_name name)
+    where
+      at : (b : Bool) → IfSome P (if b then None else normal_value π t k d)
+      at true = tt
+      at false = normal_value-holds π t k d holds
+
+  normal_report_value-holds : (π : Preference) (t : Data) (name : List ℕ) (k : MemberKind) (d : Data) → P d → IfSome P (normal_report_value π t name k d)
+  normal_report_value-holds π t name (kind.Keyed f) d holds = keyed-holds π t f d holds
+  normal_report_value-holds π t name kind.Elections d holds =
+      parts.listed (map (normal_election π t) (rising_list (by_key π) (entries_of d)))
+      (all_map P P (normal_election π t) (rising_list (by_key π) (entries_of d)) (normal_election-holds π t) (all_rising P (by_key π) (entries_of d) (entries-hold d holds)))
+  normal_report_value-holds π t name k d holds = outside_envelope π t name k d holds
+
+  put_all-holds : (ps : List (List ℕ × Data)) (ms : Members) → AllByRecursion (λ p. P p.1) ps → P (object ms) → P (object (put_all ps ms))
+  put_all-holds [] ms all holds = holds
+  put_all-holds (p ∷ ps) ms all holds = parts.with_put p.0 p.1 (put_all ps ms) (put_all-holds ps ms all.1 holds) all.0
+
+  in_envelope-holds : (d : Data) → P d → P (in_envelope d)
+  in_envelope-holds (object ms) holds =
+      put_all-holds envelope_values ms (parts.text _, (parts.text _, (parts.text _, (parts.text _, (parts.one, (parts.one, (parts.text _, tt))))))) holds
+  in_envelope-holds d holds = holds
+
+  -- of what is built of a report that it holds of
+  pub normal_tree-holds : (π : Preference) (t : Data) → P t → P (normal_tree π t)
+  normal_tree-holds π t holds =
+      in_envelope-holds (normal_object_with (normal_report_value π t) (class_of_object role.Report t) t)
+      (normal_object_with-holds (normal_report_value π t) (class_of_object role.Report t) t (normal_report_value-holds π t) holds)
+
+-- ---- trees
+
+tree_partwise : IsPartwise IsTree
+tree_partwise = record {
+  entries = trees_listed;
+  listed = array_of-tree;
+  found = get_member-tree;
+  with_put = put-trees;
+  with_each = trees_of_each;
+  text = λ s. tt;
+  one = tt;
+}
 
 pub with_rising_text-tree : (d : Data) → IsTree d → IsTree (with_rising_text d)
-with_rising_text-tree (object ms) tree =
-    let texts : List Data = entries_at (codes "Text") (object ms) in
-    let all = all_rising IsTree compact_cmp texts (text_entries-trees (get_member (codes "Text") ms) (λ d is. get_member-tree (codes "Text") d ms tree is)) in
-    put-trees (codes "Text") (array_of (rising_list compact_cmp texts)) ms tree (array_of-tree (rising_list compact_cmp texts) all)
-with_rising_text-tree d tree = tree
+with_rising_text-tree = with_rising_text-holds IsTree tree_partwise
 
--- an array of values in order
-rising_array-holds : (cmp : Data → Data → Ordering) (d : Data) → IsTree d → IfSome IsTree (unless_no_entry d (array_of (rising_list cmp (entries_of d))))
-rising_array-holds cmp d tree =
-    let all = all_rising IsTree cmp (entries_of d) (entries_of-trees d tree) in
-    unless_no_entry-holds IsTree d (array_of (rising_list cmp (entries_of d))) (array_of-tree (rising_list cmp (entries_of d)) all)
-
--- an array of what is built of some values, which all are trees
-built_array-holds : (d : Data) (f : Data → Data) (ds : List Data) → AllByRecursion IsTree ds → ((e : Data) → IsTree e → IsTree (f e)) → IfSome IsTree (unless_no_entry d (array_of (map f ds)))
-built_array-holds d f ds all each =
-    unless_no_entry-holds IsTree d (array_of (map f ds)) (array_of-tree (map f ds) (all_map IsTree IsTree f ds each all))
-
-pub normal_value-tree : (π : Preference) (t : Data) (k : MemberKind) (d : Data) → IsTree d → IfSome IsTree (normal_value π t k d)
-normal_value-tree π t kind.Label d tree = with_rising_text-tree d tree
-normal_value-tree π t (kind.One f) d tree = tt
-normal_value-tree π t (kind.Many f) d tree =
-    let ds : List Data = rising_list (reference_cmp π t f) (entries_of d) in
-    built_array-holds d (normal_reference π t f) ds (all_rising IsTree (reference_cmp π t f) (entries_of d) (entries_of-trees d tree)) (λ e h. tt)
-normal_value-tree π t kind.Identifiers d tree = rising_array-holds compact_cmp d tree
-normal_value-tree π t kind.Languages d tree = rising_array-holds compact_cmp d tree
-normal_value-tree π t kind.Ordered d tree = built_array-holds d (normal_selection_reference π t) (entries_of d) (entries_of-trees d tree) (λ e h. tt)
-normal_value-tree π t kind.Identity d tree = tt
-normal_value-tree π t kind.Outside d tree = tt
-normal_value-tree π t k d tree = tree
-
--- an object of a class
-pub normal_object_with-tree : (value_of : List ℕ → MemberKind → Data → Option Data) (c : Option Class) (d : Data)
-    → ((name : List ℕ) (k : MemberKind) (e : Data) → IsTree e → IfSome IsTree (value_of name k e)) → IsTree d → IsTree (normal_object_with value_of c d)
-normal_object_with-tree value_of (Some c) (object ms) each tree =
-    normal_members-trees value_of c ms tree (λ name e v found inside given. if_some_is IsTree (value_of name (kind_of_member c name) e) v (each name (kind_of_member c name) e inside) given)
-normal_object_with-tree value_of c d each tree = tree
-
-pub with_id-tree : (id : Option (List ℕ)) (d : Data) → IsTree d → IsTree (with_id id d)
-with_id-tree (Some id) (object ms) tree = put-trees (codes "@id") (string id) ms tree tt
-with_id-tree id d tree = tree
-
--- ---- the order of a ballot
-
-normal_node_value-tree : (π : Preference) (t : Data) (k : Option MemberKind) (d inside : Data) → IsTree d → IsTree inside → IfSome IsTree (normal_node_value π t k d inside)
-normal_node_value-tree π t (Some kind.Content) d inside tree within = unless_no_entry-holds IsTree d inside within
-normal_node_value-tree π t (Some k) d inside tree within = normal_value-tree π t k d tree
-normal_node_value-tree π t None d inside tree within = tree
-
--- a member before those that are built, if there is a value for it
-with_first-trees : (k : List ℕ) (r : Option Data) (ms : Members) → IfSome IsTree r → IsBeforeFirst k ms → AreMembers ms → AreMembers (option_map_or (λ v. member k v ms) r ms)
-with_first-trees k None ms new below rise = rise
-with_first-trees k (Some v) ms new below rise = (below, new, rise)
-
-mutual
-  pub normal_content-tree : (π : Preference) (t d : Data) → IsTree d → IsTree (normal_content π t d)
-  normal_content-tree π t null tree = tree
-  normal_content-tree π t (boolean b) tree = tree
-  normal_content-tree π t (number n) tree = tree
-  normal_content-tree π t (string s) tree = tree
-  normal_content-tree π t (array ds) tree = normal_nodes-trees π t ds tree
-  normal_content-tree π t (object ms) tree = tree
-
-  pub normal_nodes-trees : (π : Preference) (t : Data) (ds : Items) → AreTrees ds → AreTrees (normal_nodes π t ds)
-  normal_nodes-trees π t no_items trees = tt
-  normal_nodes-trees π t (item d ds) trees = (normal_node-tree π t d trees.0, normal_nodes-trees π t ds trees.1)
-
-  pub normal_node-tree : (π : Preference) (t d : Data) → IsTree d → IsTree (normal_node π t d)
-  normal_node-tree π t null tree = tree
-  normal_node-tree π t (boolean b) tree = tree
-  normal_node-tree π t (number n) tree = tree
-  normal_node-tree π t (string s) tree = tree
-  normal_node-tree π t (array ds) tree = tree
-  normal_node-tree π t (object ms) tree = node_members-trees π t (class_of_node (object ms)) ms tree
-
-  node_members-trees : (π : Preference) (t : Data) (c : Option Class) (ms : Members) → AreMembers ms → AreMembers (normal_node_members π t c ms)
-  node_members-trees π t c no_members rise = tt
-  node_members-trees π t c (member k d ms) rise =
-      with_first-trees k (normal_node_value π t (option_map (λ c. kind_of_member c k) c) d (normal_content π t d)) (normal_node_members π t c ms)
-      (normal_node_value-tree π t (option_map (λ c. kind_of_member c k) c) d (normal_content π t d) rise.1 (normal_content-tree π t d rise.1))
-      (normal_node_members-before π t c k ms rise.2 rise.0)
-      (node_members-trees π t c ms rise.2)
-
--- ---- objects
+pub normal_node-tree : (π : Preference) (t d : Data) → IsTree d → IsTree (normal_node π t d)
+normal_node-tree = normal_node-holds IsTree tree_partwise
 
 pub normal_selection-tree : (π : Preference) (t contest d : Data) → IsTree d → IsTree (normal_selection π t contest d)
-normal_selection-tree π t contest d tree =
-    let inside = normal_object_with-tree (λ name k v. normal_value π t k v) (class_of_object selection_role d) d (λ name k e h. normal_value-tree π t k e h) tree in
-    with_id-tree (Some (id_of_selection π t contest d)) (normal_object_with (λ name k v. normal_value π t k v) (class_of_object selection_role d) d) inside
-
-pub normal_object_value-tree : (π : Preference) (t o : Data) (k : MemberKind) (d : Data) → IsTree d → IfSome IsTree (normal_object_value π t o k d)
-normal_object_value-tree π t o (kind.Keyed family.Selection) d tree =
-    let ds : List Data = rising_list (by_name π t) (entries_of d) in
-    built_array-holds d (normal_selection π t o) ds (all_rising IsTree (by_name π t) (entries_of d) (entries_of-trees d tree)) (normal_selection-tree π t o)
-normal_object_value-tree π t o kind.Content d tree = unless_no_entry-holds IsTree d (normal_content π t d) (normal_content-tree π t d tree)
-normal_object_value-tree π t o k d tree = normal_value-tree π t k d tree
+normal_selection-tree = normal_selection-holds IsTree tree_partwise
 
 pub normal_object-tree : (π : Preference) (t : Data) (f : Family) (d : Data) → IsTree d → IsTree (normal_object π t f d)
-normal_object-tree π t f d tree =
-    let inside = normal_object_with-tree (λ name k v. normal_object_value π t d k v) (class_of_object (role.OfFamily f) d) d (λ name k e h. normal_object_value-tree π t d k e h) tree in
-    with_id-tree (id_of_key π t f (key_of π d)) (normal_object_with (λ name k v. normal_object_value π t d k v) (class_of_object (role.OfFamily f) d) d) inside
-
-pub normal_objects-tree : (π : Preference) (t : Data) (f : Family) (ds : List Data) → AllByRecursion IsTree ds → IsTree (normal_objects π t f ds)
-normal_objects-tree π t f ds all =
-    array_of-tree (map (normal_object π t f) (rising_list (by_key π) ds)) (all_map IsTree IsTree (normal_object π t f) (rising_list (by_key π) ds) (normal_object-tree π t f) (all_rising IsTree (by_key π) ds all))
-
--- an array of objects of a family
-keyed-holds : (π : Preference) (t : Data) (f : Family) (d : Data) → IsTree d → IfSome IsTree (unless_no_entry d (normal_objects π t f (entries_of d)))
-keyed-holds π t f d tree = unless_no_entry-holds IsTree d (normal_objects π t f (entries_of d)) (normal_objects-tree π t f (entries_of d) (entries_of-trees d tree))
-
-pub normal_election_value-tree : (π : Preference) (t : Data) (k : MemberKind) (d : Data) → IsTree d → IfSome IsTree (normal_election_value π t k d)
-normal_election_value-tree π t (kind.Keyed f) d tree = keyed-holds π t f d tree
-normal_election_value-tree π t k d tree = normal_value-tree π t k d tree
+normal_object-tree = normal_object-holds IsTree tree_partwise
 
 pub normal_election-tree : (π : Preference) (t d : Data) → IsTree d → IsTree (normal_election π t d)
-normal_election-tree π t d tree =
-    normal_object_with-tree (λ name k v. normal_election_value π t k v) (class_of_object role.Election d) d (λ name k e h. normal_election_value-tree π t k e h) tree
-
--- ---- the report
-
-outside_envelope : (π : Preference) (t : Data) (name : List ℕ) (k : MemberKind) (d : Data) → IsTree d → IfSome IsTree (if is_envelope_name name then None else normal_value π t k d)
-outside_envelope π t name k d tree = at (is_envelope_name name)
-  where
-    at : (b : Bool) → IfSome IsTree (if b then None else normal_value π t k d)
-    at true = tt
-    at false = normal_value-tree π t k d tree
-
-pub normal_report_value-tree : (π : Preference) (t : Data) (name : List ℕ) (k : MemberKind) (d : Data) → IsTree d → IfSome IsTree (normal_report_value π t name k d)
-normal_report_value-tree π t name (kind.Keyed f) d tree = keyed-holds π t f d tree
-normal_report_value-tree π t name kind.Elections d tree =
-    array_of-tree (map (normal_election π t) (rising_list (by_key π) (entries_of d)))
-    (all_map IsTree IsTree (normal_election π t) (rising_list (by_key π) (entries_of d)) (normal_election-tree π t) (all_rising IsTree (by_key π) (entries_of d) (entries_of-trees d tree)))
-normal_report_value-tree π t name k d tree = outside_envelope π t name k d tree
-
-in_envelope-tree : (d : Data) → IsTree d → IsTree (in_envelope d)
-in_envelope-tree (object ms) tree = with_envelope-trees ms tree
-in_envelope-tree d tree = tree
+normal_election-tree = normal_election-holds IsTree tree_partwise
 
 -- what is built of a tree is a tree
 pub normal_tree-tree : (π : Preference) (t : Data) → IsTree t → IsTree (normal_tree π t)
-normal_tree-tree π t tree =
-    let inside = normal_object_with-tree (normal_report_value π t) (class_of_object role.Report t) t (normal_report_value-tree π t) tree in
-    in_envelope-tree (normal_object_with (normal_report_value π t) (class_of_object role.Report t) t) inside
+normal_tree-tree = normal_tree-holds IsTree tree_partwise

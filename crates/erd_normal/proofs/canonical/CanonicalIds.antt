@@ -19,8 +19,7 @@ family_kept family.Office i s e = let same : codes "of" ++ decimal (i + 1) ≡ s
 family_kept family.Header i s e = let same : codes "hd" ++ decimal (i + 1) ≡ s = cc in subst (λ x. family_of_id x ≡ Some family.Header) same refl
 family_kept family.Candidate i s e = let same : codes "ca" ++ decimal (i + 1) ≡ s = cc in subst (λ x. family_of_id x ≡ Some family.Candidate) same refl
 family_kept family.Contest i s e = let same : codes "co" ++ decimal (i + 1) ≡ s = cc in subst (λ x. family_of_id x ≡ Some family.Contest) same refl
-family_kept family.Style i s e = cc
-family_kept family.Selection i s e = cc
+family_kept d i s e = cc
 
 number_kept : (f : Family) (i : ℕ) (s : List ℕ) → canonical_id f i ≡ Some s → drop 2 s ≡ decimal (i + 1)
 number_kept family.Unit i s e = let same : codes "gp" ++ decimal (i + 1) ≡ s = cc in ap (drop 2) (sym same)
@@ -30,8 +29,7 @@ number_kept family.Office i s e = let same : codes "of" ++ decimal (i + 1) ≡ s
 number_kept family.Header i s e = let same : codes "hd" ++ decimal (i + 1) ≡ s = cc in ap (drop 2) (sym same)
 number_kept family.Candidate i s e = let same : codes "ca" ++ decimal (i + 1) ≡ s = cc in ap (drop 2) (sym same)
 number_kept family.Contest i s e = let same : codes "co" ++ decimal (i + 1) ≡ s = cc in ap (drop 2) (sym same)
-number_kept family.Style i s e = cc
-number_kept family.Selection i s e = cc
+number_kept d i s e = cc
 
 -- one `@id`, one family and position
 pub canonical_id_exact : (f g : Family) (i j : ℕ) (s : List ℕ) → i + 1 < 2 ^ 64 → j + 1 < 2 ^ 64 → canonical_id f i ≡ Some s → canonical_id g j ≡ Some s → (f ≡ g) × (i ≡ j)

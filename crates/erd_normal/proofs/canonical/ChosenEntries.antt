@@ -22,7 +22,7 @@ use Rattle.erd_meaning.specs.Records.{class_of_node}
 use Rattle.erd_meaning.proofs.accepted.Phases.{no_shape_fault}
 use Rattle.erd_meaning.proofs.accepted.References.{selected}
 use Rattle.erd_normal.proofs.built.AskedMembers.{all_items}
-use Rattle.erd_normal.proofs.same.Refers.{Refers, reference_refers}
+use Rattle.erd_normal.proofs.same.IdsOfObjects.{Refers, reference_refers}
 
 -- the name of the list of an object of the class OrderedContest
 abbrev pub list_name : List ℕ

@@ -17,21 +17,13 @@ use Rattle.erd_normal.specs.SameLaws.{HasDistinctIds}
 use Rattle.erd_normal.specs.code.NormalTree.{normal_tree}
 use Rattle.erd_normal.proofs.canonical.CanonicalIds.{canonical_id_exact, selection_id_apart}
 use Rattle.erd_normal.proofs.canonical.ContestSelections.{never_before_itself}
-use Rattle.erd_normal.proofs.canonical.NormalKeys.{ids_by_rank, one_ranked_built, rank_counted}
-use Rattle.erd_normal.proofs.canonical.NormalSelections.{has_canonical_ids}
+use Rattle.erd_normal.proofs.canonical.NormalKeys.{ids_by_rank, one_ranked_built, rank_counted, has_canonical_ids}
 use Rattle.erd_normal.proofs.canonical.SelectionIds.{one_selection}
 
 -- the objects of one family or the other
 keyed_or_selection : (f : Family) → (has_keys f ≡ true) ⊎ (f ≡ family.Selection)
 keyed_or_selection family.Selection = inr refl
-keyed_or_selection family.Unit = inl refl
-keyed_or_selection family.Party = inl refl
-keyed_or_selection family.Person = inl refl
-keyed_or_selection family.Office = inl refl
-keyed_or_selection family.Header = inl refl
-keyed_or_selection family.Candidate = inl refl
-keyed_or_selection family.Contest = inl refl
-keyed_or_selection family.Style = inl refl
+keyed_or_selection d = inl refl
 
 module _ (π : Preference) (t : Data) (accepted : IsAccepted π t) (tree : IsTree t) (bounded : IsBounded t) where
   both_keyed : (f g : Family) (o p : Placed) (id : List ℕ) → has_keys f ≡ true → has_keys g ≡ true → Has (objects f (normal_tree π t)) o → Has (objects g (normal_tree π t)) p

@@ -3,20 +3,20 @@ use Rattle.std.proofs.Common.{◌≡◌, List, map, true, true≢false, nat_lt, 
 use Rattle.std.proofs.lemmas.Cmp.{tied_itself}
 use Rattle.std.proofs.lemmas.List.{length-map}
 use Rattle.std.specs.List.{IsDistinct}
+use Rattle.std.proofs.lemmas.Bool.{false_from_ne_true}
 use Rattle.serde_json.specs.Data.{Data}
 use Rattle.erd_check.proofs.Positions.{has_mapped, map_has}
 use Rattle.erd_check.proofs.Rising.{Has}
-use Rattle.erd_check.proofs.Shapes.{false_unless}
 use Rattle.erd_meaning.specs.Accepted.{IsAccepted}
 use Rattle.erd_meaning.specs.Keys.{Preference, key_of}
 use Rattle.erd_meaning.specs.Objects.{Placed, elections, has_several}
 use Rattle.erd_meaning.specs.code.ObjectWalk.{same_key}
 use Rattle.erd_meaning.specs.code.Orders.{key_cmp_total}
 use Rattle.erd_meaning.specs.declared.keys.key.Key.{Key}
-use Rattle.erd_meaning.proofs.accepted.KeyedElections.{election_has_identifier}
+use Rattle.erd_meaning.proofs.accepted.DistinctKeys.{election_has_identifier}
 use Rattle.erd_meaning.proofs.accepted.Phases.{no_identity_fault}
 use Rattle.erd_meaning.proofs.finding.TwinElections.{one_election_key}
-use Rattle.erd_meaning.proofs.identity.KeyTests.{same_key_from}
+use Rattle.erd_meaning.proofs.identity.IdentityFaults.{same_key_from}
 use Rattle.erd_meaning.proofs.orders.DistinctEntries.{distinct_from_one_place, distinct_map, distinct_one}
 use Rattle.erd_normal.proofs.lists.Matched.{IsEven, Matched, distinct_matched, matched_back, matched_length}
 
@@ -31,7 +31,7 @@ module _ (π : Preference) where
 
   twins_even : IsEven (λ d e. same_key (key_of π d) (key_of π e))
   twins_even d e h =
-      false_unless (same_key (key_of π e) (key_of π d)) (λ g. let s = same_key_from (key_of π e) (key_of π d) g in true≢false (sym (twin_from d e s.0 s.2 s.1) ∙ h))
+      false_from_ne_true (same_key (key_of π e) (key_of π d)) (λ g. let s = same_key_from (key_of π e) (key_of π d) g in true≢false (sym (twin_from d e s.0 s.2 s.1) ∙ h))
 
   elections_distinct : (t : Data) → IsAccepted π t → IsDistinct (λ d e. same_key (key_of π d) (key_of π e)) (election_values t)
   elections_distinct t accepted =

@@ -21,7 +21,7 @@ use Rattle.erd_normal.specs.code.NormalTree.{normal_reference, normal_selection,
 use Rattle.erd_normal.proofs.built.NormalTrees.{normal_tree-tree}
 use Rattle.erd_normal.proofs.canonical.SelectionIds.{listed, selection_values}
 use Rattle.erd_normal.proofs.same.FromAlike.{Stands}
-use Rattle.erd_normal.proofs.same.Refers.{Refers}
+use Rattle.erd_normal.proofs.same.IdsOfObjects.{Refers}
 use Rattle.erd_normal.proofs.same.means.Meanings.{two_reports}
 use Rattle.erd_normal.proofs.same.means.Members.{TwoReports}
 use Rattle.erd_normal.proofs.same.means.Names.{name_alike}

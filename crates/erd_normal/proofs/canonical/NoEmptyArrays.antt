@@ -44,20 +44,12 @@ full_nodes π t (item d ds) = ap suc (full_nodes π t ds)
 
 full_content : (π : Preference) (t d : Data) → is_empty_array d ≡ false → is_empty_array (normal_content π t d) ≡ false
 full_content π t (array ds) full = ap (λ n. n == 0) (full_nodes π t ds) ∙ full
-full_content π t null full = full
-full_content π t (boolean b) full = full
-full_content π t (number n) full = full
-full_content π t (string s) full = full
-full_content π t (object ms) full = full
+full_content π t e full = full
 
 module _ (π : Preference) (t : Data) (clean : NoneOf (ShapeFault t)) (tree : IsTree t) where
   label_full : (required : Bool) (d : Data) → Within t (asked (Member kind.Label required) d) → is_empty_array (with_rising_text d) ≡ false
   label_full required (array ds) w = let x : false ≡ true = wanted_within t clean (asked (Member kind.Label required) (array ds)) w in cc
-  label_full required (object ms) w = refl
-  label_full required null w = refl
-  label_full required (boolean b) w = refl
-  label_full required (number n) w = refl
-  label_full required (string s) w = refl
+  label_full required e w = refl
 
   apart_full : (k : MemberKind) (required : Bool) (d : Data) → is_apart (Member k required) ≡ true → Within t (asked (Member k required) d) → is_empty_array d ≡ false
   apart_full kind.StrangeReference required d apart w = absurd (no_unknown t clean d required w)

@@ -1,42 +1,48 @@
 -- The objects of each family in the report that is built have the keys of those of the report, and each has the `@id` of the rank of its key.
-use Rattle.std.proofs.Common.{◌≡◌, ◌<◌, ◌+◌, ◌^◌, length, true, Option, Some, Equal, is_eq, is_lt, sym, ap, ap₂, ◌∙◌, arith}
+use Rattle.std.proofs.Common.{◌≡◌, ◌<◌, ◌+◌, ◌^◌, length, true, Option, Some, Equal, is_eq, is_lt, sym, ap, ap₂, ◌∙◌, arith, ℕ, List, map, option_map, codes, slice_get, refl, subst}
 use Rattle.std.proofs.lemmas.Cmp.{tied_back}
 use Rattle.std.proofs.lemmas.List.{length-map}
 use Rattle.std.specs.Cmp.Lexicographic.{options_total}
 use Rattle.std.specs.List.{AllByRecursion, IsDistinct}
 use Rattle.std.specs.Option.{option_cmp}
 use Rattle.std.specs.Ordering.{eq_by_cmp}
+use Rattle.std.proofs.lemmas.Option.{slice_get-map}
 use Rattle.serde_json.specs.Data.{Data}
 use Rattle.erd_tables.specs.declared.class.Class.{Class}
 use Rattle.erd_tables.specs.declared.class.Family.{Family}
 use Rattle.erd_tables.specs.declared.class.Role.TheVariants as role
+use Rattle.erd_tables.specs.declared.class.Family.TheVariants as family
 use Rattle.erd_check.specs.Trees.{IsTree}
 use Rattle.erd_check.specs.Wants.{asked, class_of_object}
 use Rattle.erd_check.specs.declared.want.Want.TheVariants.{Object}
 use Rattle.erd_check.proofs.ObjectsAt.{ObjectIn, object_in}
 use Rattle.erd_check.proofs.Rising.{Has, all-Has}
 use Rattle.erd_check.proofs.Shapes.{Within, within-tree}
+use Rattle.erd_check.proofs.Positions.{all_by_entry, has_mapped, map_has, all_at}
+use Rattle.erd_check.specs.Values.{entries_at}
 use Rattle.erd_meaning.specs.Accepted.{IsAccepted}
 use Rattle.erd_meaning.specs.Keys.{Preference, has_keys, key_cmp, key_of}
-use Rattle.erd_meaning.specs.Objects.{Placed, id_of, objects}
+use Rattle.erd_meaning.specs.Objects.{Placed, id_of, objects, contests, selections_of_contest}
 use Rattle.erd_meaning.specs.code.Orders.{key_cmp_total}
 use Rattle.erd_meaning.specs.declared.keys.key.Key.{Key}
 use Rattle.erd_meaning.proofs.accepted.Phases.{no_identity_fault, no_shape_fault}
-use Rattle.erd_meaning.proofs.accepted.Standing.{stands}
-use Rattle.erd_normal.specs.Canonical.{canonical_id}
+use Rattle.erd_meaning.proofs.accepted.Standing.{stands, flat-has}
 use Rattle.erd_meaning.specs.Lookups.{rank_of}
-use Rattle.erd_normal.specs.code.NormalTree.{by_key, normal_object, normal_tree}
-use Rattle.erd_normal.proofs.lists.BuiltLists.{all_map}
 use Rattle.erd_meaning.proofs.orders.DistinctEntries.{distinct_one}
+use Rattle.erd_meaning.proofs.orders.RisingOrders.{rank_map, all_rising}
+use Rattle.erd_meaning.proofs.accepted.DistinctKeys.{values_distinct}
+use Rattle.erd_meaning.specs.SelectionNames.{rising_list}
+use Rattle.erd_meaning.proofs.accepted.References.{Has-Contains, option_map-Some}
+use Rattle.erd_meaning.proofs.accepted.Skeleton.{values-placed_entries}
+use Rattle.erd_normal.specs.Canonical.{canonical_id, HasCanonicalIds, canonical_selection_id}
+use Rattle.erd_normal.specs.code.NormalTree.{by_key, normal_object, normal_tree, by_name, normal_selection}
+use Rattle.erd_normal.proofs.lists.BuiltLists.{all_map}
 use Rattle.erd_normal.proofs.lists.KeyedRanks.{rank_exact, rank_low}
 use Rattle.erd_normal.proofs.lists.Matched.{Matched, distinct_matched, even_order, matched_back, matched_count, matched_length, matched_within}
-use Rattle.erd_meaning.proofs.orders.RisingRanks.{rank_map}
 use Rattle.erd_normal.proofs.built.LeastKeys.{key_of_object}
-use Rattle.erd_normal.proofs.built.NormalGets.{id_of_object}
-use Rattle.erd_normal.proofs.built.NormalObjects.{IsBuilt, objects_matched, values_of}
-use Rattle.erd_check.proofs.Positions.{all_by_entry, has_mapped, map_has}
-use Rattle.erd_meaning.proofs.accepted.DistinctKeys.{values_distinct}
-use Rattle.erd_normal.proofs.canonical.RisingReports.{by_key_total}
+use Rattle.erd_normal.proofs.built.NormalGets.{id_of_object, id_of_built_selection}
+use Rattle.erd_normal.proofs.built.NormalObjects.{IsBuilt, objects_matched, values_of, selections_built}
+use Rattle.erd_normal.proofs.canonical.RisingReports.{by_key_total, selection_ranks}
 
 -- an object of a family: it has a class, and is a tree
 abbrev pub IsClassed : Family → Data → Type 0
@@ -111,3 +117,52 @@ module _ (π : Preference) (t : Data) (accepted : IsAccepted π t) (tree : IsTre
         let k : IsClassed f o.0.value = object_classed o.0 o.1 in
         let key : key_of π o.0.value ≡ key_of π p.value = sym (key_of_object π π t f k.0 o.0.value k.2 k.1) ∙ ap (key_of π) o.2 in
         ap id_of (sym o.2) ∙ id_of_object π t f k.0 o.0.value k.2 k.1 ∙ ap (λ l. canonical_id f (rank_of π t f l)) key ∙ ap (canonical_id f) (rank_kept (key_of π p.value))
+
+-- ---- the selections in the report that is built have canonical ids, by the rank of their contest and their own
+
+module _ (π : Preference) (t : Data) (accepted : IsAccepted π t) (tree : IsTree t) where
+  module _ (contest : Placed) (of_report : Has (objects family.Contest t) contest) where
+    -- the selections of the contest
+    abbrev selections : List Data
+    selections = entries_at (codes "ContestSelection") contest.value
+
+    in_report : (o : Placed) → Has (selections_of_contest contest) o → Has (objects family.Selection t) o
+    in_report o h = flat-has selections_of_contest (contests t) contest o of_report h
+
+    listed : map (λ o. o.value) (selections_of_contest contest) ≡ selections
+    listed = values-placed_entries (codes "ContestSelection") contest
+
+    pub selections_classed : AllByRecursion (IsClassed family.Selection) selections
+    selections_classed =
+        subst (AllByRecursion (IsClassed family.Selection)) listed
+        (all_map (λ o. IsClassed family.Selection o.value) (IsClassed family.Selection) (λ o. o.value) (selections_of_contest contest) (λ o h. h)
+        (all_by_entry (λ o. IsClassed family.Selection o.value) (selections_of_contest contest) (λ o h. object_classed π t accepted tree family.Selection o (in_report o h))))
+
+    pub built_selection : (j : ℕ) (d : Data) → slice_get (map (normal_selection π t contest.value) (rising_list (by_name π t) selections)) j ≡ Some d
+        → id_of d ≡ Some (canonical_selection_id (rank_of π t family.Contest (key_of π contest.value)) j)
+    built_selection j d at =
+        let es : List Data = rising_list (by_name π t) selections in
+        let e = option_map-Some (normal_selection π t contest.value) (slice_get es j) d (sym (slice_get-map (normal_selection π t contest.value) es j) ∙ at) in
+        let k : IsClassed family.Selection e.0 = all_at (IsClassed family.Selection) es j e.0 (all_rising (IsClassed family.Selection) (by_name π t) selections selections_classed) e.1 in
+        ap id_of (sym e.2) ∙ id_of_built_selection π t contest.value k.0 e.0 k.2 k.1
+        ∙ ap (λ n. Some (canonical_selection_id (rank_of π t family.Contest (key_of π contest.value)) n)) (selection_ranks π t accepted contest of_report j e.0 e.1)
+
+  pub selection_ids : (j : ℕ) (contest o : Placed) → Has (objects family.Contest (normal_tree π t)) contest → slice_get (selections_of_contest contest) j ≡ Some o
+      → id_of o.value ≡ Some (canonical_selection_id (rank_of π (normal_tree π t) family.Contest (key_of π contest.value)) j)
+  selection_ids j contest o in_built at =
+      let from = object_from π t accepted tree family.Contest refl contest in_built in
+      let k : IsClassed family.Contest from.0.value = object_classed π t accepted tree family.Contest from.0 from.1 in
+      let key : key_of π from.0.value ≡ key_of π contest.value = sym (key_of_object π π t family.Contest k.0 from.0.value k.2 k.1) ∙ ap (key_of π) from.2 in
+      let value : slice_get (entries_at (codes "ContestSelection") contest.value) j ≡ Some o.value =
+      ap (λ xs. slice_get xs j) (sym (values-placed_entries (codes "ContestSelection") contest)) ∙ slice_get-map (λ o. o.value) (selections_of_contest contest) j ∙ ap (option_map (λ o. o.value)) at in
+      let built : slice_get (map (normal_selection π t from.0.value) (rising_list (by_name π t) (entries_at (codes "ContestSelection") from.0.value))) j ≡ Some o.value =
+      ap (λ xs. slice_get xs j) (sym (selections_built π t k.0 from.0.value k.2 k.1) ∙ ap (entries_at (codes "ContestSelection")) from.2) ∙ value in
+      built_selection from.0 from.1 j o.value built
+      ∙ ap (λ n. Some (canonical_selection_id n j)) (ap (rank_of π t family.Contest) key ∙ rank_kept π t accepted tree family.Contest refl (key_of π contest.value))
+
+  -- the objects and selections of the report that is built have canonical ids
+  pub has_canonical_ids : HasCanonicalIds π (normal_tree π t)
+  has_canonical_ids = record {
+    families = λ f o keyed stands. ids_by_rank π t accepted tree f keyed o (Has-Contains (objects f (normal_tree π t)) o stands);
+    selections = λ j contest o stands at. selection_ids j contest o (Has-Contains (objects family.Contest (normal_tree π t)) contest stands) at;
+  }

@@ -1,42 +1,88 @@
 -- The sets of an accepted report in rising order: they rise strictly, and positions are ranks.
-use Rattle.std.proofs.Common.{◌≡◌, ℕ, List, map, Bool, true, codes, Some, slice_get, refl, sym, ap₂, ◌∙◌}
-use Rattle.std.specs.Cmp.{IsTotalOrder}
-use Rattle.std.specs.Cmp.Lexicographic.{options_total}
-use Rattle.std.specs.List.Sorted.{IsStrictlySortedBy}
+use Rattle.std.proofs.Common.{◌≡◌, ◌+◌, ◌++◌, ℕ, zero, suc, List, [], ◌∷◌, codes, Some, option_map, is_eq, slice_get, sym, ap, ap₂, ◌∙◌, subst, arith, map, Bool, true, refl}
+use Rattle.std.specs.Cmp.{Equal-is, IsTotalOrder}
+use Rattle.std.specs.List.{IsDistinct}
 use Rattle.std.specs.Option.{option_cmp}
 use Rattle.std.specs.Ordering.{eq_by_cmp}
+use Rattle.std.specs.Cmp.Lexicographic.{options_total}
+use Rattle.std.specs.List.Sorted.{IsStrictlySortedBy}
 use Rattle.std.proofs.lemmas.Cmp.{on_total}
 use Rattle.serde_json.specs.Data.{Data, array, Items}
+use Rattle.erd_tables.specs.declared.place.Step.{Step}
+use Rattle.erd_tables.specs.declared.place.Step.TheVariants.{At}
 use Rattle.erd_tables.specs.declared.class.Family.{Family}
 use Rattle.erd_tables.specs.declared.class.Family.TheVariants as family
 use Rattle.erd_tables.specs.declared.class.Role.TheVariants as role
 use Rattle.erd_tables.specs.declared.member.MemberKind.TheVariants as kind
+use Rattle.erd_check.proofs.Rising.{Has}
+use Rattle.erd_check.specs.Values.{entries_at, list_of_items, text_of}
 use Rattle.erd_check.specs.declared.want.Want.TheVariants.{Member}
 use Rattle.erd_check.specs.Numbers.{ItemsHaveFittingNumbers}
 use Rattle.erd_check.specs.Trees.{AreTrees}
-use Rattle.erd_check.specs.Values.{list_of_items, entries_at, text_of}
 use Rattle.erd_check.specs.Wants.{asked}
 use Rattle.erd_check.proofs.Order.{sorted_map}
-use Rattle.erd_check.proofs.Rising.{Has}
 use Rattle.erd_check.proofs.Shapes.{Within}
 use Rattle.erd_meaning.specs.Accepted.{IsAccepted}
 use Rattle.erd_meaning.specs.Keys.{Preference, has_keys, key_cmp, key_of}
-use Rattle.erd_meaning.specs.Objects.{Placed, objects}
-use Rattle.erd_meaning.specs.code.Orders.{compact_cmp_total, key_cmp_total, name_cmp_total}
-use Rattle.erd_meaning.specs.SelectionNames.{compact_cmp, key_named, name_cmp, name_of, rising_list}
-use Rattle.erd_normal.specs.Canonical.{canonical_selection_id}
-use Rattle.erd_meaning.specs.Lookups.{rank_of}
-use Rattle.erd_normal.specs.code.NormalTree.{by_key, by_name, id_of_selection, rank_of_name, reference_cmp}
-use Rattle.erd_normal.proofs.texts.CompactTexts.{compact_exact}
+use Rattle.erd_meaning.specs.NameParts.{NameParts}
+use Rattle.erd_meaning.specs.Objects.{Placed, contests, objects, placed_from, selections_of_contest}
+use Rattle.erd_meaning.specs.code.Orders.{name_cmp_exact, compact_cmp_total, key_cmp_total, name_cmp_total}
+use Rattle.erd_meaning.specs.SelectionNames.{name_cmp, name_of, compact_cmp, key_named, rising_list}
+use Rattle.erd_meaning.proofs.finding.OneObject.{in_at}
+use Rattle.erd_meaning.proofs.accepted.Standing.{flat-has, one_named, stands}
+use Rattle.erd_meaning.proofs.orders.DistinctEntries.{distinct_from_one_place, distinct_map}
+use Rattle.erd_meaning.proofs.orders.RisingSets.{has_from_In}
+use Rattle.erd_meaning.proofs.accepted.Skeleton.{values-placed_from}
 use Rattle.erd_meaning.proofs.accepted.Phases.{no_identity_fault}
 use Rattle.erd_meaning.proofs.accepted.DistinctKeys.{elections_distinct, values_distinct}
-use Rattle.erd_normal.proofs.canonical.DistinctSelections.{selection_values_distinct}
+use Rattle.erd_meaning.proofs.orders.RisingOrders.{rising_strictly, rank_by_at}
+use Rattle.erd_normal.specs.code.NormalTree.{by_name, by_key, rank_of_name, reference_cmp}
+use Rattle.erd_normal.proofs.meaning.AlikeRecords.{has_name}
+use Rattle.erd_normal.proofs.texts.CompactTexts.{compact_exact}
 use Rattle.erd_normal.proofs.canonical.DistinctSets.{json_values_distinct, references_distinct}
 use Rattle.erd_normal.proofs.texts.FittingNumbers.{entry-fitting}
 use Rattle.erd_normal.proofs.same.complete.Values.{identifier_simple, language_simple}
-use Rattle.erd_normal.proofs.lists.ListParts.{IsPart, part_distinct}
-use Rattle.erd_meaning.proofs.orders.RisingOrders.{rising_strictly}
-use Rattle.erd_meaning.proofs.orders.RisingRanks.{rank_by_at, rank_map}
+use Rattle.erd_normal.proofs.lists.Lists.{IsPart, part_distinct}
+
+-- ---- in an accepted report no two selections of a contest have one name
+
+placed_at : (p : List Step) (n : ℕ) (ds : List Data) (i : ℕ) (o : Placed) → slice_get (placed_from p n ds) i ≡ Some o → o.place ≡ p ++ At (n + i) ∷ []
+placed_at p n [] i o e = cc
+placed_at p n (d ∷ ds) zero o e =
+    let same : n ≡ n + 0 = omega arith in
+    let places : Some (p ++ At n ∷ []) ≡ Some o.place = ap (λ x. option_map (λ o. o.place) x) e in
+    let place : p ++ At n ∷ [] ≡ o.place = cc in
+    sym place ∙ ap (λ m. p ++ At m ∷ []) same
+placed_at p n (d ∷ ds) (suc i) o e = let same : n + 1 + i ≡ n + suc i = omega arith in placed_at p (n + 1) ds i o e ∙ ap (λ m. p ++ At m ∷ []) same
+
+one_index : (p : List Step) (m n : ℕ) → p ++ At m ∷ [] ≡ p ++ At n ∷ [] → m ≡ n
+one_index [] m n e = cc
+one_index (s ∷ p) m n e = let h : p ++ At m ∷ [] ≡ p ++ At n ∷ [] = cc in one_index p m n h
+
+one_place : (p : List Step) (ds : List Data) (i j : ℕ) (o q : Placed) → slice_get (placed_from p 0 ds) i ≡ Some o → slice_get (placed_from p 0 ds) j ≡ Some q → o ≡ q → i ≡ j
+one_place p ds i j o q a b e =
+    let h : 0 + i ≡ 0 + j = one_index p (0 + i) (0 + j) (sym (placed_at p 0 ds i o a) ∙ ap (λ x. x.place) e ∙ placed_at p 0 ds j q b) in
+    omega arith
+
+pub selections_distinct : (π : Preference) (t : Data) → IsAccepted π t → (contest : Placed) → Has (objects family.Contest t) contest → IsDistinct (λ o p. eq_by_cmp (by_name π t) o.value p.value) (selections_of_contest contest)
+selections_distinct π t accepted contest c = distinct_from_one_place (λ o p. eq_by_cmp (by_name π t) o.value p.value) (selections_of_contest contest) (λ i j o p a b e.
+    let h = has_from_In o (selections_of_contest contest) (in_at (selections_of_contest contest) i o a) in
+    let k = has_from_In p (selections_of_contest contest) (in_at (selections_of_contest contest) j p b) in
+    let m = named o h in
+    let n = named p k in
+    let same : m.0 ≡ n.0 = name_cmp_exact m.0 n.0 ((Equal-is (name_cmp m.0 n.0)).0 (sym (ap₂ (λ x y. is_eq (option_cmp name_cmp x y)) m.1 n.1) ∙ e)) in
+    one_place _ (entries_at (codes "ContestSelection") contest.value) i j o p a b (one_named π t accepted contest o p m.0 c h k m.1 (n.1 ∙ ap Some (sym same))))
+  where
+    named : (o : Placed) → Has (selections_of_contest contest) o → (n : NameParts) × (name_of π t o.value ≡ Some n)
+    named o h = has_name π t accepted o.value (record { place = o.place; is = stands π t accepted family.Selection o (flat-has selections_of_contest (contests t) contest o c h) })
+
+-- the values of a contest's selections
+pub selection_values_distinct : (π : Preference) (t : Data) → IsAccepted π t → (contest : Placed) → Has (objects family.Contest t) contest → IsDistinct (eq_by_cmp (by_name π t)) (entries_at (codes "ContestSelection") contest.value)
+selection_values_distinct π t accepted contest c =
+    subst (IsDistinct (eq_by_cmp (by_name π t))) (values-placed_from _ 0 (entries_at (codes "ContestSelection") contest.value))
+    (distinct_map (λ o. o.value) (eq_by_cmp (by_name π t)) (selections_of_contest contest) (selections_distinct π t accepted contest c))
+
+-- ---- the sets of an accepted report in rising order: they rise strictly, and positions are ranks
 
 pub by_key_total : (π : Preference) → IsTotalOrder (by_key π)
 by_key_total π = on_total (key_of π) (options_total key_cmp_total)
@@ -62,12 +108,6 @@ elections_rise π t accepted =
     sorted_map (key_of π) (by_key π) (option_cmp key_cmp) (λ x y h. h) (rising_list (by_key π) (entries_at (codes "Election") t))
     (rising_strictly (by_key_total π) (entries_at (codes "Election") t) (elections_distinct π t (no_identity_fault π t accepted)))
 
--- the object at a position has that rank
-pub object_ranks : (π : Preference) (t : Data) → IsAccepted π t → (f : Family) (i : ℕ) (d : Data) → has_keys f ≡ true → slice_get (rising_list (by_key π) (map (λ o. o.value) (objects f t))) i ≡ Some d → rank_of π t f (key_of π d) ≡ i
-object_ranks π t accepted f i d keyed e =
-    sym (rank_map (λ (o : Placed). o.value) (key_of π) (option_cmp key_cmp) (key_of π d) (objects f t))
-    ∙ rank_by_at (key_of π) (option_cmp key_cmp) (options_total key_cmp_total) (map (λ o. o.value) (objects f t)) i d (values_distinct π t (no_identity_fault π t accepted) f keyed) e
-
 -- ---- selections of a contest
 
 module _ (π : Preference) (t : Data) (accepted : IsAccepted π t) (contest : Placed) (stands : Has (objects family.Contest t) contest) where
@@ -81,11 +121,6 @@ module _ (π : Preference) (t : Data) (accepted : IsAccepted π t) (contest : Pl
       → rank_of_name π t (entries_at (codes "ContestSelection") contest.value) (name_of π t d) ≡ i
   selection_ranks i d e =
       rank_by_at (name_of π t) (option_cmp name_cmp) (options_total name_cmp_total) (entries_at (codes "ContestSelection") contest.value) i d (selection_values_distinct π t accepted contest stands) e
-
-  -- the `@id` of the selection at a position, in the contest at a position
-  pub selection_ids : (i j : ℕ) (d : Data) → slice_get (rising_list (by_key π) (map (λ o. o.value) (objects family.Contest t))) i ≡ Some contest.value
-      → slice_get (rising_list (by_name π t) (entries_at (codes "ContestSelection") contest.value)) j ≡ Some d → id_of_selection π t contest.value d ≡ canonical_selection_id i j
-  selection_ids i j d e g = ap₂ canonical_selection_id (object_ranks π t accepted family.Contest i contest.value refl e) (selection_ranks j d g)
 
 -- ---- sets of references
 

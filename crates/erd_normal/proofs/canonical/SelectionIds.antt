@@ -3,6 +3,7 @@
 use Rattle.std.proofs.Common.{◌≡◌, ◌<◌, ◌+◌, ◌^◌, ℕ, List, [], map, length, Some, codes, slice_get, refl, sym, ap, ◌∙◌, arith}
 use Rattle.std.proofs.lemmas.List.{length-map}
 use Rattle.std.specs.Option.{option_map_or}
+use Rattle.std.proofs.lemmas.Option.{same_Some, slice_get_within}
 use Rattle.serde_json.specs.Data.{Data}
 use Rattle.erd_tables.specs.declared.class.Family.TheVariants as family
 use Rattle.erd_check.specs.Trees.{IsTree}
@@ -16,11 +17,10 @@ use Rattle.erd_meaning.proofs.accepted.Skeleton.{values-placed_entries}
 use Rattle.erd_normal.specs.code.NormalTree.{by_name, id_of_selection, normal_object, normal_selection, normal_selection_reference, normal_tree, selection_with}
 use Rattle.erd_normal.proofs.canonical.Bounds.{few_selections}
 use Rattle.erd_normal.proofs.lists.FoundInParts.{FoundSelection, owner_found}
-use Rattle.erd_normal.proofs.canonical.NormalKeys.{IsClassed, object_classed, object_from, one_ranked_built, rank_counted}
+use Rattle.erd_normal.proofs.canonical.NormalKeys.{IsClassed, object_classed, object_from, one_ranked_built, rank_counted, selection_ids}
 use Rattle.erd_normal.proofs.built.NormalObjects.{selections_built}
-use Rattle.erd_normal.proofs.canonical.NormalSelections.{selection_ids}
 use Rattle.erd_normal.proofs.canonical.SelectionTexts.{canonical_selection_id_exact}
-use Rattle.erd_check.proofs.Positions.{same_in_some, position_of, position_low}
+use Rattle.erd_check.proofs.Positions.{position_of}
 use Rattle.erd_meaning.proofs.orders.RisingSets.{length-rising}
 
 -- ---- what stands in the report that is built
@@ -54,7 +54,7 @@ module _ (π : Preference) (t : Data) (accepted : IsAccepted π t) (tree : IsTre
     selection_low : (p : Placed) → Has (objects family.Contest (normal_tree π t)) p → (j : ℕ) (q : Placed) → slice_get (selections_of_contest p) j ≡ Some q → j + 1 < 2 ^ 64
     selection_low p h j q at =
         let contest = object_from π t accepted tree family.Contest refl p h in
-        let low : j < length (selections_of_contest p) = position_low (selections_of_contest p) j q at in
+        let low : j < length (selections_of_contest p) = slice_get_within (selections_of_contest p) j q at in
         let few : length (selections_of_contest contest.0) < 2 ^ 64 = few_selections t bounded contest.0 contest.1 in
         let same : length (selections_of_contest p) ≡ length (selections_of_contest contest.0) = as_many_selections contest.0 p contest.1 contest.2 in
         omega (arith, low, few, same)
@@ -69,9 +69,9 @@ module _ (π : Preference) (t : Data) (accepted : IsAccepted π t) (tree : IsTre
         let second = selection_ids π t accepted tree l.0 d q in_d l.1 in
         let few : length (objects family.Contest t) < 2 ^ 64 = bounded.few family.Contest in
         let n = canonical_selection_id_exact _ j.0 _ l.0 (rank_counted π t accepted tree family.Contest refl few c in_c) (selection_low c in_c j.0 o j.1)
-        (rank_counted π t accepted tree family.Contest refl few d in_d) (selection_low d in_d l.0 q l.1) (same_in_some _ _ (sym first ∙ same ∙ second)) in
+        (rank_counted π t accepted tree family.Contest refl few d in_d) (selection_low d in_d l.0 q l.1) (same_Some _ _ (sym first ∙ same ∙ second)) in
         let one : c ≡ d = one_ranked_built π t accepted tree family.Contest refl c d in_c in_d n.0 in
-        same_in_some o q (sym j.1 ∙ ap (λ x. slice_get (selections_of_contest x) j.0) one ∙ ap (slice_get (selections_of_contest d)) n.1 ∙ l.1)
+        same_Some o q (sym j.1 ∙ ap (λ x. slice_get (selections_of_contest x) j.0) one ∙ ap (slice_get (selections_of_contest d)) n.1 ∙ l.1)
 
     -- ---- references
 

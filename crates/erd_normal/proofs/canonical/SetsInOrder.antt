@@ -28,7 +28,7 @@ use Rattle.erd_meaning.specs.Objects.{IsBounded, Placed, objects}
 use Rattle.erd_meaning.specs.SelectionNames.{compact_cmp, key_named, name_cmp, name_of, rising_list, selection_role}
 use Rattle.erd_meaning.proofs.accepted.Phases.{no_shape_fault}
 use Rattle.erd_meaning.proofs.orders.RisingSets.{has_rising}
-use Rattle.erd_meaning.proofs.orders.RisingAlike.{all_rising}
+use Rattle.erd_meaning.proofs.orders.RisingOrders.{all_rising}
 use Rattle.erd_meaning.proofs.accepted.Skeleton.{Skeleton, election_entries, skeleton_of_shape}
 use Rattle.erd_normal.specs.Canonical.{AreSetsInOrder, RisesAs, keys_of, keys_referred, kind_wanted}
 use Rattle.erd_normal.specs.code.NormalTree.{array_of, by_key, by_name, normal_election, normal_object, normal_objects, normal_selection, normal_tree, reference_cmp}
@@ -39,9 +39,9 @@ use Rattle.erd_normal.proofs.canonical.NormalKeys.{IsClassed, values_classed}
 use Rattle.erd_normal.proofs.canonical.KeptNames.{keys_named_kept, names_kept}
 use Rattle.erd_normal.proofs.canonical.SelectionIds.{selection_values}
 use Rattle.erd_normal.proofs.same.FromAlike.{Stands, entry_stands}
-use Rattle.erd_normal.proofs.lists.ListParts.{IsPart, part_has}
+use Rattle.erd_normal.proofs.lists.Lists.{IsPart, part_has}
 use Rattle.erd_normal.proofs.canonical.RisingReports.{elections_rise, identifiers_rise, languages_rise, objects_rise, references_rise, selections_rise}
-use Rattle.erd_normal.proofs.same.Refers.{Refers, references_refer}
+use Rattle.erd_normal.proofs.same.IdsOfObjects.{Refers, references_refer}
 use Rattle.erd_normal.proofs.same.normal.NewIds.{prefixed_keys}
 use Rattle.erd_normal.proofs.throughout.ThroughoutMembers.{HoldsOfMembers, built_references, is_prefixed}
 use Rattle.erd_normal.proofs.throughout.ThroughoutObjects.{HoldsOfObjects}

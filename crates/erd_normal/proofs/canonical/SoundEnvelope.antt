@@ -12,7 +12,7 @@ use Rattle.erd_tables.specs.declared.fault.Reason.{Reason}
 use Rattle.erd_tables.specs.declared.fault.Reason.TheVariants as reason
 use Rattle.erd_tables.specs.declared.member.MemberKind.TheVariants as kind
 use Rattle.erd_tables.specs.declared.place.Step.{Step}
-use Rattle.erd_tables.specs.declared.place.Step.TheVariants.{At, Name}
+use Rattle.erd_tables.specs.declared.place.Step.TheVariants.{Name}
 use Rattle.erd_check.specs.Faults.{NoneOf, ShapeFault, is_shape_fault}
 use Rattle.erd_check.specs.Trees.{IsTree}
 use Rattle.erd_check.specs.Wants.{Asked, asked, asked_from, asked_inside, asked_of_member, class_of_object, member_want}
@@ -40,8 +40,7 @@ word_local s r = refl
 
 word_sound : (s : List ℕ) (q : List Step) (r : Reason) → FaultIn (Some (asked (Member kind.Word false) (string s))) q r → ⊥
 word_sound s [] r h = true≢false (sym h ∙ word_local s r)
-word_sound s (Name n ∷ q) r h = h
-word_sound s (At i ∷ q) r h = h
+word_sound s d r h = h
 
 whole_local : (n : ℕ) (r : Reason) → is_shape_fault (asked (Member kind.Whole false) (number (unsigned n))) r ≡ false
 whole_local n reason.NotWhole = refl
@@ -49,8 +48,7 @@ whole_local n r = refl
 
 whole_sound : (n : ℕ) (q : List Step) (r : Reason) → FaultIn (Some (asked (Member kind.Whole false) (number (unsigned n)))) q r → ⊥
 whole_sound n [] r h = true≢false (sym h ∙ whole_local n r)
-whole_sound n (Name k ∷ q) r h = h
-whole_sound n (At i ∷ q) r h = h
+whole_sound n d r h = h
 
 module _ (π : Preference) (t : Data) (clean : NoneOf (ShapeFault t)) (tree : IsTree t) where
   abbrev u : Data
@@ -104,6 +102,5 @@ module _ (π : Preference) (t : Data) (clean : NoneOf (ShapeFault t)) (tree : Is
 
   -- the envelope of the report that is built is sound
   pub sound_envelope_built : HasSoundEnvelope (normal_tree π t)
-  sound_envelope_built [] r inside h = let x : false ≡ true = inside in cc
   sound_envelope_built (Name n ∷ q) r inside h = row_named IsSoundUnder envelope_rows n rows_sound inside q r h
-  sound_envelope_built (At i ∷ q) r inside h = let x : false ≡ true = inside in cc
+  sound_envelope_built d r inside h = let x : false ≡ true = inside in cc

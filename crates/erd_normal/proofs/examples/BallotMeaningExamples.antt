@@ -1,5 +1,5 @@
 -- The small ballot and its canonical form mean the same.
-use Rattle.std.proofs.Common.{◌≡◌, ℕ, List, [], ◌∷◌, codes, slice_get, Option, Some, None, Bool, true, false, ◌||◌, map, refl, sym, ap, ◌∙◌, lit<}
+use Rattle.std.proofs.Common.{◌≡◌, ℕ, List, [], ◌∷◌, codes, slice_get, Option, Some, None, true, false, map, refl, sym, ap, ◌∙◌, lit<}
 use Rattle.std.proofs.Math.Path.{fun_ext}
 use Rattle.std.specs.Ordering.{is_eq}
 use Rattle.std.specs.Prelude.{option_and_then, option_map, unwrap_or}
@@ -14,6 +14,7 @@ use Rattle.erd_tables.specs.declared.class.Role.TheVariants as role
 use Rattle.erd_check.proofs.Reports.{tree_of, small_ballot, small_ballot_canonical}
 use Rattle.erd_check.specs.Trees.{is_same_json}
 use Rattle.erd_check.specs.Values.{entries_of, entries_at}
+use Rattle.erd_check.proofs.ValueSets.{or_exchanged}
 use Rattle.erd_meaning.proofs.examples.RecordExamples.{local_key}
 use Rattle.erd_meaning.proofs.meanings.WholeMeanings.{same_members, same_object, absent_carried, absent_beside, AgreeAt, AreAmong, ObjectsAgree, same_at_key, ObjectsAgreeButOne, SameMember, same_at_key_with, value_with_key, HaveKeys, keys_of_family, same_family, selection_with_name, SelectionsAgreeButOne, same_at_name, HaveNames, names_of_selections, same_selections, same_sole_election, same_meaning}
 use Rattle.erd_meaning.specs.Keys.{has_keys, key_cmp}
@@ -82,12 +83,6 @@ same_candidates = (
 
 -- ---- selections
 
-or_in_any_order : (a b : Bool) → (a || (b || false)) ≡ (b || (a || false))
-or_in_any_order true true = refl
-or_in_any_order true false = refl
-or_in_any_order false true = refl
-or_in_any_order false false = refl
-
 -- the selections of the contest at this position, and their names
 abbrev selections_in : Data → ℕ → List Data
 selections_in t i = entries_at (codes "ContestSelection") (unwrap_or (option_map (λ o. o.value) (slice_get (contests t) i)) null)
@@ -118,7 +113,7 @@ two_candidates : NamedTheSame 0 1
 unfolding serde_json_on_literals
 two_candidates =
     same_selection 0 1 class.CandidateSelection (codes "CandidateIds") (refl, refl, refl, refl, refl)
-    (ap (λ s. Some (a_key_set s)) (fun_ext (λ k. or_in_any_order (is_eq (key_cmp (local_key (codes "K1")) k)) (is_eq (key_cmp (local_key (codes "K2")) k)))))
+    (ap (λ s. Some (a_key_set s)) (fun_ext (λ k. or_exchanged (is_eq (key_cmp (local_key (codes "K1")) k)) (is_eq (key_cmp (local_key (codes "K2")) k)) false)))
 
 one_candidate : NamedTheSame 0 2
 unfolding serde_json_on_literals
@@ -141,7 +136,7 @@ translation t i = unwrap_or (slice_get (entries_at (codes "Text") (label_in t)) 
 -- the translations stand in another order
 same_translations : json_set (entries_at (codes "Text") (label_in canonical)) ≡ json_set (entries_at (codes "Text") (label_in given))
 unfolding serde_json_on_literals
-same_translations = fun_ext (λ d. or_in_any_order (is_same_json d (translation canonical 0)) (is_same_json d (translation canonical 1)))
+same_translations = fun_ext (λ d. or_exchanged (is_same_json d (translation canonical 0)) (is_same_json d (translation canonical 1)) false)
 
 yes_selection : NamedTheSame 1 1
 unfolding serde_json_on_literals

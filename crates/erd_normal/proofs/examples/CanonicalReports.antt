@@ -1,8 +1,9 @@
 -- Whole reports that are canonical, and the canonical forms of two, by tests that compute.
-use Rattle.std.proofs.Common.{◌≡◌, List, [], ◌∷◌, Bool, true, false, not, ◌&&◌, Ordering, Less, is_lt, Option, Some, None, length, map, refl, subst, arith}
+use Rattle.std.proofs.Common.{◌≡◌, List, [], ◌∷◌, Bool, true, false, not, ◌&&◌, Ordering, Less, is_lt, Option, Some, None, map, refl, subst, arith}
 use Rattle.std.specs.List.{AllByRecursion, list_all}
 use Rattle.std.specs.List.Sorted.{IsStrictlySortedBy}
 use Rattle.std.specs.Option.{option_cmp}
+use Rattle.std.proofs.lemmas.Bool.{and_parts, not-true}
 use Rattle.serde_json.specs.Data.{Data}
 use Rattle.serde_json.proofs.OnLiterals.{serde_json_on_literals}
 use Rattle.erd_tables.specs.declared.class.Family.{Family}
@@ -15,24 +16,18 @@ use Rattle.erd_check.specs.Trees.{IsNoDeeper}
 use Rattle.erd_check.specs.Values.{entries_of}
 use Rattle.erd_check.specs.Wants.{Asked, asked_at}
 use Rattle.erd_check.proofs.AllAsked.{AskedPlace, all_asked, tested_at}
-use Rattle.erd_check.proofs.Deciding.{faults_found, is_tree, no_fault_listed, tree_sound}
-use Rattle.erd_check.proofs.Reasons.{and_true}
+use Rattle.erd_check.proofs.Deciding.{no_fault_listed, tree_sound, less}
 use Rattle.erd_check.proofs.Reports.{tree_of, one_unit, small_ballot, small_ballot_canonical}
-use Rattle.erd_check.proofs.Whole.{not_true}
 use Rattle.erd_meaning.specs.Accepted.{IsAccepted}
 use Rattle.erd_meaning.specs.Keys.{key_cmp}
 use Rattle.erd_meaning.specs.SelectionNames.{compact_cmp, name_cmp, name_of}
 use Rattle.erd_meaning.proofs.examples.AcceptedExamples.{small_ballot_canonical_is_accepted}
-use Rattle.erd_meaning.proofs.identity.IdentityFaults.{identity_told}
-use Rattle.erd_meaning.proofs.refused.RefusedLists.{accepted_by_lists}
-use Rattle.erd_meaning.proofs.references.SelectionEntries.{reference_faults}
-use Rattle.erd_meaning.proofs.selections.SelectionFaults.{selections_told}
+use Rattle.erd_meaning.proofs.refused.Refused.{accepted_by_lists}
 use Rattle.erd_normal.specs.Canonical.{AreSetsInOrder, HasNoEmptyArray, IsCanonical, IsCanonicalFormOf, RisesAs, keys_of, keys_referred, kind_wanted}
 use Rattle.erd_normal.proofs.examples.BallotMeaningExamples.{canonical_ballot_means_the_same}
 use Rattle.erd_normal.proofs.examples.CanonicalExamples.{canonical_envelope}
 use Rattle.erd_normal.proofs.examples.CanonicalPartExamples.{envelope_of_one_unit, ids_of_one_unit, ids_of_small_ballot}
 use Rattle.erd_normal.proofs.examples.MeaningExamples.{one_unit_canonical, canonical_means_the_same}
-use Rattle.erd_meaning.proofs.orders.InsertedValues.{is_less}
 
 -- ---- tests
 
@@ -44,14 +39,14 @@ rises cmp (x ∷ xs) = list_all (λ y. is_lt (cmp x y)) xs && rises cmp xs
 all_below : {A : Type 0} (cmp : A → A → Ordering) (x : A) (ys : List A) → list_all (λ y. is_lt (cmp x y)) ys ≡ true → AllByRecursion (λ y. cmp x y ≡ Less) ys
 all_below cmp x [] e = tt
 all_below cmp x (y ∷ ys) e =
-    let both = and_true (is_lt (cmp x y)) (list_all (λ y. is_lt (cmp x y)) ys) e in
-    (is_less (cmp x y) both.0, all_below cmp x ys both.1)
+    let both = and_parts (is_lt (cmp x y)) (list_all (λ y. is_lt (cmp x y)) ys) e in
+    (less (cmp x y) both.0, all_below cmp x ys both.1)
 
 rising : {A : Type 0} (cmp : A → A → Ordering) (xs : List A) → rises cmp xs ≡ true → IsStrictlySortedBy cmp xs
 unfolding IsStrictlySortedBy
 rising cmp [] e = tt
 rising cmp (x ∷ xs) e =
-    let both = and_true (list_all (λ y. is_lt (cmp x y)) xs) (rises cmp xs) e in
+    let both = and_parts (list_all (λ y. is_lt (cmp x y)) xs) (rises cmp xs) e in
     (all_below cmp x xs both.0, rising cmp xs both.1)
 
 -- the same of the entries of a set of this kind
@@ -66,14 +61,7 @@ rises_as t k ds = true
 
 keyed_rising : (t : Data) (f : Family) (ds : List Data) → rises_as t (kind.Keyed f) ds ≡ true → RisesAs None t (kind.Keyed f) ds
 keyed_rising t family.Selection ds e = rising (option_cmp name_cmp) (map (name_of None t) ds) e
-keyed_rising t family.Unit ds e = rising (option_cmp key_cmp) (keys_of None ds) e
-keyed_rising t family.Party ds e = rising (option_cmp key_cmp) (keys_of None ds) e
-keyed_rising t family.Person ds e = rising (option_cmp key_cmp) (keys_of None ds) e
-keyed_rising t family.Office ds e = rising (option_cmp key_cmp) (keys_of None ds) e
-keyed_rising t family.Header ds e = rising (option_cmp key_cmp) (keys_of None ds) e
-keyed_rising t family.Candidate ds e = rising (option_cmp key_cmp) (keys_of None ds) e
-keyed_rising t family.Contest ds e = rising (option_cmp key_cmp) (keys_of None ds) e
-keyed_rising t family.Style ds e = rising (option_cmp key_cmp) (keys_of None ds) e
+keyed_rising t d ds e = rising (option_cmp key_cmp) (keys_of None ds) e
 
 rising_as : (t : Data) (k : MemberKind) (ds : List Data) → rises_as t k ds ≡ true → RisesAs None t k ds
 rising_as t (kind.Keyed f) ds e = keyed_rising t f ds e
@@ -95,8 +83,8 @@ in_form : (t : Data) → are_in_form t ≡ true → (p : List Step) (a : Asked) 
     → (is_empty_array a.value ≡ false) × RisesAs None t k (entries_of a.value)
 in_form t test p a k at wanted =
     let here : is_in_form t (kind_wanted a.want) a.value ≡ true = tested_at (λ x. is_in_form t (kind_wanted x.1.want) x.1.value) t test p a at in
-    let both = and_true (not (is_empty_array a.value)) (rises_as t k (entries_of a.value)) (subst (λ o. is_in_form t o a.value ≡ true) wanted here) in
-    (not_true (is_empty_array a.value) both.0, rising_as t k (entries_of a.value) both.1)
+    let both = and_parts (not (is_empty_array a.value)) (rises_as t k (entries_of a.value)) (subst (λ o. is_in_form t o a.value ≡ true) wanted here) in
+    (not-true (is_empty_array a.value) both.0, rising_as t k (entries_of a.value) both.1)
 
 no_empty_array : (t : Data) → are_in_form t ≡ true → HasNoEmptyArray t
 no_empty_array t test p a k at wanted = (in_form t test p a k at wanted).0
@@ -109,33 +97,14 @@ sets_in_order t test p a k at wanted = (in_form t test p a k at wanted).1
 abbrev canonical : Data
 canonical = tree_of one_unit_canonical
 
-one_unit_tree : is_tree canonical ≡ true
-unfolding serde_json_on_literals
-one_unit_tree = refl
-
-no_shape_fault : length (faults_found canonical) ≡ 0
-unfolding serde_json_on_literals
-no_shape_fault = refl
-
-no_identity_fault : length (identity_told None canonical) ≡ 0
-unfolding serde_json_on_literals
-no_identity_fault = refl
-
-no_reference_fault : length (reference_faults canonical) ≡ 0
-unfolding serde_json_on_literals
-no_reference_fault = refl
-
-no_selection_fault : length (selections_told None canonical) ≡ 0
-unfolding serde_json_on_literals
-no_selection_fault = refl
-
 one_unit_in_form : are_in_form canonical ≡ true
 unfolding serde_json_on_literals
 one_unit_in_form = refl
 
 pub one_unit_canonical_is_accepted : IsAccepted None canonical
+unfolding serde_json_on_literals
 one_unit_canonical_is_accepted =
-    accepted_by_lists None canonical (tree_sound canonical one_unit_tree) (no_fault_listed canonical one_unit_tree no_shape_fault) no_identity_fault no_reference_fault no_selection_fault
+    accepted_by_lists None canonical (tree_sound canonical refl) (no_fault_listed canonical refl refl) refl refl refl
 
 pub one_unit_is_canonical : IsCanonical None (tree_of one_unit_canonical)
 one_unit_is_canonical = record {

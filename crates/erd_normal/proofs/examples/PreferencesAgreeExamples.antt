@@ -20,7 +20,7 @@ use Rattle.erd_meaning.proofs.examples.RecordExamples.{local_key}
 use Rattle.erd_meaning.proofs.identity.IdentityFaults.{identity_told}
 use Rattle.erd_meaning.proofs.meanings.WholeMeanings.{same_object, same_at_every_key, no_record, same_sole_election, same_meaning}
 use Rattle.erd_meaning.proofs.references.SelectionEntries.{reference_faults}
-use Rattle.erd_meaning.proofs.refused.RefusedLists.{accepted_by_lists}
+use Rattle.erd_meaning.proofs.refused.Refused.{accepted_by_lists}
 use Rattle.erd_meaning.proofs.selections.SelectionFaults.{selections_told}
 use Rattle.erd_normal.specs.Laws.{keys_in}
 use Rattle.erd_normal.proofs.same.complete.Complete.{preferences_agree}

@@ -27,7 +27,7 @@ rest_after (x ∷ xs) [] = None
 rest_after (x ∷ xs) (y ∷ ys) = if x == y then rest_after xs ys else None
 
 -- the text with the first part that is `old` replaced
-abbrev edited : List ℕ → List ℕ → List ℕ → List ℕ
+abbrev pub edited : List ℕ → List ℕ → List ℕ → List ℕ
 edited old new [] = []
 edited old new (x ∷ xs) = unwrap_or (option_map (λ rest. new ++ rest) (rest_after old (x ∷ xs))) (x ∷ edited old new xs)
 

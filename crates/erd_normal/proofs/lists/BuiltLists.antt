@@ -30,15 +30,15 @@ pub all_of : {A : Type 0} (P : A → Type 0) (xs : List A) → ((x : A) → P x)
 all_of P [] each = tt
 all_of P (x ∷ xs) each = (each x, all_of P xs each)
 
+pub all_both : (P Q : Data → Type 0) (xs : List Data) → AllByRecursion P xs → AllByRecursion Q xs → AllByRecursion (λ x. P x × Q x) xs
+all_both P Q [] p q = tt
+all_both P Q (x ∷ xs) p q = ((p.0, q.0), all_both P Q xs p.1 q.1)
+
 -- ---- arrays
 
 pub trees_listed : (ds : Items) → AreTrees ds → AllByRecursion IsTree (list_of_items ds)
 trees_listed no_items trees = tt
 trees_listed (item d ds) trees = (trees.0, trees_listed ds trees.1)
-
-pub entries_of-trees : (d : Data) → IsTree d → AllByRecursion IsTree (entries_of d)
-entries_of-trees (array ds) tree = trees_listed ds tree
-entries_of-trees d tree = tt
 
 items_of-trees : (ds : List Data) → AllByRecursion IsTree ds → AreTrees (items_of ds)
 items_of-trees [] all = tt

@@ -28,8 +28,7 @@ module _ {A : Type 0} {cmp : A → A → Ordering} (order : IsTotalOrder cmp) wh
       at z Less Less e f h = absurd (true≢false (sym (ap is_lt (order.trans y z x f e)) ∙ low))
       at z Less Equal e f h = absurd (true≢false (sym (ap is_lt (order.congr y z x f ∙ e)) ∙ low))
       at z Less Greater e f h = cc
-      at z Equal p e f h = ap is_lt e
-      at z Greater p e f h = ap is_lt e
+      at z d p e f h = ap is_lt e
 
   kept_inserted : (q : A → Bool) (x : A) (ys : List A) → NeverFalls cmp ys → filter q (with_inserted cmp x ys) ≡ cond (q x) (with_inserted cmp x (filter q ys)) (filter q ys)
   kept_inserted q x [] rise = refl

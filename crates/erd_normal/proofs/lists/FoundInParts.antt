@@ -1,5 +1,7 @@
 -- What is found in lists that are put together is found in the first of them that has it.
-use Rattle.std.proofs.Common.{◌≡◌, ℕ, List, [], ◌∷◌, flat_map, find, Bool, true, false, Option, Some, None, refl, sym, ◌∙◌}
+use Rattle.std.proofs.Common.{◌≡◌, List, [], ◌∷◌, map, find, Bool, true, false, cond, Some, option_map, refl, ℕ, flat_map, Option, None, sym, ◌∙◌}
+use Rattle.std.specs.Bool.{⊤}
+use Rattle.std.specs.List.{AllByRecursion}
 use Rattle.std.proofs.lemmas.List.Folds.{find-append}
 use Rattle.std.specs.Option.{option_map_or, option_or}
 use Rattle.serde_json.specs.Data.{Data}
@@ -8,6 +10,25 @@ use Rattle.erd_check.proofs.Rising.{Has}
 use Rattle.erd_meaning.specs.Objects.{Placed, contests, has_id, objects, owner, selections_of_contest}
 use Rattle.erd_meaning.proofs.accepted.References.{find-Some, option_map-Some}
 use Rattle.erd_normal.specs.code.NormalTree.{contest_with, selection_with}
+
+-- ---- lists of which no two entries pass a test, and what is found by a value
+
+-- no two entries pass the test
+abbrev pub AreApart : {A : Type 0} → (A → Bool) → List A → Type 0
+AreApart test [] = ⊤
+AreApart test (x ∷ xs) = (test x ≡ true → AllByRecursion (λ y. test y ≡ false) xs) × AreApart test xs
+
+-- what is found by a value
+pub find_values : {A B : Type 0} (test : B → Bool) (value : A → B) (xs : List A) → option_map value (find (λ x. test (value x)) xs) ≡ find test (map value xs)
+find_values test value [] = refl
+find_values {A} {B} test value (x ∷ xs) = at (test (value x)) (find_values test value xs)
+  where
+    at : (b : Bool) → option_map value (find (λ x. test (value x)) xs) ≡ find test (map value xs)
+        → option_map value (cond b (Some x) (find (λ x. test (value x)) xs)) ≡ cond b (Some (value x)) (find test (map value xs))
+    at true later = refl
+    at false later = later
+
+-- ---- what is found in lists that are put together is found in the first of them that has it
 
 module _ {A B : Type 0} (test : B → Bool) (f : A → List B) where
   -- a list has what passes

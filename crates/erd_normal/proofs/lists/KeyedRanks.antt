@@ -3,8 +3,9 @@ use Rattle.std.proofs.Common.{◌≡◌, ◌<◌, ℕ, suc, List, [], ◌∷◌,
 use Rattle.std.specs.Cmp.{IsTotalOrder}
 use Rattle.std.proofs.lemmas.Cmp.{tied_itself}
 use Rattle.erd_check.proofs.Rising.{Has}
+use Rattle.erd_check.proofs.Deciding.{less}
 use Rattle.erd_meaning.proofs.orders.Counted.{more_pass}
-use Rattle.erd_meaning.proofs.orders.InsertedValues.{greater_turned, is_less}
+use Rattle.erd_meaning.proofs.orders.RisingOrders.{greater_turned}
 use Rattle.erd_meaning.proofs.orders.RisingSets.{In-from_has}
 
 -- how many entries have keys below this one
@@ -20,7 +21,7 @@ all_pass (x ∷ xs) = ap suc (all_pass xs)
 module _ {A K : Type 0} (key : A → K) {cmp : K → K → Ordering} (order : IsTotalOrder cmp) (xs : List A) where
   rank_rises : (x : A) (k : K) → Has xs x → cmp (key x) k ≡ Less → rank_by key cmp (key x) xs < rank_by key cmp k xs
   rank_rises x k h below =
-      more_pass (λ y. is_lt (cmp (key y) (key x))) (λ y. is_lt (cmp (key y) k)) (λ y e. ap is_lt (order.trans (key y) (key x) k (is_less (cmp (key y) (key x)) e) below))
+      more_pass (λ y. is_lt (cmp (key y) (key x))) (λ y. is_lt (cmp (key y) k)) (λ y e. ap is_lt (order.trans (key y) (key x) k (less (cmp (key y) (key x)) e) below))
       x xs (ap is_lt (tied_itself order (key x))) (ap is_lt below) (In-from_has x xs h)
 
   -- the rank of an entry is below the number of entries

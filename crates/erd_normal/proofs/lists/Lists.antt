@@ -1,10 +1,52 @@
 -- Lists whose elements each pass a test, and the list of families.
-use Rattle.std.proofs.Common.{◌≡◌, ℕ, zero, suc, ◌+◌, List, [], ◌∷◌, Contains, Some, Bool, true, ◌&&◌, refl, subst, arith, slice_get, lit<}
+use Rattle.std.proofs.Common.{◌≡◌, List, [], ◌∷◌, ◌++◌, flat_map, Bool, false, append_assoc, append-nil, refl, sym, ap, ◌∙◌, subst, ℕ, zero, suc, ◌+◌, Contains, Some, true, ◌&&◌, arith, slice_get, lit<}
+use Rattle.std.specs.List.{IsDistinct, list_all}
 use Rattle.std.proofs.lemmas.Bool.{and_parts}
-use Rattle.std.specs.List.{list_all}
 use Rattle.erd_tables.specs.Classes.{families, family_number}
 use Rattle.erd_tables.specs.declared.class.Family.{Family}
 use Rattle.erd_tables.specs.declared.class.Family.TheVariants as family
+use Rattle.erd_check.proofs.Positions.{all_by_entry}
+use Rattle.erd_check.proofs.Rising.{Has, all-Has, here, later}
+use Rattle.erd_meaning.proofs.accepted.Standing.{append-has, has-append_left}
+
+-- ---- entries of a list that stand one after another
+
+-- the entries stand in the list, with others before and after them
+pub record IsPart {A : Type 0} (part whole : List A) : Type 0 where
+  pub before : List A
+  pub after : List A
+  pub is : before ++ (part ++ after) ≡ whole
+
+pub part_self : {A : Type 0} (xs : List A) → IsPart xs xs
+part_self xs = record { before = []; after = []; is = append-nil xs }
+
+-- what stands in the part stands in the list
+pub part_has : {A : Type 0} (part whole : List A) → IsPart part whole → (x : A) → Has part x → Has whole x
+part_has part whole p x h = subst (λ xs. Has xs x) p.is (append-has p.before (part ++ p.after) x (has-append_left part p.after x h))
+
+distinct_after : {A : Type 0} (test : A → A → Bool) (xs ys : List A) → IsDistinct test (xs ++ ys) → IsDistinct test ys
+unfolding IsDistinct
+distinct_after test [] ys d = d
+distinct_after test (x ∷ xs) ys d = distinct_after test xs ys d.1
+
+distinct_before : {A : Type 0} (test : A → A → Bool) (xs ys : List A) → IsDistinct test (xs ++ ys) → IsDistinct test xs
+unfolding IsDistinct
+distinct_before test [] ys d = tt
+distinct_before test (x ∷ xs) ys d =
+    (all_by_entry (λ y. test x y ≡ false) xs (λ y h. all-Has (λ y. test x y ≡ false) (xs ++ ys) y d.0 (has-append_left xs ys y h)), distinct_before test xs ys d.1)
+
+-- entries that are all different are so in a part
+pub part_distinct : {A : Type 0} (test : A → A → Bool) (part whole : List A) → IsPart part whole → IsDistinct test whole → IsDistinct test part
+part_distinct test part whole p d = distinct_before test part p.after (distinct_after test p.before (part ++ p.after) (subst (IsDistinct test) (sym p.is) d))
+
+-- the list of one entry is a part of all entries' lists, one after another
+pub part_flat : {A B : Type 0} (f : A → List B) (xs : List A) (x : A) → Has xs x → IsPart (f x) (flat_map f xs)
+part_flat f xs x (here {xs = ys}) = record { before = []; after = flat_map f ys; is = refl }
+part_flat f xs x (later {y = y} {xs = ys} h) =
+    let p = part_flat f ys x h in
+    record { before = f y ++ p.before; after = p.after; is = append_assoc (f y) p.before (f x ++ p.after) ∙ ap (λ zs. f y ++ zs) p.is }
+
+-- ---- lists whose elements each pass a test, and the list of families
 
 pub passed : {A : Type 0} (test : A → Bool) (xs : List A) (x : A) → list_all test xs ≡ true → Contains xs x → test x ≡ true
 passed test [] x h (k, low, is) = absurd (omega arith)

@@ -1,14 +1,23 @@
 -- Lists whose entries are related one by one, but for their order.
-use Rattle.std.proofs.Common.{◌≡◌, ◌≤◌, suc, List, [], ◌∷◌, ◌++◌, map, filter, filter_map, flat_map, find, length, Bool, true, false, true≢false, ◌||◌, cond, Option, Some, None, option_and_then, Ordering, Less, Equal, Greater, is_eq, refl, sym, ap, ap₂, ◌∙◌, subst, arith}
-use Rattle.std.specs.Cmp.{IsTotalOrder}
+use Rattle.std.proofs.Common.{List, [], ◌∷◌, ◌≡◌, ◌≤◌, suc, ◌++◌, map, filter, filter_map, flat_map, find, length, Bool, true, false, true≢false, ◌||◌, cond, Option, Some, None, option_and_then, Ordering, Equal, is_eq, refl, sym, ap, ap₂, ◌∙◌, subst, arith, Less}
+use Rattle.std.specs.Cmp.{IsTotalOrder, on_total}
 use Rattle.std.specs.List.{AllByRecursion, IsDistinct, cons_option, list_any}
 use Rattle.std.specs.Ordering.{eq_by_cmp, ordering_reverse}
-use Rattle.erd_check.proofs.Positions.{all_weakened}
-use Rattle.erd_check.proofs.Shapes.{false_unless}
-use Rattle.erd_check.proofs.Rising.{Has, here, later}
-use Rattle.erd_normal.proofs.lists.FoundBuilt.{AreApart}
-use Rattle.erd_normal.proofs.lists.Paired.{Paired, none, more}
-use Rattle.erd_meaning.proofs.orders.Reordered.{Reordered, no_entry, one_kept, two_exchanged, in_turn, any-reordered, count-reordered, length-reordered, reordered_after, reordered_back, reordered_before, reordered_flat, reordered-has, reordered_map, reordered_self}
+use Rattle.std.proofs.lemmas.Bool.{false_from_ne_true}
+use Rattle.std.specs.List.Sorted.{IsStrictlySortedBy}
+use Rattle.erd_check.proofs.Positions.{all_weakened, all_by_entry, has_mapped}
+use Rattle.erd_check.proofs.Rising.{Has, here, later, all-Has, rising_unique}
+use Rattle.erd_meaning.proofs.orders.Reordered.{Reordered, no_entry, one_kept, two_exchanged, in_turn, any-reordered, count-reordered, length-reordered, reordered_after, reordered_back, reordered_before, reordered_flat, reordered-has, reordered_map, reordered_self, all-reordered}
+use Rattle.erd_normal.proofs.lists.FoundInParts.{AreApart}
+
+-- ---- lists whose entries are related one by one
+
+-- entry by entry
+pub data Paired {A B : Type 0} (R : A → B → Type 0) : List A → List B → Type 0 where
+  none : Paired R [] []
+  more : {x : A} {y : B} {xs : List A} {ys : List B} → R x y → Paired R xs ys → Paired R (x ∷ xs) (y ∷ ys)
+
+-- ---- lists whose entries are related one by one, but for their order
 
 -- the entries of the one list are related to those of the other, each to one, in some order
 pub record Matched {A B : Type 0} (R : A → B → Type 0) (xs : List A) (ys : List B) : Type 0 where
@@ -183,18 +192,12 @@ module _ {A B : Type 0} {R : A → B → Type 0} (test : A → Bool) (test' : B 
 
 -- ---- lists of values that are all different
 
-all_reordered : {A : Type 0} (P : A → Type 0) {xs ys : List A} → Reordered xs ys → AllByRecursion P xs → AllByRecursion P ys
-all_reordered P no_entry a = a
-all_reordered P (one_kept h) a = (a.0, all_reordered P h a.1)
-all_reordered P two_exchanged a = (a.1.0, (a.0, a.1.1))
-all_reordered P (in_turn h k) a = all_reordered P k (all_reordered P h a)
-
 pub distinct-reordered : {A : Type 0} (test : A → A → Bool) {xs ys : List A} → ((x y : A) → Has xs x → Has xs y → test x y ≡ false → test y x ≡ false)
     → Reordered xs ys → IsDistinct test xs → IsDistinct test ys
 unfolding IsDistinct
 distinct-reordered test turns no_entry d = d
 distinct-reordered test turns (one_kept {x = x} h) d =
-    (all_reordered (λ y. test x y ≡ false) h d.0, distinct-reordered test (λ y z i j. turns y z (later i) (later j)) h d.1)
+    (all-reordered (λ y. test x y ≡ false) h d.0, distinct-reordered test (λ y z i j. turns y z (later i) (later j)) h d.1)
 distinct-reordered test turns (two_exchanged {x = x} {y = y}) d = ((turns x y here (later here) d.0.0, d.1.0), (d.0.1, d.1.1))
 distinct-reordered test turns (in_turn h k) d =
     distinct-reordered test (λ x y i j. turns x y (reordered-has x (reordered_back h) i) (reordered-has y (reordered_back h) j)) k (distinct-reordered test turns h d)
@@ -212,7 +215,7 @@ distinct-paired {A} {B} {R} test test' tells (more {x = x} {y = y} {xs = xs} {ys
     apart : {us : List A} {vs : List B} → ((x' : A) → Has us x' → Has xs x') → Paired R us vs → AllByRecursion (λ x'. test x x' ≡ false) us → AllByRecursion (λ y'. test' y y' ≡ false) vs
     apart inside none a = tt
     apart inside (more {x = x'} {y = y'} s more_of) a =
-        (false_unless (test' y y') (λ e. true≢false (sym (tells x x' y y' here (later (inside x' here)) r s e) ∙ a.0)), apart (λ z h. inside z (later h)) more_of a.1)
+        (false_from_ne_true (test' y y') (λ e. true≢false (sym (tells x x' y y' here (later (inside x' here)) r s e) ∙ a.0)), apart (λ z h. inside z (later h)) more_of a.1)
 
 -- a test that sees no order
 abbrev pub IsEven : {A : Type 0} → (A → A → Bool) → Type 0
@@ -226,9 +229,8 @@ pub even_order : {A : Type 0} (cmp : A → A → Ordering) → IsTotalOrder cmp 
 even_order cmp order d e h = ap is_eq (order.antisymm e d) ∙ at (cmp d e) h
   where
     at : (o : Ordering) → is_eq o ≡ false → is_eq (ordering_reverse o) ≡ false
-    at Less e = refl
     at Equal e = e
-    at Greater e = refl
+    at d e = refl
 
 -- as many entries
 paired_length : {A B : Type 0} {R : A → B → Type 0} {xs : List A} {ys : List B} → Paired R xs ys → length xs ≡ length ys
@@ -259,7 +261,7 @@ pub apart_distinct : {A : Type 0} (test : A → Bool) (both_pass : A → A → B
 unfolding IsDistinct
 apart_distinct test both_pass [] passes d = tt
 apart_distinct test both_pass (x ∷ xs) passes d = (
-  λ h. all_weakened (λ y. both_pass x y ≡ false) (λ y. test y ≡ false) xs (λ y apart. false_unless (test y) (λ k. true≢false (sym (passes x y h k) ∙ apart))) d.0,
+  λ h. all_weakened (λ y. both_pass x y ≡ false) (λ y. test y ≡ false) xs (λ y apart. false_from_ne_true (test y) (λ k. true≢false (sym (passes x y h k) ∙ apart))) d.0,
   apart_distinct test both_pass xs passes d.1,
 )
 
@@ -267,3 +269,19 @@ apart_distinct test both_pass (x ∷ xs) passes d = (
 pub paired_kept : {A B C : Type 0} {R : A → B → Type 0} (f : A → Option C) (g : B → Option C) {xs : List A} {ys : List B} → ((x : A) (y : B) → R x y → f x ≡ g y) → Paired R xs ys → filter_map f xs ≡ filter_map g ys
 paired_kept f g same none = refl
 paired_kept f g same (more {x = x} {y = y} r rest) = ap₂ cons_option (same x y r) (paired_kept f g same rest)
+
+-- ---- matched lists that both rise strictly by keys which their related entries share are related entry by entry
+
+rising_by : {B K : Type 0} (cmp : K → K → Ordering) (key : B → K) (ys : List B) → IsStrictlySortedBy cmp (map key ys) → IsStrictlySortedBy (λ x y. cmp (key x) (key y)) ys
+unfolding IsStrictlySortedBy
+rising_by cmp key [] rise = tt
+rising_by cmp key (y ∷ ys) rise = (all_by_entry (λ z. cmp (key y) (key z) ≡ Less) ys (λ z h. all-Has (λ l. cmp (key y) l ≡ Less) (map key ys) (key z) rise.0 (has_mapped key ys z h)), rising_by cmp key ys rise.1)
+
+pub matched_rising : {A B K : Type 0} {R : A → B → Type 0} (cmp : K → K → Ordering) → IsTotalOrder cmp → (key : A → K) (key' : B → K) → ((x : A) (y : B) → R x y → key x ≡ key' y) → (xs : List A) (ys : List B)
+    → IsStrictlySortedBy cmp (map key xs) → IsStrictlySortedBy cmp (map key' ys) → Matched R xs ys → Paired R xs ys
+matched_rising {R = R} cmp order key key' same xs ys rise rise' m =
+    subst (Paired R xs)
+    (rising_unique (λ x y. cmp (key' x) (key' y)) (on_total key' order) m.middle ys
+    (rising_by cmp key' m.middle (subst (IsStrictlySortedBy cmp) (paired_map key key' same m.paired) rise)) (rising_by cmp key' ys rise')
+    (λ y h. reordered-has y m.reordered h) (λ y h. reordered-has y (reordered_back m.reordered) h))
+    m.paired

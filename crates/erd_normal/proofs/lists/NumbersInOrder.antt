@@ -1,18 +1,51 @@
 -- Numbers that never fall along an order: when they are sorted, they are those of the values in that order.
-use Rattle.std.proofs.Common.{◌≡◌, ◌<◌, ◌≤◌, ℕ, List, [], ◌∷◌, map, filter, length, Bool, true, false, cond, Ordering, Less, Equal, Greater, nat_cmp, is_gt, is_lt, refl, sym, ap, ◌∙◌, subst, arith}
-use Rattle.std.proofs.lemmas.Cmp.{alike_right, by_ranked, nat_cmp_total, ranked}
-use Rattle.std.proofs.lemmas.Map.Lookups.{exact_unsigned}
+use Rattle.std.proofs.Common.{◌≡◌, List, filter_map, Option, Some, None, option_and_then, Ordering, refl, ◌<◌, ◌≤◌, ℕ, [], ◌∷◌, map, filter, length, Bool, true, false, cond, Less, Equal, Greater, nat_cmp, is_gt, is_lt, sym, ap, ◌∙◌, subst, arith}
 use Rattle.std.specs.Cmp.{IsTotalOrder}
-use Rattle.std.specs.List.{AllByRecursion}
+use Rattle.std.specs.List.{cons_option, AllByRecursion}
+use Rattle.std.proofs.lemmas.Map.Lookups.{CmpEqualImpliesEq, exact_unsigned}
+use Rattle.std.proofs.lemmas.Cmp.{alike_right, by_ranked, nat_cmp_total, ranked}
 use Rattle.std.specs.List.Sorted.{IsPermutation, IsSorted, SwapsInRange, apply_swaps}
 use Rattle.std.specs.Ordering.{ordering_reverse}
+use Rattle.serde_json.specs.Data.{Data}
+use Rattle.serde_json.specs.Find.{as_str}
+use Rattle.erd_tables.specs.declared.class.Family.{Family}
+use Rattle.erd_check.proofs.Deciding.{less}
+use Rattle.erd_meaning.specs.Keys.{Preference, key_cmp}
+use Rattle.erd_meaning.proofs.orders.RisingOrders.{inserted_exchange, NeverFalls, rising_never_falls}
+use Rattle.erd_meaning.specs.code.Orders.{key_cmp_exact, key_cmp_total}
+use Rattle.erd_meaning.specs.SelectionNames.{key_named, keys_named, rising_list, with_inserted}
+use Rattle.erd_meaning.proofs.orders.Reordered.{Reordered, whole-reordered, in_turn, length-reordered, reordered_back, reordered_map, reordered_rising, reordered_self, reordered_swap}
 use Rattle.erd_meaning.proofs.orders.RisingLists.{rising_from_sort}
-use Rattle.erd_meaning.specs.SelectionNames.{rising_list, with_inserted}
 use Rattle.erd_normal.proofs.lists.BuiltLists.{all_map}
-use Rattle.erd_meaning.proofs.orders.Reordered.{Reordered, in_turn, length-reordered, reordered_back, reordered_map, reordered_rising, reordered_self, reordered_swap}
-use Rattle.erd_normal.proofs.lists.RisingAgain.{rising-reordered}
-use Rattle.erd_meaning.proofs.orders.InsertedValues.{is_less}
-use Rattle.erd_meaning.proofs.orders.RisingOrders.{NeverFalls, rising_never_falls}
+
+-- ---- a list in the order of an exact comparison is the same, in whichever order its entries came
+
+module _ {A : Type 0} {cmp : A → A → Ordering} (order : IsTotalOrder cmp) (exact : CmpEqualImpliesEq cmp) where
+  abbrev with_kept : Option A → List A → List A
+  with_kept None zs = zs
+  with_kept (Some x) zs = with_inserted cmp x zs
+
+  kept_step : (o : Option A) (ys : List A) → rising_list cmp (cons_option o ys) ≡ with_kept o (rising_list cmp ys)
+  kept_step None ys = refl
+  kept_step (Some x) ys = refl
+
+  kept_exchange : (o p : Option A) (zs : List A) → with_kept o (with_kept p zs) ≡ with_kept p (with_kept o zs)
+  kept_exchange None None zs = refl
+  kept_exchange None (Some y) zs = refl
+  kept_exchange (Some x) None zs = refl
+  kept_exchange (Some x) (Some y) zs = inserted_exchange order exact x y zs
+
+  pub rising_kept-reordered : {B : Type 0} (f : B → Option A) {xs ys : List B} → Reordered xs ys → rising_list cmp (filter_map f xs) ≡ rising_list cmp (filter_map f ys)
+  rising_kept-reordered f h =
+      whole-reordered (λ xs. rising_list cmp (filter_map f xs)) (λ x. with_kept (f x)) (λ x xs. kept_step (f x) (filter_map f xs)) (λ x y. kept_exchange (f x) (f y)) h
+
+  pub rising-reordered : {xs ys : List A} → Reordered xs ys → rising_list cmp xs ≡ rising_list cmp ys
+  rising-reordered h = whole-reordered (rising_list cmp) (with_inserted cmp) (λ x xs. refl) (inserted_exchange order exact) h
+
+pub rising_keys_named-reordered : (π : Preference) (t : Data) (f : Family) {ds es : List Data} → Reordered ds es → rising_list key_cmp (keys_named π t f ds) ≡ rising_list key_cmp (keys_named π t f es)
+rising_keys_named-reordered π t f h = rising_kept-reordered key_cmp_total key_cmp_exact (λ r. option_and_then (key_named π t f) (as_str r)) h
+
+-- ---- numbers that never fall along an order: when they are sorted, they are those of the values in that order
 
 -- ---- exchanges
 
@@ -29,9 +62,8 @@ permuted_reordered xs ys h = subst (Reordered xs) (sym h.is) (swaps_reordered xs
 -- ---- a list that never falls is in order
 
 not_below : (o : Ordering) → is_gt o ≡ false → is_lt (ordering_reverse o) ≡ false
-not_below Less e = refl
-not_below Equal e = refl
 not_below Greater e = cc
+not_below d e = refl
 
 module _ {A : Type 0} {cmp : A → A → Ordering} (order : IsTotalOrder cmp) where
   stays_first : (x : A) (ys : List A) → AllByRecursion (λ y. is_gt (cmp x y) ≡ false) ys → with_inserted cmp x ys ≡ x ∷ ys
@@ -68,7 +100,7 @@ module _ {A : Type 0} {cmp : A → A → Ordering} (order : IsTotalOrder cmp) (n
 
 module _ {K X : Type 0} {cmp : K → K → Ordering} (order : IsTotalOrder cmp) (key : X → K) where
   below_too_at : (k l : K) (x : X) (o : Ordering) → cmp k l ≡ o → is_gt o ≡ false → is_lt (cmp (key x) k) ≡ true → is_lt (cmp (key x) l) ≡ true
-  below_too_at k l x Less is low below = ap is_lt (order.trans (key x) k l (is_less (cmp (key x) k) below) is)
+  below_too_at k l x Less is low below = ap is_lt (order.trans (key x) k l (less (cmp (key x) k) below) is)
   below_too_at k l x Equal is low below = ap is_lt (sym (alike_right order k l (key x) is)) ∙ below
   below_too_at k l x Greater is low below = cc
 

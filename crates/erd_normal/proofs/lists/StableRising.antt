@@ -1,14 +1,75 @@
 -- A stable sorting by keys is the rising list.
-use Rattle.std.proofs.Common.{◌≡◌, List, [], ◌∷◌, Ordering, is_eq, is_lt, sym, ap, ap₂, ◌∙◌, map, refl}
-use Rattle.std.proofs.lemmas.Cmp.{on_total, tied_itself}
+use denote.Param.Members.{Mut}
+use denote.Ref.{Bor}
+use Rattle.std.proofs.Common.{◌≡◌, List, [], ◌∷◌, Bool, true, false, not, ◌&&◌, Ordering, Less, refl, sym, ap, ◌∙◌, ◌⊎◌, inl, inr, ap₂, map}
+use Rattle.std.proofs.lemmas.Fn.{always_returns_same}
 use Rattle.std.proofs.lemmas.List.Elements.{filter_agree}
-use Rattle.std.specs.Cmp.{IsTotalOrder}
+use Rattle.std.proofs.lemmas.List.Sorted.{ranks_by}
+use Rattle.std.specs.Cmp.{IsStrictWeakOrder, IsTotalOrder, Equal-is, alike_right}
+use Rattle.std.specs.Fn.{Called, ComparesAs}
 use Rattle.std.specs.List.{filter}
-use Rattle.std.specs.List.Sorted.{ties}
+use Rattle.std.specs.List.Sorted.{IsSortedBy, IsStableBy, ties}
+use Rattle.std.specs.Ordering.{is_eq, is_lt, ordering_reverse}
+use Rattle.std.proofs.lemmas.Cmp.{on_total, tied_itself}
 use Rattle.erd_meaning.proofs.orders.RisingLists.{by_first, rising_from_sort, rising_list_map}
 use Rattle.erd_meaning.specs.SelectionNames.{rising_list}
-use Rattle.erd_normal.proofs.lists.StableSorts.{tie_by_key}
 use Rattle.erd_normal.specs.StableOrder.{IsStablySorted, pairs_of}
+
+-- ---- what std's stable sort says of pairs that it compares by their keys
+
+-- a test is passed by none of a list, or by something
+one_or_none : {X : Type 0} (p : X → Bool) (xs : List X) → (filter p xs ≡ []) ⊎ ((x : X) × (p x ≡ true))
+one_or_none p [] = inl refl
+one_or_none {X} p (x ∷ xs) = at (p x) refl (one_or_none p xs)
+  where
+    at : (b : Bool) → p x ≡ b → (filter p xs ≡ []) ⊎ ((y : X) × (p y ≡ true)) → (filter p (x ∷ xs) ≡ []) ⊎ ((y : X) × (p y ≡ true))
+    at true is rest = inr (x, is)
+    at false is (inl none) = inl (rw is none)
+    at false is (inr one) = inr one
+
+-- neither is less than the other exactly if they are equal
+level : (a b : Ordering) → b ≡ ordering_reverse a → not (is_lt a) && not (is_lt b) ≡ is_eq b
+level Less b e = rw e refl
+level d b e = rw e refl
+
+module _ {K T : Type 0} (cmp : K → K → Ordering) (total : IsTotalOrder cmp) where
+  abbrev is_below : K × T → K × T → Bool
+  is_below x y = is_lt (cmp x.0 y.0)
+
+  abbrev is_of : K → K × T → Bool
+  is_of k pair = is_eq (cmp pair.0 k)
+
+  -- the pairs of a key are those that tie with one of them
+  pub tie_by_key : (k : K) (x : K × T) → is_eq (cmp x.0 k) ≡ true → (y : K × T) → is_eq (cmp y.0 k) ≡ ties is_below x y
+  tie_by_key k x e y =
+      ap is_eq (sym (alike_right total x.0 k y.0 ((Equal-is (cmp x.0 k)).0 e)))
+      ∙ sym (level (cmp x.0 y.0) (cmp y.0 x.0) (total.antisymm y.0 x.0))
+
+  same_pairs : (old new : List (K × T)) → IsStableBy is_below old new → (k : K) → pairs_of cmp k new ≡ pairs_of cmp k old
+  same_pairs old new stable k = at (one_or_none (is_of k) new) (one_or_none (is_of k) old)
+    where
+      through : (x : K × T) → is_of k x ≡ true → filter (is_of k) new ≡ filter (is_of k) old
+      through x e =
+          filter_agree (is_of k) (ties is_below x) (tie_by_key k x e) new
+          ∙ (stable x ∙ sym (filter_agree (is_of k) (ties is_below x) (tie_by_key k x e) old))
+
+      at : (filter (is_of k) new ≡ []) ⊎ ((x : K × T) × (is_of k x ≡ true)) → (filter (is_of k) old ≡ []) ⊎ ((x : K × T) × (is_of k x ≡ true)) → filter (is_of k) new ≡ filter (is_of k) old
+      at (inl none) (inl gone) = none ∙ sym gone
+      at (inl none) (inr one) = through one.0 one.1
+      at (inr one) rest = through one.0 one.1
+
+  -- from the clauses `sorted` and `stable` of `sort_by`, where each call compares the keys of two pairs
+  pub sorted_by_keys : {F : Type 0} {g : Mut F (Bor (K × T) × (Bor (K × T) × Unit {0})) Ordering} {f : F} (old new : List (K × T))
+      → ((lt : K × T → K × T → Bool) → IsStrictWeakOrder lt → ComparesAs g lt f → IsSortedBy lt new)
+      → ((lt : K × T → K × T → Bool) → IsStrictWeakOrder lt → ComparesAs g lt f → IsStableBy lt old new)
+      → ((a : Bor (K × T) × (Bor (K × T) × Unit {0})) (r : Ordering) (f' : F) → Called g f a r f' → (r ≡ cmp a.0.now.0 a.1.0.now.0) × (f' ≡ f))
+      → IsStablySorted cmp old new
+  sorted_by_keys {g = g} {f = f} old new sorted stable calls =
+      let order = ranks_by total (λ (pair : K × T). pair.0) in
+      let compares = always_returns_same g (λ a r. is_lt r ≡ is_below a.0.now a.1.0.now) f (λ a r f' call. (ap is_lt (calls a r f' call).0, (calls a r f' call).1)) in
+      record { never_falls = sorted is_below order compares; same = same_pairs old new (stable is_below order compares) }
+
+-- ---- a stable sorting by keys is the rising list
 
 pub rising_from_stable : {K T : Type 0} (cmp : K → K → Ordering) → IsTotalOrder cmp → (old new : List (K × T)) → IsStablySorted cmp old new → new ≡ rising_list (by_first cmp) old
 rising_from_stable {K} {T} cmp total old new h =

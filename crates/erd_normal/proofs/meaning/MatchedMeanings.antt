@@ -30,7 +30,7 @@ use Rattle.erd_normal.specs.code.NormalTree.{by_key}
 use Rattle.erd_meaning.proofs.accepted.Phases.{no_identity_fault}
 use Rattle.erd_meaning.proofs.accepted.DistinctKeys.{elections_distinct, objects_distinct}
 use Rattle.erd_meaning.proofs.orders.DistinctEntries.{distinct_map}
-use Rattle.erd_normal.proofs.lists.FoundBuilt.{find_values}
+use Rattle.erd_normal.proofs.lists.FoundInParts.{find_values}
 use Rattle.erd_normal.proofs.lists.Matched.{AtMostOne, Matched, apart_distinct, matched_find, matched_flat, matched_mapped, one_if_apart, said_same}
 
 -- ---- values by their keys

@@ -7,6 +7,7 @@ use Rattle.std.specs.Cmp.Lexicographic.{options_total}
 use Rattle.std.specs.List.{enumerate_from, flat_map}
 use Rattle.std.specs.Option.{option_cmp, option_map_or}
 use Rattle.std.specs.Str.{bytes_eq}
+use Rattle.std.proofs.lemmas.Option.{slice_get_past}
 use Rattle.serde_json.specs.Data.{Data, Items, no_items, item}
 use Rattle.erd_tables.specs.declared.class.Family.{Family}
 use Rattle.erd_tables.specs.declared.class.Family.TheVariants as family
@@ -37,15 +38,8 @@ abbrev pub is_in : ℕ → Placed → Bool
 is_in i o = part_of o == i
 
 part_is : (t : Data) (f : Family) (j : ℕ) (o : Placed) → has_keys f ≡ true → slice_get (objects f t) j ≡ Some o → part_at t f j ≡ part_of o
-part_is t family.Unit j o keyed at = ap (λ x. unwrap_or (option_and_then (λ (o : Placed). election_of_place o.place) x) 0) at
-part_is t family.Party j o keyed at = ap (λ x. unwrap_or (option_and_then (λ (o : Placed). election_of_place o.place) x) 0) at
-part_is t family.Person j o keyed at = ap (λ x. unwrap_or (option_and_then (λ (o : Placed). election_of_place o.place) x) 0) at
-part_is t family.Office j o keyed at = ap (λ x. unwrap_or (option_and_then (λ (o : Placed). election_of_place o.place) x) 0) at
-part_is t family.Header j o keyed at = ap (λ x. unwrap_or (option_and_then (λ (o : Placed). election_of_place o.place) x) 0) at
-part_is t family.Candidate j o keyed at = ap (λ x. unwrap_or (option_and_then (λ (o : Placed). election_of_place o.place) x) 0) at
-part_is t family.Contest j o keyed at = ap (λ x. unwrap_or (option_and_then (λ (o : Placed). election_of_place o.place) x) 0) at
-part_is t family.Style j o keyed at = ap (λ x. unwrap_or (option_and_then (λ (o : Placed). election_of_place o.place) x) 0) at
 part_is t family.Selection j o keyed at = cc
+part_is t d j o keyed at = ap (λ x. unwrap_or (option_and_then (λ (o : Placed). election_of_place o.place) x) 0) at
 
 module _ (π : Preference) (t : Data) (f : Family) (keyed : has_keys f ≡ true) where
   -- the objects of a family that has keys, in order
@@ -169,12 +163,6 @@ none_listed : {A B : Type 0} (g : A → B) (xs : List A) → map g xs ≡ [] →
 none_listed g [] e = refl
 none_listed g (x ∷ xs) e = cc
 
-none_at : {A : Type 0} (xs : List A) (i : ℕ) → length xs ≤ i → slice_get xs i ≡ None
-none_at [] zero high = refl
-none_at [] (suc i) high = refl
-none_at (x ∷ xs) zero high = absurd (omega arith)
-none_at (x ∷ xs) (suc i) high = none_at xs i (omega arith)
-
 module _ (t : Data) (s : Skeleton t) (i : ℕ) (high : length (elections t) ≤ i) where
   some_election : (es : Items) → ¬ (es ≡ no_items) → 0 < length (list_of_items es)
   some_election no_items filled = absurd (filled refl)
@@ -192,7 +180,7 @@ module _ (t : Data) (s : Skeleton t) (i : ℕ) (high : length (elections t) ≤ 
   none_in_report name other = in_report_kept t name other i ∙ ap (λ b. cond b (placed_entries name (report_of t)) []) later_than_none
 
   none_in_elections : (name : List ℕ) → filter (is_in i) (flat_map (placed_entries name) (elections t)) ≡ []
-  none_in_elections name = in_elections_kept t name i ∙ ap (λ o. option_map_or (placed_entries name) o []) (none_at (elections t) i high)
+  none_in_elections name = in_elections_kept t name i ∙ ap (λ o. option_map_or (placed_entries name) o []) (slice_get_past (elections t) i high)
 
   none_held : (f : Family) → has_keys f ≡ true → filter (is_in i) (objects f t) ≡ []
   none_held family.Unit keyed = none_in_report (codes "GpUnit") refl

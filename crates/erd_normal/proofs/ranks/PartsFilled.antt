@@ -1,5 +1,5 @@
 -- Parts that are filled one entry after another: each has those entries that are put into it, in their order.
-use Rattle.std.proofs.Common.{◌≡◌, ◌+◌, ◌<◌, ◌≤◌, ◌==◌, ◌⊎◌, inl, inr, ℕ, zero, suc, List, [], ◌∷◌, ◌++◌, length, map, filter, take, get_or, Bool, true, false, true≢false, cond, Option, Some, None, Vec, Global, option_map, unwrap_or, slice_get, slice_set, refl, sym, ap, ◌∙◌, subst, arith}
+use Rattle.std.proofs.Common.{◌≡◌, ◌+◌, ◌<◌, ◌≤◌, ◌==◌, ℕ, zero, suc, List, [], ◌∷◌, ◌++◌, length, map, filter, take, get_or, Bool, true, false, true≢false, cond, Option, Some, None, Vec, Global, option_map, unwrap_or, slice_get, slice_set, refl, sym, ap, ◌∙◌, subst, arith}
 use Rattle.std.proofs.lemmas.Bool.Decides.{Decides-eqb}
 use Rattle.std.proofs.lemmas.List.{append-nil, take_more}
 use Rattle.std.proofs.lemmas.List.Elements.{filter-append}
@@ -59,11 +59,6 @@ get_or_here (n ∷ ns) (suc k) low = get_or_here_later ns k (get_or ns k 0) (ome
     get_or_here_later [] k d low = absurd (omega arith)
     get_or_here_later (n ∷ ns) zero d low = refl
     get_or_here_later (n ∷ ns) (suc k) d low = get_or_here_later ns k d (omega arith)
-
-pub below : (i n : ℕ) → (i < n) ⊎ (n ≤ i)
-below i zero = inr (omega arith)
-below zero (suc n) = inl (omega arith)
-below (suc i) (suc n) = elim (below i n) [ inl low ↦ inl (let l = low in omega (arith, l)) | inr high ↦ inr (let h = high in omega (arith, h)) ]
 
 -- ---- entries that are put into parts one after another
 

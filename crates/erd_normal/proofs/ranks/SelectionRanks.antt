@@ -29,10 +29,10 @@ use Rattle.erd_meaning.proofs.accepted.Skeleton.{values-placed_from}
 use Rattle.erd_meaning.proofs.orders.DistinctEntries.{distinct_map}
 use Rattle.erd_meaning.proofs.orders.OrdersMade.{all_low, ranks_are}
 use Rattle.erd_meaning.proofs.orders.RisingLists.{by_first, rising_list_map}
-use Rattle.erd_meaning.proofs.orders.RisingRanks.{rank_map}
+use Rattle.erd_meaning.proofs.orders.RisingOrders.{rank_map}
 use Rattle.erd_meaning.proofs.selections.PositionedKeys.{positioned-append, positioned_made}
 use Rattle.erd_meaning.proofs.selections.RanksInTurn.{numbered_names_alike}
-use Rattle.erd_normal.proofs.canonical.DistinctSelections.{selection_values_distinct}
+use Rattle.erd_normal.proofs.canonical.RisingReports.{selection_values_distinct}
 use Rattle.erd_normal.proofs.lists.NumberedParts.{in_part}
 use Rattle.erd_normal.proofs.lists.StableRising.{map_after}
 use Rattle.erd_normal.proofs.ranks.InOrder.{Next, entries, left_there, next, positions, stands, values}

@@ -1,8 +1,6 @@
 -- What a reference to a selection becomes, by the ranks of the selection and its contest.
-use Rattle.std.proofs.Common.{◌≡◌, ◌==◌, ◌+◌, ◌++◌, ℕ, List, [], ◌∷◌, map, true, false, true≢false, codes, Option, Some, None, option_and_then, option_map, find, slice_get, refl, sym, ap, ap₂, ◌∙◌, subst}
-use Rattle.std.proofs.lemmas.List.{map-append}
+use Rattle.std.proofs.Common.{◌≡◌, ◌==◌, ℕ, List, [], true, false, true≢false, codes, Option, Some, None, option_and_then, option_map, find, slice_get, refl, sym, ap, ap₂, ◌∙◌, subst}
 use Rattle.std.proofs.lemmas.Option.{slice_get-map}
-use Rattle.std.specs.List.{enumerate_from, flat_map}
 use Rattle.std.specs.Option.{option_map_or}
 use Rattle.serde_json.specs.Data.{Data, string}
 use Rattle.erd_tables.specs.Classes.{family_number}
@@ -10,7 +8,7 @@ use Rattle.erd_tables.specs.declared.class.Family.{Family}
 use Rattle.erd_tables.specs.declared.class.Family.TheVariants as family
 use Rattle.erd_check.proofs.Rising.{Has}
 use Rattle.erd_meaning.proofs.selections.NamesTold.{Numbered}
-use Rattle.erd_meaning.proofs.selections.NumberedSelections.{OfContest, of_its_contest}
+use Rattle.erd_meaning.proofs.selections.NumberedSelections.{OfContest, of_its_contest, placed_of_contests}
 use Rattle.erd_meaning.proofs.identity.ObjectFamilies.{family_exact, itself}
 use Rattle.erd_meaning.proofs.finding.OneObject.{in_at, with_part}
 use Rattle.erd_meaning.proofs.accepted.References.{find-Some, option_map-Some}
@@ -20,34 +18,24 @@ use Rattle.erd_meaning.specs.Keys.{Preference, key_of}
 use Rattle.erd_check.specs.Values.{entries_at}
 use Rattle.erd_meaning.specs.Lookups.{FindsId, id_in, key_in, rank_of, selection_in}
 use Rattle.erd_meaning.specs.NameParts.{NameParts}
-use Rattle.erd_meaning.specs.Objects.{Placed, contests, has_id, id_of, numbered_selections, numbered_selections_of, objects, selections_of_contest}
+use Rattle.erd_meaning.specs.Objects.{Placed, contests, has_id, id_of, numbered_selections, objects, selections_of_contest}
 use Rattle.erd_meaning.specs.SelectionNames.{name_of}
 use Rattle.erd_normal.proofs.canonical.ContestSelections.{one_contest}
 use Rattle.erd_meaning.proofs.orders.DistinctEntries.{place_of}
 use Rattle.erd_normal.proofs.lists.FoundInParts.{FoundSelection, owner_found}
 use Rattle.erd_meaning.proofs.orders.RisingSets.{has_from_In, In-from_has}
-use Rattle.erd_normal.proofs.meaning.ObjectRecords.{has_name}
+use Rattle.erd_normal.proofs.meaning.AlikeRecords.{has_name}
 use Rattle.erd_normal.specs.code.NormalTree.{contest_with, id_of_selection, normal_selection_reference, rank_of_name, selection_with}
 use Rattle.erd_normal.specs.Canonical.{canonical_selection_id}
 use Rattle.erd_normal.specs.code.SelectionOrders.{AreSelectionRanks}
 
 -- ---- the selections of a report, without the numbers of their contests
 
-of_contest : (k : ℕ) (os : List Placed) → map {A = Numbered} (λ s. s.1) (map {B = Numbered} (λ o. (k, o)) os) ≡ os
-of_contest k [] = refl
-of_contest k (o ∷ os) = ap (λ xs. o ∷ xs) (of_contest k os)
-
-of_contests : (k : ℕ) (cs : List Placed) → map {A = Numbered} (λ s. s.1) (flat_map numbered_selections_of (enumerate_from k cs)) ≡ flat_map selections_of_contest cs
-of_contests k [] = refl
-of_contests k (c ∷ cs) =
-    map-append {A = Numbered} (λ s. s.1) (numbered_selections_of (k, c)) (flat_map numbered_selections_of (enumerate_from (k + 1) cs))
-    ∙ ap₂ ◌++◌ (of_contest k (selections_of_contest c)) (of_contests (k + 1) cs)
-
 -- the selection at a position, with the number of its contest
 pub numbered_at : (t : Data) (i : ℕ) (o : Placed) → slice_get (objects family.Selection t) i ≡ Some o → (c : ℕ) × (slice_get (numbered_selections t) i ≡ Some (c, o))
 numbered_at t i o at =
     let s = option_map-Some {A = Numbered} (λ s. s.1) (slice_get (numbered_selections t) i) o
-    (sym (slice_get-map {A = Numbered} (λ s. s.1) (numbered_selections t) i) ∙ ap (λ xs. slice_get xs i) (of_contests 0 (contests t)) ∙ at) in
+    (sym (slice_get-map {A = Numbered} (λ s. s.1) (numbered_selections t) i) ∙ ap (λ xs. slice_get xs i) (placed_of_contests 0 (contests t)) ∙ at) in
     (s.0.0, s.1 ∙ ap (λ x. Some (s.0.0, x)) s.2)
 
 -- ---- the selection that has the `@id`

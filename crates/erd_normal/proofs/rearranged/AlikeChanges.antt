@@ -1,25 +1,53 @@
 -- A renaming and an exchange of two entries of a set make values that are alike.
-use Rattle.std.proofs.Common.{◌≡◌, ◌<◌, ℕ, zero, suc, List, [], ◌∷◌, Bool, true, false, cond, ◌&&◌, length, Option, Some, None, option_and_then, option_map, is_eq, Ordering, Less, Equal, Greater, nat_cmp, refl, sym, ap, ◌∙◌, subst, arith}
+use Rattle.std.proofs.Common.{◌≡◌, ℕ, List, [], ◌∷◌, Bool, true, false, if◌then◌else◌, Option, Some, ◌<◌, zero, suc, cond, ◌&&◌, length, None, option_and_then, option_map, is_eq, Ordering, Equal, nat_cmp, refl, sym, ap, ◌∙◌, subst, arith}
 use Rattle.std.proofs.lemmas.Map.Text.{is_eq-slice_cmp}
 use Rattle.std.specs.Cmp.Lexicographic.{slice_cmp}
 use Rattle.std.specs.List.{swap}
 use Rattle.std.specs.Prelude.{IsSomeAnd, IsTrue}
-use Rattle.serde_json.specs.Data.{Data, null, boolean, number, string, array, object, Items, no_items, item, Members, no_members, member}
+use Rattle.serde_json.specs.Data.{Data, string, array, object, Items, no_items, item, Members, no_members, member, null, boolean, number}
 use Rattle.serde_json.specs.Find.{get_item, get_member}
 use Rattle.serde_json.specs.View.{items_of}
-use Rattle.erd_tables.specs.declared.class.Role.TheVariants as role
 use Rattle.erd_tables.specs.declared.place.Step.{Step}
 use Rattle.erd_tables.specs.declared.place.Step.TheVariants.{Name, At}
-use Rattle.erd_check.specs.Values.{entries_of, list_of_items}
-use Rattle.erd_check.specs.Wants.{Asked, asked, asked_from, asked_inside, asked_of_member, entry_want, is_compared_set, is_repeated, is_table_set, scope_inside, want_of_name}
+use Rattle.erd_tables.specs.declared.class.Role.TheVariants as role
+use Rattle.erd_check.specs.Values.{list_of_items, entries_of}
+use Rattle.erd_check.specs.Wants.{entry_want, is_table_set, scope_inside, want_of_name, Asked, asked, asked_from, asked_inside, asked_of_member, is_compared_set, is_repeated}
 use Rattle.erd_check.specs.declared.want.Scope.{Scope}
 use Rattle.erd_check.specs.declared.want.Want.{Want}
 use Rattle.erd_check.specs.declared.want.Want.TheVariants.{Object}
 use Rattle.erd_check.proofs.Lists.{list_of_items-items_of}
 use Rattle.erd_check.proofs.Steps.{text_from_equal}
-use Rattle.erd_normal.specs.Rearranged.{HasEntries, Renaming, changed_at, exchanged, is_id_text, item_changed, member_changed, renamed_items, renamed_members, renamed_value, replaced_text, swapped}
 use Rattle.erd_meaning.proofs.orders.Reordered.{Reordered, reordered_self, reordered_swap}
-use Rattle.erd_normal.proofs.rearranged.Alike.{Alike, AlikeMembers, AreAlike, IsArranged}
+use Rattle.erd_normal.specs.Rearranged.{is_id_text, HasEntries, Renaming, changed_at, exchanged, item_changed, member_changed, renamed_items, renamed_members, renamed_value, replaced_text, swapped}
+
+-- ---- two values that are alike: spelled otherwise, with the same said. A renaming and an exchange make values that are alike
+
+-- the entries of a set may stand in another order
+abbrev pub IsArranged : Bool → List Data → List Data → Type 0
+IsArranged true ds es = Reordered ds es
+IsArranged false ds es = ds ≡ es
+
+-- `@id` texts and references of the table are the same but for a function of texts, sets have entries that are alike in
+-- some order, lists in their order, objects members that are alike; all else is equal. The second value is told by the first.
+abbrev mutual
+  pub Alike : (List ℕ → List ℕ) → Option Want → Data → Data → Type 0
+  Alike ρ (Some w) (string s) e = e ≡ string (if is_id_text w then ρ s else s)
+  Alike ρ (Some w) (array ds) e =
+      (fs : List Data) × (es : Items) × (e ≡ array es) × AreAlike ρ (entry_want w) ds fs × IsArranged (is_table_set w) fs (list_of_items es)
+  Alike ρ (Some w) (object ms) e = (ns : Members) × (e ≡ object ns) × AlikeMembers ρ (scope_inside w (object ms)) ms ns
+  Alike ρ w d e = d ≡ e
+
+  -- the entries of an array, one by one
+  pub AreAlike : (List ℕ → List ℕ) → Option Want → Items → List Data → Type 0
+  AreAlike ρ w no_items es = es ≡ []
+  AreAlike ρ w (item d ds) es = (f : Data) × (fs : List Data) × (es ≡ f ∷ fs) × Alike ρ w d f × AreAlike ρ w ds fs
+
+  -- the members of an object
+  pub AlikeMembers : (List ℕ → List ℕ) → Scope → Members → Members → Type 0
+  AlikeMembers ρ s no_members ns = ns ≡ no_members
+  AlikeMembers ρ s (member k d ms) ns = (f : Data) × (fs : Members) × (ns ≡ member k f fs) × Alike ρ (want_of_name s k) d f × AlikeMembers ρ s ms fs
+
+-- ---- a renaming and an exchange of two entries of a set make values that are alike
 
 arranged_self : (b : Bool) (ds : List Data) → IsArranged b ds ds
 arranged_self true ds = reordered_self ds
@@ -34,11 +62,7 @@ text_renamed pairs s false = refl
 mutual
   pub renamed_alike : (pairs : Renaming) (w : Option Want) (d : Data) → Alike (replaced_text pairs) w d (renamed_value pairs w d)
   renamed_alike pairs None null = refl
-  renamed_alike pairs None (boolean b) = refl
-  renamed_alike pairs None (number n) = refl
-  renamed_alike pairs None (string s) = refl
-  renamed_alike pairs None (array ds) = refl
-  renamed_alike pairs None (object ms) = refl
+  renamed_alike pairs None e = refl
   renamed_alike pairs (Some w) null = refl
   renamed_alike pairs (Some w) (boolean b) = refl
   renamed_alike pairs (Some w) (number n) = refl
@@ -71,11 +95,7 @@ text_kept s false = refl
 mutual
   pub alike_self : (w : Option Want) (d : Data) → Alike as_it_is w d d
   alike_self None null = refl
-  alike_self None (boolean b) = refl
-  alike_self None (number n) = refl
-  alike_self None (string s) = refl
-  alike_self None (array ds) = refl
-  alike_self None (object ms) = refl
+  alike_self None e = refl
   alike_self (Some w) null = refl
   alike_self (Some w) (boolean b) = refl
   alike_self (Some w) (number n) = refl
@@ -107,11 +127,7 @@ swapped_alike i j w (array ds) set low high =
       subst (λ b. IsArranged b (list_of_items ds) (list_of_items es)) (sym set)
           (subst (Reordered (list_of_items ds)) (sym (list_of_items-items_of (swap (list_of_items ds) i j))) (reordered_swap (list_of_items ds) i j low high)),
     )
-swapped_alike i j w null set low high = absurd (omega arith)
-swapped_alike i j w (boolean b) set low high = absurd (omega arith)
-swapped_alike i j w (number n) set low high = absurd (omega arith)
-swapped_alike i j w (string s) set low high = absurd (omega arith)
-swapped_alike i j w (object ms) set low high = absurd (omega arith)
+swapped_alike i j w e set low high = absurd (omega arith)
 
 item_alike : (f : Data → Data) (ss : List Step) (w : Want) (i : ℕ) (ds : Items) → ((d : Data) → get_item i ds ≡ Some d → Alike as_it_is (Some w) d (changed_at f ss d))
     → AreAlike as_it_is (Some w) ds (list_of_items (item_changed f i ss ds))
@@ -131,8 +147,6 @@ member_alike f ss s n w (member k d ms) asks each =
 
     at : (o : Ordering) → slice_cmp nat_cmp n k ≡ o → Later
         → AlikeMembers as_it_is s (member k d ms) (cond (is_eq o) (member k (changed_at f ss d) ms) (member k d (member_changed f n ss ms)))
-    at Less is more =
-        (d, member_changed f n ss ms, refl, alike_self (want_of_name s k) d, more (λ e g. each e (rw is g)))
     at Equal is more =
         let same : n ≡ k = text_from_equal n k is in (
           changed_at f ss d,
@@ -141,8 +155,7 @@ member_alike f ss s n w (member k d ms) asks each =
           subst (λ o. Alike as_it_is o d (changed_at f ss d)) (sym asks ∙ ap (want_of_name s) same) (each d (rw is refl)),
           members_self s ms,
         )
-    at Greater is more =
-        (d, member_changed f n ss ms, refl, alike_self (want_of_name s k) d, more (λ e g. each e (rw is g)))
+    at x is more = (d, member_changed f n ss ms, refl, alike_self (want_of_name s k) d, more (λ e g. each e (rw is g)))
 
 module _ (i j : ℕ) where
   -- what is asked at a place inside a value is such a set
@@ -179,12 +192,9 @@ module _ (i j : ℕ) where
   one_step ss inside w (array ds) (At k) h =
       let es = item_changed (swapped i j) k ss ds in
       (list_of_items es, es, refl, at_position ss inside (entry_want w) (is_compared_set w) k ds (get_item k ds) refl h, arranged_self (is_table_set w) (list_of_items es))
-  one_step ss inside w null s h = absurd h
-  one_step ss inside w (boolean b) s h = absurd h
-  one_step ss inside w (number n) s h = absurd h
-  one_step ss inside w (string t) s h = absurd h
   one_step ss inside w (array ds) (Name n) h = absurd h
   one_step ss inside w (object ms) (At k) h = absurd h
+  one_step ss inside w e s h = absurd h
 
   exchanged_from : (ss : List Step) → Inside ss
   exchanged_from [] a h = swapped_alike i j a.want a.value h.0 h.1 h.2

@@ -1,7 +1,5 @@
 -- What stands in values that are alike, part by part.
-use Rattle.std.proofs.Common.{◌≡◌, ℕ, List, [], ◌∷◌, Bool, true, false, Option, Some, None, Ordering, Less, Equal, Greater, nat_cmp, refl, sym, subst}
-use Rattle.std.specs.Cmp.Lexicographic.{slice_cmp}
-use Rattle.std.specs.Ordering.{match_ordering}
+use Rattle.std.proofs.Common.{◌≡◌, ℕ, List, [], ◌∷◌, Bool, true, false, Option, Some, None, sym, subst}
 use Rattle.serde_json.specs.Data.{Data, null, boolean, number, string, array, object, Items, no_items, item, Members, no_members, member}
 use Rattle.serde_json.specs.Find.{get_member}
 use Rattle.erd_check.specs.Trees.{AreMembers, AreTrees, IsBeforeFirst, IsTree}
@@ -10,37 +8,25 @@ use Rattle.erd_check.specs.Wants.{entry_want, is_table_set, scope_inside, want_o
 use Rattle.erd_check.specs.declared.want.Scope.{Scope}
 use Rattle.erd_check.specs.declared.want.Want.{Want}
 use Rattle.erd_check.proofs.Rising.{Has, here, later}
-use Rattle.erd_check.proofs.Steps.{text_from_equal}
-use Rattle.erd_normal.proofs.lists.Matched.{Both, both, neither, Matched}
-use Rattle.erd_normal.proofs.lists.Paired.{Paired, none, more}
+use Rattle.erd_normal.proofs.lists.Matched.{Both, both, neither, Matched, Paired, none, more}
 use Rattle.erd_meaning.proofs.orders.Reordered.{Reordered, reordered_back, reordered_self, reordered-has}
-use Rattle.erd_normal.proofs.rearranged.Alike.{Alike, AlikeMembers, AreAlike, IsArranged}
+use Rattle.erd_normal.proofs.rearranged.AlikeChanges.{Alike, AlikeMembers, AreAlike, IsArranged}
+use Rattle.erd_normal.proofs.same.Lookups.{get_both}
 
 -- ---- values of which nothing is asked
 
 pub alike_unasked : (ρ : List ℕ → List ℕ) (d e : Data) → Alike ρ None d e → d ≡ e
 alike_unasked ρ null e h = h
-alike_unasked ρ (boolean b) e h = h
-alike_unasked ρ (number n) e h = h
-alike_unasked ρ (string s) e h = h
-alike_unasked ρ (array ds) e h = h
-alike_unasked ρ (object ms) e h = h
+alike_unasked ρ k e h = h
 
 -- ---- members
-
-found_at : (ρ : List ℕ → List ℕ) (s : Scope) (n k : List ℕ) (d e : Data) (ms ns : Members) (o : Ordering) → slice_cmp nat_cmp n k ≡ o → Alike ρ (want_of_name s k) d e
-    → Both (Alike ρ (want_of_name s n)) (get_member n ms) (get_member n ns)
-    → Both (Alike ρ (want_of_name s n)) (match_ordering o (get_member n ms) (Some d) (get_member n ms)) (match_ordering o (get_member n ns) (Some e) (get_member n ns))
-found_at ρ s n k d e ms ns Less is h rest = rest
-found_at ρ s n k d e ms ns Equal is h rest = both (subst (λ x. Alike ρ (want_of_name s x) d e) (sym (text_from_equal n k is)) h)
-found_at ρ s n k d e ms ns Greater is h rest = rest
 
 -- what stands under a name is alike, by what is asked of the name
 pub alike_member : (ρ : List ℕ → List ℕ) (s : Scope) (ms ns : Members) → AlikeMembers ρ s ms ns → (n : List ℕ) → Both (Alike ρ (want_of_name s n)) (get_member n ms) (get_member n ns)
 alike_member ρ s no_members ns h n = subst (λ x. Both (Alike ρ (want_of_name s n)) None (get_member n x)) (sym h) neither
 alike_member ρ s (member k d ms) ns h n =
     subst (λ x. Both (Alike ρ (want_of_name s n)) (get_member n (member k d ms)) (get_member n x)) (sym h.2)
-    (found_at ρ s n k d h.0 ms h.1 _ refl h.3 (alike_member ρ s ms h.1 h.4 n))
+    (get_both (Both (Alike ρ (want_of_name s n))) n k d h.0 ms h.1 (λ named. both (subst (λ x. Alike ρ (want_of_name s x) d h.0) (sym named) h.3)) (alike_member ρ s ms h.1 h.4 n))
 
 -- ---- entries
 

@@ -1,13 +1,12 @@
 -- No two objects of a report that is alike to an accepted one have one `@id`, where the function of texts tells `@id`s apart.
 use Rattle.std.proofs.Common.{◌≡◌, ℕ, List, true, true≢false, Some, sym, ap, ◌∙◌, subst}
 use Rattle.std.specs.List.{IsDistinct}
+use Rattle.std.proofs.lemmas.Bool.{false_from_ne_true}
 use Rattle.serde_json.specs.Data.{Data}
 use Rattle.erd_tables.specs.declared.class.Family.{Family}
 use Rattle.erd_tables.specs.declared.class.Role.TheVariants as role
-use Rattle.erd_check.specs.Faults.{NoneOf, ShapeFault}
 use Rattle.erd_check.specs.declared.want.Want.TheVariants.{Object}
 use Rattle.erd_check.proofs.Rising.{Has}
-use Rattle.erd_check.proofs.Shapes.{false_unless}
 use Rattle.erd_meaning.specs.Accepted.{IsAccepted}
 use Rattle.erd_meaning.specs.Keys.{Preference}
 use Rattle.erd_meaning.specs.Objects.{id_of, objects}
@@ -15,7 +14,7 @@ use Rattle.erd_meaning.proofs.accepted.Phases.{no_shape_fault}
 use Rattle.erd_meaning.proofs.accepted.References.{Has-Contains, option_map-Some}
 use Rattle.erd_meaning.proofs.orders.DistinctEntries.{distinct_one}
 use Rattle.erd_normal.proofs.lists.Matched.{IsEven, Matched, distinct_matched, matched_back}
-use Rattle.erd_normal.proofs.rearranged.Alike.{Alike}
+use Rattle.erd_normal.proofs.rearranged.AlikeChanges.{Alike}
 use Rattle.erd_normal.proofs.rearranged.RelatedMembers.{Related}
 use Rattle.erd_normal.proofs.rearranged.RelatedObjects.{family_matched, id_became}
 use Rattle.erd_normal.proofs.same.FamilyValues.{family_values, object_values, not_before_itself, placed_value}
@@ -27,18 +26,15 @@ abbrev pub TellsIds : (List ℕ → List ℕ) → Data → Type 0
 TellsIds ρ t = (a b : List ℕ) → IsId t a → IsId t b → ρ a ≡ ρ b → a ≡ b
 
 have_one_id_even : IsEven have_one_id
-have_one_id_even d e h = false_unless (have_one_id e d) (λ g. let s = id_of_both e d g in true≢false (sym (by_one_id d e s.0 s.2 s.1) ∙ h))
+have_one_id_even d e h = false_from_ne_true (have_one_id e d) (λ g. let s = id_of_both e d g in true≢false (sym (by_one_id d e s.0 s.2 s.1) ∙ h))
 
 module _ (π : Preference) (ρ : List ℕ → List ℕ) (t u : Data) (alike : Alike ρ (Some (Object role.Report)) t u) (accepted : IsAccepted π t) (tells : TellsIds ρ t) where
-  clean : NoneOf (ShapeFault t)
-  clean = no_shape_fault π t accepted
-
   -- related objects of a family
   abbrev Kin : Family → Data → Data → Type 0
   Kin f = Related ρ t (Object (role.OfFamily f))
 
   matched : (f : Family) → Matched (Kin f) (family_values f t) (family_values f u)
-  matched = family_matched ρ t clean u alike
+  matched = family_matched ρ t (no_shape_fault π t accepted) u alike
 
   -- the `@id` that became the one of a related object
   record OldId (f : Family) (d : Data) (id : List ℕ) : Type 0 where
@@ -48,7 +44,7 @@ module _ (π : Preference) (ρ : List ℕ → List ℕ) (t u : Data) (alike : Al
 
   old_id : (f : Family) (d e : Data) (id : List ℕ) → Kin f d e → id_of e ≡ Some id → OldId f d id
   old_id f d e id r is =
-      let x = option_map-Some ρ (id_of d) id (sym (id_became ρ t clean f d e r) ∙ is) in
+      let x = option_map-Some ρ (id_of d) id (sym (id_became ρ t (no_shape_fault π t accepted) f d e r) ∙ is) in
       record { old = x.0; is = x.1; becomes = x.2 }
 
   one_old : (f g : Family) (d e : Data) (id : List ℕ) → Has (family_values f t) d → Has (family_values g t) e → (a : OldId f d id) (b : OldId g e id) → a.old ≡ b.old

@@ -1,27 +1,127 @@
 -- A rearranged report is a tree, is accepted as it was, says the same and so means the same: by each change, and so by all.
-use Rattle.std.proofs.Common.{ℕ, List, [], ◌∷◌, Some, refl, sym, ap, ◌∙◌, subst}
-use Rattle.serde_json.specs.Data.{Data}
+use Rattle.std.proofs.Common.{◌≡◌, ◌⊎◌, inl, inr, ℕ, List, ◌∷◌, true, false, true≢false, Option, Some, None, option_and_then, refl, sym, ap, ◌∙◌, subst, []}
+use Rattle.std.specs.Prelude.{IsTrue, IsSomeAnd}
+use Rattle.serde_json.specs.Data.{Data, object}
+use Rattle.serde_json.specs.Find.{get_member}
+use Rattle.erd_tables.specs.Table.{is_envelope_name}
+use Rattle.erd_tables.specs.declared.fault.Reason.{Reason}
+use Rattle.erd_tables.specs.declared.place.Step.{Step}
+use Rattle.erd_tables.specs.declared.place.Step.TheVariants.{Name}
 use Rattle.erd_tables.specs.declared.class.Role.TheVariants as role
+use Rattle.erd_check.specs.Faults.{is_shape_fault}
 use Rattle.erd_check.specs.Trees.{IsTree}
+use Rattle.erd_check.specs.Wants.{Asked, asked, asked_from, asked_inside, asked_of_member, scope_inside, want_of_name}
+use Rattle.erd_check.specs.declared.want.Scope.{Scope}
+use Rattle.erd_check.specs.declared.want.Want.{Want}
 use Rattle.erd_check.specs.declared.want.Want.TheVariants.{Object}
+use Rattle.erd_check.proofs.ObjectsAt.{ObjectIn, object_in, report_class}
+use Rattle.erd_check.proofs.Shapes.{Within, Within-root, Within-step, within-tree}
+use Rattle.erd_check.specs.declared.want.Scope.TheVariants as scope
 use Rattle.erd_meaning.specs.Accepted.{IsAccepted}
 use Rattle.erd_meaning.specs.Keys.{Preference}
+use Rattle.erd_meaning.proofs.accepted.Phases.{no_shape_fault}
+use Rattle.erd_normal.specs.SameLaws.{HasSoundEnvelope, RearrangedSaysTheSame}
+use Rattle.erd_normal.specs.SaysTheSame.{Sides, is_envelope, SaysTheSame}
+use Rattle.erd_normal.proofs.lists.Matched.{Both, both}
+use Rattle.erd_normal.proofs.rearranged.AlikeChanges.{Alike, as_it_is, exchanged_alike, renamed_alike}
+use Rattle.erd_normal.proofs.rearranged.AlikeParts.{alike_member, alike_tree}
+use Rattle.erd_normal.proofs.same.FromAlike.{ComesBack, alike_same, alike_says}
+use Rattle.erd_normal.proofs.same.Lookups.{of_object}
+use Rattle.erd_normal.proofs.same.Places.{envelope_quiet, is_quiet, quiet_step}
+use Rattle.erd_normal.proofs.same.Types.{scope_same}
+use Rattle.erd_normal.proofs.same.accepted.AbsentMembers.{IsSound}
+use Rattle.erd_normal.proofs.same.accepted.AcceptedShape.{no_fault_at}
+use Rattle.erd_normal.proofs.same.accepted.AskedAgain.{AskedAgain, HasSoundMembers, again_from, of_report}
 use Rattle.erd_normal.specs.Laws.{RearrangedMeansTheSame}
 use Rattle.erd_normal.specs.Rearranged.{Change, IsAllowed, IsRearrangement, IsRenaming, Renaming, a_renaming, an_exchange, changed, exchanged, renamed, replaced_text}
-use Rattle.erd_normal.specs.SameLaws.{RearrangedSaysTheSame}
-use Rattle.erd_normal.specs.SaysTheSame.{SaysTheSame}
-use Rattle.erd_normal.proofs.rearranged.Alike.{Alike}
-use Rattle.erd_normal.proofs.rearranged.AlikeChanges.{as_it_is, exchanged_alike, renamed_alike}
-use Rattle.erd_normal.proofs.rearranged.AlikeParts.{alike_tree}
-use Rattle.erd_normal.proofs.rearranged.RearrangedEnvelope.{alike_envelope}
 use Rattle.erd_normal.proofs.rearranged.RearrangedIds.{alike_ids, TellsIds}
 use Rattle.erd_normal.proofs.same.Basics.{says_itself}
-use Rattle.erd_normal.proofs.same.FromAlike.{ComesBack, alike_says}
 use Rattle.erd_normal.proofs.same.InTurn.{says_in_turn}
-use Rattle.erd_normal.proofs.same.Rearrangements.{comes_back, texts_come_back, turned_back}
-use Rattle.erd_normal.proofs.same.Renamed.{covers, id_covered}
+use Rattle.erd_normal.proofs.same.Rearrangements.{comes_back, texts_come_back, turned_back, covers, id_covered}
 use Rattle.erd_normal.proofs.same.accepted.Accepted.{same_is_accepted}
 use Rattle.erd_normal.proofs.same.means.Meanings.{saying_the_same_means_the_same}
+
+-- ---- a report that is alike to an accepted one has no fault of shape in its envelope: each of its members says the same as that of the other one
+
+module _ (π : Preference) (ρ σ : List ℕ → List ℕ) (t u : Data) (back : ComesBack ρ σ t) (alike : Alike ρ (Some (Object role.Report)) t u) (tree : IsTree t) (accepted : IsAccepted π t) where
+  abbrev m : Sides
+  m = record { left = t; right = u; there = ρ; back = σ }
+
+  right_tree : IsTree u
+  right_tree = alike_tree ρ (Some (Object role.Report)) t u alike tree
+
+  top : ObjectIn t role.Report t
+  top = object_in t (no_shape_fault π t accepted) role.Report t (Within-root t)
+
+  -- what is asked of the report under a name
+  abbrev here : Scope
+  here = scope_inside (Object role.Report) (object top.ms)
+
+  names_envelope : (n : List ℕ) → is_envelope here n ≡ is_envelope_name n
+  names_envelope n = ap (λ c. is_envelope (scope.Members role.Report c) n) (top.at.among ∙ ap Some (report_class top.class top.role))
+
+  -- what stands in the envelope is asked again, and nothing in it may be absent
+  record Found (c : Asked) : Type 0 where
+    again : AskedAgain m c
+    quiet : is_quiet c.want ≡ true
+
+  found_at : (n : List ℕ) → is_envelope_name n ≡ true → (c : Asked) → asked_inside (Object role.Report) u (Name n) ≡ Some c → Found c
+  found_at n inside c stands =
+      let h : Alike ρ (Some (Object role.Report)) (object top.ms) u = subst (λ x. Alike ρ (Some (Object role.Report)) x u) top.is_object alike in
+      let says = of_object m (Object role.Report) top.ms u (alike_same ρ σ t u back (Object role.Report) (object top.ms) u h (record { repeated = false; inside = top.at.inside }) (subst IsTree top.is_object tree)) in
+      let scopes : here ≡ scope_inside (Object role.Report) u = scope_same m (Object role.Report) top.ms says.members says.same ∙ sym (ap (scope_inside (Object role.Report)) says.is_object) in
+      at (want_of_name here n) (get_member n top.ms) (get_member n h.0) refl refl (alike_member ρ here top.ms h.0 h.2 n)
+      (ap (λ s. asked_of_member (want_of_name s n) (get_member n h.0)) (scopes ∙ ap (scope_inside (Object role.Report)) h.1) ∙ sym (ap (λ x. asked_inside (Object role.Report) x (Name n)) h.1) ∙ stands)
+    where
+      at : (v : Option Want) (o p : Option Data) → want_of_name here n ≡ v → get_member n top.ms ≡ o → Both (Alike ρ v) o p → asked_of_member v p ≡ Some c → Found c
+      at None o p asks found h e = cc
+      at (Some v) o None asks found h e = cc
+      at (Some v) None (Some f) asks found h e = elim h [ ]
+      at (Some v) (Some d) (Some f) asks found (both r) e =
+          let one : asked v f ≡ c = cc in
+          let step : asked_inside (Object role.Report) t (Name n) ≡ Some (asked v d) = ap (λ x. asked_inside (Object role.Report) x (Name n)) top.is_object ∙ rw (asks, found) refl in
+          let stands : Within t (asked v d) = Within-step t (asked (Object role.Report) t) (asked v d) (Name n) (Within-root t) step in
+          subst Found one (record {
+            again = record {
+              of = asked v d;
+              inside = stands;
+              want = refl;
+              same = alike_same ρ σ t u back v d f r (record { repeated = false; inside = stands }) (within-tree t (asked v d) tree stands);
+              first = refl;
+            };
+            quiet = envelope_quiet here n v (names_envelope n ∙ inside) asks;
+          })
+
+  -- there is no report inside the envelope
+  no_report : (b : Asked) → Within u b → is_quiet b.want ≡ true → HasSoundMembers b
+  no_report b inside quiet ns n v f is asks found h =
+      let o = of_report b.want ns n h in
+      let e : false ≡ true = ap is_quiet (sym o.report) ∙ quiet in cc
+
+  no_fault : (n : List ℕ) (b c : Asked) → Within u b → Found b → (ss : List Step) → asked_from b ss ≡ Some c → Within u c → (r : Reason) → is_shape_fault c r ≡ false
+  no_fault n b c inside f ss e there r =
+      at (again_from m tree right_tree π accepted (λ x. is_quiet x.want ≡ true) (λ x y s h found. quiet_step x.want x.value s y h found) no_report ss b inside f.quiet f.again c e)
+    where
+      at : AskedAgain m c ⊎ IsSound c → is_shape_fault c r ≡ false
+      at (inl again) = no_fault_at m tree right_tree π accepted c r there again
+      at (inr sound) = sound.no_fault r
+
+  pub alike_envelope : HasSoundEnvelope u
+  alike_envelope (Name n ∷ ss) r inside fault = at (asked_inside (Object role.Report) u (Name n)) refl fault
+    where
+      last : (b : Asked) → asked_inside (Object role.Report) u (Name n) ≡ Some b → (o : Option Asked) → asked_from b ss ≡ o → IsSomeAnd o (λ a. IsTrue (is_shape_fault a r)) → ⊥
+      last b is None found h = h
+      last b is (Some c) found h =
+          let place = ap (option_and_then (λ x. asked_from x ss)) is ∙ found in
+          let stands : Within u b = Within-step u (asked (Object role.Report) u) b (Name n) (Within-root u) is in
+          true≢false (sym h ∙ no_fault n b c stands (found_at n inside b is) ss found (record { place = Name n ∷ ss; is = place }) r)
+
+      at : (o : Option Asked) → asked_inside (Object role.Report) u (Name n) ≡ o → IsSomeAnd (option_and_then (λ b. asked_from b ss) o) (λ a. IsTrue (is_shape_fault a r)) → ⊥
+      at None is h = h
+      at (Some b) is h = last b is (asked_from b ss) refl h
+  alike_envelope d r inside fault = cc
+
+-- ---- a rearranged report is a tree, is accepted as it was, says the same and so means the same: by each change, and so by all
 
 -- ---- one change
 

@@ -2,7 +2,7 @@
 use Rattle.std.proofs.Common.{◌≡◌, ℕ, List, [], true, false, if◌then◌else◌, Option, Some, None, option_map, codes, refl, sym, ap, ◌∙◌, subst}
 use Rattle.std.specs.Option.{option_map_or}
 use Rattle.std.specs.Str.{bytes_eq}
-use Rattle.serde_json.specs.Data.{Data, null, boolean, number, string, array, object, Members}
+use Rattle.serde_json.specs.Data.{Data, string, array, object, Members}
 use Rattle.serde_json.specs.Find.{as_str, get, get_member}
 use Rattle.erd_tables.specs.Table.{is_required, kind_of_member}
 use Rattle.erd_tables.specs.declared.class.Class.{Class}
@@ -24,7 +24,7 @@ use Rattle.erd_check.proofs.Shapes.{AsksObject, Within, Within-step, member_with
 use Rattle.erd_check.proofs.TableKinds.{want_by_kind}
 use Rattle.erd_normal.specs.Rearranged.{is_id_text}
 use Rattle.erd_normal.proofs.lists.Matched.{Both, both, neither, Matched, matched_none, matched_within}
-use Rattle.erd_normal.proofs.rearranged.Alike.{Alike}
+use Rattle.erd_normal.proofs.rearranged.AlikeChanges.{Alike}
 use Rattle.erd_normal.proofs.rearranged.AlikeParts.{alike_array, alike_member}
 use Rattle.erd_normal.proofs.same.Types.{asked_of_name}
 
@@ -33,13 +33,11 @@ use Rattle.erd_normal.proofs.same.Types.{asked_of_name}
 module _ (ρ : List ℕ → List ℕ) where
   -- what has no entries is alike to what has none
   pub alike_listed : (w : Want) (d e : Data) → Alike ρ (Some w) d e → Matched (Alike ρ (entry_want w)) (entries_of d) (entries_of e)
-  alike_listed w null e h = subst (λ x. Matched (Alike ρ (entry_want w)) [] (entries_of x)) h (matched_none _)
-  alike_listed w (boolean b) e h = subst (λ x. Matched (Alike ρ (entry_want w)) [] (entries_of x)) h (matched_none _)
-  alike_listed w (number n) e h = subst (λ x. Matched (Alike ρ (entry_want w)) [] (entries_of x)) h (matched_none _)
   alike_listed w (string s) e h = subst (λ x. Matched (Alike ρ (entry_want w)) [] (entries_of x)) (sym h) (matched_none _)
   alike_listed w (array ds) e h =
       subst (λ x. Matched (Alike ρ (entry_want w)) (entries_of (array ds)) (entries_of x)) (sym h.2) (alike_array ρ w ds h.1 (subst (Alike ρ (Some w) (array ds)) h.2 h))
   alike_listed w (object ms) e h = subst (λ x. Matched (Alike ρ (entry_want w)) [] (entries_of x)) (sym h.1) (matched_none _)
+  alike_listed w k e h = subst (λ x. Matched (Alike ρ (entry_want w)) [] (entries_of x)) h (matched_none _)
 
 -- ---- values of a report
 
@@ -53,11 +51,7 @@ module _ (ρ : List ℕ → List ℕ) (t : Data) where
   entry_inside w v (array ds) asks apart inside x h =
       let j = list_of_items-place ds x h in
       Within-step t (asked w (array ds)) (asked v x) (At j.0) inside (rw (asks, apart, j.1) refl)
-  entry_inside w v null asks apart inside x h = elim h [ ]
-  entry_inside w v (boolean b) asks apart inside x h = elim h [ ]
-  entry_inside w v (number n) asks apart inside x h = elim h [ ]
-  entry_inside w v (string s) asks apart inside x h = elim h [ ]
-  entry_inside w v (object ms) asks apart inside x h = elim h [ ]
+  entry_inside w v e asks apart inside x h = elim h [ ]
 
   -- the entries of arrays that are not compared with one another
   pub related_entries : (w v : Want) (d e : Data) → entry_want w ≡ Some v → is_compared_set w ≡ false → Related ρ t w d e → Matched (Related ρ t v) (entries_of d) (entries_of e)
@@ -112,9 +106,7 @@ module _ (ρ : List ℕ → List ℕ) (t : Data) where
 -- ---- texts of `@id`s and references
 
 pub related_id_text : (ρ : List ℕ → List ℕ) (w : Want) (d e : Data) → is_id_text w ≡ true → Alike ρ (Some w) d e → as_str e ≡ option_map ρ (as_str d)
-related_id_text ρ w null e is h = sym (ap as_str h)
-related_id_text ρ w (boolean b) e is h = sym (ap as_str h)
-related_id_text ρ w (number n) e is h = sym (ap as_str h)
 related_id_text ρ w (string s) e is h = ap as_str h ∙ ap (λ b. Some (if b then ρ s else s)) is
 related_id_text ρ w (array ds) e is h = ap as_str h.2
 related_id_text ρ w (object ms) e is h = ap as_str h.1
+related_id_text ρ w k e is h = sym (ap as_str h)

@@ -21,7 +21,7 @@ use Rattle.erd_meaning.specs.Objects.{id_of}
 use Rattle.erd_meaning.proofs.accepted.Standing.{contest_selections}
 use Rattle.erd_normal.proofs.built.NormalGets.{kind_of_family_id}
 use Rattle.erd_normal.proofs.lists.Matched.{Both, both, neither, Matched, matched_flat}
-use Rattle.erd_normal.proofs.rearranged.Alike.{Alike}
+use Rattle.erd_normal.proofs.rearranged.AlikeChanges.{Alike}
 use Rattle.erd_normal.proofs.rearranged.RelatedMembers.{Related, related_array, related_id_text, related_in, related_listed}
 use Rattle.erd_normal.proofs.same.FamilyValues.{family_values}
 

@@ -9,13 +9,14 @@ use Rattle.erd_check.specs.Wants.{entry_want}
 use Rattle.erd_check.specs.declared.want.Scope.{Scope}
 use Rattle.erd_check.specs.declared.want.Want.{Want}
 use Rattle.erd_check.proofs.Lists.{list_of_items-items_of}
-use Rattle.erd_normal.proofs.lists.Paired.{Paired, none, more}
+use Rattle.erd_normal.proofs.lists.Matched.{Paired, none, more}
 use Rattle.erd_normal.proofs.lists.NumbersInOrder.{permuted_reordered}
 use Rattle.erd_normal.proofs.lists.BuiltLists.{items_again}
 use Rattle.erd_normal.specs.SaysTheSame.{Sides, Same, not_asked, a_null, a_flag, a_number, a_text, an_id, a_list, a_set, an_object, SameEntries, no_entry, one_entry, SameMembers, no_member, in_both, left_only, right_only}
 use Rattle.erd_normal.specs.SameLaws.{SaysBack}
-use Rattle.erd_normal.proofs.same.Lists.{follows, reordered_permuted}
+use Rattle.erd_normal.proofs.same.Lists.{follows}
 use Rattle.erd_normal.proofs.same.Types.{scope_same}
+use Rattle.erd_meaning.proofs.orders.RisingSets.{IsPermutation-reordered}
 
 abbrev pub turned : Sides → Sides
 turned m = record { left = m.right; right = m.left; there = m.back; back = m.there }
@@ -45,7 +46,7 @@ set_swapped m w ds fs es p h =
     let f = follows (permuted_reordered (list_of_items fs) (list_of_items ds) (IsPermutation-sym (list_of_items ds) (list_of_items fs) p)) (paired_flip (entries_paired m h)) in
     record {
       moved = items_of f.new;
-      permuted = subst (IsPermutation (list_of_items es)) (sym (list_of_items-items_of f.new)) (reordered_permuted f.reordered);
+      permuted = subst (IsPermutation (list_of_items es)) (sym (list_of_items-items_of f.new)) (IsPermutation-reordered f.reordered);
       entries = subst (SameEntries m w (items_of f.new)) (items_again ds) (paired_entries m w (paired_flip f.paired));
     }
 

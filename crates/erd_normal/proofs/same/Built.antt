@@ -13,7 +13,7 @@ use Rattle.erd_meaning.specs.SelectionNames.{rising_list}
 use Rattle.erd_meaning.proofs.orders.Reordered.{reordered_back, reordered-has, reordered_rising}
 use Rattle.erd_meaning.proofs.orders.RisingSets.{permuted_rising}
 use Rattle.erd_normal.specs.code.NormalTree.{array_of}
-use Rattle.erd_normal.proofs.lists.Paired.{Paired, none, more}
+use Rattle.erd_normal.proofs.lists.Matched.{Paired, none, more}
 use Rattle.erd_normal.proofs.lists.BuiltLists.{items_again}
 use Rattle.erd_normal.specs.SaysTheSame.{Sides, Same, SameEntries, a_list, a_set}
 use Rattle.erd_normal.proofs.same.Back.{paired_entries}

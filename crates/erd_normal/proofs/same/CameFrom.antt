@@ -32,27 +32,28 @@ pub record CameFrom (m : Sides) (t : Data) (b : Asked) : Type 0 where
 abbrev pub HasNoReference : Asked → Type 0
 HasNoReference b = (ss : List Step) (c : Asked) → asked_from b ss ≡ Some c → is_reference c.want ≡ true → ⊥
 
+module _ (m : Sides) where
+  -- what an object or an array comes from
+  pub record FromObject (w : Want) (d : Data) (ns : Members) : Type 0 where
+    pub ms : Members
+    pub is : d ≡ object ms
+    pub same : SameMembers m (scope_inside w (object ms)) ms ns
+
+  pub from_object : (w : Want) (d : Data) (ns : Members) → Same m (Some w) d (object ns) → FromObject w d ns
+  from_object w d ns (an_object {ms = ms} h) = record { ms = ms; is = refl; same = h }
+
+  pub record FromArray (w : Want) (d : Data) (es : Items) : Type 0 where
+    pub ds : Items
+    pub is : d ≡ array ds
+
+  pub from_array : (w : Want) (d : Data) (es : Items) → Same m (Some w) d (array es) → FromArray w d es
+  from_array w d es (a_list {ds = ds} is h) = record { ds = ds; is = refl }
+  from_array w d es (a_set {ds = ds} fs is p h) = record { ds = ds; is = refl }
+
 -- m is of these reports; which `@id`s it calls unused is another matter
 module _ (m : Sides) (t u : Data) (left_tree : IsTree t) (right_tree : IsTree u) where
   abbrev OneStep : Asked → Type 0
   OneStep c = CameFrom m t c ⊎ HasNoReference c
-
-  -- what an object or an array comes from
-  record FromObject (w : Want) (d : Data) (ns : Members) : Type 0 where
-    ms : Members
-    is : d ≡ object ms
-    same : SameMembers m (scope_inside w (object ms)) ms ns
-
-  from_object : (w : Want) (d : Data) (ns : Members) → Same m (Some w) d (object ns) → FromObject w d ns
-  from_object w d ns (an_object {ms = ms} h) = record { ms = ms; is = refl; same = h }
-
-  record FromArray (w : Want) (d : Data) (es : Items) : Type 0 where
-    ds : Items
-    is : d ≡ array ds
-
-  from_array : (w : Want) (d : Data) (es : Items) → Same m (Some w) d (array es) → FromArray w d es
-  from_array w d es (a_list {ds = ds} is h) = record { ds = ds; is = refl }
-  from_array w d es (a_set {ds = ds} fs is p h) = record { ds = ds; is = refl }
 
   name_step : (a : Asked) (n : List ℕ) (ms ns : Members) → Within t a → a.value ≡ object ms → scope_inside a.want (object ms) ≡ scope_inside a.want (object ns)
       → (o p : Option Data) → get_member n ms ≡ o → get_member n ns ≡ p → Aligned m (scope_inside a.want (object ms)) n o p
@@ -94,13 +95,13 @@ module _ (m : Sides) (t u : Data) (left_tree : IsTree t) (right_tree : IsTree u)
 
   one_step : (a : Asked) (e : Data) (s : Step) → Within t a → Same m (Some a.want) a.value e → IsTree e → (c : Asked) → asked_inside a.want e s ≡ Some c → OneStep c
   one_step a (object ns) (Name n) inside same tree c found =
-      let f = from_object a.want a.value ns same in
+      let f = from_object m a.want a.value ns same in
       let scopes = scope_same m a.want f.ms ns f.same in
       let here : IsTree (object f.ms) = subst IsTree f.is (within-tree t a left_tree inside) in
       name_step a n f.ms ns inside f.is scopes (get_member n f.ms) (get_member n ns) refl refl (lookups m n f.same here tree)
       (want_of_name (scope_inside a.want (object f.ms)) n) refl c (ap (λ s. asked_of_member (want_of_name s n) (get_member n ns)) scopes ∙ found)
   one_step a (array es) (At i) inside same tree c found =
-      let f = from_array a.want a.value es same in
+      let f = from_array m a.want a.value es same in
       entry_step a i f.ds es inside f.is (entry_want a.want) refl (entries_matched m a.want (subst (λ x. Same m (Some a.want) x (array es)) f.is same)) (get_item i es) refl (is_compared_set a.want) c found
   one_step a e s inside same tree c found = cc
 

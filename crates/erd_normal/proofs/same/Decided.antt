@@ -17,14 +17,16 @@ use Rattle.erd_check.specs.declared.want.Want.{Want}
 use Rattle.erd_check.specs.declared.want.Want.TheVariants.{Member, Object}
 use Rattle.erd_check.proofs.AllAsked.{AskedPlace, all_asked, tested_at}
 use Rattle.erd_check.proofs.Lists.{list_of_items-items_of}
+use Rattle.erd_check.proofs.Exact.{text_itself}
 use Rattle.erd_normal.specs.Rearranged.{is_id_text}
 use Rattle.erd_meaning.proofs.orders.Reordered.{Reordered, one_kept, two_exchanged, in_turn, reordered_self}
+use Rattle.erd_meaning.proofs.orders.RisingSets.{IsPermutation-reordered}
 use Rattle.erd_normal.proofs.examples.EqualTrees.{equal_trees, same_tree}
-use Rattle.erd_normal.proofs.lists.Paired.{Paired, none, more}
+use Rattle.erd_normal.proofs.lists.Matched.{Paired, none, more}
 use Rattle.erd_normal.proofs.lists.BuiltLists.{items_again}
 use Rattle.erd_normal.specs.SaysTheSame.{Sides, IsUnused, MayBeAbsent, an_empty_array, of_the_envelope, an_unused_id, is_array_kind, is_envelope, Same, not_asked, a_null, a_flag, a_number, a_text, an_id, a_list, a_set, an_object, SameEntries, no_entry, one_entry, SameMembers, no_member, in_both, left_only, right_only, SaysTheSame}
 use Rattle.erd_normal.proofs.same.Back.{paired_entries, paired_flip}
-use Rattle.erd_normal.proofs.same.Lists.{follows, reordered_permuted}
+use Rattle.erd_normal.proofs.same.Lists.{follows}
 
 -- ---- what may be absent
 
@@ -38,9 +40,6 @@ abbrev may_be_absent : Data → Option Want → Data → Bool
 may_be_absent t (Some (Member kind.Identity required)) (string id) = is_unused t id
 may_be_absent t (Some (Member k required)) d = is_array_kind k && same_tree d (array no_items)
 may_be_absent t o d = false
-
-text_itself : (s : List ℕ) → bytes_eq s s ≡ true
-text_itself s = (bytes_eq-Decides s s).1 refl
 
 unused : (t : Data) (id : List ℕ) → is_unused t id ≡ true → IsUnused t id
 unused t id h p a stands reference text =
@@ -154,7 +153,7 @@ module _ (m : Sides) where
   set_from : (w : Want) (ds es : Items) → is_table_set w ≡ true → InSomeOrder (entry_want w) ds es → Same m (Some w) (array ds) (array es)
   set_from w ds es is h =
       let f = follows h.reordered (paired_flip h.paired) in
-      a_set (items_of f.new) is (subst (IsPermutation (list_of_items ds)) (sym (list_of_items-items_of f.new)) (reordered_permuted f.reordered))
+      a_set (items_of f.new) is (subst (IsPermutation (list_of_items ds)) (sym (list_of_items-items_of f.new)) (IsPermutation-reordered f.reordered))
       (subst (SameEntries m (entry_want w) (items_of f.new)) (items_again es) (paired_entries m (entry_want w) (paired_flip f.paired)))
 
   absent_rest : (s : Scope) (ns : Members) → all_absent (absent_test m.right s) ns ≡ true → SameMembers m s no_members ns

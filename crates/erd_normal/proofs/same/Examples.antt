@@ -1,15 +1,16 @@
 -- The small ballot and its canonical form.
-use Rattle.std.proofs.Common.{ℕ, List, [], ◌∷◌, ◌++◌, codes, Option, Some, None, option_map, unwrap_or, if◌then◌else◌, ◌==◌, refl}
+use Rattle.std.proofs.Common.{ℕ, List, [], ◌∷◌, ◌++◌, codes, refl}
 use Rattle.serde_json.proofs.OnLiterals.{serde_json_on_literals}
 use Rattle.erd_check.proofs.Reports.{tree_of, contest_node, header_node, small_ballot, small_ballot_canonical, small_ballot_with}
 use Rattle.erd_check.proofs.ReadTrees.{read_is_tree}
-use Rattle.erd_check.proofs.WholeExamples.{small_ballot_is_tree}
-use Rattle.erd_check.specs.Trees.{IsTree}
+use Rattle.erd_check.proofs.WholeExamples.{small_ballot_is_faultless}
 use Rattle.erd_normal.specs.Rearranged.{Renaming, replaced_text}
 use Rattle.erd_normal.specs.SaysTheSame.{SaysTheSame}
 use Rattle.erd_normal.proofs.same.Decided.{tested_says}
 use Rattle.erd_normal.proofs.same.Differ.{differ_unrelated}
 use Rattle.erd_normal.proofs.same.Rearrangements.{turned_back}
+use Rattle.erd_normal.proofs.examples.RearrangedExamples.{edited}
+use Rattle.erd_normal.proofs.same.Basics.{as_it_is}
 
 -- the names of the canonical form
 abbrev canonical_names : Renaming
@@ -22,26 +23,11 @@ pub canonical_says : SaysTheSame (tree_of small_ballot) (tree_of small_ballot_ca
 unfolding serde_json_on_literals
 canonical_says = tested_says (replaced_text canonical_names) (replaced_text (turned_back canonical_names)) (tree_of small_ballot) (tree_of small_ballot_canonical) refl
 
--- ---- texts with a part replaced
-
-abbrev rest_after : List ℕ → List ℕ → Option (List ℕ)
-rest_after [] text = Some text
-rest_after (x ∷ xs) [] = None
-rest_after (x ∷ xs) (y ∷ ys) = if x == y then rest_after xs ys else None
-
--- the text with the first part that is `old` replaced
-abbrev edited : List ℕ → List ℕ → List ℕ → List ℕ
-edited old new [] = []
-edited old new (x ∷ xs) = unwrap_or (option_map (λ rest. new ++ rest) (rest_after old (x ∷ xs))) (x ∷ edited old new xs)
-
 -- ---- what may be added
 
 -- a style with an `@id`, an empty array of the table and an outside member
 abbrev more_members : List ℕ
 more_members = edited (codes "{\"@type\":\"ElectionResults.BallotStyle\"") (codes "{\"@id\":\"s\",\"@type\":\"ElectionResults.BallotStyle\",\"PartyIds\":[]") (edited (codes "\"VotesAllowed\":1") (codes "\"VotesAllowed\":1,\"OtherCounts\":[]") small_ballot)
-
-abbrev as_it_is : List ℕ → List ℕ
-as_it_is s = s
 
 pub more_says : SaysTheSame (tree_of small_ballot) (tree_of more_members)
 unfolding serde_json_on_literals
@@ -53,46 +39,30 @@ more_says = tested_says as_it_is as_it_is (tree_of small_ballot) (tree_of more_m
 abbrev other_value : List ℕ
 other_value = small_ballot_with (codes "K4") (header_node ++ codes "," ++ contest_node)
 
-other_value_is_tree : IsTree (tree_of other_value)
-unfolding serde_json_on_literals
-other_value_is_tree = read_is_tree other_value (tree_of other_value) refl
-
 pub other_value_differs : SaysTheSame (tree_of small_ballot) (tree_of other_value) → ⊥
 unfolding serde_json_on_literals
-other_value_differs = differ_unrelated (tree_of small_ballot) (tree_of other_value) small_ballot_is_tree other_value_is_tree refl
+other_value_differs = differ_unrelated (tree_of small_ballot) (tree_of other_value) small_ballot_is_faultless.tree (read_is_tree other_value (tree_of other_value) refl) refl
 
 -- another order of the ballot
 abbrev other_order : List ℕ
 other_order = small_ballot_with (codes "K3") (contest_node ++ codes "," ++ header_node)
 
-other_order_is_tree : IsTree (tree_of other_order)
-unfolding serde_json_on_literals
-other_order_is_tree = read_is_tree other_order (tree_of other_order) refl
-
 pub other_order_differs : SaysTheSame (tree_of small_ballot) (tree_of other_order) → ⊥
 unfolding serde_json_on_literals
-other_order_differs = differ_unrelated (tree_of small_ballot) (tree_of other_order) small_ballot_is_tree other_order_is_tree refl
+other_order_differs = differ_unrelated (tree_of small_ballot) (tree_of other_order) small_ballot_is_faultless.tree (read_is_tree other_order (tree_of other_order) refl) refl
 
 -- `false` in place of an absent member
 abbrev with_false : List ℕ
 with_false = edited (codes "{\"Status\"") (codes "{\"IsTest\":false,\"Status\"") small_ballot
 
-with_false_is_tree : IsTree (tree_of with_false)
-unfolding serde_json_on_literals
-with_false_is_tree = read_is_tree with_false (tree_of with_false) refl
-
 pub with_false_differs : SaysTheSame (tree_of with_false) (tree_of small_ballot) → ⊥
 unfolding serde_json_on_literals
-with_false_differs = differ_unrelated (tree_of with_false) (tree_of small_ballot) with_false_is_tree small_ballot_is_tree refl
+with_false_differs = differ_unrelated (tree_of with_false) (tree_of small_ballot) (read_is_tree with_false (tree_of with_false) refl) small_ballot_is_faultless.tree refl
 
 -- an empty array that is carried
 abbrev with_carried : List ℕ
 with_carried = edited (codes "{\"Status\"") (codes "{\"Colors\":[],\"Status\"") small_ballot
 
-with_carried_is_tree : IsTree (tree_of with_carried)
-unfolding serde_json_on_literals
-with_carried_is_tree = read_is_tree with_carried (tree_of with_carried) refl
-
 pub with_carried_differs : SaysTheSame (tree_of with_carried) (tree_of small_ballot) → ⊥
 unfolding serde_json_on_literals
-with_carried_differs = differ_unrelated (tree_of with_carried) (tree_of small_ballot) with_carried_is_tree small_ballot_is_tree refl
+with_carried_differs = differ_unrelated (tree_of with_carried) (tree_of small_ballot) (read_is_tree with_carried (tree_of with_carried) refl) small_ballot_is_faultless.tree refl

@@ -19,13 +19,14 @@ use Rattle.erd_check.proofs.Rising.{Has, here, later}
 use Rattle.erd_check.proofs.Shapes.{Within, Within-root, Within-step, within-tree}
 use Rattle.erd_check.proofs.Whole.{get_member-later}
 use Rattle.erd_normal.specs.Rearranged.{is_id_text}
-use Rattle.erd_normal.proofs.lists.Paired.{Paired, none, more}
+use Rattle.erd_normal.proofs.lists.Matched.{Paired, none, more}
 use Rattle.erd_normal.proofs.lists.BuiltLists.{items_again}
-use Rattle.erd_normal.proofs.rearranged.Alike.{Alike, AlikeMembers, AreAlike, IsArranged}
+use Rattle.erd_normal.proofs.rearranged.AlikeChanges.{Alike, AlikeMembers, AreAlike, IsArranged}
 use Rattle.erd_normal.proofs.rearranged.AlikeParts.{alike_unasked}
 use Rattle.erd_normal.specs.SaysTheSame.{Sides, Same, not_asked, a_null, a_flag, a_number, a_text, an_id, a_list, a_set, an_object, SameEntries, SameMembers, no_member, in_both, SaysTheSame}
 use Rattle.erd_normal.proofs.same.Back.{paired_entries, paired_flip}
-use Rattle.erd_normal.proofs.same.Lists.{follows, reordered_permuted}
+use Rattle.erd_normal.proofs.same.Lists.{follows}
+use Rattle.erd_meaning.proofs.orders.RisingSets.{IsPermutation-reordered}
 
 -- each text of an `@id` or a reference of the report comes back
 pub record ComesBack (ρ σ : List ℕ → List ℕ) (t : Data) : Type 0 where
@@ -43,11 +44,7 @@ entry_stands t w v (array ds) asks st x h =
     let a : Asked = record { want = w; value = array ds; repeated = st.repeated } in
     let b : Asked = record { want = v; value = x; repeated = is_compared_set w && is_repeated ds j.0 x } in
     record { repeated = is_compared_set w && is_repeated ds j.0 x; inside = Within-step t a b (At j.0) st.inside (rw (asks, j.1) refl) }
-entry_stands t w v null asks st x h = elim h [ ]
-entry_stands t w v (boolean b) asks st x h = elim h [ ]
-entry_stands t w v (number n) asks st x h = elim h [ ]
-entry_stands t w v (string s) asks st x h = elim h [ ]
-entry_stands t w v (object ms) asks st x h = elim h [ ]
+entry_stands t w v e asks st x h = elim h [ ]
 
 pub member_stands : (t : Data) (w : Want) (ms : Members) → Stands t w (object ms) → (k : List ℕ) (v : Want) (d : Data) → want_of_name (scope_inside w (object ms)) k ≡ Some v → get_member k ms ≡ Some d → Stands t v d
 member_stands t w ms st k v d asks found =
@@ -69,7 +66,7 @@ module _ (ρ σ : List ℕ → List ℕ) (t u : Data) (back : ComesBack ρ σ t)
       → IsArranged b fs (list_of_items es) → Same m (Some w) (array ds) (array es)
   array_same w ds fs es true is p arranged =
       let f = follows arranged (paired_flip p) in
-      a_set (items_of f.new) is (subst (IsPermutation (list_of_items ds)) (sym (list_of_items-items_of f.new)) (reordered_permuted f.reordered))
+      a_set (items_of f.new) is (subst (IsPermutation (list_of_items ds)) (sym (list_of_items-items_of f.new)) (IsPermutation-reordered f.reordered))
       (subst (SameEntries m (entry_want w) (items_of f.new)) (items_again es) (paired_entries m (entry_want w) (paired_flip f.paired)))
   array_same w ds fs es false is p arranged =
       a_list is

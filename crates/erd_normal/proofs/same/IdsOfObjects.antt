@@ -1,34 +1,63 @@
 -- What a value is, by what the table asks of it: so an `@id` that it asks for is that of an object of a family.
-use Rattle.std.proofs.Common.{◌≡◌, ℕ, List, [], ◌∷◌, flat_map, Bool, true, false, cond, is_some, ◌&&◌, Option, Some, None, option_and_then, option_map, codes, refl, sym, ap, ◌∙◌, subst}
+use Rattle.std.proofs.Common.{◌≡◌, ℕ, List, Bool, Some, refl, subst, [], ◌∷◌, flat_map, true, false, cond, is_some, ◌&&◌, Option, None, option_and_then, option_map, codes, sym, ap, ◌∙◌}
+use Rattle.std.specs.List.{AllByRecursion}
 use Rattle.std.specs.Option.{option_map_or}
 use Rattle.std.specs.Str.{bytes_eq}
-use Rattle.serde_json.specs.Data.{Data, string, array, object, Items, Members}
+use Rattle.std.proofs.lemmas.Bool.{and_parts}
+use Rattle.serde_json.specs.Data.{Data, string, array, Items, object, Members}
 use Rattle.serde_json.specs.Find.{as_str, get_item, get_member}
+use Rattle.erd_tables.specs.declared.class.Family.{Family}
+use Rattle.erd_tables.specs.declared.place.Step.TheVariants.{At, Name}
 use Rattle.erd_tables.specs.Classes.{family_of_class, family_of_role, role_of_class}
 use Rattle.erd_tables.specs.Table.{is_required, kind_of_member}
 use Rattle.erd_tables.specs.declared.class.Class.{Class}
-use Rattle.erd_tables.specs.declared.class.Family.{Family}
-use Rattle.erd_tables.specs.declared.class.Family.TheVariants as family
 use Rattle.erd_tables.specs.declared.class.Role.{Role}
-use Rattle.erd_tables.specs.declared.class.Role.TheVariants as role
 use Rattle.erd_tables.specs.declared.member.MemberKind.{MemberKind}
-use Rattle.erd_tables.specs.declared.member.MemberKind.TheVariants as kind
 use Rattle.erd_tables.specs.declared.place.Step.{Step}
-use Rattle.erd_tables.specs.declared.place.Step.TheVariants.{Name, At}
-use Rattle.erd_check.specs.Values.{entries_at, entries_of}
-use Rattle.erd_check.specs.Wants.{Asked, asked, asked_at, asked_from, asked_inside, carried_want, class_of_object, entry_want, is_compared_set, is_report_class, is_repeated, member_want, scope_inside, want_of_kind, want_of_name}
-use Rattle.erd_check.specs.declared.want.Scope.TheVariants as scope
+use Rattle.erd_tables.specs.declared.member.MemberKind.TheVariants as kind
+use Rattle.erd_tables.specs.declared.class.Family.TheVariants as family
+use Rattle.erd_tables.specs.declared.class.Role.TheVariants as role
+use Rattle.erd_check.specs.declared.want.Want.TheVariants.{Member, Reference, Carried, ClassText, Object, Status}
+use Rattle.erd_check.specs.Values.{list_of_items, entries_at, entries_of}
+use Rattle.erd_check.specs.Wants.{asked, is_repeated, Asked, asked_at, asked_from, asked_inside, carried_want, class_of_object, entry_want, is_compared_set, is_report_class, member_want, scope_inside, want_of_kind, want_of_name}
+use Rattle.erd_check.proofs.Entries.{string_from_text}
+use Rattle.erd_check.proofs.Shapes.{Within, Within-step, wanted_within}
 use Rattle.erd_check.specs.declared.want.Want.{Want}
-use Rattle.erd_check.specs.declared.want.Want.TheVariants.{Carried, ClassText, Member, Object, Reference, Status}
-use Rattle.erd_check.proofs.Exact.{both_true, text_exact}
+use Rattle.erd_check.proofs.Exact.{text_exact}
 use Rattle.erd_check.proofs.Rising.{Has}
-use Rattle.erd_meaning.specs.Keys.{has_keys}
+use Rattle.erd_check.specs.declared.want.Scope.TheVariants as scope
+use Rattle.erd_meaning.specs.Accepted.{IsAccepted}
+use Rattle.erd_meaning.specs.Keys.{Preference, has_keys}
+use Rattle.erd_meaning.specs.Objects.{owner}
+use Rattle.erd_meaning.proofs.accepted.Phases.{no_shape_fault}
+use Rattle.erd_meaning.proofs.accepted.References.{owned, unrepeated_reference}
 use Rattle.erd_meaning.proofs.accepted.Standing.{flat-has}
+use Rattle.erd_meaning.proofs.meanings.SelectionKinds.{class_role}
+use Rattle.erd_normal.proofs.built.AskedMembers.{all_items}
 use Rattle.erd_normal.proofs.built.FamilyNames.{family_name, holds, home, is_home, is_report_role}
-use Rattle.erd_normal.proofs.built.NormalGets.{class_has_role}
 use Rattle.erd_normal.proofs.same.FamilyValues.{family_values}
 use Rattle.erd_normal.proofs.same.Lists.{entry_has}
 use Rattle.erd_normal.proofs.same.SharedIds.{IsId}
+
+-- ---- a reference of an accepted report names an object of its family
+
+-- a text that names an object of the family
+abbrev pub Refers : Data → Family → Data → Type 0
+Refers t f d = (s : List ℕ) × (d ≡ string s) × ((o : Data) × (owner t f s ≡ Some o))
+
+module _ (π : Preference) (t : Data) (accepted : IsAccepted π t) where
+  pub reference_refers : (f : Family) (d : Data) → Within t (asked (Reference f) d) → Refers t f d
+  reference_refers f d w =
+      let s = string_from_text d (wanted_within t (no_shape_fault π t accepted) (asked (Reference f) d) w) in
+      (s.0, s.1, owned π t accepted f s.0 (subst (λ x. Within t (asked (Reference f) x)) s.1 w))
+
+  pub references_refer : (f : Family) (r : Bool) (ds : Items) → Within t (asked (Member (kind.Many f) r) (array ds)) → AllByRecursion (Refers t f) (list_of_items ds)
+  references_refer f r ds w =
+      all_items (Refers t f) ds
+      (λ i d e. reference_refers f d (unrepeated_reference π t accepted f d (is_repeated ds i d)
+      (Within-step t (asked (Member (kind.Many f) r) (array ds)) (record { want = Reference f; value = d; repeated = is_repeated ds i d }) (At i) w (rw e refl))))
+
+-- ---- what a value is, by what the table asks of it: so an `@id` that it asks for is that of an object of a family
 
 -- ---- what a value is, by what is asked of it
 
@@ -81,13 +110,13 @@ module _ (t : Data) (ms : Members) (x : Data) where
   kind_part r c n (kind.One f) required role at part found = tt
   kind_part r c n kind.Carried required role at part found = tt
   kind_part r c n (kind.Keyed f) required role at part found =
-      let b = both_true (holds (role_of_class c) f) (bytes_eq n (family_name f)) at in
+      let b = and_parts (holds (role_of_class c) f) (bytes_eq n (family_name f)) at in
       home_entry r f (subst (λ q. holds q f ≡ true) role b.0) part (subst (λ z. get_member z ms ≡ Some x) (text_exact n (family_name f) b.1) found)
   kind_part r c n kind.Elections required role at part found =
-      let b = both_true (is_report_role (role_of_class c)) (bytes_eq n (codes "Election")) at in
+      let b = and_parts (is_report_role (role_of_class c)) (bytes_eq n (codes "Election")) at in
       elections_part r (subst (λ q. is_report_role q ≡ true) role b.0) part (subst (λ z. get_member z ms ≡ Some x) (text_exact n (codes "Election") b.1) found)
   kind_part r c n kind.Identity required role at part found =
-      let b = both_true (is_some (family_of_class c)) (bytes_eq n (codes "@id")) at in
+      let b = and_parts (is_some (family_of_class c)) (bytes_eq n (codes "@id")) at in
       id_part r (subst (λ q. is_some (family_of_role q) ≡ true) role b.0) part (subst (λ z. get_member z ms ≡ Some x) (text_exact n (codes "@id") b.1) found)
   kind_part r c n (kind.Many f) required role at part found = at
   kind_part r c n k required role at part found = tt
@@ -106,7 +135,7 @@ module _ (t : Data) (ms : Members) (x : Data) where
       at : (b : Bool) → bytes_eq n (codes "@type") ≡ b → (o : Option Class) → class_of_object r (object ms) ≡ o → cond b (Some (ClassText r)) (option_map (λ c. member_want c n) o) ≡ Some v → IsPart t v x
       at true is o among e = same_part t x (ClassText r) v e tt
       at false is None among e = cc
-      at false is (Some c) among e = same_part t x (member_want c n) v e (member_part r c n (class_has_role r c (object ms) among) is part found)
+      at false is (Some c) among e = same_part t x (member_want c n) v e (member_part r c n (class_role r (object ms) c among) is part found)
 
   carried_part : (b : Bool) → IsPart t (cond b (Member kind.StrangeIdentity false) Carried) x
   carried_part true = tt

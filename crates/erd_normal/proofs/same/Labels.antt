@@ -1,6 +1,6 @@
 -- The worst case of the names of selections: a label with translations. Labels that say the same have one text, with their translations
 -- in rising order.
-use Rattle.std.proofs.Common.{◌≡◌, ℕ, List, [], ◌∷◌, ◌++◌, map, Bool, true, false, cond, Option, Some, None, Ordering, Less, Equal, Greater, codes, refl, sym, ap, ap₂, ◌∙◌, subst}
+use Rattle.std.proofs.Common.{◌≡◌, ℕ, List, [], ◌∷◌, ◌++◌, map, Bool, true, false, cond, Option, Some, None, Ordering, Greater, codes, refl, sym, ap, ap₂, ◌∙◌, subst}
 use Rattle.std.proofs.lemmas.Cmp.{nat_list_cmp_total}
 use Rattle.std.proofs.lemmas.Map.Lookups.{exact_bytes}
 use Rattle.std.specs.Option.{option_map_or}
@@ -25,14 +25,14 @@ use Rattle.erd_check.specs.declared.want.Want.{Want}
 use Rattle.erd_check.specs.declared.want.Want.TheVariants.{ClassText, Member, Object}
 use Rattle.erd_check.proofs.Exact.{text_exact}
 use Rattle.erd_check.proofs.Members.{members_unique}
-use Rattle.erd_check.proofs.PutTrees.{put-trees}
+use Rattle.erd_check.proofs.ReadTrees.{put-trees}
 use Rattle.erd_check.proofs.TableKinds.{kind_of_unlisted_has}
 use Rattle.erd_meaning.specs.SelectionNames.{compact_cmp, rising_list, with_rising_text}
 use Rattle.erd_meaning.proofs.orders.RisingLists.{rising_list_map}
 use Rattle.erd_meaning.proofs.orders.Reordered.{Reordered, no_entry, reordered_map}
-use Rattle.erd_normal.proofs.built.PutMembers.{put_elsewhere, put_twice}
+use Rattle.erd_normal.proofs.built.NormalGets.{put_elsewhere, put_twice}
 use Rattle.erd_normal.proofs.lists.Matched.{matched_equal}
-use Rattle.erd_normal.proofs.lists.RisingAgain.{rising-reordered}
+use Rattle.erd_normal.proofs.lists.NumbersInOrder.{rising-reordered}
 use Rattle.erd_normal.specs.SaysTheSame.{Sides, MayBeAbsent, Same, SameMembers}
 use Rattle.erd_normal.proofs.same.Lookups.{Aligned, both_there, not_both, MayLack, lookups, of_object}
 use Rattle.erd_normal.proofs.same.Related.{entries_matched, lacking_empty}
@@ -61,9 +61,8 @@ put_one_text b k d e (member l f ms) same = at (text_cmp k l) (put_one_text true
     at : (o : Ordering) → members_text true (put k d ms) ≡ members_text true (put k e ms)
         → members_text b (match_ordering o (member k d (member l f ms)) (member l d ms) (member l f (put k d ms)))
         ≡ members_text b (match_ordering o (member k e (member l f ms)) (member l e ms) (member l f (put k e ms)))
-    at Less later = rw same
-    at Equal later = rw same
     at Greater later = rw later
+    at x later = rw same
 
 -- lists with the same entries have the same texts in rising order
 rising_texts : {xs ys : List Data} → Reordered xs ys → map compact_text (rising_list compact_cmp xs) ≡ map compact_text (rising_list compact_cmp ys)

@@ -17,13 +17,12 @@ use Rattle.erd_check.proofs.Exact.{text_exact}
 use Rattle.erd_meaning.specs.Meaning.{Label, JsonMap, JsonSet, translated, untranslated}
 use Rattle.erd_meaning.specs.Records.{json_set, label_beside_text, label_of}
 use Rattle.erd_meaning.proofs.orders.Reordered.{Reordered}
+use Rattle.erd_meaning.proofs.orders.RisingSets.{IsPermutation-reordered}
 use Rattle.erd_normal.specs.SaysTheSame.{Sides, Same, not_asked, a_null, a_flag, a_number, a_text, a_list, a_set, an_object, SameEntries, no_entry, one_entry, SameMembers, no_member, in_both}
-use Rattle.erd_normal.proofs.same.ByKeys.{ApartBy}
+use Rattle.erd_normal.proofs.same.Lists.{ApartBy, AreSound, itself, json_sets_reordered}
 use Rattle.erd_normal.proofs.same.Labels.{asked_beside, in_label, plain_beside}
-use Rattle.erd_normal.proofs.same.Lists.{reordered_permuted}
 use Rattle.erd_normal.proofs.same.Lookups.{Aligned, both_there, not_both, lacks_none}
 use Rattle.erd_normal.proofs.same.Merged.{merged}
-use Rattle.erd_normal.proofs.same.SetsBack.{AreSound, itself, json_sets_reordered}
 use Rattle.erd_normal.proofs.same.Steady.{AllIn, AllPlain, plain_entry, plain_list, plain_no_id, plain_scope, is_plain, plain_of_kind}
 
 -- what is plain says what it says, whatever the functions of texts
@@ -69,7 +68,7 @@ module _ (m : Sides) where
 
   texts_same : (ds es : Items) → Reordered (list_of_items ds) (list_of_items es) → Same m (Some (Member kind.Languages true)) (array ds) (array es)
   texts_same ds es h =
-      a_set es refl (reordered_permuted h) (plain_entries_self m (Some (Object role.Language)) es (λ v asks. let one : Object role.Language ≡ v = cc in ap is_plain (sym one)))
+      a_set es refl (IsPermutation-reordered h) (plain_entries_self m (Some (Object role.Language)) es (λ v asks. let one : Object role.Language ≡ v = cc in ap is_plain (sym one)))
 
   pub labels_say : (ms ns : Members) → AreMembers ms → AreMembers ns → (left : Translations ms) (right : Translations ns) → get_member (codes "@type") ms ≡ get_member (codes "@type") ns
       → label_of (object ms) ≡ label_of (object ns) → SameMembers m in_label ms ns

@@ -1,5 +1,5 @@
 -- What stands under a name in objects that say the same: in both, or it may be absent.
-use Rattle.std.proofs.Common.{◌≡◌, ℕ, List, Option, Some, None, Ordering, Less, Equal, Greater, nat_cmp, refl, sym, ap, ◌∙◌, subst}
+use Rattle.std.proofs.Common.{◌≡◌, ℕ, List, Option, Some, None, Ordering, Equal, nat_cmp, refl, sym, ap, ◌∙◌, subst}
 use Rattle.std.specs.Cmp.Lexicographic.{slice_cmp}
 use Rattle.std.specs.Ordering.{match_ordering}
 use Rattle.serde_json.specs.Data.{Data, object, Members, member}
@@ -11,6 +11,24 @@ use Rattle.erd_check.specs.declared.want.Want.{Want}
 use Rattle.erd_check.proofs.Members.{get_member-before}
 use Rattle.erd_check.proofs.Steps.{text_from_equal}
 use Rattle.erd_normal.specs.SaysTheSame.{Sides, MayBeAbsent, Same, an_object, SameMembers, no_member, in_both, left_only, right_only}
+
+-- what stands under a name among members is the first value, or what stands under it among the others
+pub get_one : (Q : Option Data → Type 0) (n k : List ℕ) (d : Data) (ms : Members) → (n ≡ k → Q (Some d)) → Q (get_member n ms) → Q (get_member n (member k d ms))
+get_one Q n k d ms first later = at (slice_cmp nat_cmp n k) refl
+  where
+    at : (o : Ordering) → slice_cmp nat_cmp n k ≡ o → Q (match_ordering o (get_member n ms) (Some d) (get_member n ms))
+    at Equal is = first (text_from_equal n k is)
+    at o is = later
+
+-- the same of two lists of members
+pub get_both : (Q : Option Data → Option Data → Type 0) (n k : List ℕ) (d e : Data) (ms ns : Members) → (n ≡ k → Q (Some d) (Some e)) → Q (get_member n ms) (get_member n ns)
+    → Q (get_member n (member k d ms)) (get_member n (member k e ns))
+get_both Q n k d e ms ns first later = at (slice_cmp nat_cmp n k) refl
+  where
+    at : (o : Ordering) → slice_cmp nat_cmp n k ≡ o
+        → Q (match_ordering o (get_member n ms) (Some d) (get_member n ms)) (match_ordering o (get_member n ns) (Some e) (get_member n ns))
+    at Equal is = first (text_from_equal n k is)
+    at o is = later
 
 -- what stands there may be absent, if anything does
 pub record MayLack (t : Data) (s : Scope) (n : List ℕ) (o : Option Data) : Type 0 where
@@ -36,39 +54,20 @@ module _ (m : Sides) where
   left_lacks s n (Some d) (Some e) (both_there h) is = cc
   left_lacks s n o p (not_both h k) is = h
 
-  both_at : (s : Scope) (n k : List ℕ) (d e : Data) (ms ns : Members) (o : Ordering) → slice_cmp nat_cmp n k ≡ o → Same m (want_of_name s k) d e
-      → Aligned m s n (get_member n ms) (get_member n ns)
-      → Aligned m s n (match_ordering o (get_member n ms) (Some d) (get_member n ms)) (match_ordering o (get_member n ns) (Some e) (get_member n ns))
-  both_at s n k d e ms ns Less is h rest = rest
-  both_at s n k d e ms ns Equal is h rest = both_there (subst (λ x. Same m (want_of_name s x) d e) (sym (text_from_equal n k is)) h)
-  both_at s n k d e ms ns Greater is h rest = rest
-
-  left_at : (s : Scope) (n k : List ℕ) (d : Data) (ms : Members) (p : Option Data) (o : Ordering) → slice_cmp nat_cmp n k ≡ o → AreMembers (member k d ms) → MayBeAbsent m.left s k d
-      → Aligned m s n (get_member n ms) p → Aligned m s n (match_ordering o (get_member n ms) (Some d) (get_member n ms)) p
-  left_at s n k d ms p Less is tree h rest = rest
-  left_at s n k d ms p Equal is tree h rest =
-      let n_is : n ≡ k = text_from_equal n k is in
-      let gone : get_member n ms ≡ None = ap (λ x. get_member x ms) n_is ∙ get_member-before k ms tree.2 tree.0 in
-      not_both (lacks_one m.left s n d (subst (λ x. MayBeAbsent m.left s x d) (sym n_is) h)) (right_lacks s n (get_member n ms) p rest gone)
-  left_at s n k d ms p Greater is tree h rest = rest
-
-  right_at : (s : Scope) (n k : List ℕ) (e : Data) (ns : Members) (p : Option Data) (o : Ordering) → slice_cmp nat_cmp n k ≡ o → AreMembers (member k e ns) → MayBeAbsent m.right s k e
-      → Aligned m s n p (get_member n ns) → Aligned m s n p (match_ordering o (get_member n ns) (Some e) (get_member n ns))
-  right_at s n k e ns p Less is tree h rest = rest
-  right_at s n k e ns p Equal is tree h rest =
-      let n_is : n ≡ k = text_from_equal n k is in
-      let gone : get_member n ns ≡ None = ap (λ x. get_member x ns) n_is ∙ get_member-before k ns tree.2 tree.0 in
-      not_both (left_lacks s n p (get_member n ns) rest gone) (lacks_one m.right s n e (subst (λ x. MayBeAbsent m.right s x e) (sym n_is) h))
-  right_at s n k e ns p Greater is tree h rest = rest
-
   pub lookups : {s : Scope} {ms ns : Members} (n : List ℕ) → SameMembers m s ms ns → AreMembers ms → AreMembers ns → Aligned m s n (get_member n ms) (get_member n ns)
   lookups {s} n no_member left right = not_both (lacks_none m.left s n) (lacks_none m.right s n)
   lookups n (in_both {s = s} {k = k} {d = d} {e = e} {ms = ms} {ns = ns} h rest) left right =
-      both_at s n k d e ms ns (slice_cmp nat_cmp n k) refl h (lookups n rest left.2 right.2)
+      get_both (Aligned m s n) n k d e ms ns (λ named. both_there (subst (λ x. Same m (want_of_name s x) d e) (sym named) h)) (lookups n rest left.2 right.2)
   lookups n (left_only {s = s} {k = k} {d = d} {ms = ms} {ns = ns} h rest) left right =
-      left_at s n k d ms (get_member n ns) (slice_cmp nat_cmp n k) refl left h (lookups n rest left.2 right)
+      let later = lookups n rest left.2 right in
+      get_one (λ o. Aligned m s n o (get_member n ns)) n k d ms
+      (λ named. not_both (lacks_one m.left s n d (subst (λ x. MayBeAbsent m.left s x d) (sym named) h))
+      (right_lacks s n (get_member n ms) (get_member n ns) later (ap (λ x. get_member x ms) named ∙ get_member-before k ms left.2 left.0))) later
   lookups n (right_only {s = s} {k = k} {e = e} {ms = ms} {ns = ns} h rest) left right =
-      right_at s n k e ns (get_member n ms) (slice_cmp nat_cmp n k) refl right h (lookups n rest left right.2)
+      let later = lookups n rest left right.2 in
+      get_one (λ o. Aligned m s n (get_member n ms) o) n k e ns
+      (λ named. not_both (left_lacks s n (get_member n ms) (get_member n ns) later (ap (λ x. get_member x ns) named ∙ get_member-before k ns right.2 right.0))
+      (lacks_one m.right s n e (subst (λ x. MayBeAbsent m.right s x e) (sym named) h))) later
 
   -- what says the same as an object is one
   pub record SameObject (w : Want) (ms : Members) (e : Data) : Type 0 where

@@ -25,19 +25,16 @@ module _ (m : Sides) (s : Scope) where
 
   -- the rest of the left members, of the right ones, and of both
   left_rest_at : (n : List ℕ) (d : Data) (o p : Option Data) (c : Ordering) → Aligned m s n (match_ordering c o (Some d) o) p → (c ≡ Equal → Aligned m s n o p) → Aligned m s n o p
-  left_rest_at n d o p Less h equal = h
   left_rest_at n d o p Equal h equal = equal refl
-  left_rest_at n d o p Greater h equal = h
+  left_rest_at n d o p e h equal = h
 
   right_rest_at : (n : List ℕ) (e : Data) (o p : Option Data) (c : Ordering) → Aligned m s n o (match_ordering c p (Some e) p) → (c ≡ Equal → Aligned m s n o p) → Aligned m s n o p
-  right_rest_at n e o p Less h equal = h
   right_rest_at n e o p Equal h equal = equal refl
-  right_rest_at n e o p Greater h equal = h
+  right_rest_at n e o p d h equal = h
 
   both_rest_at : (n : List ℕ) (d e : Data) (o p : Option Data) (c : Ordering) → Aligned m s n (match_ordering c o (Some d) o) (match_ordering c p (Some e) p) → (c ≡ Equal → Aligned m s n o p) → Aligned m s n o p
-  both_rest_at n d e o p Less h equal = h
   both_rest_at n d e o p Equal h equal = equal refl
-  both_rest_at n d e o p Greater h equal = h
+  both_rest_at n d e o p k h equal = h
 
   gone : (n k : List ℕ) (ms : Members) → AreMembers ms → IsBeforeFirst k ms → slice_cmp nat_cmp n k ≡ Equal → get_member n ms ≡ None
   gone n k ms tree before is = ap (λ x. get_member x ms) (text_from_equal n k is) ∙ get_member-before k ms tree before

@@ -2,13 +2,14 @@
 use Rattle.std.proofs.Common.{◌≡◌, ℕ, List, Bool, true, false, Option, Some, None, option_and_then, find, codes, refl, sym, ap, ◌∙◌, subst}
 use Rattle.std.specs.Option.{option_map_or}
 use Rattle.std.specs.Str.{bytes_eq}
+use Rattle.std.proofs.lemmas.Bool.{false_from_ne_true}
+use Rattle.std.specs.Cmp.{both_ways}
 use Rattle.serde_json.specs.Data.{Data, object}
 use Rattle.serde_json.specs.Find.{as_str, get_member}
 use Rattle.erd_tables.specs.Table.{is_required}
 use Rattle.erd_tables.specs.declared.class.Family.{Family}
 use Rattle.erd_tables.specs.declared.class.Role.TheVariants as role
 use Rattle.erd_tables.specs.declared.member.MemberKind.TheVariants as kind
-use Rattle.erd_check.specs.Faults.{NoneOf, ShapeFault}
 use Rattle.erd_check.specs.Trees.{IsTree}
 use Rattle.erd_check.specs.Wants.{scope_inside, want_of_name}
 use Rattle.erd_check.specs.declared.want.Scope.{Scope}
@@ -17,7 +18,7 @@ use Rattle.erd_check.specs.declared.want.Want.{Want}
 use Rattle.erd_check.specs.declared.want.Want.TheVariants.{Member, Object}
 use Rattle.erd_check.proofs.Exact.{text_exact, text_itself}
 use Rattle.erd_check.proofs.ObjectsAt.{ObjectIn}
-use Rattle.erd_check.proofs.Shapes.{Within-root, false_unless}
+use Rattle.erd_check.proofs.Shapes.{Within-root}
 use Rattle.erd_check.proofs.TableKinds.{want_by_kind}
 use Rattle.erd_meaning.specs.Accepted.{IsAccepted}
 use Rattle.erd_meaning.specs.Keys.{Preference, key_of}
@@ -25,7 +26,6 @@ use Rattle.erd_meaning.specs.Objects.{has_id, id_of, owner}
 use Rattle.erd_meaning.specs.SelectionNames.{key_named}
 use Rattle.erd_meaning.proofs.accepted.Phases.{no_shape_fault}
 use Rattle.erd_meaning.proofs.accepted.Standing.{has_id-Some}
-use Rattle.erd_meaning.proofs.references.ReferenceLookups.{both_tests}
 use Rattle.erd_normal.proofs.built.NormalGets.{kind_of_family_id}
 use Rattle.erd_normal.proofs.lists.Matched.{AtMostOne, Both, apart_distinct, matched_find, one_if_apart, said_same}
 use Rattle.erd_normal.proofs.same.FamilyValues.{family_values}
@@ -73,27 +73,24 @@ ids_found m s required o p asks other (not_both h k) d e left right =
 pub has_same : (m : Sides) (s s' : List ℕ) (d e : Data) → StandsFor m s s' → IsUsed m.left s → IsUsed m.right s' → IdsAlike m d e → has_id s d ≡ has_id s' e
 has_same m s s' d e pair left right (two_ids a b is is' ab) =
     ap (λ o. option_map_or (bytes_eq s) o false) is
-    ∙ both_tests (bytes_eq s a) (bytes_eq s' b)
+    ∙ both_ways (bytes_eq s a) (bytes_eq s' b)
     (λ h. let one : s' ≡ b = pair.0 ∙ ap m.there (text_exact s a h) ∙ sym ab.0 in subst (λ x. bytes_eq s' x ≡ true) one (text_itself s'))
     (λ h. let one : s ≡ a = pair.1 ∙ ap m.back (text_exact s' b h) ∙ sym ab.1 in subst (λ x. bytes_eq s x ≡ true) one (text_itself s))
     ∙ sym (ap (λ o. option_map_or (bytes_eq s') o false) is')
 has_same m s s' d e pair left right (no_ids none_left none_right) =
-    false_unless (has_id s d) (λ h. none_left s (has_id-Some s d h) left.place left.asked left.stands left.reference left.text)
-    ∙ sym (false_unless (has_id s' e) (λ h. none_right s' (has_id-Some s' e h) right.place right.asked right.stands right.reference right.text))
+    false_from_ne_true (has_id s d) (λ h. none_left s (has_id-Some s d h) left.place left.asked left.stands left.reference left.text)
+    ∙ sym (false_from_ne_true (has_id s' e) (λ h. none_right s' (has_id-Some s' e h) right.place right.asked right.stands right.reference right.text))
 
 module _ (m : Sides) (left_tree : IsTree m.left) (right_tree : IsTree m.right) (π : Preference) (accepted : IsAccepted π m.left) (root : Related m (Object role.Report) m.left m.right) where
-  clean : NoneOf (ShapeFault m.left)
-  clean = no_shape_fault π m.left accepted
-
   pub ids_alike : (f : Family) (d e : Data) → Related m (Object (role.OfFamily f)) d e → IdsAlike m d e
   ids_alike f d e r =
-      let o : ObjectIn m.left (role.OfFamily f) d = object_of m left_tree right_tree clean (role.OfFamily f) d e r in
+      let o : ObjectIn m.left (role.OfFamily f) d = object_of m left_tree right_tree (no_shape_fault π m.left accepted) (role.OfFamily f) d e r in
       let w : Want = Object (role.OfFamily f) in
       let pair = objects_of m left_tree right_tree w o.ms e (subst (λ x. Related m w x e) o.is_object r) in
       let kinded = kind_of_family_id o.class f o.role in
-      let asks = asks_name m left_tree right_tree clean (role.OfFamily f) o.class o.ms (codes "@id") kind.Identity o.at.among refl kinded
+      let asks = asks_name m left_tree right_tree (no_shape_fault π m.left accepted) (role.OfFamily f) o.class o.ms (codes "@id") kind.Identity o.at.among refl kinded
       ∙ ap Some (want_by_kind o.class (codes "@id") kind.Identity kinded refl) in
-      let other = ap (λ c. is_envelope (scope.Members (role.OfFamily f) c) (codes "@id")) o.at.among ∙ no_report m left_tree right_tree clean (role.OfFamily f) o.class (codes "@id") o.role (λ is. cc) in
+      let other = ap (λ c. is_envelope (scope.Members (role.OfFamily f) c) (codes "@id")) o.at.among ∙ no_report m left_tree right_tree (no_shape_fault π m.left accepted) (role.OfFamily f) o.class (codes "@id") o.role (λ is. cc) in
       let same : o.ms ≡ pair.ms = let x = pair.left_is in cc in
       ids_found m (scope_inside w (object pair.ms)) (is_required o.class (codes "@id")) (get_member (codes "@id") pair.ms) (get_member (codes "@id") pair.ns)
       (ap (λ x. want_of_name (scope_inside w (object x)) (codes "@id")) (sym same) ∙ asks)
@@ -110,11 +107,11 @@ module _ (m : Sides) (left_tree : IsTree m.left) (right_tree : IsTree m.right) (
   owners_related f s s' pair left right =
       subst (λ o. Both (Related m (Object (role.OfFamily f))) o (owner m.right f s')) (sym (owner_found m.left f s))
       (subst (Both (Related m (Object (role.OfFamily f))) (find (has_id s) (family_values f m.left))) (sym (owner_found m.right f s'))
-      (matched_find (has_id s) (has_id s') (λ x y r. has_same m s s' x y pair left right (ids_alike f x y r)) (family_matched m left_tree right_tree clean root f) (one_owner f s)))
+      (matched_find (has_id s) (has_id s') (λ x y r. has_same m s s' x y pair left right (ids_alike f x y r)) (family_matched m left_tree right_tree (no_shape_fault π m.left accepted) root f) (one_owner f s)))
 
   pub keys_named_same : (f : Family) (s s' : List ℕ) → StandsFor m s s' → IsUsed m.left s → IsUsed m.right s' → key_named π m.left f s ≡ key_named π m.right f s'
   keys_named_same f s s' pair left right =
-      said_same (key_of π) (key_of π) (λ x y r. related_key m left_tree right_tree clean π f x y r) (owner m.left f s) (owner m.right f s') (owners_related f s s' pair left right)
+      said_same (key_of π) (key_of π) (λ x y r. related_key m left_tree right_tree (no_shape_fault π m.left accepted) π f x y r) (owner m.left f s) (owner m.right f s') (owners_related f s s' pair left right)
 
 pub references_name_the_same : ReferencesNameTheSame
 references_name_the_same π t u left_tree right_tree accepted h f s s' left right there back =

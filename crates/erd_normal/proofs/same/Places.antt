@@ -3,6 +3,7 @@
 use Rattle.std.proofs.Common.{◌≡◌, ℕ, List, [], ◌∷◌, Bool, true, false, cond, ◌&&◌, Option, Some, None, option_and_then, option_map, is_some, codes, refl, sym, ap, ◌∙◌, subst}
 use Rattle.std.specs.List.{list_all}
 use Rattle.std.specs.Str.{bytes_eq}
+use Rattle.std.proofs.lemmas.Bool.{and_parts}
 use Rattle.serde_json.specs.Data.{Data, array, object, no_items, Members}
 use Rattle.serde_json.specs.Find.{get_item, get_member}
 use Rattle.erd_tables.specs.Rows.{Row, envelope_rows}
@@ -19,7 +20,7 @@ use Rattle.erd_check.specs.declared.want.Scope.{Scope}
 use Rattle.erd_check.specs.declared.want.Scope.TheVariants as scope
 use Rattle.erd_check.specs.declared.want.Want.{Want}
 use Rattle.erd_check.specs.declared.want.Want.TheVariants.{ClassText, Member, Object, Reference}
-use Rattle.erd_check.proofs.Exact.{both_true, text_exact}
+use Rattle.erd_check.proofs.Exact.{text_exact}
 use Rattle.erd_normal.specs.SaysTheSame.{MayBeAbsent, an_empty_array, of_the_envelope, an_unused_id, is_envelope}
 use Rattle.erd_normal.proofs.same.Steady.{plain_entry, plain_scope, is_plain}
 
@@ -69,7 +70,7 @@ quiet_from a (s ∷ ss) c h e = at (asked_inside a.want a.value s) refl (λ b. q
 
 in_rows : (Q : List ℕ → Bool) (rows : List Row) (n : List ℕ) → is_some (kind_in_rows rows n) ≡ true → list_all (λ row. Q row.name) rows ≡ true → Q n ≡ true
 in_rows Q [] n h all = cc
-in_rows Q (row ∷ rows) n h all = at (bytes_eq n row.name) refl (both_true (Q row.name) (list_all (λ r. Q r.name) rows) all) (in_rows Q rows n)
+in_rows Q (row ∷ rows) n h all = at (bytes_eq n row.name) refl (and_parts (Q row.name) (list_all (λ r. Q r.name) rows) all) (in_rows Q rows n)
   where
     at : (b : Bool) → bytes_eq n row.name ≡ b → (Q row.name ≡ true) × (list_all (λ r. Q r.name) rows ≡ true) → (is_some (kind_in_rows rows n) ≡ true → list_all (λ r. Q r.name) rows ≡ true → Q n ≡ true) → Q n ≡ true
     at true is both step = ap Q (text_exact n row.name is) ∙ both.0

@@ -4,21 +4,31 @@ use Rattle.std.specs.Prelude.{IsTrue}
 use Rattle.std.specs.Str.{bytes_eq}
 use Rattle.serde_json.specs.Data.{Data, string}
 use Rattle.erd_tables.specs.declared.place.Step.{Step}
+use Rattle.erd_tables.specs.declared.class.Family.{Family}
 use Rattle.erd_tables.specs.declared.class.Role.TheVariants as role
+use Rattle.erd_tables.specs.declared.member.MemberKind.TheVariants as kind
 use Rattle.erd_check.specs.Trees.{IsTree}
 use Rattle.erd_check.specs.Wants.{Asked, asked_at}
-use Rattle.erd_check.specs.declared.want.Want.TheVariants.{Object}
+use Rattle.erd_check.specs.declared.want.Want.TheVariants.{Object, Member, Reference}
 use Rattle.erd_check.proofs.Exact.{text_exact, text_itself}
 use Rattle.erd_check.proofs.Positions.{has_mapped, map_has}
 use Rattle.erd_check.proofs.Rising.{Has}
-use Rattle.erd_meaning.proofs.accepted.References.{Has-Contains, find-any}
+use Rattle.erd_check.specs.declared.want.Want.{Want}
+use Rattle.erd_check.proofs.Shapes.{Within}
+use Rattle.erd_meaning.proofs.accepted.References.{Has-Contains, find-any, Contains-Has, unrepeated_reference}
 use Rattle.erd_meaning.proofs.orders.DistinctEntries.{distinct_one}
 use Rattle.erd_meaning.proofs.orders.Sets.{any-has}
+use Rattle.erd_meaning.specs.Accepted.{IsAccepted}
+use Rattle.erd_meaning.specs.Keys.{Preference}
+use Rattle.erd_meaning.specs.Objects.{id_of, objects}
 use Rattle.erd_normal.specs.Rearranged.{Renaming, IsRenaming, exchanged, is_id_text, renamed, replaced_text}
 use Rattle.erd_normal.proofs.rearranged.AlikeChanges.{as_it_is, exchanged_alike, renamed_alike}
-use Rattle.erd_normal.specs.SameLaws.{ExchangedSaysTheSame}
+use Rattle.erd_normal.specs.SameLaws.{ExchangedSaysTheSame, RenamedSaysTheSame}
 use Rattle.erd_normal.specs.SaysTheSame.{SaysTheSame}
 use Rattle.erd_normal.proofs.same.FromAlike.{ComesBack, alike_says}
+use Rattle.erd_normal.proofs.same.FamilyValues.{value_placed}
+use Rattle.erd_normal.proofs.same.IdsOfObjects.{reference_refers, asked_id}
+use Rattle.erd_normal.proofs.same.SharedIds.{owned_id, IsId}
 
 pub exchanged_says : ExchangedSaysTheSame
 exchanged_says t p i j tree h = alike_says as_it_is as_it_is t (exchanged p i j t) tree (record { text = λ a s inside is e. refl }) (exchanged_alike t p i j h)
@@ -77,3 +87,30 @@ texts_come_back t pairs covers h = record { text = λ a s inside is e. comes_bac
 pub renamed_says : (t : Data) (pairs : Renaming) → IsTree t → CoversTexts t pairs → IsRenaming t pairs → SaysTheSame t (renamed pairs t)
 renamed_says t pairs tree covers h =
     alike_says (replaced_text pairs) (replaced_text (turned_back pairs)) t (renamed pairs t) tree (texts_come_back t pairs covers h) (renamed_alike pairs (Some (Object role.Report)) t)
+
+-- ---- an accepted report with its `@id`s renamed says the same
+
+pub id_covered : (t : Data) (pairs : Renaming) → IsRenaming t pairs → (s : List ℕ) → IsId t s → Contains (map (λ (pair : List ℕ × List ℕ). pair.0) pairs) s
+id_covered t pairs renames s is =
+    let o = value_placed is.family t is.value is.stands in
+    renames.all is.family o.0 s (Contains-Has (objects is.family t) o.0 o.1) (ap id_of o.2 ∙ is.is)
+
+module _ (π : Preference) (t : Data) (accepted : IsAccepted π t) (pairs : Renaming) (renames : IsRenaming t pairs) where
+  reference_covered : (f : Family) (a : Asked) (s : List ℕ) → Within t a → a.want ≡ Reference f → a.value ≡ string s → IsId t s
+  reference_covered f a s inside want text =
+      let here : Within t (record { want = Reference f; value = string s; repeated = a.repeated }) =
+      subst (λ v. Within t (record { want = Reference f; value = v; repeated = a.repeated })) text (subst (λ w. Within t (record { want = w; value = a.value; repeated = a.repeated })) want inside) in
+      let x = reference_refers π t accepted f (string s) (unrepeated_reference π t accepted f (string s) a.repeated here) in
+      let same : s ≡ x.0 = let e = x.1 in cc in
+      subst (IsId t) (sym same) (owned_id t f x.0 x.2.0 x.2.1)
+
+  pub covers : CoversTexts t pairs
+  covers p a s stands is text = at a.want refl is
+    where
+      at : (w : Want) → a.want ≡ w → is_id_text w ≡ true → Contains (map (λ (pair : List ℕ × List ℕ). pair.0) pairs) s
+      at (Reference f) want h = id_covered t pairs renames s (reference_covered f a s (record { place = p; is = stands }) want text)
+      at (Member kind.Identity required) want h = id_covered t pairs renames s (asked_id t p a required s stands want text)
+      at w want h = cc
+
+pub renamed_says_the_same : RenamedSaysTheSame
+renamed_says_the_same π t pairs tree accepted renames = renamed_says t pairs tree (covers π t accepted pairs renames) renames

@@ -30,8 +30,7 @@ use Rattle.erd_meaning.specs.Keys.{Preference, key_of}
 use Rattle.erd_meaning.proofs.accepted.Standing.{contest_selections}
 use Rattle.erd_meaning.proofs.orders.Reordered.{Reordered, reordered_back, reordered-has, reordered_self}
 use Rattle.erd_normal.proofs.built.LeastKeys.{key_of_identifiers-reordered, kind_of_identifiers}
-use Rattle.erd_normal.proofs.lists.Matched.{Matched, matched_equal, matched_flat, matched_none}
-use Rattle.erd_normal.proofs.lists.Paired.{Paired, none, more}
+use Rattle.erd_normal.proofs.lists.Matched.{Matched, matched_equal, matched_flat, matched_none, Paired, none, more}
 use Rattle.erd_normal.proofs.lists.NumbersInOrder.{permuted_reordered}
 use Rattle.erd_normal.proofs.same.FamilyValues.{family_values}
 use Rattle.erd_normal.specs.SaysTheSame.{Sides, MayBeAbsent, an_empty_array, of_the_envelope, an_unused_id, is_envelope, Same, a_null, a_flag, a_number, a_text, an_id, a_list, a_set, an_object}

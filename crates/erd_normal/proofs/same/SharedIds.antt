@@ -16,7 +16,7 @@ use Rattle.erd_meaning.proofs.accepted.References.{find-Some}
 use Rattle.erd_meaning.proofs.accepted.Standing.{has_id-Some, has_id-from}
 use Rattle.erd_meaning.proofs.finding.OneObject.{one_id}
 use Rattle.erd_meaning.proofs.orders.DistinctEntries.{distinct_from_one_place, distinct_map}
-use Rattle.erd_normal.proofs.lists.FoundBuilt.{find_values}
+use Rattle.erd_normal.proofs.lists.FoundInParts.{find_values}
 use Rattle.erd_normal.proofs.same.FamilyValues.{family_values, object_values, value_placed}
 
 -- an object of the report writes this `@id`

@@ -1,6 +1,7 @@
 -- Identifiers, translations and carried values that say the same are equal: nothing may be absent in them.
-use Rattle.std.proofs.Common.{◌≡◌, ℕ, List, Bool, true, false, cond, not, Option, Some, None, codes, refl, sym, ap, ap₂, ◌∙◌, subst}
+use Rattle.std.proofs.Common.{◌≡◌, ℕ, List, Bool, true, false, cond, not, Option, Some, None, codes, refl, sym, ap, ap₂, ◌∙◌, subst, true≢false}
 use Rattle.std.specs.Str.{bytes_eq}
+use Rattle.std.proofs.lemmas.Bool.{not-true}
 use Rattle.serde_json.specs.Data.{Data, array, object, Items, item, Members, member}
 use Rattle.erd_tables.specs.Classes.{role_of_class}
 use Rattle.erd_tables.specs.Table.{is_required, kind_of_member}
@@ -17,8 +18,8 @@ use Rattle.erd_check.specs.declared.want.Want.{Want}
 use Rattle.erd_check.specs.declared.want.Want.TheVariants.{Carried, ClassText, Member, Object, Reference}
 use Rattle.erd_check.proofs.TableKinds.{kind_of_class}
 use Rattle.erd_normal.specs.Rearranged.{is_id_text}
-use Rattle.erd_normal.proofs.built.NormalGets.{class_has_role}
 use Rattle.erd_normal.specs.SaysTheSame.{Sides, MayBeAbsent, an_empty_array, of_the_envelope, an_unused_id, is_array_kind, is_envelope, Same, not_asked, a_null, a_flag, a_number, a_text, an_id, a_list, a_set, an_object, SameEntries, no_entry, one_entry, SameMembers, no_member, in_both, left_only, right_only}
+use Rattle.erd_meaning.proofs.meanings.SelectionKinds.{class_role}
 
 -- ---- what is plain
 
@@ -68,20 +69,13 @@ abbrev pub is_steady : Want → Bool
 is_steady (Member k required) = is_steady_kind k
 is_steady w = true
 
+pub steady_no_array : (k : MemberKind) → is_steady_kind k ≡ true → is_array_kind k ≡ true → ⊥
+steady_no_array kind.Identity h is = cc
+steady_no_array k h is = absurd (true≢false (sym is ∙ not-true (is_array_kind k) h))
+
 -- a member of which something steady is asked, and which is not in the envelope
 pub stays_one : (t : Data) (s : Scope) (name : List ℕ) (d : Data) → ((v : Want) → want_of_name s name ≡ Some v → is_steady v ≡ true) → is_envelope s name ≡ false → MayBeAbsent t s name d → ⊥
-stays_one t s name d steady apart (an_empty_array k required asks is empty) = at k (steady (Member k required) asks) is
-  where
-    at : (k : MemberKind) → is_steady_kind k ≡ true → is_array_kind k ≡ true → ⊥
-    at (kind.Many f) h is = cc
-    at (kind.Keyed f) h is = cc
-    at kind.Identifiers h is = cc
-    at kind.Languages h is = cc
-    at kind.Elections h is = cc
-    at kind.Content h is = cc
-    at kind.Ordered h is = cc
-    at kind.Outside h is = cc
-    at k h is = cc
+stays_one t s name d steady apart (an_empty_array k required asks is empty) = steady_no_array k (steady (Member k required) asks) is
 stays_one t s name d steady apart (of_the_envelope h) = let e : true ≡ false = sym h ∙ apart in cc
 stays_one t s name d steady apart (an_unused_id id required asks is unused) = let h : false ≡ true = steady (Member kind.Identity required) asks in cc
 
@@ -133,7 +127,7 @@ members_all P r o text all name v e = at (bytes_eq name (codes "@type")) refl o 
         ap P (sym h) ∙ all c refl name is
 
 only_class : (P : Want → Bool) (r : Role) (only : Class) → P (ClassText r) ≡ true → AllOf P only → ((c : Class) → role_of_class c ≡ r → c ≡ only) → (ms : Members) → AllIn P (scope.Members r (class_of_object r (object ms)))
-only_class P r only text all one ms = members_all P r (class_of_object r (object ms)) text (λ c e. subst (AllOf P) (sym (one c (class_has_role r c (object ms) e))) all)
+only_class P r only text all one ms = members_all P r (class_of_object r (object ms)) text (λ c e. subst (AllOf P) (sym (one c (class_role r (object ms) c e))) all)
 
 no_envelope_in : (r : Role) (o : Option Class) → ((c : Class) → o ≡ Some c → c ≡ class.ElectionReport → ⊥) → (name : List ℕ) → is_envelope (scope.Members r o) name ≡ false
 no_envelope_in r None other name = refl
@@ -144,7 +138,7 @@ only_stays : (r : Role) (only : Class) → HasSteady only → (only ≡ class.El
 only_stays r only steady other one ms =
     stays_by (scope.Members r (class_of_object r (object ms)))
     (only_class is_steady r only refl steady one ms)
-    (no_envelope_in r (class_of_object r (object ms)) (λ c e is. other (sym (one c (class_has_role r c (object ms) e)) ∙ is)))
+    (no_envelope_in r (class_of_object r (object ms)) (λ c e is. other (sym (one c (class_role r (object ms) c e)) ∙ is)))
 
 identifier_class : (c : Class) → role_of_class c ≡ role.Identifier → c ≡ class.ExternalIdentifier
 identifier_class class.ExternalIdentifier e = refl

@@ -1,7 +1,5 @@
 -- Objects that say the same have the same class, and so the same is asked of their members.
-use Rattle.std.proofs.Common.{◌≡◌, ℕ, List, true, false, Option, Some, option_and_then, Ordering, Less, Equal, Greater, nat_cmp, codes, refl, sym, ap, ◌∙◌, subst}
-use Rattle.std.specs.Cmp.Lexicographic.{slice_cmp}
-use Rattle.std.specs.Ordering.{match_ordering}
+use Rattle.std.proofs.Common.{◌≡◌, ℕ, List, true, false, Option, Some, option_and_then, codes, refl, sym, ap, ◌∙◌, subst}
 use Rattle.std.specs.Str.{bytes_eq}
 use Rattle.serde_json.specs.Data.{Data, object, Members}
 use Rattle.serde_json.specs.Find.{as_str, get_member}
@@ -16,9 +14,9 @@ use Rattle.erd_check.specs.declared.want.Scope.{Scope}
 use Rattle.erd_check.specs.declared.want.Scope.TheVariants as scope
 use Rattle.erd_check.specs.declared.want.Want.{Want}
 use Rattle.erd_check.specs.declared.want.Want.TheVariants.{Carried, ClassText, Member, Object}
-use Rattle.erd_check.proofs.Steps.{text_from_equal}
 use Rattle.erd_normal.specs.Rearranged.{is_id_text}
 use Rattle.erd_normal.specs.SaysTheSame.{Sides, MayBeAbsent, an_empty_array, of_the_envelope, an_unused_id, is_envelope, Same, not_asked, a_null, a_flag, a_number, a_text, an_id, a_list, a_set, an_object, SameMembers, no_member, in_both, left_only, right_only}
+use Rattle.erd_normal.proofs.same.Lookups.{get_one, get_both}
 
 -- ---- `@type` is never left out
 
@@ -61,30 +59,15 @@ module _ (m : Sides) where
   abbrev type_text : Members → Option (List ℕ)
   type_text ms = option_and_then as_str (get_member (codes "@type") ms)
 
-  in_both_at : (s : Scope) (k : List ℕ) (d e : Data) (ms ns : Members) (o : Ordering) → slice_cmp nat_cmp (codes "@type") k ≡ o → Same m (want_of_name s k) d e
-      → type_text ms ≡ type_text ns
-      → option_and_then as_str (match_ordering o (get_member (codes "@type") ms) (Some d) (get_member (codes "@type") ms))
-      ≡ option_and_then as_str (match_ordering o (get_member (codes "@type") ns) (Some e) (get_member (codes "@type") ns))
-  in_both_at s k d e ms ns Less is h rest = rest
-  in_both_at s k d e ms ns Equal is h rest =
-      let k_is : codes "@type" ≡ k = text_from_equal (codes "@type") k is in
-      text_same m h (λ v asks. type_plain s v (ap (want_of_name s) k_is ∙ asks))
-  in_both_at s k d e ms ns Greater is h rest = rest
-
-  one_only_at : (t : Data) (s : Scope) (k : List ℕ) (d : Data) (ms ns : Members) (o : Ordering) → slice_cmp nat_cmp (codes "@type") k ≡ o → MayBeAbsent t s k d
-      → type_text ms ≡ type_text ns
-      → option_and_then as_str (match_ordering o (get_member (codes "@type") ms) (Some d) (get_member (codes "@type") ms)) ≡ type_text ns
-  one_only_at t s k d ms ns Less is h rest = rest
-  one_only_at t s k d ms ns Equal is h rest =
-      let k_is : codes "@type" ≡ k = text_from_equal (codes "@type") k is in
-      absurd (type_stays t s d (subst (λ x. MayBeAbsent t s x d) (sym k_is) h))
-  one_only_at t s k d ms ns Greater is h rest = rest
-
   pub type_same : {s : Scope} {ms ns : Members} → SameMembers m s ms ns → type_text ms ≡ type_text ns
   type_same no_member = refl
-  type_same (in_both {s = s} {k = k} {d = d} {e = e} {ms = ms} {ns = ns} h rest) = in_both_at s k d e ms ns (slice_cmp nat_cmp (codes "@type") k) refl h (type_same rest)
-  type_same (left_only {s = s} {k = k} {d = d} {ms = ms} {ns = ns} h rest) = one_only_at m.left s k d ms ns (slice_cmp nat_cmp (codes "@type") k) refl h (type_same rest)
-  type_same (right_only {s = s} {k = k} {e = e} {ms = ms} {ns = ns} h rest) = sym (one_only_at m.right s k e ns ms (slice_cmp nat_cmp (codes "@type") k) refl h (sym (type_same rest)))
+  type_same (in_both {s = s} {k = k} {d = d} {e = e} {ms = ms} {ns = ns} h rest) =
+      get_both (λ o p. option_and_then as_str o ≡ option_and_then as_str p) (codes "@type") k d e ms ns
+      (λ named. text_same m h (λ v asks. type_plain s v (ap (want_of_name s) named ∙ asks))) (type_same rest)
+  type_same (left_only {s = s} {k = k} {d = d} {ms = ms} {ns = ns} h rest) =
+      get_one (λ o. option_and_then as_str o ≡ type_text ns) (codes "@type") k d ms (λ named. absurd (type_stays m.left s d (subst (λ x. MayBeAbsent m.left s x d) (sym named) h))) (type_same rest)
+  type_same (right_only {s = s} {k = k} {e = e} {ms = ms} {ns = ns} h rest) =
+      get_one (λ o. type_text ms ≡ option_and_then as_str o) (codes "@type") k e ns (λ named. absurd (type_stays m.right s e (subst (λ x. MayBeAbsent m.right s x e) (sym named) h))) (type_same rest)
 
   pub class_same : {s : Scope} (r : Role) (ms ns : Members) → SameMembers m s ms ns → class_of_object r (object ms) ≡ class_of_object r (object ns)
   class_same r ms ns h = ap (option_and_then (class_in_role r)) (type_same h)

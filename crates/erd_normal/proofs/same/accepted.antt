@@ -1,7 +1,6 @@
 -- What says the same as an accepted report is accepted, where its envelope is sound and no two of its objects have one `@id`.
 pub mod RequiredMembers
 pub mod AbsentMembers
-pub mod EnvelopePlaces
 pub mod AskedAgain
 pub mod AcceptedShape
 pub mod AcceptedIdentity

@@ -1,20 +1,28 @@
 -- What stands in a value whose numbers fit has numbers that fit.
-use Rattle.std.proofs.Common.{◌≡◌, Bool, true, false, ◌||◌, ℕ, zero, suc, List, [], ◌∷◌, Option, Some, None, option_and_then, option_map, inl, inr, ◌&&◌, ◌∙◌, Ordering, Less, Equal, Greater, refl, ap, subst, sym}
-use Rattle.std.specs.Cmp.Lexicographic.{slice_cmp}
-use Rattle.std.specs.Ordering.{nat_cmp}
-use Rattle.serde_json.specs.Data.{Num, unsigned, negative, float, Data, null, boolean, number, string, array, object, Items, no_items, item, Members, no_members, member}
+use Rattle.std.proofs.Common.{◌≡◌, false, ℕ, zero, suc, List, Some, inl, inr, refl, subst, ◌<◌, ◌^◌, [], ◌∷◌, Ordering, Less, Equal, Greater, Option, None, arith}
+use Rattle.std.proofs.lemmas.Bool.{or_from}
+use Rattle.std.specs.List.{AllByRecursion}
+use Rattle.std.specs.Option.{option_map_or}
+use Rattle.std.specs.Ordering.{match_ordering}
+use Rattle.serde_json.specs.Data.{Num, float, Data, number, array, object, Items, no_items, item, Members, no_members, member, put}
 use Rattle.serde_json.specs.Find.{get_item, get_member, is_float}
 use Rattle.serde_json.specs.Written.{has_float, items_have_float, members_have_float}
-use Rattle.erd_tables.specs.declared.class.Role.TheVariants as role
-use Rattle.erd_tables.specs.declared.place.Step.{Step}
-use Rattle.erd_tables.specs.declared.place.Step.TheVariants.{At, Name}
-use Rattle.erd_check.specs.declared.want.Want.{Want}
-use Rattle.erd_check.specs.declared.want.Want.TheVariants.{Object}
+use Rattle.erd_tables.specs.Texts.{text_cmp}
 use Rattle.erd_check.specs.Numbers.{IsFittingNumber, HasFittingNumbers, ItemsHaveFittingNumbers, MembersHaveFittingNumbers}
 use Rattle.erd_check.specs.Values.{list_of_items}
-use Rattle.erd_check.specs.Wants.{Asked, asked, asked_from, asked_inside, entry_want, is_compared_set, is_repeated, scope_inside, want_of_name}
+use Rattle.erd_check.specs.Wants.{Asked}
 use Rattle.erd_check.proofs.Order.{In}
-use Rattle.erd_check.proofs.Shapes.{Within}
+use Rattle.erd_check.proofs.Shapes.{Within, within-holds}
+use Rattle.erd_check.proofs.Members.{found_cases, get_member-first, get_member-tree}
+use Rattle.erd_check.specs.Trees.{IsTree, AreMembers}
+use Rattle.erd_check.proofs.Whole.{get_member-later}
+use Rattle.erd_check.proofs.ReadTrees.{put-trees}
+use Rattle.erd_check.proofs.Positions.{all_weakened}
+use Rattle.erd_meaning.specs.Keys.{Preference}
+use Rattle.erd_normal.specs.code.NormalTree.{array_of, normal_tree}
+use Rattle.erd_normal.proofs.lists.BuiltLists.{array_of-tree, trees_listed, all_both}
+use Rattle.erd_normal.proofs.built.NormalMembers.{each_member, trees_of_each}
+use Rattle.erd_normal.proofs.built.NormalTrees.{IsPartwise, normal_tree-holds}
 
 pub get_item-fitting : (i : ℕ) (v : Data) (ds : Items) → ItemsHaveFittingNumbers ds → get_item i ds ≡ Some v → HasFittingNumbers v
 get_item-fitting i v no_items h e = cc
@@ -23,12 +31,7 @@ get_item-fitting (suc i) v (item d ds) h e = get_item-fitting i v ds h.1 e
 
 pub get_member-fitting : (k : List ℕ) (v : Data) (ms : Members) → MembersHaveFittingNumbers ms → get_member k ms ≡ Some v → HasFittingNumbers v
 get_member-fitting k v no_members h e = cc
-get_member-fitting k v (member l d ms) h e = at (slice_cmp nat_cmp k l) refl (get_member-fitting k v ms h.1)
-  where
-    at : (o : Ordering) → slice_cmp nat_cmp k l ≡ o → (get_member k ms ≡ Some v → HasFittingNumbers v) → HasFittingNumbers v
-    at Less is more = more (rw is at e)
-    at Equal is more = let f : Some d ≡ Some v = rw is at e in let g : d ≡ v = cc in subst HasFittingNumbers g h.0
-    at Greater is more = more (rw is at e)
+get_member-fitting k v (member l d ms) h e = found_cases k l v d ms e (λ name same. subst HasFittingNumbers same h.0) (λ found. get_member-fitting k v ms h.1 found)
 
 -- an entry of an array
 pub entry-fitting : (ds : Items) (d : Data) → ItemsHaveFittingNumbers ds → In d (list_of_items ds) → HasFittingNumbers d
@@ -36,54 +39,79 @@ entry-fitting no_items d h i = absurd i
 entry-fitting (item v ds) d h (inl e) = subst HasFittingNumbers e h.0
 entry-fitting (item v ds) d h (inr i) = entry-fitting ds d h.1 i
 
-asked-fitting : (make : Want → Data → Asked) → ((v : Want) (d : Data) → (make v d).value ≡ d) → (w : Option Want) (o : Option Data) (a : Asked) → ((d : Data) → o ≡ Some d → HasFittingNumbers d)
-    → option_and_then (λ v. option_map (make v) o) w ≡ Some a → HasFittingNumbers a.value
-asked-fitting make value None o a fits e = cc
-asked-fitting make value (Some w) None a fits e = cc
-asked-fitting make value (Some w) (Some d) a fits e = let h : make w d ≡ a = cc in subst HasFittingNumbers (sym (value w d) ∙ ap (λ (x : Asked). x.value) h) (fits d refl)
-
-asked_inside-fitting : (w : Want) (d : Data) (s : Step) (a : Asked) → HasFittingNumbers d → asked_inside w d s ≡ Some a → HasFittingNumbers a.value
-asked_inside-fitting w (object ms) (Name n) a fits e = asked-fitting asked (λ v d. refl) (want_of_name (scope_inside w (object ms)) n) (get_member n ms) a (λ v h. get_member-fitting n v ms fits h) e
-asked_inside-fitting w (array ds) (At i) a fits e =
-    asked-fitting (λ v d. record { want = v; value = d; repeated = is_compared_set w && is_repeated ds i d }) (λ v d. refl) (entry_want w) (get_item i ds) a (λ v h. get_item-fitting i v ds fits h) e
-asked_inside-fitting w _ _ a fits e = cc
-
-asked_from-fitting : (b : Asked) (p : List Step) (a : Asked) → HasFittingNumbers b.value → asked_from b p ≡ Some a → HasFittingNumbers a.value
-asked_from-fitting b [] a fits e = let h : b ≡ a = cc in subst HasFittingNumbers (ap (λ (x : Asked). x.value) h) fits
-asked_from-fitting b (s ∷ p) a fits e = at (asked_inside b.want b.value s) refl (λ c. asked_from-fitting c p a)
-  where
-    at : (o : Option Asked) → asked_inside b.want b.value s ≡ o → ((c : Asked) → HasFittingNumbers c.value → asked_from c p ≡ Some a → HasFittingNumbers a.value) → HasFittingNumbers a.value
-    at None is h = let x : None ≡ Some a = rw is at e in cc
-    at (Some c) is h = h c (asked_inside-fitting b.want b.value s c fits is) (rw is at e)
-
 -- what is asked of in a report
 pub within-fitting : (t : Data) (a : Asked) → HasFittingNumbers t → Within t a → HasFittingNumbers a.value
-within-fitting t a fits w = asked_from-fitting (asked (Object role.Report) t) w.place a fits w.is
+within-fitting = within-holds HasFittingNumbers (record { of_object = get_member-fitting; of_array = get_item-fitting })
 
 -- ---- values whose numbers fit have no float
 
-neither : (a b : Bool) → a ≡ false → b ≡ false → a || b ≡ false
-neither true b e g = cc
-neither false b e g = g
-
 number-no_float : (n : Num) → IsFittingNumber n → is_float n ≡ false
-number-no_float (unsigned n) h = refl
-number-no_float (negative z) h = refl
 number-no_float (float x) h = absurd h
+number-no_float d h = refl
 
 mutual
   pub fitting-no_float : (d : Data) → HasFittingNumbers d → has_float d ≡ false
-  fitting-no_float null h = refl
-  fitting-no_float (boolean b) h = refl
   fitting-no_float (number n) h = number-no_float n h
-  fitting-no_float (string s) h = refl
   fitting-no_float (array ds) h = items_fitting-no_float ds h
   fitting-no_float (object ms) h = members_fitting-no_float ms h
+  fitting-no_float e h = refl
 
   items_fitting-no_float : (ds : Items) → ItemsHaveFittingNumbers ds → items_have_float ds ≡ false
   items_fitting-no_float no_items h = refl
-  items_fitting-no_float (item d ds) h = neither (has_float d) (items_have_float ds) (fitting-no_float d h.0) (items_fitting-no_float ds h.1)
+  items_fitting-no_float (item d ds) h = or_from (has_float d) (items_have_float ds) (fitting-no_float d h.0) (items_fitting-no_float ds h.1)
 
   members_fitting-no_float : (ms : Members) → MembersHaveFittingNumbers ms → members_have_float ms ≡ false
   members_fitting-no_float no_members h = refl
-  members_fitting-no_float (member k d ms) h = neither (has_float d) (members_have_float ms) (fitting-no_float d h.0) (members_fitting-no_float ms h.1)
+  members_fitting-no_float (member k d ms) h = or_from (has_float d) (members_have_float ms) (fitting-no_float d h.0) (members_fitting-no_float ms h.1)
+
+-- ---- where the numbers in a report fit, so do those in what is built of it
+
+array_of-fits : (ds : List Data) → AllByRecursion HasFittingNumbers ds → HasFittingNumbers (array_of ds)
+array_of-fits [] all = tt
+array_of-fits (d ∷ ds) all = (all.0, array_of-fits ds all.1)
+
+listed-fit : (ds : Items) → ItemsHaveFittingNumbers ds → AllByRecursion HasFittingNumbers (list_of_items ds)
+listed-fit no_items fit = tt
+listed-fit (item d ds) fit = (fit.0, listed-fit ds fit.1)
+
+put-fit_at : (o : Ordering) (k l : List ℕ) (v d : Data) (ms rest : Members) → MembersHaveFittingNumbers (member l d ms) → HasFittingNumbers v → MembersHaveFittingNumbers rest
+    → MembersHaveFittingNumbers (match_ordering o (member k v (member l d ms)) (member l v ms) (member l d rest))
+put-fit_at Less k l v d ms rest fit new later = (new, fit)
+put-fit_at Equal k l v d ms rest fit new later = (new, fit.1)
+put-fit_at Greater k l v d ms rest fit new later = (fit.0, later)
+
+put-fit : (k : List ℕ) (v : Data) (ms : Members) → MembersHaveFittingNumbers ms → HasFittingNumbers v → MembersHaveFittingNumbers (put k v ms)
+put-fit k v no_members fit new = (new, tt)
+put-fit k v (member l d ms) fit new = put-fit_at (text_cmp k l) k l v d ms (put k v ms) fit new (put-fit k v ms fit.1 new)
+
+fit_of_each : (value : List ℕ → Data → Option Data) (ms : Members) → AreMembers ms → MembersHaveFittingNumbers ms
+    → ((name : List ℕ) (d v : Data) → get_member name ms ≡ Some d → HasFittingNumbers d → value name d ≡ Some v → HasFittingNumbers v) → MembersHaveFittingNumbers (each_member value ms)
+fit_of_each value no_members rise fits each = tt
+fit_of_each value (member l d ms) rise fits each =
+    at (value l d) refl (fit_of_each value ms rise.2 fits.1 (λ name e v found. each name e v (get_member-later l name d e ms rise found)))
+  where
+    at : (r : Option Data) → value l d ≡ r → MembersHaveFittingNumbers (each_member value ms) → MembersHaveFittingNumbers (option_map_or (λ v. member l v (each_member value ms)) r (each_member value ms))
+    at None given h = h
+    at (Some v) given h = (each l d v (get_member-first l d ms) fits.0 given, h)
+
+-- a tree whose numbers fit
+abbrev IsFitting : Data → Type 0
+IsFitting d = IsTree d × HasFittingNumbers d
+
+fitting_partwise : IsPartwise IsFitting
+fitting_partwise = record {
+  entries = λ ds h. all_both IsTree HasFittingNumbers (list_of_items ds) (trees_listed ds h.0) (listed-fit ds h.1);
+  listed = λ ds all. (array_of-tree ds (all_weakened IsFitting IsTree ds (λ d h. h.0) all), array_of-fits ds (all_weakened IsFitting HasFittingNumbers ds (λ d h. h.1) all));
+  found = λ name v ms h is. (get_member-tree name v ms h.0 is, get_member-fitting name v ms h.1 is);
+  with_put = λ name v ms h new. (put-trees name v ms h.0 new.0, put-fit name v ms h.1 new.1);
+  with_each = λ value ms h each. (
+    trees_of_each value ms h.0 (λ name d v found tree given. (each name d v found (tree, get_member-fitting name d ms h.1 found) given).0),
+    fit_of_each value ms h.0 h.1 (λ name d v found fits given. (each name d v found (get_member-tree name d ms h.0 found, fits) given).1),
+  );
+  text = λ s. (tt, tt);
+  one = let small : 1 < 2 ^ 64 = omega arith in (tt, small);
+}
+
+-- the numbers in what is built of a report fit
+pub normal_tree-fits : (π : Preference) (t : Data) → IsTree t → HasFittingNumbers t → HasFittingNumbers (normal_tree π t)
+normal_tree-fits π t tree fits = (normal_tree-holds IsFitting fitting_partwise π t (tree, fits)).1

@@ -1,26 +1,84 @@
 -- The text that is written for a report is the text of its canonical form.
-use Rattle.std.proofs.Common.{◌≡◌, ◌≤◌, ℕ, List, Some, sym, ap, ◌∙◌, arith}
+use Rattle.std.proofs.Common.{◌≡◌, ◌≤◌, ℕ, suc, max, List, [], Less, Option, Some, option_and_then, option_map, refl, sym, ap, ap₂, ◌∙◌, subst, append-nil, arith}
+use Rattle.std.specs.List.{AllByRecursion}
 use Rattle.std.specs.Str.{IsUtf8}
-use Rattle.json.specs.Lex.{tokens}
-use Rattle.json.specs.Print.{print}
-use Rattle.json.specs.Token.{Token}
-use Rattle.serde_json.specs.Data.{Data, depth}
-use Rattle.serde_json.specs.Read.{max_depth, read}
+use Rattle.serde_json.specs.Data.{Data, number, array, object, Items, no_items, item, Members, no_members, member, put, depth, items_depth, members_depth}
+use Rattle.serde_json.specs.Read.{max_depth, of_items, of_json, of_members, read}
+use Rattle.serde_json.specs.Written.{items_outline, members_outline, outline}
 use Rattle.serde_json.proofs.Texts.{print-outline}
-use Rattle.erd_check.specs.Numbers.{HasFittingNumbers}
-use Rattle.erd_check.specs.Trees.{IsShallow, IsTree}
+use Rattle.json.specs.Lex.{tokens}
+use Rattle.json.specs.Token.{Token}
+use Rattle.json.proofs.Printed.Trees.{value-json_tokens}
+use Rattle.json.specs.Print.{print}
+use Rattle.json.specs.Json as json
+use Rattle.json.specs.Tree as tree
+use Rattle.erd_tables.specs.Texts.{text_cmp}
+use Rattle.erd_check.specs.Numbers.{HasFittingNumbers, ItemsHaveFittingNumbers, MembersHaveFittingNumbers}
+use Rattle.erd_check.specs.Trees.{AreMembers, AreTrees, IsTree, IsShallow}
+use Rattle.erd_check.specs.Values.{names}
+use Rattle.erd_check.proofs.Deciding.{before_all}
 use Rattle.erd_meaning.specs.Accepted.{IsAccepted}
 use Rattle.erd_meaning.specs.Keys.{Preference}
 use Rattle.erd_meaning.specs.Objects.{IsBounded}
 use Rattle.erd_meaning.proofs.accepted.Phases.{no_shape_fault}
+use Rattle.erd_normal.proofs.built.BuiltMembers.{AreBelow, are_below_one, joined, joined_none, joined_one, none_below, put_above}
+use Rattle.erd_normal.specs.code.Tokens.{value_tokens}
+use Rattle.erd_normal.proofs.texts.CompactTexts.{number_read}
 use Rattle.erd_normal.specs.CanonicalText.{IsCanonicalText}
 use Rattle.erd_normal.specs.code.NormalTree.{normal_tree}
-use Rattle.erd_normal.specs.code.Tokens.{value_tokens}
 use Rattle.erd_normal.proofs.built.NormalDepths.{normal_tree-depth}
 use Rattle.erd_normal.proofs.built.NormalTrees.{normal_tree-tree}
-use Rattle.erd_normal.proofs.canonical.NormalFormsOnly.{form_built, only_form_built, whole_built}
-use Rattle.erd_normal.proofs.texts.FittingBuilt.{normal_tree-fits}
-use Rattle.erd_normal.proofs.texts.ReadForms.{form_read}
+use Rattle.erd_normal.proofs.canonical.NormalForms.{form_built, only_form_built, whole_built}
+use Rattle.erd_normal.proofs.texts.FittingNumbers.{normal_tree-fits}
+
+-- ---- what is written for a value is read back as it
+
+mutual
+  json_read : (d : Data) → IsTree d → HasFittingNumbers d → of_json (outline d) ≡ Some d
+  json_read (number n) tree fit = ap (option_map number) (number_read n fit)
+  json_read (array ds) tree fit = ap (option_map array) (items_read ds tree fit)
+  json_read (object ms) tree fit = ap (option_map object) (members_read ms no_members (none_below ms) tree fit)
+  json_read e tree fit = refl
+
+  items_read : (ds : Items) → AreTrees ds → ItemsHaveFittingNumbers ds → of_items (items_outline ds) ≡ Some ds
+  items_read no_items trees fit = refl
+  items_read (item d ds) trees fit = rw (json_read d trees.0 fit.0, items_read ds trees.1 fit.1) refl
+
+  members_read : (ms found : Members) → AreBelow found ms → AreMembers ms → MembersHaveFittingNumbers ms → of_members (members_outline ms) found ≡ Some (joined found ms)
+  members_read no_members found low rise fit = ap Some (sym (joined_none found))
+  members_read (member k d ms) found low rise fit =
+      let next : Members = joined found (member k d no_members) in
+      let above : AllByRecursion (λ l. text_cmp k l ≡ Less) (names ms) = before_all k ms rise.0 rise.2 in
+      ap (option_and_then (λ d. of_members (members_outline ms) (put k d found))) (json_read d rise.1 fit.0)
+      ∙ (ap (of_members (members_outline ms)) (put_above k d found low.0)
+      ∙ (members_read ms next (are_below_one found k d ms low.1 above) rise.2 fit.1
+      ∙ ap Some (joined_one found k d ms)))
+
+mutual
+  outline_depth : (d : Data) → tree.depth (outline d) ≡ depth d
+  outline_depth (array ds) = ap suc (items_outline_depth ds)
+  outline_depth (object ms) = ap suc (members_outline_depth ms)
+  outline_depth e = refl
+
+  items_outline_depth : (ds : Items) → tree.items_depth (items_outline ds) ≡ items_depth ds
+  items_outline_depth no_items = refl
+  items_outline_depth (item d ds) = ap₂ max (outline_depth d) (items_outline_depth ds)
+
+  members_outline_depth : (ms : Members) → tree.members_depth (members_outline ms) ≡ members_depth ms
+  members_outline_depth no_members = refl
+  members_outline_depth (member k d ms) = ap₂ max (outline_depth d) (members_outline_depth ms)
+
+-- the value of all the tokens
+abbrev whole : Option (json.Json × List Token) → Option Data
+whole o = option_and_then of_json (option_and_then (λ p. json.if_last p.0 p.1) o)
+
+-- a text with the tokens of a value is read as the value
+pub form_read : (d : Data) (text : List ℕ) → IsTree d → HasFittingNumbers d → tokens text ≡ value_tokens d → depth d ≤ max_depth → read text ≡ Some d
+form_read d text rise fit same shallow =
+    let low : tree.depth (outline d) ≤ max_depth = subst (λ n. n ≤ max_depth) (sym (outline_depth d)) shallow in
+    ap whole (ap (json.value max_depth) (same ∙ sym (append-nil (value_tokens d))) ∙ value-json_tokens (outline d) max_depth [] low) ∙ json_read d rise fit
+
+-- ---- the text that is written for a report is the text of its canonical form
 
 module _ (π : Preference) (t : Data) (accepted : IsAccepted π t) (tree : IsTree t) (bounded : IsBounded t) (fits : HasFittingNumbers t) where
   pub text_of_form : (written : List Token) (text : List ℕ) → written ≡ value_tokens (normal_tree π t) → text ≡ print written → tokens (print written) ≡ written → IsUtf8 text → IsCanonicalText π t text
@@ -35,7 +93,7 @@ module _ (π : Preference) (t : Data) (accepted : IsAccepted π t) (tree : IsTre
         whole = whole_built π t accepted tree bounded fits;
         written = printed ∙ (ap print are ∙ print-outline u);
         utf8 = utf8;
-        reads_back = form_read u text (normal_tree-tree π t tree) (normal_tree-fits π t fits) (ap tokens printed ∙ (back ∙ are));
+        reads_back = form_read u text (normal_tree-tree π t tree) (normal_tree-fits π t tree fits) (ap tokens printed ∙ (back ∙ are));
       }
 
 -- what is read of such a text is the form

@@ -1,6 +1,6 @@
 -- Objects with members put in.
 use Rattle.std.proofs.Common.{◌≡◌, ℕ, List, [], ◌∷◌, Bool, true, false, not, if◌then◌else◌, Some, None, codes, refl, ap}
-use Rattle.serde_json.specs.Data.{Data, null, boolean, number, string, array, object, Members, no_members, member}
+use Rattle.serde_json.specs.Data.{Data, null, string, Members, no_members, member}
 use Rattle.erd_tables.specs.declared.class.Class.{Class}
 use Rattle.erd_tables.specs.Table.{is_envelope_name}
 use Rattle.erd_tables.specs.declared.class.Family.{Family}
@@ -24,38 +24,22 @@ copied c (member k d ms) = ap (member k d) (copied c ms)
 -- nothing is put in
 pub put_none : (d : Data) → put_in [] d ≡ d
 put_none null = refl
-put_none (boolean b) = refl
-put_none (number n) = refl
-put_none (string s) = refl
-put_none (array ds) = refl
-put_none (object ms) = refl
+put_none e = refl
 
 -- an `@id` is put in
 pub put_id : (id : List ℕ) (d : Data) → put_in ((codes "@id", string id) ∷ []) d ≡ with_id (Some id) d
 put_id id null = refl
-put_id id (boolean b) = refl
-put_id id (number n) = refl
-put_id id (string s) = refl
-put_id id (array ds) = refl
-put_id id (object ms) = refl
+put_id id e = refl
 
 -- the translations of a label are put in
 pub put_text : (d : Data) → put_in ((codes "Text", array_of (rising_list compact_cmp (entries_at (codes "Text") d))) ∷ []) d ≡ with_rising_text d
 put_text null = refl
-put_text (boolean b) = refl
-put_text (number n) = refl
-put_text (string s) = refl
-put_text (array ds) = refl
-put_text (object ms) = refl
+put_text e = refl
 
 -- the envelope is put in
 pub put_envelope : (d : Data) → put_in envelope_values d ≡ in_envelope d
 put_envelope null = refl
-put_envelope (boolean b) = refl
-put_envelope (number n) = refl
-put_envelope (string s) = refl
-put_envelope (array ds) = refl
-put_envelope (object ms) = refl
+put_envelope e = refl
 
 -- a member of an election that holds no objects
 pub other_election_value : (π : Preference) (t : Data) (part : ℕ) (k : MemberKind) (d : Data) → ((f : Family) → k ≡ kind.Keyed f → ⊥) → written_election_value π t part k d ≡ normal_value π t k d

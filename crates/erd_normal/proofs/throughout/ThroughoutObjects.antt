@@ -1,5 +1,5 @@
 -- What holds of all that is asked inside the order of a ballot, a selection and an object of a family that are built.
-use Rattle.std.proofs.Common.{◌≡◌, inl, inr, ℕ, zero, suc, List, map, Ordering, Less, Equal, Greater, Some, Bool, true, false, codes, refl, sym, ap, ◌∙◌, subst}
+use Rattle.std.proofs.Common.{◌≡◌, inl, inr, ℕ, zero, suc, List, map, Some, Bool, true, false, codes, refl, sym, ap, ◌∙◌, subst}
 use Rattle.std.specs.List.{AllByRecursion, list_all}
 use Rattle.std.specs.Str.{bytes_eq}
 use Rattle.serde_json.specs.Data.{Data, string, array, object, Items, no_items, item, Members, no_members, member}
@@ -7,7 +7,6 @@ use Rattle.serde_json.specs.Find.{get, get_item, get_member}
 use Rattle.erd_tables.specs.Classes.{role_of_class}
 use Rattle.erd_tables.specs.Rows.{rows_of_class}
 use Rattle.erd_tables.specs.Table.{is_required, kind_of_identity, kind_of_member}
-use Rattle.erd_tables.specs.Texts.{text_cmp}
 use Rattle.erd_tables.specs.declared.class.Class.{Class}
 use Rattle.erd_tables.specs.declared.class.Class.TheVariants as class
 use Rattle.erd_tables.specs.declared.class.Family.{Family}
@@ -30,18 +29,19 @@ use Rattle.erd_check.proofs.TableKinds.{kind_of_class, want_by_kind}
 use Rattle.erd_meaning.specs.Keys.{Preference}
 use Rattle.erd_meaning.specs.Objects.{Placed, objects}
 use Rattle.erd_meaning.specs.SelectionNames.{rising_list, selection_role}
-use Rattle.erd_meaning.proofs.orders.RisingAlike.{all_rising}
+use Rattle.erd_meaning.proofs.orders.RisingOrders.{all_rising}
 use Rattle.erd_normal.specs.code.NormalTree.{array_of, by_key, by_name, id_of_selection, normal_content, normal_node, normal_node_value, normal_nodes, normal_object, normal_object_value, normal_objects, normal_selection, normal_value}
 use Rattle.erd_normal.proofs.built.AskedMembers.{entries_asked, entry_asked}
 use Rattle.erd_normal.proofs.built.BuiltFrom.{Builder, BuiltFrom, BuiltObject, inside_built, member_holds}
 use Rattle.erd_normal.proofs.lists.BuiltLists.{all_map, given_unless}
-use Rattle.erd_normal.proofs.lists.ListParts.{IsPart, part_has}
+use Rattle.erd_normal.proofs.lists.Lists.{IsPart, part_has}
 use Rattle.erd_normal.proofs.built.BuiltObjects.{built_node, built_object, built_selection, is_id, no_name, node_builder, object_builder, object_id, plain_builder, selection_id}
 use Rattle.erd_normal.proofs.built.FamilyNames.{contest_of_selections, family_name, keyed_name}
 use Rattle.erd_normal.proofs.built.NormalGets.{kind_of_family_id}
-use Rattle.erd_normal.proofs.throughout.ThroughoutMembers.{HoldsOfMembers, is_plain_kind, is_prefixed, throughout_type, throughout_value}
+use Rattle.erd_normal.proofs.throughout.ThroughoutMembers.{HoldsOfMembers, is_plain_kind, throughout_type, throughout_value}
 use Rattle.erd_normal.proofs.throughout.ThroughoutValues.{Throughout, throughout_array, throughout_by_steps, throughout_kept, throughout_list, throughout_text}
 use Rattle.erd_check.proofs.Positions.{map_has, all_by_entry}
+use Rattle.erd_check.proofs.Members.{found_cases}
 
 -- what has to hold for what is built of objects below the election and the report, each by the value that it is built of
 pub record HoldsOfObjects (π : Preference) (t : Data) (P : Asked → Type 0) : Type 0 where
@@ -59,22 +59,14 @@ pub record HoldsOfObjects (π : Preference) (t : Data) (P : Asked → Type 0) : 
 
 -- a member of a contest or a header of a ballot
 abbrev is_node_kind : MemberKind → Bool
-is_node_kind kind.ClassText = false
-is_node_kind (kind.One f) = is_prefixed f
-is_node_kind (kind.Many f) = is_prefixed f
-is_node_kind (kind.Keyed f) = false
-is_node_kind kind.Elections = false
-is_node_kind k = true
+is_node_kind kind.Content = true
+is_node_kind k = is_plain_kind k
 
 -- a member of an object of a family
 abbrev is_object_kind : MemberKind → Bool
-is_object_kind kind.ClassText = false
-is_object_kind (kind.One f) = is_prefixed f
-is_object_kind (kind.Many f) = is_prefixed f
 is_object_kind (kind.Keyed family.Selection) = true
-is_object_kind (kind.Keyed f) = false
-is_object_kind kind.Elections = false
-is_object_kind k = true
+is_object_kind kind.Content = true
+is_object_kind k = is_plain_kind k
 
 selection_kind : (c : Class) (name : List ℕ) → bytes_eq name (codes "@type") ≡ false → role_of_class c ≡ selection_role → is_plain_kind (kind_of_member c name) ≡ true
 selection_kind class.CandidateSelection name other r = kind_of_class is_plain_kind class.CandidateSelection name other refl refl refl refl
@@ -82,7 +74,7 @@ selection_kind class.BallotMeasureSelection name other r = kind_of_class is_plai
 selection_kind class.PartySelection name other r = kind_of_class is_plain_kind class.PartySelection name other refl refl refl refl
 selection_kind c name other r = cc
 
-node_kind : (c : Class) (name : List ℕ) → bytes_eq name (codes "@type") ≡ false → role_of_class c ≡ role.Content → is_node_kind (kind_of_member c name) ≡ true
+pub node_kind : (c : Class) (name : List ℕ) → bytes_eq name (codes "@type") ≡ false → role_of_class c ≡ role.Content → is_node_kind (kind_of_member c name) ≡ true
 node_kind class.OrderedContest name other r = kind_of_class is_node_kind class.OrderedContest name other refl refl refl refl
 node_kind class.OrderedHeader name other r = kind_of_class is_node_kind class.OrderedHeader name other refl refl refl refl
 node_kind c name other r = cc
@@ -170,14 +162,6 @@ module _ (π : Preference) (t : Data) (clean : NoneOf (ShapeFault t)) (tree : Is
           (λ required inside. node_member (kind_of_member o.class name) required b.from v (node_kind o.class name b.other o.role) (contents name b.from b.stands) inside b.given)
           (λ word. node_word π t (kind_of_member o.class name) b.from (normal_content π t b.from) v word b.given)
 
-  content_at : (name k : List ℕ) (e d : Data) (ms : Members) → get_member name (member k e ms) ≡ Some d → IsContent e → (get_member name ms ≡ Some d → IsContent d) → IsContent d
-  content_at name k e d ms found here later = at (text_cmp name k) refl
-    where
-      at : (o : Ordering) → text_cmp name k ≡ o → IsContent d
-      at Less is = later (rw is at found)
-      at Equal is = let x : Some e ≡ Some d = rw is at found in let same : e ≡ d = cc in subst IsContent same here
-      at Greater is = later (rw is at found)
-
   mutual
     pub throughout_content : (d : Data) → IsContent d
     throughout_content (array ds) required filled w =
@@ -197,7 +181,7 @@ module _ (π : Preference) (t : Data) (clean : NoneOf (ShapeFault t)) (tree : Is
 
     throughout_contents : (ms : Members) (name : List ℕ) (d : Data) → get_member name ms ≡ Some d → IsContent d
     throughout_contents no_members name d found = cc
-    throughout_contents (member k e ms) name d found = content_at name k e d ms found (throughout_content e) (throughout_contents ms name d)
+    throughout_contents (member k e ms) name d found = found_cases name k d e ms found (λ named same. subst IsContent same (throughout_content e)) (throughout_contents ms name d)
 
   -- ---- selections
 

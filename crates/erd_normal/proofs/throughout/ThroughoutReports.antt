@@ -24,7 +24,7 @@ use Rattle.erd_check.proofs.Rising.{Has}
 use Rattle.erd_check.proofs.Shapes.{Within}
 use Rattle.erd_check.proofs.TableKinds.{kind_of_class}
 use Rattle.erd_meaning.proofs.accepted.Skeleton.{Skeleton, election_entries, election_object, election_within, skeleton_of_shape}
-use Rattle.erd_meaning.proofs.orders.RisingAlike.{all_rising}
+use Rattle.erd_meaning.proofs.orders.RisingOrders.{all_rising}
 use Rattle.erd_meaning.specs.Keys.{Preference, has_keys}
 use Rattle.erd_meaning.specs.Objects.{objects}
 use Rattle.erd_meaning.specs.SelectionNames.{rising_list}
@@ -33,9 +33,9 @@ use Rattle.erd_normal.proofs.built.BuiltFrom.{BuiltFrom, member_holds}
 use Rattle.erd_normal.proofs.built.BuiltObjects.{built_election, built_report, election_builder, no_name}
 use Rattle.erd_normal.proofs.lists.BuiltLists.{all_map, given_unless}
 use Rattle.erd_normal.proofs.built.FamilyNames.{election_part, elections_name, family_name, keyed_name, report_part}
-use Rattle.erd_normal.proofs.lists.ListParts.{IsPart}
+use Rattle.erd_normal.proofs.lists.Lists.{IsPart}
 use Rattle.erd_normal.proofs.built.NormalReports.{has_canonical_envelope}
-use Rattle.erd_normal.proofs.throughout.ThroughoutMembers.{HoldsOfMembers, is_plain_kind, is_prefixed, throughout_value}
+use Rattle.erd_normal.proofs.throughout.ThroughoutMembers.{HoldsOfMembers, is_plain_kind, throughout_value}
 use Rattle.erd_normal.proofs.throughout.ThroughoutObjects.{HoldsOfObjects, throughout_object, throughout_objects, throughout_status}
 use Rattle.erd_normal.proofs.throughout.ThroughoutValues.{Throughout, throughout_by_steps, throughout_list, throughout_text}
 
@@ -53,22 +53,14 @@ pub record HoldsOfBuilt (π : Preference) (t : Data) (P : Asked → Type 0) : Ty
 
 -- a member of the election
 abbrev is_election_kind : MemberKind → Bool
-is_election_kind kind.ClassText = false
-is_election_kind (kind.One f) = is_prefixed f
-is_election_kind (kind.Many f) = is_prefixed f
 is_election_kind (kind.Keyed f) = has_keys f
-is_election_kind kind.Elections = false
-is_election_kind kind.Content = false
-is_election_kind k = true
+is_election_kind k = is_plain_kind k
 
 -- a member of the report
 abbrev is_report_kind : MemberKind → Bool
-is_report_kind kind.ClassText = false
-is_report_kind (kind.One f) = is_prefixed f
-is_report_kind (kind.Many f) = is_prefixed f
 is_report_kind (kind.Keyed f) = has_keys f
-is_report_kind kind.Content = false
-is_report_kind k = true
+is_report_kind kind.Elections = true
+is_report_kind k = is_plain_kind k
 
 election_word : (π : Preference) (t : Data) (k : MemberKind) (d v : Data) → k ≡ kind.Word → normal_election_value π t k d ≡ Some v → d ≡ v
 election_word π t k d v is e = let x : Some d ≡ Some v = ap (λ q. normal_election_value π t q d) (sym is) ∙ e in let same : d ≡ v = cc in same

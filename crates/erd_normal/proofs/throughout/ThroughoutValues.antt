@@ -21,7 +21,7 @@ use Rattle.erd_check.specs.declared.want.Want.TheVariants.{Object, ClassText, Re
 use Rattle.erd_check.proofs.Shapes.{Within, Within-step}
 use Rattle.erd_check.proofs.TableKinds.{kind_of_class}
 use Rattle.erd_normal.proofs.lists.BuiltLists.{entry_holds}
-use Rattle.erd_normal.proofs.built.NormalGets.{class_has_role}
+use Rattle.erd_meaning.proofs.meanings.SelectionKinds.{class_role}
 
 -- it holds of a value, and of all that is asked inside it
 pub record Throughout (P : Asked → Type 0) (a : Asked) : Type 0 where
@@ -144,7 +144,7 @@ apart_name r ms n w h = at (bytes_eq n (codes "@type")) refl (class_of_object r 
     at false type None among e = cc
     at false type (Some c) among e =
         let same : member_want c n ≡ w = cc in
-        subst (λ x. is_apart x ≡ true) same (apart_member r c n h (class_has_role r c (object ms) among) type)
+        subst (λ x. is_apart x ≡ true) same (apart_member r c n h (class_role r (object ms) c among) type)
 
 carried_name : (n : List ℕ) (w : Want) → want_of_name (scope_inside Carried (object no_members)) n ≡ Some w → is_apart w ≡ true
 carried_name n w = at (bytes_eq n (codes "@id") || is_reference_name n)

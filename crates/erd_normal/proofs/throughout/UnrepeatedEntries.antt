@@ -1,6 +1,7 @@
 -- A set that is put in order repeats no entry, where the set itself repeats none.
 use Rattle.std.proofs.Common.{◌≡◌, inl, inr, ℕ, zero, suc, List, [], ◌∷◌, take, Ordering, Some, Bool, true, false, not, ◌&&◌, cond, is_lt, refl, sym, ap, ◌∙◌, subst, true≢false}
 use Rattle.std.specs.List.{AllByRecursion, IsDistinct, list_any}
+use Rattle.std.proofs.lemmas.Bool.{false_from_ne_true}
 use Rattle.serde_json.specs.Data.{Data, array, Items}
 use Rattle.serde_json.specs.Find.{get_item}
 use Rattle.serde_json.specs.View.{items_of}
@@ -13,14 +14,14 @@ use Rattle.erd_check.specs.Wants.{Asked, asked, entry_want, is_compared_set, is_
 use Rattle.erd_check.specs.declared.want.Want.{Want}
 use Rattle.erd_check.proofs.Exact.{is_same_exact}
 use Rattle.erd_check.proofs.Order.{In, In-all, all_from_In}
-use Rattle.erd_check.proofs.Shapes.{Within, Within-step, false_unless, faultless, within-tree}
+use Rattle.erd_check.proofs.Shapes.{Within, Within-step, faultless, within-tree}
 use Rattle.erd_check.proofs.Lists.{list_of_items-items_of}
 use Rattle.erd_meaning.specs.SelectionNames.{rising_list, with_inserted}
 use Rattle.erd_normal.proofs.built.AskedMembers.{all_items}
 use Rattle.erd_normal.proofs.lists.BuiltLists.{entry_holds, trees_listed}
 use Rattle.erd_meaning.proofs.orders.DistinctEntries.{unrepeated_distinct}
 use Rattle.erd_meaning.proofs.orders.RisingSets.{In-inserted, In-rising}
-use Rattle.erd_meaning.proofs.orders.RisingAlike.{all_rising}
+use Rattle.erd_meaning.proofs.orders.RisingOrders.{all_rising}
 
 -- ---- lists no two entries of which pass a test
 
@@ -63,7 +64,7 @@ abbrev pub AreUnlike : List Data → Type 0
 AreUnlike ds = IsDistinct (λ d e. is_same_json e d) ds
 
 pub same_turned : (d e : Data) → IsTree d → IsTree e → is_same_json e d ≡ false → is_same_json d e ≡ false
-same_turned d e tree tree' apart = false_unless (is_same_json d e) (λ h.
+same_turned d e tree tree' apart = false_from_ne_true (is_same_json d e) (λ h.
     let same : d ≡ e = is_same_exact d e tree tree' h in
     true≢false (sym (subst (λ x. is_same_json x d ≡ true) same (subst (λ x. is_same_json d x ≡ true) (sym same) h)) ∙ apart))
 

@@ -2,6 +2,7 @@
 use Rattle.std.proofs.Common.{◌≡◌, ℕ, List, [], Some, None, flat_map, map, Bool, true, false, codes, refl, sym, ap, ◌∙◌, subst, ◌∷◌}
 use Rattle.std.specs.Option.{option_map_or}
 use Rattle.std.specs.Str.{bytes_eq}
+use Rattle.std.proofs.lemmas.Option.{same_Some}
 use Rattle.serde_json.specs.Data.{Data, null, string, array, object, Items, no_items, item, no_members, member}
 use Rattle.serde_json.specs.View.{items_of}
 use Rattle.erd_tables.specs.Classes.{families, text_of_class}
@@ -14,7 +15,7 @@ use Rattle.erd_check.specs.Values.{list_of_items}
 use Rattle.erd_check.proofs.Entries.{list_of_items-place}
 use Rattle.erd_check.proofs.Exact.{text_exact, text_itself}
 use Rattle.erd_check.proofs.Lists.{list_of_items-items_of}
-use Rattle.erd_check.proofs.Positions.{has_mapped, same_in_some}
+use Rattle.erd_check.proofs.Positions.{has_mapped}
 use Rattle.erd_check.proofs.Rising.{Has}
 use Rattle.erd_meaning.specs.Keys.{Preference}
 use Rattle.erd_meaning.specs.Objects.{id_of}
@@ -27,7 +28,7 @@ use Rattle.erd_normal.proofs.same.FamilyValues.{family_values}
 use Rattle.erd_normal.proofs.same.SharedIds.{IsId}
 use Rattle.erd_normal.proofs.same.complete.Objects.{AloneUnused}
 use Rattle.erd_normal.proofs.same.complete.Texts.{Couple, couple_back, couple_there, sides}
-use Rattle.erd_normal.proofs.same.complete.TwoMeanings.{MeanOne}
+use Rattle.erd_normal.proofs.same.complete.Sets.{MeanOne}
 use Rattle.erd_normal.proofs.unique.Ids.{ids_alike}
 
 -- ---- a report that refers to each object of another
@@ -63,7 +64,7 @@ module _ (π : Preference) (t u : Data) (canonical : IsCanonical π t) (canonica
   closed_sides = sides π t u both [] (referring_to_all t) (referring_to_all u)
 
   one_couple : (c : Couple π t u) → c.text ≡ c.other_text
-  one_couple c = same_in_some c.text c.other_text (sym c.is ∙ ids_alike π t u canonical canonical' both c.family c.one c.other c.one_stands c.other_stands c.related ∙ c.other_is)
+  one_couple c = same_Some c.text c.other_text (sym c.is ∙ ids_alike π t u canonical canonical' both c.family c.one c.other c.one_stands c.other_stands c.related ∙ c.other_is)
 
   other_than : (s s' : List ℕ) → bytes_eq s s' ≡ false → s ≡ s' → ⊥
   other_than s s' e h = let x : true ≡ false = sym (text_itself s) ∙ ap (bytes_eq s) h ∙ e in cc

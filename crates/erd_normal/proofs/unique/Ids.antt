@@ -34,15 +34,13 @@ use Rattle.erd_meaning.proofs.accepted.References.{Contains-Has}
 use Rattle.erd_meaning.proofs.accepted.Skeleton.{values-placed_entries}
 use Rattle.erd_meaning.proofs.accepted.Standing.{contest_selections, one_named, stands, has_id-Some}
 use Rattle.erd_normal.specs.Canonical.{IsCanonical, canonical_id, canonical_selection_id}
-use Rattle.erd_normal.proofs.lists.Matched.{AtMostOne, Matched, apart_distinct, matched_count, matched_find, matched_mapped, one_if_apart, said_same}
-use Rattle.erd_normal.proofs.lists.MatchedRising.{matched_rising}
-use Rattle.erd_normal.proofs.lists.Paired.{Paired, none, more}
+use Rattle.erd_normal.proofs.lists.Matched.{AtMostOne, Matched, apart_distinct, matched_count, matched_find, matched_mapped, one_if_apart, said_same, matched_rising, Paired, none, more}
 use Rattle.erd_normal.proofs.same.FamilyValues.{family_values, object_values}
 use Rattle.erd_normal.proofs.same.Related.{matched_within_both}
 use Rattle.erd_normal.proofs.same.SharedIds.{by_one_id, have_one_id, ids_distinct, owner_found}
 use Rattle.erd_normal.proofs.same.complete.Counterparts.{SelectionsAlike, alike_by_key, family_matched, name_at, selection_name, selections_matched}
 use Rattle.erd_normal.proofs.same.complete.Texts.{Counterpart, by_key, by_name}
-use Rattle.erd_normal.proofs.same.complete.TwoMeanings.{MeanOne}
+use Rattle.erd_normal.proofs.same.complete.Sets.{MeanOne}
 
 -- the fellow of an entry of a paired list
 fellow_at : {A B : Type 0} (R : A → B → Type 0) {xs : List A} {ys : List B} → Paired R xs ys → (i : ℕ) (x : A) → slice_get xs i ≡ Some x → (y : B) × (slice_get ys i ≡ Some y) × R x y

@@ -1,16 +1,21 @@
 -- Canonical reports that say the same are equal.
-use Rattle.std.proofs.Common.{◌≡◌, ◌≤◌, ℕ, zero, suc, List, Option, Some, None, map, Ordering, Bool, true, false, arith, refl, sym, ap, ◌∙◌, subst, option_and_then}
+use Rattle.std.proofs.Common.{◌≡◌, ℕ, List, [], ◌∷◌, is_some, Bool, true, false, refl, sym, ◌∙◌, subst, ◌≤◌, zero, suc, Option, Some, None, map, Ordering, arith, ap, option_and_then}
+use Rattle.std.specs.Str.{bytes_eq}
 use Rattle.std.specs.Cmp.{IsTotalOrder}
 use Rattle.std.specs.Cmp.Lexicographic.{options_total}
 use Rattle.std.specs.List.Sorted.{IsStrictlySortedBy}
 use Rattle.std.specs.Option.{option_cmp}
 use Rattle.serde_json.specs.Data.{Data, array, object, Items, Members, depth, items_depth, members_depth, string}
 use Rattle.serde_json.specs.Find.{get, get_member, as_str}
+use Rattle.erd_tables.specs.Rows.{Row, envelope_rows}
+use Rattle.erd_tables.specs.Table.{is_envelope_name, kind_in_rows}
 use Rattle.erd_tables.specs.declared.class.Family.{Family}
+use Rattle.erd_tables.specs.declared.member.MemberKind.{MemberKind}
 use Rattle.erd_tables.specs.declared.class.Family.TheVariants as family
 use Rattle.erd_tables.specs.declared.class.Role.TheVariants as role
-use Rattle.erd_tables.specs.declared.member.MemberKind.{MemberKind}
 use Rattle.erd_tables.specs.declared.member.MemberKind.TheVariants as kind
+use Rattle.erd_check.proofs.Exact.{text_exact}
+use Rattle.erd_check.proofs.Rising.{Has, here, later, all-Has, rising_unique}
 use Rattle.erd_check.specs.Faults.{is_empty_array}
 use Rattle.erd_check.specs.Trees.{AreMembers}
 use Rattle.erd_check.specs.Values.{list_of_items}
@@ -19,16 +24,14 @@ use Rattle.erd_check.specs.declared.want.Want.{Want}
 use Rattle.erd_check.specs.declared.want.Want.TheVariants.{Member, Object}
 use Rattle.erd_check.proofs.Entries.{list_of_items_exact}
 use Rattle.erd_check.proofs.Members.{get_member-depth, members_unique}
-use Rattle.erd_check.proofs.Rising.{Has, all-Has, rising_unique}
 use Rattle.erd_meaning.specs.Keys.{Preference, has_keys, key_cmp, key_of}
 use Rattle.erd_meaning.specs.SelectionNames.{compact_cmp, name_cmp, name_of}
 use Rattle.erd_meaning.specs.code.Orders.{compact_cmp_total, key_cmp_total, name_cmp_total}
 use Rattle.erd_meaning.proofs.orders.Reordered.{reordered-has, reordered_back}
-use Rattle.erd_normal.specs.Canonical.{IsCanonical, RisesAs, kind_wanted}
+use Rattle.erd_normal.specs.Canonical.{HasCanonicalEnvelope, IsCanonical, RisesAs, kind_wanted}
 use Rattle.erd_normal.specs.SaysTheSame.{Sides, IsUnused, MayBeAbsent, an_empty_array, of_the_envelope, an_unused_id, is_envelope, Same, a_null, a_flag, a_number, a_text, an_id, a_list, a_set, an_object, SameMembers}
 use Rattle.erd_normal.proofs.lists.BuiltLists.{listed_depth}
-use Rattle.erd_normal.proofs.lists.Matched.{Matched, matched_equal, paired_equal}
-use Rattle.erd_normal.proofs.lists.MatchedRising.{matched_rising}
+use Rattle.erd_normal.proofs.lists.Matched.{Matched, matched_equal, paired_equal, matched_rising}
 use Rattle.erd_normal.proofs.same.Back.{entries_paired}
 use Rattle.erd_normal.proofs.same.FromAlike.{Stands, entry_stands, member_stands, stands_tree}
 use Rattle.erd_normal.proofs.same.IdsOfObjects.{asked_id, part_at, IsPart}
@@ -37,12 +40,38 @@ use Rattle.erd_normal.proofs.same.Related.{entries_matched, matched_within_both,
 use Rattle.erd_normal.proofs.same.SharedIds.{IsId}
 use Rattle.erd_normal.proofs.same.Steady.{steady_same}
 use Rattle.erd_normal.proofs.same.Types.{scope_same}
-use Rattle.erd_normal.proofs.same.accepted.EnvelopePlaces.{of_report}
-use Rattle.erd_normal.proofs.same.complete.Sets.{entry_key}
-use Rattle.erd_normal.proofs.same.complete.TwoMeanings.{MeanOne}
+use Rattle.erd_normal.proofs.same.accepted.AskedAgain.{of_report}
+use Rattle.erd_normal.proofs.same.complete.Sets.{entry_key, MeanOne}
 use Rattle.erd_normal.proofs.unique.Closed.{all_used, closed_sides, one_text, referring_to_all}
-use Rattle.erd_normal.proofs.unique.Envelope.{envelope_equal}
 use Rattle.erd_normal.proofs.unique.Ids.{one_key, one_name}
+
+-- ---- the envelopes of canonical reports are equal, member by member
+
+-- the row of a name that rows have
+row_named : (k : List ℕ) (rows : List Row) → is_some (kind_in_rows rows k) ≡ true → (m : Row) × Has rows m × (bytes_eq k m.name ≡ true)
+row_named k [] e = cc
+row_named k (row ∷ rows) e = at (bytes_eq k row.name) refl (row_named k rows)
+  where
+    at : (b : Bool) → bytes_eq k row.name ≡ b → (is_some (kind_in_rows rows k) ≡ true → (m : Row) × Has rows m × (bytes_eq k m.name ≡ true)) → (m : Row) × Has (row ∷ rows) m × (bytes_eq k m.name ≡ true)
+    at true is h = (row, here, is)
+    at false is h = let r = h (rw is at e) in (r.0, later r.1, r.2)
+
+row_equal : (t u : Data) → HasCanonicalEnvelope t → HasCanonicalEnvelope u → (m : Row) → Has envelope_rows m → get m.name t ≡ get m.name u
+row_equal t u a b m here = a.format ∙ sym b.format
+row_equal t u a b m (later here) = a.date ∙ sym b.date
+row_equal t u a b m (later (later here)) = a.issuer ∙ sym b.issuer
+row_equal t u a b m (later (later (later here))) = a.abbreviation ∙ sym b.abbreviation
+row_equal t u a b m (later (later (later (later here)))) = a.application ∙ sym b.application
+row_equal t u a b m (later (later (later (later (later here))))) = a.notes ∙ sym b.notes
+row_equal t u a b m (later (later (later (later (later (later here)))))) = a.start ∙ sym b.start
+row_equal t u a b m (later (later (later (later (later (later (later here))))))) = a.end ∙ sym b.end
+row_equal t u a b m (later (later (later (later (later (later (later (later here)))))))) = a.identifiers ∙ sym b.identifiers
+row_equal t u a b m (later (later (later (later (later (later (later (later (later h))))))))) = elim h [ ]
+
+pub envelope_equal : (t u : Data) → HasCanonicalEnvelope t → HasCanonicalEnvelope u → (k : List ℕ) → is_envelope_name k ≡ true → get k t ≡ get k u
+envelope_equal t u a b k e = let r = row_named k envelope_rows e in subst (λ n. get n t ≡ get n u) (sym (text_exact k r.0.name r.2)) (row_equal t u a b r.0 r.1)
+
+-- ---- canonical reports that say the same are equal
 
 -- ---- what may be absent
 

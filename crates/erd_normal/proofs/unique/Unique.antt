@@ -1,16 +1,44 @@
 -- Canonical reports that mean the same are equal, since they say the same.
-use Rattle.std.proofs.Common.{[], false}
-use Rattle.serde_json.specs.Data.{Data}
+use Rattle.std.proofs.Common.{[], false, ◌≡◌, ℕ, List, Some, None, true, sym, ap, ◌∙◌, subst, refl, Bool}
+use Rattle.serde_json.specs.Data.{Data, array}
+use Rattle.erd_tables.specs.declared.class.Family.{Family}
+use Rattle.erd_tables.specs.declared.class.Role.{Role}
+use Rattle.erd_tables.specs.declared.member.MemberKind.{MemberKind}
+use Rattle.erd_tables.specs.declared.place.Step.{Step}
 use Rattle.erd_tables.specs.declared.class.Role.TheVariants as role
-use Rattle.erd_check.specs.declared.want.Want.TheVariants.{Object}
-use Rattle.erd_check.proofs.Shapes.{Within-root}
-use Rattle.erd_meaning.specs.Keys.{Preference}
-use Rattle.erd_normal.specs.Laws.{CanonicalIsUnique, MeanAlike}
+use Rattle.erd_tables.specs.declared.class.Family.TheVariants as family
+use Rattle.erd_tables.specs.declared.member.MemberKind.TheVariants as kind
+use Rattle.erd_check.specs.declared.want.Want.TheVariants.{Object, Member, Reference}
+use Rattle.erd_check.proofs.Shapes.{Within-root, Within, unrepeated, wanted_within, within-tree}
+use Rattle.erd_check.proofs.Positions.{position_of}
+use Rattle.erd_check.specs.declared.want.Want.{Want}
+use Rattle.erd_check.specs.Faults.{NoneOf, ShapeFault}
+use Rattle.erd_check.specs.Values.{entries_of}
+use Rattle.erd_check.specs.Wants.{Asked, asked, asked_at}
+use Rattle.erd_check.proofs.Entries.{array_from, list_of_items_exact}
+use Rattle.erd_meaning.specs.Keys.{Preference, has_keys}
+use Rattle.erd_meaning.specs.Objects.{Placed, IsObject, contests, id_of, objects, selections_of_contest}
+use Rattle.erd_meaning.specs.Records.{object_record, content_of, key_set}
+use Rattle.erd_meaning.proofs.accepted.HeldObjects.{has-flat}
+use Rattle.erd_meaning.proofs.accepted.References.{Contains-Has, Has-Contains}
+use Rattle.erd_meaning.proofs.accepted.Standing.{one_object, flat-has}
+use Rattle.erd_meaning.specs.SelectionNames.{keys_named}
+use Rattle.erd_meaning.proofs.accepted.Phases.{no_shape_fault}
+use Rattle.erd_normal.specs.Laws.{CanonicalIsUnique, MeanAlike, ObjectsAgree, ReferencesAgree}
 use Rattle.erd_normal.proofs.same.FromAlike.{Stands}
-use Rattle.erd_normal.proofs.same.complete.Objects.{all_says}
-use Rattle.erd_normal.proofs.same.complete.TwoMeanings.{MeanOne}
-use Rattle.erd_normal.proofs.unique.Closed.{none_alone, referring_to_all}
-use Rattle.erd_normal.proofs.unique.SameTrees.{same_equal}
+use Rattle.erd_normal.proofs.same.complete.Objects.{all_says, classes_same, members_value, none_aligned, two_say, within_t, within_u}
+use Rattle.erd_normal.proofs.same.complete.Sets.{MeanOne, references_matched, TextsTied}
+use Rattle.erd_normal.proofs.unique.Closed.{none_alone, referring_to_all, closed_sides, one_text}
+use Rattle.erd_normal.proofs.unique.SameTrees.{same_equal, entries_equal, sets_equal}
+use Rattle.erd_normal.specs.Canonical.{IsCanonical, kind_wanted}
+use Rattle.erd_normal.proofs.same.complete.Members.{leaves}
+use Rattle.erd_normal.specs.SaysTheSame.{Sides}
+use Rattle.erd_normal.proofs.lists.Matched.{paired_equal}
+use Rattle.erd_normal.proofs.same.Back.{entries_paired}
+use Rattle.erd_normal.proofs.same.Related.{matched_within_both, paired_within_both}
+use Rattle.erd_normal.proofs.same.complete.Contents.{content_says}
+use Rattle.erd_normal.proofs.same.complete.Texts.{by_name, texts_tied}
+use Rattle.erd_normal.proofs.unique.Ids.{ids_alike}
 
 pub mean_one : (π : Preference) (t u : Data) → MeanAlike π t u → MeanOne π t u
 mean_one π t u alike = record { left_tree = alike.left_tree; right_tree = alike.right_tree; left = alike.left.accepted; right = alike.right.accepted; same = alike.same }
@@ -24,3 +52,120 @@ unique π t u alike =
     let both : MeanOne π t u = mean_one π t u alike in
     same_equal π t u alike.left alike.right both (Object role.Report) t u (stands_root t) (stands_root u)
     (all_says π t u both [] (referring_to_all t) (referring_to_all u) (none_alone π t u alike.left alike.right both))
+
+-- ---- in two canonical reports that mean the same, objects with equal records and equal `@id` texts are equal
+
+-- a selection has an `@id`
+selection_id : (π : Preference) (t : Data) → IsCanonical π t → (o : Placed) → IsObject t family.Selection o → (s : List ℕ) × (id_of o.value ≡ Some s)
+selection_id π t canonical o h =
+    let c = has-flat selections_of_contest (contests t) o (Has-Contains (objects family.Selection t) o h) in
+    let i = position_of (selections_of_contest c.0) o c.2 in
+    (_, canonical.ids.selections i.0 c.0 o (Contains-Has (contests t) c.0 c.1) i.1)
+
+abbrev style_role : Role
+style_role = role.OfFamily family.Style
+
+module _ (π : Preference) (t u : Data) (alike : MeanAlike π t u) where
+  both : MeanOne π t u
+  both = mean_one π t u alike
+
+  -- objects with one `@id` are one
+  one_by_id : (f : Family) (one other : Placed) → IsObject t f one → IsObject u f other → id_of one.value ≡ id_of other.value → {s : List ℕ} → id_of one.value ≡ Some s → one.value ≡ other.value
+  one_by_id f one other h k ids {s} is =
+      ap (λ o. o.value) (one_object π t alike.left.accepted f f one other s (Has-Contains (objects f t) one h)
+      (Has-Contains (objects f t) other (subst (λ x. IsObject x f other) (sym (unique π t u alike)) k)) is (sym ids ∙ is))
+
+  -- styles have no `@id`, and their records leave out nothing
+  style_alike : (one other : Placed) → IsObject t family.Style one → IsObject u family.Style other → object_record π t style_role one.value ≡ object_record π u style_role other.value → id_of one.value ≡ None → id_of other.value ≡ None
+      → one.value ≡ other.value
+  style_alike one other h k records none none' =
+      let alone = none_alone π t u alike.left alike.right both in
+      let l = referring_to_all t in
+      let r = referring_to_all u in
+      let w = within_t π t u both [] l r alone family.Style one (Has-Contains (objects family.Style t) one h) in
+      let w' = within_u π t u both [] l r alone family.Style other (Has-Contains (objects family.Style u) other k) in
+      same_equal π t u alike.left alike.right both (Object style_role) one.value other.value (record { repeated = false; inside = w }) (record { repeated = false; inside = w' })
+      (two_say π t u both [] l r alone [] style_role one.value other.value w w' (classes_same π t u both [] l r alone style_role one.value other.value records) (leaves family.Style)
+      (λ two. none_aligned π t u both [] l r alone style_role two.class two.ms two.ns two.at two.at' (ap id_of (sym two.is) ∙ none) (ap id_of (sym two.is') ∙ none'))
+      (λ two n i. elim i [ ])
+      (λ two n g. members_value π t u both [] l r alone style_role two.class two.ms two.ns two.at two.at' (sym (ap (object_record π t style_role) two.is) ∙ records ∙ ap (object_record π u style_role) two.is') n g))
+
+  object_alike : (f : Family) (one other : Placed) → has_keys f ≡ true → IsObject t f one → IsObject u f other
+      → object_record π t (role.OfFamily f) one.value ≡ object_record π u (role.OfFamily f) other.value → id_of one.value ≡ id_of other.value → one.value ≡ other.value
+  object_alike family.Style one other keyed h k records ids =
+      let none : id_of one.value ≡ None = alike.left.ids.families family.Style one keyed h in style_alike one other h k records none (sym ids ∙ none)
+  object_alike family.Selection one other keyed h k records ids = cc
+  object_alike f one other keyed h k records ids = one_by_id f one other h k ids (alike.left.ids.families f one keyed h)
+
+pub objects_agree : ObjectsAgree
+objects_agree π t u alike = record {
+  objects = object_alike π t u alike;
+  selections = λ one other h k records ids. one_by_id π t u alike family.Selection one other h k ids (selection_id π t alike.left one h).1;
+}
+
+-- ---- two canonical reports that mean the same write references, sets of them and contents alike
+
+-- what is asked of a member of a kind
+member_wanted : (w : Want) (k : MemberKind) → kind_wanted w ≡ Some k → (r : Bool) × (w ≡ Member k r)
+member_wanted (Member l r) k e = let h : l ≡ k = cc in (r, ap (λ x. Member x r) h)
+member_wanted _ k e = cc
+
+-- a member of a kind repeats nothing
+within_kind : (t : Data) → NoneOf (ShapeFault t) → (p : List Step) (a : Asked) (k : MemberKind) → asked_at t p ≡ Some a → kind_wanted a.want ≡ Some k → (r : Bool) × Within t (asked (Member k r) a.value)
+within_kind t clean p a k is e =
+    let m = member_wanted a.want k e in
+    let stands : Within t (record { want = a.want; value = a.value; repeated = a.repeated }) = record { place = p; is = is } in
+    (m.0, unrepeated t clean (Member k m.0) a.value a.repeated refl (subst (λ w. Within t (record { want = w; value = a.value; repeated = a.repeated })) m.1 stands))
+
+module _ (π : Preference) (t u : Data) (alike : MeanAlike π t u) where
+  abbrev m : Sides
+  m = closed_sides π t u alike.left alike.right (mean_one π t u alike)
+
+  tied : TextsTied π t u m
+  tied = texts_tied π t u (mean_one π t u alike) [] (referring_to_all t) (referring_to_all u)
+
+  set_alike : (f : Family) (r r' : Bool) (v w : Data) → has_keys f ≡ true → Within t (asked (Member (kind.Many f) r) v) → Within u (asked (Member (kind.Many f) r') w)
+      → key_set (keys_named π t f (entries_of v)) ≡ key_set (keys_named π u f (entries_of w)) → v ≡ w
+  set_alike f r r' v w h inside inside' same =
+      let ds = array_from v (wanted_within t (no_shape_fault π t alike.left.accepted) (asked (Member (kind.Many f) r) v) inside) in
+      let es = array_from w (wanted_within u (no_shape_fault π u alike.right.accepted) (asked (Member (kind.Many f) r') w) inside') in
+      let left : Within t (asked (Member (kind.Many f) r) (array ds.0)) = subst (λ x. Within t (asked (Member (kind.Many f) r) x)) ds.1 inside in
+      let right : Within u (asked (Member (kind.Many f) r') (array es.0)) = subst (λ x. Within u (asked (Member (kind.Many f) r') x)) es.1 inside' in
+      let st : Stands t (Member (kind.Many f) r) (array ds.0) = record { repeated = false; inside = left } in
+      let st' : Stands u (Member (kind.Many f) r') (array es.0) = record { repeated = false; inside = right } in
+      ds.1 ∙ ap array (sets_equal π t u alike.left alike.right (mean_one π t u alike) (Member (kind.Many f) r) (Member (kind.Many f) r') (kind.Many f) r r' ds.0 es.0 refl refl refl st st'
+      (matched_within_both (λ x y. x ≡ y) (entries_equal π t u alike.left alike.right (mean_one π t u alike) (Member (kind.Many f) r) (Member (kind.Many f) r') (Reference f) ds.0 es.0 refl refl st st')
+      (references_matched π t u m alike.left.accepted alike.right.accepted tied f h r r' ds.0 es.0 left right
+      (sym (ap (λ x. key_set (keys_named π t f (entries_of x))) ds.1) ∙ same ∙ ap (λ x. key_set (keys_named π u f (entries_of x))) es.1)))) ∙ sym es.1
+
+  content_alike : (r r' : Bool) (v w : Data) → Within t (asked (Member kind.Content r) v) → Within u (asked (Member kind.Content r') w) → content_of π t v ≡ content_of π u w → v ≡ w
+  content_alike r r' v w inside inside' same =
+      let ds = array_from v (wanted_within t (no_shape_fault π t alike.left.accepted) (asked (Member kind.Content r) v) inside) in
+      let es = array_from w (wanted_within u (no_shape_fault π u alike.right.accepted) (asked (Member kind.Content r') w) inside') in
+      let left : Within t (asked (Member kind.Content r) (array ds.0)) = subst (λ x. Within t (asked (Member kind.Content r) x)) ds.1 inside in
+      let right : Within u (asked (Member kind.Content r') (array es.0)) = subst (λ x. Within u (asked (Member kind.Content r') x)) es.1 inside' in
+      ds.1 ∙ ap array (list_of_items_exact ds.0 es.0 (paired_equal (λ x y e. e) (paired_within_both (λ x y. x ≡ y)
+      (entries_equal π t u alike.left alike.right (mean_one π t u alike) (Member kind.Content r) (Member kind.Content r') (Object role.Content) ds.0 es.0 refl refl (record { repeated = false; inside = left }) (record { repeated = false; inside = right }))
+      (entries_paired m (content_says π t u m alike.left.accepted alike.right.accepted tied r r' ds.0 es.0
+      (within-tree t (asked (Member kind.Content r) (array ds.0)) alike.left_tree left) (within-tree u (asked (Member kind.Content r') (array es.0)) alike.right_tree right) left right
+      (sym (ap (content_of π t) ds.1) ∙ same ∙ ap (content_of π u) es.1)))))) ∙ sym es.1
+
+pub references_agree : ReferencesAgree
+references_agree π t u alike = record {
+  references = λ f a b k h e g. one_text π t u alike.left alike.right (mean_one π t u alike) a b ((tied π t u alike).objects f a b k h e g);
+  sets = λ f p q a b h is is' e g same.
+      let w = within_kind t (no_shape_fault π t alike.left.accepted) p a (kind.Many f) is e in
+      let w' = within_kind u (no_shape_fault π u alike.right.accepted) q b (kind.Many f) is' g in
+      set_alike π t u alike f w.0 w'.0 a.value b.value h w.1 w'.1 same;
+  selections = λ k n one other a b.
+      let c = Has-Contains (objects family.Contest t) a.contest a.contest_stands in
+      let d = Has-Contains (objects family.Contest u) b.contest b.contest_stands in
+      let x = Has-Contains (selections_of_contest a.contest) one a.stands in
+      let y = Has-Contains (selections_of_contest b.contest) other b.stands in
+      ids_alike π t u alike.left alike.right (mean_one π t u alike) family.Selection one other (flat-has selections_of_contest (contests t) a.contest one c x) (flat-has selections_of_contest (contests u) b.contest other d y)
+      (by_name refl a.contest b.contest c d (a.contest_key ∙ sym b.contest_key) x y (a.its_name ∙ sym b.its_name));
+  contents = λ p q a b is is' e g same.
+      let w = within_kind t (no_shape_fault π t alike.left.accepted) p a kind.Content is e in
+      let w' = within_kind u (no_shape_fault π u alike.right.accepted) q b kind.Content is' g in
+      content_alike π t u alike w.0 w'.0 a.value b.value w.1 w'.1 same;
+}

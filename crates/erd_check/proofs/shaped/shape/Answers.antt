@@ -1,6 +1,6 @@
 use Rattle.std.proofs.Common.{◌∙◌, sym}
 use Rattle.serde_json.specs.View.{view}
-use Rattle.erd_check.proofs.FaultLists.{no_fault_from_empty}
+use Rattle.erd_check.proofs.Deciding.{no_fault_from_empty}
 use Rattle.erd_check.proofs.ShapedReports.{shaped_by}
 use Rattle.erd_check.proofs.shaped.shape.Goals as goal
 

@@ -3,7 +3,7 @@ use Rattle.serde_json.specs.Data.{Data, Items}
 use Rattle.erd_tables.specs.declared.place.Step.{Step}
 use Rattle.erd_check.specs.Wants.{is_compared_set}
 use Rattle.erd_check.specs.Visits.{Telling, told_of_items}
-use Rattle.erd_check.proofs.Alone.{items_alone}
+use Rattle.erd_check.proofs.TextEntries.{items_alone}
 use Rattle.erd_check.proofs.walk.is_set_compared.Goals as goal
 
 pub returns-then-is_set_wanted : goal.returns-then-is_set_wanted

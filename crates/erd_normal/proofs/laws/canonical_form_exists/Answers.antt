@@ -2,7 +2,7 @@ use Rattle.erd_meaning.proofs.accepted.Phases.{no_shape_fault}
 use Rattle.erd_normal.specs.code.NormalTree.{normal_tree}
 use Rattle.erd_normal.proofs.built.NormalDepths.{normal_tree-depth}
 use Rattle.erd_normal.proofs.built.NormalTrees.{normal_tree-tree}
-use Rattle.erd_normal.proofs.canonical.NormalFormsOnly.{form_built}
+use Rattle.erd_normal.proofs.canonical.NormalForms.{form_built}
 use Rattle.erd_normal.proofs.laws.canonical_form_exists.Goals as goal
 
 pub returns : goal.returns

@@ -11,7 +11,7 @@ use Rattle.erd_tables.specs.declared.class.Role.{Role}
 use Rattle.erd_tables.specs.declared.class.Role.TheVariants as role
 use Rattle.erd_tables.specs.declared.fault.Reason.TheVariants as reason
 use Rattle.erd_tables.specs.declared.place.Step.{Step}
-use Rattle.erd_check.specs.Faults.{NoneOf, ShapeFault}
+use Rattle.erd_check.specs.Faults.{NoneOf}
 use Rattle.erd_check.specs.Trees.{IsTree}
 use Rattle.erd_check.specs.Values.{entries_at}
 use Rattle.erd_check.specs.declared.want.Want.TheVariants.{Object}
@@ -38,17 +38,14 @@ same_key_even : (π : Preference) → IsEven (eq_by_cmp (by_key π))
 same_key_even π = even_order (by_key π) (on_total (key_of π) (options_total key_cmp_total))
 
 module _ (m : Sides) (left_tree : IsTree m.left) (right_tree : IsTree m.right) (π : Preference) (accepted : IsAccepted π m.left) (root : Related m (Object role.Report) m.left m.right) where
-  clean : NoneOf (ShapeFault m.left)
-  clean = no_shape_fault π m.left accepted
-
   abbrev Kin : Family → Data → Data → Type 0
   Kin f = Related m (Object (role.OfFamily f))
 
   matched : (f : Family) → Matched (Kin f) (family_values f m.left) (family_values f m.right)
-  matched = family_matched m left_tree right_tree clean root
+  matched = family_matched m left_tree right_tree (no_shape_fault π m.left accepted) root
 
   kin_key : (f : Family) (d e : Data) → Kin f d e → key_of π d ≡ key_of π e
-  kin_key f d e r = related_key m left_tree right_tree clean π f d e r
+  kin_key f d e r = related_key m left_tree right_tree (no_shape_fault π m.left accepted) π f d e r
 
   -- the object of the left report to which one of the right report is related
   record KinOf (f : Family) (o : Placed) : Type 0 where
@@ -73,7 +70,7 @@ module _ (m : Sides) (left_tree : IsTree m.left) (right_tree : IsTree m.right) (
   elections_alike =
       subst (λ (ds : List Data). Matched (λ d e. key_of π d ≡ key_of π e) ds (election_values m.right)) (sym (election_values_are m.left))
       (subst (Matched (λ d e. key_of π d ≡ key_of π e) (entries_at (codes "Election") m.left)) (sym (election_values_are m.right))
-      (matched_within (λ d e. key_of π d ≡ key_of π e) (λ d e h r. related_election_key m left_tree right_tree clean π d e r) (elections_matched m left_tree right_tree clean root)))
+      (matched_within (λ d e. key_of π d ≡ key_of π e) (λ d e h r. related_election_key m left_tree right_tree (no_shape_fault π m.left accepted) π d e r) (elections_matched m left_tree right_tree (no_shape_fault π m.left accepted) root)))
 
   lacks_none : (r : Role) (p : Placed) → needs_key m.right r ≡ true → Has (objects_with_role r m.right) p → key_of π p.value ≡ None → ⊥
   lacks_none (role.OfFamily f) p needed h none =

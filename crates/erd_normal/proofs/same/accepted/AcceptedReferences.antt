@@ -15,7 +15,7 @@ use Rattle.erd_tables.specs.declared.fault.Reason.{Reason}
 use Rattle.erd_tables.specs.declared.fault.Reason.TheVariants as reason
 use Rattle.erd_tables.specs.declared.member.MemberKind.TheVariants as kind
 use Rattle.erd_tables.specs.declared.place.Step.{Step}
-use Rattle.erd_check.specs.Faults.{NoneOf, ShapeFault, is_reference, names_wanted}
+use Rattle.erd_check.specs.Faults.{NoneOf, is_reference, names_wanted}
 use Rattle.erd_check.specs.Trees.{IsTree}
 use Rattle.erd_check.specs.Values.{entries_at, text_at, text_of}
 use Rattle.erd_check.specs.Wants.{Asked, asked, asked_at, member_want, scope_inside, want_of_name}
@@ -34,7 +34,7 @@ use Rattle.erd_meaning.specs.Objects.{has_id, owner}
 use Rattle.erd_meaning.specs.Records.{class_of_node}
 use Rattle.erd_meaning.proofs.accepted.Phases.{no_shape_fault}
 use Rattle.erd_normal.proofs.canonical.ChosenEntries.{IsChosen, contest_named, entries_chosen, list_name}
-use Rattle.erd_normal.proofs.same.Refers.{Refers, reference_refers}
+use Rattle.erd_normal.proofs.same.IdsOfObjects.{Refers, reference_refers}
 use Rattle.erd_normal.proofs.same.accepted.ListedSelections.{IsListSound, IsListed, none_elsewhere}
 use Rattle.erd_normal.proofs.same.accepted.SoundReferences.{and_no, names_sound}
 use Rattle.erd_normal.proofs.lists.Matched.{Both, both, Matched, matched_any, matched_back}
@@ -73,9 +73,6 @@ used t f d s stands text = record {
 
 module _ (m : Sides) (left_tree : IsTree m.left) (right_tree : IsTree m.right) (π : Preference) (accepted : IsAccepted π m.left) (sound : HasSoundEnvelope m.right)
     (root : Related m (Object role.Report) m.left m.right) where
-  clean : NoneOf (ShapeFault m.left)
-  clean = no_shape_fault π m.left accepted
-
   -- ---- each reference
 
   -- a reference of the left report, and the one that stands for it in the right one
@@ -170,7 +167,7 @@ module _ (m : Sides) (left_tree : IsTree m.left) (right_tree : IsTree m.right) (
   chosen_too id other d e pair left right r =
       matched_any (has_id id) (has_id other)
       (λ x y k. has_same m id other x y pair left right (ids_alike m left_tree right_tree π accepted root family.Selection x y k))
-      (selections_matched m left_tree right_tree clean root d e r)
+      (selections_matched m left_tree right_tree (no_shape_fault π m.left accepted) root d e r)
 
   -- what stands under a name in the left object, and must stand there, has one that says the same in the right object
   standing : (s : Scope) (n : List ℕ) (w : Want) (v : Data) (o p : Option Data) → want_of_name s n ≡ Some w → o ≡ Some v → Aligned m s n o p → (MayLack m.left s n o → ⊥)
@@ -184,7 +181,7 @@ module _ (m : Sides) (left_tree : IsTree m.left) (right_tree : IsTree m.right) (
     ballot = Object role.Content
 
     o : ObjectIn m.left role.Content d
-    o = object_of m left_tree right_tree clean role.Content d e r
+    o = object_of m left_tree right_tree (no_shape_fault π m.left accepted) role.Content d e r
 
     pair : Objects m left_tree right_tree ballot (object o.ms) e
     pair = objects_of m left_tree right_tree ballot o.ms e (subst (λ x. Related m ballot x e) o.is_object r)
@@ -212,7 +209,7 @@ module _ (m : Sides) (left_tree : IsTree m.left) (right_tree : IsTree m.right) (
     contest_too =
         standing (scope_inside ballot (object o.ms)) (codes "ContestId") (Reference family.Contest) contest.0 (get_member (codes "ContestId") o.ms) (get_member (codes "ContestId") pair.ns) asks_contest contest.1
         (subst (λ x. Aligned m (scope_inside ballot (object x)) (codes "ContestId") (get_member (codes "ContestId") x) (get_member (codes "ContestId") pair.ns)) (sym members_same) (pair.found (codes "ContestId")))
-        (required_stays m.left clean (asked ballot (object o.ms)) o.ms (codes "ContestId") o.at.inside refl
+        (required_stays m.left (no_shape_fault π m.left accepted) (asked ballot (object o.ms)) o.ms (codes "ContestId") o.at.inside refl
         (ap (λ c. list_any (bytes_eq (codes "ContestId")) (names_wanted (scope.Members role.Content c))) here))
 
     contest_text : OtherText m contest.2.0 contest_too.0
@@ -237,9 +234,9 @@ module _ (m : Sides) (left_tree : IsTree m.left) (right_tree : IsTree m.right) (
     -- the lists
     lists : Matched (Related m (Reference family.Selection)) (entries_at list_name d) (entries_at list_name e)
     lists =
-        related_array m left_tree right_tree clean role.Content d e o r list_name kind.Ordered (Member kind.Ordered false) (Reference family.Selection) refl
+        related_array m left_tree right_tree (no_shape_fault π m.left accepted) role.Content d e o r list_name kind.Ordered (Member kind.Ordered false) (Reference family.Selection) refl
         (ap (λ c. kind_of_member c list_name) class_is) (ap (λ c. member_want c list_name) class_is) refl
-        (no_report m left_tree right_tree clean role.Content o.class list_name o.role (λ x. cc))
+        (no_report m left_tree right_tree (no_shape_fault π m.left accepted) role.Content o.class list_name o.role (λ x. cc))
 
     entry_of_contest : (y : Data) → Has (entries_at list_name e) y → is_other_selection m.right e (Reference family.Selection) y ≡ false
     unfolding contest

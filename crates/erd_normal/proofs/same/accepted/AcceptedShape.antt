@@ -30,7 +30,7 @@ use Rattle.erd_normal.proofs.same.Lookups.{Aligned, both_there, not_both, MayLac
 use Rattle.erd_normal.proofs.same.Related.{entries_matched}
 use Rattle.erd_normal.proofs.same.Types.{scope_same, text_same}
 use Rattle.erd_normal.proofs.same.accepted.AbsentMembers.{IsSound}
-use Rattle.erd_normal.proofs.same.accepted.AskedAgain.{AskedAgain, asked_again}
+use Rattle.erd_normal.proofs.same.accepted.AskedAgain.{AskedAgain, asked_again, flag_clear}
 use Rattle.erd_normal.proofs.same.accepted.RequiredMembers.{required_stays}
 
 -- ---- tests of values that say the same
@@ -126,28 +126,20 @@ fault_same m w d e b c r other h = refl
 
 -- ---- the report
 
--- as `and` says it
-and_clear : (a b : Bool) → (a ≡ true → b ≡ false) → a && b ≡ false
-and_clear true b h = h refl
-and_clear false b h = refl
-
 module _ (m : Sides) (left_tree : IsTree m.left) (right_tree : IsTree m.right) (π : Preference) (accepted : IsAccepted π m.left) where
-  clean : NoneOf (ShapeFault m.left)
-  clean = no_shape_fault π m.left accepted
-
   -- a member that is wanted stands in the right object, since it stands in the left one
   aligned_stands : (a : Asked) (ms : Members) (n : List ℕ) (o p : Option Data) → Within m.left a → a.value ≡ object ms → list_any (bytes_eq n) (names_wanted (scope_inside a.want (object ms))) ≡ true
       → get_member n ms ≡ o → Aligned m (scope_inside a.want (object ms)) n o p → is_none p ≡ false
   aligned_stands a ms n (Some d) (Some e) inside value named found (both_there h) = refl
   aligned_stands a ms n o p inside value named found (not_both l r) =
-      absurd (required_stays m.left clean a ms n inside value named (subst (MayLack m.left (scope_inside a.want (object ms)) n) (sym found) l))
+      absurd (required_stays m.left (no_shape_fault π m.left accepted) a ms n inside value named (subst (MayLack m.left (scope_inside a.want (object ms)) n) (sym found) l))
 
   object_lacks : (a : Asked) (ms ns : Members) (n : List ℕ) → Within m.left a → a.value ≡ object ms → IsTree (object ns) → SameMembers m (scope_inside a.want (object ms)) ms ns
       → list_any (bytes_eq n) (names_wanted (scope_inside a.want (object ns))) && lacks (object ns) n ≡ false
   object_lacks a ms ns n inside value tree h =
       let left : IsTree (object ms) = subst IsTree value (within-tree m.left a left_tree inside) in
       let scopes = scope_same m a.want ms ns h in
-      and_clear (list_any (bytes_eq n) (names_wanted (scope_inside a.want (object ns)))) (lacks (object ns) n)
+      flag_clear (list_any (bytes_eq n) (names_wanted (scope_inside a.want (object ns)))) (lacks (object ns) n)
       (λ named. aligned_stands a ms n (get_member n ms) (get_member n ns) inside value (ap (λ s. list_any (bytes_eq n) (names_wanted s)) scopes ∙ named) refl (lookups m n h left tree))
 
   none_lacks : (a : Asked) (w : Want) (d e : Data) (n : List ℕ) → Within m.left a → a.want ≡ w → a.value ≡ d → IsTree e → Same m (Some w) d e → list_any (bytes_eq n) (names_wanted (scope_inside w e)) && lacks e n ≡ false
@@ -177,7 +169,7 @@ module _ (m : Sides) (left_tree : IsTree m.left) (right_tree : IsTree m.right) (
       at true is = apart r is
       at false is =
           sym (fault_same m b.want from.of.value b.value from.of.repeated b.repeated r is from.same)
-          ∙ same_asked from.of b.want from.want r (faultless m.left clean from.of r from.inside)
+          ∙ same_asked from.of b.want from.want r (faultless m.left (no_shape_fault π m.left accepted) from.of r from.inside)
 
   -- no value of the right report has a fault of shape
   pub same_shape : HasSoundEnvelope m.right → Same m (Some (Object role.Report)) m.left m.right → NoneOf (ShapeFault m.right)

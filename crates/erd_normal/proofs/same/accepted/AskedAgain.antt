@@ -1,44 +1,101 @@
 -- All that is asked in the right report is asked in the left one of a value that says the same and repeats no other, or has no fault of shape.
-use Rattle.std.proofs.Common.{◌≡◌, ◌⊎◌, inl, inr, ℕ, List, [], ◌∷◌, Bool, true, false, not, ◌&&◌, Option, Some, None, option_and_then, option_map, refl, sym, ap, ap₂, ◌∙◌, subst}
-use Rattle.std.specs.Prelude.{IsTrue}
+use Rattle.std.proofs.Common.{◌≡◌, ℕ, List, [], ◌∷◌, true, Option, Some, None, option_and_then, refl, sym, ap, ap₂, ◌∙◌, subst, ◌⊎◌, inl, inr, Bool, false, not, ◌&&◌, option_map}
+use Rattle.std.specs.Prelude.{IsTrue, IsSomeAnd}
+use Rattle.std.proofs.lemmas.Bool.{false_from_ne_true}
 use Rattle.std.specs.Str.{bytes_eq}
-use Rattle.serde_json.specs.Data.{Data, string, array, object, Items, Members}
-use Rattle.serde_json.specs.Find.{get_item, get_member}
-use Rattle.erd_tables.specs.declared.class.Family.{Family}
-use Rattle.erd_tables.specs.declared.class.Role.TheVariants as role
-use Rattle.erd_tables.specs.declared.fault.Reason.TheVariants as reason
-use Rattle.erd_tables.specs.declared.member.MemberKind.TheVariants as kind
+use Rattle.serde_json.specs.Data.{Data, object, Members, string, array, Items}
+use Rattle.serde_json.specs.Find.{get_member, get_item}
+use Rattle.erd_tables.specs.Table.{is_envelope_name}
+use Rattle.erd_tables.specs.declared.class.Class.{Class}
+use Rattle.erd_tables.specs.declared.class.Role.{Role}
 use Rattle.erd_tables.specs.declared.place.Step.{Step}
 use Rattle.erd_tables.specs.declared.place.Step.TheVariants.{Name, At}
-use Rattle.erd_check.specs.Faults.{NoneOf, ShapeFault, is_reference}
+use Rattle.erd_tables.specs.declared.class.Family.{Family}
+use Rattle.erd_tables.specs.declared.class.Class.TheVariants as class
+use Rattle.erd_tables.specs.declared.class.Role.TheVariants as role
+use Rattle.erd_tables.specs.declared.member.MemberKind.TheVariants as kind
+use Rattle.erd_tables.specs.declared.fault.Reason.TheVariants as reason
+use Rattle.erd_check.specs.Faults.{is_shape_fault, is_reference}
+use Rattle.erd_check.specs.Wants.{Asked, asked, asked_at, asked_from, asked_inside, class_of_object, scope_inside, want_of_name, asked_of_member, entry_want, is_compared_set, is_repeated}
+use Rattle.erd_check.specs.declared.want.Want.{Want}
+use Rattle.erd_check.specs.declared.want.Want.TheVariants.{Carried, Member, Object, Reference}
+use Rattle.erd_check.proofs.Shapes.{Within, Within-root, Within-step, faultless, not_within, wanted_within, within-tree}
 use Rattle.erd_check.specs.Trees.{IsTree, is_same_json}
 use Rattle.erd_check.specs.Values.{list_of_items}
-use Rattle.erd_check.specs.Wants.{Asked, asked, asked_at, asked_from, asked_inside, asked_of_member, entry_want, is_compared_set, is_repeated, scope_inside, want_of_name}
-use Rattle.erd_check.specs.declared.want.Want.{Want}
-use Rattle.erd_check.specs.declared.want.Want.TheVariants.{Member, Object, Reference}
 use Rattle.erd_check.proofs.Entries.{list_of_items-place, list_of_items-tree, string_from_text}
 use Rattle.erd_check.proofs.Exact.{is_same_exact, text_itself}
 use Rattle.erd_check.proofs.Rising.{Has}
-use Rattle.erd_check.proofs.Shapes.{Within, Within-root, Within-step, false_unless, faultless, not_within, wanted_within, within-tree}
+use Rattle.erd_check.specs.declared.want.Scope.TheVariants as scope
+use Rattle.erd_meaning.proofs.meanings.SelectionKinds.{class_role}
 use Rattle.erd_meaning.specs.Accepted.{IsAccepted}
 use Rattle.erd_meaning.specs.Keys.{Preference}
 use Rattle.erd_meaning.specs.LaterFaults.{is_reference_fault}
 use Rattle.erd_meaning.proofs.accepted.Phases.{no_reference_fault, no_shape_fault}
 use Rattle.erd_meaning.proofs.orders.DistinctEntries.{unrepeated_distinct}
 use Rattle.erd_meaning.proofs.orders.Reordered.{reordered-has}
+use Rattle.erd_normal.specs.SameLaws.{HasSoundEnvelope}
+use Rattle.erd_normal.specs.SaysTheSame.{is_envelope, Sides, Same}
+use Rattle.erd_normal.proofs.same.IdsOfObjects.{IsPart, part_at}
+use Rattle.erd_normal.proofs.same.Places.{envelope_quiet, quiet_from}
+use Rattle.erd_normal.proofs.same.accepted.AbsentMembers.{IsSoundInside, quiet_lone, IsSound, absent_sound}
 use Rattle.erd_normal.proofs.lists.Matched.{Matched, distinct-paired, distinct-reordered, matched_back}
 use Rattle.erd_normal.proofs.lists.BuiltLists.{items_again}
 use Rattle.erd_normal.proofs.same.Lists.{entry_has}
 use Rattle.erd_normal.proofs.throughout.UnrepeatedEntries.{AreUnlike, same_turned, unlike_unrepeated}
-use Rattle.erd_normal.specs.SameLaws.{HasSoundEnvelope}
-use Rattle.erd_normal.specs.SaysTheSame.{Sides, Same, an_object, a_list, a_set, SameMembers, is_envelope}
 use Rattle.erd_normal.proofs.same.InTurn.{id_text}
 use Rattle.erd_normal.proofs.same.Lookups.{Aligned, both_there, not_both, MayLack, lookups}
 use Rattle.erd_normal.proofs.same.Related.{entries_matched, matched_within_both}
 use Rattle.erd_normal.proofs.same.Steady.{steady_same, is_plain}
 use Rattle.erd_normal.proofs.same.Types.{scope_same}
-use Rattle.erd_normal.proofs.same.accepted.AbsentMembers.{IsSound, IsSoundInside, absent_sound}
-use Rattle.erd_normal.proofs.same.accepted.EnvelopePlaces.{envelope_sound}
+use Rattle.erd_normal.proofs.same.CameFrom.{from_object, from_array}
+
+-- ---- the report itself is asked for at the root alone, so a member of the envelope stands under the root
+
+pub record OfReport (w : Want) (n : List ℕ) : Type 0 where
+  pub report : w ≡ Object role.Report
+  pub name : is_envelope_name n ≡ true
+
+of_class : (r : Role) (ns : Members) (n : List ℕ) (o : Option Class) → class_of_object r (object ns) ≡ o → is_envelope (scope.Members r o) n ≡ true → (role.Report ≡ r) × (is_envelope_name n ≡ true)
+of_class r ns n None among h = cc
+of_class r ns n (Some class.ElectionReport) among h = (class_role r (object ns) class.ElectionReport among, h)
+of_class r ns n (Some c) among h = cc
+
+no_label : role.Report ≡ role.Label → ⊥
+no_label e = cc
+
+pub of_report : (w : Want) (ns : Members) (n : List ℕ) → is_envelope (scope_inside w (object ns)) n ≡ true → OfReport w n
+of_report (Object r) ns n h = let x = of_class r ns n (class_of_object r (object ns)) refl h in record { report = ap Object (sym x.0); name = x.1 }
+of_report (Member kind.Label required) ns n h = let x = of_class role.Label ns n (class_of_object role.Label (object ns)) refl h in absurd (no_label x.0)
+of_report Carried ns n h = cc
+of_report w ns n h = cc
+
+module _ (u : Data) (sound : HasSoundEnvelope u) where
+  under_root : (b : Asked) (n : List ℕ) (c : Asked) → Within u b → b.want ≡ Object role.Report → asked_inside b.want b.value (Name n) ≡ Some c → asked_at u (Name n ∷ []) ≡ Some c
+  under_root b n c inside report step =
+      let same : b.value ≡ u = subst (λ w. IsPart u w b.value) report (part_at u inside.place b inside.is) in
+      let here : asked_inside (Object role.Report) u (Name n) ≡ Some c = ap₂ (λ w d. asked_inside w d (Name n)) (sym report) (sym same) ∙ step in
+      ap (option_and_then (λ x. asked_from x [])) here
+
+  further : (n : List ℕ) (ss : List Step) (c x : Asked) → asked_at u (Name n ∷ []) ≡ Some c → asked_from c ss ≡ Some x → asked_at u (Name n ∷ ss) ≡ Some x
+  further n ss c x stands rest = at (asked_inside (Object role.Report) u (Name n)) refl stands
+    where
+      at : (o : Option Asked) → asked_inside (Object role.Report) u (Name n) ≡ o → option_and_then (λ y. asked_from y []) o ≡ Some c → option_and_then (λ y. asked_from y ss) (asked_inside (Object role.Report) u (Name n)) ≡ Some x
+      at None is e = cc
+      at (Some y) is e = let one : y ≡ c = cc in ap (option_and_then (λ y. asked_from y ss)) is ∙ ap (λ z. asked_from z ss) one ∙ rest
+
+  -- a member of the envelope has no fault
+  pub envelope_sound : (b : Asked) (ns : Members) (n : List ℕ) (v : Want) (d : Data) → Within u b → b.value ≡ object ns → want_of_name (scope_inside b.want (object ns)) n ≡ Some v
+      → get_member n ns ≡ Some d → is_envelope (scope_inside b.want (object ns)) n ≡ true → IsSoundInside (asked v d)
+  envelope_sound b ns n v d inside value asks found h ss x e =
+      let o = of_report b.want ns n h in
+      let stands : asked_at u (Name n ∷ []) ≡ Some (asked v d) = under_root b n (asked v d) inside o.report (rw (value, asks, found) refl) in
+      let place : asked_at u (Name n ∷ ss) ≡ Some x = further n ss (asked v d) x stands e in
+      record {
+        no_fault = λ r. false_from_ne_true (is_shape_fault x r) (λ fault. sound (Name n ∷ ss) r o.name (subst (λ y. IsSomeAnd y (λ a. IsTrue (is_shape_fault a r))) (sym place) fault));
+        lone = quiet_lone x.want (quiet_from (asked v d) ss x (envelope_quiet (scope_inside b.want (object ns)) n v h asks) e);
+      }
+
+-- ---- all that is asked in the right report is asked in the left one of a value that says the same and repeats no other, or has no fault of shape
 
 -- it is asked in the left report of a value that says the same, and does not repeat one
 pub record AskedAgain (m : Sides) (b : Asked) : Type 0 where
@@ -64,7 +121,7 @@ flags_false false c h k = refl
 pub none_repeated : (π : Preference) (t : Data) → IsAccepted π t → (a : Asked) → Within t a → a.repeated ≡ false
 none_repeated π t accepted a inside =
     flags_false a.repeated (is_reference a.want) (faultless t (no_shape_fault π t accepted) a reason.Repeated inside)
-    (false_unless _ (not_within t a (λ x. IsTrue (is_reference_fault t x reason.Repeated)) inside (no_reference_fault π t accepted inside.place reason.Repeated)))
+    (false_from_ne_true _ (not_within t a (λ x. IsTrue (is_reference_fault t x reason.Repeated)) inside (no_reference_fault π t accepted inside.place reason.Repeated)))
 
 -- ---- entries of sets
 
@@ -76,20 +133,17 @@ plain_or_reference (Member kind.Languages required) v e set = let h : Object rol
 plain_or_reference w v e set = cc
 
 -- as `and` says it
-flag_clear : (set r : Bool) → ((set ≡ true) → r ≡ false) → set && r ≡ false
+pub flag_clear : (set r : Bool) → ((set ≡ true) → r ≡ false) → set && r ≡ false
 flag_clear true r h = h refl
 flag_clear false r h = refl
 
 module _ (m : Sides) (left_tree : IsTree m.left) (right_tree : IsTree m.right) (π : Preference) (accepted : IsAccepted π m.left) where
-  clean : NoneOf (ShapeFault m.left)
-  clean = no_shape_fault π m.left accepted
-
   -- texts for one thing are one text
   one_text : (f : Family) (x x' y y' : Data) → Within m.left (asked (Reference f) x) → Within m.left (asked (Reference f) x') → Same m (Some (Reference f)) x y → Same m (Some (Reference f)) x' y' → y' ≡ y
       → is_same_json x' x ≡ true
   one_text f x x' y y' inside inside' same same' one =
-      let s = string_from_text x (wanted_within m.left clean (asked (Reference f) x) inside) in
-      let s' = string_from_text x' (wanted_within m.left clean (asked (Reference f) x') inside') in
+      let s = string_from_text x (wanted_within m.left (no_shape_fault π m.left accepted) (asked (Reference f) x) inside) in
+      let s' = string_from_text x' (wanted_within m.left (no_shape_fault π m.left accepted) (asked (Reference f) x') inside') in
       let o = id_text m s.0 same refl s.1 in
       let o' = id_text m s'.0 same' refl s'.1 in
       let texts : string o'.other ≡ string o.other = sym o'.is ∙ one ∙ o.is in
@@ -150,23 +204,6 @@ module _ (m : Sides) (left_tree : IsTree m.left) (right_tree : IsTree m.right) (
   abbrev Again : Asked → Type 0
   Again c = AskedAgain m c ⊎ IsSoundInside c
 
-  -- what an object or an array comes from
-  record FromObject (w : Want) (d : Data) (ns : Members) : Type 0 where
-    ms : Members
-    is : d ≡ object ms
-    same : SameMembers m (scope_inside w (object ms)) ms ns
-
-  from_object : (w : Want) (d : Data) (ns : Members) → Same m (Some w) d (object ns) → FromObject w d ns
-  from_object w d ns (an_object {ms = ms} h) = record { ms = ms; is = refl; same = h }
-
-  record FromArray (w : Want) (d : Data) (es : Items) : Type 0 where
-    ds : Items
-    is : d ≡ array ds
-
-  from_array : (w : Want) (d : Data) (es : Items) → Same m (Some w) d (array es) → FromArray w d es
-  from_array w d es (a_list {ds = ds} is h) = record { ds = ds; is = refl }
-  from_array w d es (a_set {ds = ds} fs is p h) = record { ds = ds; is = refl }
-
   name_step : (a : Asked) (n : List ℕ) (ms : Members) → Within m.left a → a.value ≡ object ms
       → (o p : Option Data) → get_member n ms ≡ o → Aligned m (scope_inside a.want (object ms)) n o p
       → (v : Option Want) → want_of_name (scope_inside a.want (object ms)) n ≡ v
@@ -190,7 +227,7 @@ module _ (m : Sides) (left_tree : IsTree m.left) (right_tree : IsTree m.right) (
   name_step a n ms inside value o (Some f) found (not_both l r) (Some v) asks envelope c e =
       let one : asked v f ≡ c = cc in
       let lacks = subst (MayLack m.left (scope_inside a.want (object ms)) n) (sym found) l in
-      inr (subst IsSoundInside one (absent_sound m.left m.right clean a ms n inside value lacks v f asks (envelope v f refl refl) (r.each f refl)))
+      inr (subst IsSoundInside one (absent_sound m.left m.right (no_shape_fault π m.left accepted) a ms n inside value lacks v f asks (envelope v f refl refl) (r.each f refl)))
 
   entry_step : (a : Asked) (i : ℕ) (ds es : Items) → Within m.left a → a.value ≡ array ds → IsTree (array es) → (v : Option Want) → entry_want a.want ≡ v
       → Matched (Same m v) (list_of_items ds) (list_of_items es) → (o : Option Data) → get_item i es ≡ o → (c : Asked)
@@ -217,7 +254,7 @@ module _ (m : Sides) (left_tree : IsTree m.left) (right_tree : IsTree m.right) (
 
     one_step : (a : Asked) (e : Data) (s : Step) → e ≡ b.value → a.want ≡ b.want → Within m.left a → Same m (Some a.want) a.value e → IsTree e → (c : Asked) → asked_inside a.want e s ≡ Some c → Again c
     one_step a (object ns) (Name n) here want inside same tree c found =
-        let f = from_object a.want a.value ns same in
+        let f = from_object m a.want a.value ns same in
         let scopes = scope_same m a.want f.ms ns f.same in
         let left : IsTree (object f.ms) = subst IsTree f.is (within-tree m.left a left_tree inside) in
         name_step a n f.ms inside f.is (get_member n f.ms) (get_member n ns) refl (lookups m n f.same left tree)
@@ -225,7 +262,7 @@ module _ (m : Sides) (left_tree : IsTree m.left) (right_tree : IsTree m.right) (
         (λ w d asks stands h. envelope_here a.want (object ns) ns n w d want here refl (ap (λ s. want_of_name s n) (sym scopes) ∙ asks) stands (ap (λ s. is_envelope s n) (sym scopes) ∙ h))
         c (ap (λ s. asked_of_member (want_of_name s n) (get_member n ns)) scopes ∙ found)
     one_step a (array es) (At i) here want inside same tree c found =
-        let f = from_array a.want a.value es same in
+        let f = from_array m a.want a.value es same in
         entry_step a i f.ds es inside f.is tree (entry_want a.want) refl (entries_matched m a.want (subst (λ x. Same m (Some a.want) x (array es)) f.is same)) (get_item i es) refl c found
     one_step a e s here want inside same tree c found = cc
 

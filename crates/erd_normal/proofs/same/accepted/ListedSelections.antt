@@ -2,6 +2,7 @@
 use Rattle.std.proofs.Common.{◌≡◌, ℕ, zero, suc, List, [], ◌∷◌, ◌++◌, Option, Some, None, option_and_then, option_map, Bool, true, false, ◌&&◌, true≢false, refl, sym, ap, ◌∙◌, subst}
 use Rattle.std.specs.List.{AllByRecursion}
 use Rattle.std.specs.Option.{option_map_or}
+use Rattle.std.proofs.lemmas.Option.{same_Some}
 use Rattle.serde_json.specs.Data.{Data, array, object, Items, no_items, item, Members}
 use Rattle.serde_json.specs.Find.{get_item, get_member}
 use Rattle.erd_tables.specs.Classes.{role_of_class}
@@ -19,7 +20,8 @@ use Rattle.erd_check.specs.Values.{entries_of, list_of_items, entries_at}
 use Rattle.erd_check.specs.Wants.{Asked, asked, asked_at, asked_from, asked_inside, asked_of_member, class_of_object, entry_want, is_compared_set, is_repeated, member_want, scope_inside, want_of_name}
 use Rattle.erd_meaning.specs.LaterFaults.{NamesOtherContest, is_other_selection}
 use Rattle.erd_meaning.specs.Records.{class_of_node}
-use Rattle.erd_normal.proofs.built.NormalGets.{class_has_role}
+use Rattle.erd_meaning.proofs.meanings.SelectionKinds.{class_role}
+use Rattle.erd_meaning.proofs.references.SelectionEntries.{asked_from-append}
 use Rattle.erd_normal.proofs.canonical.ChosenEntries.{list_name}
 use Rattle.erd_check.proofs.Options.{and_then-Some}
 
@@ -34,15 +36,6 @@ pub record IsListed (u : Data) (a : Asked) : Type 0 where
   pub sound : a.want ≡ Object role.Content → class_of_node a.value ≡ Some class.OrderedContest → IsListSound u a.value
 
 -- ---- the steps into a list
-
-asked_from-append : (a : Asked) (p q : List Step) → asked_from a (p ++ q) ≡ option_and_then (λ b. asked_from b q) (asked_from a p)
-asked_from-append a [] q = refl
-asked_from-append a (s ∷ p) q = onward (asked_inside a.want a.value s) (λ b. asked_from-append b p q)
-  where
-    onward : (o : Option Asked) → ((b : Asked) → asked_from b (p ++ q) ≡ option_and_then (λ c. asked_from c q) (asked_from b p))
-        → option_and_then (λ b. asked_from b (p ++ q)) o ≡ option_and_then (λ c. asked_from c q) (option_and_then (λ b. asked_from b p) o)
-    onward None h = refl
-    onward (Some b) h = h b
 
 -- the array whose entries are references to selections
 abbrev lists_selections : Want → Bool
@@ -77,11 +70,8 @@ record OfContest (w : Want) (d : Data) (b : Asked) : Type 0 where
 of_class : (r : Role) (ms : Members) (c : Class) (b : Asked) → class_of_object r (object ms) ≡ Some c → c ≡ class.OrderedContest → get_member list_name ms ≡ Some b.value
     → (r ≡ role.Content) × (class_of_node (object ms) ≡ Some class.OrderedContest)
 of_class r ms c b among is found =
-    let content : role.Content ≡ r = ap role_of_class (sym is) ∙ class_has_role r c (object ms) among in
+    let content : role.Content ≡ r = ap role_of_class (sym is) ∙ class_role r (object ms) c among in
     (sym content, ap (λ q. class_of_object q (object ms)) content ∙ among ∙ ap Some is)
-
-some_same : (v w : Want) → Some v ≡ Some w → v ≡ w
-some_same v w e = cc
 
 class_listing : (r : Role) (ms : Members) (b : Asked) (want : Want) → option_map (λ c. member_want c list_name) (class_of_object r (object ms)) ≡ Some want → want ≡ b.want → lists_selections b.want ≡ true
     → get_member list_name ms ≡ Some b.value → (r ≡ role.Content) × (class_of_node (object ms) ≡ Some class.OrderedContest)
@@ -90,7 +80,7 @@ class_listing r ms b want wanted same lists found = at (class_of_object r (objec
     at : (o : Option Class) → class_of_object r (object ms) ≡ o → option_map (λ c. member_want c list_name) o ≡ Some want → (r ≡ role.Content) × (class_of_node (object ms) ≡ Some class.OrderedContest)
     at None among e = cc
     at (Some c) among e =
-        let asks : member_want c list_name ≡ b.want = some_same (member_want c list_name) want e ∙ same in
+        let asks : member_want c list_name ≡ b.want = same_Some (member_want c list_name) want e ∙ same in
         of_class r ms c b among (only_contests c (ap lists_selections asks ∙ lists)) found
 
 no_label : role.Label ≡ role.Content → ⊥
@@ -102,7 +92,7 @@ in_contest (Object r) ms b m lists =
     record { content = ap Object h.0; among = h.1; stands = (ms, refl, m.found) }
 in_contest (Member kind.Label required) ms b m lists = let h = class_listing role.Label ms b m.want m.wanted m.same lists m.found in absurd (no_label h.0)
 in_contest Carried ms b m lists =
-    let asks : Member kind.StrangeIdentity false ≡ b.want = some_same (Member kind.StrangeIdentity false) m.want m.wanted ∙ m.same in
+    let asks : Member kind.StrangeIdentity false ≡ b.want = same_Some (Member kind.StrangeIdentity false) m.want m.wanted ∙ m.same in
     absurd (true≢false (sym lists ∙ ap lists_selections (sym asks)))
 in_contest w ms b m lists = let x = m.wanted in cc
 

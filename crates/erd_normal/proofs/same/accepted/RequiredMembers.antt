@@ -2,6 +2,7 @@
 use Rattle.std.proofs.Common.{◌≡◌, ℕ, List, Bool, true, false, true≢false, cond, not, ◌&&◌, ◌||◌, Option, Some, None, codes, refl, sym, ap, ◌∙◌, subst}
 use Rattle.std.specs.List.{list_all, list_any}
 use Rattle.std.specs.Str.{bytes_eq}
+use Rattle.std.proofs.lemmas.Bool.{and_parts}
 use Rattle.serde_json.specs.Data.{Data, array, object, no_items, Members}
 use Rattle.serde_json.specs.Find.{get, get_member}
 use Rattle.erd_tables.specs.Rows.{Row, rows_of_class}
@@ -19,7 +20,7 @@ use Rattle.erd_check.specs.declared.want.Scope.{Scope}
 use Rattle.erd_check.specs.declared.want.Scope.TheVariants as scope
 use Rattle.erd_check.specs.declared.want.Want.{Want}
 use Rattle.erd_check.specs.declared.want.Want.TheVariants.{ClassText, Member, Status}
-use Rattle.erd_check.proofs.Exact.{both_true, text_exact, text_itself}
+use Rattle.erd_check.proofs.Exact.{text_exact, text_itself}
 use Rattle.erd_check.proofs.Rising.{Has, here, later}
 use Rattle.erd_check.proofs.Shapes.{Within, Within-step, faultless, lacks_none}
 use Rattle.erd_check.proofs.TableKinds.{kind_of_id, kind_of_name, want_unless_status}
@@ -31,8 +32,8 @@ use Rattle.erd_normal.proofs.same.Types.{type_stays}
 -- ---- the names that a class requires
 
 passes : {A : Type 0} (P : A → Bool) (xs : List A) (x : A) → list_all P xs ≡ true → Has xs x → P x ≡ true
-passes P xs x all (here {xs = ys}) = (both_true (P x) (list_all P ys) all).0
-passes P xs x all (later {y = y} {xs = ys} h) = passes P ys x (both_true (P y) (list_all P ys) all).1 h
+passes P xs x all (here {xs = ys}) = (and_parts (P x) (list_all P ys) all).0
+passes P xs x all (later {y = y} {xs = ys} h) = passes P ys x (and_parts (P y) (list_all P ys) all).1 h
 
 -- what holds of each name of a list holds of one that is among them
 named_passes : (P : List ℕ → Bool) (n : List ℕ) (ns : List (List ℕ)) → list_all P ns ≡ true → list_any (bytes_eq n) ns ≡ true → P n ≡ true
@@ -72,7 +73,7 @@ all_due class.ElectionReport = refl
 all_due c = refl
 
 due : (c : Class) (n : List ℕ) → list_any (bytes_eq n) (required_names c) ≡ true → (is_due_kind (kind_of_member c n) ≡ true) × (not (is_report_class c && is_envelope_name n) ≡ true)
-due c n h = both_true (is_due_kind (kind_of_member c n)) (not (is_report_class c && is_envelope_name n)) (named_passes (is_due c) n (required_names c) (all_due c) h)
+due c n h = and_parts (is_due_kind (kind_of_member c n)) (not (is_report_class c && is_envelope_name n)) (named_passes (is_due c) n (required_names c) (all_due c) h)
 
 abbrev is_elections_kind : MemberKind → Bool
 is_elections_kind kind.Elections = true
@@ -165,8 +166,7 @@ module _ (t : Data) (clean : NoneOf (ShapeFault t)) where
       at : (b : Bool) → b || false ≡ true → b ≡ true
       at true e = refl
       at false e = cc
-  stays_in scope.Nothing n d named inside h = cc
-  stays_in scope.Carried n d named inside h = cc
+  stays_in e n d named inside h = cc
 
   -- an object has each member that it must have, and none of these may be absent
   pub required_stays : (a : Asked) (ms : Members) (n : List ℕ) → Within t a → a.value ≡ object ms → list_any (bytes_eq n) (names_wanted (scope_inside a.want (object ms))) ≡ true

@@ -1,12 +1,93 @@
 -- Accepted reports that mean the same say the same, and so two preferences agree on which mean the same.
-use Rattle.std.proofs.Common.{[], sym}
-use Rattle.erd_normal.proofs.same.complete.Objects.{all_says}
-use Rattle.erd_normal.proofs.same.complete.Texts.{back, there}
-use Rattle.erd_normal.proofs.same.complete.TwoMeanings.{MeanOne}
-use Rattle.erd_normal.proofs.same.complete.Unused.{alone_unused}
+use Rattle.std.proofs.Common.{◌≡◌, ℕ, zero, suc, List, [], ◌∷◌, Some, None, option_and_then, true, false, length, arith, refl, sym, ap, ◌∙◌, subst}
+use Rattle.serde_json.specs.Data.{Data, null}
+use Rattle.erd_tables.specs.declared.class.Family.{Family}
+use Rattle.erd_tables.specs.declared.place.Step.{Step}
+use Rattle.erd_tables.specs.declared.place.Step.TheVariants.{Name, At}
+use Rattle.erd_tables.specs.declared.class.Role.TheVariants as role
+use Rattle.erd_check.specs.Faults.{is_reference}
+use Rattle.erd_check.specs.Wants.{Asked, asked, asked_at, asked_from, asked_inside}
+use Rattle.erd_check.specs.declared.want.Want.TheVariants.{Object}
+use Rattle.erd_check.proofs.Rising.{Has}
+use Rattle.erd_meaning.specs.Keys.{Preference}
+use Rattle.erd_meaning.specs.Objects.{Placed, id_of, objects}
+use Rattle.erd_meaning.proofs.accepted.Standing.{one_object}
+use Rattle.erd_normal.proofs.same.Back.{same_back, turned}
+use Rattle.erd_normal.proofs.same.CameFrom.{CameFrom, reference_came_from}
+use Rattle.erd_normal.proofs.same.InTurn.{OtherText, id_text, reference_is_id}
+use Rattle.erd_normal.proofs.same.complete.Objects.{AloneUnused, all_says}
+use Rattle.erd_normal.proofs.same.complete.Texts.{Counterpart, Couple, counterpart_back, couple_back, couple_there, one_counterpart, one_family, sides, back, there}
+use Rattle.erd_normal.proofs.same.complete.Sets.{MeanOne}
+use Rattle.erd_normal.specs.SaysTheSame.{Sides, IsUnused, Same}
 use Rattle.erd_normal.proofs.same.means.Meanings.{saying_the_same_means_the_same}
 use Rattle.erd_normal.specs.Laws.{PreferencesAgree}
 use Rattle.erd_normal.specs.SameForms.{MeaningTheSameSaysTheSame, SayingAndMeaningAgree}
+
+-- ---- to an `@id` whose object's counterpart has none nothing refers: each reference comes from one of the other report
+
+-- in what is no report nothing is used
+nothing_used : (id : List ℕ) → IsUnused null id
+nothing_used id p a stands is text = at p stands
+  where
+    none : (s : Step) → asked_inside (Object role.Report) null s ≡ None
+    none (Name n) = refl
+    none (At i) = refl
+
+    at : (p : List Step) → asked_at null p ≡ Some a → ⊥
+    at [] e = let one : asked (Object role.Report) null ≡ a = cc in let x : false ≡ true = subst (λ (x : Asked). is_reference x.want ≡ true) (sym one) is in cc
+    at (s ∷ ss) e = let x : None ≡ Some a = sym (ap (option_and_then (λ b. asked_from b ss)) (none s)) ∙ e in cc
+
+-- a text that is not this one
+other_than : List ℕ → List ℕ
+other_than s = zero ∷ s
+
+other_than_itself : (s : List ℕ) → s ≡ other_than s → ⊥
+unfolding other_than
+other_than_itself s e = let n : length s ≡ suc (length s) = ap length e in omega arith
+
+module _ (π : Preference) (t u : Data) (both : MeanOne π t u) where
+  abbrev idle : List ℕ → Sides
+  idle default = sides π t u both default null null
+
+  idle_says : (default : List ℕ) → Same (idle default) (Some (Object role.Report)) t u
+  idle_says default = all_says π t u both default null null (record { left = λ f o p a h k related is is'. nothing_used a; right = λ f o p b h k related is is'. nothing_used b })
+
+  -- the couple of an object, by its `@id`
+  left_couple : (f : Family) (o p : Placed) (a : List ℕ) → Has (objects f t) o → Has (objects f u) p → Counterpart π t u f o p → id_of o.value ≡ Some a → (c : Couple π t u) → c.text ≡ a → c.other ≡ p
+  left_couple f o p a h k related is c e =
+      let one : c.one ≡ o = one_object π t both.left c.family f c.one o a c.one_stands h (c.is ∙ ap Some e) is in
+      let family : c.family ≡ f = one_family π t both.left c.family f o (subst (Has (objects c.family t)) one c.one_stands) h in
+      one_counterpart π t u both.left both.right f o c.other p (subst (λ g. Has (objects g u) c.other) family c.other_stands) k
+      (subst (λ g. Counterpart π t u g o c.other) family (subst (λ x. Counterpart π t u c.family x c.other) one c.related)) related
+
+  right_couple : (f : Family) (o p : Placed) (b : List ℕ) → Has (objects f t) o → Has (objects f u) p → Counterpart π t u f o p → id_of p.value ≡ Some b → (c : Couple π t u) → c.other_text ≡ b → c.one ≡ o
+  right_couple f o p b h k related is c e =
+      let other : c.other ≡ p = one_object π u both.right c.family f c.other p b c.other_stands k (c.other_is ∙ ap Some e) is in
+      let family : c.family ≡ f = one_family π u both.right c.family f p (subst (Has (objects c.family u)) other c.other_stands) k in
+      one_counterpart π u t both.right both.left f p c.one o (subst (λ g. Has (objects g t) c.one) family c.one_stands) h
+      (subst (λ g. Counterpart π u t g p c.one) family (subst (λ x. Counterpart π u t c.family x c.one) other (counterpart_back π t u c.family c.one c.other c.related))) (counterpart_back π t u f o p related)
+
+  pub alone_unused : AloneUnused π t u t u
+  alone_unused = record {
+    left = λ f o p a h k related is is' place asked_there stands reference text.
+        let m : Sides = idle (other_than a) in
+        let from : CameFrom (turned m) u asked_there = reference_came_from (turned m) u t both.right_tree both.left_tree (same_back m (idle_says (other_than a))) place asked_there stands reference in
+        let x : OtherText m a from.of.value = id_text m a (same_back (turned m) from.same) (reference_is_id asked_there.want reference) text in
+        let c = couple_back π t u both (other_than a) a x.other x.pair.1 (other_than_itself a) in
+        let other : c.0.other ≡ p = left_couple f o p a h k related is c.0 c.1 in
+        let e : Some c.0.other_text ≡ None = sym c.0.other_is ∙ ap (λ (z : Placed). id_of z.value) other ∙ is' in
+        cc;
+    right = λ f o p b h k related is is' place asked_there stands reference text.
+        let m : Sides = idle (other_than b) in
+        let from : CameFrom m t asked_there = reference_came_from m t u both.left_tree both.right_tree (idle_says (other_than b)) place asked_there stands reference in
+        let x : OtherText (turned m) b from.of.value = id_text (turned m) b (same_back m from.same) (reference_is_id asked_there.want reference) text in
+        let c = couple_there π t u both (other_than b) x.other b x.pair.1 (other_than_itself b) in
+        let one : c.0.one ≡ o = right_couple f o p b h k related is' c.0 c.2 in
+        let e : Some c.0.text ≡ None = sym c.0.is ∙ ap (λ (z : Placed). id_of z.value) one ∙ is in
+        cc;
+  }
+
+-- ---- accepted reports that mean the same say the same, and so two preferences agree on which mean the same
 
 pub meaning_says : MeaningTheSameSaysTheSame
 meaning_says π t u tree tree' accepted accepted' same =

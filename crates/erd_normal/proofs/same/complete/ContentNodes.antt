@@ -1,5 +1,5 @@
 -- The contests and headers of the ballots of an accepted report: what they refer to, and the arrays inside them.
-use Rattle.std.proofs.Common.{◌≡◌, ℕ, List, Option, Some, None, true, false, ◌⊎◌, inl, inr, codes, refl, sym, ap, ◌∙◌, subst, Ordering, Less, Equal, Greater, is_eq}
+use Rattle.std.proofs.Common.{◌≡◌, ℕ, List, Option, Some, None, true, false, ◌⊎◌, inl, inr, codes, refl, sym, ap, ◌∙◌, subst, Ordering, Equal, is_eq}
 use Rattle.std.proofs.lemmas.Map.Text.{is_eq-slice_cmp}
 use Rattle.std.specs.Str.{bytes_eq}
 use Rattle.serde_json.specs.Data.{Data, string, array, object, Items, Members, no_members, member}
@@ -11,7 +11,7 @@ use Rattle.erd_tables.specs.declared.class.Family.TheVariants as family
 use Rattle.erd_tables.specs.declared.class.Role.TheVariants as role
 use Rattle.erd_tables.specs.declared.member.MemberKind.TheVariants as kind
 use Rattle.erd_tables.specs.Texts.{text_cmp}
-use Rattle.erd_check.specs.Faults.{NoneOf, ShapeFault, has_wanted_kind}
+use Rattle.erd_check.specs.Faults.{has_wanted_kind}
 use Rattle.erd_check.specs.Values.{entries_at, text_of}
 use Rattle.erd_check.specs.Wants.{asked, member_want}
 use Rattle.erd_check.specs.declared.want.Want.{Want}
@@ -49,9 +49,8 @@ content_inside-get π t (member k d ms) = at (text_cmp (codes "OrderedContent") 
   where
     at : (o : Ordering) → text_cmp (codes "OrderedContent") k ≡ o → content_inside π t ms ≡ content_at π t (get_member (codes "OrderedContent") ms)
         → content_inside π t (member k d ms) ≡ content_at π t (get_member (codes "OrderedContent") (member k d ms))
-    at Less is h = rw (is, sym (is_eq-slice_cmp (codes "OrderedContent") k) ∙ ap is_eq is) h
     at Equal is h = rw (is, sym (is_eq-slice_cmp (codes "OrderedContent") k) ∙ ap is_eq is)
-    at Greater is h = rw (is, sym (is_eq-slice_cmp (codes "OrderedContent") k) ∙ ap is_eq is) h
+    at e is h = rw (is, sym (is_eq-slice_cmp (codes "OrderedContent") k) ∙ ap is_eq is) h
 
 -- an object of a ballot's content, of this class
 abbrev pub NodeAt : Data → Class → Members → Type 0
@@ -86,19 +85,16 @@ pub data NodeView (t : Data) : Data → Type 0 where
   header_view : {ms : Members} → HeaderNode t ms → NodeView t (object ms)
 
 module _ (π : Preference) (t : Data) (accepted : IsAccepted π t) where
-  clean : NoneOf (ShapeFault t)
-  clean = no_shape_fault π t accepted
-
   -- a member that may be absent and of which an array is asked
   array_within : (w : Want) → ((v : Data) → has_wanted_kind w v ≡ true → (ds : Items) × (v ≡ array ds)) → (P : Items → Type 0) (o : Option Data) → ((v : Data) → o ≡ Some v → Within t (asked w v))
       → ((ds : Items) → o ≡ Some (array ds) → P ds) → MayBeArray P o
   array_within w is P None inside each = is_absent
   array_within w is P (Some v) inside each =
-      let ds = is v (wanted_within t clean (asked w v) (inside v refl)) in
+      let ds = is v (wanted_within t (no_shape_fault π t accepted) (asked w v) (inside v refl)) in
       subst (λ x. MayBeArray P (Some x)) (sym ds.1) (is_filled_array (each ds.0 (ap Some ds.1)))
 
   member_at : (c : Class) (ms : Members) → NodeAt t c ms → (name : List ℕ) → bytes_eq name (codes "@type") ≡ false → (v : Data) → get_member name ms ≡ Some v → Within t (asked (member_want c name) v)
-  member_at c ms a name other v e = member_within t clean (Object role.Content) role.Content ms c name v of_role a.among other a.inside e
+  member_at c ms a name other v e = member_within t (no_shape_fault π t accepted) (Object role.Content) role.Content ms c name v of_role a.among other a.inside e
 
   contest_node_of : (ms : Members) → NodeAt t class.OrderedContest ms → ContestNode t ms
   contest_node_of ms a =
@@ -130,15 +126,15 @@ module _ (π : Preference) (t : Data) (accepted : IsAccepted π t) where
       }
     where
       named_header : (o : Option Data) → get_member (codes "HeaderId") ms ≡ o → (r : List ℕ) × (get_member (codes "HeaderId") ms ≡ Some (string r)) × Within t (asked (Reference family.Header) (string r))
-      named_header None e = absurd (lacks_none t clean (asked (Object role.Content) (object ms)) (codes "HeaderId") a.inside (rw a.among refl) e)
+      named_header None e = absurd (lacks_none t (no_shape_fault π t accepted) (asked (Object role.Content) (object ms)) (codes "HeaderId") a.inside (rw a.among refl) e)
       named_header (Some v) e =
           let w : Within t (asked (Reference family.Header) v) = member_at class.OrderedHeader ms a (codes "HeaderId") refl v e in
-          let s = string_from_text v (wanted_within t clean (asked (Reference family.Header) v) w) in
+          let s = string_from_text v (wanted_within t (no_shape_fault π t accepted) (asked (Reference family.Header) v) w) in
           (s.0, e ∙ ap Some s.1, subst (λ x. Within t (asked (Reference family.Header) x)) s.1 w)
 
   -- each entry of a ballot's content is a contest or a header
   pub node_view : (d : Data) → Within t (asked (Object role.Content) d) → NodeView t d
-  node_view d w = at (object_in t clean role.Content d w)
+  node_view d w = at (object_in t (no_shape_fault π t accepted) role.Content d w)
     where
       by_class : (c : Class) (ms : Members) → (c ≡ class.OrderedContest) ⊎ (c ≡ class.OrderedHeader) → NodeAt t c ms → NodeView t (object ms)
       by_class c ms (inl e) a = contest_view (contest_node_of ms (subst (λ x. NodeAt t x ms) e a))

@@ -1,6 +1,6 @@
 -- The objects of two accepted reports that mean the same are matched: elections by their keys, the objects of each family in each
--- election or in the report by theirs, and the selections of a contest by their names.
-use Rattle.std.proofs.Common.{◌≡◌, List, ℕ, Bool, true, is_eq, find, Option, Some, None, option_map, option_and_then, codes, refl, sym, ap, ◌∙◌, subst}
+use Rattle.std.proofs.Common.{◌≡◌, List, [], ◌∷◌, map, find, Bool, true, Option, Some, option_and_then, sym, ap, ◌∙◌, ◌⊎◌, inl, inr, None, option_map, codes, refl, ℕ, is_eq, subst}
+use Rattle.std.proofs.lemmas.Option.{same_Some}
 use Rattle.std.proofs.lemmas.Cmp.{tied_itself}
 use Rattle.std.specs.Cmp.Lexicographic.{options_total}
 use Rattle.std.specs.Option.{option_cmp}
@@ -9,42 +9,128 @@ use Rattle.serde_json.specs.Find.{get}
 use Rattle.erd_tables.specs.declared.class.Family.{Family}
 use Rattle.erd_tables.specs.declared.class.Family.TheVariants as family
 use Rattle.erd_tables.specs.declared.class.Role.TheVariants as role
+use Rattle.erd_check.proofs.Options.{and_then-Some}
+use Rattle.erd_check.proofs.Positions.{has_mapped}
+use Rattle.erd_check.proofs.Rising.{Has, Has-cases}
 use Rattle.erd_check.proofs.Entries.{entries_in}
 use Rattle.erd_check.proofs.ObjectsAt.{ObjectIn, object_in}
-use Rattle.erd_check.proofs.Rising.{Has}
 use Rattle.erd_check.proofs.Shapes.{Within}
 use Rattle.erd_check.specs.Values.{entries_at}
 use Rattle.erd_check.specs.Wants.{asked, class_of_object}
 use Rattle.erd_check.specs.declared.want.Want.TheVariants.{Object}
+use Rattle.erd_meaning.proofs.accepted.References.{find-Some, find-any, has_identifier}
+use Rattle.erd_meaning.proofs.orders.Sets.{any-has}
 use Rattle.erd_meaning.specs.Accepted.{IsAccepted}
 use Rattle.erd_meaning.specs.Keys.{Preference, has_keys, key_cmp, key_of}
 use Rattle.erd_meaning.specs.Lookups.{election_key_of}
 use Rattle.erd_meaning.specs.Meaning.{ObjectRecord, SelectionRecord}
+use Rattle.erd_meaning.specs.Objects.{Placed, objects, contests, elections, placed_entries, report_of, selections_of_contest}
+use Rattle.erd_meaning.specs.Records.{member_of_class, object_record, placed_record, placed_with_key, record_in_election, records_of, member_value, plain_member, selection_map, selection_record}
+use Rattle.erd_meaning.specs.declared.keys.key.Key.{Key}
+use Rattle.erd_meaning.proofs.accepted.Standing.{stands, contest_selections, flat-has}
+use Rattle.erd_meaning.proofs.meanings.WholeRecords.{apart_from_election, no_election_id}
 use Rattle.erd_meaning.specs.NameParts.{NameParts}
-use Rattle.erd_meaning.specs.Objects.{Placed, contests, elections, objects, placed_entries, report_of, selections_of_contest}
-use Rattle.erd_meaning.specs.Records.{member_of_class, member_value, object_record, placed_record, plain_member, record_in_election, selection_map, selection_record}
 use Rattle.erd_meaning.specs.SelectionNames.{name_cmp, name_of}
 use Rattle.erd_meaning.specs.code.Orders.{key_cmp_total, name_cmp_total}
-use Rattle.erd_meaning.specs.declared.keys.key.Key.{Key}
 use Rattle.erd_meaning.proofs.accepted.DistinctKeys.{elections_distinct, objects_distinct}
 use Rattle.erd_meaning.proofs.accepted.HeldObjects.{has-flat, held_key_in}
 use Rattle.erd_meaning.proofs.accepted.Phases.{no_identity_fault, no_shape_fault}
-use Rattle.erd_meaning.proofs.accepted.References.{has_identifier}
 use Rattle.erd_meaning.proofs.accepted.Skeleton.{election_stands, skeleton, values-placed_entries}
-use Rattle.erd_meaning.proofs.accepted.Standing.{contest_selections, flat-has, stands}
 use Rattle.erd_meaning.proofs.orders.EqualNames.{equal_keys, equal_names, options_exact}
-use Rattle.erd_normal.proofs.canonical.DistinctSelections.{selections_distinct}
-use Rattle.erd_normal.proofs.lists.FoundBuilt.{find_values}
-use Rattle.erd_normal.proofs.lists.ListParts.{IsPart, part_distinct, part_flat}
 use Rattle.erd_normal.proofs.lists.Matched.{Matched, matched_back, matched_on, matched_within}
-use Rattle.erd_normal.proofs.same.ByKeys.{ApartBy, matched_by_keys}
+use Rattle.erd_normal.proofs.same.Lists.{ApartBy, matched_by_keys}
 use Rattle.erd_normal.proofs.same.Related.{matched_within_both}
-use Rattle.erd_normal.proofs.same.complete.ByRecords.{apart_map, apart_one, record_for, records_matched}
-use Rattle.erd_normal.proofs.same.complete.Sets.{apart_by}
-use Rattle.erd_normal.proofs.same.complete.TwoMeanings.{MeanOne}
-use Rattle.erd_normal.proofs.same.complete.PlacedRecords.{has_record, records_apart, records_of-keyed}
+use Rattle.erd_normal.proofs.meaning.AlikeRecords.{class_within, record_with-Some, has_name, has_selection_record, map_in, members_in, selections_value}
+use Rattle.erd_normal.proofs.canonical.RisingReports.{selections_distinct}
+use Rattle.erd_normal.proofs.lists.FoundInParts.{find_values}
+use Rattle.erd_normal.proofs.lists.Lists.{IsPart, part_distinct, part_flat}
+use Rattle.erd_normal.proofs.same.complete.Sets.{apart_by, MeanOne}
 use Rattle.erd_normal.proofs.same.FamilyValues.{InElections}
-use Rattle.erd_normal.proofs.meaning.ObjectRecords.{class_within, has_name, has_selection_record, map_in, members_in, record_with-Some, selections_value}
+
+-- ---- lists that have the same record at each key are matched by their keys
+
+-- two entries with one key are one
+pub apart_one : {A K : Type 0} (key : A → K) (xs : List A) → ApartBy key xs → (x y : A) → Has xs x → Has xs y → key x ≡ key y → x ≡ y
+apart_one key [] apart x y i j e = elim i [ ]
+apart_one key (z ∷ zs) apart x y i j e = at (Has-cases z x zs i) (Has-cases z y zs j) (apart_one key zs apart.1 x y)
+  where
+    at : (z ≡ x) ⊎ Has zs x → (z ≡ y) ⊎ Has zs y → (Has zs x → Has zs y → key x ≡ key y → x ≡ y) → x ≡ y
+    at (inl a) (inl b) rest = sym a ∙ b
+    at (inl a) (inr k) rest = absurd (apart.0 y k (ap key a ∙ e))
+    at (inr h) (inl b) rest = absurd (apart.0 x h (ap key b ∙ sym e))
+    at (inr h) (inr k) rest = rest h k e
+
+-- entries are apart where their values are
+pub apart_map : {A B K : Type 0} (g : A → B) (key : B → K) (xs : List A) → ApartBy key (map g xs) → ApartBy (λ x. key (g x)) xs
+apart_map g key [] apart = tt
+apart_map g key (x ∷ xs) apart = (λ y i e. apart.0 (g y) (has_mapped g xs y i) e, apart_map g key xs apart.1)
+
+-- the record of the first entry with this key
+abbrev pub record_for : {A K R : Type 0} → (K → K → Bool) → (A → K) → (A → Option R) → List A → K → Option R
+record_for test key value xs k = option_and_then value (find (λ x. test (key x) k) xs)
+
+module _ {K R : Type 0} (test : K → K → Bool) (exact : (k l : K) → test k l ≡ true → k ≡ l) (itself : (k : K) → test k k ≡ true) where
+  -- at the key of an entry stands its record
+  record_itself : {A : Type 0} (key : A → K) (value : A → Option R) (xs : List A) → ApartBy key xs → (x : A) → Has xs x → record_for test key value xs (key x) ≡ value x
+  record_itself key value xs apart x i =
+      let f = find-any (λ y. test (key y) (key x)) xs (any-has (λ y. test (key y) (key x)) xs x i (itself (key x))) in
+      ap (option_and_then value) (f.1 ∙ ap Some (apart_one key xs apart f.0 x f.3 i (exact (key f.0) (key x) f.2)))
+
+  -- where a record stands, an entry has the key
+  entry_for : {A : Type 0} (key : A → K) (value : A → Option R) (xs : List A) (k : K) (r : R) → record_for test key value xs k ≡ Some r → (x : A) × Has xs x × (key x ≡ k)
+  entry_for key value xs k r e =
+      let s = and_then-Some value (find (λ x. test (key x) k) xs) r e in
+      let f = find-Some (λ x. test (key x) k) xs s.0 s.1 in
+      (s.0, f.0, exact (key s.0) k f.1)
+
+  -- the one list has what the other has, where each entry has a record and the records at its key are equal
+  abbrev Recorded : {A : Type 0} → (A → Option R) → List A → Type 0
+  Recorded {A} value xs = (x : A) → Has xs x → (r : R) × (value x ≡ Some r)
+
+  module _ {A B : Type 0} (key : A → K) (key' : B → K) (value : A → Option R) (value' : B → Option R) (xs : List A) (ys : List B) where
+    abbrev AgreeAt : K → Type 0
+    AgreeAt k = record_for test key value xs k ≡ record_for test key' value' ys k
+
+    pub records_matched : ApartBy key xs → ApartBy key' ys → Recorded value xs → Recorded value' ys → ((x : A) → Has xs x → AgreeAt (key x)) → ((y : B) → Has ys y → AgreeAt (key' y))
+        → Matched (λ x y. (key x ≡ key' y) × (value x ≡ value' y)) xs ys
+    records_matched apart apart' known known' there back =
+        matched_within_both (λ x y. (key x ≡ key' y) × (value x ≡ value' y)) (λ x y i j e. (
+          e,
+          sym (record_itself key value xs apart x i) ∙ there x i ∙ ap (record_for test key' value' ys) e ∙ record_itself key' value' ys apart' y j,
+        ))
+        (matched_by_keys key key' xs ys apart apart'
+        (λ x i. let r = known x i in let y = entry_for key' value' ys (key x) r.0 (sym (there x i) ∙ record_itself key value xs apart x i ∙ r.1) in (y.0, y.1, sym y.2))
+        (λ y j. let r = known' y j in entry_for key value xs (key' y) r.0 (back y j ∙ record_itself key' value' ys apart' y j ∙ r.1)))
+
+-- ---- the record of an object with the key of the election that holds it says both apart
+
+abbrev pub record_at : Preference → Data → Family → Placed → Option ObjectRecord
+record_at π t f o = object_record π t (role.OfFamily f) o.value
+
+-- an object of a family has a record, without a member `ElectionId`
+pub has_record : (π : Preference) (t : Data) → IsAccepted π t → (f : Family) (o : Placed) → Has (objects f t) o → (r : ObjectRecord) × (record_at π t f o ≡ Some r) × (r.members (codes "ElectionId") ≡ None)
+has_record π t accepted f o h =
+    let c = class_within π t accepted (role.OfFamily f) o.value (record { place = o.place; is = stands π t accepted f o h }) in
+    (record { class = c.0; members = member_of_class π t o.value c.0 }, record_with-Some (member_of_class π t o.value) (role.OfFamily f) o.value c.0 c.1, no_election_id π t o.value c.0)
+
+pub records_of-keyed : (π : Preference) (t : Data) (f : Family) (k : Key) → has_keys f ≡ true → records_of π t f k ≡ option_and_then (placed_record π t f) (placed_with_key π t f k)
+records_of-keyed π t family.Selection k h = cc
+records_of-keyed π t d k h = refl
+
+-- what the records say of two objects with the keys of their elections
+abbrev pub SameRecord : Preference → Data → Data → Family → Placed → Placed → Type 0
+SameRecord π t u f o p = (record_at π t f o ≡ record_at π u f p) × (election_key_of π t o ≡ election_key_of π u p)
+
+pub records_apart : (π : Preference) (t u : Data) → IsAccepted π t → IsAccepted π u → (f : Family) (o p : Placed) → Has (objects f t) o → Has (objects f u) p → placed_record π t f o ≡ placed_record π u f p → SameRecord π t u f o p
+records_apart π t u accepted accepted' f o p h k e =
+    let a = has_record π t accepted f o h in
+    let b = has_record π u accepted' f p k in
+    let both : Some (record_in_election (election_key_of π t o) a.0) ≡ Some (record_in_election (election_key_of π u p) b.0) =
+    sym (ap (option_map (record_in_election (election_key_of π t o))) a.1) ∙ e ∙ ap (option_map (record_in_election (election_key_of π u p))) b.1 in
+    let parts = apart_from_election a.0 b.0 (election_key_of π t o) (election_key_of π u p) a.2 b.2 (same_Some _ _ both) in
+    (a.1 ∙ ap Some parts.1 ∙ sym b.1, parts.0)
+
+-- ---- the objects of two accepted reports that mean the same are matched: elections by their keys, the objects of each family in each
 
 -- two elections with one key and one record
 pub record ElectionsAlike (π : Preference) (t u : Data) (e f : Placed) : Type 0 where

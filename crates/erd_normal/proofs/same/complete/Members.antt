@@ -2,6 +2,7 @@
 use Rattle.std.proofs.Common.{◌≡◌, ℕ, List, [], ◌∷◌, Option, Some, None, option_map, option_and_then, is_some, Bool, true, false, not, ◌||◌, ◌&&◌, codes, refl, sym, ap, ◌∙◌, subst, ◌⊎◌, inl, inr, ⊎_elim}
 use Rattle.std.specs.List.{list_all, list_any}
 use Rattle.std.specs.Str.{bytes_eq}
+use Rattle.std.proofs.lemmas.Bool.{and_parts, not-true}
 use Rattle.serde_json.specs.Data.{Data, null, object, Members}
 use Rattle.serde_json.specs.Find.{get_member}
 use Rattle.erd_tables.specs.Classes.{family_of_class, family_of_role, role_of_class}
@@ -19,13 +20,12 @@ use Rattle.erd_check.specs.Trees.{AreMembers}
 use Rattle.erd_check.specs.Wants.{asked, is_report_class, member_want}
 use Rattle.erd_check.specs.declared.want.Scope.TheVariants as scope
 use Rattle.erd_check.specs.declared.want.Want.TheVariants.{ClassText, Object, Status}
-use Rattle.erd_check.proofs.Exact.{both_true, text_exact}
+use Rattle.erd_check.proofs.Exact.{text_exact}
 use Rattle.erd_check.proofs.Members.{get_member-tree}
 use Rattle.erd_check.proofs.ObjectsAt.{ObjectAt}
 use Rattle.erd_check.proofs.Rising.{Has}
 use Rattle.erd_check.proofs.Shapes.{Within, member_within}
 use Rattle.erd_check.proofs.TableKinds.{kind_of_name, want_unless_status}
-use Rattle.erd_check.proofs.Whole.{not_true}
 use Rattle.erd_meaning.specs.Accepted.{IsAccepted}
 use Rattle.erd_meaning.specs.Keys.{Preference}
 use Rattle.erd_meaning.specs.Meaning.{MemberValue, PlainValue, a_json, a_plain}
@@ -35,7 +35,7 @@ use Rattle.erd_meaning.proofs.orders.Sets.{has-any}
 use Rattle.erd_normal.proofs.same.LabelsBack.{equal_aligned}
 use Rattle.erd_normal.proofs.same.Lookups.{Aligned}
 use Rattle.erd_normal.proofs.same.Merged.{merged}
-use Rattle.erd_normal.proofs.same.complete.TwoMeanings.{TextsTied}
+use Rattle.erd_normal.proofs.same.complete.Sets.{TextsTied}
 use Rattle.erd_normal.proofs.same.complete.Values.{all_plain, means_itself, plain_aligned}
 use Rattle.erd_normal.proofs.same.Types.{asked_of_name}
 use Rattle.erd_normal.proofs.built.AskedMembers.{status_kind}
@@ -109,8 +109,8 @@ leaves f c e =
 
 pub left_out : (names : List (List ℕ)) (c : Class) (k : List ℕ) → leaves_out names c ≡ true → bytes_eq k (codes "@type") ≡ false → bytes_eq k (codes "@id") ≡ false → is_apart c k ≡ true → Has names k
 left_out names c k h e f g =
-    let both = both_true (not (is_report_class c)) (are_apart names c) h in
-    ⊎_elim (λ i. let x : false ≡ true = sym (no_envelope c k (not_true (is_report_class c) both.0)) ∙ i in cc) (λ i. apart_named names c k e f both.1 i) (apart_cases c k g)
+    let both = and_parts (not (is_report_class c)) (are_apart names c) h in
+    ⊎_elim (λ i. let x : false ≡ true = sym (no_envelope c k (not-true (is_report_class c) both.0)) ∙ i in cc) (λ i. apart_named names c k e f both.1 i) (apart_cases c k g)
 
 -- ---- what the records of objects with selections say
 

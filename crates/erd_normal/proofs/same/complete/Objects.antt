@@ -37,12 +37,12 @@ use Rattle.erd_normal.proofs.built.NormalGets.{kind_of_family_id}
 use Rattle.erd_normal.proofs.lists.Matched.{Matched, matched_mapped}
 use Rattle.erd_normal.proofs.same.Lookups.{Aligned, both_there, lacks_none, lacks_one, not_both}
 use Rattle.erd_normal.proofs.same.Related.{matched_within_both}
-use Rattle.erd_normal.proofs.same.complete.Arrays.{sets_aligned}
+use Rattle.erd_normal.proofs.same.complete.Contents.{sets_aligned}
 use Rattle.erd_normal.proofs.same.complete.Counterparts.{ElectionsAlike, ObjectsAlike, elections_matched, family_matched, held_matched, selections_matched}
 use Rattle.erd_normal.proofs.same.complete.Members.{apart_cases, apart_named, is_apart, leaves, leaves_out, left_out, meant_unless_apart, object_says, plain_from_value}
 use Rattle.erd_normal.proofs.same.complete.Texts.{Counterpart, by_key, by_name, ids_stand, sides, texts_tied}
-use Rattle.erd_normal.proofs.same.complete.TwoMeanings.{MeanOne}
-use Rattle.erd_normal.proofs.meaning.ObjectRecords.{class_of_record, members_in}
+use Rattle.erd_normal.proofs.same.complete.Sets.{MeanOne}
+use Rattle.erd_normal.proofs.meaning.AlikeRecords.{class_of_record, members_in}
 use Rattle.erd_normal.proofs.same.FamilyValues.{InElections, InReport, candidates, contests_home, headers, offices, parties, persons, styles, units}
 use Rattle.erd_normal.proofs.same.Types.{asked_of_name}
 use Rattle.erd_normal.specs.SaysTheSame.{Sides, IsUnused, Same, an_id, an_unused_id, of_the_envelope}

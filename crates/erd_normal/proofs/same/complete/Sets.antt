@@ -1,18 +1,19 @@
 -- Sets that mean the same say the same: references that name one set of keys, and JSON values.
-use Rattle.std.proofs.Common.{◌≡◌, ℕ, List, [], ◌∷◌, Bool, true, false, ◌&&◌, Option, Some, None, option_and_then, refl, sym, ap, ap₂, ◌∙◌, subst, true≢false, is_eq, ◌⊎◌, inl, inr}
+use Rattle.std.proofs.Common.{◌≡◌, ℕ, List, Some, true, [], ◌∷◌, Bool, false, ◌&&◌, Option, None, option_and_then, refl, sym, ap, ap₂, ◌∙◌, subst, true≢false, is_eq, ◌⊎◌, inl, inr}
 use Rattle.std.proofs.lemmas.Cmp.{tied_itself}
 use Rattle.std.specs.Cmp.{Equal-is}
 use Rattle.std.specs.List.{IsDistinct, cons_option, filter_map, list_any}
 use Rattle.serde_json.specs.Data.{Data, string, array, Items}
 use Rattle.serde_json.specs.Find.{get_item, as_str}
+use Rattle.erd_tables.specs.declared.class.Family.{Family}
 use Rattle.erd_tables.specs.Classes.{role_of_class}
 use Rattle.erd_tables.specs.declared.class.Class.{Class}
-use Rattle.erd_tables.specs.declared.class.Family.{Family}
 use Rattle.erd_tables.specs.declared.class.Role.{Role}
 use Rattle.erd_tables.specs.declared.member.MemberKind.{MemberKind}
-use Rattle.erd_tables.specs.declared.member.MemberKind.TheVariants as kind
 use Rattle.erd_tables.specs.declared.place.Step.TheVariants.{At}
-use Rattle.erd_check.specs.Trees.{AreTrees, IsTree, is_same_json}
+use Rattle.erd_tables.specs.declared.class.Family.TheVariants as family
+use Rattle.erd_tables.specs.declared.member.MemberKind.TheVariants as kind
+use Rattle.erd_check.specs.Trees.{IsTree, AreTrees, is_same_json}
 use Rattle.erd_check.specs.Values.{list_of_items}
 use Rattle.erd_check.specs.Wants.{asked, entry_want, is_compared_set, is_repeated}
 use Rattle.erd_check.specs.declared.want.Want.TheVariants.{Member, Object, Reference}
@@ -22,23 +23,39 @@ use Rattle.erd_check.proofs.Rising.{Has, Has-cases, all-Has, here, later}
 use Rattle.erd_check.proofs.Shapes.{Within, Within-step, unrepeated, wanted_within}
 use Rattle.erd_check.proofs.Whole.{entry_itself, is_simple_class}
 use Rattle.erd_meaning.specs.Accepted.{IsAccepted}
-use Rattle.erd_meaning.specs.Keys.{Preference, has_keys, key_cmp}
-use Rattle.erd_meaning.specs.Records.{key_set}
-use Rattle.erd_meaning.specs.SelectionNames.{key_named, keys_named}
-use Rattle.erd_meaning.specs.code.Orders.{key_cmp_exact, key_cmp_total}
+use Rattle.erd_meaning.specs.Keys.{Preference, has_keys, key_of, key_cmp}
+use Rattle.erd_meaning.specs.LaterFaults.{is_selection_in}
+use Rattle.erd_meaning.specs.Objects.{owner}
+use Rattle.erd_meaning.specs.Records.{meaning, key_set}
+use Rattle.erd_meaning.specs.SelectionNames.{key_named, name_named, keys_named}
 use Rattle.erd_meaning.specs.declared.keys.key.Key.{Key}
+use Rattle.erd_meaning.specs.code.Orders.{key_cmp_exact, key_cmp_total}
 use Rattle.erd_meaning.proofs.accepted.Phases.{no_shape_fault}
 use Rattle.erd_meaning.proofs.accepted.References.{resolves, unrepeated_reference}
 use Rattle.erd_meaning.proofs.orders.DistinctEntries.{unrepeated_distinct}
 use Rattle.erd_meaning.proofs.orders.Sets.{any-has, has-any}
+use Rattle.erd_normal.specs.SaysTheSame.{Sides, StandsFor, Same, an_id}
 use Rattle.erd_normal.proofs.canonical.DistinctSets.{first_reference, first_value, names_accepted}
-use Rattle.erd_normal.proofs.lists.Matched.{Matched}
-use Rattle.erd_normal.proofs.lists.Paired.{Paired, none, more}
-use Rattle.erd_normal.proofs.same.ByKeys.{ApartBy, matched_by_keys}
+use Rattle.erd_normal.proofs.lists.Matched.{Matched, Paired, none, more}
+use Rattle.erd_normal.proofs.same.Lists.{ApartBy, matched_by_keys, AreSound, itself}
 use Rattle.erd_normal.proofs.same.Related.{matched_within_both}
-use Rattle.erd_normal.proofs.same.SetsBack.{AreSound, itself}
-use Rattle.erd_normal.proofs.same.complete.TwoMeanings.{TextsTied}
-use Rattle.erd_normal.specs.SaysTheSame.{Sides, Same, an_id}
+
+-- ---- two accepted reports that mean the same, and texts that stand for one another in them
+
+pub record MeanOne (π : Preference) (t u : Data) : Type 0 where
+  pub left_tree : IsTree t
+  pub right_tree : IsTree u
+  pub left : IsAccepted π t
+  pub right : IsAccepted π u
+  pub same : meaning π t ≡ meaning π u
+
+-- texts that name objects with one key stand for one another, and so do those of selections with one name of contests with one key
+pub record TextsTied (π : Preference) (t u : Data) (m : Sides) : Type 0 where
+  pub objects : (f : Family) (a b : List ℕ) (k : Key) → has_keys f ≡ true → key_named π t f a ≡ Some k → key_named π u f b ≡ Some k → StandsFor m a b
+  pub selections : (c c' : List ℕ) (x y : Data) (k : Key) (a b : List ℕ) → owner t family.Contest c ≡ Some x → owner u family.Contest c' ≡ Some y → key_of π x ≡ Some k → key_of π y ≡ Some k
+      → is_selection_in x a ≡ true → is_selection_in y b ≡ true → name_named π t a ≡ name_named π u b → StandsFor m a b
+
+-- ---- sets that mean the same say the same: references that name one set of keys, and JSON values
 
 -- ---- lists
 

@@ -26,11 +26,10 @@ use Rattle.erd_meaning.proofs.accepted.Standing.{flat-has, has_id-Some, one_keye
 use Rattle.erd_meaning.proofs.orders.Sets.{any-has, has-any}
 use Rattle.erd_normal.proofs.canonical.ContestSelections.{one_contest}
 use Rattle.erd_normal.proofs.lists.Lists.{is_family}
-use Rattle.erd_normal.proofs.lists.Matched.{Matched, matched_flat}
-use Rattle.erd_normal.proofs.lists.Paired.{Paired, none, more}
+use Rattle.erd_normal.proofs.lists.Matched.{Matched, matched_flat, Paired, none, more}
 use Rattle.erd_normal.proofs.same.Related.{matched_within_both}
 use Rattle.erd_normal.proofs.same.complete.Counterparts.{ObjectsAlike, family_matched, selection_name, selections_matched}
-use Rattle.erd_normal.proofs.same.complete.TwoMeanings.{MeanOne, TextsTied}
+use Rattle.erd_normal.proofs.same.complete.Sets.{MeanOne, TextsTied}
 use Rattle.erd_normal.specs.SaysTheSame.{Sides, StandsFor}
 
 -- an object of each report, of one family, with one key; or two selections with one name, of contests with one key

@@ -33,12 +33,10 @@ use Rattle.erd_normal.proofs.lists.Matched.{Matched, matched_none}
 use Rattle.erd_normal.proofs.same.Back.{entries_paired}
 use Rattle.erd_normal.proofs.same.LabelsBack.{Translations, labels_say, plain_self}
 use Rattle.erd_normal.proofs.same.Lookups.{Aligned, both_there, not_both, lacks_none as lacks_nothing}
-use Rattle.erd_normal.proofs.same.SetsBack.{json_sets_reordered}
+use Rattle.erd_normal.proofs.same.Lists.{json_sets_reordered}
 use Rattle.erd_normal.proofs.same.Steady.{AllPlain, is_plain}
-use Rattle.erd_normal.proofs.same.complete.Arrays.{left_empty, list_says, right_empty, set_says}
-use Rattle.erd_normal.proofs.same.complete.Contents.{content_says}
-use Rattle.erd_normal.proofs.same.complete.Sets.{entry_key, named_by, paired_self, reference_says, references_matched, values_apart, values_sound}
-use Rattle.erd_normal.proofs.same.complete.TwoMeanings.{TextsTied}
+use Rattle.erd_normal.proofs.same.complete.Contents.{left_empty, list_says, right_empty, set_says, content_says}
+use Rattle.erd_normal.proofs.same.complete.Sets.{entry_key, named_by, paired_self, reference_says, references_matched, values_apart, values_sound, TextsTied}
 use Rattle.erd_normal.proofs.built.AskedMembers.{label_class}
 use Rattle.erd_normal.specs.SaysTheSame.{Sides, Same, SameEntries, SameMembers, a_text, an_object, is_array_kind, no_entry}
 
@@ -158,11 +156,7 @@ empty_array (array (item d ds)) e =
     let some : (suc (length (list_of_items ds)) == 0) ≡ false = grind arith in
     let h : true ≡ false = sym (ap not some) ∙ e in
     cc
-empty_array null e = let h : true ≡ false = e in cc
-empty_array (boolean b) e = let h : true ≡ false = e in cc
-empty_array (number n) e = let h : true ≡ false = e in cc
-empty_array (string s) e = let h : true ≡ false = e in cc
-empty_array (object ms) e = let h : true ≡ false = e in cc
+empty_array d e = let h : true ≡ false = e in cc
 
 json_same : (v w : Data) → Some (a_json v) ≡ Some (a_json w) → v ≡ w
 json_same v w e = cc

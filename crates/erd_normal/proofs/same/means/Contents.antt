@@ -1,6 +1,6 @@
 -- The order of a ballot means the same in two reports that say the same, headers inside headers included.
 use mathlib.Core.Path.{fun_ext}
-use Rattle.std.proofs.Common.{◌≡◌, ◌⊎◌, inl, inr, ℕ, List, [], map, Bool, true, false, cond, Option, Some, None, option_and_then, unwrap_or, codes, Ordering, Less, Equal, Greater, nat_cmp, is_eq, refl, sym, ap, ap₂, ◌∙◌, subst}
+use Rattle.std.proofs.Common.{◌≡◌, ◌⊎◌, inl, inr, ℕ, List, [], map, Bool, true, false, cond, Option, Some, None, option_and_then, unwrap_or, codes, Ordering, Equal, nat_cmp, is_eq, refl, sym, ap, ap₂, ◌∙◌, subst}
 use Rattle.std.proofs.lemmas.Map.Text.{is_eq-slice_cmp}
 use Rattle.std.specs.Cmp.Lexicographic.{slice_cmp}
 use Rattle.std.specs.List.{list_any}
@@ -17,7 +17,7 @@ use Rattle.erd_tables.specs.declared.class.Family.TheVariants as family
 use Rattle.erd_tables.specs.declared.class.Role.TheVariants as role
 use Rattle.erd_tables.specs.declared.member.MemberKind.{MemberKind}
 use Rattle.erd_tables.specs.declared.member.MemberKind.TheVariants as kind
-use Rattle.erd_check.specs.Faults.{NoneOf, ShapeFault, is_object, names_wanted}
+use Rattle.erd_check.specs.Faults.{is_object, names_wanted}
 use Rattle.erd_check.specs.Trees.{AreMembers}
 use Rattle.erd_check.specs.Values.{entries_at, entries_of, list_of_items, text_at}
 use Rattle.erd_check.specs.Wants.{entry_want, is_table_set, member_want, scope_inside, want_of_name}
@@ -94,12 +94,11 @@ module _ (π : Preference) (t : Data) where
   one_at : (k : List ℕ) (d : Data) (ms : Members) (c : Content) (o : Ordering) → slice_cmp nat_cmp inner_name k ≡ o → AreMembers (member k d ms)
       → InnerStands t (match_ordering o (get_member inner_name ms) (Some d) (get_member inner_name ms)) → (inner_name ≡ k → content_of π t d ≡ no_content)
       → (InnerStands t (get_member inner_name ms) → content_inside π t ms ≡ c) → cond (is_eq o) (content_of π t d) (content_inside π t ms) ≡ c
-  one_at k d ms c Less is tree l empty rest = rest l
   one_at k d ms c Equal is tree l empty rest =
       let named : inner_name ≡ k = text_from_equal inner_name k is in
       let gone : get_member inner_name ms ≡ None = ap (λ x. get_member x ms) named ∙ get_member-before k ms tree.2 tree.0 in
       empty named ∙ sym (none_inside π t ms gone) ∙ rest (λ x found. let e : None ≡ Some x = sym gone ∙ found in cc)
-  one_at k d ms c Greater is tree l empty rest = rest l
+  one_at k d ms c e is tree l empty rest = rest l
 
 module _ (π : Preference) (t u : Data) where
   both_at : (k : List ℕ) (d e : Data) (ms ns : Members) (o : Ordering) → slice_cmp nat_cmp inner_name k ≡ o
@@ -108,14 +107,10 @@ module _ (π : Preference) (t u : Data) where
       → (inner_name ≡ k → Stands t (Member kind.Content false) d → Stands u (Member kind.Content false) e → content_of π t d ≡ content_of π u e)
       → (InnerStands t (get_member inner_name ms) → InnerStands u (get_member inner_name ns) → content_inside π t ms ≡ content_inside π u ns)
       → cond (is_eq o) (content_of π t d) (content_inside π t ms) ≡ cond (is_eq o) (content_of π u e) (content_inside π u ns)
-  both_at k d e ms ns Less is l r same rest = rest l r
   both_at k d e ms ns Equal is l r same rest = same (text_from_equal inner_name k is) (l d refl) (r e refl)
-  both_at k d e ms ns Greater is l r same rest = rest l r
+  both_at k d e ms ns x is l r same rest = rest l r
 
 module _ (m : Sides) (π : Preference) (g : TwoReports m π) where
-  clean : NoneOf (ShapeFault m.left)
-  clean = no_shape_fault π m.left g.accepted
-
   -- ---- a contest or a header
 
   key_found : (f : Family) (c : Class) (name : List ℕ) (o p : Option Data) → member_want c name ≡ Reference f → is_steady_kind (kind_of_member c name) ≡ true → is_in_envelope c name ≡ false → (o ≡ None → ⊥)
@@ -151,7 +146,7 @@ module _ (m : Sides) (π : Preference) (g : TwoReports m π) where
   module _ (ms ns : Members) (r : Related m (Object role.Content) (object ms) (object ns)) where
     stands_in : (c : Class) (name : List ℕ) → class_of_node (object ms) ≡ Some c → list_any (bytes_eq name) (required_names c) ≡ true → get_member name ms ≡ None → ⊥
     stands_in c name among needed e =
-        lacks_none m.left clean (record { want = Object role.Content; value = object ms; repeated = r.left.repeated }) name r.left.inside
+        lacks_none m.left (no_shape_fault π m.left g.accepted) (record { want = Object role.Content; value = object ms; repeated = r.left.repeated }) name r.left.inside
         (ap (λ x. list_any (bytes_eq name) (names_wanted (scope.Members role.Content x))) among ∙ needed) e
 
     contest_alike : HaveMembers m class.OrderedContest (object ms) (object ns) → class_of_node (object ms) ≡ Some class.OrderedContest → class_of_node (object ns) ≡ Some class.OrderedContest
@@ -181,7 +176,7 @@ module _ (m : Sides) (π : Preference) (g : TwoReports m π) where
     node_by_class inside = at (content_class o.class o.role)
       where
         o : BothObjects m role.Content (object ms) (object ns)
-        o = both_objects m g.left_tree g.right_tree clean role.Content (object ms) (object ns) r
+        o = both_objects m g.left_tree g.right_tree (no_shape_fault π m.left g.accepted) role.Content (object ms) (object ns) r
 
         by_left : (c : Class) → class_of_node (object ms) ≡ Some c
             → node_of π m.left (object ms) ≡ cond (is_header_class (Some c)) (header_node π m.left (object ms) (content_inside π m.left ms)) (contest_node π m.left (object ms))
@@ -206,7 +201,7 @@ module _ (m : Sides) (π : Preference) (g : TwoReports m π) where
   -- ---- contents at every depth
 
   no_node : (d : Data) → Stands m.left (Object role.Content) d → is_object d ≡ true
-  no_node d l = wanted_within m.left clean (record { want = Object role.Content; value = d; repeated = l.repeated }) l.inside
+  no_node d l = wanted_within m.left (no_shape_fault π m.left g.accepted) (record { want = Object role.Content; value = d; repeated = l.repeated }) l.inside
 
   mutual
     content_same : (required : Bool) {o : Option Want} {d e : Data} → o ≡ Some (Member kind.Content required) → Same m o d e → Stands m.left (Member kind.Content required) d → Stands m.right (Member kind.Content required) e

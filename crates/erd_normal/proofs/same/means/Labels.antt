@@ -9,7 +9,6 @@ use Rattle.erd_tables.specs.Table.{is_required, kind_of_member}
 use Rattle.erd_tables.specs.declared.class.Class.TheVariants as class
 use Rattle.erd_tables.specs.declared.class.Role.TheVariants as role
 use Rattle.erd_tables.specs.declared.member.MemberKind.TheVariants as kind
-use Rattle.erd_check.specs.Faults.{NoneOf, ShapeFault}
 use Rattle.erd_check.specs.Values.{entries_at}
 use Rattle.erd_check.specs.Wants.{class_of_object, scope_inside}
 use Rattle.erd_check.specs.declared.want.Want.{Want}
@@ -53,13 +52,10 @@ module _ (m : Sides) where
       at k false typed false text = same_beside (object ms) (object ns) h k typed text
 
 module _ (m : Sides) (π : Preference) (g : TwoReports m π) where
-  clean : NoneOf (ShapeFault m.left)
-  clean = no_shape_fault π m.left g.accepted
-
   among : (required : Bool) (ms : Members) → Stands m.left (Member kind.Label required) (object ms) → class_of_object role.Label (object ms) ≡ Some class.InternationalizedText
   among required ms l =
       let w : Want = Member kind.Label required in
-      let c : Classed role.Label (object ms) = classed m.left clean w role.Label (object ms) of_label refl (unrepeated m.left clean w (object ms) l.repeated refl l.inside) in
+      let c : Classed role.Label (object ms) = classed m.left (no_shape_fault π m.left g.accepted) w role.Label (object ms) of_label refl (unrepeated m.left (no_shape_fault π m.left g.accepted) w (object ms) l.repeated refl l.inside) in
       c.among ∙ ap Some (label_class c.class c.role)
 
   members_of : (required : Bool) (ms ns : Members) → SameMembers m (scope_inside (Member kind.Label required) (object ms)) ms ns → Stands m.left (Member kind.Label required) (object ms)
@@ -87,7 +83,7 @@ module _ (m : Sides) (π : Preference) (g : TwoReports m π) where
   text_at required a_number l r = refl
   text_at required (a_text is) l r = refl
   text_at required (an_id is h) l r = cc
-  text_at required (a_list {ds = ds} is h) l r = let x = wanted_within m.left clean (record { want = Member kind.Label required; value = array ds; repeated = l.repeated }) l.inside in cc
+  text_at required (a_list {ds = ds} is h) l r = let x = wanted_within m.left (no_shape_fault π m.left g.accepted) (record { want = Member kind.Label required; value = array ds; repeated = l.repeated }) l.inside in cc
   text_at required (a_set fs is p h) l r = cc
   text_at required (an_object {ms = ms} {ns = ns} h) l r =
       label_text m required ms (object ns) (among required ms l) (stands_tree m.left (Member kind.Label required) (object ms) g.left_tree l)

@@ -31,7 +31,7 @@ use Rattle.erd_normal.specs.SaysTheSame.{Sides, MayBeAbsent, an_empty_array, of_
 use Rattle.erd_normal.proofs.same.FromAlike.{Stands, entry_stands, stands_tree}
 use Rattle.erd_normal.proofs.same.Lookups.{Aligned, both_there, not_both, MayLack, lookups, of_object}
 use Rattle.erd_normal.proofs.same.Related.{Related, entries_matched, matched_within_both}
-use Rattle.erd_normal.proofs.same.Steady.{is_steady_kind, steady_same, is_plain}
+use Rattle.erd_normal.proofs.same.Steady.{is_steady_kind, steady_same, is_plain, steady_no_array}
 use Rattle.erd_normal.proofs.same.Types.{class_same, asked_of_name}
 
 -- two trees that say the same, the left one an accepted report
@@ -85,19 +85,7 @@ lacking_nothing t r c name (Some d) other h = absent_nothing t r c name d other 
 -- a steady member means something, if it stands there
 pub steady_nothing : (c : Class) (name : List ℕ) (o : Option Data) → is_steady_kind (kind_of_member c name) ≡ true → is_in_envelope c name ≡ false → MeansNothing c name o → o ≡ None
 steady_nothing c name o steady inside (is_absent e) = e
-steady_nothing c name o steady inside (is_empty k e) = absurd (apart (kind_of_member c name) steady k)
-  where
-    apart : (k : MemberKind) → is_steady_kind k ≡ true → is_array_kind k ≡ true → ⊥
-    apart kind.Identity h is = cc
-    apart (kind.Many f) h is = cc
-    apart (kind.Keyed f) h is = cc
-    apart kind.Identifiers h is = cc
-    apart kind.Languages h is = cc
-    apart kind.Elections h is = cc
-    apart kind.Content h is = cc
-    apart kind.Ordered h is = cc
-    apart kind.Outside h is = cc
-    apart k h is = cc
+steady_nothing c name o steady inside (is_empty k e) = absurd (steady_no_array (kind_of_member c name) steady k)
 steady_nothing c name o steady inside (is_identity e) = let g : false ≡ true = sym (ap is_steady_kind e) ∙ steady in cc
 steady_nothing c name o steady inside (is_outside e) = let g : true ≡ false = sym e ∙ inside in cc
 

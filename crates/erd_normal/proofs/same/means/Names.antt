@@ -9,7 +9,6 @@ use Rattle.erd_tables.specs.declared.class.Class.TheVariants as class
 use Rattle.erd_tables.specs.declared.class.Family.TheVariants as family
 use Rattle.erd_tables.specs.declared.class.Role.TheVariants as role
 use Rattle.erd_tables.specs.declared.member.MemberKind.TheVariants as kind
-use Rattle.erd_check.specs.Faults.{NoneOf, ShapeFault}
 use Rattle.erd_check.specs.Values.{entries_at}
 use Rattle.erd_check.specs.Wants.{member_want}
 use Rattle.erd_check.specs.declared.want.Want.TheVariants.{Member, Object, Reference}
@@ -29,9 +28,6 @@ use Rattle.erd_normal.proofs.same.means.Members.{BothObjects, HaveMembers, TwoRe
 use Rattle.erd_normal.proofs.same.means.References.{keys_list_alike}
 
 module _ (m : Sides) (π : Preference) (g : TwoReports m π) where
-  clean : NoneOf (ShapeFault m.left)
-  clean = no_shape_fault π m.left g.accepted
-
   -- ---- the six parts
 
   keys_same : (c : Class) (d e : Data) → HaveMembers m c d e → rising_list key_cmp (keys_of_selection π m.left c d) ≡ rising_list key_cmp (keys_of_selection π m.right c e)
@@ -82,12 +78,12 @@ module _ (m : Sides) (π : Preference) (g : TwoReports m π) where
 
   pub name_alike : (d e : Data) → Related m (Object (role.OfFamily family.Selection)) d e → name_of π m.left d ≡ name_of π m.right e
   name_alike d e r =
-      let o : BothObjects m selection_role d e = both_objects m g.left_tree g.right_tree clean selection_role d e r in
+      let o : BothObjects m selection_role d e = both_objects m g.left_tree g.right_tree (no_shape_fault π m.left g.accepted) selection_role d e r in
       let keys = keys_same o.class d e o.members in
       let write_in = write_in_same o.class d e o.members in
       let order = order_same o.class d e o.members in
       let label = label_same o.class d e o.members in
-      let identifier = related_key m g.left_tree g.right_tree clean π family.Selection d e r in
+      let identifier = related_key m g.left_tree g.right_tree (no_shape_fault π m.left g.accepted) π family.Selection d e r in
       let same : name_in_class π m.left o.class d ≡ name_in_class π m.right o.class e =
       λ i. record { class = o.class; keys = keys i; write_in = write_in i; order = order i; label = label i; identifier = identifier i } in
       ap (option_map (λ c. name_in_class π m.left c d)) o.left ∙ ap Some same ∙ sym (ap (option_map (λ c. name_in_class π m.right c e)) o.right)

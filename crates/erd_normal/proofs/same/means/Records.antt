@@ -9,7 +9,6 @@ use Rattle.erd_tables.specs.declared.class.Family.TheVariants as family
 use Rattle.erd_tables.specs.declared.class.Role.TheVariants as role
 use Rattle.erd_tables.specs.declared.member.MemberKind.{MemberKind}
 use Rattle.erd_tables.specs.declared.member.MemberKind.TheVariants as kind
-use Rattle.erd_check.specs.Faults.{NoneOf, ShapeFault}
 use Rattle.erd_check.specs.Values.{entries_of}
 use Rattle.erd_check.specs.Wants.{is_report_class, member_want, want_of_kind}
 use Rattle.erd_check.specs.declared.want.Want.{Want}
@@ -59,9 +58,6 @@ plain_same : (m : Sides) (w : Want) (d e : Data) → is_plain w ≡ true → Sam
 plain_same m w d e plain h = steady_same m (λ v asks. let g : w ≡ v = cc in ap is_plain (sym g) ∙ plain) h
 
 module _ (m : Sides) (π : Preference) (g : TwoReports m π) where
-  clean : NoneOf (ShapeFault m.left)
-  clean = no_shape_fault π m.left g.accepted
-
   -- ---- values
 
   value_same : (k : MemberKind) (required : Bool) (d e : Data) → Related m (want_of_kind k required) d e → plain_value π m.left k d ≡ plain_value π m.right k e
@@ -122,5 +118,5 @@ module _ (m : Sides) (π : Preference) (g : TwoReports m π) where
 
   pub selection_alike : (d e : Data) → Related m (Object (role.OfFamily family.Selection)) d e → selection_record π m.left d ≡ selection_record π m.right e
   selection_alike d e r =
-      let o : BothObjects m selection_role d e = both_objects m g.left_tree g.right_tree clean selection_role d e r in
+      let o : BothObjects m selection_role d e = both_objects m g.left_tree g.right_tree (no_shape_fault π m.left g.accepted) selection_role d e r in
       record_alike (plain_member π m.left d) (plain_member π m.right e) selection_role d e o.class o.left o.right (λ name. plain_alike o.class name d e o.members)

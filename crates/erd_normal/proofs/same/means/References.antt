@@ -3,7 +3,6 @@ use Rattle.std.proofs.Common.{◌≡◌, ℕ, List, [], ◌∷◌, map, Option, 
 use Rattle.serde_json.specs.Data.{Data, null, boolean, number, string, array, object, Items}
 use Rattle.serde_json.specs.Find.{as_str}
 use Rattle.erd_tables.specs.declared.class.Family.{Family}
-use Rattle.erd_check.specs.Faults.{NoneOf, ShapeFault}
 use Rattle.erd_check.specs.Values.{list_of_items}
 use Rattle.erd_check.specs.declared.want.Want.{Want}
 use Rattle.erd_check.specs.declared.want.Want.TheVariants.{Reference}
@@ -14,7 +13,7 @@ use Rattle.erd_meaning.specs.Records.{key_set}
 use Rattle.erd_meaning.specs.SelectionNames.{key_named, keys_named, rising_list}
 use Rattle.erd_meaning.proofs.accepted.Phases.{no_shape_fault}
 use Rattle.erd_normal.proofs.lists.Matched.{Matched, paired_kept}
-use Rattle.erd_normal.proofs.lists.RisingAgain.{rising_keys_named-reordered}
+use Rattle.erd_normal.proofs.lists.NumbersInOrder.{rising_keys_named-reordered}
 use Rattle.erd_normal.proofs.meaning.RisingMeanings.{keys_named-reordered}
 use Rattle.erd_normal.specs.SaysTheSame.{Sides, StandsFor, Same, a_null, a_flag, a_number, a_text, an_id, a_list, a_set, an_object, SameEntries, no_entry, one_entry}
 use Rattle.erd_normal.specs.SameLaws.{IsUsed}
@@ -59,9 +58,6 @@ module _ (m : Sides) (f : Family) {A : Type 0} (left right : List ℕ → Option
       (said_in_turn asks rest (λ x i. l x (later i)) (λ x i. r x (later i)))
 
 module _ (m : Sides) (π : Preference) (g : TwoReports m π) where
-  clean : NoneOf (ShapeFault m.left)
-  clean = no_shape_fault π m.left g.accepted
-
   named_alike : (f : Family) (s s' : List ℕ) → StandsFor m s s' → IsUsed m.left s → IsUsed m.right s' → key_named π m.left f s ≡ key_named π m.right f s'
   named_alike f s s' pair l r = keys_named_same m g.left_tree g.right_tree π g.accepted g.root f s s' pair l r
 
@@ -82,14 +78,14 @@ module _ (m : Sides) (π : Preference) (g : TwoReports m π) where
   -- a reference is a text
   key_of_text : (f : Family) {d e : Data} → Same m (Some (Reference f)) d e → Stands m.left (Reference f) d → Stands m.right (Reference f) e
       → key_named π m.left f (unwrap_or (as_str d) []) ≡ key_named π m.right f (unwrap_or (as_str e) [])
-  key_of_text f a_null l r = let x = wanted_within m.left clean (record { want = Reference f; value = null; repeated = l.repeated }) l.inside in cc
-  key_of_text f (a_flag {b = b}) l r = let x = wanted_within m.left clean (record { want = Reference f; value = boolean b; repeated = l.repeated }) l.inside in cc
-  key_of_text f (a_number {n = n}) l r = let x = wanted_within m.left clean (record { want = Reference f; value = number n; repeated = l.repeated }) l.inside in cc
+  key_of_text f a_null l r = let x = wanted_within m.left (no_shape_fault π m.left g.accepted) (record { want = Reference f; value = null; repeated = l.repeated }) l.inside in cc
+  key_of_text f (a_flag {b = b}) l r = let x = wanted_within m.left (no_shape_fault π m.left g.accepted) (record { want = Reference f; value = boolean b; repeated = l.repeated }) l.inside in cc
+  key_of_text f (a_number {n = n}) l r = let x = wanted_within m.left (no_shape_fault π m.left g.accepted) (record { want = Reference f; value = number n; repeated = l.repeated }) l.inside in cc
   key_of_text f (a_text is) l r = cc
   key_of_text f (an_id {s = s} {s' = s'} is pair) l r = named_alike f s s' pair (used m.left f s l) (used m.right f s' r)
-  key_of_text f (a_list {ds = ds} is h) l r = let x = wanted_within m.left clean (record { want = Reference f; value = array ds; repeated = l.repeated }) l.inside in cc
+  key_of_text f (a_list {ds = ds} is h) l r = let x = wanted_within m.left (no_shape_fault π m.left g.accepted) (record { want = Reference f; value = array ds; repeated = l.repeated }) l.inside in cc
   key_of_text f (a_set fs is p h) l r = cc
-  key_of_text f (an_object {ms = ms} h) l r = let x = wanted_within m.left clean (record { want = Reference f; value = object ms; repeated = l.repeated }) l.inside in cc
+  key_of_text f (an_object {ms = ms} h) l r = let x = wanted_within m.left (no_shape_fault π m.left g.accepted) (record { want = Reference f; value = object ms; repeated = l.repeated }) l.inside in cc
 
   pub key_alike_text : (f : Family) (d e : Data) → Related m (Reference f) d e → key_named π m.left f (unwrap_or (as_str d) []) ≡ key_named π m.right f (unwrap_or (as_str e) [])
   key_alike_text f d e r = key_of_text f r.same r.left r.right

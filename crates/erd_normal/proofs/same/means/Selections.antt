@@ -11,7 +11,7 @@ use Rattle.erd_tables.specs.declared.class.Family.TheVariants as family
 use Rattle.erd_tables.specs.declared.class.Role.TheVariants as role
 use Rattle.erd_tables.specs.declared.fault.Reason.TheVariants as reason
 use Rattle.erd_tables.specs.declared.place.Step.{Step}
-use Rattle.erd_check.specs.Faults.{NoneOf, ShapeFault}
+use Rattle.erd_check.specs.Faults.{NoneOf}
 use Rattle.erd_check.specs.Values.{entries_at}
 use Rattle.erd_check.specs.declared.want.Want.TheVariants.{Object}
 use Rattle.erd_check.proofs.Rising.{Has}
@@ -26,7 +26,7 @@ use Rattle.erd_meaning.proofs.accepted.References.{Has-Contains}
 use Rattle.erd_meaning.proofs.accepted.Skeleton.{values-placed_entries}
 use Rattle.erd_meaning.proofs.orders.DistinctEntries.{distinct_one}
 use Rattle.erd_normal.specs.code.NormalTree.{by_name}
-use Rattle.erd_normal.proofs.canonical.DistinctSelections.{selection_values_distinct}
+use Rattle.erd_normal.proofs.canonical.RisingReports.{selection_values_distinct}
 use Rattle.erd_normal.proofs.lists.Matched.{Matched, distinct_matched, even_order, matched_back, matched_within}
 use Rattle.erd_normal.proofs.same.FamilyValues.{not_before_itself, family_values, placed_value, value_placed}
 use Rattle.erd_normal.specs.SaysTheSame.{Sides}
@@ -35,22 +35,19 @@ use Rattle.erd_normal.proofs.same.means.Members.{TwoReports}
 use Rattle.erd_normal.proofs.same.means.Names.{name_alike}
 
 module _ (m : Sides) (π : Preference) (g : TwoReports m π) where
-  clean : NoneOf (ShapeFault m.left)
-  clean = no_shape_fault π m.left g.accepted
-
   -- an object of the family, and one that is related to it
   pub record Kin (f : Family) (d e : Data) : Type 0 where
     pub stands : Has (family_values f m.left) d
     pub related : Related m (Object (role.OfFamily f)) d e
 
   kin_matched : (f : Family) → Matched (Kin f) (family_values f m.left) (family_values f m.right)
-  kin_matched f = matched_within (Kin f) (λ x y h r. record { stands = h; related = r }) (family_matched m g.left_tree g.right_tree clean g.root f)
+  kin_matched f = matched_within (Kin f) (λ x y h r. record { stands = h; related = r }) (family_matched m g.left_tree g.right_tree (no_shape_fault π m.left g.accepted) g.root f)
 
   abbrev pub chosen : Data → List Data
   chosen d = entries_at (codes "ContestSelection") d
 
   pub chosen_matched : (d e : Data) → Kin family.Contest d e → Matched (Related m (Object (role.OfFamily family.Selection))) (chosen d) (chosen e)
-  chosen_matched d e k = selections_matched m g.left_tree g.right_tree clean g.root d e k.related
+  chosen_matched d e k = selections_matched m g.left_tree g.right_tree (no_shape_fault π m.left g.accepted) g.root d e k.related
 
   -- the names of the selections of a contest are all different
   pub left_distinct : (d e : Data) → Kin family.Contest d e → IsDistinct (eq_by_cmp (by_name π m.left)) (chosen d)

@@ -8,14 +8,12 @@ use Rattle.std.specs.List.{IsDistinct}
 use Rattle.std.specs.Option.{option_map_or}
 use Rattle.std.specs.Ordering.{eq_by_cmp}
 use Rattle.std.specs.Str.{bytes_eq}
+use Rattle.std.proofs.lemmas.Option.{same_Some}
 use Rattle.serde_json.specs.Data.{Data}
 use Rattle.erd_tables.specs.declared.class.Family.{Family}
 use Rattle.erd_tables.specs.declared.class.Family.TheVariants as family
-use Rattle.erd_tables.specs.declared.class.Role.TheVariants as role
-use Rattle.erd_check.specs.Wants.{Asked, asked}
-use Rattle.erd_check.specs.declared.want.Want.TheVariants.{Object}
 use Rattle.erd_check.proofs.Exact.{text_exact, text_itself}
-use Rattle.erd_check.proofs.Positions.{has_mapped, map_has, same_in_some}
+use Rattle.erd_check.proofs.Positions.{has_mapped, map_has}
 use Rattle.erd_check.proofs.Rising.{Has, all-Has, here, later}
 use Rattle.erd_meaning.specs.Accepted.{IsAccepted}
 use Rattle.erd_meaning.specs.Keys.{Preference, has_keys, key_of}
@@ -25,7 +23,7 @@ use Rattle.erd_meaning.specs.SelectionNames.{name_of}
 use Rattle.erd_meaning.specs.code.Orders.{key_cmp_total, name_cmp_total}
 use Rattle.erd_meaning.proofs.accepted.HeldObjects.{has-append, has-flat}
 use Rattle.erd_meaning.proofs.accepted.References.{find-any}
-use Rattle.erd_meaning.proofs.accepted.Standing.{append-has, flat-has, has-append_left, has_id-Some, has_id-from, one_object, stands}
+use Rattle.erd_meaning.proofs.accepted.Standing.{append-has, flat-has, has-append_left, has_id-Some, has_id-from, one_object}
 use Rattle.erd_meaning.proofs.orders.DistinctEntries.{distinct_one}
 use Rattle.erd_meaning.proofs.orders.Sets.{any-has}
 use Rattle.erd_normal.specs.Canonical.{canonical_id, id_prefix}
@@ -35,13 +33,12 @@ use Rattle.erd_normal.proofs.canonical.CanonicalIds.{canonical_id_exact, selecti
 use Rattle.erd_normal.proofs.canonical.ContestSelections.{one_contest}
 use Rattle.erd_meaning.proofs.accepted.DistinctKeys.{values_distinct}
 use Rattle.erd_meaning.proofs.accepted.Phases.{no_identity_fault}
-use Rattle.erd_normal.proofs.canonical.DistinctSelections.{selection_values_distinct}
-use Rattle.erd_normal.proofs.canonical.RisingReports.{by_key_total, by_name_total}
+use Rattle.erd_normal.proofs.canonical.RisingReports.{selection_values_distinct, by_key_total, by_name_total}
 use Rattle.erd_normal.proofs.canonical.SelectionIds.{listed, selection_values}
 use Rattle.erd_normal.proofs.canonical.SelectionTexts.{canonical_selection_id_exact}
 use Rattle.erd_normal.proofs.lists.KeyedRanks.{rank_exact, rank_low}
 use Rattle.erd_normal.proofs.throughout.ThroughoutMembers.{is_prefixed}
-use Rattle.erd_normal.proofs.same.complete.Texts.{no_keys}
+use Rattle.erd_normal.proofs.same.complete.Texts.{no_keys, one_family}
 use Rattle.erd_normal.specs.SaysTheSame.{Sides, StandsFor}
 
 -- ---- the canonical `@id` of an object
@@ -57,22 +54,14 @@ module _ (π : Preference) (t : Data) (accepted : IsAccepted π t) where
   stands_new f o id (of_family keyed h is) = h
   stands_new f o id (of_contest contest is h k its) = subst (λ g. Has (objects g t) o) (sym is) (flat-has selections_of_contest (contests t) contest o h k)
 
-  -- an object is of one family
-  pub one_family : (f g : Family) (o : Placed) → Has (objects f t) o → Has (objects g t) o → f ≡ g
-  one_family f g o h k =
-      let both : Some (asked (Object (role.OfFamily f)) o.value) ≡ Some (asked (Object (role.OfFamily g)) o.value) = sym (stands π t accepted f o h) ∙ stands π t accepted g o k in
-      let one : asked (Object (role.OfFamily f)) o.value ≡ asked (Object (role.OfFamily g)) o.value = same_in_some _ _ both in
-      let wants : Object (role.OfFamily f) ≡ Object (role.OfFamily g) = ap (λ (a : Asked). a.want) one in
-      cc
-
   -- an object has one canonical `@id`
   pub new_once : (f g : Family) (o : Placed) (id id' : List ℕ) → NewId π t f o id → NewId π t g o id' → id ≡ id'
   new_once f g o id id' (of_family keyed h is) (of_family keyed' h' is') =
-      same_in_some id id' (sym is ∙ ap (λ x. id_of_key π t x (key_of π o.value)) (one_family f g o h h') ∙ is')
+      same_Some id id' (sym is ∙ ap (λ x. id_of_key π t x (key_of π o.value)) (one_family π t accepted f g o h h') ∙ is')
   new_once f g o id id' (of_family keyed h is) (of_contest c sel in_c of_c its) =
-      absurd (no_keys f keyed (one_family f g o h (stands_new g o id' (of_contest c sel in_c of_c its)) ∙ sel))
+      absurd (no_keys f keyed (one_family π t accepted f g o h (stands_new g o id' (of_contest c sel in_c of_c its)) ∙ sel))
   new_once f g o id id' (of_contest c sel in_c of_c its) (of_family keyed h is) =
-      absurd (no_keys g keyed (one_family g f o h (stands_new f o id (of_contest c sel in_c of_c its)) ∙ sel))
+      absurd (no_keys g keyed (one_family π t accepted g f o h (stands_new f o id (of_contest c sel in_c of_c its)) ∙ sel))
   new_once f g o id id' (of_contest c sel in_c of_c its) (of_contest d sel' in_d of_d its') =
       its ∙ ap (λ x. id_of_selection π t x.value o.value) (one_contest π t accepted c d o in_c in_d of_c of_d) ∙ sym its'
 

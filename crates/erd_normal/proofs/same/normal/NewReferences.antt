@@ -3,6 +3,7 @@
 use Rattle.std.proofs.Common.{◌≡◌, ℕ, List, [], ◌∷◌, Bool, true, false, ◌&&◌, if◌then◌else◌, Option, Some, None, option_and_then, option_map, unwrap_or, codes, refl, sym, ap, ◌∙◌, subst}
 use Rattle.std.specs.List.{AllByRecursion, list_all}
 use Rattle.std.specs.Str.{bytes_eq}
+use Rattle.std.proofs.lemmas.Option.{same_Some}
 use Rattle.serde_json.specs.Data.{Data, string, array, object}
 use Rattle.serde_json.specs.Find.{get_item, get_member}
 use Rattle.erd_tables.specs.Rows.{rows_of_class}
@@ -27,7 +28,6 @@ use Rattle.erd_check.specs.declared.want.Want.TheVariants.{Carried, ClassText, M
 use Rattle.erd_check.proofs.Entries.{array_from}
 use Rattle.erd_check.proofs.Shapes.{Within, wanted_within}
 use Rattle.erd_check.proofs.TableKinds.{kind_of_class, want_unless_status}
-use Rattle.erd_check.proofs.Positions.{same_in_some}
 use Rattle.erd_check.proofs.Rising.{Has}
 use Rattle.erd_meaning.specs.Accepted.{IsAccepted}
 use Rattle.erd_meaning.specs.Keys.{Preference, key_of}
@@ -36,9 +36,9 @@ use Rattle.erd_meaning.specs.SelectionNames.{key_named, rising_list}
 use Rattle.erd_meaning.proofs.accepted.Phases.{no_shape_fault}
 use Rattle.erd_meaning.proofs.accepted.References.{owned, unrepeated_reference}
 use Rattle.erd_meaning.proofs.accepted.Standing.{one_object, owned_by}
-use Rattle.erd_meaning.proofs.orders.RisingAlike.{all_rising}
+use Rattle.erd_meaning.proofs.orders.RisingOrders.{all_rising}
 use Rattle.erd_normal.specs.code.NormalTree.{id_of_key, normal_id, normal_reference, normal_selection_reference, normal_tree, reference_cmp}
-use Rattle.erd_normal.proofs.same.Refers.{Refers, reference_refers, references_refer}
+use Rattle.erd_normal.proofs.same.IdsOfObjects.{Refers, reference_refers, references_refer}
 use Rattle.erd_normal.proofs.canonical.SelectionIds.{text_built}
 use Rattle.erd_normal.proofs.lists.BuiltLists.{all_map, entry_holds}
 use Rattle.erd_normal.proofs.lists.FoundInParts.{FoundSelection, owner_found}
@@ -47,7 +47,8 @@ use Rattle.erd_normal.proofs.throughout.ThroughoutObjects.{HoldsOfObjects}
 use Rattle.erd_normal.proofs.throughout.ThroughoutReports.{HoldsOfBuilt, holds_of_built}
 use Rattle.erd_normal.proofs.throughout.ThroughoutValues.{is_apart}
 use Rattle.erd_normal.specs.SaysTheSame.{IsUnused, StandsFor}
-use Rattle.erd_normal.proofs.same.normal.NewIds.{NewId, has_canonical, new_exact, of_contest, of_family, one_family, prefixed_keys, sides, some_again, stands_for}
+use Rattle.erd_normal.proofs.same.normal.NewIds.{NewId, has_canonical, new_exact, of_contest, of_family, prefixed_keys, sides, some_again, stands_for}
+use Rattle.erd_normal.proofs.same.complete.Texts.{one_family}
 
 -- ---- references of the report
 
@@ -199,18 +200,11 @@ free_in_scope (scope.Members r o) name v e = at (bytes_eq name (codes "@type")) 
     at : (b : Bool) → bytes_eq name (codes "@type") ≡ b → (o : Option Class) → (if b then Some (ClassText r) else option_map (λ c. member_want c name) o) ≡ Some v → is_free v ≡ true
     at true is o e = let same : ClassText r ≡ v = cc in ap is_free (sym same)
     at false is None e = cc
-    at false is (Some c) e = let same : member_want c name ≡ v = same_in_some _ _ e in ap is_free (sym same) ∙ free_member c name is
+    at false is (Some c) e = let same : member_want c name ≡ v = same_Some _ _ e in ap is_free (sym same) ∙ free_member c name is
 
 free_entry : (w v : Want) → is_free w ≡ true → entry_want w ≡ Some v → is_free v ≡ true
 free_entry (Member (kind.Many family.Style) required) v h e = cc
-free_entry (Member (kind.Many family.Unit) required) v h e = let same : Reference family.Unit ≡ v = cc in ap is_free (sym same)
-free_entry (Member (kind.Many family.Party) required) v h e = let same : Reference family.Party ≡ v = cc in ap is_free (sym same)
-free_entry (Member (kind.Many family.Person) required) v h e = let same : Reference family.Person ≡ v = cc in ap is_free (sym same)
-free_entry (Member (kind.Many family.Office) required) v h e = let same : Reference family.Office ≡ v = cc in ap is_free (sym same)
-free_entry (Member (kind.Many family.Header) required) v h e = let same : Reference family.Header ≡ v = cc in ap is_free (sym same)
-free_entry (Member (kind.Many family.Candidate) required) v h e = let same : Reference family.Candidate ≡ v = cc in ap is_free (sym same)
-free_entry (Member (kind.Many family.Contest) required) v h e = let same : Reference family.Contest ≡ v = cc in ap is_free (sym same)
-free_entry (Member (kind.Many family.Selection) required) v h e = let same : Reference family.Selection ≡ v = cc in ap is_free (sym same)
+free_entry (Member (kind.Many f) required) v h e = let same : Reference f ≡ v = cc in ap is_free (sym same)
 free_entry (Member (kind.Keyed f) required) v h e = let same : Object (role.OfFamily f) ≡ v = cc in ap is_free (sym same)
 free_entry (Member kind.Identifiers required) v h e = let same : Object role.Identifier ≡ v = cc in ap is_free (sym same)
 free_entry (Member kind.Languages required) v h e = let same : Object role.Language ≡ v = cc in ap is_free (sym same)

@@ -1,5 +1,5 @@
 -- What is built of the order of a ballot, a selection and an object of a family says what they say.
-use Rattle.std.proofs.Common.{◌≡◌, ℕ, zero, suc, List, map, Bool, true, false, Ordering, Less, Equal, Greater, Option, Some, None, option_and_then, option_map, codes, refl, sym, ap, ◌∙◌, subst}
+use Rattle.std.proofs.Common.{◌≡◌, ℕ, zero, suc, List, map, Bool, true, false, Option, Some, None, option_and_then, option_map, codes, refl, sym, ap, ◌∙◌, subst}
 use Rattle.std.specs.List.{list_all}
 use Rattle.std.specs.Str.{bytes_eq}
 use Rattle.serde_json.specs.Data.{Data, string, array, object, Items, no_items, item, Members, no_members, member}
@@ -7,7 +7,6 @@ use Rattle.serde_json.specs.Find.{as_str, get, get_item, get_member}
 use Rattle.erd_tables.specs.Classes.{role_of_class, text_of_class}
 use Rattle.erd_tables.specs.Rows.{rows_of_class}
 use Rattle.erd_tables.specs.Table.{is_required, kind_of_member}
-use Rattle.erd_tables.specs.Texts.{text_cmp}
 use Rattle.erd_tables.specs.declared.class.Class.{Class}
 use Rattle.erd_tables.specs.declared.class.Class.TheVariants as class
 use Rattle.erd_tables.specs.declared.class.Family.{Family}
@@ -30,6 +29,7 @@ use Rattle.erd_check.proofs.Positions.{map_has}
 use Rattle.erd_check.proofs.Rising.{Has}
 use Rattle.erd_check.proofs.Shapes.{Within, member_within, of_role, wanted_within, within-tree}
 use Rattle.erd_check.proofs.TableKinds.{kind_of_class, kind_of_name, want_by_kind}
+use Rattle.erd_check.proofs.Members.{found_cases}
 use Rattle.erd_meaning.specs.Accepted.{IsAccepted}
 use Rattle.erd_meaning.specs.Keys.{Preference, has_keys, key_of}
 use Rattle.erd_meaning.specs.Objects.{IsBounded, Placed, contests, id_of, objects, selections_of_contest}
@@ -46,7 +46,7 @@ use Rattle.erd_normal.proofs.built.FamilyNames.{contest_of_selections, family_na
 use Rattle.erd_normal.proofs.built.NormalGets.{class_of_object-object, get_object-id, get_selection-id, kind_of_family_id}
 use Rattle.erd_normal.proofs.built.NormalTrees.{normal_node-tree, normal_object-tree, normal_selection-tree}
 use Rattle.erd_normal.proofs.canonical.SelectionIds.{listed}
-use Rattle.erd_normal.proofs.lists.ListParts.{IsPart, part_has}
+use Rattle.erd_normal.proofs.lists.Lists.{IsPart, part_has}
 use Rattle.erd_normal.specs.SaysTheSame.{Sides, Same, a_list, a_text, an_id, an_object, an_unused_id, SameEntries, no_entry, one_entry, SameMembers}
 use Rattle.erd_normal.proofs.same.Built.{set_built}
 use Rattle.erd_normal.proofs.same.Lookups.{Aligned, both_there, not_both, lacks_none, lacks_one}
@@ -262,14 +262,6 @@ module _ (π : Preference) (t : Data) (accepted : IsAccepted π t) (tree : IsTre
       whole : IsTree (object ms)
       whole = within-tree t (asked (Object role.Content) (object ms)) tree w
 
-  content_at : (name k : List ℕ) (e d : Data) (ms : Members) → get_member name (member k e ms) ≡ Some d → IsContentSaid e → (get_member name ms ≡ Some d → IsContentSaid d) → IsContentSaid d
-  content_at name k e d ms found here later = at (text_cmp name k) refl
-    where
-      at : (o : Ordering) → text_cmp name k ≡ o → IsContentSaid d
-      at Less is = later (rw is at found)
-      at Equal is = let x : Some e ≡ Some d = rw is at found in let same : e ≡ d = cc in subst IsContentSaid same here
-      at Greater is = later (rw is at found)
-
   mutual
     content_said : (d : Data) → IsContentSaid d
     content_said (array ds) required w = a_list refl (nodes_said ds (entry_asked t (Member kind.Content required) (Object role.Content) ds refl refl w))
@@ -285,7 +277,7 @@ module _ (π : Preference) (t : Data) (accepted : IsAccepted π t) (tree : IsTre
 
     contents_said : (ms : Members) (name : List ℕ) (d : Data) → get_member name ms ≡ Some d → IsContentSaid d
     contents_said no_members name d found = cc
-    contents_said (member k e ms) name d found = content_at name k e d ms found (content_said e) (contents_said ms name d)
+    contents_said (member k e ms) name d found = found_cases name k d e ms found (λ named same. subst IsContentSaid same (content_said e)) (contents_said ms name d)
 
   -- ---- objects of families
 

@@ -27,7 +27,7 @@ use Rattle.erd_normal.specs.code.NormalTree.{array_of, by_key, normal_election, 
 use Rattle.erd_normal.proofs.built.BuiltObjects.{built_election, built_report, election_builder, no_name}
 use Rattle.erd_normal.proofs.built.FamilyNames.{election_part, elections_name, family_name, keyed_name, report_part}
 use Rattle.erd_normal.proofs.built.NormalTrees.{normal_election-tree, normal_tree-tree}
-use Rattle.erd_normal.proofs.lists.ListParts.{IsPart}
+use Rattle.erd_normal.proofs.lists.Lists.{IsPart}
 use Rattle.erd_normal.specs.SaysTheSame.{Sides, Same, SaysTheSame, of_the_envelope}
 use Rattle.erd_normal.proofs.same.Built.{set_built}
 use Rattle.erd_normal.proofs.same.Lookups.{MayLack, not_both}

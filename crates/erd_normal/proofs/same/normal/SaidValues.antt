@@ -3,6 +3,7 @@ use Rattle.std.proofs.Common.{◌≡◌, ℕ, List, [], ◌∷◌, map, Bool, tr
 use Rattle.std.proofs.lemmas.List.{map-id}
 use Rattle.std.specs.Option.{option_map_or}
 use Rattle.std.specs.Str.{bytes_eq}
+use Rattle.std.proofs.lemmas.Bool.{not-false}
 use Rattle.serde_json.specs.Data.{Data, string, array, object, Items, no_items, item, Members, put}
 use Rattle.serde_json.specs.Find.{get, get_member}
 use Rattle.erd_tables.specs.Table.{is_required, kind_of_member}
@@ -25,7 +26,7 @@ use Rattle.erd_check.specs.declared.want.Want.TheVariants.{Carried, Member, Obje
 use Rattle.erd_check.proofs.Entries.{array_from}
 use Rattle.erd_check.proofs.Exact.{text_exact}
 use Rattle.erd_check.proofs.Rising.{all-Has}
-use Rattle.erd_check.proofs.Shapes.{Within, faultless, not_false, wanted_within, within-tree}
+use Rattle.erd_check.proofs.Shapes.{Within, faultless, wanted_within, within-tree}
 use Rattle.erd_check.proofs.TableKinds.{want_unless_status}
 use Rattle.erd_meaning.specs.Accepted.{IsAccepted}
 use Rattle.erd_meaning.specs.Keys.{Preference}
@@ -38,9 +39,9 @@ use Rattle.erd_normal.proofs.built.BuiltFrom.{Builder}
 use Rattle.erd_normal.proofs.built.NormalEntries.{no_entry}
 use Rattle.erd_normal.proofs.built.NormalGets.{get_label-other, get_label-text}
 use Rattle.erd_normal.proofs.built.NormalTrees.{with_rising_text-tree}
-use Rattle.erd_normal.proofs.same.Refers.{Refers, reference_refers, references_refer}
+use Rattle.erd_normal.proofs.same.IdsOfObjects.{Refers, reference_refers, references_refer}
 use Rattle.erd_normal.proofs.same.Steady.{is_plain, plain_of_kind}
-use Rattle.erd_normal.proofs.throughout.ThroughoutMembers.{BuiltLabel, built_label, is_prefixed}
+use Rattle.erd_normal.proofs.throughout.ThroughoutMembers.{BuiltLabel, built_label, is_prefixed, is_plain_kind}
 use Rattle.erd_normal.specs.SaysTheSame.{Sides, Same, a_text, an_id, an_object, an_empty_array, is_array_kind, SameMembers}
 use Rattle.erd_normal.proofs.same.Built.{list_built, set_built}
 use Rattle.erd_normal.proofs.same.Labels.{asked_beside, in_label, plain_beside}
@@ -130,14 +131,8 @@ rising_members ms = put (codes "Text") (array_of (rising_list compact_cmp (entri
 
 -- a member that is no `@id`, holds no objects, and refers to none by itself that has no prefix
 abbrev pub is_simple_kind : MemberKind → Bool
-is_simple_kind kind.ClassText = false
 is_simple_kind kind.Identity = false
-is_simple_kind (kind.One f) = is_prefixed f
-is_simple_kind (kind.Many f) = is_prefixed f
-is_simple_kind (kind.Keyed f) = false
-is_simple_kind kind.Elections = false
-is_simple_kind kind.Content = false
-is_simple_kind k = true
+is_simple_kind k = is_plain_kind k
 
 module _ (π : Preference) (t : Data) (accepted : IsAccepted π t) (tree : IsTree t) (bounded : IsBounded t) where
   abbrev m : Sides
@@ -206,7 +201,7 @@ module _ (π : Preference) (t : Data) (accepted : IsAccepted π t) (tree : IsTre
   said_value kind.Languages required d simple w = said_unless m kind.Languages required d _ refl (languages required d w)
   said_value kind.Ordered required d simple w = said_unless m kind.Ordered required d _ refl (ordered required d w)
   said_value kind.Identity required d simple w = cc
-  said_value kind.Outside required d simple w = dropped kind.Outside required refl refl (empty_is d (not_false (is_empty_array d) (faultless t (no_shape_fault π t accepted) (asked (Member kind.Outside required) d) reason.OutsideProfile w)))
+  said_value kind.Outside required d simple w = dropped kind.Outside required refl refl (empty_is d (not-false (is_empty_array d) (faultless t (no_shape_fault π t accepted) (asked (Member kind.Outside required) d) reason.OutsideProfile w)))
   said_value (kind.Keyed f) required d simple w = cc
   said_value kind.Elections required d simple w = cc
   said_value kind.Content required d simple w = cc

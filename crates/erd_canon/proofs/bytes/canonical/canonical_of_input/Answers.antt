@@ -6,8 +6,8 @@ use Rattle.erd_meaning.specs.Keys.{Preference}
 use Rattle.erd_normal.specs.CanonicalText.{IsCanonicalText}
 use Rattle.erd_canon.proofs.forms.CanonicalTexts.{canonical_text}
 use Rattle.erd_canon.proofs.forms.FormLaws.{headline}
-use Rattle.erd_canon.proofs.forms.Refusing.{refused_tree}
 use Rattle.erd_canon.proofs.bytes.canonical.canonical_of_input.Goals as goal
+use Rattle.erd_canon.proofs.forms.Refusing.{refused_tree}
 
 pub returns-in_err-tree-clause-refused : goal.returns-in_err-tree-clause-refused
 returns-in_err-tree-clause-refused g c =

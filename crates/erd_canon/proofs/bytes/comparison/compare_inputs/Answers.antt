@@ -7,10 +7,10 @@ use Rattle.erd_meaning.specs.Records.{meaning}
 use Rattle.erd_compare.specs.Differences.{IsDifference}
 use Rattle.erd_canon.proofs.runs.Agreement.{agrees, tells_what_is_said}
 use Rattle.erd_canon.proofs.runs.Comparisons.{compared}
-use Rattle.erd_canon.proofs.forms.Refusing.{refused_tree}
 use Rattle.erd_canon.specs.Bytes.{IsTreeOf}
 use Rattle.erd_canon.specs.Refused.{RefusedAs, refusal_for}
 use Rattle.erd_canon.proofs.bytes.comparison.compare_inputs.Goals as goal
+use Rattle.erd_canon.proofs.forms.Refusing.{refused_tree}
 
 pub returns-in-Err-clause-refused : goal.returns-in-Err-clause-refused
 returns-in-Err-clause-refused g c =

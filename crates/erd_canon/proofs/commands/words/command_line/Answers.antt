@@ -4,8 +4,7 @@ use Rattle.clap.specs.declared.error.kind.ErrorKind.TheVariants.{OutOfMemory}
 use Rattle.erd_canon.specs.ExactLines.{words_of}
 use Rattle.erd_canon.specs.ReadLines.{request_in}
 use Rattle.erd_canon.specs.Subcommands.{program}
-use Rattle.erd_canon.proofs.lines.LineReadings.{line_found, program_free, program_simple, takes-line}
-use Rattle.erd_canon.proofs.lines.RequestsFound.{asked_is, exact_of, fault_read, read_of}
+use Rattle.erd_canon.proofs.lines.LineReadings.{line_found, program_free, program_simple, takes-line, asked_is, exact_of, fault_read, read_of}
 use Rattle.erd_canon.proofs.commands.words.command_line.Goals as goal
 
 pub returns-in-Ok : goal.returns-in-Ok

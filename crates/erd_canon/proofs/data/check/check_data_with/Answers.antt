@@ -1,7 +1,7 @@
 use Rattle.std.proofs.Common.{string_bytes}
 use Rattle.std.proofs.lemmas.Result.{IfOk-weaker}
 use Rattle.std.specs.Option.{option_copied}
-use Rattle.erd_canon.proofs.data_values.Answered.{refused_check}
+use Rattle.erd_canon.proofs.data_values.DataTexts.{refused_check}
 use Rattle.erd_canon.proofs.data.check.check_data_with.Goals as goal
 
 pub returns-in-Err : goal.returns-in-Err

@@ -3,7 +3,7 @@ use Rattle.std.proofs.lemmas.Result.{IfOk-weaker}
 use Rattle.std.proofs.lemmas.Str.{IsUtf8-string_bytes}
 use Rattle.std.specs.Option.{option_copied}
 use Rattle.serde_json.specs.View.{view}
-use Rattle.erd_canon.proofs.data_values.Answered.{differ, left_refused, right_refused}
+use Rattle.erd_canon.proofs.data_values.DataTexts.{differ, left_refused, right_refused}
 use Rattle.erd_canon.specs.EngineTexts.{IsComparison}
 use Rattle.erd_canon.specs.Refused.{RefusedSide}
 use Rattle.erd_canon.proofs.data.compare.compare_data_with.Goals as goal

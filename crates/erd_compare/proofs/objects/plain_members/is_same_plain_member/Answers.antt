@@ -1,6 +1,6 @@
 use Rattle.std.proofs.Common.{subst, sym}
 use Rattle.erd_compare.specs.code.Comparing.{NamesKeys}
-use Rattle.erd_compare.proofs.same_values.KeyedKinds.{member_keyed}
+use Rattle.erd_compare.proofs.same_values.MeantValues.{member_keyed}
 use Rattle.erd_compare.proofs.objects.plain_members.is_same_plain_member.Goals as goal
 
 pub is_same_plain-requires-clause-keyed : goal.is_same_plain-requires-clause-keyed

@@ -8,7 +8,7 @@ use Rattle.erd_meaning.specs.Records.{plain_member}
 use Rattle.erd_meaning.proofs.meanings.WholeRecords.{absent_plain}
 use Rattle.erd_compare.specs.code.Comparing.{Decides}
 use Rattle.erd_compare.specs.code.PlainParts.{plain_found}
-use Rattle.erd_compare.proofs.least_difference.MemberWalks.{found-Decides}
+use Rattle.erd_compare.proofs.least_difference.NameWalks.{found-Decides}
 use Rattle.erd_compare.proofs.same_selections.MemberValues.{plain-Decides, plain_maps-Decide}
 use Rattle.erd_compare.proofs.objects.selections.is_same_by_members.Goals as goal
 

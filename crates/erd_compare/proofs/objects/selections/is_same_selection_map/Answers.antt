@@ -3,7 +3,7 @@ use Rattle.serde_json.specs.View.{view}
 use Rattle.erd_compare.specs.code.SelectionsByName.{numbered_map}
 use Rattle.erd_compare.specs.declared.ranks.side.Side.TheVariants.{Left, Right}
 use Rattle.erd_compare.proofs.same_ranks.NumberedSelections.{maps_decide}
-use Rattle.erd_compare.proofs.same_selections.PlacedNames.{contest_named}
+use Rattle.erd_compare.proofs.same_selections.PlacedSelections.{contest_named}
 use Rattle.erd_compare.proofs.same_selections.SelectionWalks.{AreSelectionsLeft, Entry, both_maps, both_passed, decided_not, differ, ended, left_alone, own_left, own_right, whole_at}
 use Rattle.erd_compare.proofs.whole_trees.WholeTrees.{whole_trees-views}
 use Rattle.erd_compare.proofs.objects.selections.is_same_selection_map.Goals as goal

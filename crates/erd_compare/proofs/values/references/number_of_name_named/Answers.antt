@@ -5,7 +5,7 @@ use Rattle.erd_meaning.specs.Lookups.{FindsId}
 use Rattle.erd_meaning.specs.SelectionNames.{name_named}
 use Rattle.erd_compare.specs.code.CommonNames.{number_of_name}
 use Rattle.erd_compare.specs.code.RankedSides.{on_side}
-use Rattle.erd_compare.proofs.same_values.ReferencedNames.{name_elsewhere, name_here, name_nowhere}
+use Rattle.erd_compare.proofs.same_values.ReferencedKeys.{name_elsewhere, name_here, name_nowhere}
 use Rattle.erd_compare.proofs.values.references.number_of_name_named.Goals as goal
 
 pub returns-in_err-found : goal.returns-in_err-found

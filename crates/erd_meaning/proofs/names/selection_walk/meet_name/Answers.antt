@@ -1,4 +1,5 @@
-use Rattle.std.proofs.Common.{◌≡◌, ◌++◌, Bool, true, false, not, sym, ap, ◌∙◌, append-nil, refl, subst, List}
+use Rattle.std.proofs.Common.{◌≡◌, ◌++◌, true, false, sym, ap, ◌∙◌, append-nil, subst, List}
+use Rattle.std.proofs.lemmas.Bool.{not-false, not-true}
 use Rattle.erd_tables.specs.declared.fault.Reason.TheVariants.{TwinSelection}
 use Rattle.erd_check.specs.Paths.{fault_at, steps_of}
 use Rattle.erd_meaning.specs.code.ObjectWalk.{fault_if}
@@ -8,20 +9,12 @@ use Rattle.erd_meaning.specs.code.SelectionWalk.{is_taken}
 use Rattle.erd_meaning.proofs.selections.RankedTests.{any_ranked, inserted_names, inserted_ranked}
 use Rattle.erd_meaning.proofs.names.selection_walk.meet_name.Goals as goal
 
-was_there : (b : Bool) → not b ≡ false → b ≡ true
-was_there true e = refl
-was_there false e = cc
-
-was_new : (b : Bool) → not b ≡ true → b ≡ false
-was_new true e = cc
-was_new false e = refl
-
 pub returns-in_ok-push_fault-clause-met : goal.returns-in_ok-push_fault-clause-met
 returns-in_ok-push_fault-clause-met c ks all is =
     let before = c.args.walk.now.names in
     let names = ap names_of c.in_ok-insert.ensures.keys ∙ inserted_names ks c.args.contest c.args.name before is all in
     let taken : is_taken (names_of before) c.args.contest c.args.name.name ≡ true =
-    sym (any_ranked ks c.args.contest c.args.name before is all) ∙ was_there _ (sym c.in_ok-insert.ensures.added ∙ c.if-not-branch.true) in
+    sym (any_ranked ks c.args.contest c.args.name before is all) ∙ not-false _ (sym c.in_ok-insert.ensures.added ∙ c.if-not-branch.true) in
     let told = c.in_ok-push_fault.ensures ∙ ap (λ b. c.args.walk.now.faults.items ++ fault_if b (fault_at (steps_of c.args.path.now) TwinSelection)) (sym taken) in
     λ i. record { names = names i; faults = told i }
 
@@ -34,7 +27,7 @@ returns-else-not-branch-clause-met c ks all is =
     let before = c.args.walk.now.names in
     let names = ap names_of c.in_ok-insert.ensures.keys ∙ inserted_names ks c.args.contest c.args.name before is all in
     let taken : is_taken (names_of before) c.args.contest c.args.name.name ≡ false =
-    sym (any_ranked ks c.args.contest c.args.name before is all) ∙ was_new _ (sym c.in_ok-insert.ensures.added ∙ c.if-not-branch.false) in
+    sym (any_ranked ks c.args.contest c.args.name before is all) ∙ not-true _ (sym c.in_ok-insert.ensures.added ∙ c.if-not-branch.false) in
     let told = sym (append-nil c.args.walk.now.faults.items) ∙ ap (λ b. c.args.walk.now.faults.items ++ fault_if b (fault_at (steps_of c.args.path.now) TwinSelection)) (sym taken) in
     λ i. record { names = names i; faults = told i }
 

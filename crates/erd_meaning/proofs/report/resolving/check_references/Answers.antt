@@ -1,6 +1,6 @@
 use Rattle.std.proofs.Common.{◌∙◌, sym}
 use Rattle.serde_json.specs.View.{view}
-use Rattle.erd_check.proofs.FaultLists.{none_from_empty}
+use Rattle.erd_check.proofs.Deciding.{none_from_empty}
 use Rattle.erd_meaning.specs.LaterFaults.{ReferenceFault}
 use Rattle.erd_meaning.proofs.report.resolving.check_references.Goals as goal
 

@@ -13,7 +13,7 @@ use Rattle.erd_meaning.specs.SelectionNames.{selection_role}
 use Rattle.erd_normal.proofs.ranks.PartObjects.{seen_key, seen_value}
 use Rattle.erd_normal.proofs.ranks.SelectionRanks.{next_selection, none_left, selections_left}
 use Rattle.erd_normal.proofs.texts.WholeObjects.{entry_whole}
-use Rattle.erd_normal.proofs.texts.WrittenTokens.{then_rest}
+use Rattle.erd_normal.proofs.texts.DueTokens.{then_rest}
 use Rattle.erd_normal.specs.Canonical.{canonical_selection_id}
 use Rattle.erd_normal.specs.code.NormalTree.{normal_object_with, normal_value, with_id}
 use Rattle.erd_normal.specs.code.SelectionOrders.{rising_selections}

@@ -5,7 +5,7 @@ use Rattle.serde_json.specs.Data.{Data}
 use Rattle.serde_json.specs.View.{items_of, view}
 use Rattle.erd_meaning.specs.Objects.{contests}
 use Rattle.erd_normal.proofs.ranks.PartObjects.{seen_value, unseen_value}
-use Rattle.erd_normal.proofs.texts.WrittenTokens.{array_written}
+use Rattle.erd_normal.proofs.texts.DueTokens.{array_written}
 use Rattle.erd_normal.specs.code.NormalTree.{array_of}
 use Rattle.erd_normal.specs.code.Tokens.{items_tokens, value_tokens}
 use Rattle.erd_normal.specs.code.WrittenTree.{written_in_contest}

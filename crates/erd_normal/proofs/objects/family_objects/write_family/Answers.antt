@@ -7,7 +7,7 @@ use Rattle.serde_json.specs.View.{items_of, view}
 use Rattle.erd_meaning.specs.Objects.{Placed, objects}
 use Rattle.erd_normal.proofs.ranks.InOrder.{left_there, next}
 use Rattle.erd_normal.proofs.ranks.PartObjects.{in_part_there}
-use Rattle.erd_normal.proofs.texts.WrittenTokens.{array_written, then_rest}
+use Rattle.erd_normal.proofs.texts.DueTokens.{array_written, then_rest}
 use Rattle.erd_normal.specs.code.ElectionParts.{objects_in_part}
 use Rattle.erd_normal.specs.code.Tokens.{items_tokens, value_tokens}
 use Rattle.erd_normal.specs.code.WrittenTree.{written_object}

@@ -1,5 +1,5 @@
 use Rattle.std.proofs.Common.{◌∙◌}
-use Rattle.erd_normal.proofs.texts.WrittenTokens.{member_then}
+use Rattle.erd_normal.proofs.texts.DueTokens.{member_then}
 use Rattle.erd_normal.proofs.objects.members.write_kept.Goals as goal
 
 pub returns-in_ok-write : goal.returns-in_ok-write

@@ -1,6 +1,6 @@
 use Rattle.std.proofs.Common.{rules, ◌≡◌, ◌++◌, length, sym, subst, arith}
 use Rattle.std.proofs.Math.Seq.{take-append_seam}
-use Rattle.erd_normal.proofs.lists.StableSorts.{sorted_by_keys}
+use Rattle.erd_normal.proofs.lists.StableRising.{sorted_by_keys}
 use Rattle.erd_normal.specs.StableOrder.{IsStablySorted}
 use Rattle.erd_normal.proofs.order.stable_sort.in_order.Goals as goal
 use lib.ListN.{drop, take}

@@ -11,7 +11,7 @@ use Rattle.erd_meaning.specs.Objects.{Placed, elections}
 use Rattle.erd_meaning.proofs.finding.OneObject.{in_at}
 use Rattle.erd_normal.proofs.ranks.InOrder.{left_there, next, stands}
 use Rattle.erd_normal.proofs.ranks.PartObjects.{lent_elections}
-use Rattle.erd_normal.proofs.texts.WrittenTokens.{array_written, then_rest}
+use Rattle.erd_normal.proofs.texts.DueTokens.{array_written, then_rest}
 use Rattle.erd_normal.specs.code.ElectionParts.{rising_elections}
 use Rattle.erd_normal.specs.code.Tokens.{items_tokens, value_tokens}
 use Rattle.erd_normal.specs.code.WrittenTree.{written_election}

@@ -9,7 +9,7 @@ use Rattle.serde_json.proofs.Views.{Entry}
 use Rattle.erd_tables.specs.declared.member.MemberKind.{MemberKind}
 use Rattle.erd_normal.proofs.built.BuiltMembers.{whole_first, whole_rest}
 use Rattle.erd_normal.proofs.built.NormalMembers.{node_value}
-use Rattle.erd_normal.proofs.texts.WrittenTokens.{entries_from, kept_member, member_or_none, then_rest}
+use Rattle.erd_normal.proofs.texts.DueTokens.{entries_from, kept_member, member_or_none, then_rest}
 use Rattle.erd_normal.specs.code.NormalTree.{normal_content, normal_node, normal_node_members, normal_node_value, normal_nodes}
 use Rattle.erd_normal.specs.code.Tokens.{items_tokens, member_tokens, members_tokens, value_tokens}
 use Rattle.erd_normal.proofs.values.content.+content.Goals as goal

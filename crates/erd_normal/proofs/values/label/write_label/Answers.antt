@@ -4,7 +4,7 @@ use Rattle.serde_json.specs.Data.{Data}
 use Rattle.serde_json.specs.View.{view}
 use Rattle.erd_meaning.specs.SelectionNames.{compact_cmp, rising_list}
 use Rattle.erd_normal.proofs.texts.PutObjects.{put_text}
-use Rattle.erd_normal.proofs.texts.WholeEntries.{whole_list_at}
+use Rattle.erd_normal.proofs.texts.WholeObjects.{whole_list_at}
 use Rattle.erd_normal.specs.code.Building.{put_in}
 use Rattle.erd_normal.specs.code.NormalTree.{array_of}
 use Rattle.erd_normal.specs.code.Tokens.{value_tokens}

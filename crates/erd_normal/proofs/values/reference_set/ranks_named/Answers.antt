@@ -1,7 +1,7 @@
 use Rattle.std.proofs.Common.{ap, ◌∙◌}
 use Rattle.serde_json.specs.View.{view}
 use Rattle.erd_check.specs.Values.{text_of}
-use Rattle.erd_normal.proofs.built.BuiltEntries.{one_value}
+use Rattle.erd_normal.proofs.built.NormalEntries.{one_value}
 use Rattle.erd_normal.specs.code.Orders.{rank_named}
 use Rattle.erd_normal.proofs.values.reference_set.ranks_named.Goals as goal
 

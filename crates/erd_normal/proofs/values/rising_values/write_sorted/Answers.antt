@@ -7,7 +7,7 @@ use Rattle.serde_json.specs.View.{items_of, view}
 use Rattle.serde_json.specs.Written.{compact_text, items_have_float}
 use Rattle.erd_tables.specs.Texts.{text_cmp}
 use Rattle.erd_normal.proofs.lists.StableRising.{rising_by_part}
-use Rattle.erd_normal.proofs.texts.WholeEntries.{whole_rising}
+use Rattle.erd_normal.proofs.texts.WholeObjects.{whole_rising}
 use Rattle.erd_normal.specs.code.NormalTree.{array_of}
 use Rattle.erd_normal.specs.code.Tokens.{value_tokens}
 use Rattle.erd_normal.proofs.values.rising_values.write_sorted.Goals as goal

@@ -1,10 +1,11 @@
 use Rattle.std.proofs.Common.{◌≡◌, ◌==◌, ◌<◌, ◌≤◌, ℕ, inl, inr, [], ◌∷◌, ◌++◌, filter, get_or, length, map, take, ap, sym, ◌∙◌, subst, arith}
 use Rattle.std.proofs.Math.Seq.{take-length}
+use Rattle.std.proofs.lemmas.Bool.{cases_lt}
 use Rattle.serde_json.specs.View.{view}
 use Rattle.erd_meaning.specs.Objects.{Placed, elections, objects}
 use Rattle.erd_normal.proofs.lists.NumberedKept.{kept_map}
 use Rattle.erd_normal.proofs.ranks.PartObjects.{in_order, lent_positions, no_part}
-use Rattle.erd_normal.proofs.ranks.PartsFilled.{below, get_or_here, one_put, part_missing}
+use Rattle.erd_normal.proofs.ranks.PartsFilled.{get_or_here, one_put, part_missing}
 use Rattle.erd_normal.specs.code.ElectionParts.{in_order_of_keys, part_at, part_seen}
 use Rattle.erd_normal.proofs.writer.election_parts.parts_of_keyed.Goals as goal
 
@@ -37,7 +38,7 @@ returns c i =
     let q = λ (j : ℕ). part_at t f j == i in
     let end : c.loop-position.position-index ≡ length rising = omega arith in
     let many = length (elections t) in
-    elim (below i many) [
+    elim (cases_lt i many) [
       | inl low ↦
           c.loop-position.invariant.filled i low
           ∙ (ap (filter q) (ap (λ n. take n rising) end ∙ take-length rising ∙ c.rising-position-items.ensures ∙ lent_positions π t f c.requires.keyed)

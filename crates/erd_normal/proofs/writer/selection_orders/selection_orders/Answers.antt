@@ -12,7 +12,7 @@ use Rattle.erd_meaning.specs.Objects.{IsBounded, Placed, contests}
 use Rattle.erd_meaning.specs.Places.{places_put}
 use Rattle.erd_meaning.specs.SelectionNames.{name_cmp, name_of}
 use Rattle.erd_meaning.specs.code.KeyOrders.{positions_by}
-use Rattle.erd_normal.proofs.built.BuiltEntries.{one_more}
+use Rattle.erd_normal.proofs.built.NormalEntries.{one_more}
 use Rattle.erd_normal.proofs.lists.StableRising.{map_after}
 use Rattle.erd_normal.proofs.ranks.NamesInTurn.{flat_more, starts_after}
 use Rattle.erd_normal.proofs.ranks.SelectionRanks.{low_in_contest, places_are_ranks, ranks_in, selections_ranked}
